@@ -1,10 +1,9 @@
 -- What a pairing of cables with pairs, or of bars with rows, costs falls by at most one with each setting that changes a
 -- cable or a bar, and doesn't change with the others.
-use Rattle.kd_card.proofs.Prelude.{◌≡◌, ℕ, zero, suc, ◌+◌, ◌-◌, ◌≤◌, nat_eq, min, Bool, true, false, cond, inl, inr, List, [], ◌∷◌, get_or, set, map, fold, count_by, Option, Some, None, unwrap_or, slice_get, ℤ, refl, sym, ap, ◌∙◌, subst, arith, length, AllByRecursion, option_map, option_map_or, unwrap_or-slice_get, Place, alphabet, RotorParts, Parts, Rotor, Pin, Setting, Pull, Put, LugTo, Why, cable_letters, plugged_letters, IsLegal, has_letter, is_at, reasons, why_refused, cable_at, cable_without, cable_with, with_lug, changed, lies_beyond, other_lug, lug_place, Leads, differ, unless_same, column_letters, cable_cost, lugs_moved, bar_cost, is_priced, eqb-false, ltb-false, All-set, length-set, place_rank, IsBefore, numbered, common_steps, find, All}
+use Rattle.kd_card.proofs.Prelude.{◌≡◌, ℕ, zero, suc, ◌+◌, ◌-◌, ◌≤◌, nat_eq, min, Bool, false, inl, inr, List, [], ◌∷◌, get_or, set, map, fold, count_by, Option, Some, None, unwrap_or, slice_get, ℤ, sym, ap, ◌∙◌, subst, arith, length, option_map, option_map_or, unwrap_or-slice_get, Place, alphabet, RotorParts, Parts, Rotor, Pin, Setting, Pull, Put, LugTo, cable_letters, plugged_letters, IsLegal, has_letter, is_at, reasons, why_refused, cable_at, cable_without, cable_with, with_lug, changed, lies_beyond, other_lug, lug_place, Leads, differ, unless_same, column_letters, cable_cost, lugs_moved, bar_cost, All-set, length-set, numbered, common_steps, All, no_reason, still_before}
 use Rattle.kd_state.specs.Costs.{standings_as}
 use Rattle.kd_state.specs.Setting.{Stands}
 use Rattle.kd_tables.specs.declared.lug.Lug.{Lug}
-use Rattle.kd_tables.specs.declared.lug.Lug.TheVariants.{Left, Right}
 use Rattle.kd_card.proofs.Counts.{count_by-cons, zip_set, at_most_one, once_in_alphabet, times, times-append, AreOnce, once_of_distinct, once_more, SameBut, same_but, same_but-sym, pulled, put, times_more}
 use Rattle.kd_card.proofs.Duality.{pairing_cost}
 
@@ -17,12 +16,6 @@ counted_apart : (letters others wanted : List ℕ) (x : ℕ) → SameBut x lette
 counted_apart letters others wanted x same [] = omega arith
 counted_apart letters others wanted x same (letter ∷ alphabet) =
     grind (arith, common_steps, count_by-cons, counted_apart letters others wanted x same alphabet, same, at_most_one)
-
--- why a setting is not refused
-pub none_of_them : (reasons : List (Bool × Why)) → option_map (λ (reason : Bool × Why). reason.1) (find (λ reason. reason.0) reasons) ≡ None → AllByRecursion (λ reason. reason.0 ≡ false) reasons
-none_of_them [] e = tt
-none_of_them ((true, why) ∷ reasons) e = cc
-none_of_them ((false, why) ∷ reasons) e = (refl, none_of_them reasons e)
 
 pub one_less : (place : ℕ) → suc place - 1 ≡ place
 one_less place = omega arith
@@ -54,7 +47,7 @@ put_falls m zero letter ws e = cc
 put_falls m (suc place) letter ws e =
     let was = cable_at m (suc place) in
     let now = cable_with letter was in
-    let more = put letter was (none_of_them (reasons (Rotor m) (Put (suc place) letter)) e).1.0 in
+    let more = put letter was (no_reason (reasons (Rotor m) (Put (suc place) letter)) e).1.0 in
     cables_fall m place now ws letter (same_but-sym letter (cable_letters now) (cable_letters was) (same_but letter (cable_letters was) (cable_letters now) more))
 
 -- one lug of a bar is moved
@@ -105,19 +98,13 @@ pull_keeps m (suc place) letter e once l =
 put_keeps : (m : RotorParts) (cable letter : ℕ) → why_refused (Rotor m) (Put cable letter) ≡ None → CablesAreOnce m.cables → CablesAreOnce (set m.cables (cable - 1) (cable_with letter (cable_at m cable)))
 put_keeps m zero letter e once l = cc
 put_keeps m (suc place) letter e once l =
-    let reasons = none_of_them (reasons (Rotor m) (Put (suc place) letter)) e in
+    let reasons = no_reason (reasons (Rotor m) (Put (suc place) letter)) e in
     let was = cable_at m (suc place) in
     let now = cable_with letter was in
     let here = ap (λ cable. times l (cable_letters cable)) (unwrap_or-slice_get m.cables place (None, None)) in
     let more = times_more l letter (cable_letters was) (cable_letters now) (put letter was reasons.1.0) in
     rw (one_less place)
     (omega (arith, once_more l letter (plugged_letters m.cables) once reasons.1.1.0, times-set l (times l (letter ∷ [])) m.cables place now (None, None) (omega arith)))
-
--- each bar's left lug stands before its right one, one setting later
-stands_again : (lug : Lug) (place : Place) (standing : Place × Place) → is_at place (lug_place (other_lug lug) standing) ≡ false → lies_beyond lug place (lug_place (other_lug lug) standing) ≡ false
-    → Stands (with_lug lug place standing)
-stands_again Left place standing apart within = omega (arith, eqb-false (place_rank place) (place_rank standing.1) apart, ltb-false (place_rank standing.1) (place_rank place) within)
-stands_again Right place standing apart within = omega (arith, eqb-false (place_rank place) (place_rank standing.0) apart, ltb-false (place_rank place) (place_rank standing.0) within)
 
 -- What holds of a machine's cables, or bars, and is kept by every setting.
 pub record HasCables (cables : List (Option ℕ × Option ℕ)) : Type 0 where
@@ -134,7 +121,7 @@ bars_keep : (bars : List (Place × Place)) (i : ℕ) (lug : Lug) (place : Place)
 bars_keep bars i lug place None apart within h = h
 bars_keep bars i lug place (Some standing) apart within h = record {
   count = length-set bars i (with_lug lug place standing) ∙ h.count;
-  stand = All-set Stands bars i (with_lug lug place standing) (stands_again lug place standing apart within) h.stand;
+  stand = All-set Stands bars i (with_lug lug place standing) (still_before lug place standing apart within) h.stand;
 }
 
 abbrev pub HasAll : Parts → Type 0
@@ -151,7 +138,7 @@ setting_keeps (Rotor m) (Pull cable letter) e h =
 setting_keeps (Rotor m) (Put cable letter) e h =
     record { count = length-set m.cables (cable - 1) (cable_with letter (cable_at m cable)) ∙ h.count; once = put_keeps m cable letter e h.once }
 setting_keeps (Pin m) (LugTo bar lug place) e h =
-    let reasons = none_of_them (reasons (Pin m) (LugTo bar lug place)) e in
+    let reasons = no_reason (reasons (Pin m) (LugTo bar lug place)) e in
     bars_keep m.bars (bar - 1) lug place (numbered m.bars bar) reasons.1.0 reasons.1.1.0 h
 setting_keeps m x e h = h
 

@@ -1,5 +1,5 @@
 -- A setting puts at most one loose thing right, or lowers what the cables or bars cost by one at most, and never both.
-use Rattle.kd_card.proofs.Prelude.{◌≡◌, ◌≢◌, ℕ, zero, suc, ◌+◌, ◌-◌, ◌≤◌, nat_eq, Bool, true, false, not, cond, List, [], ◌∷◌, get_or, set, map, zip, sum, count_by, AllPairs, Option, Some, None, slice_get, unwrap_or, inl, inr, refl, sym, ap, ◌∙◌, subst, arith, AllByRecursion, sum_by, option_map_or, bytes_eq, cases_eq, eq-eqb, recursion_from_All, map-id, sum-map, sum_by-cons, unwrap_or-slice_get, bytes_eq-Decides, Model, wheel_text, reflector_text, RotorParts, PinParts, Parts, Rotor, Pin, Setting, Pull, Put, Seat, SeatReflector, RingTo, Turn, PinTo, LugTo, same_wheel, same_reflector, place_in_box, model_of, ring_at, letter_at, why_refused, seated_in, without, with_letter, changed, RotorDay, PinDay, Day, OfRotors, OfPins, IsLegalDay, day_model, ReadsAs, DaysWheelsHaveTheirPlaces, differ, unless_same, loose_slots, loose_reflector, loose_rings, loose_letters, loose_pins, loose_pin_letters, loose_count, cable_cost, bar_cost, ℤ, is_priced, common_steps}
+use Rattle.kd_card.proofs.Prelude.{◌≡◌, ◌≢◌, ℕ, zero, suc, ◌+◌, ◌-◌, ◌≤◌, nat_eq, Bool, true, false, not, cond, List, [], ◌∷◌, get_or, set, map, zip, sum, count_by, AllPairs, Option, Some, None, slice_get, unwrap_or, inl, inr, refl, sym, ap, ◌∙◌, subst, arith, AllByRecursion, sum_by, option_map_or, bytes_eq, cases_eq, eq-eqb, recursion_from_All, map-id, sum-map, sum_by-cons, unwrap_or-slice_get, bytes_eq-Decides, Model, wheel_text, reflector_text, RotorParts, PinParts, Parts, Rotor, Pin, Setting, Pull, Put, Seat, SeatReflector, RingTo, Turn, PinTo, LugTo, same_wheel, same_reflector, place_in_box, model_of, ring_at, letter_at, why_refused, seated_in, without, with_letter, changed, RotorDay, PinDay, Day, OfRotors, OfPins, IsLegalDay, day_model, ReadsAs, differ, unless_same, loose_slots, loose_reflector, loose_rings, loose_letters, loose_pins, loose_pin_letters, loose_count, cable_cost, bar_cost, ℤ, is_priced, common_steps, set_other, days_wheels_have_their_places}
 use Rattle.kd_tables.specs.declared.wheel.Wheel.{Wheel}
 use Rattle.kd_tables.specs.Rings.{ring_of, place_on}
 use Rattle.kd_pins.specs.declared.pin_set.PinSet.{PinSet}
@@ -14,11 +14,6 @@ zip_set_lowers : {X Y : Type 0} (p : X × Y → Bool) (xs : List X) (ys : List Y
 zip_set_lowers p xs ys i v = zip_set (λ z. cond (p z) 1 0) xs ys i v v (λ y. omega (arith, at_most_one (p (get_or xs i v, y))))
 
 -- Letters of which one is set: of things at different places at most one is right then that was not.
-set_other : {X : Type 0} (xs : List X) (place at : ℕ) (x : X) → at ≢ place → slice_get (set xs place x) at ≡ slice_get xs at
-set_other (first ∷ xs) zero zero x h = absurd (h refl)
-set_other (first ∷ xs) (suc place) (suc at) x h = set_other xs place at x (λ e. h (ap suc e))
-set_other xs place at x h = refl
-
 module _ {X : Type 0} (place target : X → ℕ) where
   abbrev wrong : List ℕ → X → Bool
   wrong letters x = not (option_map_or (nat_eq (target x)) (slice_get letters (place x)) false)
@@ -126,12 +121,12 @@ pin_machine_lowers columns rows m s (LugTo (suc bar) lug place) e = omega (arith
 pin_machine_lowers columns rows m s x e = grind (arith, zip_set_lowers, pin_lowers)
 
 -- whatever the setting and the machine
-pub lowers : DaysWheelsHaveTheirPlaces → (columns : List (Option (ℕ × ℕ) × ℤ)) (rows : List ((ℕ × ℕ) × ℤ)) (m : Parts) (s : Day) (x : Setting) → IsLegalDay s
+pub lowers : (columns : List (Option (ℕ × ℕ) × ℤ)) (rows : List ((ℕ × ℕ) × ℤ)) (m : Parts) (s : Day) (x : Setting) → IsLegalDay s
     → model_of m ≡ day_model s → why_refused m x ≡ None → left columns rows m s ≤ left columns rows (changed m x) s + 1
-lowers places columns rows (Rotor m) (OfRotors s) x h same e =
-    rotor_lowers columns rows m s (subst (λ model. HaveTheirPlaces model s.wheels) (sym same) (places s.model s.wheels h.wheels)) x e
-lowers places columns rows (Pin m) (OfPins s) x h same e = pin_machine_lowers columns rows m s x e
-lowers places columns rows m s x h same e = omega arith
+lowers columns rows (Rotor m) (OfRotors s) x h same e =
+    rotor_lowers columns rows m s (subst (λ model. HaveTheirPlaces model s.wheels) (sym same) (days_wheels_have_their_places s.model s.wheels h.wheels)) x e
+lowers columns rows (Pin m) (OfPins s) x h same e = pin_machine_lowers columns rows m s x e
+lowers columns rows m s x h same e = omega arith
 
 -- no setting makes another model of a machine, and those of cables and bars leave what is loose
 pub model_of-changed : (m : Parts) (x : Setting) → model_of (changed m x) ≡ model_of m

@@ -1,6 +1,6 @@
 -- On a machine that reads as the day the cables can be paired with the day's pairs and nothings, and the bars with its rows,
 -- each with one that costs nothing.
-use Rattle.kd_card.proofs.Prelude.{◌≡◌, ◌≢◌, ℕ, zero, suc, ◌+◌, ◌-◌, ◌<◌, ◌≤◌, ◌==◌, nat_eq, nat_lt, Bool, true, not, ◌||◌, cond, ◌⊎◌, inl, inr, List, [], ◌∷◌, ◌++◌, length, get_or, map, zip, replicate, Contains, IsPermutation, count_by, remove, Option, Some, None, ℤ, refl, sym, ap, ◌∙◌, subst, arith, AllByRecursion, AllZip, flat_map, list_all, false≢true, eq-eqb, lt-ltb, eqb_tells, All-contains, recursion_from_All, sum_by-cons, get_or-le-sum_by, AllPass-from_list_all, sum_by-IsPermutation, Contains-permutation, IsPermutation-refl, IsPermutation-sym, IsPermutation-cons, IsPermutation-trans, IsPermutation-remove, Place, One, alphabet, places, place_rank, reading_of, IsBefore, letters_plugged, cable_letters, plugged_letters, has_letter, SameLetters, IsPaired, IsJoined, AreThePairs, differ, cable_cost, bar_cost, columns_of, DaysWheelsHaveTheirPlaces, TestsTellLetters, ThirteenColumns}
+use Rattle.kd_card.proofs.Prelude.{◌≡◌, ◌≢◌, ℕ, zero, suc, ◌+◌, ◌-◌, ◌<◌, ◌≤◌, ◌==◌, nat_eq, nat_lt, Bool, true, not, ◌||◌, cond, ◌⊎◌, inl, inr, List, [], ◌∷◌, ◌++◌, length, get_or, map, zip, replicate, Contains, IsPermutation, count_by, remove, Option, Some, None, ℤ, refl, sym, ap, ◌∙◌, subst, arith, AllByRecursion, AllZip, flat_map, list_all, false≢true, eq-eqb, lt-ltb, eqb_tells, All-contains, recursion_from_All, sum_by-cons, get_or-le-sum_by, AllPass-from_list_all, sum_by-IsPermutation, Contains-permutation, IsPermutation-refl, IsPermutation-sym, IsPermutation-cons, IsPermutation-trans, IsPermutation-remove, Place, One, alphabet, places, place_rank, reading_of, IsBefore, letters_plugged, cable_letters, plugged_letters, has_letter, SameLetters, IsPaired, IsJoined, AreThePairs, differ, cable_cost, bar_cost, columns_of, tests_tell_letters, thirteen_columns}
 use Rattle.kd_state.specs.Costs.{standings_as}
 use Rattle.kd_state.specs.Setting.{Stands}
 use Rattle.std.specs.List as lists
@@ -8,12 +8,6 @@ use Rattle.std.proofs.lemmas.List.Edits.{length-remove}
 use Rattle.kd_card.proofs.Duality.{pairing_cost, reordered}
 use Rattle.kd_card.proofs.Counts.{count_by-cons, times, times-append, AreOnce}
 use Rattle.kd_card.proofs.Falling.{CablesAreOnce, HasCables, HasBars, not_differing}
-
--- What the laws of kd_state say, as far as the proofs of this crate need it.
-pub record Told : Type 0 where
-  pub places : DaysWheelsHaveTheirPlaces
-  pub letters : TestsTellLetters
-  pub thirteen : ThirteenColumns
 
 -- a cable with the letters of its column costs nothing
 none_differ : (xs ys : List ℕ) → ((letter : ℕ) → has_letter xs letter ≡ has_letter ys letter) → (letters : List ℕ) → count_by (λ letter. differ (has_letter xs letter) (has_letter ys letter)) letters ≡ 0
@@ -142,19 +136,19 @@ all_empty (cable ∷ cables) (suc number) e h =
 all_empty cables number e h = absurd (omega arith)
 
 -- the cables in an order in which each costs nothing at its column
-pub matched : Told → (cables : List (Option ℕ × Option ℕ)) (pairs : List (ℕ × ℕ)) (nothings : ℕ) → length cables ≡ length pairs + nothings → AreMatched cables pairs
+pub matched : (cables : List (Option ℕ × Option ℕ)) (pairs : List (ℕ × ℕ)) (nothings : ℕ) → length cables ≡ length pairs + nothings → AreMatched cables pairs
     → (others : List (Option ℕ × Option ℕ)) × IsPermutation cables others × AllZip CostsNothing others (map Some pairs ++ replicate nothings None)
-matched told cables [] nothings e h =
+matched cables [] nothings e h =
     (cables, IsPermutation-refl cables, all_empty cables nothings (omega arith) (λ cable among some. let found = h.pair cable among some in omega (arith, found.1.1)))
-matched told cables (pair ∷ pairs) nothings e h =
+matched cables (pair ∷ pairs) nothings e h =
     let found = h.cable pair (zero, omega arith, refl) in
     let rest = remove cables found.1.0 in
     let order = IsPermutation-remove cables found.1.0 found.0 found.1.1 (sym found.1.2) in
     let fewer = length-remove cables found.1.0 found.1.1 in
-    let further = matched told rest pairs nothings (omega arith) (rest_matched cables rest found.0 pair pairs order h found.2) in (
+    let further = matched rest pairs nothings (omega arith) (rest_matched cables rest found.0 pair pairs order h found.2) in (
       found.0 ∷ further.0,
       IsPermutation-trans cables (found.0 ∷ rest) (found.0 ∷ further.0) order (IsPermutation-cons found.0 rest further.0 further.1),
-      (none_differ (cable_letters found.0) (pair_letters pair) ((told.letters (cable_letters found.0) (pair_letters pair)).0 found.2) alphabet, further.2),
+      (none_differ (cable_letters found.0) (pair_letters pair) ((tests_tell_letters (cable_letters found.0) (pair_letters pair)).0 found.2) alphabet, further.2),
     )
 
 -- A pairing: the columns with their prices, each beside the row that it is paired with, and none costs anything.
@@ -185,12 +179,12 @@ matched_of_pairs cables pairs once pairs_once h =
       cable = λ pair among. let any = (All-contains (IsJoined cables) pairs pair h.cable among).joins in (any.1, (any.0, any.2, any.3), any.4.letters);
     }
 
-pub cables_paired : Told → (cables : List (Option ℕ × Option ℕ)) (pairs : List (ℕ × ℕ)) (prices : List ℤ) → HasCables cables → AreOnce (letters_plugged pairs) → length pairs ≤ 13 → length prices ≡ 13
+pub cables_paired : (cables : List (Option ℕ × Option ℕ)) (pairs : List (ℕ × ℕ)) (prices : List ℤ) → HasCables cables → AreOnce (letters_plugged pairs) → length pairs ≤ 13 → length prices ≡ 13
     → AreThePairs cables pairs → FreePairing cable_cost cables (columns_of pairs) prices
-cables_paired told cables pairs prices has once few count h =
-    let there = matched told cables pairs (13 - length pairs) (omega (arith, has.count)) (matched_of_pairs cables pairs has.once once h) in
+cables_paired cables pairs prices has once few count h =
+    let there = matched cables pairs (13 - length pairs) (omega (arith, has.count)) (matched_of_pairs cables pairs has.once once h) in
     let beside = reordered (λ cable (w : Option (ℕ × ℕ) × ℤ). CostsNothing cable w.0) there.0 cables (zip (columns_of pairs) prices) (IsPermutation-sym cables there.0 there.1)
-    (with_prices CostsNothing there.0 (columns_of pairs) prices (omega arith) there.2) in
+    (with_prices CostsNothing there.0 (columns_of pairs) prices (omega (arith, thirteen_columns pairs few)) there.2) in
     record { beside = beside.0; order = beside.1; free = free_of_all cable_cost cables beside.0 beside.2 }
 
 -- a bar that stands costs nothing at its own row

@@ -42,6 +42,10 @@ pub use Rattle.kd_card.specs.declared.prices.PriceParts.TheVariants.{BarKinds, B
 pub use Rattle.kd_card.specs.declared.prices.Version.{Version}
 pub use Rattle.kd_card.specs.declared.prices.Version.TheVariants.{ByKind, ByNumber}
 pub use Rattle.kd_enigma.specs.Plugs.{letters_plugged}
+pub use Rattle.kd_state.proofs.Changing.{no_reason, still_before}
+pub use Rattle.kd_state.proofs.CostTable.{tests_tell_letters, thirteen_columns}
+pub use Rattle.kd_state.proofs.Slots.{set_other}
+pub use Rattle.kd_state.proofs.Wheels.{days_wheels_have_their_places}
 pub use Rattle.kd_state.specs.ToldApart.{numbered, place_in_box, same_reflector, same_wheel}
 pub use Rattle.kd_state.specs.Costs.{bar_cost, cable_cost, column_letters, columns_of, cost_table, differ, loose_count, loose_letters, loose_pin_letters, loose_pins, loose_reflector, loose_rings, loose_slots, lugs_moved, unless_same}
 pub use Rattle.kd_state.specs.Laws.{DaysWheelsHaveTheirPlaces, LinesTellSettings, SettingsHaveWords, TestsTellLetters, ThirteenColumns}

@@ -1,6 +1,6 @@
 -- No list of settings that leads to the day has fewer than there are loose things and prices in sum, and a card that proves
 -- itself has as many.
-use Rattle.kd_card.proofs.Prelude.{◌≡◌, ℕ, suc, ◌+◌, ◌<◌, ◌≤◌, Bool, cond, List, [], ◌∷◌, ◌++◌, length, get_or, map, zip, fold, Contains, Option, ℤ, pos, ◌+ℤ◌, ◌≤ℤ◌, IsPermutation, refl, sym, ap, ◌∙◌, subst, arith, None, ints, length_permutation, All-permutation, Contains-permutation, IsPermutation-sym, Model, reflectors_of, letters_plugged, Parts, Rotor, Pin, Setting, model_of, IsMachine, Leads, changed, Day, OfRotors, OfPins, day_model, IsLegalDay, ReadsAs, cable_cost, bar_cost, columns_of, cost_table, loose_count, PriceParts, Cables, Bars, ArePrices, Fits, AreTight, price_sum, is_priced, priced_count, AreOfKind, IsNeeded, AreNeeded, Same, Expanded, FittingPricesBoundLists, ProvingCardsAreAsLong, ProvingCardsAreShortest, ProvingPricesAreTight, get_or_default, get_or-map, length-zip, get_or-zip, One, AsFewAreNeeded, DaysWheelsHaveTheirPlaces, why_refused, sum_by}
+use Rattle.kd_card.proofs.Prelude.{◌≡◌, ℕ, ◌+◌, ◌<◌, ◌≤◌, Bool, cond, List, [], ◌∷◌, ◌++◌, length, get_or, map, zip, fold, Contains, Option, ℤ, pos, ◌+ℤ◌, ◌≤ℤ◌, IsPermutation, refl, sym, ap, ◌∙◌, subst, arith, None, ints, length_permutation, All-permutation, Contains-permutation, IsPermutation-sym, Model, reflectors_of, letters_plugged, Parts, Rotor, Pin, Setting, model_of, IsMachine, Leads, changed, Day, OfRotors, OfPins, day_model, IsLegalDay, ReadsAs, cable_cost, bar_cost, columns_of, cost_table, loose_count, PriceParts, Cables, Bars, ArePrices, Fits, AreTight, price_sum, is_priced, priced_count, AreOfKind, IsNeeded, AreNeeded, Same, Expanded, FittingPricesBoundLists, ProvingCardsAreAsLong, ProvingCardsAreShortest, ProvingPricesAreTight, get_or_default, get_or-map, length-zip, get_or-zip, One, AsFewAreNeeded, why_refused, sum_by, thirteen_columns}
 use Rattle.std.proofs.lemmas.List.Elements.{All-from_get_or, Contains-get_or}
 use Rattle.kd_tables.specs.declared.model.Model.TheVariants.{M209}
 use Rattle.kd_tables.specs.declared.reflector.Reflector.{Reflector}
@@ -8,7 +8,7 @@ use Rattle.kd_card.proofs.Duality.{fold_of_both, prices_moved, pairing_cost, fit
 use Rattle.kd_card.proofs.Counts.{count_by-cons, once_of_distinct}
 use Rattle.kd_card.proofs.Falling.{machines_have_all, list_keeps}
 use Rattle.kd_card.proofs.Loosening.{left, lowers, leaves, model_of-changed, nothing_loose}
-use Rattle.kd_card.proofs.Pairing.{cables_paired, bars_paired, Told}
+use Rattle.kd_card.proofs.Pairing.{cables_paired, bars_paired}
 
 -- ---- each setting does one thing at most
 
@@ -16,14 +16,14 @@ pub model_of-list : (m n : Parts) (xs : List Setting) → Leads m xs n → model
 model_of-list m n [] h = ap model_of h
 model_of-list m n (x ∷ xs) h = model_of-list h.0 n xs h.2 ∙ ap model_of h.1.made ∙ model_of-changed m x
 
-module _ (told : Told) (columns : List (Option (ℕ × ℕ) × ℤ)) (rows : List ((ℕ × ℕ) × ℤ)) (s : Day) (legal : IsLegalDay s) where
+module _ (columns : List (Option (ℕ × ℕ) × ℤ)) (rows : List ((ℕ × ℕ) × ℤ)) (s : Day) (legal : IsLegalDay s) where
   list_lowers : (m n : Parts) (xs : List Setting) → model_of m ≡ day_model s → Leads m xs n
       → left columns rows m s ≤ left columns rows n s + length xs
   list_lowers m n [] same h = subst (λ n. left columns rows m s ≤ left columns rows n s + 0) (sym h) (omega arith)
   list_lowers m n (x ∷ xs) same h =
       let rest = list_lowers h.0 n xs (ap model_of h.1.made ∙ model_of-changed m x ∙ same) h.2 in
       let made = ap (λ between. left columns rows between s) h.1.made in
-      omega (arith, rest, lowers told.places columns rows m s x legal same h.1.allowed)
+      omega (arith, rest, lowers columns rows m s x legal same h.1.allowed)
 
 -- ---- fitting prices, and columns beside the rows for which so many lines pay
 
@@ -113,23 +113,23 @@ record AreBounds (m : Parts) (s : Day) (prices : PriceParts) (lines : ℕ) : Typ
   bound : (pos (loose_count m s) +ℤ price_sum prices) ≤ℤ pos lines
   tight : pos lines ≡ (pos (loose_count m s) +ℤ price_sum prices) → AreTight (cost_table m s) prices
 
-no_rotors : (model : Model) (reflector : Reflector) → model ≡ M209 → Contains (reflectors_of model) reflector → ⊥
+pub no_rotors : (model : Model) (reflector : Reflector) → model ≡ M209 → Contains (reflectors_of model) reflector → ⊥
 no_rotors model reflector e h = let none = subst (λ model. Contains (reflectors_of model) reflector) e h in omega (arith, none.1)
 
-bounds : Told → (m n : Parts) (s : Day) (prices : PriceParts) (settings : List Setting) → IsMachine m → IsLegalDay s → ArePrices prices
+bounds : (m n : Parts) (s : Day) (prices : PriceParts) (settings : List Setting) → IsMachine m → IsLegalDay s → ArePrices prices
     → AreOfKind m prices → Fits (cost_table m s) prices → Leads m settings n → ReadsAs n s → AreBounds m s prices (length settings)
-bounds told (Rotor m) (Rotor n) (OfRotors s) (Cables row column) settings machine legal are kind fits leads reads =
+bounds (Rotor m) (Rotor n) (OfRotors s) (Cables row column) settings machine legal are kind fits leads reads =
     let at_first = machines_have_all (Rotor m) machine.legal in
     let at_last = list_keeps (Rotor m) (Rotor n) settings leads at_first in
     let once = once_of_distinct (letters_plugged s.pairs) legal.pairs.apart in
-    let pairing = cables_paired told n.cables s.pairs column at_last once legal.pairs.few are.columns reads.key.cables in
+    let pairing = cables_paired n.cables s.pairs column at_last once legal.pairs.few are.columns reads.key.cables in
     let same = sym (model_of-list (Rotor m) (Rotor n) settings leads) ∙ reads.key.model in
-    let falling = list_lowers told pairing.beside [] (OfRotors s) legal (Rotor m) (Rotor n) settings same leads in
+    let falling = list_lowers pairing.beside [] (OfRotors s) legal (Rotor m) (Rotor n) settings same leads in
     let table : IsTable cable_cost 13 m.cables row (columns_of s.pairs) column (loose_count (Rotor m) (OfRotors s)) (length settings) =
     record {
       rows_count = at_first.count;
       row_prices_count = are.rows;
-      columns_count = told.thirteen s.pairs legal.pairs.few;
+      columns_count = thirteen_columns s.pairs legal.pairs.few;
       prices_count = are.columns;
       fits = fits;
       beside = pairing.beside;
@@ -141,11 +141,11 @@ bounds told (Rotor m) (Rotor n) (OfRotors s) (Cables row column) settings machin
       bound = bound (None, None) None table;
       tight = λ exact. record { column_of = column_for (None, None) None table exact; row_of = row_for (None, None) None table exact };
     }
-bounds told (Pin m) (Pin n) (OfPins s) (Bars row column) settings machine legal are kind fits leads reads =
+bounds (Pin m) (Pin n) (OfPins s) (Bars row column) settings machine legal are kind fits leads reads =
     let at_first = machines_have_all (Pin m) machine.legal in
     let at_last = list_keeps (Pin m) (Pin n) settings leads at_first in
     let pairing = bars_paired n.bars s.rows column at_last (legal.count ∙ sym are.columns) reads.key.rows in
-    let falling = list_lowers told [] pairing.beside (OfPins s) legal (Pin m) (Pin n) settings refl leads in
+    let falling = list_lowers [] pairing.beside (OfPins s) legal (Pin m) (Pin n) settings refl leads in
     let table : IsTable bar_cost 27 m.bars row s.rows column (loose_count (Pin m) (OfPins s)) (length settings) =
     record {
       rows_count = at_first.count;
@@ -162,17 +162,17 @@ bounds told (Pin m) (Pin n) (OfPins s) (Bars row column) settings machine legal 
       bound = bound (One, One) (0, 0) table;
       tight = λ exact. record { column_of = column_for (One, One) (0, 0) table exact; row_of = row_for (One, One) (0, 0) table exact };
     }
-bounds told (Rotor m) (Pin n) (OfPins s) prices settings machine legal are kind fits leads reads =
+bounds (Rotor m) (Pin n) (OfPins s) prices settings machine legal are kind fits leads reads =
     absurd (no_rotors m.model m.reflector (sym (model_of-list (Rotor m) (Pin n) settings leads)) machine.legal.reflector)
-bounds told (Pin m) (Rotor n) (OfRotors s) prices settings machine legal are kind fits leads reads =
+bounds (Pin m) (Rotor n) (OfRotors s) prices settings machine legal are kind fits leads reads =
     absurd (no_rotors s.model s.reflector (sym reads.key.model ∙ model_of-list (Pin m) (Rotor n) settings leads) legal.reflector)
-bounds told m (Pin n) (OfRotors s) prices settings machine legal are kind fits leads reads = absurd reads.key
-bounds told m (Rotor n) (OfPins s) prices settings machine legal are kind fits leads reads = absurd reads.key
-bounds told m n s prices settings machine legal are kind fits leads reads = absurd kind
+bounds m (Pin n) (OfRotors s) prices settings machine legal are kind fits leads reads = absurd reads.key
+bounds m (Rotor n) (OfPins s) prices settings machine legal are kind fits leads reads = absurd reads.key
+bounds m n s prices settings machine legal are kind fits leads reads = absurd kind
 
-pub fitting_prices_bound_lists : Told → FittingPricesBoundLists
-fitting_prices_bound_lists told m s prices settings machine legal are kind fits reached =
-    (bounds told m reached.0 s prices settings machine legal are kind fits reached.1 reached.2).bound
+pub fitting_prices_bound_lists : FittingPricesBoundLists
+fitting_prices_bound_lists m s prices settings machine legal are kind fits reached =
+    (bounds m reached.0 s prices settings machine legal are kind fits reached.1 reached.2).bound
 
 -- Where each setting is needed, there are as many as loose things and those that change a cable or a bar.
 needed_one : (m : Parts) (s : Day) (x : Setting) (b : Bool) → is_priced x ≡ b → IsNeeded m s x → loose_count m s + cond b 1 0 ≡ loose_count (changed m x) s + 1
@@ -192,10 +192,10 @@ unpriced : {X Y : Type 0} (f : X × Y → ℕ) (xs : List X) → sum_by f (zip x
 unpriced f [] = refl
 unpriced f (x ∷ xs) = refl
 
-module _ (places : DaysWheelsHaveTheirPlaces) (s : Day) (legal : IsLegalDay s) where
+module _ (s : Day) (legal : IsLegalDay s) where
   loose_falls : (m : Parts) (x : Setting) → model_of m ≡ day_model s → why_refused m x ≡ None
       → loose_count m s ≤ loose_count (changed m x) s + cond (is_priced x) 0 1
-  loose_falls m x same allowed = grind (arith, lowers places [] [] m s x legal same allowed, leaves m s x, unpriced)
+  loose_falls m x same allowed = grind (arith, lowers [] [] m s x legal same allowed, leaves m s x, unpriced)
 
   no_fewer : (m n : Parts) (xs : List Setting) → model_of m ≡ day_model s → Leads m xs n → loose_count m s + priced_count xs ≤ loose_count n s + length xs
   no_fewer m n [] same leads = subst (λ n. loose_count m s + 0 ≤ loose_count n s + 0) (sym leads) (omega arith)
@@ -216,9 +216,9 @@ module _ (places : DaysWheelsHaveTheirPlaces) (s : Day) (legal : IsLegalDay s) w
         needed_in_turn (changed m x) n xs then_same after none (grind (arith, leaves m s x)),
       )
 
-pub as_few_are_needed : DaysWheelsHaveTheirPlaces → AsFewAreNeeded
-as_few_are_needed places m s settings legal same reached few =
-    needed_in_turn places s legal m reached.0 settings same reached.1 (nothing_loose reached.0 s reached.2) few
+pub as_few_are_needed : AsFewAreNeeded
+as_few_are_needed m s settings legal same reached few =
+    needed_in_turn s legal m reached.0 settings same reached.1 (nothing_loose reached.0 s reached.2) few
 
 pub proving_cards_are_as_long : ProvingCardsAreAsLong
 proving_cards_are_as_long m s settings prices h =
@@ -226,16 +226,16 @@ proving_cards_are_as_long m s settings prices h =
     let none = nothing_loose h.leads.0 s h.leads.2 in
     omega (arith, ints)
 
-pub proving_cards_are_shortest : Told → ProvingCardsAreShortest
-proving_cards_are_shortest told m s settings prices machine legal are_prices h others reached =
+pub proving_cards_are_shortest : ProvingCardsAreShortest
+proving_cards_are_shortest m s settings prices machine legal are_prices h others reached =
     let proves = h.proves in
     let long = proving_cards_are_as_long m s settings h.numbered proves in
     let are : ArePrices h.numbered =
     elim h.expands [ Same by same ↦ subst ArePrices same are_prices | Expanded by other group here also rows columns ↦ also ] in
-    let below = fitting_prices_bound_lists told m s h.numbered others machine legal are proves.kind proves.fits reached in
+    let below = fitting_prices_bound_lists m s h.numbered others machine legal are proves.kind proves.fits reached in
     omega (arith, ints)
 
-pub proving_prices_are_tight : Told → ProvingPricesAreTight
-proving_prices_are_tight told m s settings prices machine legal are h =
-    (bounds told m h.leads.0 s prices settings machine legal are h.kind h.fits h.leads.1 h.leads.2).tight
+pub proving_prices_are_tight : ProvingPricesAreTight
+proving_prices_are_tight m s settings prices machine legal are h =
+    (bounds m h.leads.0 s prices settings machine legal are h.kind h.fits h.leads.1 h.leads.2).tight
     (proving_cards_are_as_long m s settings prices h)

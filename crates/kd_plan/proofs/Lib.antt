@@ -1,7 +1,5 @@
 pub mod Prelude
 pub mod Carrying
-pub mod Bars
-pub mod Writing
 pub mod Cables
 pub mod Rotors
 pub mod Pins

@@ -1,73 +1,62 @@
--- PIN and TURN of a Converter M-209: wheel after wheel, and on each wheel letter after letter. All its planned lines lead to
--- the day, and each is needed.
-use Rattle.std.proofs.Common.{All, Bool, IsPermutation, List, Some, [], ap, append_assoc, arith, false, get_or, length, length-append, map, nat_eq, not, refl, subst, suc, sym, true, zip, ℕ, ◌++◌, ◌+◌, ◌<◌, ◌∙◌, ◌∷◌, ◌≡◌}
+-- PIN, TURN and LUG, and that all lines of a Converter M-209 lead to the day.
+use Rattle.std.proofs.Common.{[], All, ap, arith, Bool, Contains, false, find, fold, get_or, inl, inr, is_some, IsPermutation, length, length-append, List, map, min, nat_eq, nat_lt, None, Option, refl, slice_get, Some, suc, sym, true, unwrap_or, zero, zip, ℕ, ◌++◌, ◌+◌, ◌<◌, ◌∙◌, ◌∷◌, ◌≡◌, ◌≤◌}
+use Rattle.kd_state.specs.Costs.{standings_as}
+use Rattle.kd_state.specs.Pins.{pin_set, wheel_pins, with_pin}
+use Rattle.kd_tables.specs.Places.{IsBefore, IsReading, place_rank, places, reading_of, standings}
 use Rattle.kd_tables.specs.Rings.{ring_of}
-use Rattle.kd_state.specs.Pins.{pin_set, with_pin}
-use Rattle.kd_plan.proofs.Prelude.{AllByRecursion, AreOnWheels, HasAllPins, IsBefore, IsLegalPinDay, IsMachine}
-use Rattle.kd_plan.proofs.Prelude.{IsPermutation-sym, IsReading, LeadsToTheDay, OfPins, Parts, Pin, PinDay, PinParts}
-use Rattle.kd_plan.proofs.Prelude.{PinSet, PinTo, Place, Setting, agree_below, agree_below_at, common_steps, differ}
-use Rattle.kd_plan.proofs.Prelude.{eq-eqb, eqb-true, firsts-zip, get_or_at, has_letter, length-map, list_any_at}
-use Rattle.kd_plan.proofs.Prelude.{lug_lines, option_map_or, option_to_list, pin_lines, pin_of, pin_turn_lines}
-use Rattle.kd_plan.proofs.Prelude.{pin_turn_of, pins_of, place_on, planned_lines, reading_of, recursion_from_All}
-use Rattle.kd_plan.proofs.Prelude.{seconds-zip, set_at, unless_so, wheel_pin_lines}
-use Rattle.kd_plan.proofs.Carrying.{EachLeads, IsPairing, Led, cells_led, is_number, led_append, led_unless, paired}
-use Rattle.kd_plan.proofs.Carrying.{seam_get, seam_set}
-use Rattle.kd_plan.proofs.Writing.{bars_beside, lines_of_each, row_at}
-use Rattle.kd_plan.proofs.Bars.{BarRow, IsMovable, lugs_each, lugs_of, now_stands, rows_read, to_stand, with_bars}
+use Rattle.kd_tables.specs.declared.lug.Lug.{Lug}
+use Rattle.kd_tables.specs.declared.lug.Lug.TheVariants.{Left, Right}
+use Rattle.kd_tables.specs.declared.place.Place.TheVariants.{One}
+use Rattle.kd_plan.proofs.Prelude.{All-filter, AllByRecursion, AllPass-from_list_all, AreOnWheels, bar_cost}
+use Rattle.kd_plan.proofs.Prelude.{bars_beside, cases_eq, common_steps, cond_both, eqb-true, filter_passes, firsts-zip}
+use Rattle.kd_plan.proofs.Prelude.{get_or-map, get_or-range_with_len, get_or_from_slice_get, has_letter}
+use Rattle.kd_plan.proofs.Prelude.{has_letter-Decides, HasAllPins, is_at, is_some-place_on, IsLegalPinDay, IsMachine}
+use Rattle.kd_plan.proofs.Prelude.{IsOneToOne, IsPermutation-sym, LeadsToTheDay, length-map, length-range_with_len}
+use Rattle.kd_plan.proofs.Prelude.{length-zip, lines_from, ltb-false, ltb-true, lug_place, lugs_moved, lugs_of, lugs_to}
+use Rattle.kd_plan.proofs.Prelude.{LugTo, nat_tests, no_zero, OfPins, one_zero, option_to_list, Parts, Pin, pin_lines}
+use Rattle.kd_plan.proofs.Prelude.{pin_of, pin_turn_lines, pin_turn_of, PinDay, PinParts, pins_of, PinSet, Place}
+use Rattle.kd_plan.proofs.Prelude.{place_on, planned_lines, range_with_len, reads_as_row, recursion_from_All}
+use Rattle.kd_plan.proofs.Prelude.{seconds-zip, set_at, Setting, slice_get_within, target_of, unless_so}
+use Rattle.kd_plan.proofs.Prelude.{wheel_pin_lines, why_refused, with_lug, zeros}
+use Rattle.kd_plan.proofs.Carrying.{all_parts, cells_led, Led, led_append, led_unless, lines_of_each, paired, seam_get}
+use Rattle.kd_plan.proofs.Carrying.{seam_map, seam_set}
 
--- each letter of a pin wheel stands at its own place
-place_found : ℕ → ℕ → Bool
-place_found number place = option_map_or (nat_eq place) (place_on (ring_of number) (get_or (ring_of number) place 0)) false
+-- ---- PIN: wheel after wheel, and on each wheel letter after letter, each of which stands at its own place
+letters_have_places : (number : ℕ) → map (place_on (ring_of number)) (ring_of number) ≡ map Some (range_with_len 0 (length (ring_of number)))
+unfolding ring_of
+letters_have_places (suc (suc (suc (suc (suc (suc zero)))))) = refl
+letters_have_places number = refl
 
-all_found : agree_below (λ number. agree_below (place_found number) (λ place. true) (length (ring_of number))) (λ number. true) 7 ≡ true
-unfolding ring_of place_found
-all_found = refl
+has_place : (number k letter : ℕ) → slice_get (ring_of number) k ≡ Some letter → place_on (ring_of number) letter ≡ Some k
+has_place number k letter e =
+    let ring = ring_of number in
+    let lt = slice_get_within ring k letter e in
+    let at = ap (λ (xs : List (Option ℕ)). get_or xs k None) (letters_have_places number) in
+    ap (place_on ring) (sym (get_or_from_slice_get ring k letter 0 e)) ∙ sym (get_or-map (place_on ring) ring k 0 None lt) ∙ at
+    ∙ get_or-map Some (range_with_len 0 (length ring)) k 0 None (omega (arith, length-range_with_len 0 (length ring))) ∙ ap Some (get_or-range_with_len 0 (length ring) k 0 lt ∙ omega arith)
 
-place_of_letter : (number place : ℕ) → number < 7 → place < length (ring_of number) → place_on (ring_of number) (get_or (ring_of number) place 0) ≡ Some place
-unfolding place_found
-place_of_letter number place lt within =
-    let all = agree_below_at (λ number. agree_below (place_found number) (λ place. true) (length (ring_of number))) (λ number. true) 7 number all_found lt in
-    is_number (place_on (ring_of number) (get_or (ring_of number) place 0)) place
-    (agree_below_at (place_found number) (λ place. true) (length (ring_of number)) place all within)
-
--- six wheels
 pins_of_set : (lists : List (List Bool)) → length lists ≡ 6 → pins_of (pin_set lists) ≡ lists
 pins_of_set lists e = grind (arith, common_steps)
 
--- a letter of a wheel, with its pin and the day's
+second_map : {A B C : Type 0} (f : B → C) (xs : List A) (ys : List B) → length ys ≡ length xs → map (λ (z : A × B). f z.1) (zip xs ys) ≡ map f ys
+second_map f [] [] e = refl
+second_map f (x ∷ xs) (y ∷ ys) e = ap (λ zs. f y ∷ zs) (second_map f xs ys (omega arith))
+second_map f _ _ e = absurd (omega arith)
+
+-- a letter of a wheel, with its pin and the day's, and a wheel's pins beside the day's
 abbrev Cell : Type 0
 Cell = ℕ × (Bool × Bool)
 
-abbrev is_so : Cell → Bool
-is_so w = w.1.0
+abbrev TwoPins : Type 0
+TwoPins = List Bool × List Bool
 
-abbrev to_be : Cell → Bool
-to_be w = w.1.1
-
-abbrev pin_line : ℕ → ℕ → Cell → List Setting
-pin_line number k w = pin_of number w
-
-record AreCells (letters : List ℕ) (now wanted : List Bool) (cells : List Cell) : Type 0 where
-  letters_are : map (λ (w : Cell). w.0) cells ≡ letters
-  now_are : map is_so cells ≡ now
-  wanted_are : map to_be cells ≡ wanted
-
-cells_are : (letters : List ℕ) (now wanted : List Bool) → length now ≡ length letters → length wanted ≡ length letters
-    → AreCells letters now wanted (zip letters (zip now wanted))
-cells_are [] [] [] e f = record { letters_are = refl; now_are = refl; wanted_are = refl }
-cells_are (l ∷ letters) (a ∷ now) (b ∷ wanted) e f =
-    grind (arith, cells_are letters now wanted (omega arith) (omega arith))
-cells_are _ _ _ e f = absurd (omega arith)
-
--- the planned lines of a wheel, letter by letter
-abbrev pub wheel_lines : ℕ → List Bool × List Bool → List Setting
+abbrev pub wheel_lines : ℕ → TwoPins → List Setting
 wheel_lines number z = wheel_pin_lines number (ring_of number) z.0 z.1
 
 module _ (m : PinParts) where
-  abbrev pub with_pins : List (List Bool) → Parts
+  abbrev with_pins : List (List Bool) → Parts
   with_pins lists = Pin (record m { pins = pin_set lists })
 
-  -- what stands around one wheel: the other wheels
   module _ (front back : List (List Bool)) (six : length front + length back ≡ 5) where
     abbrev with_wheel : List Bool → Parts
     with_wheel pins = with_pins (front ++ pins ∷ back)
@@ -84,75 +73,167 @@ module _ (m : PinParts) where
         rw (set_is (done ++ now ∷ rest), seam_get front (done ++ now ∷ rest) back, placed, set_at done now rest effective (length done) refl)
         (ap pin_set (seam_set front (done ++ now ∷ rest) back (done ++ effective ∷ rest)))
 
-    one_pin : (done rest : List Bool) (now effective : Bool) (letter : ℕ)
-        → place_on (ring_of number) letter ≡ Some (length done) → has_letter (ring_of number) letter ≡ true
-        → Led (with_wheel (done ++ now ∷ rest)) (option_to_list (unless_so (not (differ now effective)) (PinTo number letter effective))) (with_wheel (done ++ effective ∷ rest))
-    one_pin done rest now effective letter placed has = grind (arith, pin_made done rest now effective letter placed)
+    one_pin : (done rest : List Bool) (w : Cell) → place_on (ring_of number) w.0 ≡ Some (length done)
+        → Led (with_wheel (done ++ w.1.0 ∷ rest)) (pin_of number w) (with_wheel (done ++ w.1.1 ∷ rest))
+    one_pin done rest w placed =
+        let has : has_letter (ring_of number) w.0 ≡ true = sym (is_some-place_on (ring_of number) w.0) ∙ ap is_some placed in
+        grind (arith, led_unless, pin_made done rest w.1.0 w.1.1 w.0 placed)
 
-    -- one wheel, of which these letters are done
-    pins_each : (letters : List ℕ) (done : List Bool) (cells : List Cell) → number < 7 → length letters ≡ length done
-        → letters ++ map (λ (w : Cell). w.0) cells ≡ ring_of number → EachLeads with_wheel is_so to_be (pin_line number) done cells
-    pins_each letters done [] within size ring = tt
-    pins_each letters done (w ∷ cells) within size ring =
-        let lt : length done < length (ring_of number) = omega (arith, ap length ring, length-append letters (w.0 ∷ map (λ (w : Cell). w.0) cells)) in
-        let letter_is : get_or (ring_of number) (length done) 0 ≡ w.0 = rw (← ring) (get_or_at letters w.0 (map (λ (w : Cell). w.0) cells) 0 (length done) size) in
-        let placed = ap (place_on (ring_of number)) (sym letter_is) ∙ place_of_letter number (length done) within lt in
-        let has = list_any_at (λ other. nat_eq other w.0) (ring_of number) (length done) 0 lt (eq-eqb (get_or (ring_of number) (length done) 0) w.0 letter_is) in (
-          one_pin done (map is_so cells) (is_so w) (to_be w) w.0 placed has,
-          pins_each (letters ++ w.0 ∷ []) (done ++ to_be w ∷ []) cells within (omega (arith, length-append letters (w.0 ∷ []), length-append done (to_be w ∷ [])))
-              (append_assoc letters (w.0 ∷ []) (map (λ (w : Cell). w.0) cells) ∙ ring),
-        )
-
-    wheel_led : (now day : List Bool) → number < 7 → length now ≡ length (ring_of number) → length day ≡ length (ring_of number)
+    wheel_led : (now day : List Bool) → length now ≡ length (ring_of number) → length day ≡ length (ring_of number)
         → Led (with_wheel now) (wheel_lines number (now, day)) (with_wheel day)
-    wheel_led now day within now_size day_size =
-        let cells = zip (ring_of number) (zip now day) in
-        let are = cells_are (ring_of number) now day now_size day_size in
-        let led = cells_led with_wheel is_so to_be (pin_line number) [] cells 1 refl (pins_each [] [] cells within refl are.letters_are) in
-        rw (lines_of_each (pin_of number) cells 1) (rw (are.now_are, are.wanted_are) at led)
+    wheel_led now day e d =
+        let ring = ring_of number in
+        let cells = zip ring (zip now day) in
+        let size : length (zip now day) ≡ length ring = omega (arith, length-zip now day) in
+        let led =
+        cells_led with_wheel (λ (w : Cell). w.1.0) (λ w. w.1.1) (λ n w. pin_of number w) cells (λ fs bs w is.
+        one_pin (map (λ (w : Cell). w.1.1) fs) (map (λ (w : Cell). w.1.0) bs) w
+        (rw length-map (has_place number (length fs) w.0 (rw (firsts-zip ring (zip now day) size) at (seam_map (λ (w : Cell). w.0) cells fs bs w is))))) in
+        let before = second_map (λ (pin : Bool × Bool). pin.0) ring (zip now day) size ∙ firsts-zip now day (d ∙ sym e) in
+        let after = second_map (λ (pin : Bool × Bool). pin.1) ring (zip now day) size ∙ seconds-zip now day (d ∙ sym e) in
+        rw (lines_of_each (pin_of number) cells 1) (rw (before, after) at led)
 
-  -- all wheels: each has as many pins as letters, now and by the day
-  abbrev AreSized : ℕ → List (List Bool × List Bool) → Type 0
-  AreSized number [] = Unit {0}
-  AreSized number (z ∷ zs) =
-      (length z.0 ≡ length (ring_of number)) × (length z.1 ≡ length (ring_of number)) × AreSized (suc number) zs
-
-  wheels_each : (front : List (List Bool)) (zs : List (List Bool × List Bool)) → length front + length zs ≡ 6
-      → AreSized (suc (length front)) zs
-      → EachLeads with_pins (λ z. z.0) (λ z. z.1) wheel_lines front zs
-  wheels_each front [] six sized = tt
-  wheels_each front (z ∷ zs) six sized =
-      let back = map (λ (z : List Bool × List Bool). z.0) zs in
-      let next : suc (length front) ≡ length (front ++ z.1 ∷ []) = omega (arith, length-append front (z.1 ∷ [])) in (
-        wheel_led front back (omega (arith, six, length-map zs (λ (z : List Bool × List Bool). z.0))) z.0 z.1 (omega arith) sized.0 sized.1,
-        wheels_each (front ++ z.1 ∷ []) zs (omega (arith, six, next)) (subst (λ n. AreSized (suc n) zs) next sized.2),
-      )
-
-  pub pins_reach : (day : PinSet) → HasAllPins m.pins → HasAllPins day → Led (Pin m) (pin_lines m.pins day) (Pin (record m { pins = day }))
-  pins_reach day has due =
+  pins_lead : (day : PinSet) → HasAllPins m.pins → HasAllPins day → Led (Pin m) (pin_lines m.pins day) (Pin (record m { pins = day }))
+  pins_lead day has due =
       let wheels = zip (pins_of m.pins) (pins_of day) in
-      cells_led with_pins (λ z. z.0) (λ z. z.1) wheel_lines [] wheels 1 refl
-      (wheels_each [] wheels refl (has 1, due 1, (has 2, due 2, (has 3, due 3, (has 4, due 4, (has 5, due 5, (has 6, due 6, tt)))))))
+      cells_led with_pins (λ (z : TwoPins). z.0) (λ z. z.1) wheel_lines wheels (λ fs bs z e.
+      let six : length fs + length bs ≡ 5 = omega (arith, ap length e, length-append fs (z ∷ bs)) in
+      let now : wheel_pins m.pins (suc (length fs)) ≡ z.0 = ap (λ found. unwrap_or found []) (seam_map (λ (z : TwoPins). z.0) wheels fs bs z e) in
+      let wanted : wheel_pins day (suc (length fs)) ≡ z.1 = ap (λ found. unwrap_or found []) (seam_map (λ (z : TwoPins). z.1) wheels fs bs z e) in
+      rw length-map at
+      (wheel_led (map (λ (z : TwoPins). z.1) fs) (map (λ (z : TwoPins). z.0) bs) (omega (arith, length-map fs (λ (z : TwoPins). z.1), length-map bs (λ (z : TwoPins). z.0))) z.0 z.1
+      (rw length-map (rw now at (has (suc (length fs))))) (rw length-map (rw wanted at (due (suc (length fs)))))))
 
--- TURN: the letter that shows on a wheel, and the day's
-abbrev pub shown : ℕ × ℕ → ℕ
-shown z = z.0
-
-abbrev pub wanted : ℕ × ℕ → ℕ
-wanted z = z.1
-
-module _ (m : PinParts) (s : PinDay) where
-  abbrev pub with_shown : List ℕ → Parts
+-- ---- TURN
+module _ (m : PinParts) where
+  abbrev with_shown : List ℕ → Parts
   with_shown letters = Pin (record m { letters = letters })
 
-  pub turns_each : (front : List ℕ) (zs : List (ℕ × ℕ)) → front ++ map wanted zs ≡ s.window → AreOnWheels s.window
-      → EachLeads with_shown shown wanted pin_turn_of front zs
-  turns_each front [] e on = tt
-  turns_each front (z ∷ zs) e on =
-      grind (arith, list_any_at, eq-eqb, eqb-true, led_unless, seam_get, seam_set, append_assoc, on.each (suc (length front)) z.1, turns_each (front ++ z.1 ∷ []) zs)
+  turn_led : (front back : List ℕ) (z : ℕ × ℕ) → Contains (ring_of (suc (length front))) z.1
+      → Led (with_shown (front ++ z.0 ∷ back)) (pin_turn_of (suc (length front)) z) (with_shown (front ++ z.1 ∷ back))
+  turn_led front back z on = grind (arith, eqb-true, has_letter-Decides, led_unless, seam_get, seam_set)
+
+  turns_lead : (window : List ℕ) → length m.letters ≡ 6 → AreOnWheels window → Led (with_shown m.letters) (pin_turn_lines m.letters window) (with_shown window)
+  turns_lead window size on =
+      let zs = zip m.letters window in
+      let due = seconds-zip m.letters window (on.count ∙ sym size) in
+      let led =
+      cells_led with_shown (λ (z : ℕ × ℕ). z.0) (λ z. z.1) pin_turn_of zs (λ fs bs z e.
+      rw length-map at (turn_led (map (λ (z : ℕ × ℕ). z.1) fs) (map (λ (z : ℕ × ℕ). z.0) bs) z
+      (rw length-map (on.each (suc (length fs)) z.1 (rw due at (seam_map (λ (z : ℕ × ℕ). z.1) zs fs bs z e)))))) in
+      rw (firsts-zip m.letters window (on.count ∙ sym size), due) at led
+
+-- ---- LUG: where a bar is to stand, a standing that reads as the row with no more lugs moved than must be; and that its two
+-- lugs are moved there, first the one that isn't in the other's way.
+place_by_rank : (place : Place) → get_or places (place_rank place) One ≡ place
+place_by_rank place = grind arith
+
+place_of_same : (place other : Place) → is_at place other ≡ true → place ≡ other
+place_of_same place other e = grind (arith, place_by_rank, eqb-true)
+
+pub at_most_two : (bar standing : Place × Place) → lugs_moved bar standing ≤ 2
+at_most_two bar standing = grind (arith, common_steps)
+
+-- what a target is
+pub record IsTarget (bar : Place × Place) (row : ℕ × ℕ) (target : Place × Place) : Type 0 where
+  pub stands : IsBefore target.0 target.1
+  pub reads : reading_of target.0 target.1 ≡ row
+  pub moved : lugs_moved bar target ≡ bar_cost bar row
+
+-- a standing of the row is one
+abbrev IsOfRow : ℕ × ℕ → Place × Place → Type 0
+IsOfRow row x = IsBefore x.0 x.1 × (reads_as_row row x ≡ true)
+
+of_row : (row : ℕ × ℕ) → All (IsOfRow row) (standings_as row)
+unfolding standings_as
+of_row row k d lt =
+    let before = λ (x : Place × Place). nat_lt (place_rank x.0) (place_rank x.1) in
+    let x = get_or (standings_as row) k d in (
+      ltb-true (place_rank x.0) (place_rank x.1) (All-filter (reads_as_row row) (λ x. before x ≡ true) standings (AllPass-from_list_all before standings refl) k d lt),
+      filter_passes (reads_as_row row) standings k d lt,
+    )
+
+-- a row has one standing, or two
+few_standings : (row : ℕ × ℕ) → IsReading row → (x : Place × Place) × (more : Option (Place × Place)) × (standings_as row ≡ x ∷ option_to_list more)
+few_standings row h =
+    elim (cases_eq row.1 0) [
+      | inl e ↦ (_, None, zeros row h.ordered e)
+      | inr some ↦ elim (cases_eq row.0 0) [ inl e ↦ (_, Some _, one_zero row e (omega arith) h.within) | inr other ↦ (_, None, no_zero row h other) ]
+    ]
+
+nearest : (bar x : Place × Place) (more : Option (Place × Place)) (xs : List (Place × Place)) (P : Place × Place → Type 0) → xs ≡ x ∷ option_to_list more → AllByRecursion P xs
+    → let least = fold min 2 (map (lugs_moved bar) xs) in
+    let target = unwrap_or (find (λ y. nat_eq (lugs_moved bar y) least) xs) bar in
+    P target × (lugs_moved bar target ≡ least)
+nearest bar x None xs P e h = grind (arith, nat_tests, at_most_two bar x)
+nearest bar x (Some y) xs P e h = grind (arith, nat_tests, at_most_two bar x, at_most_two bar y)
+
+pub is_target : (bar : Place × Place) (row : ℕ × ℕ) → IsReading row → IsTarget bar row (target_of bar row)
+is_target bar row h =
+    let few = few_standings row h in
+    let so = nearest bar few.0 few.1 (standings_as row) (IsOfRow row) few.2 (recursion_from_All (IsOfRow row) (standings_as row) (of_row row)) in
+    record { stands = so.0.0; reads = grind (arith, eqb-true); moved = so.1 }
+
+-- a bar, and the row that it is paired with
+abbrev pub BarRow : Type 0
+BarRow = (Place × Place) × (ℕ × ℕ)
+
+pub record IsMovable (z : BarRow) : Type 0 where
+  pub stands : IsBefore z.0.0 z.0.1
+  pub reading : IsReading z.1
+
+abbrev pub to_stand : BarRow → Place × Place
+to_stand z = target_of z.0 z.1
+
+-- the lug may stand there
+abbrev IsClear : Lug → Place → Place × Place → Type 0
+IsClear Left place bar = place_rank place < place_rank bar.1
+IsClear Right place bar = place_rank bar.0 < place_rank place
+
+there_already : (lug : Lug) (place : Place) (bar : Place × Place) → is_at (lug_place lug bar) place ≡ true → with_lug lug place bar ≡ bar
+there_already lug place bar e = grind (arith, place_of_same)
+
+module _ (m : PinParts) where
+  abbrev pub with_bars : List (Place × Place) → Parts
+  with_bars bars = Pin (record m { bars = bars })
+
+  module _ (front back : List (Place × Place)) where
+    abbrev with_bar : Place × Place → Parts
+    with_bar bar = with_bars (front ++ bar ∷ back)
+
+    abbrev bar_number : ℕ
+    bar_number = suc (length front)
+
+    lug_allowed : (bar : Place × Place) (lug : Lug) (place : Place) → IsClear lug place bar → why_refused (with_bar bar) (LugTo bar_number lug place) ≡ None
+    lug_allowed bar lug place e = grind (arith, false, seam_get)
+
+    one_lug : (bar : Place × Place) (lug : Lug) (place : Place) → IsClear lug place bar
+        → Led (with_bar bar) (option_to_list (unless_so (is_at (lug_place lug bar) place) (LugTo bar_number lug place))) (with_bar (with_lug lug place bar))
+    one_lug bar lug place h = grind (arith, led_unless, there_already, seam_get, seam_set, lug_allowed)
+
+    lugs_led : (bar target : Place × Place) → IsBefore bar.0 bar.1 → IsBefore target.0 target.1
+        → Led (with_bar bar) (lugs_to bar_number bar target) (with_bar target)
+    lugs_led bar target stands wanted =
+        let left = option_to_list (unless_so (is_at bar.0 target.0) (LugTo bar_number Left target.0)) in
+        let right = option_to_list (unless_so (is_at bar.1 target.1) (LugTo bar_number Right target.1)) in
+        cond_both (nat_lt (place_rank target.0) (place_rank bar.1)) (left ++ right) (right ++ left) (λ lines. Led (with_bar bar) lines (with_bar target))
+        (λ e. led_append left right (one_lug bar Left target.0 (ltb-true (place_rank target.0) (place_rank bar.1) e)) (one_lug (target.0, bar.1) Right target.1 wanted))
+        (λ e.
+        let clear : place_rank bar.0 < place_rank target.1 = omega (arith, stands, wanted, ltb-false (place_rank target.0) (place_rank bar.1) e) in
+        led_append right left (one_lug bar Right target.1 clear) (one_lug (bar.0, target.1) Left target.0 wanted))
+
+  lugs_lead : (zs : List BarRow) → AllByRecursion IsMovable zs → Led (with_bars (map (λ (z : BarRow). z.0) zs)) (lines_from lugs_of 1 zs) (with_bars (map to_stand zs))
+  lugs_lead zs h =
+      cells_led with_bars (λ (z : BarRow). z.0) to_stand lugs_of zs (λ front back z e.
+      let movable = (all_parts IsMovable zs front back z e h).1 in
+      rw length-map at (lugs_led (map to_stand front) (map (λ (z : BarRow). z.0) back) z.0 (to_stand z) movable.stands (is_target z.0 z.1 movable.reading).stands))
+
+-- the rows that the bars read as in the end
+rows_read : (zs : List BarRow) → AllByRecursion IsMovable zs → map (λ (bar : Place × Place). reading_of bar.0 bar.1) (map to_stand zs) ≡ map (λ (z : BarRow). z.1) zs
+rows_read [] h = refl
+rows_read (z ∷ zs) h = grind (arith, is_target, rows_read zs h.1)
 
 -- ---- all lines
-
 movable : (bars : List (Place × Place)) (rows : List (ℕ × ℕ)) (to : List ℕ) → AllByRecursion (λ bar. IsBefore bar.0 bar.1) bars → All IsReading rows
     → AllByRecursion (λ j. j < length rows) to → AllByRecursion IsMovable (bars_beside bars rows to)
 movable [] rows to stand reading within = tt
@@ -160,7 +241,7 @@ movable (bar ∷ bars) rows [] stand reading within = tt
 movable (bar ∷ bars) rows (j ∷ to) stand reading within =
     (record { stands = stand.0; reading = reading j (0, 0) within.0 }, movable bars rows to stand.1 reading within.1)
 
-module _ (m : PinParts) (s : PinDay) (to : List ℕ) (machine : IsMachine (Pin m)) (legal : IsLegalPinDay s) (pairing : IsPairing 27 to) where
+module _ (m : PinParts) (s : PinDay) (to : List ℕ) (machine : IsMachine (Pin m)) (legal : IsLegalPinDay s) (count : length to ≡ 27) (one_to_one : IsOneToOne to) where
   abbrev after_pins : PinParts
   after_pins = record m { pins = s.pins }
 
@@ -170,33 +251,25 @@ module _ (m : PinParts) (s : PinDay) (to : List ℕ) (machine : IsMachine (Pin m
   abbrev zs : List BarRow
   zs = bars_beside m.bars s.rows to
 
-  turns_reach : Led (Pin after_pins) (pin_turn_lines m.letters s.window) (Pin after_turns)
-  turns_reach =
-      let letters = zip m.letters s.window in
-      let size : length s.window ≡ length m.letters = legal.window.count ∙ sym machine.legal.letters.count in
-      let due = seconds-zip m.letters s.window size in
-      let led = cells_led (with_shown after_pins s) shown wanted pin_turn_of [] letters 1 refl (turns_each after_pins s [] letters due legal.window) in
-      rw (firsts-zip m.letters s.window size, due) at led
+  abbrev chosen : List (ℕ × ℕ)
+  chosen = map (λ j. get_or s.rows j (0, 0)) to
 
-  sizes : length (map (row_at s.rows) to) ≡ length m.bars
-  sizes = length-map to (row_at s.rows) ∙ pairing.count ∙ sym machine.legal.bars
+  sizes : length chosen ≡ length m.bars
+  sizes = length-map to (λ j. get_or s.rows j (0, 0)) ∙ count ∙ sym machine.legal.bars
+
+  same_size : length to ≡ length s.rows
+  same_size = count ∙ sym legal.count
 
   pub are_movable : AllByRecursion IsMovable zs
-  are_movable = grind (arith, movable, recursion_from_All)
-
-  lugs_reach : Led (Pin after_turns) (lug_lines m.bars s.rows to) (with_bars after_turns (map to_stand zs))
-  lugs_reach =
-      let led = cells_led (with_bars after_turns) now_stands to_stand lugs_of [] zs 1 refl (lugs_each after_turns [] zs are_movable) in
-      rw (firsts-zip m.bars (map (row_at s.rows) to) sizes) at led
+  are_movable = grind (arith, movable, recursion_from_All, same_size)
 
   rows_are : IsPermutation (map (λ (bar : Place × Place). reading_of bar.0 bar.1) (map to_stand zs)) s.rows
   rows_are =
-      let order = paired (0, 0) s.rows to (subst (λ n. IsPairing n to) (sym legal.count) pairing) in
-      let rows = rows_read zs are_movable ∙ seconds-zip m.bars (map (row_at s.rows) to) sizes in
-      rw rows (IsPermutation-sym s.rows (map (row_at s.rows) to) order)
+      rw (rows_read zs are_movable ∙ seconds-zip m.bars chosen sizes) (IsPermutation-sym s.rows chosen (paired (0, 0) s.rows to same_size one_to_one))
 
-  pub pins_lead : LeadsToTheDay (Pin m) (OfPins s) (planned_lines (Pin m) (OfPins s) to)
-  pins_lead =
-      let pins = led_append (pin_lines m.pins s.pins) (pin_turn_lines m.letters s.window) (pins_reach m s.pins machine.legal.pins legal.pins) turns_reach in
-      let all = led_append (pin_lines m.pins s.pins ++ pin_turn_lines m.letters s.window) (lug_lines m.bars s.rows to) pins lugs_reach in
-      (with_bars after_turns (map to_stand zs), all.leads, record { key = record { pins = refl; rows = rows_are }; window = refl })
+  pub pin_machine_leads : LeadsToTheDay (Pin m) (OfPins s) (planned_lines (Pin m) (OfPins s) to)
+  pin_machine_leads =
+      let pins = pins_lead m s.pins machine.legal.pins legal.pins in
+      let turns = turns_lead after_pins s.window machine.legal.letters.count legal.window in
+      let lugs = rw (firsts-zip m.bars chosen sizes) at (lugs_lead after_turns zs are_movable) in
+      (with_bars after_turns (map to_stand zs), (led_append _ _ (led_append _ _ pins turns) lugs).leads, record { key = record { pins = refl; rows = rows_are }; window = refl })

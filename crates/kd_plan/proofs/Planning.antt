@@ -1,36 +1,36 @@
 -- How many lines there are, and how many of them the prices speak of: as many as the pairing costs.
-use Rattle.std.proofs.Common.{All, Bool, Contains, List, None, Option, Some, [], ap, append_assoc, arith, cond, false, find, fold, get_or, if◌then◌else◌, length, length-append, map, min, nat_eq, not, pos, refl, replicate, rules, subst, suc, sym, true, unsigned_abs, unwrap_or, zip, ℕ, ℤ, ◌&&◌, ◌++◌, ◌+ℤ◌, ◌+◌, ◌<◌, ◌∙◌, ◌∷◌, ◌≡◌, ◌≤◌}
-use Rattle.std.proofs.lemmas.Int.{ints}
-use Rattle.kd_assign.specs.Prices.{CostsAtMost, Fits, price_sum, sum_of}
-use Rattle.kd_card.specs.Prices.{ArePrices, column_kinds, column_prices, how_many, row_kinds, row_prices, version_of}
+use Rattle.std.proofs.Common.{[], All, ap, arith, Bool, cond, false, find, fold, get_or, length, length-append, List, map, min, nat_eq, nat_le, nat_lt, None, not, Option, pos, refl, replicate, rules, suc, sym, true, unsigned_abs, zero, zip, ℕ, ℤ, ◌&&◌, ◌++◌, ◌+ℤ◌, ◌+◌, ◌<◌, ◌||◌, ◌∙◌, ◌∷◌, ◌≡◌, ◌≤ℤ◌, ◌≤◌}
+use Rattle.kd_assign.specs.Prices.{cost_at, CostsAtMost, Fits, price_at, price_sum, sum_of}
 use Rattle.kd_card.specs.declared.prices.PriceParts.{PriceParts}
 use Rattle.kd_card.specs.declared.prices.Version.TheVariants.{ByNumber}
-use Rattle.kd_state.specs.Costs.{loose_count, loose_rings, loose_slots, standings_as}
-use Rattle.kd_state.specs.Laws.{CablesCostFour}
+use Rattle.kd_state.specs.Costs.{standings_as}
+use Rattle.kd_tables.specs.Permutation.{alphabet}
 use Rattle.kd_tables.specs.Rings.{ring_of}
-use Rattle.kd_plan.proofs.Prelude.{All-map, AllByRecursion, AreOfKind, Day, HasAllPins, IsLegalDay, IsLegalRotorDay}
-use Rattle.kd_plan.proofs.Prelude.{IsMachine, IsOneToOne, IsPlanned, LeadsToTheDay, M209, Model, OfPins, OfRotors}
-use Rattle.kd_plan.proofs.Prelude.{Parts, Pin, PinDay, PinParts, PinSet, PinTo, Place, ProvesByNumber, Pull, Put}
-use Rattle.kd_plan.proofs.Prelude.{Reflector, RingTo, Rotor, RotorDay, RotorParts, Seat, SeatReflector, Setting}
-use Rattle.kd_plan.proofs.Prelude.{SheetWheel, Told, Wheel, alphabet, assignment_cost, bar_cost, bar_costs, besides}
-use Rattle.kd_plan.proofs.Prelude.{box_of, cable_cost, cable_costs, cable_letters, column_letters, columns_of}
-use Rattle.kd_plan.proofs.Prelude.{common_steps, cond_both, cost_table, count_by, count_by-le-length, day_model, differ}
-use Rattle.kd_plan.proofs.Prelude.{eqb-false, eqb-true, get_or-map, get_or-replicate, has_letter, is_priced}
-use Rattle.kd_plan.proofs.Prelude.{length-filter, length-map, length-replicate, length-zip, lines_from, lugs_moved}
-use Rattle.kd_plan.proofs.Prelude.{lugs_to, model_of, numbered, option_and_then, option_map_or, option_to_list}
-use Rattle.kd_plan.proofs.Prelude.{pin_lines, pin_of, pin_turn_of, pins_of, planned_lines, priced_count}
-use Rattle.kd_plan.proofs.Prelude.{recursion_from_All, reflectors_of, ring_at, ring_lines, ring_of_wheel}
-use Rattle.kd_plan.proofs.Prelude.{same_reflector, same_wheel, seat_lines, slots_of, sum-map, sum_by, sum_by-append}
-use Rattle.kd_plan.proofs.Prelude.{sum_by-cons, sum_by-le, sum_by-le-sum_by, table_size, turn_of, unless_same}
-use Rattle.kd_plan.proofs.Prelude.{unless_so, wheel_pin_lines, work_beside}
+use Rattle.std.proofs.lemmas.Int.{ints}
+use Rattle.std.specs.List.{IsDistinct}
+use Rattle.kd_plan.proofs.Prelude.{All-append, All-map, All-replicate, AllByRecursion, AreOfKind, ArePrices}
+use Rattle.kd_plan.proofs.Prelude.{as_few_are_needed, assignment_cost, at_most_four, bar_cost, bars_beside, besides}
+use Rattle.kd_plan.proofs.Prelude.{box_of, cable_cost, cable_letters, card_sum, column_kinds, column_letters}
+use Rattle.kd_plan.proofs.Prelude.{column_prices, columns_of, common_steps, cond_both, cost_table, count_by}
+use Rattle.kd_plan.proofs.Prelude.{count_by-le-length, Day, day_model, differ, eqb-true, fold_of_both, get_or-map}
+use Rattle.kd_plan.proofs.Prelude.{get_or-replicate, has_letter, HasAllPins, how_many, is_priced, IsLegalDay}
+use Rattle.kd_plan.proofs.Prelude.{IsLegalRotorDay, IsMachine, IsOneToOne, IsPlanned, LeadsToTheDay, length-filter}
+use Rattle.kd_plan.proofs.Prelude.{length-map, length-zip, letters_apart, letters_due, lines_from, loose_count}
+use Rattle.kd_plan.proofs.Prelude.{loose_rings, lugs_moved, lugs_of, lugs_to, Model, model_of, nat_tests, no_rotors}
+use Rattle.kd_plan.proofs.Prelude.{OfPins, OfRotors, option_map_or, option_to_list, Parts, Pin, pin_lines, pin_of}
+use Rattle.kd_plan.proofs.Prelude.{pin_turn_of, PinDay, PinParts, pins_of, PinSet, Place, planned_lines, priced_count}
+use Rattle.kd_plan.proofs.Prelude.{Pull, pulls_of, Put, puts_of, range_with_len, recursion_from_All, ring_at}
+use Rattle.kd_plan.proofs.Prelude.{ring_lines, ring_of_wheel, Rotor, RotorDay, RotorParts, row_kinds, row_prices}
+use Rattle.kd_plan.proofs.Prelude.{same_reflector, same_wheel, seat_of, SeatReflector, Setting, SheetWheel, slots_of}
+use Rattle.kd_plan.proofs.Prelude.{sum-map, sum_by, sum_by-append, sum_by-cons, sum_by-le, sum_by-le-sum_by, table_size}
+use Rattle.kd_plan.proofs.Prelude.{thirteen_columns, turn_of, unless_same, unless_same_at_most, unless_so, version_of}
+use Rattle.kd_plan.proofs.Prelude.{Wheel, wheel_pin_lines}
+use Rattle.kd_plan.proofs.Cables.{are_pluggable, AreProper, Beside, beside_each, IsPluggable}
+use Rattle.kd_plan.proofs.Carrying.{lines_of_each}
+use Rattle.kd_plan.proofs.Pins.{are_movable, at_most_two, BarRow, is_target, IsMovable, pin_machine_leads, to_stand}
+use Rattle.kd_plan.proofs.Rotors.{rotors_lead}
+use Rattle.kd_plan.specs.Due.{prices_due}
 use Rattle.kd_plan.specs.Laws.{PlannedCardsProve, PlannedLinesLead}
-use Rattle.kd_plan.proofs.Bars.{BarRow, IsMovable, at_most_two, is_target, lugs_of, to_stand}
-use Rattle.kd_plan.proofs.Cables.{Beside, pulls, puts}
-use Rattle.kd_plan.proofs.Carrying.{IsPairing, pairing_of, seam_get}
-use Rattle.kd_plan.proofs.Pins.{are_movable, pins_lead}
-use Rattle.kd_plan.proofs.Rotors.{rotors_lead, slots_count}
-use Rattle.kd_plan.proofs.Writing.{bars_beside, chosen_length, lines_of_each}
-use Rattle.kd_plan.specs.declared.cable_lines.Work.TheVariants as works
 use Rattle.kd_card.specs.Prices as card
 
 -- so many lines at most beside those of cables and bars, and so many of these
@@ -38,17 +38,8 @@ pub record AreCounted (lines : List Setting) (loose cost : ℕ) : Type 0 where
   pub few : length lines ≤ loose + cost
   pub priced : priced_count lines ≡ cost
 
-counted_as : {a p : ℕ} {xs ys : List Setting} → xs ≡ ys → AreCounted ys a p → AreCounted xs a p
-counted_as {a = a} {p = p} e h = subst (λ lines. AreCounted lines a p) (sym e) h
-
 pub counted-append : {a b p q : ℕ} (xs ys : List Setting) → AreCounted xs a p → AreCounted ys b q → AreCounted (xs ++ ys) (a + b) (p + q)
 counted-append xs ys h k = grind (arith, length-append, sum_by-append)
-
-counted_most : {a b p : ℕ} {xs : List Setting} → a ≤ b → AreCounted xs a p → AreCounted xs b p
-counted_most le h = record { few = omega (arith, h.few, le); priced = h.priced }
-
-priced-cons : (x : Setting) (xs : List Setting) → priced_count (x ∷ xs) ≡ cond (is_priced x) 1 0 + priced_count xs
-priced-cons x xs = sum_by-cons (λ x. cond (is_priced x) 1 0) x xs
 
 -- a line that is left out where things are so: of other things, and of cables and bars
 counted_loose : (so : Bool) (x : Setting) → is_priced x ≡ false
@@ -62,9 +53,6 @@ counted_priced so x e = grind arith
 not_same : (b : Bool) → cond {A = ℕ} (not b) 1 0 ≡ unless_same b
 not_same b = grind arith
 
-not_not : (b : Bool) → cond {A = ℕ} (not (not b)) 1 0 ≡ cond b 1 0
-not_not b = grind arith
-
 -- lines of things by their numbers
 counted_each : {Z : Type 0} (lines : ℕ → Z → List Setting) (f g : Z → ℕ) → ((number : ℕ) (z : Z) → AreCounted (lines number z) (f z) (g z))
     → (zs : List Z) (number : ℕ) → AreCounted (lines_from lines number zs) (sum_by f zs) (sum_by g zs)
@@ -76,17 +64,9 @@ sum_none : {Z : Type 0} (zs : List Z) → sum_by (λ z. 0) zs ≡ 0
 sum_none [] = refl
 sum_none (z ∷ zs) = simp sum_by-cons (omega (arith, sum_none zs))
 
-counted_loose_each : {Z : Type 0} (lines : ℕ → Z → List Setting) (f : Z → ℕ) → ((number : ℕ) (z : Z) → AreCounted (lines number z) (f z) 0)
-    → (zs : List Z) (number : ℕ) → AreCounted (lines_from lines number zs) (sum_by f zs) 0
-counted_loose_each lines f h zs number = rw sum_none at (counted_each lines f (λ z. 0) h zs number)
-
-counted_priced_each : {Z : Type 0} (lines : ℕ → Z → List Setting) (g : Z → ℕ) → ((number : ℕ) (z : Z) → AreCounted (lines number z) 0 (g z))
-    → (zs : List Z) (number : ℕ) → AreCounted (lines_from lines number zs) 0 (sum_by g zs)
-counted_priced_each lines g h zs number = rw sum_none at (counted_each lines (λ z. 0) g h zs number)
-
 counted_map : (line : ℕ → Setting) → ((x : ℕ) → is_priced (line x) ≡ true) → (xs : List ℕ) → AreCounted (map line xs) 0 (length xs)
 counted_map line h [] = record { few = omega arith; priced = refl }
-counted_map line h (x ∷ xs) = grind (arith, counted_map line h xs, priced-cons, h)
+counted_map line h (x ∷ xs) = grind (arith, counted_map line h xs, sum_by-cons (λ x. cond {A = ℕ} (is_priced x) 1 0) (line x) (map line xs), h)
 
 -- a cable's letters are pulled and put as many as its column costs, and 4 at most
 one_letter : (p q : Bool) → cond {A = ℕ} (p && not q) 1 0 + cond (q && not p) 1 0 ≡ cond (differ p q) 1 0
@@ -96,16 +76,52 @@ sums_add : {X : Type 0} (f g h : X → ℕ) → ((x : X) → f x + g x ≡ h x) 
 sums_add f g h e [] = refl
 sums_add f g h e (x ∷ xs) = simp sum_by-cons (omega (arith, e x, sums_add f g h e xs))
 
-pub cable_lines : (z : Beside) → length (pulls z) + length (puts z) ≡ cable_cost z.0 z.1
-cable_lines z =
+none_again : (x : ℕ) (xs : List ℕ) → AllByRecursion (λ y. nat_eq x y ≡ false) xs → has_letter xs x ≡ false
+none_again x [] h = refl
+none_again x (y ∷ xs) h = grind (arith, nat_tests, none_again x xs h.1)
+
+once_among : (p : ℕ → Bool) (x first number : ℕ) → count_by (λ y. nat_eq x y && p y) (range_with_len first number) ≡ cond (nat_le first x && (nat_lt x (first + number) && p x)) 1 0
+once_among p x first zero = grind (arith, nat_tests)
+once_among p x first (suc number) =
+    grind (arith, nat_tests, sum_by-cons (λ y. cond {A = ℕ} (nat_eq x y && p y) 1 0) first (range_with_len (first + 1) number), once_among p x (first + 1) number)
+
+counted_among : (p : ℕ → Bool) (xs : List ℕ) → AreProper xs → count_by (λ y. has_letter xs y && p y) alphabet ≡ count_by p xs
+unfolding IsDistinct
+counted_among p [] h = refl
+counted_among p (x ∷ xs) h =
+    let none = none_again x xs h.apart.0 in
+    let first : count_by (λ y. nat_eq x y && p y) alphabet ≡ cond (p x) 1 0 = once_among p x 0 26 ∙ grind (arith, nat_tests, h.within.0) in
+    let rest = counted_among p xs (record { apart = h.apart.1; within = h.within.1 }) in
+    let both = sums_add (λ y. cond (nat_eq x y && p y) 1 0) (λ y. cond (has_letter xs y && p y) 1 0) (λ y. cond ((nat_eq x y || has_letter xs y) && p y) 1 0) (λ y. grind (arith, nat_tests)) alphabet in
+    omega (arith, first, rest, both, sum_by-cons (λ y. cond (p y) 1 0) x xs)
+
+due_counted : (p : ℕ → Bool) (column : Option (ℕ × ℕ)) → count_by p (letters_due column) ≡ count_by p (column_letters column)
+due_counted p column = grind (arith, sum_by-cons)
+
+cable_lines : (z : Beside) → IsPluggable z
+    → length (letters_apart (cable_letters z.0) (column_letters z.1)) + length (letters_apart (letters_due z.1) (cable_letters z.0)) ≡ cable_cost z.0 z.1
+cable_lines z h =
     let held = has_letter (cable_letters z.0) in
     let due = has_letter (column_letters z.1) in
     omega (
       arith,
-      length-filter (λ l. held l && not (due l)) alphabet,
-      length-filter (λ l. due l && not (held l)) alphabet,
+      length-filter (λ l. not (due l)) (cable_letters z.0),
+      length-filter (λ l. not (held l)) (letters_due z.1),
+      due_counted (λ l. not (held l)) z.1,
+      counted_among (λ l. not (due l)) (cable_letters z.0) h.held,
+      counted_among (λ l. not (held l)) (column_letters z.1) h.due,
       sums_add _ _ _ (λ l. one_letter (held l) (due l)) alphabet,
     )
+
+abbrev pulled_letters : Beside → ℕ
+pulled_letters z = length (letters_apart (cable_letters z.0) (column_letters z.1))
+
+abbrev put_letters : Beside → ℕ
+put_letters z = length (letters_apart (letters_due z.1) (cable_letters z.0))
+
+cable_sums : (zs : List Beside) → AllByRecursion IsPluggable zs → sum_by pulled_letters zs + sum_by put_letters zs ≡ sum_by (λ z. cable_cost z.0 z.1) zs
+cable_sums [] h = refl
+cable_sums (z ∷ zs) h = grind (arith, common_steps, sum_by-cons, cable_lines, cable_sums zs h.1)
 
 -- a bar's lines are as many as lugs are moved
 counted_lugs : (number : ℕ) (bar target : Place × Place) → AreCounted (lugs_to number bar target) 0 (lugs_moved bar target)
@@ -145,59 +161,28 @@ found_at_most test model [] = omega (arith, sum_none (box_of model))
 found_at_most test model (w ∷ wheels) =
     grind (arith, common_steps, sum_by-le-sum_by, finds_first, sums_add, once_in_box, sum_by-cons, found_at_most test model wheels)
 
--- things beside things by their numbers
-by_slot : {A B : Type 0} (lines : ℕ → Option A → B → List Setting) (front xs : List A) (ys : List B) (number : ℕ)
-    → number ≡ suc (length front) → length xs ≡ length ys
-    → lines_from (λ n y. lines n (numbered (front ++ xs) n) y) number ys ≡ lines_from (λ n z. lines n (Some z.0) z.1) number (zip xs ys)
-by_slot lines front [] [] number e size = refl
-by_slot lines front (x ∷ xs) (y ∷ ys) number e size =
-    grind (arith, seam_get, append_assoc, length-append, by_slot lines (front ++ x ∷ []) xs ys (number + 1))
-by_slot lines front _ _ number e size = absurd (omega arith)
-
 -- All planned lines of a rotor machine.
 module _ (m : RotorParts) (s : RotorDay) (to : List ℕ) where
-  abbrev cables : List Beside
-  cables = besides m.cables s.pairs to
-
-  cable_sums : sum_by (λ z. length (pulls z)) cables + sum_by (λ z. length (puts z)) cables ≡ sum_by (λ z. cable_cost z.0 z.1) cables
-  cable_sums = sums_add _ _ (λ z. cable_cost z.0 z.1) cable_lines cables
-
   counted_rings : AreCounted (ring_lines m s.wheels) (loose_rings m s) 0
   counted_rings =
       let wrong = λ (w : SheetWheel). not (option_map_or (nat_eq w.ring) (ring_at m w.wheel) false) in
-      counted_most (found_at_most wrong m.model s.wheels)
-      (counted_as (lines_of_each (ring_of_wheel m s.wheels) (box_of m.model) 1)
-      (counted_loose_each (λ n wheel. ring_of_wheel m s.wheels wheel) (λ wheel. cond (finds wrong s.wheels wheel) 1 0) (λ n wheel. counted_ring (find (λ (w : SheetWheel). same_wheel wheel w.wheel) s.wheels)) (box_of m.model) 1))
-    where
-      counted_ring : (o : Option SheetWheel)
-          → AreCounted (option_to_list (option_and_then (λ (w : SheetWheel). unless_so (option_map_or (nat_eq w.ring) (ring_at m w.wheel) false) (RingTo w.wheel w.ring)) o))
-          (cond (option_map_or (λ (w : SheetWheel). not (option_map_or (nat_eq w.ring) (ring_at m w.wheel) false)) o false) 1 0) 0
-      counted_ring o = grind (arith, counted_loose)
+      let all = rw sum_none at (counted_each (λ n wheel. ring_of_wheel m s.wheels wheel) (λ wheel. cond (finds wrong s.wheels wheel) 1 0) (λ z. 0) (λ n wheel. grind (arith, counted_loose)) (box_of m.model) 1) in
+      rw (lines_of_each (ring_of_wheel m s.wheels) (box_of m.model) 1) (record { few = omega (arith, all.few, found_at_most wrong m.model s.wheels); priced = all.priced })
 
-  counted_seats : length m.slots ≡ length s.wheels → AreCounted (seat_lines m s.wheels) (loose_slots m s) 0
-  counted_seats size =
-      counted_as
-      (by_slot (λ slot (seated : Option (Option Wheel)) (w : SheetWheel). option_to_list (unless_so (option_map_or (same_wheel w.wheel) (unwrap_or seated None) false) (Seat slot w.wheel))) [] m.slots s.wheels 1 refl size)
-      (counted_loose_each _ _ (λ n z. counted_loose _ _ refl) (zip m.slots s.wheels) 1)
-
-  pub rotor_counted : length m.slots ≡ length s.wheels
-      → AreCounted (planned_lines (Rotor m) (OfRotors s) to) (loose_count (Rotor m) (OfRotors s)) (sum_by (λ z. cable_cost z.0 z.1) cables)
-  rotor_counted size =
+  pub rotor_counted : AllByRecursion IsPluggable (besides m.cables s.pairs to)
+      → AreCounted (planned_lines (Rotor m) (OfRotors s) to) (loose_count (Rotor m) (OfRotors s)) (sum_by (λ z. cable_cost z.0 z.1) (besides m.cables s.pairs to))
+  rotor_counted pluggable =
+      let cables = besides m.cables s.pairs to in
+      let seats = counted_each seat_of _ (λ z. 0) (λ n z. counted_loose _ _ refl) (zip m.slots s.wheels) 1 in
       let reflector = counted_loose (same_reflector m.reflector s.reflector) (SeatReflector s.reflector) refl in
-      let turns = counted_loose_each (turn_of m) _ (λ n w. counted_loose _ _ refl) s.wheels 1 in
-      let pulled = counted_priced_each (work_beside works.Pull) (λ z. length (pulls z)) (λ n z. counted_map (Pull n) (λ x. refl) (pulls z)) cables 1 in
-      let put = counted_priced_each (work_beside works.Put) (λ z. length (puts z)) (λ n z. counted_map (Put n) (λ x. refl) (puts z)) cables 1 in
-      let all = counted-append _ _ (counted-append _ _ (counted-append _ _ (counted-append _ _ (counted-append _ _
-      (counted_seats size) reflector) counted_rings) turns) pulled) put in
-      record { few = omega (arith, all.few, cable_sums, not_same (same_reflector m.reflector s.reflector)); priced = omega (arith, all.priced, cable_sums) }
+      let turns = counted_each (turn_of m) _ (λ z. 0) (λ n w. counted_loose _ _ refl) s.wheels 1 in
+      let pulled = counted_each pulls_of (λ z. 0) pulled_letters (λ n z. counted_map (λ letter. Pull n letter) (λ x. refl) (letters_apart (cable_letters z.0) (column_letters z.1))) cables 1 in
+      let put = counted_each puts_of (λ z. 0) put_letters (λ n z. counted_map (λ letter. Put n letter) (λ x. refl) (letters_apart (letters_due z.1) (cable_letters z.0))) cables 1 in
+      let all = simp sum_none at (counted-append _ _ (counted-append _ _ (counted-append _ _ (counted-append _ _ (counted-append _ _ seats reflector) counted_rings) turns) pulled) put) in
+      let sums = cable_sums cables pluggable in
+      record { few = omega (arith, all.few, sums, not_same (same_reflector m.reflector s.reflector)); priced = omega (arith, all.priced, sums) }
 
 -- And of a Converter M-209.
-beside_each : {A B : Type 0} (f : B → ℕ) (xs : List A) (ys : List B)
-    → sum_by (λ (z : A × B). f z.1) (zip xs ys) ≤ sum_by f ys
-beside_each f [] ys = omega arith
-beside_each f (x ∷ xs) [] = omega arith
-beside_each f (x ∷ xs) (y ∷ ys) = simp sum_by-cons (omega (arith, beside_each f xs ys))
-
 module _ (m : PinParts) (s : PinDay) (to : List ℕ) where
   abbrev bars : List BarRow
   bars = bars_beside m.bars s.rows to
@@ -206,16 +191,15 @@ module _ (m : PinParts) (s : PinDay) (to : List ℕ) where
       → AreCounted (wheel_pin_lines number (ring_of number) z.0 z.1) (count_by (λ (pin : Bool × Bool). differ pin.0 pin.1) (zip z.0 z.1)) 0
   counted_wheel number z =
       let cells = zip (ring_of number) (zip z.0 z.1) in
-      counted_most (beside_each (λ (pin : Bool × Bool). cond (differ pin.0 pin.1) 1 0) (ring_of number) (zip z.0 z.1))
-      (counted_as (lines_of_each (pin_of number) cells 1)
-      (counted_loose_each (λ n cell. pin_of number cell) (λ cell. cond (differ cell.1.0 cell.1.1) 1 0) (λ n cell. rw not_not at (counted_loose (not (differ cell.1.0 cell.1.1)) (PinTo number cell.0 cell.1.1) refl)) cells 1))
+      let all = rw sum_none at (counted_each (λ n cell. pin_of number cell) (λ cell. cond (differ cell.1.0 cell.1.1) 1 0) (λ z. 0) (λ n cell. grind (arith, counted_loose)) cells 1) in
+      grind (arith, lines_of_each (pin_of number) cells 1, all, beside_each (λ (pin : Bool × Bool). cond {A = ℕ} (differ pin.0 pin.1) 1 0) (ring_of number) (zip z.0 z.1))
 
   pub pin_counted : AreCounted (planned_lines (Pin m) (OfPins s) to) (loose_count (Pin m) (OfPins s)) (sum_by (λ z. lugs_moved z.0 (to_stand z)) bars)
   pin_counted =
-      let pins = counted_loose_each (λ number z. wheel_pin_lines number (ring_of number) z.0 z.1) _ counted_wheel (zip (pins_of m.pins) (pins_of s.pins)) 1 in
-      let turns = counted_loose_each pin_turn_of _ (λ n z. counted_loose _ _ refl) (zip m.letters s.window) 1 in
-      let lugs = counted_priced_each lugs_of (λ z. lugs_moved z.0 (to_stand z)) (λ n z. counted_lugs n z.0 (to_stand z)) bars 1 in
-      let all = counted-append _ _ (counted-append (pin_lines m.pins s.pins) _ pins turns) lugs in
+      let pins = counted_each (λ number z. wheel_pin_lines number (ring_of number) z.0 z.1) _ (λ z. 0) counted_wheel (zip (pins_of m.pins) (pins_of s.pins)) 1 in
+      let turns = counted_each pin_turn_of _ (λ z. 0) (λ n z. counted_loose _ _ refl) (zip m.letters s.window) 1 in
+      let lugs = counted_each lugs_of (λ z. 0) (λ z. lugs_moved z.0 (to_stand z)) (λ n z. counted_lugs n z.0 (to_stand z)) bars 1 in
+      let all = simp sum_none at (counted-append _ _ (counted-append (pin_lines m.pins s.pins) _ pins turns) lugs) in
       record {
         few = omega (arith, all.few, sum-map (λ (z : List Bool × List Bool). count_by (λ (pin : Bool × Bool). differ pin.0 pin.1) (zip z.0 z.1)) (zip (pins_of m.pins) (pins_of s.pins)));
         priced = omega (arith, all.priced);
@@ -225,50 +209,44 @@ module _ (m : PinParts) (s : PinDay) (to : List ℕ) where
 -- the bars are moved by as many lugs as their rows cost
 least_moved : (zs : List BarRow) → AllByRecursion IsMovable zs → sum_by (λ z. lugs_moved z.0 (to_stand z)) zs ≡ sum_by (λ z. bar_cost z.0 z.1) zs
 least_moved [] h = refl
-least_moved (z ∷ zs) h = simp sum_by-cons (omega (arith, (is_target z.0 z.1 h.0.reading).moved, least_moved zs h.1))
+least_moved (z ∷ zs) h = grind (arith, common_steps, sum_by-cons, is_target, least_moved zs h.1)
 
 -- What the lines lead to, and how many of them there are.
 record IsGood (m : Parts) (s : Day) (to : List ℕ) : Type 0 where
   leads : LeadsToTheDay m s (planned_lines m s to)
   counted : AreCounted (planned_lines m s to) (loose_count m s) (assignment_cost (cost_table m s) to)
 
--- a machine and a day are of one kind
-no_rotors : (model : Model) (reflector : Reflector) → model ≡ M209 → Contains (reflectors_of model) reflector → ⊥
-no_rotors model reflector e h = let none = subst (λ model. Contains (reflectors_of model) reflector) e h in omega (arith, none.1)
-
-good : Told → (m : Parts) (s : Day) (to : List ℕ) → IsMachine m → IsLegalDay s → model_of m ≡ day_model s → IsPairing (table_size m) to → IsGood m s to
-good told (Rotor m) (OfRotors s) to machine legal same pairing =
-    let within = recursion_from_All (λ j. j < length (columns_of s.pairs)) to (λ k d lt. omega (arith, pairing.within k d lt, told.thirteen s.pairs legal.pairs.few)) in
-    let cost = table_cost cable_cost (columns_of s.pairs) None m.cables to (machine.legal.cables.count ∙ sym pairing.count) within in
+good : (m : Parts) (s : Day) (to : List ℕ) → IsMachine m → IsLegalDay s → model_of m ≡ day_model s → length to ≡ table_size m → IsOneToOne to → IsGood m s to
+good (Rotor m) (OfRotors s) to machine legal same count one_to_one =
+    let within = recursion_from_All (λ j. j < length (columns_of s.pairs)) to (λ k d lt. omega (arith, one_to_one.in_range k d lt, count, thirteen_columns s.pairs legal.pairs.few)) in
+    let cost = table_cost cable_cost (columns_of s.pairs) None m.cables to (machine.legal.cables.count ∙ sym count) within in
     record {
-      leads =
-          rotors_lead told m s machine legal same to pairing;
-      counted = rw cost (rotor_counted m s to (slots_count m s machine legal same));
+      leads = rotors_lead m s machine legal same to count one_to_one;
+      counted = rw cost (rotor_counted m s to (are_pluggable m.cables s.pairs to machine.legal.cables legal.pairs count one_to_one));
     }
-good told (Pin m) (OfPins s) to machine legal same pairing =
-    let within = recursion_from_All (λ j. j < length s.rows) to (λ k d lt. omega (arith, pairing.within k d lt, legal.count)) in
-    let cost = table_cost bar_cost s.rows (0, 0) m.bars to (machine.legal.bars ∙ sym pairing.count) within in
+good (Pin m) (OfPins s) to machine legal same count one_to_one =
+    let within = recursion_from_All (λ j. j < length s.rows) to (λ k d lt. omega (arith, one_to_one.in_range k d lt, count, legal.count)) in
+    let cost = table_cost bar_cost s.rows (0, 0) m.bars to (machine.legal.bars ∙ sym count) within in
     record {
-      leads = pins_lead m s to machine legal pairing;
-      counted = rw (cost, ← least_moved _ (are_movable m s to machine legal pairing)) (pin_counted m s to);
+      leads = pin_machine_leads m s to machine legal count one_to_one;
+      counted = rw (cost, ← least_moved _ (are_movable m s to machine legal count one_to_one)) (pin_counted m s to);
     }
-good told (Rotor m) (OfPins s) to machine legal same pairing = absurd (no_rotors m.model m.reflector same machine.legal.reflector)
-good told (Pin m) (OfRotors s) to machine legal same pairing = absurd (no_rotors s.model s.reflector (sym same) legal.reflector)
+good (Rotor m) (OfPins s) to machine legal same count one_to_one = absurd (no_rotors m.model m.reflector same machine.legal.reflector)
+good (Pin m) (OfRotors s) to machine legal same count one_to_one = absurd (no_rotors s.model s.reflector (sym same) legal.reflector)
 
-pub planned_lines_lead : Told → PlannedLinesLead
-planned_lines_lead told m s to machine legal same count one_to_one =
-    (good told m s to machine legal same (pairing_of (table_size m) to count one_to_one)).leads
+pub planned_lines_lead : PlannedLinesLead
+planned_lines_lead m s to machine legal same count one_to_one = (good m s to machine legal same count one_to_one).leads
 
-pub planned_cards_prove : Told → PlannedCardsProve
-planned_cards_prove told m s settings prices machine legal h =
-    let so = good told m s h.to machine legal h.model (pairing_of (table_size m) h.to h.all_rows h.one_to_one) in
-    subst (λ lines. ProvesByNumber m s lines prices) (sym h.lines) (record {
+pub planned_cards_prove : PlannedCardsProve
+planned_cards_prove m s settings prices machine legal h =
+    let so = good m s h.to machine legal h.model h.all_rows h.one_to_one in
+    rw h.lines (record {
       model = h.model;
       kind = h.kind;
       leads = so.leads;
       fits = h.fits;
       sum = h.total ∙ ap pos (sym so.counted.priced);
-      needed = told.few m s (planned_lines m s h.to) legal h.model so.leads (omega (arith, so.counted.few, so.counted.priced));
+      needed = as_few_are_needed m s (planned_lines m s h.to) legal h.model so.leads (omega (arith, so.counted.few, so.counted.priced));
     })
 
 -- ---- the card that is made of an assignment, its prices and its lines is a planned one.
@@ -276,69 +254,51 @@ pub prices_of : (prices : PriceParts) (most : ℕ) → most ≤ 9999 → row_kin
     → All (λ price. unsigned_abs price ≤ most) (row_prices prices) → All (λ price. unsigned_abs price ≤ most) (column_prices prices) → ArePrices prices
 prices_of prices most le no_rows no_columns rows columns row_bound column_bound = search (rules, no_columns)
 
--- prices of 0
-pub zeros_within : (number : ℕ) → All (λ price. unsigned_abs price ≤ 0) (replicate number (pos 0))
-zeros_within number k d lt = grind (arith, get_or-replicate, length-replicate)
-
-pub zeros_all : (number : ℕ) → All (λ price. price ≡ pos 0) (replicate number (pos 0))
-zeros_all number k d lt = get_or-replicate number k (pos 0) d (omega (arith, length-replicate number (pos 0)))
-
--- the sum of prices, added up from the front
-sum_from : (start : ℤ) (prices : List ℤ) → fold (λ sum price. sum +ℤ price) start prices ≡ (start +ℤ sum_of prices)
-sum_from start [] = omega (arith, ints)
-sum_from start (price ∷ prices) = let e = sum_from (start +ℤ price) prices in omega (arith, ints)
-
-sum_of-append : (rows columns : List ℤ) → sum_of (rows ++ columns) ≡ (sum_of rows +ℤ sum_of columns)
-sum_of-append [] columns = omega (arith, ints)
-sum_of-append (row ∷ rows) columns = let e = sum_of-append rows columns in omega (arith, ints)
+-- the sum of prices, as cards say it and as assignments do
+sums_alike : (prices : List ℤ) → card_sum prices ≡ sum_of prices
+sums_alike [] = refl
+sums_alike (price ∷ prices) = ap (λ sum. price +ℤ sum) (sums_alike prices)
 
 same_sum : (prices : PriceParts) → card.price_sum prices ≡ price_sum (row_prices prices) (column_prices prices)
-same_sum prices = grind (arith, sum_from, sum_of-append)
+same_sum prices = grind (arith, fold_of_both, sums_alike)
 
--- What an assignment and its prices are, on a card: the prices fit, add up to the assignment's cost, and are 0 where it is.
-pub record AreSolved (costs : List (List ℕ)) (to : List ℕ) (prices : PriceParts) : Type 0 where
-  pub fits : card.Fits costs prices
-  pub total : card.price_sum prices ≡ pos (assignment_cost costs to)
-  pub zero : assignment_cost costs to ≡ 0 → All (λ price. price ≡ pos 0) (row_prices prices ++ column_prices prices)
+-- prices of 0, where nothing has to be paid, fit as well as any
+record AreDue (costs : List (List ℕ)) (total number : ℕ) (rows columns : List ℤ) : Type 0 where
+  fits : (i j : ℕ) → i < number → j < number → (price_at rows i +ℤ price_at columns j) ≤ℤ pos (cost_at costs i j)
+  sum : price_sum rows columns ≡ pos total
+  zero : total ≡ 0 → All (λ price. price ≡ pos 0) (rows ++ columns)
 
--- prices of 0, or other ones
-pub solved : (costs : List (List ℕ)) (to : List ℕ) (total : ℕ) (zeros others prices : PriceParts) → let none = replicate (how_many zeros) (pos 0) in
-    row_prices zeros ≡ none → column_prices zeros ≡ none → card.price_sum zeros ≡ pos 0 → All (λ price. price ≡ pos 0) (row_prices zeros ++ column_prices zeros)
-    → length (row_prices others) ≡ how_many others → length (column_prices others) ≡ how_many others → Fits costs (row_prices others) (column_prices others)
-    → price_sum (row_prices others) (column_prices others) ≡ pos total → assignment_cost costs to ≡ total → prices ≡ (if nat_eq total 0 then zeros else others)
-    → AreSolved costs to prices
-solved costs to total zeros others prices no_rows no_columns no_sum all rows columns fits sum cost e =
-    grind (arith, common_steps, cond_both, get_or-replicate, no_columns, eqb-true, same_sum, eqb-false)
+none_due : (number : ℕ) → sum_of (replicate number (pos 0)) ≡ pos 0
+none_due zero = refl
+none_due (suc number) = let e = none_due number in omega (arith, ints)
+
+due_are : (free : Bool) (costs : List (List ℕ)) (total : ℕ) (rows columns : List ℤ) (number : ℕ) → nat_eq total 0 ≡ free → length rows ≡ number → length columns ≡ number
+    → Fits costs rows columns → price_sum rows columns ≡ pos total
+    → AreDue costs total number (cond free (replicate (length rows) (pos 0)) rows) (cond free (replicate (length columns) (pos 0)) columns)
+due_are free costs total rows columns number e d g h o =
+    grind (arith, common_steps, get_or-replicate, none_due, eqb-true, All-append, All-replicate)
 
 -- so they are by number
 pub by_number : (m : Parts) (prices : PriceParts) → AreOfKind m prices → version_of prices ≡ ByNumber
 by_number m prices e = grind arith
 
 -- no cost is above the greatest
-table_at_most : {A B : Type 0} (cost : A → B → ℕ) (most : ℕ) → ((x : A) (y : B) → cost x y ≤ most) → (xs : List A) (ys : List B)
-    → CostsAtMost most (map (λ x. map (cost x) ys) xs)
-table_at_most cost most h xs ys =
-    All-map (All (λ c. c ≤ most)) (λ x. map (cost x) ys) xs (λ k d lt. All-map (λ c. c ≤ most) (cost _) ys (λ j e lt'. h _ _))
-
-pub cable_costs_at_most : CablesCostFour → (costs : List (List ℕ)) (cables : List (Option ℕ × Option ℕ)) (pairs : List (ℕ × ℕ)) → costs ≡ cable_costs cables pairs → CostsAtMost 4 costs
-cable_costs_at_most few costs cables pairs e = rw e (table_at_most cable_cost 4 few cables (columns_of pairs))
-
-pub bar_costs_at_most : (costs : List (List ℕ)) (bars : List (Place × Place)) (rows : List (ℕ × ℕ)) → costs ≡ bar_costs bars rows → CostsAtMost 4 costs
-bar_costs_at_most costs bars rows e = rw e (table_at_most bar_cost 4 bar_cost_at_most bars rows)
+pub table_at_most : {A B : Type 0} (cost : A → B → ℕ) (most : ℕ) → ((x : A) (y : B) → cost x y ≤ most) → (costs : List (List ℕ)) (xs : List A) (ys : List B)
+    → costs ≡ map (λ x. map (cost x) ys) xs → CostsAtMost most costs
+table_at_most cost most h costs xs ys e =
+    rw e (All-map (All (λ c. c ≤ most)) (λ x. map (cost x) ys) xs (λ k d lt. All-map (λ c. c ≤ most) (cost _) ys (λ j e lt'. h _ _)))
 
 -- there is room for all lines
 few_slots : (model : Model) → slots_of model ≤ 4
 few_slots model = grind arith
 
-at_most_one : (b : Bool) → unless_same b ≤ 1
-at_most_one b = grind arith
-
-pub rotor_room : CablesCostFour → (m : RotorParts) (s : RotorDay) (to : List ℕ) → IsMachine (Rotor m) → IsLegalRotorDay s → m.model ≡ s.model
+pub rotor_room : (m : RotorParts) (s : RotorDay) (to : List ℕ) → IsMachine (Rotor m) → IsLegalRotorDay s → m.model ≡ s.model → length to ≡ 13 → IsOneToOne to
     → length (planned_lines (Rotor m) (OfRotors s) to) ≤ 192
-rotor_room few m s to machine legal same =
-    let counted = rotor_counted m s to (slots_count m s machine legal same) in
-    let cables = sum_by-le (λ (z : Beside). cable_cost z.0 z.1) 4 (besides m.cables s.pairs to) (λ k d lt. let z : Beside = get_or (besides m.cables s.pairs to) k d in few z.0 z.1) in
-    grind (arith, counted.few, chosen_length, count_by-le-length, length-zip, at_most_one, few_slots, length-map)
+rotor_room m s to machine legal same count one_to_one =
+    let cables = besides m.cables s.pairs to in
+    let counted = rotor_counted m s to (are_pluggable m.cables s.pairs to machine.legal.cables legal.pairs count one_to_one) in
+    let costs = sum_by-le (λ (z : Beside). cable_cost z.0 z.1) 4 cables (λ k d lt. let z : Beside = get_or cables k d in at_most_four z.0 z.1) in
+    grind (arith, counted.few, count_by-le-length, length-zip, unless_same_at_most, few_slots, length-map)
 
 pins_at_most : (now wanted : PinSet) → HasAllPins now
     → sum_by (λ (z : List Bool × List Bool). length (zip z.0 z.1)) (zip (pins_of now) (pins_of wanted)) ≤ 131
@@ -351,10 +311,12 @@ pin_room m s to machine =
     let differing = λ (z : List Bool × List Bool). count_by (λ (pin : Bool × Bool). differ pin.0 pin.1) (zip z.0 z.1) in
     let pins = sum_by-le-sum_by differing (λ z. length (zip z.0 z.1)) wheels (λ z. count_by-le-length (λ (pin : Bool × Bool). differ pin.0 pin.1) (zip z.0 z.1)) in
     let bars = sum_by-le (λ (z : BarRow). lugs_moved z.0 (to_stand z)) 2 (bars_beside m.bars s.rows to) (λ k d lt. at_most_two _ _) in
-    grind (arith, (pin_counted m s to).few, sum-map differing wheels, pins_at_most, chosen_length, count_by-le-length, length-zip)
+    grind (arith, (pin_counted m s to).few, sum-map differing wheels, pins_at_most, length-map, count_by-le-length, length-zip)
 
 -- the card
-pub planned : (m : Parts) (s : Day) (costs : List (List ℕ)) (to : List ℕ) (settings : List Setting) (prices : PriceParts)
-    → model_of m ≡ day_model s → costs ≡ cost_table m s → AreOfKind m prices → length to ≡ table_size m → IsOneToOne to
-    → settings ≡ planned_lines m s to → AreSolved costs to prices → IsPlanned m s settings prices
-planned m s costs to settings prices same table kind size one_to_one lines solved = grind (arith, solved)
+pub planned : (m : Parts) (s : Day) (costs : List (List ℕ)) (to : List ℕ) (settings : List Setting) (prices : PriceParts) (total : ℕ) (rows columns : List ℤ)
+    → model_of m ≡ day_model s → costs ≡ cost_table m s → AreOfKind m prices → length to ≡ table_size m → IsOneToOne to → settings ≡ planned_lines m s to
+    → row_prices prices ≡ prices_due total rows → column_prices prices ≡ prices_due total columns → length rows ≡ how_many prices → length columns ≡ how_many prices
+    → Fits costs rows columns → price_sum rows columns ≡ pos total → assignment_cost costs to ≡ total → IsPlanned m s settings prices
+planned m s costs to settings prices total rows columns same table kind size one_to_one lines first second many more fits sum cost =
+    grind (arith, same_sum, due_are (nat_eq total 0) costs total rows columns (how_many prices) refl many more fits sum)

@@ -1,4 +1,3 @@
 pub mod Planned
-pub mod CableWork
+pub mod Due
 pub mod Laws
-pub mod Told

@@ -1,15 +1,14 @@
 -- The card that a planner prints: the settings that differ from the day, in a fixed order, and nothing else. Which cable
 -- becomes which pair, and which bar takes which row, may be chosen; so may the prices.
-use Rattle.std.specs.Prelude.{◌≡◌, ℕ, nat_eq, nat_lt, Bool, false, not, ◌&&◌, List, [], ◌∷◌, ◌++◌, ◌+◌, length, map, filter, flat_map, find, zip, All, pos, slice_index_or, Option, Some, None, unwrap_or, if◌then◌else◌}
+use Rattle.std.specs.Prelude.{◌≡◌, ℕ, nat_eq, nat_lt, Bool, false, not, List, [], ◌∷◌, ◌++◌, ◌+◌, length, map, filter, flat_map, find, zip, All, pos, slice_index_or, Option, Some, None, unwrap_or, if◌then◌else◌}
 use Rattle.std.specs.Option.{option_and_then, option_map_or, option_to_list}
 use Rattle.kd_tables.specs.declared.wheel.Wheel.{Wheel}
 use Rattle.kd_tables.specs.declared.reflector.Reflector.{Reflector}
 use Rattle.kd_tables.specs.declared.place.Place.{Place}
 use Rattle.kd_tables.specs.declared.lug.Lug.TheVariants.{Left, Right}
-use Rattle.kd_tables.specs.Permutation.{alphabet}
 use Rattle.kd_tables.specs.Tables.{box_of}
 use Rattle.kd_tables.specs.Rings.{ring_of}
-use Rattle.kd_tables.specs.Places.{place_rank}
+use Rattle.kd_tables.specs.Places.{place_rank, in_order}
 use Rattle.kd_pins.specs.declared.pin_set.PinSet.{PinSet}
 use Rattle.kd_pins.specs.PinWheels.{pins_of}
 use Rattle.kd_state.specs.declared.machine.rotor_parts.RotorParts.{RotorParts}
@@ -20,7 +19,7 @@ use Rattle.kd_state.specs.declared.setting.Setting.{Setting}
 use Rattle.kd_state.specs.declared.setting.Setting.TheVariants.{Pull, Put, Seat, SeatReflector, RingTo, Turn, PinTo, LugTo}
 use Rattle.kd_state.specs.ToldApart.{same_wheel, same_reflector}
 use Rattle.kd_state.specs.Machine.{model_of, cable_letters, ring_at, letter_at}
-use Rattle.kd_state.specs.Setting.{has_letter, is_at, seated_in}
+use Rattle.kd_state.specs.Setting.{has_letter, is_at}
 use Rattle.kd_state.specs.SheetDay.{Day, OfRotors, OfPins, day_model}
 use Rattle.kd_state.specs.Costs.{differ, column_letters, columns_of, nearest_standing, cost_table}
 use Rattle.kd_card.specs.declared.prices.PriceParts.{PriceParts}
@@ -37,12 +36,12 @@ abbrev pub lines_from : {Z : Type 0} → (ℕ → Z → List Setting) → ℕ �
 lines_from lines number [] = []
 lines_from lines number (z ∷ zs) = lines number z ++ lines_from lines (number + 1) zs
 
--- SEAT, of a slot with the day's wheel, and by slot
-abbrev pub seat_of : RotorParts → ℕ → SheetWheel → List Setting
-seat_of m slot w = option_to_list (unless_so (option_map_or (same_wheel w.wheel) (seated_in m slot) false) (Seat slot w.wheel))
+-- SEAT, of a slot as it is and the day's wheel, and by slot
+abbrev pub seat_of : ℕ → Option Wheel × SheetWheel → List Setting
+seat_of slot z = option_to_list (unless_so (option_map_or (same_wheel z.1.wheel) z.0 false) (Seat slot z.1.wheel))
 
 abbrev pub seat_lines : RotorParts → List SheetWheel → List Setting
-seat_lines m wheels = lines_from (seat_of m) 1 wheels
+seat_lines m wheels = lines_from seat_of 1 (zip m.slots wheels)
 
 -- REFLECTOR
 abbrev pub reflector_lines : Reflector → Reflector → List Setting
@@ -63,24 +62,32 @@ turn_of m slot w = option_to_list (unless_so (option_map_or (nat_eq w.letter) (l
 abbrev pub turn_lines : RotorParts → List SheetWheel → List Setting
 turn_lines m wheels = lines_from (turn_of m) 1 wheels
 
--- the letter lies in the first and not in the second
-abbrev pub lies_apart : List ℕ → List ℕ → ℕ → Bool
-lies_apart letters others letter = has_letter letters letter && not (has_letter others letter)
-
--- the letters that do, in alphabetical order
+-- the letters that aren't among the others, in their order
 abbrev pub letters_apart : List ℕ → List ℕ → List ℕ
-letters_apart letters others = filter (lies_apart letters others) alphabet
+letters_apart letters others = filter (λ letter. not (has_letter others letter)) letters
+
+-- the letters of a column in alphabetical order, as those of a cable are
+abbrev pub letters_due : Option (ℕ × ℕ) → List ℕ
+letters_due None = []
+letters_due (Some pair) = column_letters (Some (in_order pair.0 pair.1))
 
 -- the cables, each beside the column that it is paired with
 abbrev pub besides : List (Option ℕ × Option ℕ) → List (ℕ × ℕ) → List ℕ → List ((Option ℕ × Option ℕ) × Option (ℕ × ℕ))
 besides cables pairs to = zip cables (map (λ j. slice_index_or (columns_of pairs) j None) to)
 
--- PULL and PUT, by cable and then by letter
+-- PULL, of the letters of a cable that its column hasn't, and PUT, of those of its column that it hasn't
+abbrev pub pulls_of : ℕ → (Option ℕ × Option ℕ) × Option (ℕ × ℕ) → List Setting
+pulls_of cable z = map (λ letter. Pull cable letter) (letters_apart (cable_letters z.0) (column_letters z.1))
+
+abbrev pub puts_of : ℕ → (Option ℕ × Option ℕ) × Option (ℕ × ℕ) → List Setting
+puts_of cable z = map (λ letter. Put cable letter) (letters_apart (letters_due z.1) (cable_letters z.0))
+
+-- PULL and PUT, by cable
 abbrev pub pull_lines : List (Option ℕ × Option ℕ) → List (ℕ × ℕ) → List ℕ → List Setting
-pull_lines cables pairs to = lines_from (λ cable z. map (λ letter. Pull cable letter) (letters_apart (cable_letters z.0) (column_letters z.1))) 1 (besides cables pairs to)
+pull_lines cables pairs to = lines_from pulls_of 1 (besides cables pairs to)
 
 abbrev pub put_lines : List (Option ℕ × Option ℕ) → List (ℕ × ℕ) → List ℕ → List Setting
-put_lines cables pairs to = lines_from (λ cable z. map (λ letter. Put cable letter) (letters_apart (column_letters z.1) (cable_letters z.0))) 1 (besides cables pairs to)
+put_lines cables pairs to = lines_from puts_of 1 (besides cables pairs to)
 
 -- PIN, of one letter of a wheel, with its pin and the day's; of one wheel, by its own order; and by wheel
 abbrev pub pin_of : ℕ → ℕ × (Bool × Bool) → List Setting
@@ -110,10 +117,16 @@ lugs_to number bar target =
     let right = option_to_list (unless_so (is_at bar.1 target.1) (LugTo number Right target.1)) in
     if nat_lt (place_rank target.0) (place_rank bar.1) then left ++ right else right ++ left
 
--- LUG, by bar
+-- the bars, each beside the row that it is paired with
+abbrev pub bars_beside : List (Place × Place) → List (ℕ × ℕ) → List ℕ → List ((Place × Place) × (ℕ × ℕ))
+bars_beside bars rows to = zip bars (map (λ j. slice_index_or rows j (0, 0)) to)
+
+-- LUG, of a bar beside its row, and by bar
+abbrev pub lugs_of : ℕ → (Place × Place) × (ℕ × ℕ) → List Setting
+lugs_of bar z = lugs_to bar z.0 (target_of z.0 z.1)
+
 abbrev pub lug_lines : List (Place × Place) → List (ℕ × ℕ) → List ℕ → List Setting
-lug_lines bars rows to =
-    lines_from (λ bar z. lugs_to bar z.0 (target_of z.0 z.1)) 1 (zip bars (map (λ j. slice_index_or rows j (0, 0)) to))
+lug_lines bars rows to = lines_from lugs_of 1 (bars_beside bars rows to)
 
 -- all lines, in the order in which they are carried out
 abbrev pub planned_lines : Parts → Day → List ℕ → List Setting

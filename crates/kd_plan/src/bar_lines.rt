@@ -1,29 +1,47 @@
 //! The lines of bars: the lugs that move, first the one that isn't in the other's way.
-ghost use Rattle.std.specs.Prelude.{◌≡◌, ◌+◌, ◌<◌, ◌≤◌, ◌++◌, All, length};
+ghost use Rattle.std.specs.Prelude.{◌≡◌, ◌+◌, ◌<◌, ◌≤◌, ◌++◌, All, length, slice_index_or};
 ghost use Rattle.arrayvec.specs.ArrayVec.{array_vec_len};
 ghost use Rattle.kd_state.specs.Setting.{is_at};
-ghost use Rattle.kd_plan.specs.Planned.{unless_so, lugs_to, lug_lines};
+ghost use Rattle.kd_plan.specs.Planned.{unless_so, lines_from, lugs_to, lugs_of, bars_beside, target_of};
 
 use super::lines::push_line;
 use kd_state::{Setting, Settings, nearest_standing};
 use kd_tables::{Lug, Place, Reading, Standing};
 
-/// Appends LUG for each lug that has to move, so that each bar reads as the row that it is paired with.
-#[tactic(auto, using(crate::proofs::Writing::writing))]
+/// Appends LUG for each lug that has to move, so that each bar reads as the row that it is paired with, from this bar's number
+/// on.
 pub(crate) fn push_lugs(
     settings: &mut Settings,
-    bars: &[Standing; 27],
+    number: u8,
+    bars: &[Standing],
     rows: &[Reading; 27],
-    to: &[u8; 27],
+    to: &[u8],
 )
+    requires few { number + length bars.now < 256 }
     requires within { All (λ j. j < 27) to.now }
-    requires room { array_vec_len settings.old + length (lug_lines bars.now rows.now to.now) ≤ 192 }
-    ensures { settings.new.items ≡ settings.old.items ++ lug_lines bars.now rows.now to.now }
+    requires room { let lines = lines_from lugs_of number (bars_beside bars.now rows.now to.now) in
+        array_vec_len settings.old + length lines ≤ 192 }
+    ensures { let lines = lines_from lugs_of number (bars_beside bars.now rows.now to.now) in
+        settings.new.items ≡ settings.old.items ++ lines }
 {
-    for (place, bar) in bars.iter().enumerate() {
-        let target = nearest_standing(*bar, rows[usize::from(to[place])]);
-        push_lugs_of(settings, place as u8 + 1, *bar, target);
-    }
+    let [bar, bars @ ..] = bars else {
+        return;
+    };
+    let [place, to @ ..] = to else {
+        return;
+    };
+    let target = target_at(*bar, rows, *place);
+    push_lugs_of(settings, number, *bar, target);
+    push_lugs(settings, number + 1, bars, rows, to);
+}
+
+/// Where a bar is to stand, so that it reads as the row at the place.
+#[tactic(auto, using(std::proofs::lemmas::List::get_or_default))]
+fn target_at(bar: Standing, rows: &[Reading; 27], place: u8) -> Standing
+    requires { place < 27 }
+    ensures { result ≡ target_of bar (slice_index_or rows.now place (0, 0)) }
+{
+    nearest_standing(bar, rows[usize::from(place)])
 }
 
 /// Appends LUG for each lug of a bar that has to move. The left lug goes first where its target lies before the right

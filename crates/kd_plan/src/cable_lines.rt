@@ -1,11 +1,12 @@
 //! The lines of cables: each loses the letters that its pair hasn't, and then takes those that it lacks.
-ghost use Rattle.std.specs.Prelude.{◌≡◌, ◌+◌, ◌≤◌, ◌++◌, not, length};
+ghost use Rattle.std.specs.Prelude.{◌≡◌, ◌+◌, ◌<◌, ◌≤◌, ◌++◌, map, length};
+ghost use Rattle.std.specs.Option.{option_to_list};
 ghost use Rattle.arrayvec.specs.ArrayVec.{array_vec_len};
+ghost use Rattle.kd_tables.specs.Places.{in_order};
 ghost use Rattle.kd_state.specs.Machine.{cable_letters};
 ghost use Rattle.kd_state.specs.Setting.{has_letter};
 ghost use Rattle.kd_state.specs.Costs.{column_letters};
-ghost use Rattle.kd_plan.specs.Planned.{unless_so};
-ghost use Rattle.kd_plan.specs.CableWork.{is_moved, work_setting, cable_work, work_lines};
+ghost use Rattle.kd_plan.specs.Planned.{unless_so, besides, letters_apart, lines_from, pulls_of, puts_of};
 
 use super::lines::push_line;
 use kd_state::{Setting, Settings, column_at};
@@ -17,68 +18,113 @@ pub(crate) type Cable = (Option<Letter>, Option<Letter>);
 /// The pair that a cable becomes, or nothing.
 pub(crate) type Column = Option<(Letter, Letter)>;
 
-/// What is done to a cable: it loses the letters that its pair hasn't, or takes those that it lacks.
-#[derive(Clone, Copy)]
-pub(crate) enum Work {
-    Pull,
-    Put,
-}
-
-/// Appends PULL, or PUT, for each letter that each cable loses, or takes, to become the pair that it is paired with.
-#[tactic(auto, using(crate::proofs::Writing::writing, crate::proofs::Cables::lines_beside))]
-pub(crate) fn push_cables(
+/// Appends PULL for each letter that each cable has beside the pair that it becomes, from this cable's number on.
+pub(crate) fn push_pulls(
     settings: &mut Settings,
-    work: Work,
-    cables: &[Cable; 13],
+    number: u8,
+    cables: &[Cable],
     pairs: &[(Letter, Letter)],
-    to: &[u8; 13],
+    to: &[u8],
 )
-    requires { let lines = work_lines work cables.now pairs.now to.now in
+    requires few { number + length cables.now < 256 }
+    requires room { let lines = lines_from pulls_of number (besides cables.now pairs.now to.now) in
         array_vec_len settings.old + length lines ≤ 192 }
-    ensures { let lines = work_lines work cables.now pairs.now to.now in
+    ensures { let lines = lines_from pulls_of number (besides cables.now pairs.now to.now) in
         settings.new.items ≡ settings.old.items ++ lines }
 {
-    for (place, cable) in cables.iter().enumerate() {
-        let column = column_at(pairs, usize::from(to[place]));
-        push_cable(settings, work, place as u8 + 1, cable, &column);
-    }
+    let [cable, cables @ ..] = cables else {
+        return;
+    };
+    let [place, to @ ..] = to else {
+        return;
+    };
+    let column = column_at(pairs, usize::from(*place));
+    push_pulls_of(settings, number, cable, &column);
+    push_pulls(settings, number + 1, cables, pairs, to);
 }
 
-/// Appends the lines of one cable, letter by letter.
-#[tactic(auto, using(crate::proofs::Writing::writing, crate::proofs::Cables::cable_work_are))]
-fn push_cable(settings: &mut Settings, work: Work, number: u8, cable: &Cable, column: &Column)
-    requires { let held = cable_letters cable.now in
-        let due = column_letters column.now in
-        array_vec_len settings.old + length (cable_work work number held due) ≤ 192 }
-    ensures { let held = cable_letters cable.now in
-        let due = column_letters column.now in
-        settings.new.items ≡ settings.old.items ++ cable_work work number held due }
-{
-    for index in 0..26 {
-        let letter = Letter::new(index).unwrap();
-        push_line(settings, cable_line(work, number, cable, column, letter));
-    }
-}
-
-/// The line of a letter, if the cable loses or takes it.
-fn cable_line(
-    work: Work,
+/// Appends PUT for each letter that each cable lacks of the pair that it becomes, from this cable's number on.
+pub(crate) fn push_puts(
+    settings: &mut Settings,
     number: u8,
-    cable: &Cable,
-    column: &Column,
-    letter: Letter,
-) -> Option<Setting>
-    ensures { let held = cable_letters cable.now in
-        let moved = is_moved work held (column_letters column.now) letter in
-        result ≡ unless_so (not moved) (work_setting work number letter) }
+    cables: &[Cable],
+    pairs: &[(Letter, Letter)],
+    to: &[u8],
+)
+    requires few { number + length cables.now < 256 }
+    requires room { let lines = lines_from puts_of number (besides cables.now pairs.now to.now) in
+        array_vec_len settings.old + length lines ≤ 192 }
+    ensures { let lines = lines_from puts_of number (besides cables.now pairs.now to.now) in
+        settings.new.items ≡ settings.old.items ++ lines }
 {
-    let present = lies_in(*cable, letter);
-    let wanted = is_one_of(*column, letter);
-    let cable = number;
-    match work {
-        Work::Pull if present && !wanted => Some(Setting::Pull { cable, letter }),
-        Work::Put if wanted && !present => Some(Setting::Put { cable, letter }),
-        _ => None,
+    let [cable, cables @ ..] = cables else {
+        return;
+    };
+    let [place, to @ ..] = to else {
+        return;
+    };
+    let column = column_at(pairs, usize::from(*place));
+    push_puts_of(settings, number, cable, &column);
+    push_puts(settings, number + 1, cables, pairs, to);
+}
+
+/// Appends PULL for each letter of a cable that isn't one of the pair.
+fn push_pulls_of(settings: &mut Settings, number: u8, cable: &Cable, column: &Column)
+    requires { let lines = pulls_of number (cable.now, column.now) in
+        array_vec_len settings.old + length lines ≤ 192 }
+    ensures { settings.new.items ≡ settings.old.items ++ pulls_of number (cable.now, column.now) }
+{
+    push_line(settings, pull_line(number, cable.0, *column));
+    push_line(settings, pull_line(number, cable.1, *column));
+}
+
+/// Appends PUT for each letter of the pair that isn't in the cable, in alphabetical order.
+fn push_puts_of(settings: &mut Settings, number: u8, cable: &Cable, column: &Column)
+    requires { let lines = puts_of number (cable.now, column.now) in
+        array_vec_len settings.old + length lines ≤ 192 }
+    ensures { settings.new.items ≡ settings.old.items ++ puts_of number (cable.now, column.now) }
+{
+    if let Some((one, other)) = *column {
+        let (first, second) = ordered(one, other);
+        push_line(settings, put_line(number, *cable, first));
+        push_line(settings, put_line(number, *cable, second));
+    }
+}
+
+/// PULL, if there is a letter at the cable's end, and it isn't one of the pair.
+fn pull_line(cable: u8, end: Option<Letter>, column: Column) -> Option<Setting>
+    ensures { let letters = letters_apart (option_to_list end) (column_letters column) in
+        option_to_list result ≡ map (λ letter. Setting.Pull cable letter) letters }
+{
+    let letter = end?;
+    if is_one_of(column, letter) {
+        None
+    } else {
+        Some(Setting::Pull { cable, letter })
+    }
+}
+
+/// PUT, unless the letter lies in the cable.
+fn put_line(number: u8, cable: Cable, letter: Letter) -> Option<Setting>
+    ensures { let so = has_letter (cable_letters cable) letter in
+        result ≡ unless_so so (Setting.Put number letter) }
+{
+    if lies_in(cable, letter) {
+        None
+    } else {
+        let cable = number;
+        Some(Setting::Put { cable, letter })
+    }
+}
+
+/// The two letters in alphabetical order.
+fn ordered(one: Letter, other: Letter) -> (Letter, Letter)
+    ensures { result ≡ in_order one other }
+{
+    if one.index() <= other.index() {
+        (one, other)
+    } else {
+        (other, one)
     }
 }
 

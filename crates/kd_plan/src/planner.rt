@@ -5,17 +5,16 @@ ghost use Rattle.kd_state.specs.Entry.{rotor_values, pin_values};
 ghost use Rattle.kd_plan.specs.Planned.{planned_lines, IsPlanned, Plans};
 
 use super::bar_lines::push_lugs;
-use super::cable_lines::{Work, push_cables};
-use super::card_prices::{bar_prices, cable_prices};
+use super::cable_lines::{push_pulls, push_puts};
+use super::card_prices::prices_due;
 use super::laws::planned_cards_prove_themselves;
 use super::other_model::OtherModel;
 use super::pin_lines::{push_pin_turns, push_pins};
 use super::rotor_lines::{push_reflector, push_rings, push_seats, push_turns};
 use arrayvec::ArrayVec;
 use kd_assign::{Solution, assign};
-use kd_card::Card;
 use kd_card::laws::proving_cards_are_shortest;
-use kd_state::laws::cables_cost_four;
+use kd_card::{Card, Prices};
 use kd_state::{
     Machine, OneModel, Parts, PinEntry, PinParts, RotorEntry, RotorParts, Settings, SheetDay,
     bar_costs, cable_costs,
@@ -61,7 +60,6 @@ fn rotor_card(machine: &Machine, parts: &RotorParts, entry: &RotorEntry) -> Card
     ensures { IsPlanned (Parts.Rotor parts.now) (OfRotors (rotor_values entry.now))
         result.settings.items result.prices }
 {
-    cables_cost_four();
     let costs = cable_costs(&parts.cables, entry.pairs.as_slice());
     let Solution {
         to,
@@ -71,7 +69,7 @@ fn rotor_card(machine: &Machine, parts: &RotorParts, entry: &RotorEntry) -> Card
         ..
     } = assign(&costs);
     let settings = rotor_settings(machine, parts, entry, &to);
-    let prices = cable_prices(total, row, col);
+    let prices = Prices::cables(prices_due(total, row), prices_due(total, col)).unwrap();
     Card { settings, prices }
 }
 
@@ -91,7 +89,7 @@ fn pin_card(parts: &PinParts, entry: &PinEntry) -> Card
         ..
     } = assign(&costs);
     let settings = pin_settings(parts, entry, &to);
-    let prices = bar_prices(total, row, col);
+    let prices = Prices::bars(prices_due(total, row), prices_due(total, col)).unwrap();
     Card { settings, prices }
 }
 
@@ -114,12 +112,12 @@ fn rotor_settings(
     let wheels = entry.wheels.as_slice();
     let pairs = entry.pairs.as_slice();
     let mut settings = ArrayVec::new();
-    push_seats(&mut settings, machine, parts, wheels);
+    push_seats(&mut settings, 1, parts.slots.as_slice(), wheels);
     push_reflector(&mut settings, parts.reflector, entry.reflector);
-    push_rings(&mut settings, machine, parts, wheels);
-    push_turns(&mut settings, machine, parts, wheels);
-    push_cables(&mut settings, Work::Pull, &parts.cables, pairs, to);
-    push_cables(&mut settings, Work::Put, &parts.cables, pairs, to);
+    push_rings(&mut settings, machine, parts, parts.model.wheels(), wheels);
+    push_turns(&mut settings, machine, parts, 1, wheels);
+    push_pulls(&mut settings, 1, &parts.cables, pairs, to);
+    push_puts(&mut settings, 1, &parts.cables, pairs, to);
     settings
 }
 
@@ -134,7 +132,7 @@ fn pin_settings(parts: &PinParts, entry: &PinEntry, to: &[u8; 27]) -> Settings
 {
     let mut settings = ArrayVec::new();
     push_pins(&mut settings, &parts.pins, &entry.pins);
-    push_pin_turns(&mut settings, &parts.letters, &entry.window);
-    push_lugs(&mut settings, &parts.bars, &entry.rows, to);
+    push_pin_turns(&mut settings, 1, &parts.letters, &entry.window);
+    push_lugs(&mut settings, 1, &parts.bars, &entry.rows, to);
     settings
 }

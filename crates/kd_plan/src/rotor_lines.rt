@@ -1,32 +1,37 @@
 //! The lines of wheels, reflector, rings and window letters.
-ghost use Rattle.std.specs.Prelude.{◌≡◌, ◌+◌, ◌≤◌, ◌++◌, false, nat_eq, length, find, option_and_then, None, unwrap_or};
+ghost use Rattle.std.specs.Prelude.{◌≡◌, ◌+◌, ◌<◌, ◌≤◌, ◌++◌, false, nat_eq, length, find, flat_map, option_and_then, zip};
 ghost use Rattle.std.specs.Option.{option_map_or};
 ghost use Rattle.arrayvec.specs.ArrayVec.{array_vec_len};
 ghost use Rattle.kd_state.specs.declared.machine.parts.Parts.TheVariants.{Rotor};
 ghost use Rattle.kd_state.specs.ToldApart.{same_wheel, same_reflector};
-ghost use Rattle.kd_state.specs.Machine.{slot_in, ring_in, letter_in};
-ghost use Rattle.kd_plan.specs.Planned.{unless_so, seat_lines, reflector_lines, ring_lines, turn_lines};
+ghost use Rattle.kd_state.specs.Machine.{ring_in, letter_in};
+ghost use Rattle.kd_plan.specs.Planned.{unless_so, lines_from, seat_of, reflector_lines, ring_of_wheel, turn_of};
 
 use super::lines::push_line;
 use kd_state::{Machine, RotorParts, Setting, Settings, SheetWheel};
 use kd_tables::{Reflector, Wheel};
 
-/// Appends SEAT for each slot that doesn't hold the day's wheel.
-#[tactic(auto, using(crate::proofs::Writing::writing))]
+/// Appends SEAT for each slot that doesn't hold the day's wheel, from this slot's number on.
 pub(crate) fn push_seats(
     settings: &mut Settings,
-    machine: &Machine,
-    parts: &RotorParts,
+    number: u8,
+    slots: &[Option<Wheel>],
     wheels: &[SheetWheel],
 )
-    requires machine { machine.now ≡ Rotor parts.now }
-    requires few { length wheels.now ≤ 4 }
-    requires room { array_vec_len settings.old + length (seat_lines parts.now wheels.now) ≤ 192 }
-    ensures { settings.new.items ≡ settings.old.items ++ seat_lines parts.now wheels.now }
+    requires few { number + length slots.now < 256 }
+    requires room { let lines = lines_from seat_of number (zip slots.now wheels.now) in
+        array_vec_len settings.old + length lines ≤ 192 }
+    ensures { let lines = lines_from seat_of number (zip slots.now wheels.now) in
+        settings.new.items ≡ settings.old.items ++ lines }
 {
-    for (place, wheel) in wheels.iter().enumerate() {
-        push_line(settings, seat_line(machine, place as u8 + 1, wheel.wheel));
-    }
+    let [seated, slots @ ..] = slots else {
+        return;
+    };
+    let [wanted, wheels @ ..] = wheels else {
+        return;
+    };
+    push_line(settings, seat_line(number, *seated, wanted.wheel));
+    push_seats(settings, number + 1, slots, wheels);
 }
 
 /// Appends REFLECTOR, unless it is the day's.
@@ -37,49 +42,54 @@ pub(crate) fn push_reflector(settings: &mut Settings, present: Reflector, wanted
     push_line(settings, reflector_line(present, wanted));
 }
 
-/// Appends RING for each of the day's wheels whose ring differs, in box order.
-#[tactic(auto, using(crate::proofs::Writing::writing, crate::proofs::Writing::lines_of_each))]
+/// Appends RING for each of the day's wheels whose ring differs, in the order of these wheels of the box.
 pub(crate) fn push_rings(
     settings: &mut Settings,
     machine: &Machine,
     parts: &RotorParts,
+    boxed: &[Wheel],
     wheels: &[SheetWheel],
 )
     requires machine { machine.now ≡ Rotor parts.now }
-    requires room { array_vec_len settings.old + length (ring_lines parts.now wheels.now) ≤ 192 }
-    ensures { settings.new.items ≡ settings.old.items ++ ring_lines parts.now wheels.now }
+    requires room { let lines = flat_map (ring_of_wheel parts.now wheels.now) boxed.now in
+        array_vec_len settings.old + length lines ≤ 192 }
+    ensures { let lines = flat_map (ring_of_wheel parts.now wheels.now) boxed.now in
+        settings.new.items ≡ settings.old.items ++ lines }
 {
-    for wheel in parts.model.wheels() {
+    if let [wheel, rest @ ..] = boxed {
         push_line(settings, ring_line(machine, wheel_of(wheels, *wheel)));
+        push_rings(settings, machine, parts, rest, wheels);
     }
 }
 
-/// Appends TURN for each slot whose wheel shows another letter than the day's.
-#[tactic(auto, using(crate::proofs::Writing::writing))]
+/// Appends TURN for each slot whose wheel shows another letter than the day's, from this slot's number on.
 pub(crate) fn push_turns(
     settings: &mut Settings,
     machine: &Machine,
     parts: &RotorParts,
+    number: u8,
     wheels: &[SheetWheel],
 )
     requires machine { machine.now ≡ Rotor parts.now }
-    requires few { length wheels.now ≤ 4 }
-    requires room { array_vec_len settings.old + length (turn_lines parts.now wheels.now) ≤ 192 }
-    ensures { settings.new.items ≡ settings.old.items ++ turn_lines parts.now wheels.now }
+    requires few { number + length wheels.now < 256 }
+    requires room { let lines = lines_from (turn_of parts.now) number wheels.now in
+        array_vec_len settings.old + length lines ≤ 192 }
+    ensures { let lines = lines_from (turn_of parts.now) number wheels.now in
+        settings.new.items ≡ settings.old.items ++ lines }
 {
-    for (place, wheel) in wheels.iter().enumerate() {
-        push_line(settings, turn_line(machine, place as u8 + 1, *wheel));
+    if let [wheel, rest @ ..] = wheels {
+        push_line(settings, turn_line(machine, number, *wheel));
+        push_turns(settings, machine, parts, number + 1, rest);
     }
 }
 
 /// SEAT, unless the wheel is seated there.
-fn seat_line(machine: &Machine, slot: u8, wheel: Wheel) -> Option<Setting>
-    ensures { let seated = unwrap_or (slot_in machine.now slot) None in
-        let so = option_map_or (same_wheel wheel) seated false in
+fn seat_line(slot: u8, seated: Option<Wheel>, wheel: Wheel) -> Option<Setting>
+    ensures { let so = option_map_or (same_wheel wheel) seated false in
         result ≡ unless_so so (Setting.Seat slot wheel) }
 {
-    match machine.slot(slot) {
-        Some(Some(present)) if wheel == present => None,
+    match seated {
+        Some(present) if wheel == present => None,
         _ => Some(Setting::Seat { slot, wheel }),
     }
 }

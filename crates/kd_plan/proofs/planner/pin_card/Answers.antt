@@ -1,29 +1,16 @@
-use Rattle.std.proofs.Common.{List, ℤ, pos, nat_eq, replicate, rules, refl, sym, subst, arith}
-use Rattle.kd_plan.proofs.Prelude.{cond_both, Pin, OfPins, Bars, AreOfKind}
-use Rattle.kd_state.specs.Entry.{pin_values}
-use Rattle.kd_plan.proofs.Planning.{bar_costs_at_most, pin_room, planned, solved, zeros_all}
+use Rattle.std.proofs.Common.{arith}
+use Rattle.kd_plan.proofs.Prelude.{bar_cost, pin_values, some_since}
+use Rattle.kd_plan.proofs.Planning.{bar_cost_at_most, pin_room, planned, prices_of, table_at_most}
 use Rattle.kd_plan.proofs.planner.pin_card.Goals as goal
 
 pub assign-total-requires : goal.assign-total-requires
-assign-total-requires c = grind (arith, bar_costs_at_most)
+assign-total-requires c = grind (arith, table_at_most bar_cost 4 bar_cost_at_most _ _ _ c.bar_costs-costs.ensures)
 
 pub pin_settings-settings-requires-clause-room : goal.pin_settings-settings-requires-clause-room
 pin_settings-settings-requires-clause-room c = pin_room c.args.parts.now (pin_values c.args.entry.now) _ c.requires.machine
 
+pub unwrap-prices-requires : goal.unwrap-prices-requires
+unwrap-prices-requires c = grind (arith, some_since, prices_of)
+
 pub returns : goal.returns
-returns c =
-    let solution = c.assign-total.result in
-    let told = c.assign-total.ensures in
-    let none : List ℤ = replicate 27 (pos 0) in
-    let zeros = Bars none none in
-    let others = Bars solution.row solution.col in
-    let chosen = c.bar_prices-prices.ensures in
-    planned (Pin c.args.parts.now) (OfPins (pin_values c.args.entry.now)) c.bar_costs-costs.result solution.to _ c.bar_prices-prices.result
-    refl
-    c.bar_costs-costs.ensures
-    (subst (AreOfKind (Pin c.args.parts.now)) (sym chosen) (cond_both (nat_eq solution.total 0) zeros others (AreOfKind (Pin c.args.parts.now)) (λ e. tt) (λ e. tt)))
-    (search rules)
-    told.one_to_one
-    c.pin_settings-settings.ensures
-    (solved c.bar_costs-costs.result solution.to solution.total zeros others _ refl refl refl (zeros_all 54)
-    (search rules) (search rules) told.fits told.price_sum told.cost chosen)
+returns c = grind (arith, planned)

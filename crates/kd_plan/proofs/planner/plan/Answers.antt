@@ -1,7 +1,6 @@
 use Rattle.std.proofs.Common.{refl, subst}
-use Rattle.kd_card.specs.Proving.{Same}
+use Rattle.kd_plan.proofs.Prelude.{ArePrices, Same}
 use Rattle.kd_plan.proofs.Planning.{by_number}
-use Rattle.kd_card.specs.Prices.{ArePrices}
 use Rattle.kd_plan.proofs.planner.plan.Goals as goal
 
 pub returns-clause-card : goal.returns-clause-card
