@@ -1,6 +1,10 @@
 -- The prices of kinds, one for each thing.
-use Rattle.kd_card.proofs.Prelude.{◌≡◌, ℕ, ◌+◌, ◌<◌, ◌≤◌, List, [], ◌∷◌, length, replicate, refl, sym, ap, subst, ◌∙◌, length-append, arith, unsigned_abs, ◌++◌, map, Option, None, length-replicate, length-map, All-append, All-nil, All-replicate, PricedKind, PriceParts, CableKinds, BarKinds, ByKind, look_rank, counted, prices_of_kinds, AreKinds, look_name, kind_words, kinds_text, cable_kind, pair_kind, bar_kind, row_kind, AreCalled, version_of, how_many, row_kinds, column_kinds, row_prices, column_prices, AreWithinReach, ArePrices, flat_map-append, flat_map-map, Place, One, line_of, Look, Cable, Pair, Bar, Row, Name, Group, group_of, row_name, column_name, price_count, lines_text, price_lines, IsGroup, HaveKinds, with_line, rules, common_steps}
+use Rattle.kd_card.proofs.Prelude.{◌≡◌, ◌↔◌, ℕ, ◌+◌, ◌≤◌, List, [], ◌∷◌, length, replicate, refl, sym, ap, subst, ◌∙◌, length-append, arith, unsigned_abs, ◌++◌, map, Option, None, length-replicate, length-map, All-append, All-nil, All-replicate, PricedKind, PriceParts, CableKinds, BarKinds, ByKind, look_rank, counted, prices_of_kinds, AreKinds, look_name, kind_words, kinds_text, cable_kind, pair_kind, bar_kind, row_kind, AreCalled, version_of, how_many, row_kinds, column_kinds, row_prices, column_prices, AreWithinReach, ArePrices, flat_map-append, flat_map-map, Place, One, line_of, Look, Cable, Pair, Bar, Row, Name, Group, group_of, row_name, column_name, price_count, lines_text, price_lines, IsGroup, HaveKinds, with_line, rules, common_steps}
 use Rattle.arrayvec.specs.ArrayVec.{ArrayVec}
+use Rattle.kd_card.specs.declared.kinds.CableKind.{CableKind}
+use Rattle.kd_card.specs.declared.kinds.PairKind.{PairKind}
+use Rattle.kd_card.specs.declared.kinds.BarKind.{BarKind}
+use Rattle.kd_card.specs.declared.kinds.RowKind.{RowKind}
 use Rattle.kd_card.proofs.Lines.{line_and_more}
 
 pub length_of_kinds : (kinds : List PricedKind) → length (prices_of_kinds kinds) ≡ counted kinds
@@ -21,10 +25,9 @@ few_kinds floor [] are = omega arith
 few_kinds floor (kind ∷ kinds) are =
     omega (arith, few_kinds (look_rank kind.look + 1) kinds are.2)
 
-pub too_long : {K : Type 0} (priced : K → PricedKind) (kinds : List K) {number : ℕ} → AreKinds 0 (map priced kinds)
-    → length (prices_of_kinds (map priced kinds)) ≡ number → ¬ (number < length kinds)
-too_long priced kinds are count long =
-    omega (arith, few_kinds 0 (map priced kinds) are, length_of_kinds (map priced kinds), length-map kinds priced)
+pub short : {K : Type 0} (priced : K → PricedKind) (kinds : List K) {number : ℕ} → AreKinds 0 (map priced kinds)
+    → counted (map priced kinds) ≡ number → length kinds ≤ number
+short priced kinds are count = omega (arith, few_kinds 0 (map priced kinds) are, length-map kinds priced)
 
 -- prices by kind that may stand on a card
 pub prices_of : (parts : PriceParts) → version_of parts ≡ ByKind
@@ -50,6 +53,24 @@ row_count parts by are = sym (length_of_kinds (row_kinds parts)) ∙ sym (ap len
 
 pub column_count : (parts : PriceParts) → version_of parts ≡ ByKind → ArePrices parts → counted (column_kinds parts) ≡ how_many parts
 column_count parts by are = sym (length_of_kinds (column_kinds parts)) ∙ sym (ap length (prices_of parts by).1) ∙ are.columns
+
+pub cables_are_prices : (rows : List CableKind) (columns : List PairKind)
+    → ArePrices (CableKinds (record { items = rows }) (record { items = columns }))
+    ↔ ((AreKinds 0 (map cable_kind rows) × (counted (map cable_kind rows) ≡ 13))
+    × AreKinds 0 (map pair_kind columns) × (counted (map pair_kind columns) ≡ 13))
+cables_are_prices rows columns = (
+  λ are. ((are.row_kinds, row_count _ refl are), are.column_kinds, column_count _ refl are),
+  λ both. are_prices _ 13 refl refl both.0 (both.1, both.2),
+)
+
+pub bars_are_prices : (rows : List BarKind) (columns : List RowKind)
+    → ArePrices (BarKinds (record { items = rows }) (record { items = columns }))
+    ↔ ((AreKinds 0 (map bar_kind rows) × (counted (map bar_kind rows) ≡ 27))
+    × AreKinds 0 (map row_kind columns) × (counted (map row_kind columns) ≡ 27))
+bars_are_prices rows columns = (
+  λ are. ((are.row_kinds, row_count _ refl are), are.column_kinds, column_count _ refl are),
+  λ both. are_prices _ 27 refl refl both.0 (both.1, both.2),
+)
 
 -- ---- kinds and their lines
 

@@ -14,7 +14,7 @@ use super::looks::{column_looks, row_looks};
 use arrayvec::ArrayVec;
 use kd_card::laws::ranks_tell_looks;
 use kd_card::{Card, Group, Look, PricedKind, Prices, Version};
-use kd_state::laws::columns_are_the_pairs;
+use kd_state::laws::{columns_are_the_pairs, tests_tell_letters};
 use kd_state::{Machine, Settings, SheetDay};
 
 /// The ranks of all looks in their one form are below this.
@@ -48,6 +48,7 @@ fn prices_by_kind(machine: &Machine, day: &SheetDay, prices: &Prices) -> Option<
 {
     ranks_tell_looks();
     columns_are_the_pairs();
+    tests_tell_letters();
     if !are_of_one_model(machine, day, prices) {
         return None;
     }

@@ -1,5 +1,5 @@
-use Rattle.kd_prices.proofs.Prelude.{sym, ◌∙◌, ap, length, price_count}
-use Rattle.kd_prices.proofs.AlikeLooks.{by_kind_told, size_of}
+use Rattle.kd_prices.proofs.Prelude.{size_of, sym, ◌∙◌, ap, length, price_count}
+use Rattle.kd_prices.proofs.AlikeLooks.{by_kind_told}
 use Rattle.kd_prices.proofs.Things.{rows_are_things, columns_are_things, groups_meet}
 use Rattle.kd_prices.proofs.kind_cards.prices_by_kind.Goals as goal
 
@@ -27,7 +27,7 @@ of_group-requires-clause-column_prices c =
 pub returns-in-ByNumber : goal.returns-in-ByNumber
 returns-in-ByNumber c =
     by_kind_told
-    (record { ranks = c.ranks_tell_looks.ensures; thirteen = c.columns_are_the_pairs.ensures.count; columns = c.columns_are_the_pairs.ensures.pairs })
+    (record { ranks = c.ranks_tell_looks.ensures; letters = c.tests_tell_letters.ensures; thirteen = c.columns_are_the_pairs.ensures.count; columns = c.columns_are_the_pairs.ensures.pairs })
     _ _ _ c.row_looks.ensures.machine c.column_looks.ensures.day c.row_prices.ensures.are_prices
     (c.are_of_one_model.ensures.0 c.if-not-are_of_one_model.false) (sym c.version.ensures.value ∙ c.in-ByNumber.is) _
     (rw (
