@@ -1,5 +1,5 @@
 -- Lines of words, as they are written and as they are split.
-use Rattle.kd_card.proofs.Prelude.{◌≡◌, ◌≢◌, ℕ, ◌<◌, true, false, eqb, ltb, List, [], ◌∷◌, ◌++◌, length, refl, sym, ap, ◌∙◌, append_assoc, length-append, arith, ℤ, All, list_all, flat_map, signed_decimal, ne_eqb, ltb-true, append-nil, get_or_at, flat_map-append, AllPass-from_list_all, All-weaker, All-from_recursion, All-push, flat_map-map, Setting, words_of, line_of, IsWord, IsWithout, IsFirstPart, TextsTellFirstParts, LinesSplitIntoWords, WordsMakeOneLine, NumbersAreWords, setting_line, list_text, IsInRange, BeginsWith, BeginsWithLine, PriceParts, Version, version_of, price_sum, head_words, settings_words, price_words, sum_words, lines_text, price_lines, card_text, with_line, HasWords, common_steps}
+use Rattle.kd_card.proofs.Prelude.{◌≡◌, ◌≢◌, ℕ, ◌<◌, true, false, eqb, ltb, List, [], ◌∷◌, ◌++◌, length, refl, sym, ap, ◌∙◌, append_assoc, length-append, arith, ℤ, All, list_all, flat_map, signed_decimal, ne_eqb, ltb-true, append-nil, get_or_at, take_all, flat_map-append, AllPass-from_list_all, All-weaker, All-from_recursion, All-push, flat_map-map, Setting, words_of, line_of, IsWord, IsWithout, IsFirstPart, TextsTellFirstParts, LinesSplitIntoWords, WordsMakeOneLine, NumbersAreWords, setting_line, list_text, IsInRange, BeginsWith, BeginsWithLine, PriceParts, Version, version_of, price_sum, head_words, settings_words, price_words, sum_words, lines_text, price_lines, card_text, with_line, HasWords, common_steps}
 use Rattle.std.proofs.lemmas.List.Splits.{slice_split_none, slice_split_at, join_with_byte-slice_split}
 
 -- ---- writing
@@ -14,6 +14,8 @@ line_of_prices word (price ∷ prices) = ap (λ text. word ++ 32 ∷ text) (line
 pub all_prices : (front word : List ℕ) (prices : List ℤ)
     → (front ++ (word ++ behind_spaces prices)) ++ 10 ∷ [] ≡ front ++ with_line (price_words word prices) []
 all_prices front word prices = simp (append_assoc, line_of_prices word prices)
+
+pub ruleset prices_written = (all_prices, take_all)
 
 -- ---- a card's text, line by line
 
