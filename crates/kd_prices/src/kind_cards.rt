@@ -41,6 +41,7 @@ fn copied(settings: &Settings) -> Settings
 }
 
 /// The same prices by kind, if they can be.
+#[tactic(auto, using(kd_card::proofs::KindPrices::size_of))]
 fn prices_by_kind(machine: &Machine, day: &SheetDay, prices: &Prices) -> Option<Prices>
     ensures { MatchOption result
         (¬ (CanBeByKind machine.now day.now prices.now))
@@ -75,8 +76,8 @@ fn of_group(
 ) -> Option<Prices>
     requires rows { AreThings (row_name group) (price_count group) rows.now }
     requires columns { AreThings (column_name group) (price_count group) columns.now }
-    requires row_prices { length row_prices.now ≡ length rows.now }
-    requires column_prices { length column_prices.now ≡ length columns.now }
+    requires row_prices { length row_prices.now ≡ price_count group }
+    requires column_prices { length column_prices.now ≡ price_count group }
     requires row_reach { AreWithinReach row_prices.now }
     requires column_reach { AreWithinReach column_prices.now }
     ensures { MatchOption result

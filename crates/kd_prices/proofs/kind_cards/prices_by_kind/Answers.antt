@@ -1,4 +1,4 @@
-use Rattle.kd_prices.proofs.Prelude.{size_of, sym, ◌∙◌, ap, length, price_count}
+use Rattle.kd_prices.proofs.Prelude.{sym, ◌∙◌}
 use Rattle.kd_prices.proofs.AlikeLooks.{by_kind_told}
 use Rattle.kd_prices.proofs.Things.{rows_are_things, columns_are_things, groups_meet}
 use Rattle.kd_prices.proofs.kind_cards.prices_by_kind.Goals as goal
@@ -14,15 +14,6 @@ of_group-requires-clause-columns c =
     let meet = groups_meet _ _ c.row_looks.ensures.machine c.column_looks.ensures.day one.model in
     rw (c.group.ensures, one.group, ← meet, c.as_slice-in-ByNumber-2.ensures.value, c.column_looks.ensures.looks)
     (columns_are_things c.columns_are_the_pairs.ensures.count _ c.column_looks.ensures.day)
-
-pub of_group-requires-clause-column_prices : goal.of_group-requires-clause-column_prices
-of_group-requires-clause-column_prices c =
-    let one = c.are_of_one_model.ensures.0 c.if-not-are_of_one_model.false in
-    let meet = groups_meet _ _ c.row_looks.ensures.machine c.column_looks.ensures.day one.model in
-    let things = columns_are_things c.columns_are_the_pairs.ensures.count _ c.column_looks.ensures.day in
-    ap length (c.as_slice-in-ByNumber-3.ensures.value ∙ c.column_prices.ensures.value) ∙ c.column_prices.ensures.are_prices.columns
-    ∙ sym (size_of c.args.prices.now) ∙ ap price_count (one.group ∙ sym meet) ∙ sym things.count
-    ∙ sym (ap length (c.as_slice-in-ByNumber-2.ensures.value ∙ c.column_looks.ensures.looks))
 
 pub returns-in-ByNumber : goal.returns-in-ByNumber
 returns-in-ByNumber c =
