@@ -1,13 +1,6 @@
-use Rattle.kd_prices.proofs.Prelude.{arith, sym, ◌∙◌}
+use Rattle.kd_prices.proofs.Prelude.{sym, ◌∙◌}
 use Rattle.kd_prices.proofs.AlikeLooks.{by_kind_told}
-use Rattle.kd_prices.proofs.Things.{rows_are_things, columns_are_things, groups_meet}
 use Rattle.kd_prices.proofs.kind_cards.prices_by_kind.Goals as goal
-
-pub of_group-requires-clause-rows : goal.of_group-requires-clause-rows
-of_group-requires-clause-rows c = grind (arith, rows_are_things)
-
-pub of_group-requires-clause-columns : goal.of_group-requires-clause-columns
-of_group-requires-clause-columns c = grind (arith, columns_are_things, groups_meet)
 
 pub returns-in-ByNumber : goal.returns-in-ByNumber
 returns-in-ByNumber c =
