@@ -16,6 +16,7 @@ pub(crate) struct Walk {
 }
 
 /// Carries the settings out, one after another, and judges each by what is loose before it and after it.
+#[tactic(auto, using(kd_card::proofs::Leading::stops_at))]
 pub(crate) fn walked(machine: &Machine, day: &SheetDay, settings: &[Setting]) -> Result<Walk, Doubt>
     ensures leads { IfOk result (λ walk. Leads machine.now settings.now walk.reached) }
     ensures needed { IfOk result (λ walk. SaysNeeded machine.now day.now settings.now walk.needed) }

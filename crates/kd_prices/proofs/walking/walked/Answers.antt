@@ -1,9 +1,6 @@
-use Rattle.kd_prices.proofs.Prelude.{stops_at, sym, arith}
+use Rattle.kd_prices.proofs.Prelude.{sym, arith}
 use Rattle.kd_prices.proofs.Leading.{walks_on}
 use Rattle.kd_prices.proofs.walking.walked.Goals as goal
-
-pub returns-in-Err-clause-refused : goal.returns-in-Err-clause-refused
-returns-in-Err-clause-refused c = grind (arith, stops_at)
 
 pub loop-place-preserved : goal.loop-place-preserved
 loop-place-preserved c =
