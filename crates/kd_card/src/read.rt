@@ -137,6 +137,7 @@ fn read_settings(text: &[u8]) -> Option<(Settings, &[u8])>
 }
 
 /// What follows the line with that number of settings.
+#[tactic(auto, using(crate::proofs::CardWords::word_by_test))]
 fn read_count(text: &[u8], count: usize) -> Result<&[u8], CardFault>
     requires { count ≤ 192 }
     ensures { MatchResult result
@@ -149,6 +150,7 @@ fn read_count(text: &[u8], count: usize) -> Result<&[u8], CardFault>
 }
 
 /// What follows the line with that sum, which is that of this number.
+#[tactic(auto, using(crate::proofs::CardWords::word_by_test))]
 fn read_sum(text: &[u8], sum: i32, line: usize) -> Result<&[u8], CardFault>
     ensures { MatchResult result
         (λ rest. SaysSum sum line text.now (Ok rest.now))
