@@ -1,11 +1,11 @@
 -- What stands in a card's lines are words, and its numbers have the keywords that are read.
-use Rattle.kd_card.proofs.Prelude.{Bool, true, codes, ◌≡◌, ◌≢◌, ℕ, zero, suc, ◌+◌, ◌*◌, ◌^◌, ◌<◌, ◌≤◌, inl, inr, List, [], ◌∷◌, ◌++◌, length, map, get_or, fold, decimal, Ok, Err, Result, MatchResult, not, eqb, false, pointwise, not-false, false≢true, Decides-eqb, slice_eq-Decides, err_from_is_err_and, refl, ap, arith, ℤ, pos, negsuc, ◌+ℤ◌, unsigned_abs, length-append, ltb, sym, subst, ◌∙◌, All, AllByRecursion, list_all, digits_value, signed_decimal, decimal_nonempty, digits_decimal, decimal_digit, first_decimal, All-cons, All-map, All-weaker, All-append, All-from_recursion, All-from_get_or, recursion_from_All, IsWord, NumbersAreWords, PriceParts, Version, how_many, price_sum, AreWithinReach, ArePrices, Group, Name, PricedKind, BadLine, CountWrong, PriceMissing, Refused, Found, kinds_text, row_word, column_word, version_text, head_words, price_words, IsGroup, IsDigit, IsNumberText, IsNumeral, with_line, HasWords, SaysValue, SaysLine, SaysFirst, SaysPrices, SaysPriceLine, SaysGroup, nil_from_length, common_steps}
+use Rattle.kd_card.proofs.Prelude.{Bool, true, codes, ◌≡◌, ◌≢◌, ℕ, zero, suc, ◌+◌, ◌*◌, ◌^◌, ◌<◌, ◌≤◌, inl, inr, List, [], ◌∷◌, ◌++◌, length, map, get_or, fold, decimal, Ok, Err, Result, MatchResult, not, eqb, false, pointwise, not-false, false≢true, Decides-eqb, slice_eq-Decides, err_from_is_err_and, refl, ap, arith, ℤ, pos, negsuc, ◌+ℤ◌, unsigned_abs, length-append, ltb, sym, subst, ◌∙◌, All, AllByRecursion, list_all, digits_value, signed_decimal, decimal_nonempty, digits_decimal, decimal_digit, first_decimal, All-cons, All-map, All-weaker, All-append, All-from_recursion, All-from_get_or, recursion_from_All, IsWord, NumbersAreWords, PriceParts, Version, how_many, price_sum, AreWithinReach, ArePrices, Group, Name, PricedKind, BadLine, CountWrong, PriceMissing, Refused, Found, BeginsWithHead, kinds_text, row_word, column_word, version_text, head_words, price_words, IsGroup, IsDigit, IsNumberText, IsNumeral, with_line, HasWords, SaysValue, SaysLine, SaysFirst, SaysPrices, SaysPriceLine, SaysGroup, nil_from_length, common_steps}
 use Rattle.std.specs.Int.{IsInRange}
 use Rattle.std.specs.Result.{IsErrAnd}
 use Rattle.std.proofs.lemmas.Str.Parse.{IsNumeralModel, numerals_by_value, tells_by_index}
 use Rattle.kd_card.specs.Steps.{passed}
 use Rattle.kd_card.specs.declared.fault.CardFault.{CardFault}
-use Rattle.kd_card.proofs.Lines.{bytes_above, is_line, some_bytes}
+use Rattle.kd_card.proofs.Lines.{Laws, bytes_above, is_line, line_has_words, some_bytes}
 
 -- ---- answers
 
@@ -67,6 +67,12 @@ version_is_word version = grind (arith, word_by_test)
 
 pub head_is_words : NumbersAreWords → (version : Version) (day : ℕ) → day ≤ 31 → All IsWord (head_words version day)
 head_is_words numbers version day small = grind (arith, All-from_recursion, word_by_test, version_is_word, numbers)
+
+pub head_has_words : Laws → {bytes : List ℕ} (version : Version) (day : ℕ) (rest : List ℕ)
+    → BeginsWithHead bytes version day rest → HasWords bytes (head_words version day) rest
+head_has_words laws version day rest head =
+    line_has_words laws (head_words version day) rest (λ none. cc)
+    (head_is_words laws.numbers version day head.of_month.last) head.text
 
 pub row_is_word : (kind : Group) → IsWord (row_word kind)
 row_is_word kind = grind (arith, word_by_test)

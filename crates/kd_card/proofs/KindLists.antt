@@ -1,6 +1,6 @@
 -- Lists of kinds, kind by kind.
-use Rattle.kd_card.proofs.Prelude.{◌≡◌, ℕ, zero, suc, ◌+◌, ◌*◌, ◌<◌, ◌≤◌, List, [], ◌∷◌, ◌++◌, length, take, drop, get_or, replicate, fold, refl, sym, ap, subst, ◌∙◌, append_assoc, length-append, arith, ℤ, pos, ◌+ℤ◌, ◌*ℤ◌, unsigned_abs, FitsSigned, w32, All, All-nil, All-cons, ints, unsigned_abs-mul, fits_signed_from_abs, append-nil, take_more, take-append-drop, flat_map-append, fold-append, Look, Name, PricedKind, look_name, look_rank, kind_words, kinds_text, counted, prices_of_kinds, IsInForm, IsPricedKind, AreKinds, AreCalled, line_of, floor_behind, IsNextKind, BeginsWithKinds}
-use Rattle.kd_card.proofs.KindPrices.{text_of_more_kinds}
+use Rattle.kd_card.proofs.Prelude.{◌≡◌, ℕ, zero, suc, ◌+◌, ◌*◌, ◌<◌, ◌≤◌, List, [], ◌∷◌, ◌++◌, length, take, get_or, refl, sym, ap, subst, ◌∙◌, append_assoc, length-append, arith, All, All-nil, All-cons, flat_map-append, Name, PricedKind, look_name, look_rank, kind_words, kinds_text, counted, IsPricedKind, AreKinds, AreCalled, line_of, floor_behind, IsNextKind, BeginsWithKinds}
+use Rattle.kd_card.proofs.KindPrices.{text_of_more_kinds, text_by_kind}
 use Rattle.kd_card.proofs.Lines.{is_line}
 
 -- ---- one more kind at the end
@@ -49,6 +49,8 @@ called_at name (first ∷ kinds) (suc i) kind inside is called = called_at name 
 pub all_kinds : (floor : ℕ) (kinds : List PricedKind) → AreKinds floor kinds → All IsPricedKind kinds
 all_kinds floor [] are = All-nil IsPricedKind
 all_kinds floor (kind ∷ kinds) are = All-cons IsPricedKind kind kinds are.0 (all_kinds (look_rank kind.look + 1) kinds are.2)
+
+pub ruleset kinds_written = (all_kinds, text_by_kind, append_assoc)
 
 -- ---- kinds, read
 

@@ -1,6 +1,10 @@
 -- The prices of kinds, one for each thing.
-use Rattle.kd_card.proofs.Prelude.{◌≡◌, ℕ, ◌+◌, ◌<◌, ◌≤◌, List, [], ◌∷◌, length, replicate, refl, sym, ap, subst, ◌∙◌, length-append, arith, unsigned_abs, ◌++◌, map, Option, None, length-replicate, length-map, All-append, All-nil, All-replicate, PricedKind, PriceParts, CableKinds, BarKinds, ByKind, look_rank, counted, prices_of_kinds, AreKinds, look_name, kind_words, kinds_text, cable_kind, pair_kind, bar_kind, row_kind, AreCalled, version_of, how_many, row_kinds, column_kinds, row_prices, column_prices, AreWithinReach, ArePrices, flat_map-append, flat_map-map, Place, One, line_of, Look, Cable, Pair, Bar, Row, Name, Group, group_of, row_name, column_name, price_count, lines_text, price_lines, IsGroup, HaveKinds, with_line, rules, common_steps}
+use Rattle.kd_card.proofs.Prelude.{◌≡◌, ◌↔◌, ℕ, ◌+◌, ◌≤◌, List, [], ◌∷◌, length, replicate, refl, sym, ap, ◌∙◌, length-append, arith, unsigned_abs, ◌++◌, map, Option, None, length-replicate, length-map, All-append, All-nil, All-replicate, PricedKind, PriceParts, CableKinds, BarKinds, ByKind, look_rank, counted, prices_of_kinds, AreKinds, look_name, kind_words, kinds_text, cable_kind, pair_kind, bar_kind, row_kind, AreCalled, version_of, how_many, row_kinds, column_kinds, row_prices, column_prices, AreWithinReach, ArePrices, flat_map-append, flat_map-map, Place, One, line_of, Look, Cable, Pair, Bar, Row, Name, Group, group_of, row_name, column_name, price_count, lines_text, price_lines, IsGroup, HaveKinds, with_line, rules, common_steps}
 use Rattle.arrayvec.specs.ArrayVec.{ArrayVec}
+use Rattle.kd_card.specs.declared.kinds.CableKind.{CableKind}
+use Rattle.kd_card.specs.declared.kinds.PairKind.{PairKind}
+use Rattle.kd_card.specs.declared.kinds.BarKind.{BarKind}
+use Rattle.kd_card.specs.declared.kinds.RowKind.{RowKind}
 use Rattle.kd_card.proofs.Lines.{line_and_more}
 
 pub length_of_kinds : (kinds : List PricedKind) → length (prices_of_kinds kinds) ≡ counted kinds
@@ -21,35 +25,40 @@ few_kinds floor [] are = omega arith
 few_kinds floor (kind ∷ kinds) are =
     omega (arith, few_kinds (look_rank kind.look + 1) kinds are.2)
 
-pub too_long : {K : Type 0} (priced : K → PricedKind) (kinds : List K) {number : ℕ} → AreKinds 0 (map priced kinds)
-    → length (prices_of_kinds (map priced kinds)) ≡ number → ¬ (number < length kinds)
-too_long priced kinds are count long =
-    omega (arith, few_kinds 0 (map priced kinds) are, length_of_kinds (map priced kinds), length-map kinds priced)
+pub short : {K : Type 0} (priced : K → PricedKind) (kinds : List K) {number : ℕ} → AreKinds 0 (map priced kinds)
+    → counted (map priced kinds) ≡ number → length kinds ≤ number
+short priced kinds are count = omega (arith, few_kinds 0 (map priced kinds) are, length-map kinds priced)
 
 -- prices by kind that may stand on a card
 pub prices_of : (parts : PriceParts) → version_of parts ≡ ByKind
     → (row_prices parts ≡ prices_of_kinds (row_kinds parts)) × (column_prices parts ≡ prices_of_kinds (column_kinds parts))
 prices_of parts e = grind arith
 
-pub are_prices : (parts : PriceParts) (number : ℕ) → version_of parts ≡ ByKind → number ≡ how_many parts
-    → AreKinds 0 (row_kinds parts) × (counted (row_kinds parts) ≡ number)
-    → AreKinds 0 (column_kinds parts) × (counted (column_kinds parts) ≡ number) → ArePrices parts
-are_prices parts number by many rows columns =
-    let are = prices_of parts by in
-    record {
-      rows = ap length are.0 ∙ length_of_kinds (row_kinds parts) ∙ rows.1 ∙ many;
-      columns = ap length are.1 ∙ length_of_kinds (column_kinds parts) ∙ columns.1 ∙ many;
-      row_reach = subst AreWithinReach (sym are.0) (reach_of_kinds 0 (row_kinds parts) rows.0);
-      column_reach = subst AreWithinReach (sym are.1) (reach_of_kinds 0 (column_kinds parts) columns.0);
-      row_kinds = rows.0;
-      column_kinds = columns.0;
-    }
+pub are_prices : (parts : PriceParts) → version_of parts ≡ ByKind
+    → ArePrices parts
+    ↔ (AreKinds 0 (row_kinds parts) × (counted (row_kinds parts) ≡ how_many parts)
+    × AreKinds 0 (column_kinds parts) × (counted (column_kinds parts) ≡ how_many parts))
+are_prices (CableKinds row col) by = grind (arith, length_of_kinds, reach_of_kinds)
+are_prices (BarKinds row col) by = grind (arith, length_of_kinds, reach_of_kinds)
+are_prices parts by = cc
 
 pub row_count : (parts : PriceParts) → version_of parts ≡ ByKind → ArePrices parts → counted (row_kinds parts) ≡ how_many parts
-row_count parts by are = sym (length_of_kinds (row_kinds parts)) ∙ sym (ap length (prices_of parts by).0) ∙ are.rows
+row_count parts by are = ((are_prices parts by).0 are).1
 
 pub column_count : (parts : PriceParts) → version_of parts ≡ ByKind → ArePrices parts → counted (column_kinds parts) ≡ how_many parts
-column_count parts by are = sym (length_of_kinds (column_kinds parts)) ∙ sym (ap length (prices_of parts by).1) ∙ are.columns
+column_count parts by are = ((are_prices parts by).0 are).3
+
+pub cables_are_prices : (rows : List CableKind) (columns : List PairKind)
+    → ArePrices (CableKinds (record { items = rows }) (record { items = columns }))
+    ↔ (AreKinds 0 (map cable_kind rows) × (counted (map cable_kind rows) ≡ 13)
+    × AreKinds 0 (map pair_kind columns) × (counted (map pair_kind columns) ≡ 13))
+cables_are_prices rows columns = are_prices _ refl
+
+pub bars_are_prices : (rows : List BarKind) (columns : List RowKind)
+    → ArePrices (BarKinds (record { items = rows }) (record { items = columns }))
+    ↔ (AreKinds 0 (map bar_kind rows) × (counted (map bar_kind rows) ≡ 27)
+    × AreKinds 0 (map row_kind columns) × (counted (map row_kind columns) ≡ 27))
+bars_are_prices rows columns = are_prices _ refl
 
 -- ---- kinds and their lines
 
@@ -117,8 +126,7 @@ pub of_two_groups : (group : Group) {rows columns : List PricedKind} (prices : P
     → row_kinds prices ≡ rows → column_kinds prices ≡ columns → IsGroup (row_name group) (price_count group) rows
     → IsGroup (column_name group) (price_count group) columns → ArePrices prices
 of_two_groups group prices by many r c x y =
-    are_prices prices (price_count group) by many (subst (AreKinds 0) (sym r) x.in_order, ap counted r ∙ x.count)
-    (subst (AreKinds 0) (sym c) y.in_order, ap counted c ∙ y.count)
+    (are_prices prices by).1 (rw (r, c, ← many) (x.in_order, x.count, y.in_order, y.count))
 
 pub size_of : (prices : PriceParts) → price_count (group_of prices) ≡ how_many prices
 size_of prices = grind arith

@@ -1,8 +1,7 @@
 -- The words of kinds' lines, and the looks that they tell.
-use Rattle.kd_card.proofs.Prelude.{ltb, codes, ◌≡◌, ◌≢◌, ℕ, ◌+◌, ◌<◌, true, List, [], ◌∷◌, ◌++◌, length, get_or, drop, subst, ℤ, Option, Some, None, refl, sym, ap, ◌∙◌, append_assoc, length-append, arith, map, decimal, Bor, All, find, list_all, bytes_eq, decimal_injective, signed_decimal_injective, All-append, All-weaker, All-from_recursion, Place, One, place_text, place_rank, places, standing_text, IsWord, IsWithout, NumbersAreWords, TextsTellFirstParts, words_of, IsFirstPart, Look, Cable, Pair, Bar, Name, PricedKind, look_name, name_text, look_text, look_rank, ends_rank, pair_rank, kind_words, AreEnds, IsPairInOrder, IsInForm, IsPricedKind, kinds_text, HasLook, HasKindWords, RanksTellLooks, signed_decimal, append-nil, HasWords, BeginsWithWord, EndsGroup, AtNothing, AtOther, IsNextKind, HasNoNext, common_steps}
+use Rattle.kd_card.proofs.Prelude.{ltb, codes, ◌≡◌, ◌≢◌, ℕ, ◌<◌, true, List, [], ◌∷◌, ◌++◌, length, get_or, drop, subst, ℤ, Option, sym, ap, ◌∙◌, append_assoc, length-append, arith, map, decimal, Bor, All, find, list_all, bytes_eq, decimal_injective, signed_decimal_injective, All-append, All-weaker, All-from_recursion, Place, One, place_text, place_rank, places, standing_text, IsWord, IsWithout, NumbersAreWords, TextsTellFirstParts, Look, Cable, Pair, Bar, Name, PricedKind, look_name, name_text, look_text, look_rank, ends_rank, pair_rank, kind_words, AreEnds, IsPairInOrder, IsInForm, IsPricedKind, kinds_text, HasKindWords, RanksTellLooks, signed_decimal, append-nil, HasWords, BeginsWithWord, EndsGroup, AtNothing, AtOther, IsNextKind, HasNoNext, common_steps}
 use Rattle.std.specs.Option.{unwrap_or}
-use Rattle.kd_card.specs.declared.look.Name.TheVariants as names
-use Rattle.kd_card.proofs.Lines.{bytes_above, same_words, some_bytes, no_first_part}
+use Rattle.kd_card.proofs.Lines.{bytes_above, same_words, some_bytes}
 use Rattle.kd_card.proofs.CardWords.{word_by_bytes, bytes_are_word, word_by_test, signed_word}
 use Rattle.kd_card.proofs.PriceTexts.{small}
 use Rattle.kd_card.specs.Reading.{EndsAt, IsBadAt}

@@ -1,5 +1,6 @@
 pub mod Prelude
 pub mod Lines
+pub mod Leading
 pub mod PriceTexts
 pub mod CardWords
 pub mod KindWords

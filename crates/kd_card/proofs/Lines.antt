@@ -1,6 +1,5 @@
 -- Lines of words, as they are written and as they are split.
-use Rattle.kd_card.proofs.Prelude.{◌≡◌, ◌≢◌, ℕ, ◌<◌, true, false, eqb, ltb, List, [], ◌∷◌, ◌++◌, length, take, drop, refl, sym, ap, ◌∙◌, append_assoc, length-append, arith, ℤ, All, list_all, flat_map, signed_decimal, take-append_seam, pointwise, ne_eqb, ltb-true, append-nil, append_cancel_left, get_or_at, take-append-drop, flat_map-append, AllPass-from_list_all, All-weaker, All-append, All-push, flat_map-map, Setting, words_of, line_of, IsWord, IsWithout, IsFirstPart, TextsTellFirstParts, LinesSplitIntoWords, WordsMakeOneLine, NumbersAreWords, setting_line, list_text, IsInRange, BeginsWith, BeginsWithLine, PriceParts, Version, version_of, price_sum, head_words, settings_words, price_words, sum_words, lines_text, price_lines, card_text, with_line, HasWords, rules, common_steps}
-use Rattle.std.specs.Cmp.Lexicographic.{same_text, other_text}
+use Rattle.kd_card.proofs.Prelude.{◌≡◌, ◌≢◌, ℕ, ◌<◌, true, false, eqb, ltb, List, [], ◌∷◌, ◌++◌, length, refl, sym, ap, ◌∙◌, append_assoc, length-append, arith, ℤ, All, list_all, flat_map, signed_decimal, ne_eqb, ltb-true, append-nil, get_or_at, take_all, flat_map-append, AllPass-from_list_all, All-weaker, All-from_recursion, All-push, flat_map-map, Setting, words_of, line_of, IsWord, IsWithout, IsFirstPart, TextsTellFirstParts, LinesSplitIntoWords, WordsMakeOneLine, NumbersAreWords, setting_line, list_text, IsInRange, BeginsWith, BeginsWithLine, PriceParts, Version, version_of, price_sum, head_words, settings_words, price_words, sum_words, lines_text, price_lines, card_text, with_line, HasWords, common_steps}
 use Rattle.std.proofs.lemmas.List.Splits.{slice_split_none, slice_split_at, join_with_byte-slice_split}
 
 -- ---- writing
@@ -15,6 +14,8 @@ line_of_prices word (price ∷ prices) = ap (λ text. word ++ 32 ∷ text) (line
 pub all_prices : (front word : List ℕ) (prices : List ℤ)
     → (front ++ (word ++ behind_spaces prices)) ++ 10 ∷ [] ≡ front ++ with_line (price_words word prices) []
 all_prices front word prices = simp (append_assoc, line_of_prices word prices)
+
+pub ruleset prices_written = (all_prices, take_all)
 
 -- ---- a card's text, line by line
 
@@ -83,34 +84,6 @@ same_first_part tells first second = tells _ _ _ _ _ first.without second.withou
 pub bytes_above : (low : ℕ) (text : List ℕ) → list_all (ltb low) text ≡ true → All (λ b. low < b) text
 bytes_above low text e = All-weaker (λ b. ltb low b ≡ true) (λ b. low < b) (λ b. ltb-true low b) text (AllPass-from_list_all (ltb low) text e)
 
-pub unbroken_by_test : (text : List ℕ) → list_all (ltb 10) text ≡ true → IsWithout 10 text
-unbroken_by_test text e = All-weaker (λ b. 10 < b) (λ b. b ≢ 10) (λ b above same. omega (arith, above, same)) text (bytes_above 10 text e)
-
--- ---- a name and a value
-
-pub same_behind : TextsTellFirstParts → {text rest : List ℕ} (name number value more : List ℕ) → IsWithout 10 name → IsFirstPart 10 text (name ++ number) rest
-    → IsWithout 10 value → text ≡ name ++ (value ++ 10 ∷ more) → number ≡ value
-same_behind tells name number value more plain first without e =
-    append_cancel_left name number value
-    (same_first_part tells first (record {
-      joined = e ∙ sym (append_assoc name value (10 ∷ more));
-      without = All-append (λ c. c ≢ 10) name value plain without;
-    })).0
-
-pub not_behind : {text : List ℕ} (name : List ℕ) → IsWithout 10 name
-    → ((value rest : List ℕ) → ¬ (IsFirstPart 10 text (name ++ value) rest)) → (value more : List ℕ) → IsWithout 10 value
-    → text ≢ name ++ (value ++ 10 ∷ more)
-not_behind name plain none value more without e =
-    none value more (record {
-      joined = e ∙ sym (append_assoc name value (10 ∷ more));
-      without = All-append (λ c. c ≢ 10) name value plain without;
-    })
-
--- a name with a space at its end, and a value
-pub name_and_value : {name : List ℕ} (word value more : List ℕ) → name ≡ word ++ 32 ∷ []
-    → with_line (word ∷ value ∷ []) more ≡ name ++ (value ++ 10 ∷ more)
-name_and_value word value more is = rw is (simp append_assoc)
-
 -- ---- the words of a line
 
 spaceless : (word : List ℕ) → IsWithout 32 word → All (λ b. eqb b 32 ≡ false) word
@@ -146,13 +119,6 @@ module _ (laws : Laws) where
       → HasWords bytes words rest
   line_has_words words rest some are e = grind arith
 
--- ---- a line that begins with a name
-
-pub not_begun : TextsTellFirstParts → {text line rest : List ℕ} (name : List ℕ) → IsFirstPart 10 text line rest
-    → pointwise eqb (take (length name) line) name ≡ false → (value more : List ℕ) → ¬ (IsFirstPart 10 text (name ++ value) more)
-not_begun tells name first differs value more other =
-    other_text _ name (sym differs) (ap (take (length name)) (same_first_part tells first other).0 ∙ take-append_seam name value)
-
-pub begun : {text line rest : List ℕ} (name value : List ℕ) → IsFirstPart 10 text line rest → pointwise eqb (take (length name) line) name ≡ true
-    → value ≡ drop (length name) line → IsFirstPart 10 text (name ++ value) rest
-begun {text} {line} {rest} name value first same is = search (rules, same_text, take-append-drop)
+  pub value_line : {bytes : List ℕ} (name value rest : List ℕ) → IsWord name → IsWord value
+      → bytes ≡ with_line (name ∷ value ∷ []) rest → HasWords bytes (name ∷ value ∷ []) rest
+  value_line name value rest named valued e = grind (arith, line_has_words, All-from_recursion)

@@ -1,10 +1,10 @@
 -- Bytes are one card, or have one fault.
-use Rattle.kd_card.proofs.Prelude.{Bool, true, false, codes, ◌≡◌, ◌≢◌, ℕ, ◌+◌, ◌*◌, ◌^◌, ◌<◌, ◌≤◌, List, [], ◌∷◌, ◌++◌, length, map, get_or, Result, Ok, Err, refl, sym, ap, subst, ◌∙◌, arith, ℤ, unsigned_abs, append_assoc, AllByRecursion, signed_decimal, decimal_injective, signed_decimal_injective, append-nil, All-from_recursion, recursion_from_All, Setting, IsWord, setting_words, setting_line, list_text, IsInRange, BeginsWith, BeginsWithNoLine, SettingsHaveWords, LinesTellSettings, PriceParts, Cables, Bars, CableKinds, BarKinds, Version, ByNumber, ByKind, Group, OfCables, OfBars, Name, PricedKind, Trailing, Then, Refused, Found, Only, Demands, look_rank, name_text, kind_words, kinds_text, AreKinds, AreCalled, version_of, row_kinds, column_kinds, price_sum, AreWithinReach, ArePrices, group_of, row_word, column_word, row_name, column_name, price_count, version_text, head_words, settings_words, price_words, sum_words, lines_text, price_lines, card_text, IsGroup, IsCard, with_line, HasWords, SaysValue, SaysFirst, BeginsWithHead, BeginsWithSettings, SaysSettings, SaysPriceLine, SaysNumbered, BeginsWithWord, EndsGroup, AtOther, IsNextKind, HasNoNext, floor_behind, SaysGroup, SaysKinded, SaysAllPrices, SaysBehind, SaysCard, TextsTellCards, NoCardBeginsAnother, CardsHaveNoFault, OneCardFault, common_steps}
+use Rattle.kd_card.proofs.Prelude.{Bool, true, false, codes, ◌≡◌, ◌≢◌, ℕ, ◌+◌, ◌*◌, ◌^◌, ◌<◌, ◌≤◌, List, [], ◌∷◌, ◌++◌, length, map, get_or, Result, Ok, Err, refl, sym, ap, subst, ◌∙◌, arith, ℤ, unsigned_abs, append_assoc, AllByRecursion, signed_decimal, decimal_injective, signed_decimal_injective, append-nil, recursion_from_All, Setting, IsWord, setting_words, setting_line, list_text, IsInRange, BeginsWith, BeginsWithNoLine, SettingsHaveWords, LinesTellSettings, PriceParts, Cables, Bars, CableKinds, BarKinds, Version, ByNumber, ByKind, Group, OfCables, OfBars, Name, PricedKind, Trailing, Then, Refused, Found, Only, Demands, look_rank, name_text, kind_words, kinds_text, AreKinds, AreCalled, version_of, row_kinds, column_kinds, price_sum, AreWithinReach, ArePrices, group_of, row_word, column_word, row_name, column_name, price_count, version_text, head_words, settings_words, price_words, sum_words, lines_text, price_lines, card_text, IsGroup, IsCard, with_line, SaysValue, SaysFirst, BeginsWithHead, BeginsWithSettings, SaysSettings, SaysPriceLine, SaysNumbered, BeginsWithWord, EndsGroup, AtOther, IsNextKind, HasNoNext, floor_behind, SaysGroup, SaysKinded, SaysAllPrices, SaysBehind, SaysCard, TextsTellCards, NoCardBeginsAnother, CardsHaveNoFault, OneCardFault, common_steps}
 use Rattle.kd_card.specs.declared.fault.CardFault.{CardFault}
 use Rattle.kd_card.specs.CardFault.{numbered}
 use Rattle.kd_card.specs.Laws.{CardsAreSaid}
 use Rattle.kd_card.specs.Steps.{IsOnly, only_then, only_only, only_finds, only_demands, only_takes, passed, same_ok}
-use Rattle.kd_card.proofs.Lines.{Laws, line_has_words, same_words, text_of_more, two_lines, card_and_more}
+use Rattle.kd_card.proofs.Lines.{Laws, line_has_words, value_line, same_words, text_of_more, two_lines, card_and_more}
 use Rattle.kd_card.proofs.PriceTexts.{small}
 use Rattle.kd_card.proofs.CardWords.{word_by_test, numeral_word, signed_word, head_is_words, row_is_word, column_is_word, prices_are_words, number_text, signed_text, price_sum_is_small, value_says, value_said, first_says, line_said, group_said}
 use Rattle.kd_card.proofs.KindWords.{kind_is_words, kind_begins, end_has_no_next, same_kind}
@@ -270,17 +270,13 @@ module _ (laws : Laws) where
   one_head bytes (version, day, rest) (by, other, more) a b =
       grind (arith, common_steps, line_has_words, head_is_words, same_words, same_version, decimal_injective)
 
-  value_line : {bytes : List ℕ} (name value rest : List ℕ) → IsWord name → IsWord value
-      → bytes ≡ with_line (name ∷ value ∷ []) rest → HasWords bytes (name ∷ value ∷ []) rest
-  value_line name value rest named valued e = grind (arith, line_has_words, All-from_recursion)
-
   only_value : (signed : Bool) (name due : List ℕ) (line : ℕ) (bytes : List ℕ) → IsWord name
       → IsOnly (SaysValue signed name due line bytes)
   only_value signed name due line bytes named =
       only_then
       (only_finds _ (λ x y a b.
       let same =
-      same_words laws.first_parts (value_line name x.0 x.1 named (numeral_word signed x.0 a.0) a.1) (value_line name y.0 y.1 named (numeral_word signed y.0 b.0) b.1) in
+      same_words laws.first_parts (value_line laws name x.0 x.1 named (numeral_word signed x.0 a.0) a.1) (value_line laws name y.0 y.1 named (numeral_word signed y.0 b.0) b.1) in
       same_pair x y (ap (λ w. get_or w 1 []) same.0) same.1))
       (λ found says. only_then (only_demands _ _) (λ due is. only_only _))
 
@@ -288,7 +284,7 @@ module _ (laws : Laws) where
   sum_ends : (sum : ℤ) (rest : List ℕ) → unsigned_abs sum < 2 ^ 64 → (name : Name)
       → EndsGroup name (with_line (sum_words sum) rest)
   sum_ends sum rest near name =
-      let has = value_line (codes "SUM") (signed_decimal sum) rest (word_by_test _ _ refl) (signed_word laws.numbers sum near) refl in
+      let has = value_line laws (codes "SUM") (signed_decimal sum) rest (word_by_test _ _ refl) (signed_word laws.numbers sum near) refl in
       AtOther (codes "SUM") (record { behind = signed_decimal sum ∷ []; rest = rest; has = has }) (grind arith)
 
   -- ---- the card

@@ -1,9 +1,8 @@
 -- Prices by their texts.
-use Rattle.kd_card.proofs.Prelude.{◌≡◌, ◌≢◌, ℕ, suc, ◌^◌, ◌<◌, ◌≤◌, Bool, true, false, List, [], ◌∷◌, length, map, get_or, Option, Some, None, MatchOption, Result, Ok, Err, MatchResult, Decides, Bor, ◌↔◌, IsTrue, is_some, refl, sym, ap, subst, ◌∙◌, arith, ℤ, pos, negsuc, unsigned_abs, FitsSigned, w16, to_z, of_z, then_some, IsUtf8, ParsesSigned, signed_decimal, All, AllByRecursion, false≢true, fits_signed_from_abs, to_z-of_z, get_or-map, length-map, All-cons, recursion_from_All, All-from_recursion, All-map, All-weaker, words_of, IsWithout, IsFirstPart, IsPriceText, SaysPrices, BadLine, PriceMissing, Refused, Found, parse-signed_decimal, IsAscii-signed, length-decimal-le, AreWithinReach}
+use Rattle.kd_card.proofs.Prelude.{◌≡◌, ◌≢◌, ℕ, suc, ◌^◌, ◌<◌, ◌≤◌, Bool, true, false, List, [], ◌∷◌, length, map, get_or, Option, Some, None, MatchOption, Result, Ok, Err, MatchResult, Decides, Bor, ◌↔◌, IsTrue, is_some, refl, sym, ap, subst, ◌∙◌, arith, ℤ, pos, negsuc, unsigned_abs, FitsSigned, w16, to_z, of_z, then_some, IsUtf8, ParsesSigned, signed_decimal, All, AllByRecursion, false≢true, fits_signed_from_abs, to_z-of_z, get_or-map, length-map, recursion_from_All, All-from_recursion, All-map, All-weaker, IsPriceText, SaysPrices, BadLine, PriceMissing, Refused, Found, parse-signed_decimal, IsAscii-signed, length-decimal-le, AreWithinReach}
 use Rattle.std.specs.Result.{result_ok}
 use Rattle.std.specs.Int.Signed.{mag}
 use Rattle.std.proofs.lemmas.Str.{IsUtf8-from_ascii}
-use Rattle.kd_card.proofs.Lines.{words_of_first, words_of_last}
 
 pub fits : (p : ℤ) → unsigned_abs p ≤ 9999 → FitsSigned w16 p
 fits p within = fits_signed_from_abs w16 p (omega (arith, within))
@@ -56,18 +55,6 @@ IsPriceOf word r =
 
 pub tells_price : (word : List ℕ) (r : Option ℤ) → IsPriceOf word r → IsTrue (is_some r) ↔ IsPriceText word
 tells_price word r e = grind arith
-
--- all are prices where the first word is one, and all others are
-pub all_of_more : {rest word after : List ℕ} → IsFirstPart 32 rest word after
-    → All IsPriceText (words_of rest) ↔ (IsPriceText word × All IsPriceText (words_of after))
-all_of_more {word} {after} first =
-    rw (words_of_first first) (
-      λ all. let parts = recursion_from_All IsPriceText (word ∷ words_of after) all in (parts.0, All-from_recursion IsPriceText (words_of after) parts.1),
-      λ both. All-cons IsPriceText word (words_of after) both.0 both.1,
-    )
-
-pub all_of_last : (rest : List ℕ) → IsWithout 32 rest → All IsPriceText (words_of rest) ↔ IsPriceText rest
-all_of_last rest without = grind (arith, words_of_last, recursion_from_All, All-from_recursion)
 
 pub not_at : (words : List (Bor (List ℕ))) (i : ℕ) (d : Bor (List ℕ)) → i < length words → ¬ (IsPriceText (get_or words i d).now)
     → ¬ (All IsPriceText (map (λ (word : Bor (List ℕ)). word.now) words))

@@ -1,14 +1,8 @@
 -- What the steps of reading a card find. The contracts of the crate's public calls don't speak of it.
-use Rattle.std.specs.Prelude.{codes, ◌≡◌, ℕ, List, [], ◌∷◌, ◌++◌, Option, Some, None}
-use Rattle.kd_state.specs.Words.{words_of, line_of}
-use Rattle.kd_card.specs.declared.prices.Version.{Version}
+use Rattle.std.specs.Prelude.{ℕ, List, [], Option, Some, None}
+use Rattle.kd_state.specs.Words.{words_of}
 use Rattle.kd_card.specs.declared.look.Name.{Name}
-use Rattle.kd_card.specs.CardText.{version_text}
 use Rattle.kd_card.specs.CardFault.{EndsGroup, HasNoNext}
-
--- this stands before the day in such a head
-abbrev pub IsHeadFront : Version → List ℕ → Type 0
-IsHeadFront version front = (day : List ℕ) → line_of (codes "CARD" ∷ version_text version ∷ codes "DAY" ∷ day ∷ []) ≡ front ++ day
 
 -- the words behind the first one of a line: of the text behind its space, if there is one
 abbrev pub words_behind : Option (List ℕ) → List (List ℕ)

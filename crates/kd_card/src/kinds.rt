@@ -97,9 +97,10 @@ pub(crate) trait AsKind: Copy + Default {
     fn kind(&self) -> PricedKind
         ensures { result ≡ kind self.now };
 
-    /// The kind of such things that this one is; none where it is one of other things.
-    fn of_kind(any: PricedKind) -> Option<Self>
-        ensures { MatchOption result (look_name any.look ≢ name) (λ own. kind own ≡ any) };
+    /// The kind, which is of such things, as one of their own.
+    fn own(any: PricedKind) -> Self
+        requires { look_name any.look ≡ name }
+        ensures { kind result ≡ any };
 }
 
 impl AsKind for CableKind {
@@ -111,18 +112,14 @@ impl AsKind for CableKind {
     ghost kind = { cable_kind };
 
     fn kind(&self) -> PricedKind {
-        PricedKind {
-            look: Look::Cable(self.ends),
-            count: self.count,
-            price: self.price,
-        }
+        PricedKind::of(Look::Cable(self.ends), self.count, self.price)
     }
 
-    fn of_kind(any: PricedKind) -> Option<Self> {
+    fn own(any: PricedKind) -> Self {
         let PricedKind { look, count, price } = any;
         match look {
-            Look::Cable(ends) => Some(CableKind { ends, count, price }),
-            _ => None,
+            Look::Cable(ends) => CableKind { ends, count, price },
+            _ => unreachable!(),
         }
     }
 }
@@ -136,18 +133,14 @@ impl AsKind for PairKind {
     ghost kind = { pair_kind };
 
     fn kind(&self) -> PricedKind {
-        PricedKind {
-            look: Look::Pair(self.pair),
-            count: self.count,
-            price: self.price,
-        }
+        PricedKind::of(Look::Pair(self.pair), self.count, self.price)
     }
 
-    fn of_kind(any: PricedKind) -> Option<Self> {
+    fn own(any: PricedKind) -> Self {
         let PricedKind { look, count, price } = any;
         match look {
-            Look::Pair(pair) => Some(PairKind { pair, count, price }),
-            _ => None,
+            Look::Pair(pair) => PairKind { pair, count, price },
+            _ => unreachable!(),
         }
     }
 }
@@ -161,22 +154,18 @@ impl AsKind for BarKind {
     ghost kind = { bar_kind };
 
     fn kind(&self) -> PricedKind {
-        PricedKind {
-            look: Look::Bar(self.standing),
-            count: self.count,
-            price: self.price,
-        }
+        PricedKind::of(Look::Bar(self.standing), self.count, self.price)
     }
 
-    fn of_kind(any: PricedKind) -> Option<Self> {
+    fn own(any: PricedKind) -> Self {
         let PricedKind { look, count, price } = any;
         match look {
-            Look::Bar(standing) => Some(BarKind {
+            Look::Bar(standing) => BarKind {
                 standing,
                 count,
                 price,
-            }),
-            _ => None,
+            },
+            _ => unreachable!(),
         }
     }
 }
@@ -190,22 +179,18 @@ impl AsKind for RowKind {
     ghost kind = { row_kind };
 
     fn kind(&self) -> PricedKind {
-        PricedKind {
-            look: Look::Row(self.reading),
-            count: self.count,
-            price: self.price,
-        }
+        PricedKind::of(Look::Row(self.reading), self.count, self.price)
     }
 
-    fn of_kind(any: PricedKind) -> Option<Self> {
+    fn own(any: PricedKind) -> Self {
         let PricedKind { look, count, price } = any;
         match look {
-            Look::Row(reading) => Some(RowKind {
+            Look::Row(reading) => RowKind {
                 reading,
                 count,
                 price,
-            }),
-            _ => None,
+            },
+            _ => unreachable!(),
         }
     }
 }
@@ -231,20 +216,19 @@ pub(crate) fn own_kinds<K: AsKind, const N: usize>(kinds: &[PricedKind]) -> Arra
 {
     let mut own = ArrayVec::new();
     for kind in kinds {
-        own.push(own_kind(*kind));
+        own.push(K::own(*kind));
     }
     own
 }
 
-/// The kind as one of such things.
-fn own_kind<K: AsKind>(kind: PricedKind) -> K
-    requires { look_name kind.look ≡ K.name }
-    ensures { K.kind result ≡ kind }
-{
-    K::of_kind(kind).unwrap()
-}
-
 impl PricedKind {
+    /// So many things of that look, each of that price.
+    fn of(look: Look, count: u8, price: i16) -> Self
+        ensures { result ≡ record { look = look; count = count; price = price } }
+    {
+        PricedKind { look, count, price }
+    }
+
     /// Whether the kind may stand on a card, behind kinds that all have lower ranks than this one.
     fn may_follow(&self, floor: usize) -> bool
         ensures { IsTrue result ↔ (IsPricedKind self.now × (floor ≤ look_rank self.now.look)) }
@@ -257,12 +241,14 @@ impl PricedKind {
 }
 
 /// Whether the kinds are in their order from that rank on, each once, and count so many things together.
-pub(crate) fn are_kinds(kinds: &[PricedKind], floor: usize, number: usize) -> bool
-    ensures { IsTrue result ↔ (AreKinds floor kinds.now × (counted kinds.now ≡ number)) }
+pub(crate) fn are_kinds<K: AsKind>(kinds: &[K], floor: usize, number: usize) -> bool
+    ensures { let all = map K.kind kinds.now in
+        IsTrue result ↔ (AreKinds floor all × (counted all ≡ number)) }
 {
     match kinds {
         [] => number == 0,
-        [kind, rest @ ..] => {
+        [first, rest @ ..] => {
+            let kind = first.kind();
             let count = usize::from(kind.count);
             kind.may_follow(floor)
                 && count <= number

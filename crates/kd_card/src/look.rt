@@ -74,9 +74,17 @@ impl Look {
         ensures { IsTrue result ↔ IsInForm self }
     {
         match self {
-            Look::Cable(ends) => are_ends(ends),
-            Look::Pair(pair) => is_in_order(pair),
-            Look::Bar(standing) => is_a_standing(standing),
+            Look::Cable(ends) => match ends {
+                (None, None) => true,
+                (Some(letter), None) => letter.index() < 26,
+                (None, Some(_)) => false,
+                (Some(one), Some(other)) => is_before(one, other),
+            },
+            Look::Pair(pair) => match pair {
+                None => true,
+                Some((one, other)) => is_before(one, other),
+            },
+            Look::Bar(standing) => place_rank(standing.left()) < place_rank(standing.right()),
             Look::Row(reading) => is_a_reading(reading),
         }
     }
@@ -88,10 +96,20 @@ impl Look {
         ensures few { IsInForm self → result < 703 }
     {
         match self {
-            Look::Cable(ends) => ends_rank(ends),
-            Look::Pair(pair) => pair_rank(pair),
-            Look::Bar(standing) => bar_rank(standing),
-            Look::Row(reading) => row_rank(reading),
+            Look::Cable(ends) => match ends {
+                (None, _) => 702,
+                (Some(letter), None) => letter.index() * 27,
+                (Some(one), Some(other)) => one.index() * 27 + other.index() + 1,
+            },
+            Look::Pair(pair) => match pair {
+                None => 676,
+                Some((one, other)) => one.index() * 26 + other.index(),
+            },
+            Look::Bar(standing) => place_rank(standing.left()) * 8 + place_rank(standing.right()),
+            Look::Row(reading) => {
+                let (smaller, larger) = reading.numbers();
+                usize::from(smaller) * 7 + usize::from(larger)
+            }
         }
     }
 
@@ -100,10 +118,13 @@ impl Look {
         ensures { result.bytes ≡ look_text self }
     {
         match self {
-            Look::Cable(ends) => text_of_ends(ends),
-            Look::Pair(pair) => text_of_pair(pair),
-            Look::Bar(standing) => text_of_standing(standing),
-            Look::Row(reading) => text_of_reading(reading),
+            Look::Cable(ends) => text_of_letters(ends.0, ends.1),
+            Look::Pair(pair) => match pair {
+                None => text_of_letters(None, None),
+                Some((one, other)) => text_of_letters(Some(one), Some(other)),
+            },
+            Look::Bar(standing) => standing.text(),
+            Look::Row(reading) => reading.text(),
         }
     }
 
@@ -122,42 +143,11 @@ impl Look {
     }
 }
 
-/// Whether a cable's letters are in order.
-fn are_ends(ends: Ends) -> bool
-    ensures { IsTrue result ↔ AreEnds ends.0 ends.1 }
-{
-    match ends {
-        (None, None) => true,
-        (Some(letter), None) => letter.index() < 26,
-        (None, Some(_)) => false,
-        (Some(one), Some(other)) => is_before(one, other),
-    }
-}
-
 /// Whether the first letter comes before the second in the alphabet.
 fn is_before(one: Letter, other: Letter) -> bool
     ensures { IsTrue result ↔ ((one < other) × (other < 26)) }
 {
     one.index() < other.index()
-}
-
-/// Whether a pair's letters are in order.
-fn is_in_order(pair: Option<(Letter, Letter)>) -> bool
-    ensures { IsTrue result ↔ IsPairInOrder pair }
-{
-    match pair {
-        None => true,
-        Some((one, other)) => is_before(one, other),
-    }
-}
-
-/// Each standing has its left lug before its right one.
-fn is_a_standing(standing: Standing) -> bool
-    ensures answer { IsTrue result }
-    ensures standing { places.IsBefore standing.0 standing.1 }
-{
-    let _after = standing.right();
-    true
 }
 
 /// Each reading has two numbers that differ, or are both 0.
@@ -167,37 +157,6 @@ fn is_a_reading(reading: Reading) -> bool
 {
     let _numbers = reading.numbers();
     true
-}
-
-/// The rank of a cable's letters.
-fn ends_rank(ends: Ends) -> usize
-    ensures value { result ≡ look_rank (Look.Cable ends) }
-    ensures few { result < 703 }
-{
-    match ends {
-        (None, _) => 702,
-        (Some(letter), None) => letter.index() * 27,
-        (Some(one), Some(other)) => one.index() * 27 + other.index() + 1,
-    }
-}
-
-/// The rank of a pair, or of nothing.
-fn pair_rank(pair: Option<(Letter, Letter)>) -> usize
-    ensures value { result ≡ look_rank (Look.Pair pair) }
-    ensures few { result < 703 }
-{
-    match pair {
-        None => 676,
-        Some((one, other)) => one.index() * 26 + other.index(),
-    }
-}
-
-/// The rank of a standing.
-fn bar_rank(standing: Standing) -> usize
-    ensures value { result ≡ standing_rank standing }
-    ensures few { result < 703 }
-{
-    place_rank(standing.left()) * 8 + place_rank(standing.right())
 }
 
 /// How many places of a bar lie to the left of this one.
@@ -217,15 +176,6 @@ fn place_rank(place: Place) -> usize
     }
 }
 
-/// The rank of a reading.
-fn row_rank(reading: Reading) -> usize
-    ensures value { result ≡ reading_rank reading }
-    ensures few { result < 703 }
-{
-    let (smaller, larger) = reading.numbers();
-    usize::from(smaller) * 7 + usize::from(larger)
-}
-
 /// The letters that are there, or `-` for none.
 fn text_of_letters(one: Option<Letter>, other: Option<Letter>) -> ArrayString<8>
     ensures { result.bytes ≡ letters_text (cable_letters (one, other)) }
@@ -241,38 +191,6 @@ fn text_of_letters(one: Option<Letter>, other: Option<Letter>) -> ArrayString<8>
         }
     }
     text
-}
-
-/// The letters in a cable, or `-` for none.
-fn text_of_ends(ends: Ends) -> ArrayString<8>
-    ensures { result.bytes ≡ look_text (Look.Cable ends) }
-{
-    let (one, other) = ends;
-    text_of_letters(one, other)
-}
-
-/// The letters of a pair, or `-` for nothing.
-fn text_of_pair(pair: Option<(Letter, Letter)>) -> ArrayString<8>
-    ensures { result.bytes ≡ look_text (Look.Pair pair) }
-{
-    match pair {
-        None => text_of_letters(None, None),
-        Some((one, other)) => text_of_letters(Some(one), Some(other)),
-    }
-}
-
-/// The text of a standing.
-fn text_of_standing(standing: Standing) -> ArrayString<8>
-    ensures { result.bytes ≡ look_text (Look.Bar standing) }
-{
-    standing.text()
-}
-
-/// The text of a reading.
-fn text_of_reading(reading: Reading) -> ArrayString<8>
-    ensures { result.bytes ≡ look_text (Look.Row reading) }
-{
-    reading.text()
 }
 
 /// The cable's letters of that text.

@@ -1,12 +1,12 @@
 //! Prices and numbers as they are written, and the first words of their lines.
-ghost use Rattle.std.specs.Prelude.{◌≡◌, ◌≢◌, ◌↔◌, ◌<◌, ◌≤◌, ◌∷◌, ℤ, map, length, unsigned_abs, All};
+ghost use Rattle.std.specs.Prelude.{◌≡◌, ◌≢◌, ◌↔◌, ◌<◌, ◌≤◌, ◌∷◌, ℕ, List, ℤ, map, length, unsigned_abs, All};
 ghost use Rattle.std.specs.Prelude.{IsTrue, MatchOption, MatchResult, Ok, Err};
 ghost use Rattle.std.specs.Option.{option_copied};
 ghost use Rattle.std.specs.Fmt.{signed_decimal};
 ghost use Rattle.kd_state.specs.Words.{words_of};
 ghost use Rattle.kd_card.specs.Prices.{AreWithinReach};
 ghost use Rattle.kd_card.specs.CardFault.{IsNumberText, IsNumeral, IsPriceText, SaysPrices};
-ghost use Rattle.kd_card.specs.CardFault.{SaysLine, SaysFirst, first_text};
+ghost use Rattle.kd_card.specs.CardFault.{HasWords, SaysLine, SaysFirst, first_text};
 ghost use Rattle.kd_card.specs.Reading.{words_behind};
 
 use super::fault::CardFault;
@@ -54,8 +54,20 @@ pub(crate) fn price_of_text(text: &[u8]) -> Option<i16>
     (buffer.format(price).as_bytes() == text).then_some(price)
 }
 
-/// The first word of the first line of the text, which is that of this number; what stands behind the space after it;
-/// and what follows the line.
+/// The first word of the first line of the text, what stands behind the space after it, and what follows the line.
+pub(crate) fn first_word(text: &[u8]) -> Option<(&[u8], Option<&[u8]>, &[u8])>
+    ensures { MatchOption result
+        ((words : List (List ℕ)) (rest : List ℕ) → ¬ (HasWords text.now words rest))
+        (λ found. HasWords text.now (found.0.now ∷ words_behind (option_copied found.1)) found.2.now) }
+{
+    let (line, rest) = split_once(text, b'\n')?;
+    match split_once(line, b' ') {
+        Some((first, behind)) => Some((first, Some(behind), rest)),
+        None => Some((line, None, rest)),
+    }
+}
+
+/// The same of a line of prices, which is that of this number.
 pub(crate) fn split_first(
     text: &[u8],
     line: usize,
@@ -68,12 +80,9 @@ pub(crate) fn split_first(
     if text.is_empty() {
         return Err(CardFault::PriceMissing);
     }
-    let Some((words, rest)) = split_once(text, b'\n') else {
-        return Err(CardFault::BadLine(line));
-    };
-    match split_once(words, b' ') {
-        Some((first, behind)) => Ok((first, Some(behind), rest)),
-        None => Ok((words, None, rest)),
+    match first_word(text) {
+        Some(found) => Ok(found),
+        None => Err(CardFault::BadLine(line)),
     }
 }
 
@@ -90,12 +99,24 @@ pub(crate) fn first_group(
         (λ fault. says (Err fault)) }
 {
     let (first, behind, rest) = split_first(text, line)?;
-    if first == Group::OfCables.first_text(version).as_bytes() {
-        Ok((Group::OfCables, behind, rest))
-    } else if first == Group::OfBars.first_text(version).as_bytes() {
-        Ok((Group::OfBars, behind, rest))
-    } else {
-        Err(CardFault::PriceMissing)
+    match group_of_word(first, version) {
+        Some(group) => Ok((group, behind, rest)),
+        None => Err(CardFault::PriceMissing),
+    }
+}
+
+/// Whether prices that begin with that word are of cables or of bars.
+fn group_of_word(word: &[u8], version: Version) -> Option<Group>
+    ensures { MatchOption result
+        ((group : _) → word.now ≢ first_text version group)
+        (λ group. word.now ≡ first_text version group) }
+{
+    match (version, word) {
+        (Version::ByNumber, b"CABLES") => Some(Group::OfCables),
+        (Version::ByNumber, b"BARS") => Some(Group::OfBars),
+        (Version::ByKind, b"CABLE") => Some(Group::OfCables),
+        (Version::ByKind, b"BAR") => Some(Group::OfBars),
+        _ => None,
     }
 }
 
@@ -143,14 +164,8 @@ fn prices_of_text(text: &[u8], number: usize, line: usize) -> Result<ArrayVec<i1
 fn are_prices(text: &[u8]) -> bool
     ensures { IsTrue result ↔ All IsPriceText (words_of text.now) }
 {
-    let mut rest = text;
-    while let Some((word, after)) = split_once(rest, b' ') {
-        if price_of_text(word).is_none() {
-            return false;
-        }
-        rest = after;
-    }
-    price_of_text(rest).is_some()
+    text.split(|byte| *byte == b' ')
+        .all(|word| price_of_text(word).is_some())
 }
 
 /// The prices that are these words; none where one of them is no price.

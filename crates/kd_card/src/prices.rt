@@ -1,7 +1,8 @@
-ghost use Rattle.std.specs.Prelude.{◌≡◌, ◌↔◌, ◌+◌, ◌*◌, ◌<◌, ◌≤◌, length, fold, unsigned_abs, ◌+ℤ◌};
+ghost use Rattle.std.specs.Prelude.{◌≡◌, ◌↔◌, ◌+◌, ◌*◌, ◌<◌, ◌≤◌, length, map, fold, unsigned_abs, ◌+ℤ◌};
 ghost use Rattle.std.specs.Prelude.{IsTrue, MatchOption};
 ghost use Rattle.kd_card.specs.Prices.{price_sum, how_many, version_of, row_kinds, column_kinds};
 ghost use Rattle.kd_card.specs.Prices.{row_prices, column_prices};
+ghost use Rattle.kd_card.specs.Kinds.{counted, AreKinds};
 ghost use Rattle.kd_card.specs.CardFault.{numbered};
 ghost use Rattle.kd_card.specs.Prices.{AreWithinReach, ArePrices};
 ghost use Rattle.kd_card.specs.CardText.{row_name, column_name, price_count, price_lines, group_of, IsGroup};
@@ -84,44 +85,26 @@ impl Prices {
     /// The prices of the kinds of cables, and of the kinds of pairs and nothings; none where a kind isn't in the form
     /// in which it is written, or has the count 0, or the kinds of a group aren't in order, each once, or aren't of 13
     /// things together, or a price is below -9999 or above 9999.
-    #[tactic(auto, using(crate::proofs::KindPrices::too_long))]
+    #[tactic(auto, using(crate::proofs::KindPrices::cables_are_prices))]
     pub fn cable_kinds(cables: &[CableKind], pairs: &[PairKind]) -> Option<Self>
         ensures { let parts =
             PriceParts.CableKinds (record { items = cables.now }) (record { items = pairs.now }) in
             MatchOption result (¬ (ArePrices parts)) (λ prices. prices ≡ parts) }
     {
-        let cables = copied(cables)?;
-        let pairs = copied(pairs)?;
-        Prices::of_kinds(PriceParts::CableKinds(cables, pairs), 13)
+        let parts = PriceParts::CableKinds(in_order(cables)?, in_order(pairs)?);
+        Some(Prices::of_parts(parts))
     }
 
     /// The prices of the kinds of bars, and of the kinds of the sheet's rows; none where a kind isn't in the form in
     /// which it is written, or has the count 0, or the kinds of a group aren't in order, each once, or aren't of 27
     /// things together, or a price is below -9999 or above 9999.
-    #[tactic(auto, using(crate::proofs::KindPrices::too_long))]
+    #[tactic(auto, using(crate::proofs::KindPrices::bars_are_prices))]
     pub fn bar_kinds(bars: &[BarKind], rows: &[RowKind]) -> Option<Self>
         ensures { let parts =
             PriceParts.BarKinds (record { items = bars.now }) (record { items = rows.now }) in
             MatchOption result (¬ (ArePrices parts)) (λ prices. prices ≡ parts) }
     {
-        let bars = copied(bars)?;
-        let rows = copied(rows)?;
-        Prices::of_kinds(PriceParts::BarKinds(bars, rows), 27)
-    }
-
-    /// The prices of these kinds, if the kinds of both groups are in order, each once, and of so many things.
-    #[tactic(auto, using(crate::proofs::KindPrices::are_prices, crate::proofs::KindPrices::row_count, crate::proofs::KindPrices::column_count))]
-    fn of_kinds(parts: PriceParts, number: usize) -> Option<Self>
-        requires kinds { version_of parts ≡ Version.ByKind }
-        requires number { number ≡ how_many parts }
-        ensures { MatchOption result (¬ (ArePrices parts)) (λ prices. prices ≡ parts) }
-    {
-        if !are_kinds(parts.row_kinds().as_slice(), 0, number) {
-            return None;
-        }
-        if !are_kinds(parts.column_kinds().as_slice(), 0, number) {
-            return None;
-        }
+        let parts = PriceParts::BarKinds(in_order(bars)?, in_order(rows)?);
         Some(Prices::of_parts(parts))
     }
 
@@ -205,21 +188,38 @@ impl Prices {
         ensures value { result ≡ self.now }
         ensures are_prices { ArePrices result }
     {
-        self.parts.copied()
+        match &self.parts {
+            PriceParts::Cables(cables, pairs) => PriceParts::Cables(*cables, *pairs),
+            PriceParts::Bars(bars, rows) => PriceParts::Bars(*bars, *rows),
+            PriceParts::CableKinds(cables, pairs) => {
+                PriceParts::CableKinds(copied(cables.as_slice()), copied(pairs.as_slice()))
+            }
+            PriceParts::BarKinds(bars, rows) => {
+                PriceParts::BarKinds(copied(bars.as_slice()), copied(rows.as_slice()))
+            }
+        }
     }
 
     /// The kinds of the cables, or of the bars; none for prices by number.
     pub fn row_kinds(&self) -> ArrayVec<PricedKind, 27>
         ensures { result.items ≡ row_kinds self.now }
     {
-        self.parts.row_kinds()
+        match &self.parts {
+            PriceParts::Cables(..) | PriceParts::Bars(..) => ArrayVec::new(),
+            PriceParts::CableKinds(cables, _) => kinds_of(cables.as_slice()),
+            PriceParts::BarKinds(bars, _) => kinds_of(bars.as_slice()),
+        }
     }
 
     /// The kinds of the pairs and nothings, or of the sheet's rows; none for prices by number.
     pub fn column_kinds(&self) -> ArrayVec<PricedKind, 27>
         ensures { result.items ≡ column_kinds self.now }
     {
-        self.parts.column_kinds()
+        match &self.parts {
+            PriceParts::Cables(..) | PriceParts::Bars(..) => ArrayVec::new(),
+            PriceParts::CableKinds(_, pairs) => kinds_of(pairs.as_slice()),
+            PriceParts::BarKinds(_, rows) => kinds_of(rows.as_slice()),
+        }
     }
 
     /// The prices of the cables, or of the bars, one for each; those of a kind stand together.
@@ -229,8 +229,8 @@ impl Prices {
         ensures are_prices { ArePrices self.now }
     {
         match &self.parts {
-            PriceParts::Cables(cables, _) => copied(cables).unwrap(),
-            PriceParts::Bars(bars, _) => copied(bars).unwrap(),
+            PriceParts::Cables(cables, _) => copied(cables),
+            PriceParts::Bars(bars, _) => copied(bars),
             _ => prices_of_kinds(self.row_kinds().as_slice()),
         }
     }
@@ -242,8 +242,8 @@ impl Prices {
         ensures are_prices { ArePrices self.now }
     {
         match &self.parts {
-            PriceParts::Cables(_, pairs) => copied(pairs).unwrap(),
-            PriceParts::Bars(_, rows) => copied(rows).unwrap(),
+            PriceParts::Cables(_, pairs) => copied(pairs),
+            PriceParts::Bars(_, rows) => copied(rows),
             _ => prices_of_kinds(self.column_kinds().as_slice()),
         }
     }
@@ -255,45 +255,6 @@ impl Prices {
     {
         let rows = sum_onto(0, self.row_prices().as_slice());
         sum_onto(rows, self.column_prices().as_slice())
-    }
-}
-
-impl PriceParts {
-    /// The same prices once more.
-    fn copied(&self) -> Self
-        requires { ArePrices self.now }
-        ensures { result ≡ self.now }
-    {
-        match self {
-            PriceParts::Cables(cables, pairs) => PriceParts::Cables(*cables, *pairs),
-            PriceParts::Bars(bars, rows) => PriceParts::Bars(*bars, *rows),
-            PriceParts::CableKinds(cables, pairs) => {
-                PriceParts::CableKinds(copy_of(cables), copy_of(pairs))
-            }
-            PriceParts::BarKinds(bars, rows) => PriceParts::BarKinds(copy_of(bars), copy_of(rows)),
-        }
-    }
-
-    /// The kinds of the cables, or of the bars.
-    fn row_kinds(&self) -> ArrayVec<PricedKind, 27>
-        ensures { result.items ≡ row_kinds self.now }
-    {
-        match self {
-            PriceParts::Cables(..) | PriceParts::Bars(..) => ArrayVec::new(),
-            PriceParts::CableKinds(cables, _) => kinds_of(cables.as_slice()),
-            PriceParts::BarKinds(bars, _) => kinds_of(bars.as_slice()),
-        }
-    }
-
-    /// The kinds of the pairs and nothings, or of the sheet's rows.
-    fn column_kinds(&self) -> ArrayVec<PricedKind, 27>
-        ensures { result.items ≡ column_kinds self.now }
-    {
-        match self {
-            PriceParts::Cables(..) | PriceParts::Bars(..) => ArrayVec::new(),
-            PriceParts::CableKinds(_, pairs) => kinds_of(pairs.as_slice()),
-            PriceParts::BarKinds(_, rows) => kinds_of(rows.as_slice()),
-        }
     }
 }
 
@@ -327,16 +288,25 @@ fn array_of<const N: usize>(prices: &[i16]) -> [i16; N]
     <[i16; N]>::try_from(prices).unwrap()
 }
 
-/// The elements, if there is room for them.
-fn copied<K: Copy + Default, const N: usize>(kinds: &[K]) -> Option<ArrayVec<K, N>>
-    ensures { MatchOption result (N < length kinds.now) (λ copy. copy.items ≡ kinds.now) }
+/// The kinds, if they are in order, each once, and of so many things as there is room for kinds.
+#[tactic(auto, using(crate::proofs::KindPrices::short))]
+fn in_order<K: AsKind, const N: usize>(kinds: &[K]) -> Option<ArrayVec<K, N>>
+    ensures { let all = map K.kind kinds.now in
+        MatchOption result
+        (¬ (AreKinds 0 all × (counted all ≡ N)))
+        (λ own. (own.items ≡ kinds.now) × AreKinds 0 all × (counted all ≡ N)) }
 {
-    ArrayVec::try_from(kinds).ok()
+    if are_kinds(kinds, 0, N) {
+        Some(copied(kinds))
+    } else {
+        None
+    }
 }
 
 /// The same elements once more.
-fn copy_of<K: Copy + Default, const N: usize>(kinds: &ArrayVec<K, N>) -> ArrayVec<K, N>
-    ensures { result.items ≡ kinds.now.items }
+fn copied<K: Copy + Default, const N: usize>(elements: &[K]) -> ArrayVec<K, N>
+    requires { length elements.now ≤ N }
+    ensures { result.items ≡ elements.now }
 {
-    copied(kinds.as_slice()).unwrap()
+    ArrayVec::try_from(elements).unwrap()
 }

@@ -1,23 +1,23 @@
 //! Cards, read off their text.
-ghost use Rattle.std.specs.Prelude.{◌≡◌, ℕ, ◌<◌, ◌≤◌, [], ◌∷◌, ◌++◌, List, MatchOption};
+ghost use Rattle.std.specs.Prelude.{codes, ◌≡◌, ◌≢◌, ℕ, ◌<◌, ◌≤◌, [], ◌∷◌, List, MatchOption};
 ghost use Rattle.std.specs.Prelude.{MatchResult, Ok, Err};
-ghost use Rattle.kd_state.specs.Words.{IsWithout, IsFirstPart};
-ghost use Rattle.kd_card.specs.CardText.{IsCard};
-ghost use Rattle.kd_card.specs.CardFault.{BeginsWithHead, SaysSettings, SaysValue, SaysNumber};
+ghost use Rattle.kd_state.specs.Words.{IsWord, words_of};
+ghost use Rattle.kd_state.specs.SheetDay.{IsDayNumber};
+ghost use Rattle.kd_card.specs.CardText.{IsCard, head_words, version_text};
+ghost use Rattle.kd_card.specs.CardFault.{HasWords, BeginsWithHead, SaysSettings, SaysValue, SaysNumber};
 ghost use Rattle.kd_card.specs.CardFault.{SaysPriceLine};
 ghost use Rattle.kd_card.specs.CardFault.{SaysNumbered, SaysKinded, SaysAllPrices, SaysSum};
 ghost use Rattle.kd_card.specs.CardFault.{IsCardFault};
-ghost use Rattle.kd_card.specs.Reading.{IsHeadFront};
 
 use super::card::Card;
 use super::fault::CardFault;
 use super::kind_text::read_kinds;
-use super::price_text::{first_group, is_numeral, prices_behind, split_first};
+use super::price_text::{first_group, first_word, is_numeral, prices_behind, split_first};
 use super::prices::{Prices, Version};
 use arrayvec::ArrayVec;
 use itoa::Buffer;
-use kd_state::laws::{numbers_and_letters_are_words, texts_tell_first_parts};
-use kd_state::{Settings, number_of_text, split_once, split_setting};
+use kd_state::laws::{lines_tell_words, numbers_and_letters_are_words, texts_tell_first_parts};
+use kd_state::{Settings, number_of_text, split_setting, split_words};
 
 /// The card whose text this is, and its day.
 pub fn read_card(text: &[u8]) -> Result<(u8, Card), CardFault>
@@ -44,15 +44,19 @@ pub fn read_card(text: &[u8]) -> Result<(u8, Card), CardFault>
     Ok((day, Card { settings, prices }))
 }
 
-/// What follows the name in the first line of the text, and what follows that line.
+/// What stands behind the name, as the first word of the first line of the text, and what follows that line.
 fn split_value<'a>(text: &'a [u8], name: &[u8]) -> Option<(&'a [u8], &'a [u8])>
     ensures { MatchOption result
-        ((value rest : List ℕ) → ¬ (IsFirstPart 10 text.now (name.now ++ value) rest))
-        (λ found. IsFirstPart 10 text.now (name.now ++ found.0.now) found.1.now) }
+        ((word : List ℕ) (words : List (List ℕ)) (rest : List ℕ) →
+        ¬ (HasWords text.now (name.now ∷ word ∷ words) rest))
+        (λ found. HasWords text.now (name.now ∷ words_of found.0.now) found.1.now) }
 {
     texts_tell_first_parts();
-    let (line, rest) = split_once(text, b'\n')?;
-    Some((line.strip_prefix(name)?, rest))
+    let (first, behind, rest) = first_word(text)?;
+    if first != name {
+        return None;
+    }
+    Some((behind?, rest))
 }
 
 /// What the prices are by, and the day, of the card whose head is the first line; and what follows that line.
@@ -61,37 +65,55 @@ fn read_head(text: &[u8]) -> Option<(Version, u8, &[u8])>
         ((version : _) (day : ℕ) (rest : List ℕ) → ¬ (BeginsWithHead text.now version day rest))
         (λ found. BeginsWithHead text.now found.0 found.1 found.2.now) }
 {
-    if let Some((day, rest)) = read_head_of(text, Version::ByNumber) {
-        return Some((Version::ByNumber, day, rest));
-    }
-    let (day, rest) = read_head_of(text, Version::ByKind)?;
-    Some((Version::ByKind, day, rest))
+    texts_tell_first_parts();
+    lines_tell_words();
+    numbers_and_letters_are_words();
+    let (behind, rest) = split_value(text, b"CARD")?;
+    let (version, day) = head_behind(behind)?;
+    Some((version, day, rest))
 }
 
-/// The day of the card of that version whose head is the first line, and what follows that line.
-fn read_head_of(text: &[u8], version: Version) -> Option<(u8, &[u8])>
+/// What the prices are by, and the day, of the card whose head has these words behind its first one.
+fn head_behind(behind: &[u8]) -> Option<(Version, u8)>
     ensures { MatchOption result
-        ((day : ℕ) (rest : List ℕ) → ¬ (BeginsWithHead text.now version day rest))
-        (λ found. BeginsWithHead text.now version found.0 found.1.now) }
+        ((version : _) (day : ℕ) → IsDayNumber day →
+        head_words version day ≢ codes "CARD" ∷ words_of behind.now)
+        (λ head. (head_words head.0 head.1 ≡ codes "CARD" ∷ words_of behind.now) × IsDayNumber head.1) }
 {
-    texts_tell_first_parts();
-    numbers_and_letters_are_words();
-    let (day, rest) = split_value(text, head_front(version))?;
+    let words = split_words::<3>(behind)?;
+    match words.as_slice() {
+        [version, name, day] => head_of_parts(version, name, day),
+        _ => None,
+    }
+}
+
+/// What the prices are by, and the day, by the three words that say it.
+fn head_of_parts(version: &[u8], name: &[u8], day: &[u8]) -> Option<(Version, u8)>
+    ensures { let words = codes "CARD" ∷ version.now ∷ name.now ∷ day.now ∷ [] in
+        MatchOption result
+        ((version : _) (day : ℕ) → IsDayNumber day → head_words version day ≢ words)
+        (λ head. (head_words head.0 head.1 ≡ words) × IsDayNumber head.1) }
+{
+    if name != b"DAY".as_slice() {
+        return None;
+    }
+    let version = version_of_text(version)?;
     let day = number_of_text(day)?;
     if day < 1 || day > 31 {
         return None;
     }
-    Some((day, rest))
+    Some((version, day))
 }
 
-/// What stands before the day in the head of a card.
-fn head_front(version: Version) -> &'static [u8]
-    ensures front { IsHeadFront version result.now }
-    ensures unbroken { IsWithout 10 result.now }
+/// What the prices are by, by the number of the card's version.
+fn version_of_text(text: &[u8]) -> Option<Version>
+    ensures { MatchOption result
+        ((version : _) → version_text version ≢ text.now) (λ version. version_text version ≡ text.now) }
 {
-    match version {
-        Version::ByNumber => b"CARD 1 DAY ",
-        Version::ByKind => b"CARD 2 DAY ",
+    match text {
+        b"1" => Some(Version::ByNumber),
+        b"2" => Some(Version::ByKind),
+        _ => None,
     }
 }
 
@@ -115,6 +137,7 @@ fn read_settings(text: &[u8]) -> Option<(Settings, &[u8])>
 }
 
 /// What follows the line with that number of settings.
+#[tactic(auto, using(crate::proofs::CardWords::word_by_test))]
 fn read_count(text: &[u8], count: usize) -> Result<&[u8], CardFault>
     requires { count ≤ 192 }
     ensures { MatchResult result
@@ -123,21 +146,21 @@ fn read_count(text: &[u8], count: usize) -> Result<&[u8], CardFault>
 {
     let mut buffer = Buffer::new();
     let due = buffer.format(count).as_bytes();
-    read_value(text, b"SETTINGS ", due, false, count + 2)
+    read_value(text, b"SETTINGS", due, false, count + 2)
 }
 
 /// What follows the line with that sum, which is that of this number.
+#[tactic(auto, using(crate::proofs::CardWords::word_by_test))]
 fn read_sum(text: &[u8], sum: i32, line: usize) -> Result<&[u8], CardFault>
     ensures { MatchResult result
         (λ rest. SaysSum sum line text.now (Ok rest.now))
         (λ fault. SaysSum sum line text.now (Err fault)) }
 {
     let mut buffer = Buffer::new();
-    read_value(text, b"SUM ", buffer.format(sum).as_bytes(), true, line)
+    read_value(text, b"SUM", buffer.format(sum).as_bytes(), true, line)
 }
 
-/// What follows the line with that name, with a space at its end, and that number, as it is written; the line is that of
-/// this number.
+/// What follows the line with that name and that number, as it is written; the line is that of this number.
 fn read_value<'a>(
     text: &'a [u8],
     name: &[u8],
@@ -145,12 +168,13 @@ fn read_value<'a>(
     signed: bool,
     line: usize,
 ) -> Result<&'a [u8], CardFault>
-    ensures { (word : List ℕ) → name.now ≡ word ++ 32 ∷ [] → IsWithout 10 name.now →
-        MatchResult result
-        (λ rest. SaysValue signed word due.now line text.now (Ok rest.now))
-        (λ fault. SaysValue signed word due.now line text.now (Err fault)) }
+    requires { IsWord name.now }
+    ensures { let says = SaysValue signed name.now due.now line text.now in
+        MatchResult result (λ rest. says (Ok rest.now)) (λ fault. says (Err fault)) }
 {
     texts_tell_first_parts();
+    lines_tell_words();
+    numbers_and_letters_are_words();
     let Some((number, rest)) = split_value(text, name) else {
         return Err(CardFault::BadLine(line));
     };

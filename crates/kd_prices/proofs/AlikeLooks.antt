@@ -1,6 +1,7 @@
 -- Things that stand or read alike have looks of one rank, and looks of one rank are of such things.
 use Rattle.std.specs.List.{IsDistinct}
-use Rattle.kd_prices.proofs.Prelude.{◌≡◌, ◌⊎◌, ℕ, zero, suc, ◌<◌, ◌≤◌, false, eqb, inl, inr, List, [], ◌∷◌, length, get_or, Contains, Option, Some, None, MatchOption, slice_get, refl, sym, ap, ◌∙◌, subst, arith, ℤ, All, AllByRecursion, eqb-false, get_or-map, length-map, All-get_or, All-weaker, All-contains_itself, recursion_from_All, slice_get-get_or, One, in_order, letters_plugged, NoLetterTwice, Parts, Rotor, Pin, cable_letters, IsMachine, Day, OfRotors, OfPins, IsLegalDay, SameLetters, columns_of, ThirteenColumns, ColumnsAreThePairs, Look, Cable, Pair, Bar, Row, look_name, look_rank, AreEnds, IsInForm, Group, PriceParts, ByNumber, version_of, row_kinds, column_kinds, row_prices, column_prices, how_many, price_at, ArePrices, AreWithinReach, group_of, price_count, row_name, column_name, row_looks, column_looks, pair_in_order, look_at, group_of_machine, Expanded, RanksTellLooks, StandAlike, ReadAlike, AreOfOneModel, CanBeByKind, AreByKind, AreAlikePriced, AreThings, AreOfGroup, ◌↔◌, map}
+use Rattle.kd_state.specs.Setting.{has_letter}
+use Rattle.kd_prices.proofs.Prelude.{size_of, TestsTellLetters, nat_tests, unwrap_or, ◌≡◌, ◌⊎◌, ℕ, zero, suc, ◌<◌, ◌≤◌, false, eqb, inl, inr, List, [], ◌∷◌, length, get_or, Option, Some, None, MatchOption, slice_get, refl, sym, ap, ◌∙◌, subst, arith, ℤ, All, AllByRecursion, eqb-false, get_or-map, length-map, All-get_or, slice_get-get_or, One, in_order, letters_plugged, NoLetterTwice, Parts, Rotor, Pin, cable_letters, IsMachine, Day, OfRotors, OfPins, IsLegalDay, SameLetters, columns_of, ThirteenColumns, ColumnsAreThePairs, Look, Cable, Pair, Bar, Row, look_name, look_rank, AreEnds, IsInForm, PriceParts, ByNumber, version_of, row_kinds, column_kinds, row_prices, column_prices, how_many, price_at, ArePrices, group_of, price_count, row_name, column_name, row_looks, column_looks, pair_in_order, look_at, Expanded, RanksTellLooks, StandAlike, ReadAlike, AreOfOneModel, CanBeByKind, AreByKind, AreAlikePriced, AreThings, AreOfGroup, ◌↔◌, map}
 use Rattle.kd_prices.proofs.Grouping.{alike_priced}
 use Rattle.kd_prices.proofs.Meaning.{kind_is}
 use Rattle.kd_prices.proofs.Things.{pair_look, rows_are_things, groups_meet, columns_are_things}
@@ -8,22 +9,11 @@ use Rattle.kd_prices.proofs.AlikePrices.{same_at, nothing_at}
 
 -- ---- cables with the same letters
 
--- a letter is one of these
-abbrev Lies : List ℕ → ℕ → Type 0
-Lies [] x = ⊥
-Lies (y ∷ ys) x = (y ≡ x) ⊎ Lies ys x
-
-lies : (xs : List ℕ) (x : ℕ) → Contains xs x → Lies xs x
-lies [] x (k, inside, e) = absurd (omega arith)
-lies (y ∷ ys) x (zero, inside, e) = inl e
-lies (y ∷ ys) x (suc k, inside, e) = inr (lies ys x (k, omega arith, e))
-
-all_lie : (xs ys : List ℕ) → ((x : ℕ) → Contains xs x → Contains ys x) → AllByRecursion (Lies ys) xs
-all_lie xs ys told = recursion_from_All (Lies ys) xs (All-weaker (Contains xs) (Lies ys) (λ x h. lies ys x (told x h)) xs (All-contains_itself xs))
-
-ends_told : (cable other : Option ℕ × Option ℕ) → AreEnds cable.0 cable.1 → AreEnds other.0 other.1 → AllByRecursion (Lies (cable_letters other)) (cable_letters cable)
-    → AllByRecursion (Lies (cable_letters cable)) (cable_letters other) → look_rank (Cable cable) ≡ look_rank (Cable other)
-ends_told cable other form form' to fro = grind arith
+ends_told : (cable other : Option ℕ × Option ℕ) → AreEnds cable.0 cable.1 → AreEnds other.0 other.1
+    → ((letter : ℕ) → has_letter (cable_letters cable) letter ≡ has_letter (cable_letters other) letter)
+    → look_rank (Cable cable) ≡ look_rank (Cable other)
+ends_told (a, b) (c, d) form form' same =
+    grind (arith, nat_tests, same (unwrap_or a 0), same (unwrap_or b 0), same (unwrap_or c 0), same (unwrap_or d 0))
 
 -- ---- pairs that are alike stand at one place
 
@@ -74,19 +64,20 @@ module _ (ranks : RanksTellLooks) {X : Type 0} (f : X → Look) (xs : List X) (d
 -- what the laws of kd_card and kd_state say
 pub record RanksTold : Type 0 where
   pub ranks : RanksTellLooks
+  pub letters : TestsTellLetters
   pub thirteen : ThirteenColumns
   pub columns : ColumnsAreThePairs
 
-rows_told : RanksTellLooks → (m : Parts) → IsMachine m → AreTold (row_looks m) (StandAlike m)
-rows_told ranks (Rotor m) machine =
+rows_told : RanksTold → (m : Parts) → IsMachine m → AreTold (row_looks m) (StandAlike m)
+rows_told told (Rotor m) machine =
     let cable = λ (i : ℕ). get_or m.cables i (None, None) in
-    told_by ranks (λ ends. Cable ends) m.cables (None, None) (λ x y. refl) (rows_are_things (Rotor m) machine).form (StandAlike (Rotor m))
+    told_by told.ranks (λ ends. Cable ends) m.cables (None, None) (λ x y. refl) (rows_are_things (Rotor m) machine).form (StandAlike (Rotor m))
     (λ i k inside within e.
     let same : cable i ≡ cable k = cc in
     inl (subst (λ ends. SameLetters (cable_letters (cable i)) (cable_letters ends)) same (λ letter. (λ h. h, λ h. h))))
-    (λ i k form form' same. ends_told (cable i) (cable k) form form' (all_lie _ _ (λ x. (same x).0)) (all_lie _ _ (λ x. (same x).1)))
-rows_told ranks (Pin m) machine =
-    told_apart ranks (λ standing. Bar standing) m.bars (One, One) (λ x y. refl) (rows_are_things (Pin m) machine).form (λ x y e. cc)
+    (λ i k form form' same. ends_told (cable i) (cable k) form form' ((told.letters (cable_letters (cable i)) (cable_letters (cable k))).0 same))
+rows_told told (Pin m) machine =
+    told_apart told.ranks (λ standing. Bar standing) m.bars (One, One) (λ x y. refl) (rows_are_things (Pin m) machine).form (λ x y e. cc)
 
 columns_told : RanksTold → (s : Day) → IsLegalDay s → AreTold (column_looks s) (ReadAlike s)
 columns_told told (OfRotors s) legal =
@@ -109,9 +100,6 @@ priced_alike looks Alike prices n told many = (
 
 -- ---- what is answered of a group
 
-pub size_of : (prices : PriceParts) → price_count (group_of prices) ≡ how_many prices
-size_of prices = grind arith
-
 -- machine, day and prices by number are of one model
 module _ (told : RanksTold) (m : Parts) (s : Day) (prices : PriceParts) (machine : IsMachine m) (legal : IsLegalDay s) (are : ArePrices prices)
     (one : AreOfOneModel m s prices) (by : version_of prices ≡ ByNumber) where
@@ -123,7 +111,7 @@ module _ (told : RanksTold) (m : Parts) (s : Day) (prices : PriceParts) (machine
 
   rows_iff : AreAlikePriced (row_looks m) (row_prices prices)
       ↔ ((i k : ℕ) → i < how_many prices → k < how_many prices → StandAlike m i k → price_at (row_prices prices) i ≡ price_at (row_prices prices) k)
-  rows_iff = priced_alike (row_looks m) (StandAlike m) (row_prices prices) (how_many prices) (rows_told told.ranks m machine) (rows_of_group.count ∙ size_of prices)
+  rows_iff = priced_alike (row_looks m) (StandAlike m) (row_prices prices) (how_many prices) (rows_told told m machine) (rows_of_group.count ∙ size_of prices)
 
   columns_iff : AreAlikePriced (column_looks s) (column_prices prices)
       ↔ ((i k : ℕ) → i < how_many prices → k < how_many prices → ReadAlike s i k → price_at (column_prices prices) i ≡ price_at (column_prices prices) k)

@@ -1,7 +1,6 @@
 -- Things grouped into kinds, rank by rank.
-use Rattle.kd_prices.proofs.Prelude.{◌≡◌, ◌≢◌, ℕ, ◌+◌, ◌-◌, ◌<◌, ◌≤◌, inl, inr, Bool, true, false, cond, eqb, ltb, List, [], ◌∷◌, ◌++◌, length, count_by, append_assoc, length-append, refl, sym, ap, ◌∙◌, subst, arith, ℤ, pos, unsigned_abs, None, All, cases_lt, lt-ltb, ne_eqb, eq-eqb, nat_tests, append-nil, All-nil, All-cons, All-head, All-tail, All-get_or, All-from_get_or, All-weaker, Look, Pair, place_rank, PricedKind, look_name, look_rank, counted, IsInForm, IsPricedKind, AreKinds, AreCalled, price_at, AreWithinReach, look_at, alike_count, IsPriced, HasCount, AreExpanded, AreAlikePriced, IsKindAt, AreKindsOf, AreWithPrices}
+use Rattle.kd_prices.proofs.Prelude.{few_kinds, low_rank, ◌≡◌, ◌≢◌, ℕ, ◌+◌, ◌-◌, ◌<◌, ◌≤◌, inl, inr, Bool, true, false, cond, eqb, ltb, List, [], ◌∷◌, length, count_by, refl, sym, ap, ◌∙◌, subst, arith, ℤ, pos, unsigned_abs, None, All, cases_lt, lt-ltb, ne_eqb, eq-eqb, nat_tests, All-nil, All-cons, All-head, All-tail, All-get_or, All-from_get_or, All-weaker, Look, Pair, PricedKind, look_name, look_rank, counted, IsInForm, IsPricedKind, AreKinds, AreCalled, price_at, AreWithinReach, look_at, alike_count, IsPriced, HasCount, AreAlikePriced, IsKindAt, AreKindsOf, AreWithPrices}
 use Rattle.std.proofs.lemmas.List.Sums.{sum_by-cons, sum_by-le, count_by-le-length, get_or-le-sum_by}
-use Rattle.kd_tables.specs.declared.place.Place.{Place}
 use Rattle.kd_prices.proofs.Meaning.{one_price}
 
 -- ---- how many things are of ranks
@@ -48,21 +47,14 @@ some_counted looks place inside =
 
 -- ---- all ranks are below 703
 
-low_place : (place : Place) → place_rank place < 8
-low_place place = grind arith
-
 low_look : (look : Look) → IsInForm look → look_rank look < 703
-low_look look e = grind (arith, low_place)
+low_look look e = grind (arith, low_rank)
 
 -- ---- kinds
 
 from_lower : (floor : ℕ) (kinds : List PricedKind) → AreKinds (floor + 1) kinds → AreKinds floor kinds
 from_lower floor [] are = tt
 from_lower floor (kind ∷ kinds) are = let above = are.1 in (are.0, omega (arith, above), are.2)
-
-few_kinds : (floor : ℕ) (kinds : List PricedKind) → AreKinds floor kinds → length kinds ≤ counted kinds
-few_kinds floor [] are = omega arith
-few_kinds floor (kind ∷ kinds) are = grind (arith, few_kinds (look_rank kind.look + 1) kinds are.2)
 
 -- ---- rank by rank, from the highest one on
 

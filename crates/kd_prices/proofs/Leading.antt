@@ -1,9 +1,14 @@
 -- Settings that lead from one machine to another, taken apart and put together.
-use Rattle.kd_prices.proofs.Prelude.{◌≡◌, Some, None, ℕ, ◌+◌, ◌-◌, ◌<◌, ◌≤◌, List, [], ◌∷◌, ◌++◌, length, get_or, refl, sym, ap, ◌∙◌, subst, arith, drop_more, take, take_all, Parts, Setting, Why, why_refused, changed, Leads, Day, IsNeeded, AreNeeded, IsFirstNeedless, drop}
-
-pub leads_join : (m between n : Parts) (front rest : List Setting) → Leads m front between → Leads between rest n → Leads m (front ++ rest) n
-leads_join m between n [] rest first then_on = subst (λ machine. Leads machine rest n) first then_on
-leads_join m between n (x ∷ front) rest first then_on = (first.0, first.1, leads_join first.0 between n front rest first.2 then_on)
+use Rattle.kd_prices.proofs.Prelude.{leads_next, ◌≡◌, Some, ℕ, ◌+◌, ◌<◌, List, [], ◌∷◌, ◌++◌, length, get_or, sym, ◌∙◌, subst, arith, take, take-append-drop, Parts, Setting, Why, why_refused, changed, Leads, Day, IsNeeded, AreNeeded, Result, Ok, Err, NeedlessLine}
+use Rattle.std.proofs.lemmas.List.{take_more, length-take-le}
+use Rattle.std.proofs.Math.Seq.{drop-cons}
+use Rattle.std.specs.Result.{MatchResult, result_and}
+use Rattle.std.specs.Prelude.{IsFalse}
+use Rattle.kd_state.specs.Costs.{loose_count}
+use Rattle.kd_state.specs.Setting.{Carries}
+use Rattle.kd_card.specs.Proving.{is_priced}
+use Rattle.kd_prices.specs.Doubt.{SaysNeeded}
+use Rattle.kd_prices.specs.declared.doubt.Doubt.{Doubt}
 
 -- the settings behind those that have been carried out
 pub leads_on : (m between n : Parts) (front rest : List Setting) → Leads m front between → Leads m (front ++ rest) n → Leads between rest n
@@ -22,54 +27,42 @@ pub not_refused : (m between n : Parts) (front rest : List Setting) (x : Setting
     → Leads m (front ++ x ∷ rest) n → ⊥
 not_refused m between n front rest x why first refused leads = grind (arith, leads_on)
 
--- After so many needed settings: what is found of the rest holds of all of them, and the rest leads on.
-pub record AreNeededTo (m now : Parts) (s : Day) (settings : List Setting) (place : ℕ) (rest : List Setting) : Type 0 where
-  pub needed : AreNeeded now s rest → AreNeeded m s settings
-  pub needless : (line : ℕ) → IsFirstNeedless now s rest line → IsFirstNeedless m s settings (place + line)
-  pub onward : (n : Parts) × Leads now rest n
+-- a needed setting more
+needed_join : (m n : Parts) (s : Day) (front : List Setting) (x : Setting) → Leads m front n → AreNeeded m s front
+    → IsNeeded n s x → AreNeeded m s (front ++ x ∷ [])
+needed_join m n s [] x leads needed here = (subst (λ machine. IsNeeded machine s x) leads here, tt)
+needed_join m n s (y ∷ front) x leads needed here =
+    let behind = subst (λ between. Leads between front n) leads.1.made leads.2 in
+    (needed.0, needed_join (changed m y) n s front x behind needed.1 here)
 
--- a needed setting in front
-one_in_front : (m : Parts) (s : Day) (x : Setting) (rest : List Setting) (line : ℕ) → why_refused m x ≡ None → IsNeeded m s x → IsFirstNeedless (changed m x) s rest line
-    → IsFirstNeedless m s (x ∷ rest) (line + 1)
-one_in_front m s x rest line allowed needed h =
-    record {
-      front = x ∷ h.front;
-      setting = h.setting;
-      rest = h.rest;
-      between = h.between;
-      split = ap (λ xs. x ∷ xs) h.split;
-      number = let number = h.number in omega arith;
-      leads = (changed m x, record { allowed = allowed; made = refl }, h.leads);
-      needed = (needed, h.needed);
-      needless = h.needless;
-    }
+-- the settings up to a place have been carried out, and are all needed, or a first one of them isn't
+pub record IsWalked (m n : Parts) (s : Day) (xs : List Setting) (place loose : ℕ) (needed : Result (Unit {0}) Doubt) : Type 0 where
+  pub leads : Leads m (take place xs) n
+  pub loose_is : loose ≡ loose_count n s
+  pub judged : MatchResult needed (λ _. AreNeeded m s (take place xs)) (λ doubt. SaysNeeded m s xs (Err doubt))
 
--- a list from one of its places on
-pub drop_at : {X : Type 0} (xs : List X) (i : ℕ) (x : X) → i < length xs → x ≡ get_or xs i x → drop i xs ≡ x ∷ drop (i + 1) xs
-drop_at xs i x inside is = drop_more xs i x inside ∙ ap (λ y. y ∷ drop (i + 1) xs) (sym is)
+module _ (m n : Parts) (s : Day) (xs : List Setting) (place : ℕ) (x : Setting) (inside : place < length xs)
+    (is : get_or xs place x ≡ x) (leads : Leads m (take place xs) n) where
+  judged_on : (needed here : Result (Unit {0}) Doubt)
+      → MatchResult needed (λ _. AreNeeded m s (take place xs)) (λ doubt. SaysNeeded m s xs (Err doubt))
+      → MatchResult here (λ _. IsNeeded n s x) (λ doubt. (doubt ≡ NeedlessLine (place + 1)) × ¬ (IsNeeded n s x))
+      → MatchResult (result_and needed here) (λ _. AreNeeded m s (take (place + 1) xs)) (λ doubt. SaysNeeded m s xs (Err doubt))
+  judged_on (Err doubt) here so_far tells = so_far
+  judged_on (Ok all) (Ok one) so_far tells =
+      grind (arith, take_more xs place x inside, inside, needed_join m n s (take place xs) x leads so_far tells)
+  judged_on (Ok all) (Err doubt) so_far tells =
+      grind (arith, take-append-drop place xs, drop-cons xs place x inside, inside, length-take-le place xs (omega arith))
 
-pub first_and_rest : {X : Type 0} (xs : List X) (x : X) → 1 ≤ length xs → x ≡ get_or xs 0 x → xs ≡ x ∷ take (length xs - 1) (drop 1 xs)
-first_and_rest [] x some is = absurd (omega arith)
-first_and_rest (y ∷ xs) x some is = grind (arith, take_all)
-
-module _ (m now : Parts) (s : Day) (settings : List Setting) (place : ℕ) (x : Setting) (inside : place < length settings)
-    (is : x ≡ get_or settings place x) (so_far : AreNeededTo m now s settings place (drop place settings)) where
-  here : AreNeededTo m now s settings place (x ∷ drop (place + 1) settings)
-  here = subst (AreNeededTo m now s settings place) (drop_at settings place x inside is) so_far
-
-  -- the setting at the place is not needed
-  pub stops_here : ¬ (IsNeeded now s x) → IsFirstNeedless m s settings (place + 1)
-  stops_here needless =
-      here.needless 1 (record { front = []; setting = x; rest = drop (place + 1) settings; between = now; split = refl; number = refl; leads = refl; needed = tt; needless = needless })
-
-  -- it is
-  pub steps_on : (next : Parts) → IsNeeded now s x → next ≡ changed now x → AreNeededTo m next s settings (place + 1) (drop (place + 1) settings)
-  steps_on next needed carried =
-      let rest = drop (place + 1) settings in
-      let step = here.onward.1 in
-      subst (λ machine. AreNeededTo m machine s settings (place + 1) rest) (sym carried)
-      (record {
-        needed = λ all. here.needed (needed, all);
-        needless = λ line h. subst (IsFirstNeedless m s settings) (omega arith) (here.needless (line + 1) (one_in_front now s x rest line step.1.allowed needed h));
-        onward = (here.onward.0, subst (λ machine. Leads machine rest here.onward.0) step.1.made step.2);
-      })
+-- one more setting is carried out
+pub walks_on : {m n o : Parts} {s : Day} {xs : List Setting} {place loose left : ℕ} {needed : Result (Unit {0}) Doubt} (x : Setting)
+    (here : Result (Unit {0}) Doubt) → place < length xs → get_or xs place x ≡ x → IsWalked m n s xs place loose needed → Carries n x o
+    → left ≡ loose_count o s
+    → MatchResult here (λ _. IsFalse (is_priced x) → loose ≡ left + 1)
+    (λ doubt. (doubt ≡ NeedlessLine (place + 1)) × ¬ (IsFalse (is_priced x) → loose ≡ left + 1))
+    → IsWalked m o s xs (place + 1) left (result_and needed here)
+walks_on {m} {n} {o} {s} {xs} {place} {needed} x here inside is walked carries left tells = record {
+  leads = leads_next m n o xs place x inside is walked.leads carries;
+  loose_is = left;
+  judged = judged_on m n s xs place x inside is walked.leads needed here walked.judged
+      (rw (← carries.made, ← walked.loose_is, ← left) tells);
+}

@@ -10,6 +10,9 @@ pub use Rattle.std.proofs.lemmas.List.Elements.{All-cons, All-contains_itself, A
 pub use Rattle.std.proofs.lemmas.Option.{slice_get-get_or, slice_get_past, unwrap_or-slice_get}
 pub use Rattle.std.specs.List.{All, AllByRecursion}
 pub use Rattle.std.specs.Prelude.{drop, map, take, ◌↔◌, Err, IfErr, IsOk, Ok, Result}
+pub use Rattle.kd_card.proofs.KindPrices.{few_kinds, size_of}
+pub use Rattle.kd_card.proofs.KindWords.{low_rank}
+pub use Rattle.kd_card.proofs.Leading.{leads_join, leads_next, stops_at}
 pub use Rattle.kd_card.specs.CardText.{column_name, group_of, price_count, row_name}
 pub use Rattle.kd_card.specs.Kinds.{AreCalled, AreEnds, AreKinds, IsInForm, IsPricedKind, counted, look_name, look_rank}
 pub use Rattle.kd_card.specs.Laws.{ProvingCardsAreShortest, ProvingPricesAreTight, RanksTellLooks}

@@ -1,6 +1,6 @@
 -- What is left of a card that proves itself, after its first lines.
-use Rattle.kd_prices.proofs.Prelude.{◌++◌, sym, subst, arith, length-append, length-drop, take-append-drop, length-take, Leads, ProvingCardsAreShortest, RestIsShortest, take, drop}
-use Rattle.kd_prices.proofs.Leading.{leads_join, leads_on}
+use Rattle.kd_prices.proofs.Prelude.{leads_join, ◌++◌, sym, subst, arith, length-append, length-drop, take-append-drop, length-take, Leads, ProvingCardsAreShortest, RestIsShortest, take, drop}
+use Rattle.kd_prices.proofs.Leading.{leads_on}
 
 pub rest_is_shortest : ProvingCardsAreShortest → RestIsShortest
 rest_is_shortest shortest m between s settings prices lines machine legal are_prices proves within leads =

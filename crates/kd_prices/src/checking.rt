@@ -9,8 +9,8 @@ ghost use Rattle.kd_prices.specs.Doubt.{SaysByNumber, IsDoubt};
 use super::doubt::Doubt;
 use super::expanding::expanded;
 use super::fitting::{Cell, first_too_high};
-use super::needless::{first_needless, is_priced};
-use kd_card::{Card, Group, PriceParts, Prices, carry_all};
+use super::walking::{is_priced, walked};
+use kd_card::{Card, Group, PriceParts, Prices};
 use kd_state::laws::a_setting_is_refused_or_carried;
 use kd_state::{Machine, OneModel, Parts, Setting, SheetDay, bar_costs, cable_costs};
 
@@ -56,11 +56,11 @@ fn judged_by_number(
     requires few { length settings.now ≤ 192 }
     ensures { SaysByNumber machine.now day.now settings.now prices.now result }
 {
-    let reached = match carry_all(machine, settings) {
-        Ok(reached) => reached,
-        Err(illegal) => return Err(Doubt::IllegalAt(illegal.line, illegal.why)),
+    let walk = match walked(machine, day, settings) {
+        Ok(walk) => walk,
+        Err(doubt) => return Err(doubt),
     };
-    if !reached.reads_as(day) {
+    if !walk.reached.reads_as(day) {
         return Err(Doubt::NotTheSheet);
     }
     if let Some(cell) = too_high(machine, day, prices) {
@@ -69,10 +69,7 @@ fn judged_by_number(
     if prices.sum() != priced_count(settings) as i32 {
         return Err(Doubt::SumDiffers);
     }
-    match first_needless(machine, day, settings) {
-        Some(line) => Err(Doubt::NeedlessLine(line)),
-        None => Ok(()),
-    }
+    walk.needed
 }
 
 /// Whether machine and day are of one model, and the prices of their kind.

@@ -35,17 +35,19 @@ fn first_column_too_high(costs: &[u8], price: i16, columns: &[i16]) -> Option<us
         ((j : ℕ) → j < length columns.now → IsWithin costs.now price columns.now j)
         (IsFirstPlaceWithout (IsWithin costs.now price columns.now) (length columns.now)) }
 {
-    for (column, other) in columns.iter().enumerate() {
-        if !is_at_most(price, *other, costs[column]) {
+    for column in 0..columns.len() {
+        if !is_within(costs, price, columns, column) {
             return Some(column);
         }
     }
     None
 }
 
-/// Whether two prices are together at most the cost.
-fn is_at_most(price: i16, other: i16, cost: u8) -> bool
-    ensures { IsTrue result ↔ ((price +ℤ other) ≤ℤ pos cost) }
+/// Whether the price and that of the column are together at most the cost there.
+fn is_within(costs: &[u8], price: i16, columns: &[i16], column: usize) -> bool
+    requires inside { column < length columns.now }
+    requires each { length costs.now ≡ length columns.now }
+    ensures { IsTrue result ↔ IsWithin costs.now price columns.now column }
 {
-    i32::from(price) + i32::from(other) <= i32::from(cost)
+    i32::from(price) + i32::from(columns[column]) <= i32::from(costs[column])
 }

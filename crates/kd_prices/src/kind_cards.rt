@@ -14,7 +14,7 @@ use super::looks::{column_looks, row_looks};
 use arrayvec::ArrayVec;
 use kd_card::laws::ranks_tell_looks;
 use kd_card::{Card, Group, Look, PricedKind, Prices, Version};
-use kd_state::laws::columns_are_the_pairs;
+use kd_state::laws::{columns_are_the_pairs, tests_tell_letters};
 use kd_state::{Machine, Settings, SheetDay};
 
 /// The ranks of all looks in their one form are below this.
@@ -41,6 +41,7 @@ fn copied(settings: &Settings) -> Settings
 }
 
 /// The same prices by kind, if they can be.
+#[tactic(auto, using(kd_card::proofs::KindPrices::size_of, crate::proofs::Things::rows_are_things, crate::proofs::Things::columns_are_things, crate::proofs::Things::groups_meet))]
 fn prices_by_kind(machine: &Machine, day: &SheetDay, prices: &Prices) -> Option<Prices>
     ensures { MatchOption result
         (¬ (CanBeByKind machine.now day.now prices.now))
@@ -48,6 +49,7 @@ fn prices_by_kind(machine: &Machine, day: &SheetDay, prices: &Prices) -> Option<
 {
     ranks_tell_looks();
     columns_are_the_pairs();
+    tests_tell_letters();
     if !are_of_one_model(machine, day, prices) {
         return None;
     }
@@ -74,8 +76,8 @@ fn of_group(
 ) -> Option<Prices>
     requires rows { AreThings (row_name group) (price_count group) rows.now }
     requires columns { AreThings (column_name group) (price_count group) columns.now }
-    requires row_prices { length row_prices.now ≡ length rows.now }
-    requires column_prices { length column_prices.now ≡ length columns.now }
+    requires row_prices { length row_prices.now ≡ price_count group }
+    requires column_prices { length column_prices.now ≡ price_count group }
     requires row_reach { AreWithinReach row_prices.now }
     requires column_reach { AreWithinReach column_prices.now }
     ensures { MatchOption result

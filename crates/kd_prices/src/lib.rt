@@ -9,7 +9,7 @@ mod kind_cards;
 pub mod laws;
 mod looks;
 mod loose;
-mod needless;
+mod walking;
 
 pub use checking::check;
 pub use doubt::Doubt;

@@ -1,24 +1,18 @@
-use Rattle.kd_card.proofs.Prelude.{◌∙◌, ap, not, sym, false≢true}
-use Rattle.kd_card.proofs.PriceTexts.{tells_price, all_of_more, all_of_last}
+use Rattle.kd_card.proofs.Prelude.{rules, arith, eqb, IsPriceText}
+use Rattle.std.proofs.lemmas.Iterator.{cases_from_all}
+use Rattle.std.proofs.lemmas.Iterator.Splits.{YieldsList-from_slice_split}
+use Rattle.std.proofs.lemmas.Iterator.Search.{true_from_All}
+use borrow.Author.Tests.{tests}
+use Rattle.kd_card.proofs.PriceTexts.{tells_price}
 use Rattle.kd_card.proofs.price_text.are_prices.Goals as goal
-
-pub returns-then-is_none : goal.returns-then-is_none
-returns-then-is_none c =
-    let is = tells_price c.in-Some.word.now c.price_of_text.result c.price_of_text.ensures in (
-      λ yes. absurd (false≢true yes),
-      λ all.
-          let first = ((all_of_more c.in-Some.ensures).0 (c.loop-word.invariant.0 all)).0 in
-          absurd (false≢true (sym (c.is_none.ensures ∙ ap not c.if-is_none.true) ∙ is.1 first)),
-    )
-
-pub loop-word-preserved : goal.loop-word-preserved
-loop-word-preserved c =
-    let price = (tells_price c.in-Some.word.now c.price_of_text.result c.price_of_text.ensures).0 (c.is_none.ensures ∙ ap not c.if-is_none.false) in
-    let more = all_of_more c.in-Some.ensures in
-    (λ all. (more.0 (c.loop-word.invariant.0 all)).1, λ all. c.loop-word.invariant.1 (more.1 (price, all)))
 
 pub returns : goal.returns
 returns c =
-    let is = tells_price c.loop-word.rest.now c.price_of_text-2.result c.price_of_text-2.ensures in
-    let last = all_of_last c.loop-word.rest.now c.in_default.ensures in
-    rw c.is_some.ensures (λ yes. c.loop-word.invariant.1 (last.1 (is.0 yes)), λ all. is.1 (last.0 (c.loop-word.invariant.0 all)))
+    let cases =
+    cases_from_all _ _ c.all.result IsPriceText (λ word. ¬ (IsPriceText word)) c.all.ensures.ran
+    (YieldsList-from_slice_split _ (λ b. eqb b 32) c.args.text.now c.split.ensures.rest c.split.ensures.done
+    c.split.ensures.closure (λ x b q k. search (rules, tests)))
+    (λ x q k. search (rules, tests, tells_price)) (λ x q k. search (rules, tests, tells_price)) in (
+      λ yes k d inside. (rw yes at cases) k d (omega arith) inside,
+      λ all. true_from_All IsPriceText (λ word. ¬ (IsPriceText word)) _ _ (λ x is none. none is) cases all,
+    )

@@ -1,10 +1,17 @@
-use Rattle.kd_card.proofs.Prelude.{ByNumber, ByKind, Version, ℕ, List, BeginsWithHead}
+use Rattle.kd_card.proofs.Prelude.{rules}
+use Rattle.kd_card.proofs.Lines.{Laws, same_words}
+use Rattle.kd_card.proofs.CardWords.{head_has_words}
 use Rattle.kd_card.proofs.read.read_head.Goals as goal
 
-no_head : (text : List ℕ) → ((day : ℕ) (rest : List ℕ) → ¬ (BeginsWithHead text ByNumber day rest))
-    → ((day : ℕ) (rest : List ℕ) → ¬ (BeginsWithHead text ByKind day rest)) → (version : Version) (day : ℕ) (rest : List ℕ) → ¬ (BeginsWithHead text version day rest)
-no_head text a b ByNumber = a
-no_head text a b ByKind = b
+pub returns-in_err-behind : goal.returns-in_err-behind
+returns-in_err-behind c =
+    let laws : Laws = search rules in
+    rw c.from_residual.ensures (λ version day rest head.
+    c.in_err-behind.ensures _ _ rest (head_has_words laws version day rest head))
 
-pub returns-in_err-day : goal.returns-in_err-day
-returns-in_err-day c = rw c.from_residual.ensures (no_head c.args.text.now c.in_default.ensures c.in_err-day.ensures)
+pub returns-in_err-version : goal.returns-in_err-version
+returns-in_err-version c =
+    let laws : Laws = search rules in
+    rw c.from_residual-in_err-version.ensures (λ version day rest head.
+    c.in_err-version.ensures version day head.of_month
+    (same_words laws.first_parts (head_has_words laws version day rest head) c.in_ok-behind.ensures).0)

@@ -1,8 +1,7 @@
-use Rattle.kd_card.proofs.Prelude.{codes, refl, to_z-of_z, w32}
-use Rattle.kd_card.proofs.Lines.{unbroken_by_test}
+use Rattle.kd_card.proofs.Prelude.{to_z-of_z, w32}
 use Rattle.kd_card.proofs.read.read_sum.Goals as goal
 
 pub returns : goal.returns
 returns c =
     rw (c.as_bytes.ensures.value, c.format.ensures.text, to_z-of_z w32 c.args.sum c.ranges.sum) at
-    (c.read_value.ensures (codes "SUM") refl (unbroken_by_test (codes "SUM ") refl))
+    c.read_value.ensures

@@ -1,33 +1,11 @@
-use Rattle.kd_prices.proofs.Prelude.{sym, ◌∙◌, ap, length, price_count}
-use Rattle.kd_prices.proofs.AlikeLooks.{by_kind_told, size_of}
-use Rattle.kd_prices.proofs.Things.{rows_are_things, columns_are_things, groups_meet}
+use Rattle.kd_prices.proofs.Prelude.{sym, ◌∙◌}
+use Rattle.kd_prices.proofs.AlikeLooks.{by_kind_told}
 use Rattle.kd_prices.proofs.kind_cards.prices_by_kind.Goals as goal
-
-pub of_group-requires-clause-rows : goal.of_group-requires-clause-rows
-of_group-requires-clause-rows c =
-    let one = c.are_of_one_model.ensures.0 c.if-not-are_of_one_model.false in
-    rw (c.group.ensures, one.group, c.as_slice.ensures.value, c.row_looks.ensures.looks) (rows_are_things _ c.row_looks.ensures.machine)
-
-pub of_group-requires-clause-columns : goal.of_group-requires-clause-columns
-of_group-requires-clause-columns c =
-    let one = c.are_of_one_model.ensures.0 c.if-not-are_of_one_model.false in
-    let meet = groups_meet _ _ c.row_looks.ensures.machine c.column_looks.ensures.day one.model in
-    rw (c.group.ensures, one.group, ← meet, c.as_slice-in-ByNumber-2.ensures.value, c.column_looks.ensures.looks)
-    (columns_are_things c.columns_are_the_pairs.ensures.count _ c.column_looks.ensures.day)
-
-pub of_group-requires-clause-column_prices : goal.of_group-requires-clause-column_prices
-of_group-requires-clause-column_prices c =
-    let one = c.are_of_one_model.ensures.0 c.if-not-are_of_one_model.false in
-    let meet = groups_meet _ _ c.row_looks.ensures.machine c.column_looks.ensures.day one.model in
-    let things = columns_are_things c.columns_are_the_pairs.ensures.count _ c.column_looks.ensures.day in
-    ap length (c.as_slice-in-ByNumber-3.ensures.value ∙ c.column_prices.ensures.value) ∙ c.column_prices.ensures.are_prices.columns
-    ∙ sym (size_of c.args.prices.now) ∙ ap price_count (one.group ∙ sym meet) ∙ sym things.count
-    ∙ sym (ap length (c.as_slice-in-ByNumber-2.ensures.value ∙ c.column_looks.ensures.looks))
 
 pub returns-in-ByNumber : goal.returns-in-ByNumber
 returns-in-ByNumber c =
     by_kind_told
-    (record { ranks = c.ranks_tell_looks.ensures; thirteen = c.columns_are_the_pairs.ensures.count; columns = c.columns_are_the_pairs.ensures.pairs })
+    (record { ranks = c.ranks_tell_looks.ensures; letters = c.tests_tell_letters.ensures; thirteen = c.columns_are_the_pairs.ensures.count; columns = c.columns_are_the_pairs.ensures.pairs })
     _ _ _ c.row_looks.ensures.machine c.column_looks.ensures.day c.row_prices.ensures.are_prices
     (c.are_of_one_model.ensures.0 c.if-not-are_of_one_model.false) (sym c.version.ensures.value ∙ c.in-ByNumber.is) _
     (rw (

@@ -1,0 +1,62 @@
+//! Where the lines of a card lead, and which of them put nothing right.
+ghost use Rattle.std.specs.Prelude.{◌≡◌, ◌+◌, ◌≤◌, IsFalse, MatchResult, IfOk, IfErr, Err};
+ghost use Rattle.kd_state.specs.Setting.{Leads};
+ghost use Rattle.kd_card.specs.Proving as proving;
+ghost use Rattle.kd_prices.specs.Doubt.{SaysCarried, SaysNeeded};
+
+use super::doubt::Doubt;
+use super::loose::loose_count;
+use kd_state::{Machine, Setting, SheetDay};
+
+/// Where the lines of a card lead, and whether each of them is needed, or the first doubt about one.
+#[derive(Drop)]
+pub(crate) struct Walk {
+    pub reached: Machine,
+    pub needed: Result<(), Doubt>,
+}
+
+/// Carries the settings out, one after another, and judges each by what is loose before it and after it.
+#[tactic(auto, using(kd_card::proofs::Leading::stops_at))]
+pub(crate) fn walked(machine: &Machine, day: &SheetDay, settings: &[Setting]) -> Result<Walk, Doubt>
+    ensures leads { IfOk result (λ walk. Leads machine.now settings.now walk.reached) }
+    ensures needed { IfOk result (λ walk. SaysNeeded machine.now day.now settings.now walk.needed) }
+    ensures refused { IfErr result (λ doubt. SaysCarried machine.now settings.now (Err doubt)) }
+{
+    let mut reached = *machine;
+    let mut loose = loose_count(machine, day);
+    let mut needed = Ok(());
+    for (place, setting) in settings.iter().enumerate() {
+        match reached.carry(*setting) {
+            Ok(()) => {}
+            Err(illegal) => return Err(Doubt::IllegalAt(place + 1, illegal.why)),
+        }
+        let left = loose_count(&reached, day);
+        needed = needed.and(judged(setting, place + 1, loose, left));
+        loose = left;
+    }
+    Ok(Walk { reached, needed })
+}
+
+/// Whether the setting of that line changes a cable or a bar, or one loose thing is less after it.
+fn judged(setting: &Setting, line: usize, before: usize, after: usize) -> Result<(), Doubt>
+    requires { after ≤ 137 }
+    ensures { let is_needed = IsFalse (proving.is_priced setting.now) → before ≡ after + 1 in
+        MatchResult result (λ _. is_needed)
+        (λ doubt. (doubt ≡ Doubt.NeedlessLine line) × ¬ is_needed) }
+{
+    if is_priced(setting) || before == after + 1 {
+        Ok(())
+    } else {
+        Err(Doubt::NeedlessLine(line))
+    }
+}
+
+/// Whether the setting changes a cable or a bar.
+pub(crate) fn is_priced(setting: &Setting) -> bool
+    ensures { result ≡ proving.is_priced setting.now }
+{
+    matches!(
+        *setting,
+        Setting::Pull { .. } | Setting::Put { .. } | Setting::LugTo { .. }
+    )
+}
