@@ -1,6 +1,6 @@
 -- The form that an order becomes gives the order's letters back.
-use Rattle.kd_form.proofs.Prelude.{◌≡◌, ◌≢◌, ℕ, ◌+◌, ◌%◌, ◌<◌, ◌≤◌, inl, inr, List, [], ◌∷◌, ◌++◌, length, take, drop, refl, sym, ap, subst, ◌∙◌, append_assoc, length-append, arith, All, Option, Some, None, IfSome, flat_map, cons_option, cases_lt, append-nil, take_all, drop_all, length-take, length-take-le, take-append-drop, All-nil, All-cons, All-head, All-tail, All-take, All-drop, TheDayDeciphersItself, Day, IsLegalDay, Keys, BeginsHeading, given_text, sent_letters, AreKeys, OrdersGiveLetters, FormsGiveTheirOrders, Suits, part_size, filled, Part, part_text, pieces, body_text, IsLettersText, IsPartRead, letters_from, text_letters, parts_needed, AreMadeTexts, cut, ReadsTo, at_first, IsComplete, IsExpected}
-use Rattle.kd_form.proofs.Cutting.{one_byte, parts_behind}
+use Rattle.kd_form.proofs.Prelude.{◌≡◌, ◌≢◌, ℕ, ◌+◌, ◌%◌, ◌<◌, ◌≤◌, inl, inr, List, [], ◌∷◌, ◌++◌, length, take, drop, refl, sym, ap, subst, ◌∙◌, append_assoc, length-append, arith, All, Option, Some, None, IfSome, flat_map, cons_option, cases_lt, append-nil, take_all, drop_all, length-take, length-take-le, take-append-drop, All-nil, All-cons, All-head, All-tail, All-take, All-drop, TheDayDeciphersItself, Day, IsLegalDay, Keys, BeginsHeading, given_text, sent_letters, AreKeys, FormsGiveTheirOrders, Suits, part_size, filled, Part, part_text, pieces, body_text, SaysBody, Ok, IsPartRead, letters_from, blank_of, text_letters, parts_needed, AreMadeTexts, cut, ReadsTo, at_first, IsComplete, IsExpected}
+use Rattle.kd_form.proofs.Cutting.{at_cut, one_byte}
 use Rattle.kd_form.proofs.PartTexts.{by_pieces, gives_body, part_has_heading, part_begins_heading, part_is_first}
 use Rattle.kd_form.proofs.MadeParts.{more_pieces, pieces-next, pieces-none, IsPiece, GivesBack, part_gives_back}
 use Rattle.kd_form.proofs.OneOrder.{all_of_the_day, one_order}
@@ -17,9 +17,6 @@ letters_within : (blank : Option ℕ) (text : List ℕ) → IfSome blank (λ let
 letters_within blank [] less = All-nil (λ letter. letter < 26)
 letters_within blank (byte ∷ text) less = grind (arith, found_within, letters_from, letters_within blank text less)
 
-text_letters_within : (s : Day) (text : List ℕ) → All (λ letter. letter < 26) (text_letters s text)
-text_letters_within s text = grind (arith, letters_within)
-
 -- ---- pieces of a text
 
 -- behind whole groups the rest is filled as the whole text is
@@ -32,17 +29,13 @@ filled_pieces letters = elim (cases_lt (length letters) 500) [
   | inr long ↦ grind (arith, filled_behind (take 500 letters) (drop 500 letters), length-take-le 500 letters, take-append-drop 500 letters)
 ]
 
-sent_joined : (s : Day) (letters : List ℕ)
-    → sent_letters s (take (part_size s) letters) ++ sent_letters s (drop (part_size s) letters) ≡ sent_letters s letters
-sent_joined s letters = grind (arith, take-append-drop {A = ℕ}, filled_pieces)
-
 -- the pieces, sent one after another, are the letters as they are sent
 sent_pieces : (s : Day) (letters : List ℕ) → flat_map (sent_letters s) (pieces (part_size s) letters) ≡ sent_letters s letters
 sent_pieces s =
     by_pieces (part_size s) (λ letters. flat_map (sent_letters s) (pieces (part_size s) letters) ≡ sent_letters s letters) (size_some s)
     (rw (pieces-none (part_size s) (size_some s)) (grind arith))
     (λ letters some rest. rw (pieces-next (part_size s) letters (size_some s) some)
-    (ap (λ t. sent_letters s (take (part_size s) letters) ++ t) rest ∙ sent_joined s letters))
+    (ap (λ t. sent_letters s (take (part_size s) letters) ++ t) rest ∙ grind (arith, take-append-drop {A = ℕ}, filled_pieces)))
 
 are_pieces : (s : Day) (letters : List ℕ) → All (λ letter. letter < 26) letters → All (IsPiece s) (pieces (part_size s) letters)
 are_pieces s =
@@ -67,8 +60,7 @@ part_is_read s part parts text made back =
       numbered = back.numbered;
       so_many = back.so_many;
       allowed = given.allowed;
-      counted = ap length given.gives ∙ back.counted;
-      read = subst (λ ls. IsLettersText s made.heading.indicator ls text) (sym given.gives) back.read;
+      read = subst (λ ls. SaysBody s part made.heading ls (Ok text)) (sym given.gives) (inr (back.counted, back.read));
     }
 
 -- behind an LF the form is nothing but parts, which are read as the letters of the pieces
@@ -120,12 +112,6 @@ some_parts : (s : Day) (letters : List ℕ) (texts : List (List ℕ)) → letter
 some_parts s [] texts some needed none = some refl
 some_parts s (letter ∷ letters) texts some needed none = grind (arith, more_pieces, size_some)
 
-pub orders_give_letters : OrdersGiveLetters
-orders_give_letters s order form is = (
-  given_text s (sent_letters s (text_letters s is.text)),
-  record { keys = is.keys; head = is.head; text = is.text; is_order = is.sendable.is_order; is = refl },
-)
-
 pub forms_give_their_orders : TheDayDeciphersItself → FormsGiveTheirOrders
 forms_give_their_orders decipher s order form given legal is due =
     let letters : List ℕ = text_letters s is.text in
@@ -135,12 +121,12 @@ forms_give_their_orders decipher s order form given legal is due =
     let back : AreGivenBack s 1 (length is.keys) (length is.keys) (pieces (part_size s) letters) form =
     parts_are_given_back s 1 (length is.keys) is.keys (pieces (part_size s) letters) form decipher legal
     (all_of_the_day _ s is.keys is.head order_is.is_head.lines) is.sendable.suited
-    (are_pieces s letters (text_letters_within s is.text)) (omega arith) (omega arith) order_is.is_head.few is.made in
+    (are_pieces s letters (letters_within (blank_of s) is.text (grind arith))) (omega arith) (omega arith) order_is.is_head.few is.made in
     let some : back.texts ≢ [] = some_parts s letters back.texts is.some (back.counted ∙ sym is.counted) in
     let read = back.read None 0 tt (λ none. absurd (some none)) in
     record {
       letters = sent;
-      read = subst (λ ps. ReadsTo s IsComplete at_first ps sent) (sym (parts_behind form back.texts (back.begins some) back.cut_so))
+      read = subst (λ ps. ReadsTo s IsComplete at_first ps sent) (sym (ap (λ c. c.1) back.cut_so) ∙ ap (λ c. c.1) (at_cut form (back.begins some)))
           (subst (ReadsTo s IsComplete at_first back.texts) (sent_pieces s letters) read);
       is = due.is ∙ ap (λ t. given_text s (sent_letters s (text_letters s t))) (sym same.2);
     }

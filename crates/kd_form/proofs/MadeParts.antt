@@ -1,5 +1,5 @@
 -- How a part of a form is made.
-use Rattle.kd_form.proofs.Prelude.{[], ◌≡◌, ℕ, ◌+◌, ◌-◌, ◌%◌, ◌<◌, List, ◌∷◌, ◌++◌, length, take, drop, refl, sym, ap, ◌∙◌, append_assoc, length-drop, add-one, arith, min, subst, ◌≤◌, replicate, length-append, codes, decimal, Option, Some, MatchOption, IsSome, All, option_map, div_ceil, join_with_byte, div-eq_of_lt, mod-eq_of_lt, append-nil, take_min, drop_min, length-map, length-replicate, Heading, fraction, indicator_words, heading_words, pieces, behind_spaces, with_line, Part, Day, OfRotors, OfPins, pin_day, IsLegalDay, Keys, Rotor, Pin, PinKeys, Indicator, IsInternalKey, HaveRunOut, Suits, indicator_of, rotor_letters, enciphered_choice, pin_letters, list_letters, IsMade, cipher_from, part_size, pin_indicators, filled, sheet_key, IsWindow, take-append_seam, drop-append_seam, HasIndicator, message_key, HasIndicatorsAround, group_in, keys_in, list_in, text_in, IsLettersText, All-append, All-cons, All-replicate, TheDayDeciphersItself, IsFraction, IsHeading, sent_letters, AreKeys}
+use Rattle.kd_form.proofs.Prelude.{[], inr, ◌≡◌, ℕ, ◌+◌, ◌-◌, ◌%◌, ◌<◌, List, ◌∷◌, ◌++◌, length, take, drop, refl, sym, ap, ◌∙◌, append_assoc, length-drop, add-one, arith, min, subst, ◌≤◌, replicate, length-append, codes, decimal, Option, Some, MatchOption, IsSome, All, option_map, div_ceil, join_with_byte, div-eq_of_lt, mod-eq_of_lt, append-nil, take_min, drop_min, length-map, length-replicate, Heading, fraction, indicator_words, heading_words, pieces, behind_spaces, with_line, Part, Day, OfRotors, OfPins, pin_day, IsLegalDay, Keys, Rotor, Pin, PinKeys, Indicator, IsInternalKey, HaveRunOut, Suits, indicator_of, rotor_letters, enciphered_choice, pin_letters, list_letters, IsMade, cipher_from, part_size, pin_indicators, filled, sheet_key, IsWindow, take-append_seam, drop-append_seam, HasIndicator, message_key, HasIndicatorsAround, group_in, keys_in, list_in, text_in, SaysLetters, Ok, All-append, All-cons, All-replicate, TheDayDeciphersItself, IsFraction, IsHeading, sent_letters, AreKeys}
 use Rattle.kd_form.proofs.Ciphers.{length-cipher_from, letters-cipher_from}
 
 -- -------- letters in groups and lines, piece by piece
@@ -72,7 +72,7 @@ pub record GivesBack (s : Day) (part parts : ℕ) (text : List ℕ) (made : Part
   pub so_many : made.heading.parts ≡ parts
   pub within : All (λ letter. letter < 26) made.body
   pub counted : length made.body ≡ made.heading.letters
-  pub read : IsLettersText s made.heading.indicator made.body text
+  pub read : SaysLetters s part made.heading.indicator made.body (Ok text)
 
 -- ---- letters by their places
 
@@ -120,10 +120,9 @@ part_gives_back (OfRotors s) part parts (Rotor k) piece made decipher legal are 
       within = All-append (λ letter. letter < 26) (k.fillers ++ k.group) enciphered
           (All-append (λ letter. letter < 26) k.fillers k.group are.fillers.within are.group.within) (letters-cipher_from day k.key piece);
       counted = refl;
-      read = let placed = rotor_places k.fillers k.group enciphered are.fillers.count are.group.count in record {
-        of_the_day = rw (placed.0) suits;
-        is = sym text ∙ ap (λ window. cipher_from day window enciphered) (sym key) ∙ ap (cipher_from day (message_key day (indicator_of day k))) (sym placed.1);
-      };
+      read = let placed = rotor_places k.fillers k.group enciphered are.fillers.count are.group.count in
+          let is = sym text ∙ ap (λ window. cipher_from day window enciphered) (sym key) ∙ ap (cipher_from day (message_key day (indicator_of day k))) (sym placed.1) in
+          inr (rw (placed.0) suits, ap Ok is);
     })
 part_gives_back (OfPins s) part parts (Pin k) piece made decipher legal are suits fraction is (internal, first, makes) =
     let day : Day = OfPins s in
@@ -154,13 +153,10 @@ part_gives_back (OfPins s) part parts (Pin k) piece made decipher legal are suit
       within = All-append (λ letter. letter < 26) (indicators ++ enciphered) indicators
           (All-append (λ letter. letter < 26) indicators enciphered outer (letters-cipher_from day internal (filled piece))) outer;
       counted = refl;
-      read = let placed = pin_places k k.external (list_letters day) enciphered refl are.external.count legal.list.count in record {
-        around = placed.around;
-        on_wheels = subst (λ (x : PinKeys). IsWindow (sheet_key day) x.external) placed.keys suits.0;
-        listed = sym placed.listed;
-        internal = internal;
-        first = subst (λ (x : PinKeys). IsInternalKey (enciphered_choice day x) internal) placed.keys first;
-        is = sym (decipher day internal (filled piece) legal inner) ∙ ap (cipher_from day internal) placed.text_is;
-      };
+      read = let placed = pin_places k k.external (list_letters day) enciphered refl are.external.count legal.list.count in
+          let on_wheels = subst (λ (x : PinKeys). IsWindow (sheet_key day) x.external) placed.keys suits.0 in
+          let best = subst (λ (x : PinKeys). IsInternalKey (enciphered_choice day x) internal) placed.keys first in
+          let is = sym (decipher day internal (filled piece) legal inner) ∙ ap (cipher_from day internal) placed.text_is in
+          inr (placed.around, inr (on_wheels, inr (sym placed.listed, inr (internal, best, ap Ok is))));
     })
 part_gives_back _ part parts _ piece made decipher legal are suits fraction is makes = absurd suits

@@ -1,5 +1,5 @@
 -- The reader of an order, byte by byte, and at the end.
-use Rattle.kd_form.proofs.Prelude.{append-nil, length-take, [], ◌≡◌, ◌≢◌, ℕ, zero, suc, ◌+◌, ◌-◌, ◌*◌, ◌<◌, ◌≤◌, inl, inr, List, ◌∷◌, ◌++◌, Some, length, take, drop, refl, sym, ap, ◌∙◌, append_assoc, length-append, length-drop, arith, get_or, ◌^◌, Option, Result, Ok, Err, IsTrue, IsFalse, slice_get, codes, All, MatchResult, div_ceil, cases_lt, le_of_mul-le-mul_left, take_all, drop_all, drop_at, take_at, drop-take, drop-drop, take-take, take_more, length-take-le, Day, Keys, pieces, IsMadeText, part_size, Suits, parts_needed, AreMadeTexts, blank_of, letter_of_byte, letters_from, text_letters, IsFirstKeysFault, StandsInOrder, InHead, InKeys, InText, IsBadAt, NoLetter, InParts, CanBeWritten, IsSendable, IsSentBefore, orders, AreSuitedKeys, AreTaken, IsHeadRead, IsHeadLine, IsTextRead, IsLastTaken, IsFresh, IsOpen, IsOrderRead, IsStageRead, All-nil, All-push, filter_map-append, Unread, AreKeys, IsPatternLine, BreaksOff, key_pattern, key_words, line_of, IsAnyKeyLine, IsEnded, IsKeyLine, BeginsWithKeys, IsAnyHead, IsHead, IsOrder, IsHeadFault, is_text_byte, FormFault, BadByte, IsRefused, Closes, Held}
+use Rattle.kd_form.proofs.Prelude.{append-nil, length-take, [], ◌≡◌, ◌≢◌, ℕ, zero, suc, ◌+◌, ◌-◌, ◌*◌, ◌<◌, ◌≤◌, inl, inr, List, ◌∷◌, ◌++◌, Some, length, take, drop, refl, sym, ap, ◌∙◌, append_assoc, length-append, length-drop, arith, get_or, ◌^◌, Option, Result, Ok, Err, IsTrue, IsFalse, slice_get, codes, All, MatchResult, div_ceil, cases_lt, le_of_mul-le-mul_left, take_all, drop_all, drop_at, take_at, drop-take, drop-drop, take-take, take_more, length-take-le, Day, Keys, pieces, IsMadeText, part_size, Suits, parts_needed, AreMadeTexts, blank_of, letter_of_byte, letters_from, text_letters, IsFirstKeysFault, StandsInOrder, InHead, InKeys, InText, NoLetter, InParts, CanBeWritten, IsSendable, IsSentBefore, orders, AreSuitedKeys, AreTaken, IsHeadRead, IsHeadLine, IsTextRead, IsLastTaken, IsFresh, IsOpen, IsOrderRead, IsStageRead, All-nil, All-push, filter_map-append, Unread, AreKeys, IsPatternLine, BreaksOff, key_pattern, key_words, line_of, IsAnyKeyLine, IsEnded, IsKeyLine, BeginsWithKeys, IsAnyHead, IsHead, IsOrder, IsHeadFault, is_text_byte, FormFault, BadByte, IsRefused, Closes, Held}
 use Rattle.std.proofs.lemmas.Grind.{div_ceil_times, common_steps}
 use Rattle.std.proofs.lemmas.Option.{slice_get_within, get_or_from_slice_get}
 use Rattle.kd_form.specs.declared.order_reader.parts.PartWriter.{PartWriter}
@@ -7,13 +7,12 @@ use Rattle.kd_form.proofs.MadeParts.{pieces-next, pieces-none}
 use Rattle.kd_form.specs.declared.order_reader.head.HeadReader.{HeadReader}
 use Rattle.kd_form.specs.declared.pattern_line.Unread.TheVariants as unread
 use Rattle.kd_form.proofs.Lines.{length-filled, as_form_line, key_first, lines_more, lines_then, same_line, text_front, text_line}
-use Rattle.kd_form.proofs.Plain.{IsPlain, plain_keys, text_plain}
-use Rattle.kd_form.proofs.OneOrder.{Shorter, Longer, all_of_the_day, behind, fronts, no_head_fault, no_keys_fault, nothing_stands, nothing_stands_yet, one_order, bad_longer}
+use Rattle.kd_form.proofs.Plain.{IsPlain, letters_first, plain_keys, text_plain}
+use Rattle.kd_form.proofs.OneOrder.{Shorter, Longer, all_of_the_day, behind, fronts, no_head_fault, no_keys_fault, nothing_stands, nothing_stands_yet, one_order, bad_behind, bad_longer}
 use Rattle.kd_form.specs.declared.order_reader.OrderReader.{OrderReader}
 use Rattle.kd_form.specs.declared.order_reader.Stage.{Stage}
 use Rattle.kd_form.specs.declared.order_reader.Stage.TheVariants as stages
 use Rattle.kd_form.specs.SendStream as stream
-use Rattle.kd_form.proofs.TextLetters.{letters_first, at_most_one}
 
 -- -------- the parts of an order, letter by letter
 
@@ -260,7 +259,7 @@ module _ (s : Day) (keys : List Keys) (line order : List ℕ) (is : IsHeadRead s
 
 letters_few : (blank : Option ℕ) (text : List ℕ) → length (letters_from blank text) ≤ length text
 letters_few blank [] = omega arith
-letters_few blank (byte ∷ text) = grind (arith, letters_first, letters_few blank text, at_most_one, length-append)
+letters_few blank (byte ∷ text) = grind (arith, letters_first, letters_few blank text, length-append)
 
 module _ (s : Day) where
   -- ---- with any bytes behind it
@@ -300,11 +299,6 @@ module _ (s : Day) where
   }
 
   -- ---- where the reader stands
-
-  no_more : (text : List ℕ) (byte : ℕ) → All (λ b. IsTrue (is_text_byte b)) text → IsFalse (is_text_byte byte)
-      → IsBadAt (text ++ byte ∷ []) (length text)
-  no_more text byte allowed bad =
-      record { before = text; byte = byte; rest = []; joined = refl; size = refl; allowed = allowed; bad = bad }
 
   text_sent : (keys : List Keys) (w : PartWriter) (order sent : List ℕ) → IsTextRead s keys w order sent
       → IsSentBefore s order sent
@@ -377,7 +371,7 @@ module _ (s : Day) where
         let so_far = text.sendable in
         let place : position ≡ length text.head + length text.text + 1 =
         omega (arith, here, ap length so_far.is_order.joined, length-append text.head text.text) in
-        let bad_at = no_more text.text byte so_far.allowed bad in
+        let bad_at = bad_behind text.text [] byte so_far.allowed bad in
         let longer = is_longer (byte ∷ []) so_far.is_order in
         order_refused (order ++ byte ∷ []) sent (BadByte position)
         (InText keys text.head (text.text ++ byte ∷ []) _ longer so_far.suited bad_at (ap BadByte place))

@@ -1,33 +1,31 @@
 use Rattle.kd_form.proofs.Prelude.{arith, sym, ◌∙◌, false≢true}
-use Rattle.kd_form.proofs.FormSteps.{held, in_stage, going, refused, not_following, longer_line, heading_read, heading_refused, longer_body, bad_byte, four_letters, part_refused, part_read}
+use Rattle.kd_form.proofs.FormSteps.{held, in_stage, not_following, longer_line, heading_read, heading_refused, longer_body, bad_byte, four_letters, part_refused, part_read}
 use Rattle.kd_form.proofs.form_reader.FormReaderMessageReader.feed.Goals as goal
 
 pub returns-then-not-may_follow : goal.returns-then-not-may_follow
 returns-then-not-may_follow c = λ form text so_far.
-    refused c.args.day.now _ text _ c.texts_tell_first_parts.ensures c.numbers_and_letters_are_words.ensures.numbers
-    (not_following _ c.args.self.now form text so_far.is _ _ c.in-Heading.is (λ part kept may then_may. false≢true (sym c.if-not-may_follow.true
-    ∙ (c.may_follow.ensures part (c.as_slice.ensures.value ∙ kept) may).1 then_may)))
+    not_following _ c.args.self.now form text so_far.is _ _ c.in-Heading.is
+    (λ fits. false≢true (sym c.if-not-may_follow.true ∙ c.may_follow.ensures.1 (rw c.as_slice.ensures.value fits)))
 
 pub returns-then-byte-ne10 : goal.returns-then-byte-ne10
 returns-then-byte-ne10 c = λ form text so_far.
-    held c.args.day.now _ c.texts_tell_first_parts.ensures c.numbers_and_letters_are_words.ensures.numbers _ _
+    held c.args.day.now _ _ _
     (longer_line _ c.args.self.now form text so_far.is _ _ _ _ c.in-Heading.is c.if-byte-ne10.true
-    (λ part kept may. (c.may_follow.ensures part (c.as_slice.ensures.value ∙ kept) may).0 c.if-not-may_follow.false) c.keep.ensures c.requires.empty)
+    (rw c.as_slice.ensures.value at (c.may_follow.ensures.0 c.if-not-may_follow.false)) c.keep.ensures c.requires.empty)
 
 pub returns-then-not-is_text_byte : goal.returns-then-not-is_text_byte
 returns-then-not-is_text_byte c = λ form text so_far.
-    refused c.args.day.now _ text _ c.texts_tell_first_parts.ensures c.numbers_and_letters_are_words.ensures.numbers
-    (bad_byte _ c.args.self.now form text so_far.is _ _ c.in-Body.is
-    (λ digit. false≢true (sym c.if-not-ends_before.true ∙ c.ends_before.ensures.1 digit)) (sym c.is_text_byte.ensures ∙ c.if-not-is_text_byte.true))
+    bad_byte _ c.args.self.now form text so_far.is _ _ c.in-Body.is
+    (λ digit. false≢true (sym c.if-not-ends_before.true ∙ c.ends_before.ensures.1 digit)) (sym c.is_text_byte.ensures ∙ c.if-not-is_text_byte.true)
 
 pub returns-then-not-ends_before : goal.returns-then-not-ends_before
 returns-then-not-ends_before c = λ form text so_far.
-    held c.args.day.now _ c.texts_tell_first_parts.ensures c.numbers_and_letters_are_words.ensures.numbers _ _
+    held c.args.day.now _ _ _
     (longer_body _ c.args.self.now form text so_far.is _ _ _ _ c.in-Body.is
     (λ digit. false≢true (sym c.if-not-ends_before.true ∙ c.ends_before.ensures.1 digit)) c.push.ensures.body c.push.ensures.heading c.requires.empty)
 
 pub overflow_add-self : goal.overflow_add-self
-overflow_add-self c = omega (arith, (going _ c.args.self.now c.requires.room.bytes _ c.requires.room.held.is).whole, c.requires.room.within)
+overflow_add-self c = omega (arith, c.requires.room.held.is.counted, c.requires.room.within)
 
 pub overflow_add-self-in-Ok-give : goal.overflow_add-self-in-Ok-give
 overflow_add-self-in-Ok-give c =
@@ -43,23 +41,21 @@ give-requires-clause-some c =
 
 pub returns-in-Ok : goal.returns-in-Ok
 returns-in-Ok c = λ form text so_far.
-    rw c.if-byte-ne10.false (held c.args.day.now _ c.texts_tell_first_parts.ensures c.numbers_and_letters_are_words.ensures.numbers _ _
+    rw c.if-byte-ne10.false (held c.args.day.now _ _ _
     (heading_read _ c.args.self.now form text so_far.is _ _ _ _ _ c.in-Heading.is
     (λ part unbroken kept. c.heading_of_ended-heading.ensures part unbroken (c.as_slice-in-Heading.ensures.value ∙ kept)) c.in-Ok.ensures
-    c.new.ensures.heading c.new.ensures.letters c.new.ensures.begun c.requires.empty))
+    c.new.ensures.heading c.new.ensures.letters c.new.ensures.line c.requires.empty))
 
 pub returns-in-Err : goal.returns-in-Err
 returns-in-Err c = λ form text so_far.
-    rw c.if-byte-ne10.false (refused c.args.day.now _ text _ c.texts_tell_first_parts.ensures c.numbers_and_letters_are_words.ensures.numbers
-    (heading_refused _ c.args.self.now form text so_far.is _ _ _ c.in-Heading.is
-    (λ part unbroken kept. c.heading_of_ended-heading.ensures part unbroken (c.as_slice-in-Heading.ensures.value ∙ kept)) c.in-Err.ensures))
+    rw c.if-byte-ne10.false (heading_refused _ c.args.self.now form text so_far.is _ _ _ c.in-Heading.is
+    (λ part unbroken kept. c.heading_of_ended-heading.ensures part unbroken (c.as_slice-in-Heading.ensures.value ∙ kept)) c.in-Err.ensures)
 
 pub returns-in-Ok-give : goal.returns-in-Ok-give
 returns-in-Ok-give c = λ form text so_far.
-    held c.args.day.now _ c.texts_tell_first_parts.ensures c.numbers_and_letters_are_words.ensures.numbers _ _
-    (part_read _ c.args.self.now form text so_far.is _ _ c.in-Body.is (c.ends_before.ensures.0 c.if-not-ends_before.false) _ _ c.in-Ok-give.ensures c.heading_from.ensures)
+    held c.args.day.now _ _ _
+    (part_read _ c.args.self.now form text so_far.is _ _ c.in-Body.is (c.ends_before.ensures.0 c.if-not-ends_before.false) _ _ c.in-Ok-give.ensures.given c.heading_from.ensures)
 
 pub returns-in-Err-give : goal.returns-in-Err-give
 returns-in-Err-give c = λ form text so_far.
-    refused c.args.day.now _ text _ c.texts_tell_first_parts.ensures c.numbers_and_letters_are_words.ensures.numbers
-    (part_refused _ c.args.self.now form text so_far.is _ _ c.in-Body.is (c.ends_before.ensures.0 c.if-not-ends_before.false) _ c.in-Err-give.ensures)
+    part_refused _ c.args.self.now form text so_far.is _ _ c.in-Body.is (c.ends_before.ensures.0 c.if-not-ends_before.false) _ c.in-Err-give.ensures.given
