@@ -113,15 +113,6 @@ pub record SoFar (m : Message) (holds : List ℕ → List ℕ → Type 0) (sourc
   pub held : Held m holds read text
   pub well : IsWell source × IsWell sink
 
-pub SoFar-nil : (m : Message) (holds : List ℕ → List ℕ → Type 0) (had took : Option (List ℕ)) (a d : Bool) → Held m holds [] []
-    → SoFar m holds (over had had a a) (over took took d d) 0
-SoFar-nil m holds had took a d held = grind (arith, Consumes-nil, Appends-nil)
-
-pub room_behind : (m : Message) (holds : List ℕ → List ℕ → Type 0) (source sink : Port) (count : ℕ)
-    → SoFar m holds source sink count → HasRoom m holds 0
-room_behind m holds source sink count before =
-    record { bytes = before.read; text = before.text; held = before.held; within = omega (arith, before.counted, before.within) }
-
 -- the answer where a read stops, by the ports since an earlier time, since which they didn't fail
 stopped : (m : Message) (new : List ℕ → List ℕ → Type 0) (read text : List ℕ) (had has next took taken wrote : Option (List ℕ)) (a b c d e f : Bool) (stop : Stop)
     → b ≡ a → e ≡ d → length read ≤ read_limit → IsStopped m new (over has next b c) (over taken wrote e f) read text stop
@@ -165,11 +156,6 @@ closed_in_part m old made took wrote d f answer ends part bytes text held = reco
   written = part.2;
   ended = (text ++ made, answer, ends bytes text held, short_of text made part.0 part.1);
 }
-
--- a whole message: what was fed of it stopped
-pub whole_stopped : (m : Message) (old new : List ℕ → List ℕ → Type 0) (bytes : List ℕ) (sink : Port) (stop : Stop) → Held m old [] []
-    → FeedsAll m old new bytes sink (Err stop) → WritesWhole m bytes sink (Err stop)
-whole_stopped m old new bytes sink stop held fed = grind (arith, append-nil {A = ℕ})
 
 closed : (m : Message) (holds : List ℕ → List ℕ → Type 0) (read text made : List ℕ) (source : Port) (took taken wrote : Option (List ℕ)) (d e f : Bool)
     (told : Result (Unit {0}) Stop) → Held m holds read text → length read ≤ read_limit → IsAtEnd source.has → IsWell source → e ≡ d

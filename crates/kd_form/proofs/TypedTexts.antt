@@ -10,13 +10,6 @@ use Rattle.kd_form.proofs.Streaming.{fed_in_part, fed_up_to, fed_whole, over}
 
 -- ---- a piece
 
-pub typed-append : (first rest : List ℕ) → typed_letters (first ++ rest) ≡ typed_letters first ++ typed_letters rest
-typed-append first rest = filter_map-append (letter_of_byte None) first rest
-
-pub one_letter : (byte : ℕ) (found : Option ℕ) → found ≡ letter_of_byte None byte
-    → option_to_list found ≡ typed_letters (byte ∷ [])
-one_letter byte found is = grind (arith, letters_first)
-
 -- no letters light no lamp
 cipher_text-nil : (key : EngineKey) → cipher_text (cipher key) [] ≡ []
 cipher_text-nil (OfWheels key) = refl
@@ -76,7 +69,7 @@ module _ (m : Parts) where
     typed_on bytes text typed = record {
       counted = omega (arith, counted, typed.counted, length-append bytes (take n more), length-take-le n more front.within);
       allowed = All-append (λ b. IsTrue (is_text_byte b)) bytes (take n more) typed.allowed front.allowed;
-      behind = grind (arith, append_assoc, typed.behind, in_turn, typed-append, map-append);
+      behind = grind (arith, append_assoc, typed.behind, in_turn, filter_map-append, map-append);
     }
 
     pub read_whole : (took wrote : Option (List ℕ)) (d f : Bool) → Appends took wrote lamps → length more ≤ n

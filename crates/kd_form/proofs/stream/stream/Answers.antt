@@ -1,12 +1,15 @@
-use Rattle.kd_form.proofs.Prelude.{refl}
-use Rattle.kd_form.proofs.Streaming.{SoFar-nil, room_behind, SoFar-read, SoFar-ended, IsStreamed-stopped, IsStreamed-closed, IsStreamed-too_long}
+use Rattle.std.proofs.KnownBytes.{Consumes-nil, Appends-nil}
+use Rattle.kd_form.proofs.Prelude.{refl, arith}
+use Rattle.kd_form.proofs.Streaming.{SoFar-read, SoFar-ended, IsStreamed-stopped, IsStreamed-closed, IsStreamed-too_long}
 use Rattle.kd_form.proofs.stream.stream.Goals as goal
 
 pub loop-read-init : goal.loop-read-init
-loop-read-init g c = SoFar-nil _ _ _ _ _ _ c.requires
+loop-read-init g c = grind (arith, Consumes-nil, Appends-nil)
 
 pub close-requires : goal.close-requires
-close-requires g c = room_behind _ _ _ _ _ (SoFar-read _ _ _ _ _ _ _ _ _ _ _ _ _ _ _ _ _ c.loop-read.invariant refl _ c.in-Ok-eq0.ensures).0
+close-requires g c =
+    let before = (SoFar-read _ _ _ _ _ _ _ _ _ _ _ _ _ _ _ _ _ c.loop-read.invariant refl _ c.in-Ok-eq0.ensures).0 in
+    record { bytes = _; text = _; held = before.held; within = omega (arith, before.counted, before.within) }
 
 pub returns-in-Ok-eq0 : goal.returns-in-Ok-eq0
 returns-in-Ok-eq0 g c =
