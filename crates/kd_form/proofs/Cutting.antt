@@ -1,6 +1,7 @@
 -- A form is cut into its parts, also as more of it comes.
+use Rattle.std.proofs.lemmas.Grind.{common_steps}
 use Rattle.std.proofs.lemmas.Slice.Eq.{bytes_eq-Decides}
-use Rattle.kd_form.proofs.Prelude.{◌≡◌, ◌≢◌, ◌⊎◌, inl, inr, ℕ, ◌+◌, ◌<◌, ◌≤◌, List, [], ◌∷◌, ◌++◌, length, get_or, take, drop, refl, sym, ap, ◌∙◌, append_assoc, length-append, length-take, arith, codes, All-head, All-tail, All-get_or, IsTrue, nat_tests, cases_Bool, cases_eq, cases_lt, false≢true, append-nil, take-append-le, take-append-drop, take-append_seam, get_or-append, get_or-append_seam, get_or-take, get_or_past, BeginsHeading, cut, parts_of, FitsAt, HasBegun, IsWithout, IsBadAt, is_text_byte, AllPass-from_list_all, All-take, All-same, take-take, take_more}
+use Rattle.kd_form.proofs.Prelude.{◌≡◌, ◌≢◌, ◌⊎◌, inl, inr, ℕ, ◌<◌, ◌≤◌, List, [], ◌∷◌, ◌++◌, length, get_or, take, drop, refl, sym, ap, ◌∙◌, append_assoc, length-append, length-take, arith, codes, All-head, All-tail, All-get_or, IsTrue, nat_tests, cases_Bool, cases_eq, cases_lt, false≢true, append-nil, take-append-le, take-append-drop, take-append_seam, get_or-append, get_or-append_seam, get_or-take, get_or_past, BeginsHeading, cut, parts_of, FitsAt, HasBegun, IsWithout, IsBadAt, is_text_byte, AllPass-from_list_all, All-take, All-same, take-take, take_more}
 use Rattle.kd_form.specs.FormParts.{begins_heading}
 use Rattle.kd_form.proofs.OneOrder.{Longer, Shorter, bad_longer, fronts, no_bad_byte}
 use Rattle.kd_form.proofs.Plain.{AreAllowed, plain_text, whole_line}
@@ -57,14 +58,7 @@ fits_there bytes place begun = (
 
 -- a byte that fits may follow them
 pub follows : (part line : List ℕ) (byte : ℕ) → line ≡ take 64 part → HasBegun part → FitsAt (length line) byte → HasBegun (part ++ byte ∷ [])
-follows part line byte kept (inr begun) fits = inr (begins_more part (byte ∷ []) begun)
-follows part line byte kept (inl (count, few, is)) fits =
-    let size : length line ≡ count = omega (arith, ap length kept, ap length is, length-take {A = ℕ}) in
-    let due = rw size at fits in
-    elim (cases_lt count 5) [
-      | inl less ↦ inl (count + 1, omega (arith, less), rw (is, due.0 less) (sym (take_more (codes "PART ") count 0 less)))
-      | inr five ↦ let all : count ≡ 5 = omega (arith, five, few) in inr (rw (is, all) (begins byte [] (due.1 all).0 (due.1 all).1))
-    ]
+follows part line byte e d g = grind (arith, common_steps, begins_more, length-take, take_more, begins)
 
 -- and with one that doesn't no heading begins
 pub not_begun : (part line : List ℕ) (byte : ℕ) → line ≡ take 64 part → ¬ (FitsAt (length line) byte)
@@ -169,10 +163,7 @@ last_digit bytes byte few begun =
 -- no heading begins in the last line, unless a digit stands behind its five bytes
 pub first_more : (front tail : List ℕ) (byte : ℕ) → IsWithout 10 tail → (cut (front ++ 10 ∷ tail)).1 ≡ []
     → ((tail ≡ codes "PART ") → (48 ≤ byte) → (byte ≤ 57) → ⊥) → cut (front ++ 10 ∷ (tail ++ byte ∷ [])) ≡ (front ++ 10 ∷ (tail ++ byte ∷ []), [])
-first_more [] tail byte unbroken none not =
-    let is = uncut 10 tail none in
-    no_cut 10 (tail ++ byte ∷ []) (λ e begun. grind (arith, cases_lt (length tail) 6, last_digit tail byte, begins_front tail (byte ∷ []), is.not refl))
-    ∙ rw (one_more tail byte unbroken) refl
+first_more [] tail byte unbroken none not = grind (arith, uncut, no_cut, last_digit, begins_front, one_more)
 first_more (x ∷ front) tail byte unbroken none not =
     let is = uncut x (front ++ 10 ∷ tail) none in
     no_cut x (front ++ 10 ∷ (tail ++ byte ∷ [])) (λ e begun. is.not e (begins_more front (10 ∷ tail) (before_break front (tail ++ byte ∷ []) begun)))
@@ -193,9 +184,7 @@ first_ends (x ∷ front) more digit none low high =
 -- fewer than six bytes of what begins a heading may stand in a body
 few_allowed : (bytes more : List ℕ) → length bytes < 6 → BeginsHeading (bytes ++ more) → AreAllowed bytes
 few_allowed bytes more few begun =
-    let Good : (ℕ → Type 0) = λ b. IsTrue (is_text_byte b) in
-    All-same Good bytes (take (length bytes) (codes "PART ")) (few_begin bytes more (omega arith) begun)
-    (All-take Good (length bytes) (codes "PART ") (AllPass-from_list_all is_text_byte (codes "PART ") refl))
+    grind (arith, common_steps, All-same, bytes, few_begin, All-take, AllPass-from_list_all)
 
 -- with more bytes the one part grows, or it is cut in front of fewer than six bytes, which are allowed
 data IsGrown (form part : List ℕ) : Type 0 where

@@ -1,5 +1,5 @@
 -- The reader of a form, byte by byte, and at the end.
-use Rattle.kd_form.proofs.Prelude.{[], ◌≡◌, ◌≢◌, ◌⊎◌, inl, inr, ℕ, ◌+◌, ◌-◌, ◌≤◌, List, ◌∷◌, ◌++◌, length, take, refl, sym, ap, subst, ◌∙◌, append_assoc, length-append, Result, Ok, Err, MatchResult, arith, codes, All, IsTrue, Option, Some, None, IsFalse, MatchOption, option_to_list, take-append_seam, cases_lt, cases_eq, append-nil, take_all, take-take, take-append-le, length-take, length-take-le, filter_map-append, All-nil, All-push, ArrayVec, is_text_byte, Day, line_of, IsWithout, IsFirstPart, FormFault, Heading, IsLineText, heading_words, letter_of_byte, letters_from, IsHeading, BeginsHeading, SaysBody, HasHeading, IsExpected, IsEarlyFault, InHeading, InNumber, InBody, IsPartFault, HoldsBody, IsBodyGiven, FitsAt, HasBegun, HoldsPart, HoldsStage, HoldsForm, IsHeadingDue, IsHeadingOff, Missing, Other, IsLetterCount, IsPartRead, BadByte, BadHeading, PartOrder, given_letters, IsRefusedForGood, NoHeading, form_message, IsRefusedAtEnd, IsRefused, Closes, Held, OfRest, ReadsTo, IsReadTo, StandsAt, EndsAt, IsComplete, IsLast, AtPart, cut, parts_of, Place, at_first, place_behind, HasTail, place_of, IsAt, map-append, given_byte, blank_of}
+use Rattle.kd_form.proofs.Prelude.{[], ◌≡◌, ◌≢◌, ◌⊎◌, inl, inr, ℕ, ◌+◌, ◌-◌, ◌≤◌, List, ◌∷◌, ◌++◌, length, take, refl, sym, ap, subst, ◌∙◌, append_assoc, length-append, Ok, Err, arith, codes, All, IsTrue, Option, Some, None, IsFalse, MatchOption, option_to_list, take-append_seam, cases_lt, cases_eq, append-nil, take_all, take-take, take-append-le, length-take, length-take-le, filter_map-append, All-nil, All-push, ArrayVec, is_text_byte, Day, line_of, IsWithout, IsFirstPart, FormFault, Heading, IsLineText, heading_words, letter_of_byte, letters_from, IsHeading, BeginsHeading, Answer, SaysBody, HasHeading, IsExpected, IsEarlyFault, InHeading, InNumber, InBody, IsPartFault, HoldsBody, IsBodyGiven, FitsAt, HasBegun, HoldsPart, HoldsStage, HoldsForm, IsHeadingDue, IsHeadingOff, Missing, Other, IsLetterCount, IsPartRead, BadByte, BadHeading, PartOrder, given_letters, IsRefusedForGood, NoHeading, form_message, IsRefusedAtEnd, IsRefused, Closes, Held, OfRest, ReadsTo, IsReadTo, StandsAt, EndsAt, IsComplete, IsLast, AtPart, cut, parts_of, Place, at_first, place_behind, HasTail, place_of, map-append, given_byte, blank_of}
 use Rattle.kd_form.specs.declared.part_body.PartBody.{PartBody}
 use Rattle.kd_form.proofs.Headings.{at_most, has_byte, ended_heading, one_heading, begins_there}
 use Rattle.kd_form.specs.declared.form_reader.FormReader.{FormReader}
@@ -86,11 +86,10 @@ are_shown others kept shown letters more few size is cut = elim (cases_lt 525 (l
       inl (cut ∙ ap (λ n. take n kept) count ∙ ap (take (length letters)) whole ∙ take-append_seam letters more)
 ]
 
-pub body_told : {X : Type 0} (items : X → List ℕ) (s : Day) (h : Heading) (others : ℕ) (kept shown letters more : List ℕ) (answer : Result X FormFault)
-    → IsHeading s h → others ≤ 4 → length more ≡ others → kept ≡ take 525 (letters ++ more) → shown ≡ take (length kept - others) kept
-    → MatchResult answer (λ x. SaysBody s h.part h shown (Ok (items x))) (λ fault. SaysBody s h.part h shown (Err fault))
-    → MatchResult answer (λ x. SaysBody s h.part h letters (Ok (items x))) (λ fault. SaysBody s h.part h letters (Err fault))
-body_told items s h others kept shown letters more answer is few size kept_is cut told = grind (arith, are_shown, at_most)
+pub body_told : (s : Day) (h : Heading) (others : ℕ) (kept shown letters more : List ℕ) (v : Answer) → IsHeading s h → others ≤ 4
+    → length more ≡ others → kept ≡ take 525 (letters ++ more) → shown ≡ take (length kept - others) kept
+    → SaysBody s h.part h shown v → SaysBody s h.part h letters v
+body_told s h others kept shown letters more v is few size kept_is cut told = grind (arith, are_shown, at_most)
 
 -- -------- a whole part
 
@@ -467,23 +466,17 @@ module _ (s : Day) (r : FormReader) (form text : List ℕ) (h : HoldsForm s r fo
             append_assoc h.front whole heads,
             append_assoc front (10 ∷ []) heads,
           );
-          cuts = λ more. ap parts_of (append_assoc form (byte ∷ []) more) ∙ h.cuts (byte ∷ more)
-              ∙ ap (λ ps. h.parts ++ ps) (as_parts (h.last ++ byte ∷ more) _ _ (cut_off more))
-              ∙ sym (append_assoc h.parts (whole ∷ []) (parts_of (codes "PART " ++ byte ∷ more)));
+          cuts = grind (arith, append_assoc, as_parts, cut_off);
           alone = ap (λ c. c.1) (one_more (codes "PART ") byte head_unbroken);
           begun = inr (elim h.begun [
             | inl nil ↦ subst (λ f. BeginsHeading (f ++ whole)) (sym nil) (begins_there s whole b.heading there.holds.last.settled ended.next.has)
             | inr begun ↦ begins_more h.front whole begun
           ]);
           first = λ same. absurd (omega (arith, same, there.numbered, there.holds.is_heading.number.first));
-          read = reads_then s (here s r form text h) (IsAt _) at_first h.parts (whole ∷ []) h.letters one h.read
-              (inr (b.heading.parts, one, [], read, there.due, ((rw (length-append h.front whole) refl, refl), refl), sym (append-nil one)));
+          read = grind (arith, reads_then, at_first, read, length-append, append-nil);
           is = cc (h.is, given, map-append (given_byte (blank_of s)) h.letters one);
           counted = omega (arith, h.counted, length-append form (byte ∷ []));
-          stage = (
-            record { kept = is_head; unbroken = All-push (λ b. b ≢ 10) (codes "PART ") byte head_unbroken (omega (arith, digit.1)); begins = inr (begins byte [] digit.1 digit.2) },
-            λ few. absurd (omega (arith, few)),
-          );
+          stage = grind (arith, All-push, head_unbroken, begins);
         }
 
   -- ---- the end

@@ -1,4 +1,5 @@
 -- The form that an order becomes gives the order's letters back.
+use Rattle.std.proofs.lemmas.Grind.{common_steps}
 use Rattle.kd_form.proofs.Prelude.{◌≡◌, ◌≢◌, ℕ, ◌+◌, ◌%◌, ◌<◌, ◌≤◌, inl, inr, List, [], ◌∷◌, ◌++◌, length, take, drop, refl, sym, ap, subst, ◌∙◌, append_assoc, length-append, arith, All, Option, Some, None, IfSome, flat_map, cons_option, cases_lt, append-nil, take_all, drop_all, length-take, length-take-le, take-append-drop, All-nil, All-cons, All-head, All-tail, All-take, All-drop, TheDayDeciphersItself, Day, IsLegalDay, Keys, BeginsHeading, given_text, sent_letters, AreKeys, FormsGiveTheirOrders, Suits, part_size, filled, Part, part_text, pieces, body_text, SaysBody, Ok, IsPartRead, letters_from, blank_of, text_letters, parts_needed, AreMadeTexts, cut, ReadsTo, at_first, IsComplete, IsExpected}
 use Rattle.kd_form.proofs.Cutting.{at_cut, one_byte}
 use Rattle.kd_form.proofs.PartTexts.{by_pieces, gives_body, part_has_heading, part_begins_heading, part_is_first}
@@ -94,23 +95,14 @@ parts_are_given_back s part parts (k ∷ keys) (piece ∷ pieces) form decipher 
       counted = omega (arith, rest.counted);
       begins = λ some. part_begins_heading s made more back.is_heading;
       cut_so = part_is_first s made more rest.texts back.is_heading back.within rest.cut_so;
-      read = λ expected start due known. inr (
-        parts,
-        sent_letters s piece,
-        flat_map (sent_letters s) pieces,
-        part_is_read s part parts (sent_letters s piece) made back,
-        due,
-        rest.read (Some parts) (start + length (part_text made)) refl (λ none. refl),
-        refl,
-      );
+      read = grind (arith, part_is_read, rest.read);
     })
 parts_are_given_back s part parts _ _ form decipher legal are suited all first last few made = absurd made
 
 -- ---- the whole form
 
 some_parts : (s : Day) (letters : List ℕ) (texts : List (List ℕ)) → letters ≢ [] → length texts ≡ parts_needed s (length letters) → texts ≢ []
-some_parts s [] texts some needed none = some refl
-some_parts s (letter ∷ letters) texts some needed none = grind (arith, more_pieces, size_some)
+some_parts s letters texts e d = grind (arith, common_steps, more_pieces, size_some)
 
 pub forms_give_their_orders : TheDayDeciphersItself → FormsGiveTheirOrders
 forms_give_their_orders decipher s order form given legal is due =
@@ -126,7 +118,6 @@ forms_give_their_orders decipher s order form given legal is due =
     let read = back.read None 0 tt (λ none. absurd (some none)) in
     record {
       letters = sent;
-      read = subst (λ ps. ReadsTo s IsComplete at_first ps sent) (sym (ap (λ c. c.1) back.cut_so) ∙ ap (λ c. c.1) (at_cut form (back.begins some)))
-          (subst (ReadsTo s IsComplete at_first back.texts) (sent_pieces s letters) read);
+      read = grind (arith, at_first, at_cut, back.begins, sent_pieces, letters, read);
       is = due.is ∙ ap (λ t. given_text s (sent_letters s (text_letters s t))) (sym same.2);
     }

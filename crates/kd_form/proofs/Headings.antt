@@ -1,7 +1,7 @@
 -- The line of a heading: its words, its first bytes, and that a part has one.
 use Rattle.std.proofs.Common.{rules}
 use Rattle.std.proofs.lemmas.Grind.{common_steps}
-use Rattle.kd_form.proofs.Prelude.{◌≡◌, ◌≢◌, ℕ, ◌^◌, ◌<◌, List, length, get_or, sym, ◌∙◌, append_assoc, arith, ◌+◌, ◌≤◌, [], ◌∷◌, take, refl, ap, inl, inr, ◌++◌, length-append, drop, codes, decimal, All, Option, Some, None, MatchOption, IsInRange, All-from_get_or, All-get_or, All-cons, All-nil, All-append, All-map, All-push, All-weaker, IsWithout, IsFirstPart, line_of, words_of, IsWord, texts_tell_first_parts, numbers_are_words, lines_split_into_words, parts_make_lines, fraction, indicator_words, heading_words, length-map, append-nil, append_cancel_right, take_all, get_or-map, letters_text, AreFewLetters, IsFraction, IsLetterCount, IsHeading, AreHeadingWords, HasFirstLine, IsLineText, WithReturn, WithoutReturn, BeginsHeading, Day, OfRotors, OfPins, Heading, Indicator, HasIndicator, HasSlots, HasPins, get_or-append_seam, HasHeading}
+use Rattle.kd_form.proofs.Prelude.{◌≡◌, ◌≢◌, ℕ, ◌^◌, ◌<◌, List, length, get_or, sym, ◌∙◌, append_assoc, arith, ◌+◌, ◌≤◌, [], ◌∷◌, take, refl, ap, inl, inr, ◌++◌, length-append, drop, codes, decimal, All, Option, Some, None, MatchOption, IsInRange, All-from_get_or, All-get_or, All-cons, All-nil, All-append, All-map, All-push, All-weaker, IsWithout, IsFirstPart, line_of, words_of, IsWord, texts_tell_first_parts, numbers_are_words, lines_split_into_words, parts_make_lines, fraction, indicator_words, heading_words, length-map, append-nil, append_cancel_right, take_all, get_or-map, letters_text, AreFewLetters, IsFraction, IsLetterCount, IsHeading, AreHeadingWords, HasFirstLine, IsLineText, BeginsHeading, Day, OfRotors, OfPins, Heading, Indicator, HasIndicator, HasSlots, HasPins, get_or-append_seam, HasHeading}
 use Rattle.std.specs.Str.Parse.{digits_value}
 use Rattle.std.proofs.lemmas.Fmt.{digits_decimal, decimal_injective, length-decimal-le, decimal_nonempty}
 use Rattle.std.proofs.lemmas.Str.Parse.{IsNumeralModel, numerals_by_value, tells_by_index}
@@ -155,10 +155,7 @@ bare_heading s part h rest unbroken has = elim has.first [
 
 -- a line has one text
 one_line_text : (line text other : List ℕ) → IsLineText line text → IsLineText line other → text ≡ other
-one_line_text line text other (WithReturn is) (WithReturn also) = append_cancel_right text other (13 ∷ []) (sym is ∙ also)
-one_line_text line text other (WithReturn is) (WithoutReturn also none) = absurd (none text is)
-one_line_text line text other (WithoutReturn is none) (WithReturn also) = absurd (none other also)
-one_line_text line text other (WithoutReturn is none) (WithoutReturn also nor) = is ∙ sym also
+one_line_text line text other e d = grind (arith, append_cancel_right)
 
 -- ---- the first 64 bytes of a line tell its heading
 
@@ -238,18 +235,10 @@ one_heading s part h other body rest a b =
 
 -- the line begins with PART, a space and a digit
 pub words_begin : (s : Day) (h : Heading) (more : List ℕ) → IsHeading s h → BeginsHeading (line_of (heading_words h) ++ more)
-words_begin s h more is =
-    let small = (are_small s h is).part in
-    let some : 0 < length (decimal h.part) = decimal_nonempty h.part small in
-    let figure : IsInRange 48 57 (get_or (decimal h.part) 0 0) = digits_decimal figures h.part small 0 some in
-    let first : decimal h.part ≡ get_or (decimal h.part) 0 0 ∷ drop 1 (decimal h.part) = drop-cons (decimal h.part) 0 0 some in
-    rw first (begins (get_or (decimal h.part) 0 0) _ figure.0 figure.1)
+words_begin s h more is = grind (arith, are_small, decimal_nonempty, digits_decimal, figures, drop-cons, begins)
 
 line_front : (text line rest : List ℕ) → HasFirstLine text line rest → (more : List ℕ) × (text ≡ line ++ more)
-line_front text line rest (inl (shown, first, WithReturn is)) =
-    (13 ∷ 10 ∷ rest, first.joined ∙ ap (λ l. l ++ 10 ∷ rest) is ∙ append_assoc line (13 ∷ []) (10 ∷ rest))
-line_front text line rest (inl (shown, first, WithoutReturn is none)) = (10 ∷ rest, first.joined ∙ ap (λ l. l ++ 10 ∷ rest) (sym is))
-line_front text line rest (inr (none, whole, nil)) = ([], whole ∙ sym (append-nil line))
+line_front text line rest e = grind (arith, append_assoc, append-nil)
 
 pub begins_there : (s : Day) (part : List ℕ) (h : Heading) (body : List ℕ) → HasHeading s part h body → BeginsHeading part
 begins_there s part h body has =

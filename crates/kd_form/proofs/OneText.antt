@@ -35,8 +35,7 @@ module _ (s : Day) where
   reads_then q B p [] others letters more ((there, none), nil) rest = rw nil (subst (λ x. ReadsTo s B x others more) (sym there) rest)
   reads_then q B p (part ∷ parts) others letters more (inl ((there, none), nil)) rest = absurd (cc)
   reads_then q B p (part ∷ parts) others letters more (inr (count, one, left, is, due, reads, joined)) rest =
-      let later = reads_then q B (place_behind p count part) parts others left more reads rest in
-      inr (count, one, left ++ more, is, due, later, ap (λ l. l ++ more) joined ∙ append_assoc one left more)
+      grind (arith, reads_then q B (place_behind p count part) parts others left more reads rest, append_assoc)
 
   -- what is so at a rest, whichever it is
   pub reads_end : (A : OfRest) (P : Type 0) → ((p : Place) (parts : List (List ℕ)) → A p parts → P) → (p : Place) (parts : List (List ℕ)) (letters : List ℕ)

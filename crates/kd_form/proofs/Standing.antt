@@ -1,5 +1,5 @@
 -- What refuses a form: its parts, one after another, and for good.
-use Rattle.kd_form.proofs.Prelude.{[], ◌≡◌, inl, inr, ℕ, false, List, refl, sym, ap, subst, ◌∙◌, Option, Result, Err, ◌⊎◌, ◌+◌, ◌-◌, ◌∷◌, ◌++◌, length, append_assoc, length-append, arith, Port, Fail, Parts, Day, FormFault, BadByte, InHeading, InNumber, InBody, IsEarlyFault, NoHeading, form_message, IsReceiveFault, IsKeyFault, IsBadAt, orders, Answers, AreWell, is_device, is_off_key, texts, IsWithout, BeginsHeading, FormsStayRefused, Message, ReadsTo, Place, at_first, place_behind, StandsAt, AtPart, cut, parts_of}
+use Rattle.kd_form.proofs.Prelude.{[], ◌≡◌, inl, inr, ℕ, false, List, refl, sym, ap, subst, ◌∙◌, Option, Result, Err, ◌⊎◌, ◌+◌, ◌-◌, ◌∷◌, ◌++◌, length, append_assoc, length-append, arith, Port, Fail, Parts, Day, FormFault, BadByte, InHeading, InNumber, InBody, IsEarlyFault, NoHeading, form_message, IsReceiveFault, IsKeyFault, IsBadAt, orders, Answers, AreWell, is_device, is_off_key, texts, IsWithout, FormsStayRefused, Message, ReadsTo, Place, at_first, place_behind, StandsAt, AtPart, cut, parts_of}
 use Rattle.kd_form.proofs.Headings.{ended_heading, heading_there}
 use Rattle.kd_form.proofs.OneText.{AnswersAt, fault_answer, reads_end}
 use Rattle.kd_form.proofs.Cutting.{IsAlike, alike, as_parts, first_done, single}
@@ -18,8 +18,7 @@ abbrev IsOfForms : FormFault → Type 0
 IsOfForms fault = (is_device (Err fault) ≡ false) × (is_off_key (Err fault) ≡ false)
 
 at_told : (s : Day) (fault : FormFault) (p : Place) (parts : List (List ℕ)) → AnswersAt s (Err fault) p parts → IsOfForms fault
-at_told s fault p [] answer = grind arith
-at_told s fault p (part ∷ parts) answer = grind arith
+at_told s fault p parts e = grind arith
 
 refused_told : (s : Day) (form : List ℕ) (fault : FormFault) → IsReceiveFault s form fault → IsOfForms fault
 refused_told s form fault found =
@@ -103,7 +102,6 @@ reads_on s fault more p (part ∷ next ∷ parts) form letters same (inr (count,
     subst (λ ps. ReadsTo s (StandsAt s fault) p ps letters) (sym same) (inr (count, one, left, is, due, rest, joined))
 
 pub stays_refused : FormsStayRefused
-stays_refused s form more text fault (NoHeading none empty is) =
-    NoHeading (λ others. subst (λ l. ¬ (BeginsHeading l)) (sym (append_assoc form more others)) (none (more ++ others))) empty is
+stays_refused s form more text fault (NoHeading none empty is) = grind (arith, NoHeading, append_assoc, none, empty)
 stays_refused s form more text fault (AtPart (letters, reads, is)) =
     AtPart (letters, reads_on s fault more at_first (parts_of form) form letters refl reads, is)

@@ -1,10 +1,9 @@
 -- What a piece of a text lights up, and what was typed so far.
 use Rattle.std.proofs.Common.{append-nil, take-append-drop, length-take-le}
-use Rattle.kd_form.proofs.Prelude.{◌≡◌, ℕ, ◌+◌, ◌≤◌, ◌<◌, Bool, List, [], ◌∷◌, ◌++◌, IsTrue, IsFalse, Option, option_to_list, Ok, Err, length, take, drop, get_or, suc, None, refl, sym, ap, subst, ◌∙◌, append_assoc, length-append, drop-cons, arith, map-append, take_all, All-nil, All-append, filter_map-append, Appends, is_text_byte, letters_text, TakesFront, Parts, CipherInTurn, EngineIsTheMachine, EngineKey, OfWheels, OfDrum, cipher, physical_key, physical_cipher, BadByte, letter_of_byte, IsRefused, Held, FeedsAll, typed_letters, cipher_text, texts, IsTextFault, Lights, IsAllowedTo, IsTypedTo}
+use Rattle.kd_form.proofs.Prelude.{◌≡◌, ℕ, ◌+◌, ◌≤◌, ◌<◌, Bool, List, [], ◌∷◌, ◌++◌, IsTrue, IsFalse, Option, Ok, Err, length, take, drop, get_or, suc, refl, sym, ap, subst, ◌∙◌, append_assoc, length-append, drop-cons, arith, map-append, take_all, All-nil, All-append, filter_map-append, Appends, is_text_byte, letters_text, TakesFront, Parts, CipherInTurn, EngineIsTheMachine, EngineKey, cipher, physical_key, physical_cipher, BadByte, IsRefused, Held, FeedsAll, typed_letters, cipher_text, texts, IsTextFault, Lights, IsAllowedTo, IsTypedTo}
 use Rattle.kd_form.specs.declared.stream.stop.Stop.TheVariants as stops
 use Rattle.kd_form.specs.declared.typing.Typist.{Typist}
 use Rattle.kd_form.proofs.OneOrder.{bad_behind, no_bad_byte}
-use Rattle.kd_form.proofs.Plain.{letters_first}
 use Rattle.kd_form.specs.StreamSteps.{Ends as MessageEnds}
 use Rattle.kd_form.proofs.Streaming.{fed_in_part, fed_up_to, fed_whole, over}
 
@@ -12,8 +11,7 @@ use Rattle.kd_form.proofs.Streaming.{fed_in_part, fed_up_to, fed_whole, over}
 
 -- no letters light no lamp
 cipher_text-nil : (key : EngineKey) → cipher_text (cipher key) [] ≡ []
-cipher_text-nil (OfWheels key) = refl
-cipher_text-nil (OfDrum key) = refl
+cipher_text-nil key = grind arith
 
 -- ---- what was typed so far
 
@@ -23,8 +21,7 @@ cut_at bytes n inside = sym (take-append-drop n bytes) ∙ ap (λ l. take n byte
 
 module _ (m : Parts) where
   text_is : (t : Typist) (bytes text : List ℕ) → IsTypedTo m t bytes text → text ≡ cipher_text (physical_cipher m) bytes
-  text_is t bytes text typed =
-      sym (append-nil text) ∙ ap (λ l. text ++ l) (sym (cipher_text-nil t.engine)) ∙ sym (typed.behind []) ∙ ap (cipher_text (physical_cipher m)) (append-nil bytes)
+  text_is t bytes text typed = grind (arith, append-nil text, cipher_text-nil t.engine, append-nil bytes, bytes)
 
   pub typed_held : (t : Typist) (bytes text : List ℕ) → IsTypedTo m t bytes text
       → Held (texts (physical_cipher m)) (IsTypedTo m t) bytes text

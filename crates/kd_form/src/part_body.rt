@@ -73,28 +73,8 @@ impl PartBody {
         keep_byte(&mut self.line, byte);
     }
 
-    /// The letters of the part's text. The last ones of the body, so many, are left out: those of the next heading.
-    pub(crate) fn read(
-        &self,
-        day: &SheetDay,
-        others: usize,
-    ) -> Result<ArrayVec<Letter, 500>, FormFault>
-        requires heading { IsHeading day.now self.now.heading }
-        requires some { others ≤ length self.now.letters.items }
-        requires few { others ≤ 4 }
-        ensures { (letters more : List ℕ) → length more ≡ others
-            → self.now.letters.items ≡ take 525 (letters ++ more)
-            → MatchResult result
-            (λ text. SaysBody day.now self.now.heading.part self.now.heading letters (Ok text.items))
-            (λ fault. SaysBody day.now self.now.heading.part self.now.heading letters (Err fault)) }
-    {
-        let letters = self.letters.as_slice();
-        let (letters, _) = letters.split_at(letters.len() - others);
-        read_body(day, &self.heading, letters)
-    }
-
-    /// Tells the same letters as they are given. It stands apart, as the bytes before the last one have no room to be made
-    /// for them.
+    /// Tells the letters of the part's text as they are given. The last ones of the body, so many, are left out: those of the
+    /// next heading. It stands apart, as the bytes before the last one have no room to be made for them.
     #[inline(never)]
     pub(crate) fn give(
         &self,
@@ -113,7 +93,9 @@ impl PartBody {
         ensures few { OnOk result (length made.new.items ≤ 500) }
         ensures unchanged { OnErr result (made.new ≡ made.old) }
     {
-        match self.read(day, others) {
+        let letters = self.letters.as_slice();
+        let (letters, _) = letters.split_at(letters.len() - others);
+        match read_body(day, &self.heading, letters) {
             Ok(letters) => {
                 *made = given_letters(day, letters.as_slice());
                 Ok(())

@@ -28,9 +28,7 @@ pub overflow_add-self : goal.overflow_add-self
 overflow_add-self c = omega (arith, c.requires.room.held.is.counted, c.requires.room.within)
 
 pub overflow_add-self-in-Ok-give : goal.overflow_add-self-in-Ok-give
-overflow_add-self-in-Ok-give c =
-    let there = (in_stage _ c.args.self.now c.requires.room.bytes _ c.requires.room.held.is _ c.in-Body.is) in
-    omega (arith, there.numbered, there.holds.is_heading.number.in_order, there.holds.is_heading.number.few)
+overflow_add-self-in-Ok-give c = grind (arith, in_stage)
 
 pub give-requires-clause-heading : goal.give-requires-clause-heading
 give-requires-clause-heading c = (in_stage _ c.args.self.now c.requires.room.bytes _ c.requires.room.held.is _ c.in-Body.is).holds.is_heading
