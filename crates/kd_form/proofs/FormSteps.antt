@@ -1,13 +1,13 @@
 -- The reader of a form, byte by byte, and at the end.
-use Rattle.kd_form.proofs.Prelude.{[], ◌≡◌, ◌≢◌, ◌⊎◌, inl, inr, ℕ, ◌+◌, ◌-◌, ◌≤◌, List, ◌∷◌, ◌++◌, length, take, refl, sym, ap, subst, ◌∙◌, append_assoc, length-append, Ok, Err, arith, codes, All, IsTrue, Option, Some, None, IsFalse, MatchOption, option_to_list, take-append_seam, cases_lt, cases_eq, append-nil, take_all, take-take, take-append-le, length-take, length-take-le, filter_map-append, All-nil, All-push, ArrayVec, is_text_byte, Day, line_of, IsWithout, IsFirstPart, FormFault, Heading, IsLineText, heading_words, letter_of_byte, letters_from, IsHeading, BeginsHeading, Answer, SaysBody, HasHeading, IsExpected, IsEarlyFault, InHeading, InNumber, InBody, IsPartFault, HoldsBody, IsBodyGiven, FitsAt, HasBegun, HoldsPart, HoldsStage, HoldsForm, IsHeadingDue, IsHeadingOff, Missing, Other, IsLetterCount, IsPartRead, BadByte, BadHeading, PartOrder, given_letters, IsRefusedForGood, NoHeading, form_message, IsRefusedAtEnd, IsRefused, Closes, Held, OfRest, ReadsTo, IsReadTo, StandsAt, EndsAt, IsComplete, IsLast, AtPart, cut, parts_of, Place, at_first, place_behind, HasTail, place_of, map-append, given_byte, blank_of}
+use Rattle.kd_form.proofs.Prelude.{[], ◌≡◌, ◌≢◌, ◌⊎◌, inl, inr, ℕ, ◌+◌, ◌-◌, ◌≤◌, List, ◌∷◌, ◌++◌, length, take, refl, sym, ap, subst, ◌∙◌, append_assoc, length-append, Ok, Err, arith, codes, All, IsTrue, Option, Some, None, MatchOption, option_to_list, take-append_seam, cases_lt, cases_eq, append-nil, take_all, take-take, take-append-le, length-take, length-take-le, filter_map-append, All-nil, All-push, ArrayVec, is_text_byte, Day, line_of, IsWithout, IsFirstPart, FormFault, Heading, IsLineText, heading_words, letter_of_byte, letters_from, IsHeading, BeginsHeading, Answer, SaysBody, HasHeading, IsExpected, IsEarlyFault, InHeading, InNumber, InBody, IsPartFault, HoldsBody, IsBodyGiven, FitsAt, HasBegun, HoldsPart, HoldsStage, HoldsForm, IsHeadingDue, IsHeadingOff, Missing, Other, IsLetterCount, IsPartRead, PartOrder, given_letters, IsRefusedForGood, NoHeading, form_message, IsRefusedAtEnd, IsRefused, Closes, Held, OfRest, ReadsTo, IsReadTo, StandsAt, EndsAt, IsComplete, IsLast, AtPart, cut, parts_of, Place, at_first, place_behind, HasTail, place_of, map-append, given_byte, blank_of}
 use Rattle.kd_form.specs.declared.part_body.PartBody.{PartBody}
-use Rattle.kd_form.proofs.Headings.{at_most, has_byte, ended_heading, one_heading, begins_there}
+use Rattle.kd_form.proofs.Headings.{at_most, has_byte, one_heading, begins_there}
 use Rattle.kd_form.specs.declared.form_reader.FormReader.{FormReader}
 use Rattle.kd_form.specs.declared.form_reader.Stage.{Stage}
 use Rattle.kd_form.specs.declared.form_reader.Stage.TheVariants as stages
 use Rattle.kd_form.proofs.Plain.{All-front, letters_first, whole_line, head_unbroken}
-use Rattle.kd_form.proofs.Cutting.{as_parts, begins, begins_more, first_ends, first_more, follows, may_begin, not_begun, one_more, single}
-use Rattle.kd_form.proofs.OneOrder.{bad_behind, no_bad_byte}
+use Rattle.kd_form.proofs.Cutting.{as_parts, begins, begins_more, first_ends, first_more, follows, may_begin, one_more, single}
+use Rattle.kd_form.proofs.OneOrder.{no_bad_byte}
 use Rattle.kd_form.proofs.OneText.{NeverPasses, read_or_refused, reads_meet, reads_then, stands_at}
 use Rattle.kd_form.proofs.Standing.{stays_refused}
 
@@ -28,7 +28,7 @@ letters_kept old body byte kept =
 
 -- ---- a byte more
 
-first_longer : (part line body : List ℕ) (byte : ℕ) → IsFirstPart 10 part line body → IsFirstPart 10 (part ++ byte ∷ []) line (body ++ byte ∷ [])
+pub first_longer : (part line body : List ℕ) (byte : ℕ) → IsFirstPart 10 part line body → IsFirstPart 10 (part ++ byte ∷ []) line (body ++ byte ∷ [])
 first_longer part line body byte first =
     record { joined = ap (λ l. l ++ byte ∷ []) first.joined ∙ append_assoc line (10 ∷ body) (byte ∷ []); without = first.without }
 
@@ -101,19 +101,19 @@ abbrev pub IsSaid : PartBody → ℕ → (List ℕ → Type 0) → Type 0
 IsSaid b others P = (letters more : List ℕ) → length more ≡ others → b.letters.items ≡ take 525 (letters ++ more) → P letters
 
 -- the body of a whole part, the next one, of so many; these letters more are kept
-record IsNext (s : Day) (b : PartBody) (number : ℕ) (expected : Option ℕ) (part body more : List ℕ) : Type 0 where
-  has : HasHeading s part b.heading body
-  numbered : b.heading.part ≡ number
-  due : IsExpected expected b.heading.parts
-  allowed : All (λ b. IsTrue (is_text_byte b)) body
-  kept : b.letters.items ≡ take 525 (letters_from None body ++ more)
+pub record IsNext (s : Day) (b : PartBody) (number : ℕ) (expected : Option ℕ) (part body more : List ℕ) : Type 0 where
+  pub has : HasHeading s part b.heading body
+  pub numbered : b.heading.part ≡ number
+  pub due : IsExpected expected b.heading.parts
+  pub allowed : All (λ b. IsTrue (is_text_byte b)) body
+  pub kept : b.letters.items ≡ take 525 (letters_from None body ++ more)
 
 module _ (s : Day) (b : PartBody) (number : ℕ) (expected : Option ℕ) (part body more : List ℕ) (next : IsNext s b number expected part body more) where
   next_read : (made : List ℕ) → IsSaid b (length more) (λ letters. IsBodyGiven s b.heading letters made)
       → (one : List ℕ) × IsPartRead s number b.heading.parts part one × (made ≡ given_letters s one)
   next_read made told = grind (arith, told (letters_from None body) more refl next.kept)
 
-  next_refused : (fault : FormFault) → IsSaid b (length more) (λ letters. SaysBody s b.heading.part b.heading letters (Err fault))
+  pub next_refused : (fault : FormFault) → IsSaid b (length more) (λ letters. SaysBody s b.heading.part b.heading letters (Err fault))
       → (start : ℕ) → IsPartFault s number expected start part fault
   next_refused fault told start = grind (arith, told (letters_from None body) more refl next.kept)
 
@@ -220,26 +220,6 @@ refused s form text fault found = record {
   written = λ more. inl (stays_refused s form more text fault found);
 }
 
--- ---- at the start
-
-pub starts : (s : Day) (line : ArrayVec ℕ) → line.items ≡ []
-    → HoldsForm s (record { position = 0; number = 1; expected = None; stage = stages.Heading line }) [] []
-starts s line none = record {
-  front = [];
-  last = [];
-  parts = [];
-  letters = [];
-  joined = refl;
-  cuts = λ more. refl;
-  alone = refl;
-  begun = inl refl;
-  first = λ one. (refl, refl);
-  read = ((refl, refl), refl);
-  is = refl;
-  counted = refl;
-  stage = (record { kept = none; unbroken = All-nil (λ b. b ≢ 10); begins = inl (0, omega arith, refl) }, λ few. refl);
-}
-
 -- ---- the body
 
 -- a digit stands behind the five bytes of a heading
@@ -253,7 +233,7 @@ by_lines s b part body holds =
     cc (holds.first.joined, tail.lines, tail.broken, append_assoc holds.line (10 ∷ tail.settled) tail.tail, append_assoc tail.front (10 ∷ []) tail.tail)
 
 -- where none does, the part goes on
-goes_on : (s : Day) (b : PartBody) (part body : List ℕ) (byte : ℕ) → HoldsBody s b part body → (cut part).1 ≡ [] → ¬ (IsDigitDue b byte)
+pub goes_on : (s : Day) (b : PartBody) (part body : List ℕ) (byte : ℕ) → HoldsBody s b part body → (cut part).1 ≡ [] → ¬ (IsDigitDue b byte)
     → cut (part ++ byte ∷ []) ≡ (part ++ byte ∷ [], [])
 goes_on s b part body byte holds none not =
     let last = holds.last in
@@ -320,23 +300,12 @@ module _ (s : Day) (r : FormReader) (form text : List ℕ) (h : HoldsForm s r fo
   }
 
   -- with more bytes a part is refused
-  refused_at : (fault : FormFault) (more part : List ℕ) (others : List (List ℕ)) → cut (h.last ++ more) ≡ (part, others)
+  pub refused_at : (fault : FormFault) (more part : List ℕ) (others : List (List ℕ)) → cut (h.last ++ more) ≡ (part, others)
       → StandsAt s fault (here s r form text h) (part ∷ others) → IsRefused (form_message s) (form ++ more) text fault
   refused_at fault more part others are stands =
       let (letters, reads, is) =
       reaches s r form text h (StandsAt s fault) more [] [] (part ∷ others) (as_parts (h.last ++ more) part others are) (inl (stands, refl)) refl in
       refused s (form ++ more) text fault (AtPart (letters, reads, sym (append-nil text) ∙ is))
-
-  -- no heading begins with that byte
-  pub not_following : (line : ArrayVec ℕ) (byte : ℕ) → r.stage ≡ stages.Heading line → ¬ (FitsAt (length line.items) byte)
-      → IsRefused (form_message s) (form ++ byte ∷ []) text (BadHeading r.number)
-  not_following line byte stage off =
-      let there = in_stage (stages.Heading line) stage in
-      let (few, none) = not_begun h.last line.items byte there.0.kept off in
-      let (front, nil) = h.first (there.1 few) in
-      refused s (form ++ byte ∷ []) text (BadHeading r.number) (NoHeading
-      (λ more begun. none more (subst (λ l. BeginsHeading ((l ++ byte ∷ []) ++ more)) (rw front at h.joined) begun))
-      (h.is ∙ ap (given_letters s) nil) (ap BadHeading (there.1 few)))
 
   pub longer_line : (line next : ArrayVec ℕ) (made : List ℕ) (byte : ℕ) → r.stage ≡ stages.Heading line → byte ≢ 10
       → FitsAt (length line.items) byte → next.items ≡ take 64 (line.items ++ byte ∷ []) → made ≡ []
@@ -382,18 +351,6 @@ module _ (s : Day) (r : FormReader) (form text : List ℕ) (h : HoldsForm s r fo
         due = rw heads due.due;
       })
 
-  -- or it isn't
-  pub heading_refused : (line : ArrayVec ℕ) (found : Option Heading) (fault : FormFault) → r.stage ≡ stages.Heading line
-      → ((part : List ℕ) → IsWithout 10 part → line.items ≡ take 64 part → IsEndedBy s part found) → IsHeadingOff r.number r.expected found fault
-      → IsRefused (form_message s) (form ++ 10 ∷ []) text fault
-  heading_refused line found fault stage told wrong =
-      let there = in_stage (stages.Heading line) stage in
-      let ended = told h.last there.0.unbroken there.0.kept in
-      refused_at fault (10 ∷ []) (h.last ++ 10 ∷ []) [] (one_more h.last 10 there.0.unbroken) (
-        (h.last, [], record { joined = refl; without = there.0.unbroken }),
-        off s r.number r.expected (length h.front) (h.last ++ 10 ∷ []) found fault (grind (arith, ended_heading, there.0.unbroken)) wrong,
-      )
-
   pub longer_body : (b next : PartBody) (made : List ℕ) (byte : ℕ) → r.stage ≡ stages.Body b → ¬ (IsDigitDue b byte)
       → ((day : Day) (part body : List ℕ) → HoldsBody day b part body → HoldsBody day next (part ++ byte ∷ []) (body ++ byte ∷ []))
       → next.heading ≡ b.heading → made ≡ [] → HoldsForm s (behind r (stages.Body next)) (form ++ byte ∷ []) (text ++ made)
@@ -405,20 +362,6 @@ module _ (s : Day) (r : FormReader) (form text : List ℕ) (h : HoldsForm s r fo
         numbered = rw same there.numbered;
         due = rw same there.due;
       })
-
-  pub bad_byte : (b : PartBody) (byte : ℕ) → r.stage ≡ stages.Body b → ¬ (IsDigitDue b byte) → IsFalse (is_text_byte byte)
-      → IsRefused (form_message s) (form ++ byte ∷ []) text (BadByte (r.position + 1))
-  bad_byte b byte stage not bad =
-      let there = in_stage (stages.Body b) stage in
-      let body : List ℕ = there.body ++ byte ∷ [] in
-      let first = first_longer h.last there.holds.line there.body byte there.holds.first in
-      let place : r.position + 1 ≡ length h.front + (length (h.last ++ byte ∷ []) - length body) + length there.body + 1 =
-      omega (arith, h.counted, ap length h.joined, length-append {A = ℕ}, ap length there.holds.first.joined) in
-      refused_at (BadByte (r.position + 1)) (byte ∷ []) (h.last ++ byte ∷ []) [] (goes_on s b h.last there.body byte there.holds h.alone not) (
-        (there.holds.line, body, first),
-        InBody b.heading body (length there.body) (record { is_heading = there.holds.is_heading; first = inl (there.holds.line, first, there.holds.text) }) there.numbered there.due
-            (bad_behind there.body [] byte there.holds.allowed bad) (ap BadByte place),
-      )
 
   -- ---- the part ends, as a digit stands behind the five bytes of a heading
 
@@ -493,7 +436,7 @@ module _ (s : Day) (r : FormReader) (form text : List ℕ) (h : HoldsForm s r fo
     abbrev mine : HoldsPart s b r.number r.expected h.last
     mine = in_stage (stages.Body b) stage
 
-    next_last : IsNext s b r.number r.expected h.last mine.body []
+    pub next_last : IsNext s b r.number r.expected h.last mine.body []
     next_last = record {
       has = body_heading s b h.last mine.body mine.holds;
       numbered = mine.numbered;
@@ -501,10 +444,6 @@ module _ (s : Day) (r : FormReader) (form text : List ℕ) (h : HoldsForm s r fo
       allowed = mine.holds.allowed;
       kept = mine.holds.kept ∙ ap (take 525) (sym (append-nil (letters_from None mine.body)));
     }
-
-    pub body_refused : (fault : FormFault) → IsSaid b 0 (λ letters. SaysBody s b.heading.part b.heading letters (Err fault))
-        → (start : ℕ) → IsPartFault s r.number r.expected start h.last fault
-    body_refused = next_refused s b r.number r.expected h.last mine.body [] next_last
 
     module _ (given : List ℕ) (told : IsSaid b 0 (λ letters. IsBodyGiven s b.heading letters given)) where
       -- the last part is read, and then this is so

@@ -37,13 +37,6 @@ module _ (s : Day) where
   reads_then q B p (part ∷ parts) others letters more (inr (count, one, left, is, due, reads, joined)) rest =
       grind (arith, reads_then q B (place_behind p count part) parts others left more reads rest, append_assoc)
 
-  -- what is so at a rest, whichever it is
-  pub reads_end : (A : OfRest) (P : Type 0) → ((p : Place) (parts : List (List ℕ)) → A p parts → P) → (p : Place) (parts : List (List ℕ)) (letters : List ℕ)
-      → ReadsTo s A p parts letters → P
-  reads_end A P so p [] letters (held, none) = so p [] held
-  reads_end A P so p (part ∷ parts) letters (inl (held, none)) = so p (part ∷ parts) held
-  reads_end A P so p (part ∷ parts) letters (inr (count, one, more, is, due, rest, joined)) = reads_end A P so (place_behind p count part) parts more rest
-
   -- where the one is so of a rest, no part of that is read up to where the other is
   abbrev pub NeverPasses : OfRest → OfRest → Type 0
   NeverPasses A B = (p : Place) (part : List ℕ) (parts : List (List ℕ)) (count : ℕ) (one more : List ℕ) → A p (part ∷ parts) → IsPartRead s p.number count part one
@@ -129,7 +122,7 @@ module _ (s : Day) where
   read_or_refused {number} {expected} {start} {part = part} {one = one} {fault = fault} refused is due =
       let clash : Ok one ≡ Err fault = only_part number expected start part (Ok one) (Err fault) (part_read expected start is due) (part_fault refused) in cc
 
-  never_passes : (v w : Result (Unit {0}) FormFault) → NeverPasses s (AnswersAt s v) (AnswersAt s w)
+  pub never_passes : (v w : Result (Unit {0}) FormFault) → NeverPasses s (AnswersAt s v) (AnswersAt s w)
   never_passes v w p part parts count one more (fault, refused, answer) is due rest = read_or_refused refused is due
 
   one_at : (v w : Result (Unit {0}) FormFault) (p : Place) (parts : List (List ℕ)) → AnswersAt s v p parts → AnswersAt s w p parts → v ≡ w

@@ -1,7 +1,7 @@
 -- What refuses a form: its parts, one after another, and for good.
 use Rattle.kd_form.proofs.Prelude.{[], ◌≡◌, inl, inr, ℕ, false, List, refl, sym, ap, subst, ◌∙◌, Option, Result, Err, ◌⊎◌, ◌+◌, ◌-◌, ◌∷◌, ◌++◌, length, append_assoc, length-append, arith, Port, Fail, Parts, Day, FormFault, BadByte, InHeading, InNumber, InBody, IsEarlyFault, NoHeading, form_message, IsReceiveFault, IsKeyFault, IsBadAt, orders, Answers, AreWell, is_device, is_off_key, texts, IsWithout, FormsStayRefused, Message, ReadsTo, Place, at_first, place_behind, StandsAt, AtPart, cut, parts_of}
 use Rattle.kd_form.proofs.Headings.{ended_heading, heading_there}
-use Rattle.kd_form.proofs.OneText.{AnswersAt, fault_answer, reads_end}
+use Rattle.kd_form.proofs.OneText.{AnswersAt, fault_answer, never_passes, reads_meet}
 use Rattle.kd_form.proofs.Cutting.{IsAlike, alike, as_parts, first_done, single}
 
 -- -------- of which answers a device is the reason, or the machine
@@ -23,7 +23,8 @@ at_told s fault p parts e = grind arith
 refused_told : (s : Day) (form : List ℕ) (fault : FormFault) → IsReceiveFault s form fault → IsOfForms fault
 refused_told s form fault found =
     let (letters, reads) = fault_answer s form fault found in
-    reads_end s (AnswersAt s (Err fault)) (IsOfForms fault) (at_told s fault) at_first (parts_of form) letters reads
+    (reads_meet s (AnswersAt s (Err fault)) (AnswersAt s (Err fault)) (IsOfForms fault) (never_passes s (Err fault) (Err fault))
+    (never_passes s (Err fault) (Err fault)) (λ p parts at also. at_told s fault p parts at) at_first (parts_of form) letters letters reads reads).1
 
 told_of : (m : Message) (source sink : Port) (read text : List ℕ) (answer : Result (Unit {0}) FormFault)
     → ((fault : FormFault) → m.stands read fault ⊎ m.refused read fault → IsOfForms fault) → Answers m source sink read text answer → IsToldOf source sink answer

@@ -1,5 +1,5 @@
-use Rattle.kd_form.proofs.Prelude.{ℕ, ap, ArrayVec, ◌∙◌}
-use Rattle.kd_form.proofs.FormSteps.{body_refused, closes, closes_refused, closes_short, in_stage}
+use Rattle.kd_form.proofs.Prelude.{[], ℕ, ap, ArrayVec, ◌∙◌}
+use Rattle.kd_form.proofs.FormSteps.{next_last, next_refused, closes, closes_refused, closes_short, in_stage}
 use Rattle.kd_form.proofs.form_reader.FormReaderMessageReader.end.Goals as goal
 
 pub give-requires-clause-heading : goal.give-requires-clause-heading
@@ -21,5 +21,5 @@ returns-else-body-self c = λ form text so_far.
 pub returns-in-Err : goal.returns-in-Err
 returns-in-Err c = λ form text so_far.
     closes_refused _ c.args.self.now form text so_far.is _ c.in-Err.fault
-    (body_refused _ c.args.self.now form text so_far.is _ c.in-Body.is _ c.in-Err.ensures.given)
+    (next_refused _ _ _ _ _ _ [] (next_last _ c.args.self.now form text so_far.is _ c.in-Body.is) _ c.in-Err.ensures.given)
     (ap (λ (v : ArrayVec ℕ). v.items) c.in-Err.ensures.unchanged ∙ c.requires.empty)

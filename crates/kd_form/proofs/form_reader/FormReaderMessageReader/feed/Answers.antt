@@ -1,11 +1,20 @@
-use Rattle.kd_form.proofs.Prelude.{arith, sym, ◌∙◌, false≢true}
-use Rattle.kd_form.proofs.FormSteps.{held, in_stage, not_following, longer_line, heading_read, heading_refused, longer_body, bad_byte, four_letters, part_refused, part_read}
+use Rattle.kd_form.proofs.Cutting.{not_begun, one_more}
+use Rattle.kd_form.proofs.Headings.{ended_heading}
+use Rattle.kd_form.proofs.OneOrder.{bad_behind}
+use Rattle.kd_form.proofs.Prelude.{[], ◌∷◌, ◌++◌, ◌+◌, ◌-◌, ◌≡◌, ℕ, List, length, length-append, refl, inl, ap, subst, given_letters, BeginsHeading, NoHeading, BadHeading, BadByte, InBody, arith, sym, ◌∙◌, false≢true}
+use Rattle.kd_form.proofs.FormSteps.{first_longer, goes_on, held, in_stage, longer_line, heading_read, longer_body, off, refused, refused_at, four_letters, part_refused, part_read}
 use Rattle.kd_form.proofs.form_reader.FormReaderMessageReader.feed.Goals as goal
 
 pub returns-then-not-may_follow : goal.returns-then-not-may_follow
 returns-then-not-may_follow c = λ form text so_far.
-    not_following _ c.args.self.now form text so_far.is _ _ c.in-Heading.is
-    (λ fits. false≢true (sym c.if-not-may_follow.true ∙ c.may_follow.ensures.1 (rw c.as_slice.ensures.value fits)))
+    let h = so_far.is in
+    let there = in_stage _ c.args.self.now form text h _ c.in-Heading.is in
+    let (few, none) = not_begun h.last _ c.args.byte there.0.kept
+    (λ fits. false≢true (sym c.if-not-may_follow.true ∙ c.may_follow.ensures.1 (rw c.as_slice.ensures.value fits))) in
+    let (front, nil) = h.first (there.1 few) in
+    refused c.args.day.now _ text _ (NoHeading
+    (λ more begun. none more (subst (λ l. BeginsHeading ((l ++ c.args.byte ∷ []) ++ more)) (rw front at h.joined) begun))
+    (h.is ∙ ap (given_letters c.args.day.now) nil) (ap BadHeading (there.1 few)))
 
 pub returns-then-byte-ne10 : goal.returns-then-byte-ne10
 returns-then-byte-ne10 c = λ form text so_far.
@@ -15,8 +24,20 @@ returns-then-byte-ne10 c = λ form text so_far.
 
 pub returns-then-not-is_text_byte : goal.returns-then-not-is_text_byte
 returns-then-not-is_text_byte c = λ form text so_far.
-    bad_byte _ c.args.self.now form text so_far.is _ _ c.in-Body.is
-    (λ digit. false≢true (sym c.if-not-ends_before.true ∙ c.ends_before.ensures.1 digit)) (sym c.is_text_byte.ensures ∙ c.if-not-is_text_byte.true)
+    let h = so_far.is in
+    let r = c.args.self.now in
+    let there = in_stage _ r form text h _ c.in-Body.is in
+    let holds = there.holds in
+    let body : List ℕ = there.body ++ c.args.byte ∷ [] in
+    let first = first_longer h.last holds.line there.body c.args.byte holds.first in
+    let place : r.position + 1 ≡ length h.front + (length (h.last ++ c.args.byte ∷ []) - length body) + length there.body + 1 =
+    omega (arith, h.counted, ap length h.joined, length-append {A = ℕ}, ap length holds.first.joined) in
+    refused_at _ r form text h _ (c.args.byte ∷ []) (h.last ++ c.args.byte ∷ []) []
+    (goes_on _ _ h.last there.body c.args.byte holds h.alone (λ digit. false≢true (sym c.if-not-ends_before.true ∙ c.ends_before.ensures.1 digit))) (
+      (holds.line, body, first),
+      InBody _ body (length there.body) (record { is_heading = holds.is_heading; first = inl (holds.line, first, holds.text) }) there.numbered there.due
+          (bad_behind there.body [] c.args.byte holds.allowed (sym c.is_text_byte.ensures ∙ c.if-not-is_text_byte.true)) (ap BadByte place),
+    )
 
 pub returns-then-not-ends_before : goal.returns-then-not-ends_before
 returns-then-not-ends_before c = λ form text so_far.
@@ -46,8 +67,14 @@ returns-in-Ok c = λ form text so_far.
 
 pub returns-in-Err : goal.returns-in-Err
 returns-in-Err c = λ form text so_far.
-    rw c.if-byte-ne10.false (heading_refused _ c.args.self.now form text so_far.is _ _ _ c.in-Heading.is
-    (λ part unbroken kept. c.heading_of_ended-heading.ensures part unbroken (c.as_slice-in-Heading.ensures.value ∙ kept)) c.in-Err.ensures)
+    let h = so_far.is in
+    let r = c.args.self.now in
+    let there = in_stage _ r form text h _ c.in-Heading.is in
+    let ended = c.heading_of_ended-heading.ensures h.last there.0.unbroken (c.as_slice-in-Heading.ensures.value ∙ there.0.kept) in
+    rw c.if-byte-ne10.false (refused_at _ r form text h _ (10 ∷ []) (h.last ++ 10 ∷ []) [] (one_more h.last 10 there.0.unbroken) (
+      (h.last, [], record { joined = refl; without = there.0.unbroken }),
+      off _ r.number r.expected (length h.front) (h.last ++ 10 ∷ []) _ _ (grind (arith, ended_heading, ended, there.0.unbroken)) c.in-Err.ensures,
+    ))
 
 pub returns-in-Ok-give : goal.returns-in-Ok-give
 returns-in-Ok-give c = λ form text so_far.
