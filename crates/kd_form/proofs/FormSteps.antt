@@ -1,12 +1,12 @@
 -- The reader of a form, byte by byte, and at the end.
-use Rattle.kd_form.proofs.Prelude.{[], ◌≡◌, ◌≢◌, ◌⊎◌, inl, inr, ℕ, ◌+◌, ◌-◌, ◌≤◌, List, ◌∷◌, ◌++◌, length, take, refl, sym, ap, subst, ◌∙◌, append_assoc, length-append, Ok, Err, arith, codes, All, IsTrue, Option, Some, None, MatchOption, option_to_list, take-append_seam, cases_lt, cases_eq, append-nil, take_all, take-take, take-append-le, length-take, length-take-le, filter_map-append, All-nil, All-push, ArrayVec, is_text_byte, Day, line_of, IsWithout, IsFirstPart, FormFault, Heading, IsLineText, heading_words, letter_of_byte, letters_from, IsHeading, BeginsHeading, Answer, SaysBody, HasHeading, IsExpected, IsEarlyFault, InHeading, InNumber, InBody, IsPartFault, HoldsBody, IsBodyGiven, FitsAt, HasBegun, HoldsPart, HoldsStage, HoldsForm, IsHeadingDue, IsHeadingOff, Missing, Other, IsLetterCount, IsPartRead, PartOrder, given_letters, IsRefusedForGood, NoHeading, form_message, IsRefusedAtEnd, IsRefused, Closes, Held, OfRest, ReadsTo, IsReadTo, StandsAt, EndsAt, IsComplete, IsLast, AtPart, cut, parts_of, Place, at_first, place_behind, HasTail, place_of, map-append, given_byte, blank_of}
+use Rattle.kd_form.proofs.Prelude.{[], ◌≡◌, ◌≢◌, ◌⊎◌, inl, inr, ℕ, ◌+◌, ◌-◌, ◌≤◌, List, ◌∷◌, ◌++◌, length, take, refl, sym, ap, subst, ◌∙◌, append_assoc, length-append, Ok, Err, arith, codes, All, IsTrue, Option, Some, None, MatchOption, option_to_list, take-append_seam, cases_lt, cases_eq, append-nil, take_all, take-take, take-append-le, length-take, length-take-le, filter_map-append, All-nil, All-push, ArrayVec, is_text_byte, Day, line_of, IsFirstPart, FormFault, Heading, IsLineText, heading_words, letter_of_byte, letters_from, IsHeading, BeginsHeading, Answer, SaysBody, HasHeading, IsExpected, IsEarlyFault, InHeading, InNumber, InBody, IsPartFault, HoldsBody, IsBodyGiven, HasBegun, HoldsPart, HoldsStage, HoldsForm, IsHeadingOff, Missing, Other, IsPartRead, PartOrder, given_letters, IsRefusedForGood, NoHeading, form_message, IsRefusedAtEnd, IsRefused, Closes, Held, OfRest, ReadsTo, IsReadTo, StandsAt, EndsAt, IsComplete, IsLast, AtPart, cut, parts_of, Place, at_first, place_behind, HasTail, place_of, map-append, given_byte, blank_of}
 use Rattle.kd_form.specs.declared.part_body.PartBody.{PartBody}
 use Rattle.kd_form.proofs.Headings.{at_most, has_byte, one_heading, begins_there}
 use Rattle.kd_form.specs.declared.form_reader.FormReader.{FormReader}
 use Rattle.kd_form.specs.declared.form_reader.Stage.{Stage}
 use Rattle.kd_form.specs.declared.form_reader.Stage.TheVariants as stages
 use Rattle.kd_form.proofs.Plain.{All-front, letters_first, whole_line, head_unbroken}
-use Rattle.kd_form.proofs.Cutting.{as_parts, begins, begins_more, first_ends, first_more, follows, may_begin, one_more, single}
+use Rattle.kd_form.proofs.Cutting.{as_parts, begins, begins_more, first_ends, first_more, may_begin, one_more, single}
 use Rattle.kd_form.proofs.OneOrder.{no_bad_byte}
 use Rattle.kd_form.proofs.OneText.{NeverPasses, read_or_refused, reads_meet, reads_then, stands_at}
 use Rattle.kd_form.proofs.Standing.{stays_refused}
@@ -16,7 +16,7 @@ use Rattle.kd_form.proofs.Standing.{stays_refused}
 -- ---- the letters
 
 -- kept up to a length, once more
-take_kept : (n : ℕ) (xs ys : List ℕ) → take n (take n xs ++ ys) ≡ take n (xs ++ ys)
+pub take_kept : (n : ℕ) (xs ys : List ℕ) → take n (take n xs ++ ys) ≡ take n (xs ++ ys)
 take_kept n xs ys = grind (arith, cases_lt, take-append-le {A = ℕ}, length-take {A = ℕ}, take-take {A = ℕ}, take_all {A = ℕ})
 
 letters_kept : (old body : List ℕ) (byte : ℕ) → old ≡ take 525 (letters_from None body)
@@ -116,9 +116,6 @@ module _ (s : Day) (b : PartBody) (number : ℕ) (expected : Option ℕ) (part b
   pub next_refused : (fault : FormFault) → IsSaid b (length more) (λ letters. SaysBody s b.heading.part b.heading letters (Err fault))
       → (start : ℕ) → IsPartFault s number expected start part fault
   next_refused fault told start = grind (arith, told (letters_from None body) more refl next.kept)
-
-pub at_least : (s : Day) (count : ℕ) → IsLetterCount s count → 6 ≤ count
-at_least s count e = grind arith
 
 -- what the line of a heading tells where the form ends in it, or where an LF has come
 abbrev pub IsOpenBy : Day → List ℕ → Option Heading → Type 0
@@ -280,7 +277,7 @@ module _ (s : Day) (r : FormReader) (form text : List ℕ) (h : HoldsForm s r fo
   in_stage stage is = subst (λ st. HoldsStage s st r.number r.expected h.last) is h.stage
 
   -- a byte more of the same part
-  grows : (stage : Stage) (made : List ℕ) (byte : ℕ) → made ≡ [] → cut (h.last ++ byte ∷ []) ≡ (h.last ++ byte ∷ [], [])
+  pub grows : (stage : Stage) (made : List ℕ) (byte : ℕ) → made ≡ [] → cut (h.last ++ byte ∷ []) ≡ (h.last ++ byte ∷ [], [])
       → HoldsStage s stage r.number r.expected (h.last ++ byte ∷ []) → HoldsForm s (behind r stage) (form ++ byte ∷ []) (text ++ made)
   grows stage made byte none one there = record {
     front = h.front;
@@ -306,62 +303,6 @@ module _ (s : Day) (r : FormReader) (form text : List ℕ) (h : HoldsForm s r fo
       let (letters, reads, is) =
       reaches s r form text h (StandsAt s fault) more [] [] (part ∷ others) (as_parts (h.last ++ more) part others are) (inl (stands, refl)) refl in
       refused s (form ++ more) text fault (AtPart (letters, reads, sym (append-nil text) ∙ is))
-
-  pub longer_line : (line next : ArrayVec ℕ) (made : List ℕ) (byte : ℕ) → r.stage ≡ stages.Heading line → byte ≢ 10
-      → FitsAt (length line.items) byte → next.items ≡ take 64 (line.items ++ byte ∷ []) → made ≡ []
-      → HoldsForm s (behind r (stages.Heading next)) (form ++ byte ∷ []) (text ++ made)
-  longer_line line next made byte stage other fits kept none =
-      let there = in_stage (stages.Heading line) stage in
-      grows (stages.Heading next) made byte none (one_more h.last byte there.0.unbroken) (
-        record {
-          kept = kept ∙ ap (λ l. take 64 (l ++ byte ∷ [])) there.0.kept ∙ take_kept 64 h.last (byte ∷ []);
-          unbroken = All-push (λ b. b ≢ 10) h.last byte there.0.unbroken other;
-          begins = follows h.last line.items byte there.0.kept there.0.begins fits;
-        },
-        λ few. there.1 (omega (arith, length-append h.last (byte ∷ []))),
-      )
-
-  -- the heading is the one that is due: its body begins
-  pub heading_read : (line : ArrayVec ℕ) (made : List ℕ) (found : Option Heading) (heading : Heading) (b : PartBody) → r.stage ≡ stages.Heading line
-      → ((part : List ℕ) → IsWithout 10 part → line.items ≡ take 64 part → IsEndedBy s part found) → IsHeadingDue r.number r.expected found heading
-      → b.heading ≡ heading → b.letters.items ≡ [] → b.line.items ≡ [] → made ≡ [] → HoldsForm s (behind r (stages.Body b)) (form ++ 10 ∷ []) (text ++ made)
-  heading_read line made found heading b stage told due heads letters begun none =
-      let there = in_stage (stages.Heading line) stage in
-      let ended : IsHeading s heading × IsLineText h.last (line_of (heading_words heading)) = rw due.is at (told h.last there.0.unbroken there.0.kept) in
-      grows (stages.Body b) made 10 none (one_more h.last 10 there.0.unbroken) (record {
-        body = [];
-        holds = record {
-          line = h.last;
-          first = record { joined = refl; without = there.0.unbroken };
-          text = subst (λ x. IsLineText h.last (line_of (heading_words x))) (sym heads) ended.1;
-          is_heading = rw heads ended.0;
-          last = record {
-            settled = [];
-            tail = [];
-            front = h.last;
-            lines = refl;
-            broken = refl;
-            unbroken = All-nil (λ b. b ≢ 10);
-            kept = begun;
-          };
-          allowed = All-nil (λ b. IsTrue (is_text_byte b));
-          kept = letters;
-        };
-        numbered = rw heads due.numbered;
-        due = rw heads due.due;
-      })
-
-  pub longer_body : (b next : PartBody) (made : List ℕ) (byte : ℕ) → r.stage ≡ stages.Body b → ¬ (IsDigitDue b byte)
-      → ((day : Day) (part body : List ℕ) → HoldsBody day b part body → HoldsBody day next (part ++ byte ∷ []) (body ++ byte ∷ []))
-      → next.heading ≡ b.heading → made ≡ [] → HoldsForm s (behind r (stages.Body next)) (form ++ byte ∷ []) (text ++ made)
-  longer_body b next made byte stage not pushed same none =
-      let there = in_stage (stages.Body b) stage in
-      grows (stages.Body next) made byte none (goes_on s b h.last there.body byte there.holds h.alone not) (record {
-        body = there.body ++ byte ∷ [];
-        holds = pushed s h.last there.body there.holds;
-        numbered = rw same there.numbered;
-        due = rw same there.due;
-      })
 
   -- ---- the part ends, as a digit stands behind the five bytes of a heading
 

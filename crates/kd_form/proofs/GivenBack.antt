@@ -1,6 +1,6 @@
 -- The form that an order becomes gives the order's letters back.
 use Rattle.std.proofs.lemmas.Grind.{common_steps}
-use Rattle.kd_form.proofs.Prelude.{◌≡◌, ◌≢◌, ℕ, ◌+◌, ◌%◌, ◌<◌, ◌≤◌, inl, inr, List, [], ◌∷◌, ◌++◌, length, take, drop, refl, sym, ap, subst, ◌∙◌, append_assoc, length-append, arith, All, Option, Some, None, IfSome, flat_map, cons_option, cases_lt, append-nil, take_all, drop_all, length-take, length-take-le, take-append-drop, All-nil, All-cons, All-head, All-tail, All-take, All-drop, TheDayDeciphersItself, Day, IsLegalDay, Keys, BeginsHeading, given_text, sent_letters, AreKeys, FormsGiveTheirOrders, Suits, part_size, filled, Part, part_text, pieces, body_text, SaysBody, Ok, IsPartRead, letters_from, blank_of, text_letters, parts_needed, AreMadeTexts, cut, ReadsTo, at_first, IsComplete, IsExpected}
+use Rattle.kd_form.proofs.Prelude.{◌≡◌, ◌≢◌, ℕ, ◌+◌, ◌%◌, ◌<◌, ◌≤◌, inl, inr, List, [], ◌∷◌, ◌++◌, length, take, drop, refl, sym, ap, subst, ◌∙◌, append_assoc, length-append, arith, All, Option, Some, None, IfSome, flat_map, cons_option, cases_lt, append-nil, take_all, drop_all, length-take, length-take-le, take-append-drop, All-nil, All-cons, All-head, All-tail, All-take, All-drop, TheDayDeciphersItself, Day, IsLegalDay, Keys, BeginsHeading, given_text, sent_letters, AreKeys, FormsGiveTheirOrders, Suits, part_size, filled, part_text, pieces, body_text, SaysBody, Ok, IsPartRead, letters_from, blank_of, text_letters, parts_needed, AreMadeTexts, cut, ReadsTo, at_first, IsComplete, IsExpected}
 use Rattle.kd_form.proofs.Cutting.{at_cut, one_byte}
 use Rattle.kd_form.proofs.PartTexts.{by_pieces, gives_body, part_has_heading, part_begins_heading, part_is_first}
 use Rattle.kd_form.proofs.MadeParts.{more_pieces, pieces-next, pieces-none, IsPiece, GivesBack, part_gives_back}
@@ -50,20 +50,6 @@ are_pieces s =
 
 -- ---- part after part
 
-part_is_read : (s : Day) (part parts : ℕ) (text : List ℕ) (made : Part) → GivesBack s part parts text made
-    → IsPartRead s part parts (part_text made) text
-part_is_read s part parts text made back =
-    let given = gives_body made.body back.within in
-    record {
-      heading = made.heading;
-      body = body_text made.body;
-      has = part_has_heading s made back.is_heading;
-      numbered = back.numbered;
-      so_many = back.so_many;
-      allowed = given.allowed;
-      read = subst (λ ls. SaysBody s part made.heading ls (Ok text)) (sym given.gives) (inr (back.counted, back.read));
-    }
-
 -- behind an LF the form is nothing but parts, which are read as the letters of the pieces
 record AreGivenBack (s : Day) (part parts count : ℕ) (pieces : List (List ℕ)) (form : List ℕ) : Type 0 where
   texts : List (List ℕ)
@@ -90,12 +76,22 @@ parts_are_given_back s part parts (k ∷ keys) (piece ∷ pieces) form decipher 
     let back : GivesBack s part parts (sent_letters s piece) made =
     part_gives_back s part parts k piece made decipher legal (All-head (AreKeys s) k keys are) (All-head (Suits s) k keys suited)
     (record { first = first; in_order = omega arith; few = few }) (All-head (IsPiece s) piece pieces all) makes in
+    let given = gives_body made.body back.within in
+    let is_read : IsPartRead s part parts (part_text made) (sent_letters s piece) = record {
+      heading = made.heading;
+      body = body_text made.body;
+      has = part_has_heading s made back.is_heading;
+      numbered = back.numbered;
+      so_many = back.so_many;
+      allowed = given.allowed;
+      read = subst (λ ls. SaysBody s part made.heading ls (Ok (sent_letters s piece))) (sym given.gives) (inr (back.counted, back.read));
+    } in
     rw (joined, written) (record {
       texts = part_text made ∷ rest.texts;
       counted = omega (arith, rest.counted);
       begins = λ some. part_begins_heading s made more back.is_heading;
       cut_so = part_is_first s made more rest.texts back.is_heading back.within rest.cut_so;
-      read = grind (arith, part_is_read, rest.read);
+      read = grind (arith, is_read, rest.read);
     })
 parts_are_given_back s part parts _ _ form decipher legal are suited all first last few made = absurd made
 

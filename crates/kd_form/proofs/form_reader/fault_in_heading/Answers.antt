@@ -1,5 +1,5 @@
 use Rattle.kd_form.proofs.Prelude.{[], inl, inr, refl, ◌∙◌, arith, IsTrue, All-nil, is_text_byte}
-use Rattle.kd_form.proofs.FormSteps.{at_least, off}
+use Rattle.kd_form.proofs.FormSteps.{off}
 use Rattle.kd_form.proofs.form_reader.fault_in_heading.Goals as goal
 
 pub returns-in-Ok : goal.returns-in-Ok
@@ -13,7 +13,7 @@ returns-in-Ok c = λ part held start.
       numbered = due.numbered;
       due = due.due;
       allowed = All-nil (λ b. IsTrue (is_text_byte b));
-      found = inl (λ none. omega (arith, none, at_least _ _ has.is_heading.letters), refl);
+      found = inl (λ none. grind (arith, none, has.is_heading.letters), refl);
     })
 
 pub returns-in-Err : goal.returns-in-Err

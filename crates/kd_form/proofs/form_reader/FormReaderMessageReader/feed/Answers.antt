@@ -1,8 +1,9 @@
-use Rattle.kd_form.proofs.Cutting.{not_begun, one_more}
+use Rattle.kd_form.proofs.Cutting.{follows, not_begun, one_more}
 use Rattle.kd_form.proofs.Headings.{ended_heading}
 use Rattle.kd_form.proofs.OneOrder.{bad_behind}
-use Rattle.kd_form.proofs.Prelude.{[], ◌∷◌, ◌++◌, ◌+◌, ◌-◌, ◌≡◌, ℕ, List, length, length-append, refl, inl, ap, subst, given_letters, BeginsHeading, NoHeading, BadHeading, BadByte, InBody, arith, sym, ◌∙◌, false≢true}
-use Rattle.kd_form.proofs.FormSteps.{first_longer, goes_on, held, in_stage, longer_line, heading_read, longer_body, off, refused, refused_at, four_letters, part_refused, part_read}
+use Rattle.kd_form.specs.declared.form_reader.Stage.TheVariants as stages
+use Rattle.kd_form.proofs.Prelude.{◌≢◌, take, All-push, All-nil, IsTrue, is_text_byte, IsLineText, line_of, heading_words, [], ◌∷◌, ◌++◌, ◌+◌, ◌-◌, ◌≡◌, ℕ, List, length, length-append, refl, inl, ap, subst, given_letters, BeginsHeading, NoHeading, BadHeading, BadByte, InBody, arith, sym, ◌∙◌, false≢true}
+use Rattle.kd_form.proofs.FormSteps.{first_longer, goes_on, held, grows, in_stage, take_kept, off, refused, refused_at, four_letters, part_refused, part_read}
 use Rattle.kd_form.proofs.form_reader.FormReaderMessageReader.feed.Goals as goal
 
 pub returns-then-not-may_follow : goal.returns-then-not-may_follow
@@ -18,9 +19,18 @@ returns-then-not-may_follow c = λ form text so_far.
 
 pub returns-then-byte-ne10 : goal.returns-then-byte-ne10
 returns-then-byte-ne10 c = λ form text so_far.
-    held c.args.day.now _ _ _
-    (longer_line _ c.args.self.now form text so_far.is _ _ _ _ c.in-Heading.is c.if-byte-ne10.true
-    (rw c.as_slice.ensures.value at (c.may_follow.ensures.0 c.if-not-may_follow.false)) c.keep.ensures c.requires.empty)
+    let h = so_far.is in
+    let there = in_stage _ c.args.self.now form text h _ c.in-Heading.is in
+    let fits = rw c.as_slice.ensures.value at (c.may_follow.ensures.0 c.if-not-may_follow.false) in
+    held c.args.day.now _ _ _ (grows _ c.args.self.now form text h (stages.Heading c.keep.new.items) _ c.args.byte c.requires.empty
+    (one_more h.last c.args.byte there.0.unbroken) (
+      record {
+        kept = c.keep.ensures ∙ ap (λ l. take 64 (l ++ c.args.byte ∷ [])) there.0.kept ∙ take_kept 64 h.last (c.args.byte ∷ []);
+        unbroken = All-push (λ b. b ≢ 10) h.last c.args.byte there.0.unbroken c.if-byte-ne10.true;
+        begins = follows h.last _ c.args.byte there.0.kept there.0.begins fits;
+      },
+      λ few. there.1 (omega (arith, length-append h.last (c.args.byte ∷ []))),
+    ))
 
 pub returns-then-not-is_text_byte : goal.returns-then-not-is_text_byte
 returns-then-not-is_text_byte c = λ form text so_far.
@@ -41,9 +51,16 @@ returns-then-not-is_text_byte c = λ form text so_far.
 
 pub returns-then-not-ends_before : goal.returns-then-not-ends_before
 returns-then-not-ends_before c = λ form text so_far.
-    held c.args.day.now _ _ _
-    (longer_body _ c.args.self.now form text so_far.is _ _ _ _ c.in-Body.is
-    (λ digit. false≢true (sym c.if-not-ends_before.true ∙ c.ends_before.ensures.1 digit)) c.push.ensures.body c.push.ensures.heading c.requires.empty)
+    let h = so_far.is in
+    let there = in_stage _ c.args.self.now form text h _ c.in-Body.is in
+    held c.args.day.now _ _ _ (grows _ c.args.self.now form text h (stages.Body c.push.new.self) _ c.args.byte c.requires.empty
+    (goes_on _ _ h.last there.body c.args.byte there.holds h.alone (λ digit. false≢true (sym c.if-not-ends_before.true ∙ c.ends_before.ensures.1 digit)))
+    (record {
+      body = there.body ++ c.args.byte ∷ [];
+      holds = c.push.ensures.body _ h.last there.body there.holds;
+      numbered = rw c.push.ensures.heading there.numbered;
+      due = rw c.push.ensures.heading there.due;
+    }))
 
 pub overflow_add-self : goal.overflow_add-self
 overflow_add-self c = omega (arith, c.requires.room.held.is.counted, c.requires.room.within)
@@ -60,10 +77,35 @@ give-requires-clause-some c =
 
 pub returns-in-Ok : goal.returns-in-Ok
 returns-in-Ok c = λ form text so_far.
-    rw c.if-byte-ne10.false (held c.args.day.now _ _ _
-    (heading_read _ c.args.self.now form text so_far.is _ _ _ _ _ c.in-Heading.is
-    (λ part unbroken kept. c.heading_of_ended-heading.ensures part unbroken (c.as_slice-in-Heading.ensures.value ∙ kept)) c.in-Ok.ensures
-    c.new.ensures.heading c.new.ensures.letters c.new.ensures.line c.requires.empty))
+    let h = so_far.is in
+    let there = in_stage _ c.args.self.now form text h _ c.in-Heading.is in
+    let due = c.in-Ok.ensures in
+    let told = c.heading_of_ended-heading.ensures h.last there.0.unbroken (c.as_slice-in-Heading.ensures.value ∙ there.0.kept) in
+    let (is_heading, text_is) = rw due.is at told in
+    let heads = c.new.ensures.heading in
+    rw c.if-byte-ne10.false (held c.args.day.now _ _ _ (grows _ c.args.self.now form text h (stages.Body c.new.result) _ 10 c.requires.empty
+    (one_more h.last 10 there.0.unbroken) (record {
+      body = [];
+      holds = record {
+        line = h.last;
+        first = record { joined = refl; without = there.0.unbroken };
+        text = subst (λ x. IsLineText h.last (line_of (heading_words x))) (sym heads) text_is;
+        is_heading = rw heads is_heading;
+        last = record {
+          settled = [];
+          tail = [];
+          front = h.last;
+          lines = refl;
+          broken = refl;
+          unbroken = All-nil (λ b. b ≢ 10);
+          kept = c.new.ensures.line;
+        };
+        allowed = All-nil (λ b. IsTrue (is_text_byte b));
+        kept = c.new.ensures.letters;
+      };
+      numbered = rw heads due.numbered;
+      due = rw heads due.due;
+    })))
 
 pub returns-in-Err : goal.returns-in-Err
 returns-in-Err c = λ form text so_far.
