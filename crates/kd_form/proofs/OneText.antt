@@ -141,14 +141,12 @@ module _ (s : Day) where
     pub text_answer : (text : List ℕ) (is : IsTextOf s form text) → IsFormAnswer (Ok tt) is.letters
     text_answer text is = reads_as s IsComplete (AnswersAt s (Ok tt)) (λ p parts is. grind (arith, is)) at_first (parts_of form) is.letters is.read
 
-    -- where no heading begins the form, its first part has none
-    unheaded : ((more : List ℕ) → ¬ (BeginsHeading (form ++ more))) → (h : Heading) (body : List ℕ) → ¬ (HasHeading s (cut form).0 h body)
-    unheaded none h body has =
-        let (rest, joined) = first_there form in
-        none [] (subst BeginsHeading (sym joined ∙ sym (append-nil form)) (begins_more (cut form).0 rest (begins_there s (cut form).0 h body has)))
-
     pub fault_answer : (fault : FormFault) → IsReceiveFault s form fault → (letters : List ℕ) × IsFormAnswer (Err fault) letters
-    fault_answer fault (text, inl (NoHeading none empty is)) = ([], inl ((fault, inl (InHeading (unheaded none) is), refl), refl))
+    fault_answer fault (text, inl (NoHeading none empty is)) =
+        let (rest, joined) = first_there form in
+        let unheaded = λ (h : Heading) (body : List ℕ) (has : HasHeading s (cut form).0 h body).
+        none [] (subst BeginsHeading (sym joined ∙ sym (append-nil form)) (begins_more (cut form).0 rest (begins_there s (cut form).0 h body has))) in
+        ([], inl ((fault, inl (InHeading unheaded is), refl), refl))
     fault_answer fault (text, inl (AtPart (letters, reads, is))) =
         (letters, reads_as s (StandsAt s fault) (AnswersAt s (Err fault)) (stands_at s fault) at_first (parts_of form) letters reads)
     fault_answer fault (text, inr (letters, reads, is)) =

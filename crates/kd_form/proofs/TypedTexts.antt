@@ -1,6 +1,6 @@
 -- What a piece of a text lights up, and what was typed so far.
 use Rattle.std.proofs.Common.{append-nil, take-append-drop, length-take-le}
-use Rattle.kd_form.proofs.Prelude.{◌≡◌, ℕ, ◌+◌, ◌≤◌, ◌<◌, Bool, List, [], ◌∷◌, ◌++◌, IsTrue, IsFalse, Option, Ok, Err, length, take, drop, get_or, suc, refl, sym, ap, subst, ◌∙◌, append_assoc, length-append, drop-cons, arith, map-append, take_all, All-nil, All-append, filter_map-append, Appends, is_text_byte, letters_text, TakesFront, Parts, CipherInTurn, EngineIsTheMachine, EngineKey, cipher, physical_key, physical_cipher, BadByte, IsRefused, Held, FeedsAll, typed_letters, cipher_text, texts, IsTextFault, Lights, IsAllowedTo, IsTypedTo}
+use Rattle.kd_form.proofs.Prelude.{◌≡◌, ℕ, ◌+◌, ◌≤◌, ◌<◌, Bool, List, [], ◌∷◌, ◌++◌, IsTrue, IsFalse, Option, Ok, Err, length, take, drop, get_or, suc, refl, sym, ap, subst, ◌∙◌, append_assoc, length-append, drop-cons, arith, map-append, take_all, All-append, filter_map-append, Appends, is_text_byte, TakesFront, Parts, CipherInTurn, EngineKey, cipher, physical_cipher, BadByte, IsRefused, Held, FeedsAll, cipher_text, texts, IsTextFault, Lights, IsAllowedTo, IsTypedTo}
 use Rattle.kd_form.specs.declared.stream.stop.Stop.TheVariants as stops
 use Rattle.kd_form.specs.declared.typing.Typist.{Typist}
 use Rattle.kd_form.proofs.OneOrder.{bad_behind, no_bad_byte}
@@ -32,14 +32,6 @@ module _ (m : Parts) where
       written = (bytes, grind (arith, append-nil {A = ℕ}), text_is t bytes text typed);
     };
   }
-
-  pub typed_none : EngineIsTheMachine → (t : Typist) → t.engine ≡ physical_key m → t.read ≡ 0
-      → Held (texts (physical_cipher m)) (IsTypedTo m t) [] []
-  typed_none law t key none = typed_held t [] [] (record {
-    counted = none;
-    allowed = All-nil (λ b. IsTrue (is_text_byte b));
-    behind = λ more. ap letters_text (sym (law m (typed_letters more)) ∙ ap (λ k. cipher k (typed_letters more)) (sym key));
-  })
 
   -- the bytes behind the first bad one make no difference
   refused_there : (t : Typist) (front rest text : List ℕ) (byte : ℕ) → IsTypedTo m t front text

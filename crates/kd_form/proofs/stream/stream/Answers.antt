@@ -1,6 +1,6 @@
-use Rattle.std.proofs.KnownBytes.{Consumes-nil, Appends-nil}
-use Rattle.kd_form.proofs.Prelude.{refl, arith}
-use Rattle.kd_form.proofs.Streaming.{SoFar-read, SoFar-ended, IsStreamed-stopped, IsStreamed-closed, IsStreamed-too_long}
+use Rattle.std.proofs.KnownBytes.{Consumes-nil, Consumes-trans, Appends-nil}
+use Rattle.kd_form.proofs.Prelude.{[], ◌∷◌, ◌++◌, ◌∙◌, refl, arith, TooLong}
+use Rattle.kd_form.proofs.Streaming.{SoFar-read, SoFar-ended, IsStreamed-stopped, IsStreamed-closed, well_now}
 use Rattle.kd_form.proofs.stream.stream.Goals as goal
 
 pub loop-read-init : goal.loop-read-init
@@ -31,5 +31,13 @@ returns-in-Ok-true g c =
 
 pub returns-in-Ok-false : goal.returns-in-Ok-false
 returns-in-Ok-false g c =
-    IsStreamed-too_long _ _ _ _ _ _ _ _ _ _ c.loop-read.invariant c.loop-read-test.false _ c.in-Ok-false.field-0-test c.in-Ok-false.ensures.ends
-    c.in-Ok-false.ensures.failed
+    let before = c.loop-read.invariant in
+    let ends = rw c.in-Ok-false.field-0-test at c.in-Ok-false.ensures.ends in
+    record {
+      read = before.read ++ ends.0 ∷ [];
+      text = before.text;
+      given = Consumes-trans _ _ _ before.read (ends.0 ∷ []) before.given ends.1;
+      written = before.written;
+      answers = TooLong before.read ends.0 refl (omega (arith, before.counted, before.within, c.loop-read-test.false)) before.held.open_yet
+          (well_now _ _ c.in-Ok-false.ensures.failed ∙ before.well.0, before.well.1) refl;
+    }
