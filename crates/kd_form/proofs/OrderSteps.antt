@@ -55,7 +55,7 @@ module _ (s : Day) (keys : List Keys) (w : PartWriter) (k : Keys) (letters sent 
     (is : AreTaken s keys w letters sent) (found : slice_get keys w.written ≡ Some k)
     (made : IsMadeText s (w.written + 1) (length keys) k w.letters.items one) where
   -- the letters that are kept become the next part
-  part_more : part_size s * w.written < length letters → length letters ≤ part_size s * w.written + part_size s
+  pub part_more : part_size s * w.written < length letters → length letters ≤ part_size s * w.written + part_size s
       → AreMadeTexts s 1 (length keys) (take (w.written + 1) keys) (pieces (part_size s) letters) (sent ++ one)
   part_more some few =
       let rest : List ℕ = drop (part_size s * w.written) letters in
@@ -67,31 +67,6 @@ module _ (s : Day) (keys : List Keys) (w : PartWriter) (k : Keys) (letters sent 
       rw (take_more keys w.written k inside, get_or_from_slice_get keys w.written k k found)
       (rw (pieces_more (part_size s) w.written letters (size_some s) some few)
       (made_more s 1 (length keys) (take w.written keys) k _ rest sent one is.made (rw (count, ← own) made)))
-
-  -- a letter more shows that the part is full
-  pub part_written : (next : PartWriter) (letter : ℕ) → part_size s ≤ length w.letters.items
-      → w.written + 1 < length keys → next.letters.items ≡ letter ∷ [] → next.count ≡ w.count + 1
-      → next.written ≡ w.written + 1 → AreTaken s keys next (letters ++ letter ∷ []) (sent ++ one)
-  part_written next letter full another kept counted number =
-      let size : ℕ = part_size s in
-      let large : 0 < size = size_some s in
-      let behind : length (drop (size * w.written) letters) ≡ length letters - size * w.written =
-      length-drop (size * w.written) letters in
-      let enough : size * w.written + size ≤ length letters =
-      omega (arith, ap length is.kept, length-take size (drop (size * w.written) letters), behind, full, large) in
-      let whole : length letters ≡ size * w.written + size = elim (cases_lt (size * (w.written + 1)) (length letters)) [
-        | inl more ↦ absurd (omega (arith, is.written.most (w.written + 1) another more))
-        | inr few ↦ omega (arith, few, enough)
-      ] in
-      let up_to : length letters ≡ size * next.written = rw number (omega (arith, whole)) in
-      let longer : length (letters ++ letter ∷ []) ≡ length letters + 1 = length-append letters (letter ∷ []) in
-      record {
-        counted = omega (arith, counted, is.counted, longer);
-        written = grind (arith, le_of_mul-le-mul_left);
-        kept = cc (take_all size (letter ∷ []) (omega arith), drop_at letters (letter ∷ []) _ up_to);
-        made = rw (take_at letters (letter ∷ []) (size * next.written) up_to, number)
-            (part_more (omega (arith, whole, large)) (omega (arith, whole)));
-      }
 
   -- the end shows that it is the last one
   pub last_written : w.count ≢ 0 → div_ceil w.count (part_size s) ≡ length keys
