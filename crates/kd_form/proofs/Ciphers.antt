@@ -4,9 +4,9 @@ use Rattle.std.proofs.lemmas.List.FromFn.{length-enumerate_from, length-range_wi
 use Rattle.kd_tables.specs.Permutation.{alphabet, followed_by}
 use Rattle.kd_enigma.specs.Cipher.{RotorKey, product, path}
 
-pub length-cipher_from : (s : Day) (window text : List ℕ) → length (cipher_from s window text) ≡ length text
-length-cipher_from (OfRotors s) window text = length-map (enumerate_from 1 text) _ ∙ length-enumerate_from 1 text
-length-cipher_from (OfPins s) window text = length-map (enumerate_from 0 text) _ ∙ length-enumerate_from 0 text
+pub enciphered_length : (s : Day) (window text : List ℕ) → length (cipher_from s window text) ≡ length text
+enciphered_length (OfRotors s) window text = length-map (enumerate_from 1 text) _ ∙ length-enumerate_from 1 text
+enciphered_length (OfPins s) window text = length-map (enumerate_from 0 text) _ ∙ length-enumerate_from 0 text
 
 -- a table of letters has a letter at each place, since what stands past its end is read as the first
 pub letter_read : (table : List ℕ) (place : ℕ) → All (λ letter. letter < 26) table → slice_index table place < 26
@@ -26,8 +26,8 @@ path_letters : (key : RotorKey) (window : List ℕ) → All (λ letter. letter <
 unfolding path
 path_letters key window = grind (arith, product_letters)
 
-pub letters-cipher_from : (s : Day) (window text : List ℕ) → All (λ letter. letter < 26) (cipher_from s window text)
-letters-cipher_from (OfRotors s) window text =
+pub enciphered_letters : (s : Day) (window text : List ℕ) → All (λ letter. letter < 26) (cipher_from s window text)
+enciphered_letters (OfRotors s) window text =
     All-map (λ letter. letter < 26) _ (enumerate_from 1 text) (λ k d inside. letter_read _ _ (path_letters _ _))
-letters-cipher_from (OfPins s) window text =
+enciphered_letters (OfPins s) window text =
     All-map (λ letter. letter < 26) _ (enumerate_from 0 text) (λ k d inside. omega arith)

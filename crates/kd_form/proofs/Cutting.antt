@@ -1,10 +1,10 @@
 -- A form is cut into its parts, also as more of it comes.
+use Rattle.std.proofs.lemmas.Grind.{common_steps}
 use Rattle.std.proofs.lemmas.Slice.Eq.{bytes_eq-Decides}
-use Rattle.kd_form.proofs.Prelude.{rules, ◌≡◌, ◌≢◌, ◌⊎◌, inl, inr, ℕ, ◌+◌, ◌<◌, ◌≤◌, ◌==◌, List, [], ◌∷◌, ◌++◌, length, get_or, take, drop, refl, sym, ap, subst, ◌∙◌, append_assoc, length-append, arith, codes, All, All-head, All-tail, All-get_or, IsTrue, nat_tests, cases_Bool, cases_eq, cases_lt, false≢true, append-nil, take-append-le, take-append-drop, take-append_seam, get_or-append, get_or-append_seam, get_or-take, get_or_past, BeginsHeading, cut, parts_of, MayBegin, IsWithout, IsBadAt, is_text_byte, AllPass-from_list_all, All-take, All-same, All-cons, All-nil, IsFalse, take-take, take_more}
+use Rattle.kd_form.proofs.Prelude.{◌≡◌, ◌≢◌, ◌⊎◌, inl, inr, ℕ, ◌<◌, ◌≤◌, List, [], ◌∷◌, ◌++◌, length, get_or, take, drop, refl, sym, ap, ◌∙◌, append_assoc, length-append, length-take, arith, codes, All-head, All-tail, All-get_or, IsTrue, nat_tests, cases_Bool, cases_eq, cases_lt, false≢true, append-nil, take-append-le, take-append-drop, take-append_seam, get_or-append, get_or-append_seam, get_or-take, get_or_past, BeginsHeading, cut, parts_of, FitsAt, HasBegun, IsWithout, IsBadAt, is_text_byte, AllPass-from_list_all, All-take, All-same, take-take, take_more}
 use Rattle.kd_form.specs.FormParts.{begins_heading}
-use Rattle.std.proofs.lemmas.List.{same_from_push}
-use Rattle.kd_form.proofs.OneOrder.{no_bad_byte}
-use Rattle.kd_form.proofs.Plain.{plain_text, whole_line, head_unbroken}
+use Rattle.kd_form.proofs.OneOrder.{Longer, Shorter, bad_longer, fronts, no_bad_byte}
+use Rattle.kd_form.proofs.Plain.{AreAllowed, plain_text, whole_line}
 
 -- ---- where a heading begins
 
@@ -38,49 +38,42 @@ before_break front rest begun =
 
 -- ---- what may become a heading
 
-pub all_follow : (part : List ℕ) (byte : ℕ) → 6 ≤ length part → MayBegin part → MayBegin (part ++ byte ∷ [])
-all_follow part byte long (more, begun) =
-    ([], rw (append-nil (part ++ byte ∷ [])) (begins_more part (byte ∷ []) (sym (begins_front part more long) ∙ begun)))
-
--- fewer than six bytes may begin a heading exactly if they are its first ones
-pub few_begin : (bytes : List ℕ) → length bytes ≤ 5 → MayBegin bytes → bytes ≡ take (length bytes) (codes "PART ")
-few_begin bytes few (more, begun) =
+-- fewer than six bytes that begin a heading are its first ones
+few_begin : (bytes more : List ℕ) → length bytes ≤ 5 → BeginsHeading (bytes ++ more) → bytes ≡ take (length bytes) (codes "PART ")
+few_begin bytes more few begun =
     sym (take-append_seam bytes more) ∙ sym (take-take (length bytes) 5 (bytes ++ more) few) ∙ ap (take (length bytes)) (told (bytes ++ more) begun).0
 
-pub may_begin : (count : ℕ) → count ≤ 5 → MayBegin (take count (codes "PART "))
-may_begin count few =
-    (drop count (codes "PART 0"), rw (← take-append-le count (codes "PART ") (codes "0") few, take-append-drop count (codes "PART 0")) (begins 48 [] (omega arith) (omega arith)))
+pub may_begin : (bytes : List ℕ) → HasBegun bytes → (more : List ℕ) × BeginsHeading (bytes ++ more)
+may_begin bytes (inl (count, few, is)) = (
+  drop count (codes "PART 0"),
+  rw (is, ← take-append-le count (codes "PART ") (codes "0") few, take-append-drop count (codes "PART 0")) (begins 48 [] (omega arith) (omega arith)),
+)
+may_begin bytes (inr begun) = ([], rw (append-nil bytes) begun)
 
--- where the bytes may begin a heading, this byte may follow them exactly if it is the one that is due
-pub due_told : (part line : List ℕ) (byte due : ℕ) → line ≡ take 64 part → MayBegin part → (length line < 5) × (due ≡ get_or (codes "PART ") (length line) 0)
-    → (IsTrue (byte == due) → MayBegin (part ++ byte ∷ [])) × (MayBegin (part ++ byte ∷ []) → IsTrue (byte == due))
-due_told part line byte due kept may (few, is) =
-    let whole : line ≡ part = whole_line part line kept (omega arith) in
-    let n : ℕ = length part in
-    let below : n < 5 = omega (arith, ap length whole) in
-    let size : length (part ++ byte ∷ []) ≡ n + 1 = length-append part (byte ∷ []) in
-    let next : take (n + 1) (codes "PART ") ≡ part ++ due ∷ [] =
-    cc (take_more (codes "PART ") n 0 below, few_begin part (omega (arith, below)) may, is, whole) in (
-      λ told. let same : byte ≡ due = search rules in rw same (subst MayBegin next (may_begin (n + 1) (omega (arith, below)))),
-      λ then_may.
-          let all = few_begin (part ++ byte ∷ []) (omega (arith, size, below)) then_may in
-          let both = same_from_push part part byte due (all ∙ ap (λ k. take k (codes "PART ")) size ∙ next) in
-          let same : byte ≡ due = both.1 in
-          search rules,
-    )
+fits_there : (bytes : List ℕ) (place : ℕ) → BeginsHeading bytes → FitsAt place (get_or bytes place 0)
+fits_there bytes place begun = (
+  (λ less. sym (get_or-take 5 bytes place 0 less) ∙ ap (λ l. get_or l place 0) (told bytes begun).0),
+  (λ same. rw same ((told bytes begun).1, (told bytes begun).2)),
+)
 
--- behind five of them that is a digit, and then any byte
-pub digit_told : (part line : List ℕ) (byte : ℕ) → line ≡ take 64 part → MayBegin part → length line ≡ 5
-    → ((48 ≤ byte) × (byte ≤ 57) → MayBegin (part ++ byte ∷ [])) × (MayBegin (part ++ byte ∷ []) → (48 ≤ byte) × (byte ≤ 57))
-digit_told part line byte kept may size =
-    let whole : line ≡ part = whole_line part line kept (omega arith) in
-    let count : length part ≡ 5 = sym (ap length whole) ∙ size in
-    let five : part ≡ codes "PART " = few_begin part (omega (arith, count)) may ∙ ap (λ n. take n (codes "PART ")) count in (
-      λ digit. ([], rw five (begins byte [] digit.0 digit.1)),
-      λ (more, begun).
-          let joined : (part ++ byte ∷ []) ++ more ≡ codes "PART " ++ byte ∷ more = rw five refl in
-          let is = told (codes "PART " ++ byte ∷ more) (subst BeginsHeading joined begun) in
-          (is.1, is.2),
+-- a byte that fits may follow them
+pub follows : (part line : List ℕ) (byte : ℕ) → line ≡ take 64 part → HasBegun part → FitsAt (length line) byte → HasBegun (part ++ byte ∷ [])
+follows part line byte e d g = grind (arith, common_steps, begins_more, length-take, take_more, begins)
+
+-- and with one that doesn't no heading begins
+pub not_begun : (part line : List ℕ) (byte : ℕ) → line ≡ take 64 part → ¬ (FitsAt (length line) byte)
+    → (length part < 6) × ((more : List ℕ) → ¬ (BeginsHeading ((part ++ byte ∷ []) ++ more)))
+not_begun part line byte kept off =
+    let short : length line < 6 = elim (cases_lt (length line) 6) [
+      | inl less ↦ less
+      | inr long ↦ absurd (off ((λ less. absurd (omega (arith, long, less))), (λ same. absurd (omega (arith, long, same)))))
+    ] in
+    let whole : line ≡ part = whole_line 64 part line kept (omega (arith, short)) in (
+      rw whole at short,
+      λ more begun.
+          let seam : get_or ((part ++ byte ∷ []) ++ more) (length part) 0 ≡ byte =
+          ap (λ l. get_or l (length part) 0) (append_assoc part (byte ∷ []) more) ∙ get_or-append_seam part byte more 0 in
+          off (rw whole (rw seam at (fits_there ((part ++ byte ∷ []) ++ more) (length part) begun))),
     )
 
 -- ---- byte by byte
@@ -170,87 +163,66 @@ last_digit bytes byte few begun =
 -- no heading begins in the last line, unless a digit stands behind its five bytes
 pub first_more : (front tail : List ℕ) (byte : ℕ) → IsWithout 10 tail → (cut (front ++ 10 ∷ tail)).1 ≡ []
     → ((tail ≡ codes "PART ") → (48 ≤ byte) → (byte ≤ 57) → ⊥) → cut (front ++ 10 ∷ (tail ++ byte ∷ [])) ≡ (front ++ 10 ∷ (tail ++ byte ∷ []), [])
-first_more [] tail byte unbroken none not =
-    let is = uncut 10 tail none in
-    no_cut 10 (tail ++ byte ∷ []) (λ e begun. grind (arith, cases_lt (length tail) 6, last_digit tail byte, begins_front tail (byte ∷ []), is.not refl))
-    ∙ rw (one_more tail byte unbroken) refl
+first_more [] tail byte unbroken none not = grind (arith, uncut, no_cut, last_digit, begins_front, one_more)
 first_more (x ∷ front) tail byte unbroken none not =
     let is = uncut x (front ++ 10 ∷ tail) none in
     no_cut x (front ++ 10 ∷ (tail ++ byte ∷ [])) (λ e begun. is.not e (begins_more front (10 ∷ tail) (before_break front (tail ++ byte ∷ []) begun)))
     ∙ rw (first_more front tail byte unbroken is.single not) refl
 
 -- the digit of a heading ends the part before it
-pub first_ends : (front : List ℕ) (digit : ℕ) → (cut (front ++ 10 ∷ codes "PART ")).1 ≡ [] → 48 ≤ digit → digit ≤ 57
-    → cut (front ++ 10 ∷ (codes "PART " ++ digit ∷ [])) ≡ (front ++ 10 ∷ [], (codes "PART " ++ digit ∷ []) ∷ [])
-first_ends [] digit none low high =
-    at_cut (codes "PART " ++ digit ∷ []) (begins digit [] low high)
-    ∙ ap (λ (c : List ℕ × List (List ℕ)). (10 ∷ [], c.0 ∷ c.1)) (one_more (codes "PART ") digit head_unbroken)
-first_ends (x ∷ front) digit none low high =
+pub first_ends : (front more : List ℕ) (digit : ℕ) → (cut (front ++ 10 ∷ codes "PART ")).1 ≡ [] → 48 ≤ digit → digit ≤ 57
+    → cut (front ++ 10 ∷ (codes "PART " ++ digit ∷ more)) ≡ (front ++ 10 ∷ [], parts_of (codes "PART " ++ digit ∷ more))
+first_ends [] more digit none low high = at_cut (codes "PART " ++ digit ∷ more) (begins digit more low high)
+first_ends (x ∷ front) more digit none low high =
     let is = uncut x (front ++ 10 ∷ codes "PART ") none in
-    no_cut x (front ++ 10 ∷ (codes "PART " ++ digit ∷ []))
-    (λ e begun. is.not e (begins_more front (10 ∷ codes "PART ") (before_break front (codes "PART " ++ digit ∷ []) begun)))
-    ∙ rw (first_ends front digit is.single low high) refl
+    no_cut x (front ++ 10 ∷ (codes "PART " ++ digit ∷ more))
+    (λ e begun. is.not e (begins_more front (10 ∷ codes "PART ") (before_break front (codes "PART " ++ digit ∷ more) begun)))
+    ∙ rw (first_ends front more digit is.single low high) refl
 
 -- ---- bytes that may not stand there
-
-abbrev AreAllowed : List ℕ → Type 0
-AreAllowed bytes = All (λ b. IsTrue (is_text_byte b)) bytes
 
 -- fewer than six bytes of what begins a heading may stand in a body
 few_allowed : (bytes more : List ℕ) → length bytes < 6 → BeginsHeading (bytes ++ more) → AreAllowed bytes
 few_allowed bytes more few begun =
-    let Good : (ℕ → Type 0) = λ b. IsTrue (is_text_byte b) in
-    All-same Good bytes (take (length bytes) (codes "PART ")) (few_begin bytes (omega arith) (more, begun))
-    (All-take Good (length bytes) (codes "PART ") (AllPass-from_list_all is_text_byte (codes "PART ") refl))
+    grind (arith, common_steps, All-same, bytes, few_begin, All-take, AllPass-from_list_all)
 
-bad_first : (byte : ℕ) (bytes : List ℕ) (place : ℕ) → IsBadAt (byte ∷ bytes) place
-    → ((place ≡ 0) × IsFalse (is_text_byte byte)) ⊎ ((p : ℕ) × (place ≡ p + 1) × IsTrue (is_text_byte byte) × IsBadAt bytes p)
-bad_first byte bytes place bad = split bad.before bad.joined bad.size bad.allowed where
-  split : (before : List ℕ) → byte ∷ bytes ≡ before ++ bad.byte ∷ bad.rest → place ≡ length before → AreAllowed before
-      → ((place ≡ 0) × IsFalse (is_text_byte byte)) ⊎ ((p : ℕ) × (place ≡ p + 1) × IsTrue (is_text_byte byte) × IsBadAt bytes p)
-  split [] joined size allowed = let same : byte ≡ bad.byte = cc in inl (size, rw same bad.bad)
-  split (x ∷ before) joined size allowed =
-      let same : byte ≡ x = cc in
-      inr (
-        length before,
-        omega (arith, size),
-        rw same (All-head (λ b. IsTrue (is_text_byte b)) x before allowed),
-        record {
-          before = before;
-          byte = bad.byte;
-          rest = bad.rest;
-          joined = cc;
-          size = refl;
-          allowed = All-tail (λ b. IsTrue (is_text_byte b)) x before allowed;
-          bad = bad.bad;
-        },
-      )
+-- with more bytes the one part grows, or it is cut in front of fewer than six bytes, which are allowed
+data IsGrown (form part : List ℕ) : Type 0 where
+  Grows : (rest : List ℕ) → part ≡ form ++ rest → IsGrown form part
+  CutShort : (few : List ℕ) → form ≡ part ++ few → AreAllowed few → IsGrown form part
 
-bad_behind : (byte : ℕ) (bytes : List ℕ) (place : ℕ) → IsTrue (is_text_byte byte) → IsBadAt bytes place → IsBadAt (byte ∷ bytes) (place + 1)
-bad_behind byte bytes place good at = record {
-  before = byte ∷ at.before;
-  byte = at.byte;
-  rest = at.rest;
-  joined = ap (λ l. byte ∷ l) at.joined;
-  size = omega (arith, at.size);
-  allowed = All-cons (λ b. IsTrue (is_text_byte b)) byte at.before good at.allowed;
-  bad = at.bad;
-}
+grown : (form more : List ℕ) → (cut form).1 ≡ [] → IsGrown form (cut (form ++ more)).0
+grown [] more none = Grows (cut more).0 refl
+grown (byte ∷ bytes) more none = let is = uncut byte bytes none in elim (cut_or_not byte (bytes ++ more)) [
+  | inl (break, begun) ↦
+      let few : length bytes < 6 = grind (arith, cases_lt (length bytes) 6, begins_front bytes more, is.not break) in
+      CutShort bytes (rw (break, ap (λ c. c.0) (at_cut (bytes ++ more) begun)) refl) (few_allowed bytes more few begun)
+  | inr not ↦ rw (no_cut byte (bytes ++ more) not) (elim (grown bytes more is.single) [
+    | Grows rest longer ↦ Grows rest (ap (λ l. byte ∷ l) longer)
+    | CutShort few shorter allowed ↦ CutShort few (ap (λ l. byte ∷ l) shorter) allowed
+  ])
+]
+
+-- so the first bad byte isn't behind the cut
+bad_before : (part few : List ℕ) (place : ℕ) → AreAllowed few → IsBadAt (part ++ few) place → IsBadAt part place
+bad_before part few place allowed bad = elim (fronts bad.before (bad.byte ∷ bad.rest) part few (sym bad.joined)) [
+  | Shorter [] longer rest ↦ absurd (not_there [] rest)
+  | Shorter (byte ∷ more) longer rest ↦
+      let same : bad.byte ≡ byte = cc in
+      record { before = bad.before; byte = byte; rest = more; joined = longer; size = bad.size; allowed = bad.allowed; bad = rw same at bad.bad }
+  | Longer byte more longer rest ↦ absurd (not_there (byte ∷ more) (sym rest))
+] where
+  not_there : (front : List ℕ) → ¬ (front ++ bad.byte ∷ bad.rest ≡ few)
+  not_there front is =
+      let good = All-get_or (λ b. IsTrue (is_text_byte b)) few (length front) 0 (omega (arith, ap length is, length-append front (bad.byte ∷ bad.rest))) allowed in
+      false≢true (sym bad.bad ∙ (rw (← is, get_or-append_seam front bad.byte bad.rest 0) at good))
 
 -- with more bytes the first bad one stays where it is, in the same part
-pub bad_stays : (body more : List ℕ) (place : ℕ) → (cut body).1 ≡ [] → IsBadAt body place → IsBadAt ((cut (body ++ more)).0) place
-bad_stays [] more place none bad = absurd (omega (arith, ap length bad.joined, length-append {A = ℕ}))
-bad_stays (byte ∷ bytes) more place none bad =
-    let is = uncut byte bytes none in
-    elim (cut_or_not byte (bytes ++ more)) [
-      | inl (break, begun) ↦
-          let few : length bytes < 6 = grind (arith, cases_lt (length bytes) 6, begins_front bytes more, is.not break) in
-          absurd (no_bad_byte (byte ∷ bytes) place (All-cons (λ b. IsTrue (is_text_byte b)) byte bytes (rw break refl) (few_allowed bytes more few begun)) bad)
-      | inr not ↦ rw (no_cut byte (bytes ++ more) not) (elim (bad_first byte bytes place bad) [
-        | inl (here, off) ↦ record { before = []; byte = byte; rest = (cut (bytes ++ more)).0; joined = refl; size = here; allowed = All-nil (λ b. IsTrue (is_text_byte b)); bad = off }
-        | inr (p, later, good, at) ↦ rw later (bad_behind byte (cut (bytes ++ more)).0 p good (bad_stays bytes more p is.single at))
-      ])
-    ]
+bad_stays : (body more : List ℕ) (place : ℕ) → (cut body).1 ≡ [] → IsBadAt body place → IsBadAt ((cut (body ++ more)).0) place
+bad_stays body more place none bad = elim (grown body more none) [
+  | Grows rest longer ↦ rw longer (bad_longer body rest place bad)
+  | CutShort few shorter allowed ↦ bad_before (cut (body ++ more)).0 few place allowed (rw shorter at bad)
+]
 
 -- a line, and a body in which the same bytes are bad
 pub record IsAlike (part line body : List ℕ) : Type 0 where
@@ -258,24 +230,25 @@ pub record IsAlike (part line body : List ℕ) : Type 0 where
   pub is : part ≡ line ++ 10 ∷ other
   pub bad : (place : ℕ) → IsBadAt body place → IsBadAt other place
 
-first_byte : (byte : ℕ) (bytes : List ℕ) → (other : List ℕ) × ((cut (byte ∷ bytes)).0 ≡ byte ∷ other)
-first_byte byte bytes = elim (cut_or_not byte bytes) [
-  | inl (is, begun) ↦ ([], rw is (ap (λ c. c.0) (at_cut bytes begun)))
-  | inr not ↦ ((cut bytes).0, ap (λ c. c.0) (no_cut byte bytes not))
-]
-
 pub alike : (line body more : List ℕ) → IsWithout 10 line → (cut (line ++ 10 ∷ body)).1 ≡ [] → IsAlike (cut ((line ++ 10 ∷ body) ++ more)).0 line body
 alike line body more unbroken none =
-    let (other, is) = first_byte 10 (body ++ more) in
-    let alone : (cut (10 ∷ body)).1 ≡ [] = sym (ap (λ c. c.1) (cut_behind line (10 ∷ body) unbroken)) ∙ none in
-    record {
-      other = other;
-      is = ap (λ l. (cut l).0) (append_assoc line (10 ∷ body) more) ∙ ap (λ c. c.0) (cut_behind line (10 ∷ (body ++ more)) unbroken) ∙ ap (λ l. line ++ l) is;
-      bad = λ place at. elim (bad_first 10 other (place + 1) (rw is at (bad_stays (10 ∷ body) more (place + 1) alone (bad_behind 10 body place refl at)))) [
-        | inl (none, off) ↦ absurd (omega (arith, none))
-        | inr (p, same, good, there) ↦ let equal : p ≡ place = omega (arith, same) in rw equal at there
-      ];
-    }
+    let is = uncut 10 body (sym (ap (λ c. c.1) (cut_behind line (10 ∷ body) unbroken)) ∙ none) in
+    let part : (cut ((line ++ 10 ∷ body) ++ more)).0 ≡ line ++ (cut (10 ∷ (body ++ more))).0 =
+    ap (λ l. (cut l).0) (append_assoc line (10 ∷ body) more) ∙ ap (λ c. c.0) (cut_behind line (10 ∷ (body ++ more)) unbroken) in
+    elim (cut_or_not 10 (body ++ more)) [
+      | inl (break, begun) ↦
+          let few : length body < 6 = grind (arith, cases_lt (length body) 6, begins_front body more, is.not refl) in
+          record {
+            other = [];
+            is = part ∙ ap (λ (c : List ℕ × List (List ℕ)). line ++ c.0) (at_cut (body ++ more) begun);
+            bad = λ place at. absurd (no_bad_byte body place (few_allowed body more few begun) at);
+          }
+      | inr not ↦ record {
+        other = (cut (body ++ more)).0;
+        is = part ∙ ap (λ (c : List ℕ × List (List ℕ)). line ++ c.0) (no_cut 10 (body ++ more) not);
+        bad = λ place. bad_stays body more place is.single;
+      }
+    ]
 
 -- what is allowed, and ends in LF, has no other part
 pub allowed_one : (front rest : List ℕ) (others : List (List ℕ)) → AreAllowed (front ++ 10 ∷ []) → cut (10 ∷ rest) ≡ (10 ∷ [], others)
@@ -289,7 +262,3 @@ allowed_one (byte ∷ front) rest others allowed is =
     no_digit : (bytes : List ℕ) → AreAllowed (bytes ++ 10 ∷ []) → ¬ (BeginsHeading bytes)
     no_digit bytes good begun =
         grind (arith, nat_tests, heading_size bytes begun, told bytes begun, get_or-append bytes (10 ∷ []) 0 5, length-append bytes (10 ∷ []), All-get_or (λ b. IsTrue (is_text_byte b)) (bytes ++ 10 ∷ []) 5 0)
-
--- so the parts of what begins a heading are those that follow an LF
-pub parts_behind : (form : List ℕ) (texts : List (List ℕ)) → BeginsHeading form → cut (10 ∷ form) ≡ (10 ∷ [], texts) → parts_of form ≡ texts
-parts_behind form texts begun is = sym (ap (λ c. c.1) (at_cut form begun)) ∙ ap (λ c. c.1) is

@@ -1,6 +1,7 @@
 -- The form that an order becomes gives the order's letters back.
-use Rattle.kd_form.proofs.Prelude.{◌≡◌, ◌≢◌, ℕ, ◌+◌, ◌%◌, ◌<◌, ◌≤◌, inl, inr, List, [], ◌∷◌, ◌++◌, length, take, drop, refl, sym, ap, subst, ◌∙◌, append_assoc, length-append, arith, All, Option, Some, None, IfSome, flat_map, cons_option, cases_lt, append-nil, take_all, drop_all, length-take, length-take-le, take-append-drop, All-nil, All-cons, All-head, All-tail, All-take, All-drop, TheDayDeciphersItself, Day, IsLegalDay, Keys, BeginsHeading, given_text, sent_letters, AreKeys, OrdersGiveLetters, FormsGiveTheirOrders, Suits, part_size, filled, Part, part_text, pieces, body_text, IsLettersText, IsPartRead, letters_from, text_letters, parts_needed, AreMadeTexts, cut, ReadsTo, at_first, IsComplete, IsExpected}
-use Rattle.kd_form.proofs.Cutting.{one_byte, parts_behind}
+use Rattle.std.proofs.lemmas.Grind.{common_steps}
+use Rattle.kd_form.proofs.Prelude.{◌≡◌, ◌≢◌, ℕ, ◌+◌, ◌%◌, ◌<◌, ◌≤◌, inl, inr, List, [], ◌∷◌, ◌++◌, length, take, drop, refl, sym, ap, subst, ◌∙◌, append_assoc, length-append, arith, All, Option, Some, None, IfSome, flat_map, cons_option, cases_lt, append-nil, take_all, drop_all, length-take, length-take-le, take-append-drop, All-nil, All-cons, All-head, All-tail, All-take, All-drop, TheDayDeciphersItself, Day, IsLegalDay, Keys, BeginsHeading, given_text, sent_letters, AreKeys, FormsGiveTheirOrders, Suits, part_size, filled, part_text, pieces, body_text, SaysBody, Ok, IsPartRead, letters_from, blank_of, text_letters, parts_needed, AreMadeTexts, cut, ReadsTo, at_first, IsComplete, IsExpected}
+use Rattle.kd_form.proofs.Cutting.{at_cut, one_byte}
 use Rattle.kd_form.proofs.PartTexts.{by_pieces, gives_body, part_has_heading, part_begins_heading, part_is_first}
 use Rattle.kd_form.proofs.MadeParts.{more_pieces, pieces-next, pieces-none, IsPiece, GivesBack, part_gives_back}
 use Rattle.kd_form.proofs.OneOrder.{all_of_the_day, one_order}
@@ -17,9 +18,6 @@ letters_within : (blank : Option ℕ) (text : List ℕ) → IfSome blank (λ let
 letters_within blank [] less = All-nil (λ letter. letter < 26)
 letters_within blank (byte ∷ text) less = grind (arith, found_within, letters_from, letters_within blank text less)
 
-text_letters_within : (s : Day) (text : List ℕ) → All (λ letter. letter < 26) (text_letters s text)
-text_letters_within s text = grind (arith, letters_within)
-
 -- ---- pieces of a text
 
 -- behind whole groups the rest is filled as the whole text is
@@ -32,17 +30,13 @@ filled_pieces letters = elim (cases_lt (length letters) 500) [
   | inr long ↦ grind (arith, filled_behind (take 500 letters) (drop 500 letters), length-take-le 500 letters, take-append-drop 500 letters)
 ]
 
-sent_joined : (s : Day) (letters : List ℕ)
-    → sent_letters s (take (part_size s) letters) ++ sent_letters s (drop (part_size s) letters) ≡ sent_letters s letters
-sent_joined s letters = grind (arith, take-append-drop {A = ℕ}, filled_pieces)
-
 -- the pieces, sent one after another, are the letters as they are sent
 sent_pieces : (s : Day) (letters : List ℕ) → flat_map (sent_letters s) (pieces (part_size s) letters) ≡ sent_letters s letters
 sent_pieces s =
     by_pieces (part_size s) (λ letters. flat_map (sent_letters s) (pieces (part_size s) letters) ≡ sent_letters s letters) (size_some s)
     (rw (pieces-none (part_size s) (size_some s)) (grind arith))
     (λ letters some rest. rw (pieces-next (part_size s) letters (size_some s) some)
-    (ap (λ t. sent_letters s (take (part_size s) letters) ++ t) rest ∙ sent_joined s letters))
+    (ap (λ t. sent_letters s (take (part_size s) letters) ++ t) rest ∙ grind (arith, take-append-drop {A = ℕ}, filled_pieces)))
 
 are_pieces : (s : Day) (letters : List ℕ) → All (λ letter. letter < 26) letters → All (IsPiece s) (pieces (part_size s) letters)
 are_pieces s =
@@ -55,21 +49,6 @@ are_pieces s =
     }) (rest (All-drop (λ letter. letter < 26) (part_size s) letters within))))
 
 -- ---- part after part
-
-part_is_read : (s : Day) (part parts : ℕ) (text : List ℕ) (made : Part) → GivesBack s part parts text made
-    → IsPartRead s part parts (part_text made) text
-part_is_read s part parts text made back =
-    let given = gives_body made.body back.within in
-    record {
-      heading = made.heading;
-      body = body_text made.body;
-      has = part_has_heading s made back.is_heading;
-      numbered = back.numbered;
-      so_many = back.so_many;
-      allowed = given.allowed;
-      counted = ap length given.gives ∙ back.counted;
-      read = subst (λ ls. IsLettersText s made.heading.indicator ls text) (sym given.gives) back.read;
-    }
 
 -- behind an LF the form is nothing but parts, which are read as the letters of the pieces
 record AreGivenBack (s : Day) (part parts count : ℕ) (pieces : List (List ℕ)) (form : List ℕ) : Type 0 where
@@ -97,34 +76,29 @@ parts_are_given_back s part parts (k ∷ keys) (piece ∷ pieces) form decipher 
     let back : GivesBack s part parts (sent_letters s piece) made =
     part_gives_back s part parts k piece made decipher legal (All-head (AreKeys s) k keys are) (All-head (Suits s) k keys suited)
     (record { first = first; in_order = omega arith; few = few }) (All-head (IsPiece s) piece pieces all) makes in
+    let given = gives_body made.body back.within in
+    let is_read : IsPartRead s part parts (part_text made) (sent_letters s piece) = record {
+      heading = made.heading;
+      body = body_text made.body;
+      has = part_has_heading s made back.is_heading;
+      numbered = back.numbered;
+      so_many = back.so_many;
+      allowed = given.allowed;
+      read = subst (λ ls. SaysBody s part made.heading ls (Ok (sent_letters s piece))) (sym given.gives) (inr (back.counted, back.read));
+    } in
     rw (joined, written) (record {
       texts = part_text made ∷ rest.texts;
       counted = omega (arith, rest.counted);
       begins = λ some. part_begins_heading s made more back.is_heading;
       cut_so = part_is_first s made more rest.texts back.is_heading back.within rest.cut_so;
-      read = λ expected start due known. inr (
-        parts,
-        sent_letters s piece,
-        flat_map (sent_letters s) pieces,
-        part_is_read s part parts (sent_letters s piece) made back,
-        due,
-        rest.read (Some parts) (start + length (part_text made)) refl (λ none. refl),
-        refl,
-      );
+      read = grind (arith, is_read, rest.read);
     })
 parts_are_given_back s part parts _ _ form decipher legal are suited all first last few made = absurd made
 
 -- ---- the whole form
 
 some_parts : (s : Day) (letters : List ℕ) (texts : List (List ℕ)) → letters ≢ [] → length texts ≡ parts_needed s (length letters) → texts ≢ []
-some_parts s [] texts some needed none = some refl
-some_parts s (letter ∷ letters) texts some needed none = grind (arith, more_pieces, size_some)
-
-pub orders_give_letters : OrdersGiveLetters
-orders_give_letters s order form is = (
-  given_text s (sent_letters s (text_letters s is.text)),
-  record { keys = is.keys; head = is.head; text = is.text; is_order = is.sendable.is_order; is = refl },
-)
+some_parts s letters texts e d = grind (arith, common_steps, more_pieces, size_some)
 
 pub forms_give_their_orders : TheDayDeciphersItself → FormsGiveTheirOrders
 forms_give_their_orders decipher s order form given legal is due =
@@ -135,12 +109,11 @@ forms_give_their_orders decipher s order form given legal is due =
     let back : AreGivenBack s 1 (length is.keys) (length is.keys) (pieces (part_size s) letters) form =
     parts_are_given_back s 1 (length is.keys) is.keys (pieces (part_size s) letters) form decipher legal
     (all_of_the_day _ s is.keys is.head order_is.is_head.lines) is.sendable.suited
-    (are_pieces s letters (text_letters_within s is.text)) (omega arith) (omega arith) order_is.is_head.few is.made in
+    (are_pieces s letters (letters_within (blank_of s) is.text (grind arith))) (omega arith) (omega arith) order_is.is_head.few is.made in
     let some : back.texts ≢ [] = some_parts s letters back.texts is.some (back.counted ∙ sym is.counted) in
     let read = back.read None 0 tt (λ none. absurd (some none)) in
     record {
       letters = sent;
-      read = subst (λ ps. ReadsTo s IsComplete at_first ps sent) (sym (parts_behind form back.texts (back.begins some) back.cut_so))
-          (subst (ReadsTo s IsComplete at_first back.texts) (sent_pieces s letters) read);
+      read = grind (arith, at_first, at_cut, back.begins, sent_pieces, letters, read);
       is = due.is ∙ ap (λ t. given_text s (sent_letters s (text_letters s t))) (sym same.2);
     }

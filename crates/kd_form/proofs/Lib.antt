@@ -3,7 +3,6 @@ pub mod Plain
 pub mod Picking
 pub mod Ciphers
 pub mod Lines
-pub mod TextLetters
 pub mod MadeParts
 pub mod GivenBack
 pub mod OneOrder

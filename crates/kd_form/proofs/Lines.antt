@@ -1,5 +1,5 @@
 -- The lines of an order up to its text.
-use Rattle.kd_form.proofs.Prelude.{common_steps, ◌≡◌, ◌≢◌, ℕ, zero, suc, ◌+◌, ◌<◌, ◌≤◌, inl, inr, true, false, List, [], ◌∷◌, ◌++◌, length, get_or, take, drop, replicate, refl, sym, ap, subst, ◌∙◌, append_assoc, length-append, length-drop, arith, ◌==◌, codes, AllWithin, nat_tests, cases_Bool, get_or-take, take-append-drop, length-replicate, length-take-le, append-nil, drop_more, All-append, All-cons, All-nil, All-replicate, All-take, All-drop, All-push, Unread, IsEnded, IsKeyLine, filled_in, blanks, fits, letters_at, IsFilledLine, IsPatternLine, AreAppended, BreaksOff, Result, Ok, Err, MatchResult, letters_text, line_of, IsWithout, Day, OfRotors, OfPins, Keys, Rotor, Pin, key_words, AreKeys, places_for, rotor_pattern, key_pattern, key_letters, IsAnyKeyLine, FormFault, Suits, IsKeysFault, IsFirstKeysFault, BeginsWithKeys, nil_from_length, false≢true}
+use Rattle.kd_form.proofs.Prelude.{common_steps, ◌≡◌, ℕ, zero, suc, ◌+◌, ◌<◌, ◌≤◌, inl, inr, true, false, List, [], ◌∷◌, ◌++◌, length, get_or, take, drop, replicate, refl, sym, ap, subst, ◌∙◌, append_assoc, length-append, length-drop, arith, ◌==◌, codes, AllWithin, nat_tests, cases_Bool, get_or-take, take-append-drop, length-replicate, length-take-le, append-nil, drop_more, All-append, All-cons, All-nil, All-replicate, All-take, All-drop, Unread, IsEnded, IsKeyLine, filled_in, blanks, fits, letters_at, IsFilledLine, IsPatternLine, AreAppended, BreaksOff, Result, Ok, Err, MatchResult, letters_text, line_of, Day, OfRotors, OfPins, Keys, Rotor, Pin, key_words, AreKeys, places_for, rotor_pattern, key_pattern, key_letters, IsAnyKeyLine, FormFault, Suits, IsKeysFault, IsFirstKeysFault, BeginsWithKeys, nil_from_length, false≢true}
 use Rattle.kd_state.specs.Machine.{AreLetters}
 use Rattle.kd_form.specs.declared.pattern_line.Unread.TheVariants.{Open, Off}
 use Rattle.kd_form.proofs.Ciphers.{letter_read}
@@ -169,22 +169,6 @@ unsuited s keys index k fault inside is before found =
 -- -------- lines of keys, and what follows them
 
 -- ---- one line
-
--- what stands before the LF of a line
-pub record IsUpToBreak (line : List ℕ) : Type 0 where
-  pub text : List ℕ
-  pub unbroken : IsWithout 10 text
-  pub is : line ≡ text ++ 10 ∷ []
-
-pub up_to_break : (text line : List ℕ) → IsWithout 10 text → IsEnded text line → IsUpToBreak line
-up_to_break text line unbroken ended = elim ended [
-  | inl short ↦ record { text = text; unbroken = unbroken; is = short }
-  | inr long ↦ record {
-    text = text ++ 13 ∷ [];
-    unbroken = All-push (λ byte. byte ≢ 10) text 13 unbroken (λ e. omega arith);
-    is = long ∙ sym (append_assoc text (13 ∷ []) (10 ∷ []));
-  }
-]
 
 ended_tail : (text line : List ℕ) → IsEnded text line → (tail : List ℕ) × IsEnded [] tail × (line ≡ text ++ tail)
 ended_tail text line ended = grind arith

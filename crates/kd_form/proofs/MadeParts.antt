@@ -1,6 +1,6 @@
 -- How a part of a form is made.
-use Rattle.kd_form.proofs.Prelude.{[], ◌≡◌, ℕ, ◌+◌, ◌-◌, ◌%◌, ◌<◌, List, ◌∷◌, ◌++◌, length, take, drop, refl, sym, ap, ◌∙◌, append_assoc, length-drop, add-one, arith, min, subst, ◌≤◌, replicate, length-append, codes, decimal, Option, Some, MatchOption, IsSome, All, option_map, div_ceil, join_with_byte, div-eq_of_lt, mod-eq_of_lt, append-nil, take_min, drop_min, length-map, length-replicate, Heading, fraction, indicator_words, heading_words, pieces, behind_spaces, with_line, Part, Day, OfRotors, OfPins, pin_day, IsLegalDay, Keys, Rotor, Pin, PinKeys, Indicator, IsInternalKey, HaveRunOut, Suits, indicator_of, rotor_letters, enciphered_choice, pin_letters, list_letters, IsMade, cipher_from, part_size, pin_indicators, filled, sheet_key, IsWindow, take-append_seam, drop-append_seam, HasIndicator, message_key, HasIndicatorsAround, group_in, keys_in, list_in, text_in, IsLettersText, All-append, All-cons, All-replicate, TheDayDeciphersItself, IsFraction, IsHeading, sent_letters, AreKeys}
-use Rattle.kd_form.proofs.Ciphers.{length-cipher_from, letters-cipher_from}
+use Rattle.kd_form.proofs.Prelude.{[], inr, ◌≡◌, ℕ, ◌+◌, ◌-◌, ◌%◌, ◌<◌, List, ◌∷◌, ◌++◌, length, take, drop, refl, sym, ap, ◌∙◌, append_assoc, length-drop, add-one, arith, min, subst, ◌≤◌, replicate, length-append, codes, decimal, Option, Some, MatchOption, IsSome, All, option_map, div_ceil, join_with_byte, div-eq_of_lt, mod-eq_of_lt, append-nil, take_min, drop_min, length-map, length-replicate, Heading, fraction, indicator_words, heading_words, pieces, behind_spaces, with_line, Part, Day, OfRotors, OfPins, pin_day, IsLegalDay, Keys, Rotor, Pin, PinKeys, Indicator, IsInternalKey, HaveRunOut, Suits, indicator_of, rotor_letters, enciphered_choice, pin_letters, list_letters, IsMade, cipher_from, part_size, pin_indicators, filled, sheet_key, IsWindow, take-append_seam, drop-append_seam, HasIndicator, message_key, HasIndicatorsAround, group_in, keys_in, list_in, text_in, SaysLetters, Ok, All-append, All-cons, All-replicate, TheDayDeciphersItself, IsFraction, IsHeading, sent_letters, AreKeys}
+use Rattle.kd_form.proofs.Ciphers.{enciphered_length, enciphered_letters}
 
 -- -------- letters in groups and lines, piece by piece
 
@@ -50,7 +50,7 @@ not_spent found items letters told internal = grind arith
 -- the deciphered message key is a window
 pub key_is_window : (s : Day) (i : Indicator) (key : List ℕ) → HasIndicator s (Some i) → key ≡ message_key s i → All (λ l. l < 26) key
     → IsWindow (sheet_key s) key
-key_is_window s i key has is within = grind (arith, length-cipher_from, length-map)
+key_is_window s i key has is within = grind (arith, enciphered_length, length-map)
 
 -- ---- what the reads tell
 
@@ -72,7 +72,7 @@ pub record GivesBack (s : Day) (part parts : ℕ) (text : List ℕ) (made : Part
   pub so_many : made.heading.parts ≡ parts
   pub within : All (λ letter. letter < 26) made.body
   pub counted : length made.body ≡ made.heading.letters
-  pub read : IsLettersText s made.heading.indicator made.body text
+  pub read : SaysLetters s part made.heading.indicator made.body (Ok text)
 
 -- ---- letters by their places
 
@@ -110,20 +110,19 @@ part_gives_back (OfRotors s) part parts (Rotor k) piece made decipher legal are 
     let day : Day = OfRotors s in
     let enciphered : List ℕ = cipher_from day k.key piece in
     let count : length (rotor_letters day k piece) ≡ 5 + length piece =
-    omega (arith, length-append {A = ℕ}, length-cipher_from day k.key piece, are.fillers.count, are.group.count) in
+    omega (arith, length-append {A = ℕ}, enciphered_length day k.key piece, are.fillers.count, are.group.count) in
     let key : cipher_from day k.start (cipher_from day k.start k.key) ≡ k.key = decipher day k.start k.key legal are.key.within in
     let text : cipher_from day k.key enciphered ≡ piece = decipher day k.key piece legal is.within in
     rw makes (record {
-      is_heading = grind (arith, count, length-cipher_from day k.start k.key, letters-cipher_from day k.start k.key);
+      is_heading = grind (arith, count, enciphered_length day k.start k.key, enciphered_letters day k.start k.key);
       numbered = refl;
       so_many = refl;
       within = All-append (λ letter. letter < 26) (k.fillers ++ k.group) enciphered
-          (All-append (λ letter. letter < 26) k.fillers k.group are.fillers.within are.group.within) (letters-cipher_from day k.key piece);
+          (All-append (λ letter. letter < 26) k.fillers k.group are.fillers.within are.group.within) (enciphered_letters day k.key piece);
       counted = refl;
-      read = let placed = rotor_places k.fillers k.group enciphered are.fillers.count are.group.count in record {
-        of_the_day = rw (placed.0) suits;
-        is = sym text ∙ ap (λ window. cipher_from day window enciphered) (sym key) ∙ ap (cipher_from day (message_key day (indicator_of day k))) (sym placed.1);
-      };
+      read = let placed = rotor_places k.fillers k.group enciphered are.fillers.count are.group.count in
+          let is = sym text ∙ ap (λ window. cipher_from day window enciphered) (sym key) ∙ ap (cipher_from day (message_key day (indicator_of day k))) (sym placed.1) in
+          inr (rw (placed.0) suits, ap Ok is);
     })
 part_gives_back (OfPins s) part parts (Pin k) piece made decipher legal are suits fraction is (internal, first, makes) =
     let day : Day = OfPins s in
@@ -137,7 +136,7 @@ part_gives_back (OfPins s) part parts (Pin k) piece made decipher legal are suit
       length-append (indicators ++ enciphered) indicators,
       length-append indicators enciphered,
       legal.list.count,
-      length-cipher_from day internal (filled piece),
+      enciphered_length day internal (filled piece),
       length-append k.external (list_letters day),
       are.external.count,
     ) in
@@ -152,15 +151,12 @@ part_gives_back (OfPins s) part parts (Pin k) piece made decipher legal are suit
       numbered = refl;
       so_many = refl;
       within = All-append (λ letter. letter < 26) (indicators ++ enciphered) indicators
-          (All-append (λ letter. letter < 26) indicators enciphered outer (letters-cipher_from day internal (filled piece))) outer;
+          (All-append (λ letter. letter < 26) indicators enciphered outer (enciphered_letters day internal (filled piece))) outer;
       counted = refl;
-      read = let placed = pin_places k k.external (list_letters day) enciphered refl are.external.count legal.list.count in record {
-        around = placed.around;
-        on_wheels = subst (λ (x : PinKeys). IsWindow (sheet_key day) x.external) placed.keys suits.0;
-        listed = sym placed.listed;
-        internal = internal;
-        first = subst (λ (x : PinKeys). IsInternalKey (enciphered_choice day x) internal) placed.keys first;
-        is = sym (decipher day internal (filled piece) legal inner) ∙ ap (cipher_from day internal) placed.text_is;
-      };
+      read = let placed = pin_places k k.external (list_letters day) enciphered refl are.external.count legal.list.count in
+          let on_wheels = subst (λ (x : PinKeys). IsWindow (sheet_key day) x.external) placed.keys suits.0 in
+          let best = subst (λ (x : PinKeys). IsInternalKey (enciphered_choice day x) internal) placed.keys first in
+          let is = sym (decipher day internal (filled piece) legal inner) ∙ ap (cipher_from day internal) placed.text_is in
+          inr (placed.around, inr (on_wheels, inr (sym placed.listed, inr (internal, best, ap Ok is))));
     })
 part_gives_back _ part parts _ piece made decipher legal are suits fraction is makes = absurd suits

@@ -1,5 +1,5 @@
 -- An order is read in one way, and becomes one form, or has one fault.
-use Rattle.kd_form.proofs.Prelude.{common_steps, ◌≡◌, ◌≢◌, ℕ, ◌+◌, inl, inr, List, [], ◌∷◌, ◌++◌, length, map, refl, sym, ap, subst, ◌∙◌, append_assoc, arith, Err, Ok, Result, drop, ◌≤◌, ◌⊎◌, codes, All, slice_index, IsTrue, IsFalse, append_cancel_right, append-nil, All-cons, All-nil, All-map, letters_text, is_text_byte, line_of, Day, OfRotors, OfPins, Keys, Rotor, Pin, ComesFirst, IsInternalKey, key_words, AreKeys, IsEnded, BeginsWithKeys, IsOrder, IsHead, IsHeadFault, IsMadeText, enciphered_choice, part_size, Suits, pieces, AreMadeTexts, text_letters, parts_needed, IsBadAt, IsKeysFault, IsFirstKeysFault, StandsInOrder, InHead, InKeys, InText, Cut, NoLetter, InParts, IsSendFault, IsSendable, IsFormOf, OrdersBecomeOneForm, SentOrdersHaveNoFault, OrdersHaveOneFault, false≢true, FormFault, BadByte, EmptyText, PartKeys}
+use Rattle.kd_form.proofs.Prelude.{common_steps, ◌≡◌, ◌≢◌, ℕ, ◌+◌, inl, inr, List, [], ◌∷◌, ◌++◌, length, map, refl, sym, ap, subst, ◌∙◌, append_assoc, arith, Err, Ok, drop, ◌≤◌, ◌⊎◌, codes, All, slice_index, IsTrue, IsFalse, append_cancel_right, append-nil, All-cons, All-nil, All-map, letters_text, is_text_byte, line_of, Day, OfRotors, OfPins, Keys, Rotor, Pin, ComesFirst, IsInternalKey, key_words, AreKeys, IsEnded, BeginsWithKeys, IsOrder, IsHead, IsHeadFault, IsMadeText, enciphered_choice, part_size, Suits, pieces, AreMadeTexts, text_letters, parts_needed, IsBadAt, IsKeysFault, IsFirstKeysFault, StandsInOrder, InHead, InKeys, InText, Cut, NoLetter, InParts, IsSendFault, IsSendable, IsFormOf, Answer, IsCaught, IsFound, IsJudged, false≢true, FormFault, BadByte, EmptyText, PartKeys}
 use Rattle.kd_form.proofs.Plain.{same_front, plain_keys, text_plain, nothing_more}
 use Rattle.kd_form.proofs.Lines.{key_first, text_front, same_line}
 
@@ -15,24 +15,12 @@ only_this v w a b = a ∙ sym b
 pub only_either : {V : Type 0} {One Other : V → Type 0} → IsOnly One → IsOnly Other → ((v w : V) → One v → ¬ (Other w)) → IsOnly (λ v. One v ⊎ Other v)
 only_either ones others apart v w a b = grind arith
 
--- the answer is that of the thing that is found
-abbrev pub IsFound : {X V : Type 0} → (X → Type 0) → (X → V → Type 0) → V → Type 0
-IsFound {X} Has Later v = (x : X) × Has x × Later x v
-
 pub only_found : {X V : Type 0} {Has : X → Type 0} {Later : X → V → Type 0} → ((x y : X) → Has x → Has y → x ≡ y) → ((x : X) → IsOnly (Later x))
     → IsOnly (IsFound Has Later)
 only_found one laters v w (x, has, later) (y, also, latter) = laters y v w (rw (one x y has also) at later) latter
 
--- the answer is this refusal where a condition doesn't hold, and a later answer where it does
-abbrev pub IsJudged : {V : Type 0} → Type 0 → V → (V → Type 0) → V → Type 0
-IsJudged Holds refusal Later v = (¬ Holds × (v ≡ refusal)) ⊎ (Holds × Later v)
-
 pub only_judged : {V : Type 0} {Holds : Type 0} {refusal : V} {Later : V → Type 0} → IsOnly Later → IsOnly (IsJudged Holds refusal Later)
 only_judged laters = only_either (λ v w a b. a.1 ∙ sym b.1) (λ v w a b. laters v w a.1 b.1) (λ v w a b. a.0 b.0)
-
--- the answer is the refusal for the thing that is found, and a later answer where a condition denies that there is one
-abbrev pub IsCaught : {X V : Type 0} → (X → Type 0) → (X → V) → Type 0 → (V → Type 0) → V → Type 0
-IsCaught Has refusal Holds Later v = IsFound Has (λ x w. w ≡ refusal x) v ⊎ (Holds × Later v)
 
 pub only_caught : {X V : Type 0} {Has : X → Type 0} {refusal : X → V} {Holds : Type 0} {Later : V → Type 0} → ((x y : X) → Has x → Has y → x ≡ y)
     → ((x : X) → Holds → ¬ (Has x)) → IsOnly Later → IsOnly (IsCaught Has refusal Holds Later)
@@ -204,6 +192,12 @@ one_bad_byte text place other a b =
     (off b.byte b.bad) (sym a.joined ∙ b.joined) in
     a.size ∙ ap length same.0 ∙ sym b.size
 
+-- behind bytes that are allowed
+pub bad_behind : (front rest : List ℕ) (byte : ℕ) → All (λ b. IsTrue (is_text_byte b)) front → IsFalse (is_text_byte byte)
+    → IsBadAt (front ++ byte ∷ rest) (length front)
+bad_behind front rest byte allowed bad =
+    record { before = front; byte = byte; rest = rest; joined = refl; size = refl; allowed = allowed; bad = bad }
+
 pub bad_longer : (text more : List ℕ) (place : ℕ) → IsBadAt text place → IsBadAt (text ++ more) place
 bad_longer text more place bad = grind (arith, append_assoc {A = ℕ})
 
@@ -215,26 +209,26 @@ no_bad_byte text place all is =
 -- ---- one answer
 
 -- with these keys and this text: for the number of letters, a refusal or a form
-abbrev IsSizeAnswer : Day → List Keys → List ℕ → Result (List ℕ) FormFault → Type 0
+abbrev pub IsSizeAnswer : Day → List Keys → List ℕ → Answer → Type 0
 IsSizeAnswer s keys letters =
     IsJudged (letters ≢ []) (Err EmptyText) (IsJudged (parts_needed s (length letters) ≡ length keys)
     (Err (PartKeys (parts_needed s (length letters)) (length keys)))
     (IsFound (AreMadeTexts s 1 (length keys) keys (pieces (part_size s) letters)) (λ form v. v ≡ Ok form)))
 
 -- before that, a refusal for the keys or for a byte of the text
-abbrev IsLaterAnswer : Day → List Keys × List ℕ × List ℕ → Result (List ℕ) FormFault → Type 0
+abbrev pub IsLaterAnswer : Day → List Keys × List ℕ × List ℕ → Answer → Type 0
 IsLaterAnswer s (keys, head, text) =
     IsCaught (IsFirstKeysFault s keys) (λ fault. Err fault) (All (Suits s) keys)
     (IsCaught (IsBadAt text) (λ place. Err (BadByte (length head + place + 1))) (All (λ b. IsTrue (is_text_byte b)) text)
     (IsSizeAnswer s keys (text_letters s text)))
 
 -- and before that, for the head
-abbrev IsOrderAnswer : Day → List ℕ → Result (List ℕ) FormFault → Type 0
+abbrev pub IsOrderAnswer : Day → List ℕ → Answer → Type 0
 IsOrderAnswer s order v =
     IsFound (IsHeadFault s order) (λ position w. w ≡ Err (BadByte position)) v
     ⊎ IsFound (λ (x : List Keys × List ℕ × List ℕ). IsOrder s order x.0 x.1 x.2) (IsLaterAnswer s) v
 
-only_order : (s : Day) (order : List ℕ) → IsOnly (IsOrderAnswer s order)
+pub only_order : (s : Day) (order : List ℕ) → IsOnly (IsOrderAnswer s order)
 only_order s order =
     only_either (only_found (one_place s order) (λ position. only_this))
     (only_found (λ x y a b. grind (arith, one_order s order x.0 y.0 x.1 y.1 x.2 y.2 a b))
@@ -242,13 +236,13 @@ only_order s order =
     (only_judged (only_judged (only_found (one_form s 1 (length keys) keys (pieces (part_size s) (text_letters s text))) (λ form. only_this)))))))
     (λ v w a b. no_head_fault s order b.0.0 b.0.1 b.0.2 a.0 b.1 a.1)
 
-form_answer : (s : Day) (order form : List ℕ) → IsFormOf s order form → IsOrderAnswer s order (Ok form)
+pub form_answer : (s : Day) (order form : List ℕ) → IsFormOf s order form → IsOrderAnswer s order (Ok form)
 form_answer s order form a =
     let is = a.sendable in
     let size = inr (a.some, inr (a.counted, (form, a.made, refl))) in
     inr ((a.keys, a.head, a.text), is.is_order, inr (is.suited, inr (is.allowed, size)))
 
-fault_answer : (s : Day) (order : List ℕ) (fault : FormFault) → IsSendFault s order fault → IsOrderAnswer s order (Err fault)
+pub fault_answer : (s : Day) (order : List ℕ) (fault : FormFault) → IsSendFault s order fault → IsOrderAnswer s order (Err fault)
 fault_answer s order fault (inl (InHead position is few e)) = inl (position, is, ap Err e)
 fault_answer s order fault (inl (InKeys keys head text is k)) = inr ((keys, head, text), is, inl (fault, k, refl))
 fault_answer s order fault (inl (InText keys head text place is suited bad e)) =
@@ -256,19 +250,6 @@ fault_answer s order fault (inl (InText keys head text place is suited bad e)) =
 fault_answer s order fault (inr (Cut is e)) = inl (length order + 1, is, ap Err e)
 fault_answer s order fault (inr (NoLetter ks hd t is none e)) = inr ((ks, hd, t), is.is_order, grind arith)
 fault_answer s order fault (inr (InParts ks hd t is some differ e)) = inr ((ks, hd, t), is.is_order, grind arith)
-
-pub orders_become_one_form : OrdersBecomeOneForm
-orders_become_one_form s order form other a b =
-    let same = only_order s order (Ok form) (Ok other) (form_answer s order form a) (form_answer s order other b) in cc
-
-pub sent_orders_have_no_fault : SentOrdersHaveNoFault
-sent_orders_have_no_fault s order form fault a is =
-    let no = only_order s order (Ok form) (Err fault) (form_answer s order form a) (fault_answer s order fault is) in cc
-
-pub orders_have_one_fault : OrdersHaveOneFault
-orders_have_one_fault s order fault other a b =
-    let e = only_order s order (Err fault) (Err other) (fault_answer s order fault a) (fault_answer s order other b) in
-    cc
 
 -- ---- nothing stands
 

@@ -1,43 +1,23 @@
 -- A form becomes one text, or has one fault.
 use Rattle.std.proofs.Common.{append-nil}
-use Rattle.kd_form.proofs.Prelude.{◌≡◌, ℕ, ◌+◌, ◌-◌, ◌⊎◌, inl, inr, List, [], ◌∷◌, ◌++◌, length, Result, Ok, Err, MatchResult, refl, sym, ap, subst, ◌∙◌, arith, All, IsTrue, Option, Some, None, is_text_byte, Day, sheet_key, IsWindow, TextsTellFirstParts, NumbersAreWords, FormFault, BadByte, BadHeading, CountWrong, PartOrder, KeyNotOnWheel, WrongGroup, IndicatorSpent, IndicatorsDiffer, Heading, Indicator, IsInternalKey, cipher_from, list_letters, enciphered_choice, letters_from, IsBadAt, HasIndicatorsAround, keys_in, list_in, text_in, IsPinText, IsPinFault, IsLettersText, IsLettersFault, HasHeading, IsExpected, IsPartRead, IsPartFault, InHeading, InNumber, InBody, IsBodyFault, BeginsHeading, OfRest, Place, at_first, place_behind, ReadsTo, IsComplete, StandsAt, EndsAt, AtPart, cut, parts_of, given_text, IsTextOf, NoHeading, IsReceiveFault, FormsBecomeOneText, ReceivedFormsHaveNoFault, FormsHaveOneFault}
-use Rattle.kd_form.proofs.OneOrder.{IsCaught, only_this, only_either, only_found, only_judged, only_caught, one_internal_key, one_bad_byte, no_bad_byte, IsFound, IsJudged, IsOnly}
+use Rattle.kd_form.proofs.Prelude.{◌≡◌, ℕ, ◌+◌, ◌-◌, inl, inr, List, [], ◌∷◌, ◌++◌, length, Result, Ok, Err, refl, sym, ap, subst, ◌∙◌, append_assoc, arith, All, IsTrue, Option, Some, None, is_text_byte, Day, FormFault, BadByte, BadHeading, PartOrder, Heading, Indicator, enciphered_choice, letters_from, IsBadAt, keys_in, Answer, IsCaught, IsJudged, IsSought, SaysBody, SaysLetters, HasHeading, IsExpected, IsPartRead, IsPartFault, InHeading, InNumber, InBody, BeginsHeading, IsAt, OfRest, Place, at_first, place_behind, ReadsTo, IsComplete, StandsAt, EndsAt, AtPart, cut, parts_of, IsTextOf, NoHeading, IsReceiveFault}
+use Rattle.kd_form.proofs.OneOrder.{only_this, only_either, only_found, only_judged, only_caught, one_internal_key, one_bad_byte, no_bad_byte, IsOnly}
 use Rattle.kd_form.proofs.Headings.{one_heading, begins_there}
 use Rattle.kd_form.proofs.Cutting.{begins_more, first_there}
 
 -- -------- a part of a form has one text, or one fault
 
--- the answer is that of the thing that is found, and this refusal where nothing is
-abbrev IsSought : {X V : Type 0} → (X → Type 0) → V → (X → V → Type 0) → V → Type 0
-IsSought {X} Has refusal Later v = (((x : X) → ¬ (Has x)) × (v ≡ refusal)) ⊎ IsFound Has Later v
-
-only_sought : {X V : Type 0} {Has : X → Type 0} {refusal : V} {Later : X → V → Type 0} → ((x y : X) → Has x → Has y → x ≡ y) → ((x : X) → IsOnly (Later x))
-    → IsOnly (IsSought Has refusal Later)
-only_sought one laters = only_either (λ v w a b. a.1 ∙ sym b.1) (only_found one laters) (λ v w a b. a.0 b.0 b.1)
-
-abbrev Answer : Type 0
-Answer = Result (List ℕ) FormFault
+only_sought : {X V : Type 0} {Has : X → Type 0} {none : Type 0} {refusal : V} {Later : X → V → Type 0} → ((x y : X) → Has x → Has y → x ≡ y)
+    → (none → (x : X) → ¬ (Has x)) → ((x : X) → IsOnly (Later x)) → IsOnly (IsSought Has none refusal Later)
+only_sought one apart laters = only_either (λ v w a b. a.1 ∙ sym b.1) (only_found one laters) (λ v w a b. apart a.0 b.0 b.1)
 
 -- ---- the letters of a part
 
--- on the Converter M-209 refused for the indicators, the external letters, the list or the chosen letter, or deciphered
-abbrev IsPinAnswer : Day → ℕ → List ℕ → Answer → Type 0
-IsPinAnswer s part letters =
-    IsJudged (HasIndicatorsAround letters) (Err (IndicatorsDiffer part)) (IsJudged (IsWindow (sheet_key s) (keys_in letters).external) (Err KeyNotOnWheel)
-    (IsJudged (list_in letters ≡ list_letters s) (Err (WrongGroup part)) (IsSought (IsInternalKey (enciphered_choice s (keys_in letters))) (Err (IndicatorSpent part))
-    (λ internal v. v ≡ Ok (cipher_from s internal (text_in letters))))))
-
-pin_answer : (s : Day) (part : ℕ) (letters : List ℕ) (v : Answer) → MatchResult v (IsPinText s letters) (IsPinFault s part letters) → IsPinAnswer s part letters v
-pin_answer s part letters v e = grind arith
-
-abbrev IsLettersAnswer : Day → ℕ → Option Indicator → List ℕ → Answer → Type 0
-IsLettersAnswer s part i letters v = MatchResult v (IsLettersText s i letters) (IsLettersFault s part i letters)
-
-only_letters : (s : Day) (part : ℕ) (i : Option Indicator) (letters : List ℕ) → IsOnly (IsLettersAnswer s part i letters)
-only_letters s part (Some i) letters v w a b = grind arith
-only_letters s part None letters v w a b =
-    only_judged (only_judged (only_judged (only_sought (one_internal_key (enciphered_choice s (keys_in letters))) (λ internal. only_this)))) v w
-    (pin_answer s part letters v a) (pin_answer s part letters w b)
+only_letters : (s : Day) (part : ℕ) (i : Option Indicator) (letters : List ℕ) → IsOnly (SaysLetters s part i letters)
+only_letters s part (Some i) letters = only_judged only_this
+only_letters s part None letters =
+    only_judged (only_judged (only_judged (only_sought (one_internal_key (enciphered_choice s (keys_in letters)))
+    (λ spent internal is. spent is.places internal is.picked) (λ internal. only_this))))
 
 -- -------- parts that are read
 
@@ -49,12 +29,13 @@ module _ (s : Day) where
   reads_as A B to p (part ∷ parts) letters (inr (count, one, more, is, due, rest, joined)) =
       inr (count, one, more, is, due, reads_as A B to (place_behind p count part) parts more rest, joined)
 
-  -- what is so at a rest, whichever it is
-  pub reads_end : (A : OfRest) (P : Type 0) → ((p : Place) (parts : List (List ℕ)) → A p parts → P) → (p : Place) (parts : List (List ℕ)) (letters : List ℕ)
-      → ReadsTo s A p parts letters → P
-  reads_end A P so p [] letters (held, none) = so p [] held
-  reads_end A P so p (part ∷ parts) letters (inl (held, none)) = so p (part ∷ parts) held
-  reads_end A P so p (part ∷ parts) letters (inr (count, one, more, is, due, rest, joined)) = reads_end A P so (place_behind p count part) parts more rest
+  -- up to a place, and on from there
+  pub reads_then : (q : Place) (B : OfRest) (p : Place) (parts others : List (List ℕ)) (letters more : List ℕ)
+      → ReadsTo s (IsAt q) p parts letters → ReadsTo s B q others more → ReadsTo s B p (parts ++ others) (letters ++ more)
+  reads_then q B p [] others letters more ((there, none), nil) rest = rw nil (subst (λ x. ReadsTo s B x others more) (sym there) rest)
+  reads_then q B p (part ∷ parts) others letters more (inl ((there, none), nil)) rest = absurd (cc)
+  reads_then q B p (part ∷ parts) others letters more (inr (count, one, left, is, due, reads, joined)) rest =
+      grind (arith, reads_then q B (place_behind p count part) parts others left more reads rest, append_assoc)
 
   -- where the one is so of a rest, no part of that is read up to where the other is
   abbrev pub NeverPasses : OfRest → OfRest → Type 0
@@ -68,10 +49,6 @@ module _ (s : Day) where
   AnswersAt v p [] = (count : ℕ) × (p.expected ≡ Some count) × IsJudged (p.number ≡ count + 1) (Err PartOrder) (λ w. w ≡ Ok tt) v
   AnswersAt v p (part ∷ parts) = (fault : FormFault) × IsPartFault s p.number p.expected p.start part fault × (v ≡ Err fault)
 
-  complete : (p : Place) (parts : List (List ℕ)) → IsComplete p parts → AnswersAt (Ok tt) p parts
-  complete p [] (count, is, all) = (count, is, inr (all, refl))
-  complete p (part ∷ parts) none = absurd none
-
   pub stands_at : (fault : FormFault) (p : Place) (parts : List (List ℕ)) → StandsAt s fault p parts → AnswersAt (Err fault) p parts
   stands_at fault p [] none = absurd none
   stands_at fault p (part ∷ []) (ended, early) = (fault, inl early, refl)
@@ -84,41 +61,37 @@ module _ (s : Day) where
 
 -- ---- the part
 
-module _ (s : Day) (tell : TextsTellFirstParts) (numbers : NumbersAreWords) where
+module _ (s : Day) where
   abbrev IsPartAnswer : ℕ → Option ℕ → ℕ → List ℕ → Answer → Type 0
   IsPartAnswer number expected start part =
-      IsSought (λ (x : Heading × List ℕ). HasHeading s part x.0 x.1) (Err (BadHeading number))
+      IsSought (λ (x : Heading × List ℕ). HasHeading s part x.0 x.1) ((h : Heading) (body : List ℕ) → ¬ (HasHeading s part h body)) (Err (BadHeading number))
       (λ x. IsJudged ((x.0.part ≡ number) × IsExpected expected x.0.parts) (Err PartOrder)
       (IsCaught (IsBadAt x.1) (λ place. Err (BadByte (start + (length part - length x.1) + place + 1))) (All (λ b. IsTrue (is_text_byte b)) x.1)
-      (IsJudged (length (letters_from None x.1) ≡ x.0.letters) (Err (CountWrong number)) (IsLettersAnswer s number x.0.indicator (letters_from None x.1)))))
+      (SaysBody s number x.0 (letters_from None x.1))))
 
   only_part : (number : ℕ) (expected : Option ℕ) (start : ℕ) (part : List ℕ) → IsOnly (IsPartAnswer number expected start part)
   only_part number expected start part =
-      only_sought (λ x y a b. let same = one_heading s part x.0 y.0 x.1 y.1 tell numbers a b in λ i. (same.0 i, same.1 i))
+      only_sought (λ x y a b. let same = one_heading s part x.0 y.0 x.1 y.1 a b in λ i. (same.0 i, same.1 i)) (λ none x has. none x.0 x.1 has)
       (λ x. only_judged (only_caught (one_bad_byte x.1) (no_bad_byte x.1) (only_judged (only_letters s number x.0.indicator (letters_from None x.1)))))
-
-  count_answer : {number : ℕ} {h : Heading} {letters : List ℕ} {fault : FormFault} → IsBodyFault s number h letters fault
-      → IsJudged (length letters ≡ h.letters) (Err (CountWrong number)) (IsLettersAnswer s number h.indicator letters) (Err fault)
-  count_answer a = grind arith
 
   part_fault : {number : ℕ} {expected : Option ℕ} {start : ℕ} {part : List ℕ} {fault : FormFault} → IsPartFault s number expected start part fault
       → IsPartAnswer number expected start part (Err fault)
-  part_fault (inl (InHeading none is)) = inl (λ x has. none x.0 x.1 has, ap Err is)
+  part_fault (inl (InHeading none is)) = inl (none, ap Err is)
   part_fault (inl (InNumber h body has other is)) =
       inr ((h, body), has, inl (λ both. elim other [ inl part ↦ part both.0 | inr parts ↦ parts both.1 ], ap Err is))
   part_fault (inl (InBody h body place has numbered due bad is)) = inr ((h, body), has, inr ((numbered, due), inl (place, bad, ap Err is)))
-  part_fault (inr a) = inr ((a.heading, a.body), a.has, inr ((a.numbered, a.due), inr (a.allowed, count_answer a.found)))
+  part_fault (inr a) = inr ((a.heading, a.body), a.has, inr ((a.numbered, a.due), inr (a.allowed, a.found)))
 
   part_read : {number parts : ℕ} {part text : List ℕ} → (expected : Option ℕ) (start : ℕ) → IsPartRead s number parts part text → IsExpected expected parts
       → IsPartAnswer number expected start part (Ok text)
   part_read expected start a due =
-      inr ((a.heading, a.body), a.has, inr ((a.numbered, rw (a.so_many) due), inr (a.allowed, inr (a.counted, a.read))))
+      inr ((a.heading, a.body), a.has, inr ((a.numbered, rw (a.so_many) due), inr (a.allowed, a.read)))
 
   -- a part is read as one of so many, and as one text
   one_text : {number parts others : ℕ} {part text other : List ℕ} → IsPartRead s number parts part text → IsPartRead s number others part other
       → (parts ≡ others) × (text ≡ other)
   one_text {number} {part = part} {text = text} {other = other} a b =
-      let headings = one_heading s part a.heading b.heading a.body b.body tell numbers a.has b.has in
+      let headings = one_heading s part a.heading b.heading a.body b.body a.has b.has in
       let texts : Ok text ≡ Ok other = only_part number None 0 part (Ok text) (Ok other) (part_read None 0 a tt) (part_read None 0 b tt) in
       (cc (a.so_many, b.so_many, headings.0), cc)
 
@@ -149,7 +122,7 @@ module _ (s : Day) (tell : TextsTellFirstParts) (numbers : NumbersAreWords) wher
   read_or_refused {number} {expected} {start} {part = part} {one = one} {fault = fault} refused is due =
       let clash : Ok one ≡ Err fault = only_part number expected start part (Ok one) (Err fault) (part_read expected start is due) (part_fault refused) in cc
 
-  never_passes : (v w : Result (Unit {0}) FormFault) → NeverPasses s (AnswersAt s v) (AnswersAt s w)
+  pub never_passes : (v w : Result (Unit {0}) FormFault) → NeverPasses s (AnswersAt s v) (AnswersAt s w)
   never_passes v w p part parts count one more (fault, refused, answer) is due rest = read_or_refused refused is due
 
   one_at : (v w : Result (Unit {0}) FormFault) (p : Place) (parts : List (List ℕ)) → AnswersAt s v p parts → AnswersAt s w p parts → v ≡ w
@@ -159,40 +132,22 @@ module _ (s : Day) (tell : TextsTellFirstParts) (numbers : NumbersAreWords) wher
 
   module _ (form : List ℕ) where
     -- and the parts before that have these letters
-    abbrev IsFormAnswer : Result (Unit {0}) FormFault → List ℕ → Type 0
+    abbrev pub IsFormAnswer : Result (Unit {0}) FormFault → List ℕ → Type 0
     IsFormAnswer v letters = ReadsTo s (AnswersAt s v) at_first (parts_of form) letters
 
-    only_form : (v w : Result (Unit {0}) FormFault) (letters more : List ℕ) → IsFormAnswer v letters → IsFormAnswer w more → (letters ≡ more) × (v ≡ w)
+    pub only_form : (v w : Result (Unit {0}) FormFault) (letters more : List ℕ) → IsFormAnswer v letters → IsFormAnswer w more → (letters ≡ more) × (v ≡ w)
     only_form v w = reads_meet (AnswersAt s v) (AnswersAt s w) (v ≡ w) (never_passes v w) (never_passes w v) (one_at v w) at_first (parts_of form)
 
-    text_answer : (text : List ℕ) (is : IsTextOf s form text) → IsFormAnswer (Ok tt) is.letters
-    text_answer text is = reads_as s IsComplete (AnswersAt s (Ok tt)) (complete s) at_first (parts_of form) is.letters is.read
+    pub text_answer : (text : List ℕ) (is : IsTextOf s form text) → IsFormAnswer (Ok tt) is.letters
+    text_answer text is = reads_as s IsComplete (AnswersAt s (Ok tt)) (λ p parts is. grind (arith, is)) at_first (parts_of form) is.letters is.read
 
-    -- where no heading begins the form, its first part has none
-    unheaded : ((more : List ℕ) → ¬ (BeginsHeading (form ++ more))) → (h : Heading) (body : List ℕ) → ¬ (HasHeading s (cut form).0 h body)
-    unheaded none h body has =
+    pub fault_answer : (fault : FormFault) → IsReceiveFault s form fault → (letters : List ℕ) × IsFormAnswer (Err fault) letters
+    fault_answer fault (text, inl (NoHeading none empty is)) =
         let (rest, joined) = first_there form in
-        none [] (subst BeginsHeading (sym joined ∙ sym (append-nil form)) (begins_more (cut form).0 rest (begins_there s (cut form).0 h body numbers has)))
-
-    fault_answer : (fault : FormFault) → IsReceiveFault s form fault → (letters : List ℕ) × IsFormAnswer (Err fault) letters
-    fault_answer fault (text, inl (NoHeading none empty is)) = ([], inl ((fault, inl (InHeading (unheaded none) is), refl), refl))
+        let unheaded = λ (h : Heading) (body : List ℕ) (has : HasHeading s (cut form).0 h body).
+        none [] (subst BeginsHeading (sym joined ∙ sym (append-nil form)) (begins_more (cut form).0 rest (begins_there s (cut form).0 h body has))) in
+        ([], inl ((fault, inl (InHeading unheaded is), refl), refl))
     fault_answer fault (text, inl (AtPart (letters, reads, is))) =
         (letters, reads_as s (StandsAt s fault) (AnswersAt s (Err fault)) (stands_at s fault) at_first (parts_of form) letters reads)
     fault_answer fault (text, inr (letters, reads, is)) =
         (letters, reads_as s (EndsAt s fault) (AnswersAt s (Err fault)) (ends_at s fault) at_first (parts_of form) letters reads)
-
-pub forms_become_one_text : TextsTellFirstParts → NumbersAreWords → FormsBecomeOneText
-forms_become_one_text tell numbers s form text other a b =
-    let same = only_form s tell numbers form (Ok tt) (Ok tt) a.letters b.letters (text_answer s tell numbers form text a) (text_answer s tell numbers form other b) in
-    a.is ∙ ap (given_text s) same.0 ∙ sym b.is
-
-pub forms_have_one_fault : TextsTellFirstParts → NumbersAreWords → FormsHaveOneFault
-forms_have_one_fault tell numbers s form fault other a b =
-    let one = fault_answer s tell numbers form fault a in
-    let two = fault_answer s tell numbers form other b in
-    let same = (only_form s tell numbers form (Err fault) (Err other) one.0 two.0 one.1 two.1).1 in cc
-
-pub received_forms_have_no_fault : TextsTellFirstParts → NumbersAreWords → ReceivedFormsHaveNoFault
-received_forms_have_no_fault tell numbers s form text fault a b =
-    let found = fault_answer s tell numbers form fault b in
-    let clash = (only_form s tell numbers form (Ok tt) (Err fault) a.letters found.0 (text_answer s tell numbers form text a) found.1).1 in cc

@@ -1,5 +1,5 @@
 -- The reader of an order, byte by byte, and at the end.
-use Rattle.kd_form.proofs.Prelude.{append-nil, length-take, [], ◌≡◌, ◌≢◌, ℕ, zero, suc, ◌+◌, ◌-◌, ◌*◌, ◌<◌, ◌≤◌, inl, inr, List, ◌∷◌, ◌++◌, Some, length, take, drop, refl, sym, ap, ◌∙◌, append_assoc, length-append, length-drop, arith, get_or, ◌^◌, Option, Result, Ok, Err, IsTrue, IsFalse, slice_get, codes, All, MatchResult, div_ceil, cases_lt, le_of_mul-le-mul_left, take_all, drop_all, drop_at, take_at, drop-take, drop-drop, take-take, take_more, length-take-le, Day, Keys, pieces, IsMadeText, part_size, Suits, parts_needed, AreMadeTexts, blank_of, letter_of_byte, letters_from, text_letters, IsFirstKeysFault, StandsInOrder, InHead, InKeys, InText, IsBadAt, NoLetter, InParts, CanBeWritten, IsSendable, IsSentBefore, orders, AreSuitedKeys, AreTaken, IsHeadRead, IsHeadLine, IsTextRead, IsLastTaken, IsFresh, IsOpen, IsOrderRead, IsStageRead, All-nil, All-push, filter_map-append, Unread, AreKeys, IsPatternLine, BreaksOff, key_pattern, key_words, line_of, IsAnyKeyLine, IsEnded, IsKeyLine, BeginsWithKeys, IsAnyHead, IsHead, IsOrder, IsHeadFault, is_text_byte, FormFault, BadByte, IsRefused, Closes, Held}
+use Rattle.kd_form.proofs.Prelude.{append-nil, length-take, [], ◌≡◌, ◌≢◌, ℕ, zero, suc, ◌+◌, ◌-◌, ◌*◌, ◌<◌, ◌≤◌, inl, inr, List, ◌∷◌, ◌++◌, Some, length, take, drop, refl, sym, ap, ◌∙◌, append_assoc, length-append, length-drop, arith, get_or, Option, Result, Ok, Err, IsTrue, slice_get, codes, All, MatchResult, div_ceil, cases_lt, le_of_mul-le-mul_left, take_all, drop_all, drop_at, take_at, drop-take, drop-drop, take-take, take_more, length-take-le, Day, Keys, pieces, IsMadeText, part_size, Suits, parts_needed, AreMadeTexts, letters_from, text_letters, IsFirstKeysFault, StandsInOrder, InHead, InKeys, InText, NoLetter, InParts, CanBeWritten, IsSendable, IsSentBefore, orders, AreSuitedKeys, AreTaken, IsHeadRead, IsHeadLine, IsTextRead, IsLastTaken, IsFresh, IsOpen, IsOrderRead, IsStageRead, All-nil, Unread, AreKeys, IsPatternLine, BreaksOff, key_pattern, key_words, line_of, IsEnded, IsKeyLine, BeginsWithKeys, IsAnyHead, IsHead, IsOrder, IsHeadFault, is_text_byte, FormFault, IsRefused, Closes, Held, IsAnyKeyLine}
 use Rattle.std.proofs.lemmas.Grind.{div_ceil_times, common_steps}
 use Rattle.std.proofs.lemmas.Option.{slice_get_within, get_or_from_slice_get}
 use Rattle.kd_form.specs.declared.order_reader.parts.PartWriter.{PartWriter}
@@ -7,13 +7,12 @@ use Rattle.kd_form.proofs.MadeParts.{pieces-next, pieces-none}
 use Rattle.kd_form.specs.declared.order_reader.head.HeadReader.{HeadReader}
 use Rattle.kd_form.specs.declared.pattern_line.Unread.TheVariants as unread
 use Rattle.kd_form.proofs.Lines.{length-filled, as_form_line, key_first, lines_more, lines_then, same_line, text_front, text_line}
-use Rattle.kd_form.proofs.Plain.{IsPlain, plain_keys, text_plain}
-use Rattle.kd_form.proofs.OneOrder.{Shorter, Longer, all_of_the_day, behind, fronts, no_head_fault, no_keys_fault, nothing_stands, nothing_stands_yet, one_order, bad_longer}
+use Rattle.kd_form.proofs.Plain.{IsPlain, letters_first, plain_keys, text_plain}
+use Rattle.kd_form.proofs.OneOrder.{Shorter, Longer, all_of_the_day, fronts, no_head_fault, no_keys_fault, nothing_stands, nothing_stands_yet, one_order, bad_longer}
 use Rattle.kd_form.specs.declared.order_reader.OrderReader.{OrderReader}
 use Rattle.kd_form.specs.declared.order_reader.Stage.{Stage}
 use Rattle.kd_form.specs.declared.order_reader.Stage.TheVariants as stages
 use Rattle.kd_form.specs.SendStream as stream
-use Rattle.kd_form.proofs.TextLetters.{letters_first, at_most_one}
 
 -- -------- the parts of an order, letter by letter
 
@@ -56,7 +55,7 @@ module _ (s : Day) (keys : List Keys) (w : PartWriter) (k : Keys) (letters sent 
     (is : AreTaken s keys w letters sent) (found : slice_get keys w.written ≡ Some k)
     (made : IsMadeText s (w.written + 1) (length keys) k w.letters.items one) where
   -- the letters that are kept become the next part
-  part_more : part_size s * w.written < length letters → length letters ≤ part_size s * w.written + part_size s
+  pub part_more : part_size s * w.written < length letters → length letters ≤ part_size s * w.written + part_size s
       → AreMadeTexts s 1 (length keys) (take (w.written + 1) keys) (pieces (part_size s) letters) (sent ++ one)
   part_more some few =
       let rest : List ℕ = drop (part_size s * w.written) letters in
@@ -68,31 +67,6 @@ module _ (s : Day) (keys : List Keys) (w : PartWriter) (k : Keys) (letters sent 
       rw (take_more keys w.written k inside, get_or_from_slice_get keys w.written k k found)
       (rw (pieces_more (part_size s) w.written letters (size_some s) some few)
       (made_more s 1 (length keys) (take w.written keys) k _ rest sent one is.made (rw (count, ← own) made)))
-
-  -- a letter more shows that the part is full
-  pub part_written : (next : PartWriter) (letter : ℕ) → part_size s ≤ length w.letters.items
-      → w.written + 1 < length keys → next.letters.items ≡ letter ∷ [] → next.count ≡ w.count + 1
-      → next.written ≡ w.written + 1 → AreTaken s keys next (letters ++ letter ∷ []) (sent ++ one)
-  part_written next letter full another kept counted number =
-      let size : ℕ = part_size s in
-      let large : 0 < size = size_some s in
-      let behind : length (drop (size * w.written) letters) ≡ length letters - size * w.written =
-      length-drop (size * w.written) letters in
-      let enough : size * w.written + size ≤ length letters =
-      omega (arith, ap length is.kept, length-take size (drop (size * w.written) letters), behind, full, large) in
-      let whole : length letters ≡ size * w.written + size = elim (cases_lt (size * (w.written + 1)) (length letters)) [
-        | inl more ↦ absurd (omega (arith, is.written.most (w.written + 1) another more))
-        | inr few ↦ omega (arith, few, enough)
-      ] in
-      let up_to : length letters ≡ size * next.written = rw number (omega (arith, whole)) in
-      let longer : length (letters ++ letter ∷ []) ≡ length letters + 1 = length-append letters (letter ∷ []) in
-      record {
-        counted = omega (arith, counted, is.counted, longer);
-        written = grind (arith, le_of_mul-le-mul_left);
-        kept = cc (take_all size (letter ∷ []) (omega arith), drop_at letters (letter ∷ []) _ up_to);
-        made = rw (take_at letters (letter ∷ []) (size * next.written) up_to, number)
-            (part_more (omega (arith, whole, large)) (omega (arith, whole)));
-      }
 
   -- the end shows that it is the last one
   pub last_written : w.count ≢ 0 → div_ceil w.count (part_size s) ≡ length keys
@@ -146,7 +120,7 @@ module _ (s : Day) (count : ℕ) where
       (same_line text longer line (line ++ more) more [] plain also ended end (sym (append-nil (line ++ more)))).2
 
   -- where one goes on with these bytes and none with one more, none stands in front of what goes on with that
-  no_next : (line other one left : List ℕ) (byte : ℕ) → BreaksOff (IsHeadLine s count) line unread.Open
+  pub no_next : (line other one left : List ℕ) (byte : ℕ) → BreaksOff (IsHeadLine s count) line unread.Open
       → BreaksOff (IsHeadLine s count) (line ++ byte ∷ []) unread.Off → IsHeadLine s count one
       → ¬ (line ++ byte ∷ other ≡ one ++ left)
   no_next line other one left byte (more, some, next) off is same = elim (fronts line (byte ∷ other) one left same) [
@@ -161,27 +135,24 @@ module _ (s : Day) (count : ℕ) where
 -- ---- heads
 
 -- lines of keys and the line TEXT begin with the next line
-head_next : (s : Day) (count : ℕ) (keys : List Keys) (bytes : List ℕ) → count + length keys ≤ 99
+pub head_next : (s : Day) (count : ℕ) (keys : List Keys) (bytes : List ℕ) → count + length keys ≤ 99
     → BeginsWithKeys s keys (IsEnded (codes "TEXT")) bytes
     → (line rest : List ℕ) × IsHeadLine s count line × (bytes ≡ line ++ rest)
 head_next s count [] bytes few ended = (bytes, [], inr ended, sym (append-nil bytes))
 head_next s count (k ∷ keys) bytes few (line, rest, are, is, later, joined) =
     (line, rest, inl (record { keys = k; of_the_day = are; keyed = is }, omega arith), joined)
 
-pub head_first : (s : Day) → IsHeadRead s [] [] []
-head_first s = record { lines = refl; few = omega arith; begins = (codes "TEXT\n", (λ none. cc), inr (inl refl)) }
-
 module _ (s : Day) (keys : List Keys) (line order : List ℕ) (is : IsHeadRead s keys line order) where
   pub line_short : ((next : List ℕ) → IsAnyKeyLine s next → length next ≤ 23) → length line < 25
   line_short few = grind (arith, length-append {A = ℕ})
 
-  text_head : (more : List ℕ) → IsEnded (codes "TEXT") (line ++ more) → IsHead s keys (order ++ more)
+  pub text_head : (more : List ℕ) → IsEnded (codes "TEXT") (line ++ more) → IsHead s keys (order ++ more)
   text_head more ended =
       let lines = lines_then (IsEnded (codes "TEXT")) s more keys order (λ rest same. rw same ended) is.lines in
       record { lines = lines; few = is.few }
 
   -- behind one line of keys more
-  one_more : (Q : List ℕ → Type 0) (k : Keys) (more end : List ℕ) → AreKeys s k → IsKeyLine k (line ++ more) → Q end
+  pub one_more : (Q : List ℕ → Type 0) (k : Keys) (more end : List ℕ) → AreKeys s k → IsKeyLine k (line ++ more) → Q end
       → BeginsWithKeys s (keys ++ k ∷ []) Q (order ++ (more ++ end))
   one_more Q k more end are keyed holds = lines_more Q s (more ++ end) keys (k ∷ []) order
       (λ rest same. (line ++ more, end, are, keyed, holds, rw same (sym (append_assoc line more end)))) is.lines
@@ -212,64 +183,29 @@ module _ (s : Day) (keys : List Keys) (line order : List ℕ) (is : IsHeadRead s
     stops = λ byte after other none. absurd (cc);
   }
 
-  module _ (byte : ℕ) where
-    -- the line goes on
-    pub head_open : BreaksOff (IsHeadLine s (length keys)) (line ++ byte ∷ []) unread.Open
-        → IsHeadRead s keys (line ++ byte ∷ []) (order ++ byte ∷ [])
-    head_open begins = record {
-      lines = lines_then (λ l. l ≡ line ++ byte ∷ []) s (byte ∷ []) keys order (λ rest same. rw same refl) is.lines;
-      few = is.few;
-      begins = begins;
-    }
-
-    -- or no head goes on so
-    pub head_off : BreaksOff (IsHeadLine s (length keys)) (line ++ byte ∷ []) unread.Off
-        → IsHeadFault s (order ++ byte ∷ []) (length (order ++ byte ∷ []))
-    head_off off = record {
-      before = order;
-      rest = byte ∷ [];
-      joined = refl;
-      size = length-append order (byte ∷ []);
-      begins = goes_on;
-      stops = λ found next other same (others, head).
-          let all : List ℕ = order ++ found ∷ other in
-          let whole : order ++ byte ∷ other ≡ all ++ [] = cc (same, append-nil all) in
-          let (after, rest, last, are, mine, ended, alike) =
-          behind s keys others order all (byte ∷ other) [] is.lines head.lines whole in
-          let few : length keys + length after ≤ 99 =
-          omega (arith, head.few, ap length are, length-append keys after) in
-          let (one, left, next, split) = head_next s (length keys) after last few ended in
-          no_next s _ line other one left byte is.begins off next (cc (mine, alike, split, append-nil last));
-    }
-
-    -- the line of keys is whole
-    pub keys_taken : (k : Keys) → length keys < 99 → AreKeys s k → IsKeyLine k (line ++ byte ∷ [])
-        → IsHeadRead s (keys ++ k ∷ []) [] (order ++ byte ∷ [])
-    keys_taken k room are keyed = record {
-      lines = one_more (λ rest. rest ≡ []) k (byte ∷ []) [] are keyed refl;
-      few = omega (arith, length-append keys (k ∷ []));
-      begins = (codes "TEXT\n", (λ none. cc), inr (inl refl));
-    }
-
-    -- the line TEXT is whole
-    pub text_taken : IsEnded (codes "TEXT") (line ++ byte ∷ [])
-        → IsOrder s (order ++ byte ∷ []) keys (order ++ byte ∷ []) []
-    text_taken ended = record { joined = sym (append-nil (order ++ byte ∷ [])); is_head = text_head (byte ∷ []) ended }
+  -- the line goes on
+  pub head_open : (byte : ℕ) → BreaksOff (IsHeadLine s (length keys)) (line ++ byte ∷ []) unread.Open
+      → IsHeadRead s keys (line ++ byte ∷ []) (order ++ byte ∷ [])
+  head_open byte begins = record {
+    lines = lines_then (λ l. l ≡ line ++ byte ∷ []) s (byte ∷ []) keys order (λ rest same. rw same refl) is.lines;
+    few = is.few;
+    begins = begins;
+  }
 
 -- -------- what the reader of an order shows: what is refused, and what is sent by then
 
-letters_few : (blank : Option ℕ) (text : List ℕ) → length (letters_from blank text) ≤ length text
+pub letters_few : (blank : Option ℕ) (text : List ℕ) → length (letters_from blank text) ≤ length text
 letters_few blank [] = omega arith
-letters_few blank (byte ∷ text) = grind (arith, letters_first, letters_few blank text, at_most_one, length-append)
+letters_few blank (byte ∷ text) = grind (arith, letters_first, letters_few blank text, length-append)
 
 module _ (s : Day) where
   -- ---- with any bytes behind it
 
-  is_longer : {order head text : List ℕ} {keys : List Keys} (more : List ℕ) → IsOrder s order keys head text
+  pub is_longer : {order head text : List ℕ} {keys : List Keys} (more : List ℕ) → IsOrder s order keys head text
       → IsOrder s (order ++ more) keys head (text ++ more)
   is_longer more is = grind (arith, append_assoc {A = ℕ})
 
-  fault_longer : {order : List ℕ} {position : ℕ} (more : List ℕ) → IsHeadFault s order position
+  pub fault_longer : {order : List ℕ} {position : ℕ} (more : List ℕ) → IsHeadFault s order position
       → position ≤ length order → IsHeadFault s (order ++ more) position
   fault_longer {order} {position} more fault inside = record {
     before = fault.before;
@@ -291,7 +227,7 @@ module _ (s : Day) where
   stands_longer order more fault (InText ks hd t n o su b e) =
       InText ks hd (t ++ more) n (is_longer more o) su (bad_longer t more n b) e
 
-  order_refused : (order sent : List ℕ) (fault : FormFault) → StandsInOrder s order fault
+  pub order_refused : (order sent : List ℕ) (fault : FormFault) → StandsInOrder s order fault
       → ((more : List ℕ) → IsSentBefore s (order ++ more) sent) → IsRefused (orders s) order sent fault
   order_refused order sent fault stands written = record {
     stands = λ more. stands_longer order more fault stands;
@@ -300,11 +236,6 @@ module _ (s : Day) where
   }
 
   -- ---- where the reader stands
-
-  no_more : (text : List ℕ) (byte : ℕ) → All (λ b. IsTrue (is_text_byte b)) text → IsFalse (is_text_byte byte)
-      → IsBadAt (text ++ byte ∷ []) (length text)
-  no_more text byte allowed bad =
-      record { before = text; byte = byte; rest = []; joined = refl; size = refl; allowed = allowed; bad = bad }
 
   text_sent : (keys : List Keys) (w : PartWriter) (order sent : List ℕ) → IsTextRead s keys w order sent
       → IsSentBefore s order sent
@@ -328,15 +259,6 @@ module _ (s : Day) where
       → Held (orders s) (IsOrderRead s r) order sent
   order_held r order sent is =
       record { is = is; open_yet = open_yet r.stage r.head r.parts order sent is.stage }
-
-  -- ---- in the head
-
-  pub head_refused : (order sent : List ℕ) (position : ℕ) → IsHeadFault s order (length order)
-      → position ≡ length order → sent ≡ [] → IsRefused (orders s) order sent (BadByte position)
-  head_refused order sent position fault here nothing =
-      order_refused order sent (BadByte position) (InHead (length order) fault (omega arith) (ap BadByte here))
-      (λ more. stream.NotYet (λ keys front text is suited.
-      no_head_fault s (order ++ more) keys front text _ is (fault_longer more fault (omega arith))) nothing)
 
   -- ---- in the text
 
@@ -370,40 +292,6 @@ module _ (s : Day) where
       no_keys_fault s r.head.keys.items fault (rw same.0 suited) found) none)
 
   module _ (keys : List Keys) (w : PartWriter) (order sent : List ℕ) (text : IsTextRead s keys w order sent) where
-    -- a byte that may not stand in a text
-    pub byte_refused : (byte position : ℕ) → IsFalse (is_text_byte byte) → position ≡ length order + 1
-        → IsRefused (orders s) (order ++ byte ∷ []) sent (BadByte position)
-    byte_refused byte position bad here =
-        let so_far = text.sendable in
-        let place : position ≡ length text.head + length text.text + 1 =
-        omega (arith, here, ap length so_far.is_order.joined, length-append text.head text.text) in
-        let bad_at = no_more text.text byte so_far.allowed bad in
-        let longer = is_longer (byte ∷ []) so_far.is_order in
-        order_refused (order ++ byte ∷ []) sent (BadByte position)
-        (InText keys text.head (text.text ++ byte ∷ []) _ longer so_far.suited bad_at (ap BadByte place))
-        (λ more. stream.InText keys text.head (text.text ++ byte ∷ more) text.text w.written
-        (rw (append_assoc order (byte ∷ []) more) (is_longer (byte ∷ more) so_far.is_order)) so_far.suited
-        (record { rest = byte ∷ more; joined = refl; allowed = so_far.allowed; ends = λ other after same. grind arith })
-        text.taken.written text.taken.made)
-
-    -- a byte that may, and the letter that it gives, if it gives one
-    pub text_more : (next : PartWriter) (more : List ℕ) (byte : ℕ) → IsTrue (is_text_byte byte)
-        → AreTaken s keys next (text_letters s text.text ++ text_letters s (byte ∷ [])) more
-        → IsTextRead s keys next (order ++ byte ∷ []) more
-    text_more next more byte allowed taken = record {
-      head = text.head;
-      text = text.text ++ byte ∷ [];
-      sendable = record {
-        is_order = is_longer (byte ∷ []) text.sendable.is_order;
-        suited = text.sendable.suited;
-        allowed = All-push (λ b. IsTrue (is_text_byte b)) text.text byte text.sendable.allowed allowed;
-      };
-      taken = rw (filter_map-append (letter_of_byte (blank_of s)) text.text (byte ∷ [])) taken;
-    }
-
-    pub letters_short : length order + 1 < 2 ^ 63 → length (text_letters s text.text) < 2 ^ 63
-    letters_short short = grind (arith, letters_few, length-append {A = ℕ})
-
     -- the end
     pub text_ends : (made : List ℕ) (answer : Result (Unit {0}) FormFault)
         → IsLastTaken s keys (text_letters s text.text) sent made answer → Closes (orders s) order (sent ++ made) answer

@@ -1,18 +1,15 @@
 -- The text of a part: its letters in groups and lines.
 use Rattle.std.proofs.Common.{append-nil, take-append-drop}
-use Rattle.kd_form.proofs.Prelude.{◌≡◌, ℕ, zero, suc, ◌+◌, ◌<◌, ◌≤◌, inl, List, [], ◌∷◌, ◌++◌, length, take, drop, refl, sym, ap, subst, ◌∙◌, append_assoc, length-drop, arith, map, All, IsTrue, Some, None, flat_map, cons_option, nat_tests, All-nil, All-cons, All-head, All-tail, All-append, All-take, All-drop, filter_map-append, is_text_byte, letters_text, line_of, pieces, groups_of, with_line, body_text, Part, heading_words, part_text, letter_of_byte, letters_from, Day, IsHeading, BeginsHeading, HasHeading, cut}
+use Rattle.kd_form.proofs.Prelude.{IsWithout, ◌≡◌, ℕ, zero, suc, ◌+◌, ◌<◌, ◌≤◌, List, [], ◌∷◌, ◌++◌, length, take, drop, refl, sym, ap, subst, ◌∙◌, append_assoc, length-drop, arith, map, All, IsTrue, Some, None, flat_map, cons_option, nat_tests, All-nil, All-cons, All-head, All-tail, All-append, All-take, All-drop, filter_map-append, is_text_byte, letters_text, line_of, pieces, groups_of, with_line, body_text, Part, heading_words, part_text, letter_of_byte, letters_from, Day, IsHeading, BeginsHeading, HasHeading, WithoutReturn, cut}
 use Rattle.kd_form.proofs.Cutting.{allowed_one, at_cut, cut_behind}
 use Rattle.kd_form.proofs.MadeParts.{pieces-next, pieces-none}
-use Rattle.kd_form.proofs.Headings.{plain_heading, words_begin}
-use Rattle.kd_form.proofs.Plain.{without}
+use Rattle.kd_form.proofs.Headings.{ended_heading, has_byte, plain_heading, words_begin}
+use Rattle.kd_form.proofs.Plain.{AreAllowed, without}
 
 -- -------- the body of a part as it is written: the letters that it gives, its bytes, and its lines
 
 abbrev pub AreOfTheAlphabet : List ℕ → Type 0
 AreOfTheAlphabet letters = All (λ letter. letter < 26) letters
-
-abbrev pub AreAllowed : List ℕ → Type 0
-AreAllowed text = All (λ b. IsTrue (is_text_byte b)) text
 
 -- ---- piece by piece
 
@@ -48,7 +45,7 @@ gives_none = record { allowed = All-nil (λ b. IsTrue (is_text_byte b)); gives =
 letter_told : (letter : ℕ) → letter < 26 → IsTrue (is_text_byte (letter + 65)) × (letter_of_byte None (letter + 65) ≡ Some letter)
 letter_told letter less = grind (arith, nat_tests)
 
-gives_word : (letters : List ℕ) → AreOfTheAlphabet letters → Gives (letters_text letters) letters
+pub gives_word : (letters : List ℕ) → AreOfTheAlphabet letters → Gives (letters_text letters) letters
 gives_word [] are = gives_none
 gives_word (l ∷ letters) are =
     let told = letter_told l (All-head (λ x. x < 26) l letters are) in
@@ -109,12 +106,11 @@ lines_end (item ∷ items) =
 
 -- a written part has its heading, and its body follows
 pub part_has_heading : (s : Day) (made : Part) → IsHeading s made.heading → HasHeading s (part_text made) made.heading (body_text made.body)
-part_has_heading s made is = record {
-  line = line_of (heading_words made.heading) ++ 10 ∷ [];
-  joined = sym (append_assoc (line_of (heading_words made.heading)) (10 ∷ []) (body_text made.body));
-  ended = inl (inl refl);
-  is_heading = is;
-}
+part_has_heading s made is =
+    let plain = plain_heading s made.heading is in
+    let line : List ℕ = line_of (heading_words made.heading) in
+    ended_heading s line (body_text made.body) made.heading (without 10 line (omega arith) plain) is
+    (WithoutReturn refl (λ front same. has_byte 13 front [] (subst (IsWithout 13) same (without 13 line (omega arith) plain))))
 
 -- a written part begins a heading line
 pub part_begins_heading : (s : Day) (made : Part) (more : List ℕ) → IsHeading s made.heading → BeginsHeading (part_text made ++ more)

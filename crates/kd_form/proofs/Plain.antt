@@ -1,5 +1,6 @@
 -- Fronts of a list that are told by what they have; text in which no byte is below the space, and bytes that a text is without.
-use Rattle.kd_form.proofs.Prelude.{◌≡◌, ◌≢◌, ℕ, ◌+◌, ◌≤◌, ◌<◌, true, List, [], ◌∷◌, ◌++◌, refl, subst, length-append, arith, take, ap, ◌∙◌, length, sym, codes, All, nat_le, IsTrue, list_all, nat_tests, get_or_append_left, take_all, length-take, AllPass-from_list_all, All-append, All-cons, All-map, All-weaker, All-head, All-tail, letters_text, line_of, IsWithout, Keys, Rotor, Pin, key_words}
+use Rattle.std.specs.Cmp.Lexicographic.{pointwise_decides}
+use Rattle.kd_form.proofs.Prelude.{◌≡◌, ◌≢◌, ℕ, ◌+◌, ◌≤◌, ◌<◌, true, List, [], ◌∷◌, ◌++◌, refl, subst, length-append, arith, take, ap, ◌∙◌, length, sym, codes, All, nat_le, IsTrue, is_text_byte, list_all, nat_tests, get_or_append_left, take_all, length-take, AllPass-from_list_all, All-append, All-cons, All-map, All-weaker, All-head, All-tail, letters_text, line_of, IsWithout, Option, option_to_list, letter_of_byte, letters_from, Keys, Rotor, Pin, key_words}
 
 -- the front of a list of which each item has a property
 pub All-front : (P : ℕ → Type 0) (xs ys : List ℕ) → All P (xs ++ ys) → All P xs
@@ -49,9 +50,20 @@ pub head_unbroken : IsWithout 10 (codes "PART ")
 head_unbroken = without 10 (codes "PART ") (omega arith) (plain_text (codes "PART ") refl)
 
 -- a line of which less was kept than could be is whole
-pub whole_line : (part line : List ℕ) → line ≡ take 64 part → length line < 64 → line ≡ part
-whole_line part line kept short = kept ∙ take_all 64 part (omega (arith, ap length kept, length-take 64 part))
+pub whole_line : (n : ℕ) (part line : List ℕ) → line ≡ take n part → length line < n → line ≡ part
+whole_line n part line kept short = kept ∙ take_all n part (omega (arith, ap length kept, length-take n part))
 
 pub nothing_more : (some more : List ℕ) → some ++ more ≡ [] → more ≡ []
 nothing_more [] more none = none
 nothing_more (x ∷ some) more none = cc
+
+-- the letters of a text, one byte more
+pub letters_first : (blank : Option ℕ) (byte : ℕ) (text : List ℕ) → letters_from blank (byte ∷ text) ≡ option_to_list (letter_of_byte blank byte) ++ letters_from blank text
+letters_first blank byte text = grind arith
+
+-- bytes that may stand in a text
+abbrev pub AreAllowed : List ℕ → Type 0
+AreAllowed bytes = All (λ b. IsTrue (is_text_byte b)) bytes
+
+-- lists are compared item by item
+pub ruleset comparing = (pointwise_decides)

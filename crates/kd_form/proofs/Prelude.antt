@@ -15,23 +15,24 @@ pub use Rattle.std.specs.Io.KnownBytes.{Appends, Consumes, IsAtEnd, Keeps}
 pub use Rattle.std.specs.List.{AllWithin, cons_option, enumerate_from, flat_map, join_with_byte, list_all}
 pub use Rattle.arrayvec.specs.ArrayString.{array_string_len}
 pub use Rattle.arrayvec.specs.ArrayVec.{ArrayVec, array_vec_len}
-pub use Rattle.kd_form.specs.FormParts.{AreFewLetters, AreHeadingWords, BeginsHeading, IsFraction, IsHeading, IsLetterCount, IsLineText, WithReturn, WithoutReturn, cut, parts_of}
-pub use Rattle.kd_form.specs.FormReading.{Begins, Broken, HoldsAt, HoldsBody, HoldsForm, HoldsLast, HoldsPart, HoldsStage, IsBodyGiven, IsHeadingDue, IsHeadingOff, IsLastText, IsNextLine, Longer, MayBegin, Missing, Other}
+pub use Rattle.kd_form.specs.FormParts.{AreFewLetters, AreHeadingWords, BeginsHeading, HasFirstLine, IsFraction, IsHeading, IsLetterCount, IsLineText, WithReturn, WithoutReturn, cut, parts_of}
+pub use Rattle.kd_form.specs.FormReading.{FitsAt, HasBegun, HasTail, HoldsBody, HoldsForm, HoldsPart, HoldsStage, IsAt, IsBodyGiven, IsHeadingDue, IsHeadingOff, Missing, Other, place_of}
 pub use Rattle.kd_form.specs.FormText.{AtPart, EndsAt, IsComplete, IsLast, IsReadTo, IsReceiveFault, IsRefusedAtEnd, IsRefusedForGood, IsTextOf, NoHeading, OfRest, Place, ReadsTo, StandsAt, at_first, form_message, given_byte, given_letters, given_text, place_behind, sent_letters}
 pub use Rattle.kd_form.specs.InternalKey.{ArePicked, AreRising, ComesFirst, HaveRunOut, IsInternalKey, IsTakenInTurn, OffWheel, OnWheel}
 pub use Rattle.kd_form.specs.KeyPatterns.{HasPins, HasSlots, IsAnyKeyLine, key_letters, key_pattern, places_for, rotor_pattern}
 pub use Rattle.kd_form.specs.Keys.{AreKeys, ArePinKeys, AreRotorKeys, key_words}
-pub use Rattle.kd_form.specs.Laws.{FormsBecomeOneText, FormsGiveTheirOrders, FormsHaveOneFault, FormsStayRefused, OrdersBecomeOneForm, OrdersGiveLetters, OrdersHaveOneFault, ReceivedFormsHaveNoFault, SentOrdersHaveNoFault}
+pub use Rattle.kd_form.specs.Laws.{FormsGiveTheirOrders, FormsStayRefused}
 pub use Rattle.kd_form.specs.Making.{IsMade, IsMadeText, Suits, cipher_from, enciphered_choice, filled, indicator_of, list_letters, part_of, part_size, pin_indicators, pin_letters, rotor_letters}
 pub use Rattle.kd_form.specs.OnTheKey.{IsKeyFault, OffKey}
 pub use Rattle.kd_form.specs.Order.{BeginsWithKeys, BreaksOff, IsAnyHead, IsEnded, IsHead, IsHeadFault, IsKeyLine, IsOrder}
 pub use Rattle.kd_form.specs.Part.{Part, behind_spaces, body_text, fraction, groups_of, heading_words, indicator_words, part_text, pieces, with_line}
 pub use Rattle.kd_form.specs.Patterns.{AreAppended, IsFilledLine, IsPatternLine, blanks, filled_in, fits, letters_at}
-pub use Rattle.kd_form.specs.Reading.{HasIndicator, HasIndicatorsAround, InChoice, InExternal, InIndicators, InList, IsLettersFault, IsLettersText, IsPinFault, IsPinText, group_in, keys_in, list_in, message_key, text_in}
-pub use Rattle.kd_form.specs.Receiving.{HasHeading, InBody, InHeading, InNumber, IsBodyFault, IsBodyText, IsEarlyFault, IsExpected, IsPartFault, IsPartRead}
+pub use Rattle.kd_form.specs.Reading.{HasIndicator, HasIndicatorsAround, SaysLetters, group_in, keys_in, list_in, message_key, text_in}
+pub use Rattle.kd_form.specs.Receiving.{HasHeading, InBody, InHeading, InNumber, IsEarlyFault, IsExpected, IsPartFault, IsPartRead, SaysBody}
 pub use Rattle.kd_form.specs.SendSteps.{AreSuitedKeys, AreTaken, HeadIsRead, IsFresh, IsHeadRead, IsHeadLine, IsLastTaken, IsOrderRead, IsStageRead, IsTextRead}
 pub use Rattle.kd_form.specs.SendStream.{CanBeWritten, IsAllowedFront, IsSentBefore, orders}
 pub use Rattle.kd_form.specs.Sending.{AreMadeTexts, Cut, InHead, InKeys, InParts, InText, IsBadAt, IsFirstKeysFault, IsFormOf, IsKeysFault, IsSendFault, IsSendable, NoLetter, StandsInOrder, blank_of, letter_of_byte, letters_from, parts_needed, text_letters}
+pub use Rattle.kd_form.specs.Steps.{Answer, IsCaught, IsFound, IsJudged, IsSought}
 pub use Rattle.kd_form.specs.StreamSteps.{AtSource, ClosesAs, ClosesAt, EndsIn, FedTo, FeedsAll, HasRoom, Held, InFeeding, IsFed, IsRead, IsStopped, ReadsNext, WritesWhole, answer_to, fault_of, stops_at_device}
 pub use Rattle.kd_form.specs.Streams.{Answers, AreWell, AtEnd, ByTheEnd, ByThen, Closes, FallsShort, IsOpen, IsRefused, IsStreamed, Message, Off, SinkFails, SourceFails, Stands, TooLong, Whole, is_device, is_off_key}
 pub use Rattle.kd_form.specs.Typing.{IsAllowedTo, IsTextFault, IsTypedTo, Lights, cipher_text, texts, typed_letters}
@@ -44,10 +45,11 @@ pub use Rattle.kd_form.specs.declared.keys.Keys.TheVariants.{Pin, Rotor}
 pub use Rattle.kd_form.specs.declared.keys.PinKeys.{PinKeys}
 pub use Rattle.kd_form.specs.declared.keys.RotorKeys.{RotorKeys}
 pub use Rattle.kd_form.specs.declared.pattern_line.Unread.{Unread}
+pub use Rattle.kd_state.proofs.Lines.{lines_split_into_words, numbers_are_words, parts_make_lines, texts_tell_first_parts}
 pub use Rattle.kd_state.specs.Laws.{CipherInTurn, EngineIsTheMachine, TheDayDeciphersItself}
 pub use Rattle.kd_state.specs.SheetDay.{Day, IsLegalDay, OfPins, OfRotors, PinDay, RotorDay, pin_day}
 pub use Rattle.kd_state.specs.TwoCiphers.{EngineKey, IsWindow, OfDrum, OfWheels, cipher, key_left, physical_cipher, physical_key, sheet_key}
-pub use Rattle.kd_state.specs.Words.{IsFirstPart, IsWithout, IsWord, LinesSplitIntoWords, NumbersAreWords, PartsMakeLines, TextsTellFirstParts, line_of, words_of}
+pub use Rattle.kd_state.specs.Words.{IsFirstPart, IsWithout, IsWord, line_of, words_of}
 pub use Rattle.kd_state.specs.declared.machine.parts.Parts.{Parts}
 pub use Rattle.kd_tables.specs.Ports.{Ends, Fail, IsWell, Port, port, read_limit}
 pub use Rattle.kd_tables.specs.Text.{is_text_byte, letters_text}

@@ -1,9 +1,8 @@
 -- Bytes that are fed one after another, and reads that follow one another.
 use Rattle.std.proofs.Common.{append-nil, take-append-drop}
 use Rattle.std.specs.Io.{StartsWith}
-use Rattle.kd_form.proofs.Prelude.{AtSource, InFeeding, IsStopped, [], ◌≡◌, ℕ, ◌+◌, ◌-◌, ◌≤◌, ◌<◌, Bool, true, false, ◌||◌, List, ◌∷◌, ◌++◌, Option, Some, Result, Ok, Err, length, take, drop, IsTrue, refl, sym, ap, subst, ◌∙◌, append_assoc, length-append, length-drop, arith, Appends, Consumes, Keeps, IsAtEnd, starts_with_of_append, read_limit, Port, IsWell, Ends, TakesFront, FormFault, Message, ByThen, ByTheEnd, Answers, Whole, Stands, AtEnd, TooLong, SourceFails, SinkFails, IsStreamed, FallsShort, ClosesAt, Held, HasRoom, FedTo, IsFed, FeedsAll, EndsIn, ClosesAs, WritesWhole, IsRead, ReadsNext, fault_of, answer_to, stops_at_device}
+use Rattle.kd_form.proofs.Prelude.{AtSource, InFeeding, IsStopped, [], ◌≡◌, ℕ, ◌+◌, ◌-◌, ◌≤◌, ◌<◌, Bool, true, false, ◌||◌, List, ◌++◌, Option, Some, Result, Ok, Err, length, take, drop, IsTrue, refl, sym, ap, subst, ◌∙◌, append_assoc, length-append, length-drop, arith, Appends, Consumes, Keeps, IsAtEnd, starts_with_of_append, read_limit, Port, IsWell, Ends, TakesFront, FormFault, Message, ByThen, ByTheEnd, Answers, Whole, Stands, AtEnd, SourceFails, SinkFails, IsStreamed, FallsShort, ClosesAt, Held, HasRoom, FedTo, IsFed, FeedsAll, EndsIn, ClosesAs, IsRead, ReadsNext, fault_of, answer_to, stops_at_device}
 use Rattle.std.proofs.KnownBytes.{Consumes-nil, Consumes-kept, Consumes-trans, Appends-nil, Appends-trans, starts_with_rest}
-use Rattle.kd_form.specs.declared.fault.FormFault.TheVariants as faults
 use Rattle.kd_form.specs.declared.stream.stop.Stop.{Stop}
 use Rattle.kd_form.specs.declared.stream.stop.Stop.TheVariants as stops
 use Rattle.kd_form.specs.StreamSteps.{Ends as MessageEnds}
@@ -113,15 +112,6 @@ pub record SoFar (m : Message) (holds : List ℕ → List ℕ → Type 0) (sourc
   pub held : Held m holds read text
   pub well : IsWell source × IsWell sink
 
-pub SoFar-nil : (m : Message) (holds : List ℕ → List ℕ → Type 0) (had took : Option (List ℕ)) (a d : Bool) → Held m holds [] []
-    → SoFar m holds (over had had a a) (over took took d d) 0
-SoFar-nil m holds had took a d held = grind (arith, Consumes-nil, Appends-nil)
-
-pub room_behind : (m : Message) (holds : List ℕ → List ℕ → Type 0) (source sink : Port) (count : ℕ)
-    → SoFar m holds source sink count → HasRoom m holds 0
-room_behind m holds source sink count before =
-    record { bytes = before.read; text = before.text; held = before.held; within = omega (arith, before.counted, before.within) }
-
 -- the answer where a read stops, by the ports since an earlier time, since which they didn't fail
 stopped : (m : Message) (new : List ℕ → List ℕ → Type 0) (read text : List ℕ) (had has next took taken wrote : Option (List ℕ)) (a b c d e f : Bool) (stop : Stop)
     → b ≡ a → e ≡ d → length read ≤ read_limit → IsStopped m new (over has next b c) (over taken wrote e f) read text stop
@@ -166,11 +156,6 @@ closed_in_part m old made took wrote d f answer ends part bytes text held = reco
   ended = (text ++ made, answer, ends bytes text held, short_of text made part.0 part.1);
 }
 
--- a whole message: what was fed of it stopped
-pub whole_stopped : (m : Message) (old new : List ℕ → List ℕ → Type 0) (bytes : List ℕ) (sink : Port) (stop : Stop) → Held m old [] []
-    → FeedsAll m old new bytes sink (Err stop) → WritesWhole m bytes sink (Err stop)
-whole_stopped m old new bytes sink stop held fed = grind (arith, append-nil {A = ℕ})
-
 closed : (m : Message) (holds : List ℕ → List ℕ → Type 0) (read text made : List ℕ) (source : Port) (took taken wrote : Option (List ℕ)) (d e f : Bool)
     (told : Result (Unit {0}) Stop) → Held m holds read text → length read ≤ read_limit → IsAtEnd source.has → IsWell source → e ≡ d
     → EndsIn m read (text ++ made) told → f ≡ (e || stops_at_device told) → Answers m source (over took wrote d f) read (text ++ made) (answer_to told)
@@ -196,19 +181,8 @@ IsStreamed-closed m holds source took taken wrote d e f count answer before ende
           (closed m holds before.read before.text one.made source took taken wrote d e f closes.told before.held few ended before.well.0 before.well.1 one.ended closes.failed);
     }
 
--- As much as may be read was read, and one byte more was asked for.
-module _ (m : Message) (holds : List ℕ → List ℕ → Type 0) (had has next : Option (List ℕ)) (sink : Port) (a b c : Bool) (count : ℕ)
-    (before : SoFar m holds (over had has a b) sink count) where
-  pub SoFar-ended : (end : Bool) → end ≡ true → Ends has next (Ok end) → c ≡ (b || false) → SoFar m holds (over had next a c) sink count × IsAtEnd next
-  SoFar-ended end is ends well = grind arith
-
-  pub IsStreamed-too_long : read_limit ≤ count → (end : Bool) → end ≡ false → Ends has next (Ok end) → c ≡ (b || false)
-      → IsStreamed m (over had next a c) sink (Err faults.ReadTooLong)
-  IsStreamed-too_long full end more met well = let ends = subst (λ b. Ends has next (Ok b)) more met in record {
-    read = before.read ++ ends.0 ∷ [];
-    text = before.text;
-    given = Consumes-trans had has next before.read (ends.0 ∷ []) before.given ends.1;
-    written = before.written;
-    answers = TooLong before.read ends.0 refl (omega (arith, before.counted, before.within, full)) before.held.open_yet
-        (well_now b c well ∙ before.well.0, before.well.1) refl;
-  }
+-- One byte more was asked for, and there is none.
+pub SoFar-ended : (m : Message) (holds : List ℕ → List ℕ → Type 0) (had has next : Option (List ℕ)) (sink : Port) (a b c : Bool) (count : ℕ)
+    → SoFar m holds (over had has a b) sink count → (end : Bool) → end ≡ true → Ends has next (Ok end) → c ≡ (b || false)
+    → SoFar m holds (over had next a c) sink count × IsAtEnd next
+SoFar-ended m holds had has next sink a b c count before end is ends well = grind arith

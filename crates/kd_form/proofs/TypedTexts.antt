@@ -1,47 +1,19 @@
 -- What a piece of a text lights up, and what was typed so far.
 use Rattle.std.proofs.Common.{append-nil, take-append-drop, length-take-le}
-use Rattle.kd_form.proofs.Prelude.{◌≡◌, ℕ, ◌+◌, ◌≤◌, ◌<◌, Bool, List, [], ◌∷◌, ◌++◌, All, IsTrue, IsFalse, Option, option_to_list, Ok, Err, length, take, drop, get_or, suc, None, refl, sym, ap, subst, ◌∙◌, append_assoc, length-append, drop-cons, arith, map-append, take_all, All-nil, All-cons, All-head, All-tail, All-append, filter_map-append, nat_tests, starts_with_of_append, Appends, is_text_byte, letters_text, TakesFront, Parts, CipherInTurn, EngineIsTheMachine, EngineKey, OfWheels, OfDrum, cipher, physical_key, physical_cipher, BadByte, letter_of_byte, IsBadAt, IsAllowedFront, IsRefused, Closes, Held, FeedsAll, ClosesAt, typed_letters, cipher_text, texts, IsTextFault, Lights, IsAllowedTo, IsTypedTo}
+use Rattle.kd_form.proofs.Prelude.{◌≡◌, ℕ, ◌+◌, ◌≤◌, ◌<◌, Bool, List, [], ◌∷◌, ◌++◌, IsTrue, IsFalse, Option, Ok, Err, length, take, drop, get_or, suc, refl, sym, ap, subst, ◌∙◌, append_assoc, length-append, drop-cons, arith, map-append, take_all, All-append, filter_map-append, Appends, is_text_byte, TakesFront, Parts, CipherInTurn, EngineKey, cipher, physical_cipher, BadByte, IsRefused, Held, FeedsAll, cipher_text, texts, IsTextFault, Lights, IsAllowedTo, IsTypedTo}
 use Rattle.kd_form.specs.declared.stream.stop.Stop.TheVariants as stops
 use Rattle.kd_form.specs.declared.typing.Typist.{Typist}
-use Rattle.kd_form.proofs.OneOrder.{no_bad_byte}
-use Rattle.kd_form.proofs.TextLetters.{letters_first}
-use Rattle.kd_form.proofs.Streaming.{over, short_of}
-
-abbrev AreAllowed : List ℕ → Type 0
-AreAllowed bytes = All (λ b. IsTrue (is_text_byte b)) bytes
+use Rattle.kd_form.proofs.OneOrder.{bad_behind, no_bad_byte}
+use Rattle.kd_form.specs.StreamSteps.{Ends as MessageEnds}
+use Rattle.kd_form.proofs.Streaming.{fed_in_part, fed_up_to, fed_whole, over}
 
 -- ---- a piece
 
-pub typed-append : (first rest : List ℕ) → typed_letters (first ++ rest) ≡ typed_letters first ++ typed_letters rest
-typed-append first rest = filter_map-append (letter_of_byte None) first rest
-
-pub one_letter : (byte : ℕ) (found : Option ℕ) → found ≡ letter_of_byte None byte
-    → option_to_list found ≡ typed_letters (byte ∷ [])
-one_letter byte found is = grind (arith, letters_first)
-
--- what letters are written as is allowed, and the letters are typed
-pub written_typed : (letters : List ℕ) → All (λ letter. letter < 26) letters
-    → AreAllowed (letters_text letters) × (typed_letters (letters_text letters) ≡ letters)
-written_typed [] are = (All-nil (λ b. IsTrue (is_text_byte b)), refl)
-written_typed (x ∷ xs) are =
-    let rest = written_typed xs (All-tail (λ letter. letter < 26) x xs are) in
-    let less : x < 26 = All-head (λ letter. letter < 26) x xs are in
-    (All-cons (λ b. IsTrue (is_text_byte b)) (x + 65) (letters_text xs) (grind (arith, nat_tests)) rest.0, grind (arith, nat_tests, rest.1))
-
 -- no letters light no lamp
 cipher_text-nil : (key : EngineKey) → cipher_text (cipher key) [] ≡ []
-cipher_text-nil (OfWheels key) = refl
-cipher_text-nil (OfDrum key) = refl
+cipher_text-nil key = grind arith
 
 -- ---- what was typed so far
-
--- the first bad byte, behind a front
-bad_there : (front rest : List ℕ) (byte : ℕ) → AreAllowed front → IsFalse (is_text_byte byte)
-    → IsBadAt (front ++ byte ∷ rest) (length front)
-bad_there front rest byte allowed bad = record { before = front; byte = byte; rest = rest; joined = refl; size = refl; allowed = allowed; bad = bad }
-
-whole_front : (text : List ℕ) → AreAllowed text → IsAllowedFront text text
-whole_front text allowed = grind (arith, append-nil {A = ℕ})
 
 -- the bytes behind a front and the byte there
 cut_at : (bytes : List ℕ) (n : ℕ) → n < length bytes → bytes ≡ take n bytes ++ get_or bytes n 0 ∷ drop (suc n) bytes
@@ -49,8 +21,7 @@ cut_at bytes n inside = sym (take-append-drop n bytes) ∙ ap (λ l. take n byte
 
 module _ (m : Parts) where
   text_is : (t : Typist) (bytes text : List ℕ) → IsTypedTo m t bytes text → text ≡ cipher_text (physical_cipher m) bytes
-  text_is t bytes text typed =
-      sym (append-nil text) ∙ ap (λ l. text ++ l) (sym (cipher_text-nil t.engine)) ∙ sym (typed.behind []) ∙ ap (cipher_text (physical_cipher m)) (append-nil bytes)
+  text_is t bytes text typed = grind (arith, append-nil text, cipher_text-nil t.engine, append-nil bytes, bytes)
 
   pub typed_held : (t : Typist) (bytes text : List ℕ) → IsTypedTo m t bytes text
       → Held (texts (physical_cipher m)) (IsTypedTo m t) bytes text
@@ -58,17 +29,9 @@ module _ (m : Parts) where
     is = typed;
     open_yet = record {
       unrefused = λ fault found. no_bad_byte bytes found.0 typed.allowed found.1;
-      written = (bytes, whole_front bytes typed.allowed, text_is t bytes text typed);
+      written = (bytes, grind (arith, append-nil {A = ℕ}), text_is t bytes text typed);
     };
   }
-
-  pub typed_none : EngineIsTheMachine → (t : Typist) → t.engine ≡ physical_key m → t.read ≡ 0
-      → Held (texts (physical_cipher m)) (IsTypedTo m t) [] []
-  typed_none law t key none = typed_held t [] [] (record {
-    counted = none;
-    allowed = All-nil (λ b. IsTrue (is_text_byte b));
-    behind = λ more. ap letters_text (sym (law m (typed_letters more)) ∙ ap (λ k. cipher k (typed_letters more)) (sym key));
-  })
 
   -- the bytes behind the first bad one make no difference
   refused_there : (t : Typist) (front rest text : List ℕ) (byte : ℕ) → IsTypedTo m t front text
@@ -79,7 +42,7 @@ module _ (m : Parts) where
       let fault = BadByte (length front + 1) in
       let stands : (more : List ℕ) → IsTextFault ((front ++ byte ∷ rest) ++ more) fault = λ more.
       subst (λ l. IsTextFault l fault) (sym (longer more))
-      (length front, bad_there front (rest ++ more) byte typed.allowed bad, refl) in
+      (length front, bad_behind front (rest ++ more) byte typed.allowed bad, refl) in
       record {
         stands = stands;
         refused = stands;
@@ -95,7 +58,7 @@ module _ (m : Parts) where
     typed_on bytes text typed = record {
       counted = omega (arith, counted, typed.counted, length-append bytes (take n more), length-take-le n more front.within);
       allowed = All-append (λ b. IsTrue (is_text_byte b)) bytes (take n more) typed.allowed front.allowed;
-      behind = grind (arith, append_assoc, typed.behind, in_turn, typed-append, map-append);
+      behind = grind (arith, append_assoc, typed.behind, in_turn, filter_map-append, map-append);
     }
 
     pub read_whole : (took wrote : Option (List ℕ)) (d f : Bool) → Appends took wrote lamps → length more ≤ n
@@ -121,33 +84,11 @@ module _ (m : Parts) where
 
     pub read_in_part : (took wrote : Option (List ℕ)) (d f : Bool) → TakesFront took wrote lamps
         → FeedsAll (texts (physical_cipher m)) (IsTypedTo m old) (IsTypedTo m new) more (over took wrote d f) (Err stops.Device)
-    read_in_part took wrote d f part bytes text held = record {
-      made = take part.0 lamps;
-      written = part.2;
-      fed = record {
-        front = bytes ++ take n more;
-        due = text ++ lamps;
-        of_bytes = starts_with_of_append (bytes ++ more) (bytes ++ take n more) (drop n more)
-            (ap (λ l. bytes ++ l) (sym (take-append-drop n more)) ∙ sym (append_assoc bytes (take n more) (drop n more)));
-        open_yet = (typed_held new (bytes ++ take n more) (text ++ lamps) (typed_on bytes text held.is)).open_yet;
-        of_due = short_of text lamps part.0 part.1;
-      };
-    }
+    read_in_part took wrote d f part =
+        fed_whole _ _ _ _ _ _ _ (take-append-drop n more) (fed_up_to _ _ _ (take n more) (drop n more) _ stops.Device (λ bytes text held.
+        fed_in_part _ _ _ text lamps took wrote d f (typed_held new (bytes ++ take n more) (text ++ lamps) (typed_on bytes text held.is)) part))
 
   -- ---- the end
 
-  ended_whole : (t : Typist) (bytes text : List ℕ) → IsTypedTo m t bytes text
-      → Closes (texts (physical_cipher m)) bytes (text ++ 10 ∷ []) (Ok tt)
-  ended_whole t bytes text typed = (typed.allowed, ap (λ l. l ++ 10 ∷ []) (text_is t bytes text typed))
-
-  pub ends_whole : (t : Typist) (took wrote : Option (List ℕ)) (d f : Bool) → Appends took wrote (10 ∷ [])
-      → ClosesAt (texts (physical_cipher m)) (IsTypedTo m t) (over took wrote d f) (Ok tt)
-  ends_whole t took wrote d f all bytes text held = record { made = 10 ∷ []; written = all; ended = ended_whole t bytes text held.is }
-
-  pub ends_in_part : (t : Typist) (took wrote : Option (List ℕ)) (d f : Bool) → TakesFront took wrote (10 ∷ [])
-      → ClosesAt (texts (physical_cipher m)) (IsTypedTo m t) (over took wrote d f) (Err stops.Device)
-  ends_in_part t took wrote d f part bytes text held = record {
-    made = take part.0 (10 ∷ []);
-    written = part.2;
-    ended = (text ++ 10 ∷ [], Ok tt, ended_whole t bytes text held.is, short_of text (10 ∷ []) part.0 part.1);
-  }
+  pub typed_ends : (t : Typist) → MessageEnds (texts (physical_cipher m)) (IsTypedTo m t) (10 ∷ []) (Ok tt)
+  typed_ends t bytes text held = (held.is.allowed, ap (λ l. l ++ 10 ∷ []) (text_is t bytes text held.is))

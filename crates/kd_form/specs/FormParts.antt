@@ -1,7 +1,8 @@
 -- The parts of a form: a heading line, and all lines up to the next. Places are counted from 0.
-use Rattle.std.specs.Prelude.{codes, ◌≡◌, ◌≢◌, ℕ, ◌%◌, ◌<◌, ◌≤◌, ◌==◌, ◌&&◌, nat_le, Bool, IsTrue, if◌then◌else◌, List, [], ◌∷◌, ◌++◌, length, take, slice_index, All, Option, MatchOption}
+use Rattle.std.specs.Prelude.{codes, ◌≡◌, ◌≢◌, ◌⊎◌, ℕ, ◌%◌, ◌<◌, ◌≤◌, ◌==◌, ◌&&◌, nat_le, Bool, IsTrue, if◌then◌else◌, List, [], ◌∷◌, ◌++◌, length, take, slice_index, All, Option, MatchOption}
 use Rattle.std.specs.Str.{bytes_eq}
 use Rattle.kd_state.specs.SheetDay.{Day, OfRotors, OfPins}
+use Rattle.kd_state.specs.Words.{IsFirstPart, IsWithout}
 use Rattle.kd_form.specs.declared.heading.Heading.{Heading}
 use Rattle.kd_form.specs.Part.{heading_words}
 use Rattle.kd_form.specs.Reading.{HasIndicator}
@@ -55,3 +56,9 @@ pub record AreFewLetters (letters : List ℕ) : Type 0 where
 pub data IsLineText (line text : List ℕ) : Type 0 where
   WithReturn : line ≡ text ++ 13 ∷ [] → IsLineText line text
   WithoutReturn : text ≡ line → ((front : List ℕ) → line ≢ front ++ 13 ∷ []) → IsLineText line text
+
+-- this is the first line of the text, without its end, and the rest follows it; the last line may lack its end
+abbrev pub HasFirstLine : List ℕ → List ℕ → List ℕ → Type 0
+HasFirstLine text line rest =
+    ((shown : List ℕ) × IsFirstPart 10 text shown rest × IsLineText shown line)
+    ⊎ (IsWithout 10 text × (text ≡ line) × (rest ≡ []))

@@ -18,3 +18,4 @@ pub mod StreamSteps
 pub mod SendStream
 pub mod SendSteps
 pub mod Typing
+pub mod Steps

@@ -1,13 +1,13 @@
--- What the letters of a part's body become: the letters of its text, or a fault. Parts are counted from 1.
-use Rattle.std.specs.Prelude.{◌≡◌, ◌≢◌, ℕ, ◌-◌, List, length, take, drop, slice_index, Option, Some, None}
+-- What the letters of a part's body become: the letters of its text, or the first fault. Parts are counted from 1.
+use Rattle.std.specs.Prelude.{◌≡◌, ℕ, ◌-◌, List, length, take, drop, slice_index, Option, Some, None, Ok, Err}
 use Rattle.std.specs.List.{slice_range}
 use Rattle.kd_state.specs.Machine.{AreLetters}
 use Rattle.kd_state.specs.SheetDay.{Day, OfRotors, OfPins, AreOfADaysGroup}
 use Rattle.kd_state.specs.TwoCiphers.{sheet_key, IsWindow}
-use Rattle.kd_form.specs.declared.fault.FormFault.{FormFault}
 use Rattle.kd_form.specs.declared.fault.FormFault.TheVariants.{KeyNotOnWheel, WrongGroup, IndicatorSpent, IndicatorsDiffer}
 use Rattle.kd_form.specs.declared.keys.PinKeys.{PinKeys}
 use Rattle.kd_form.specs.declared.heading.Indicator.{Indicator}
+use Rattle.kd_form.specs.Steps.{Answer, IsJudged, IsSought}
 use Rattle.kd_form.specs.InternalKey.{IsInternalKey, HaveRunOut}
 use Rattle.kd_form.specs.Making.{cipher_from, list_letters, enciphered_choice}
 
@@ -21,14 +21,11 @@ group_in letters = slice_range letters 2 5
 abbrev pub message_key : Day → Indicator → List ℕ
 message_key s indicator = cipher_from s indicator.start indicator.key
 
--- the group is one of the day's, and the text is deciphered from the message key
-pub record IsRotorText (s : Day) (indicator : Indicator) (letters text : List ℕ) : Type 0 where
-  pub of_the_day : AreOfADaysGroup s (group_in letters)
-  pub is : text ≡ cipher_from s (message_key s indicator) (drop 5 letters)
-
-pub record IsRotorFault (s : Day) (part : ℕ) (letters : List ℕ) (fault : FormFault) : Type 0 where
-  pub other : ¬ (AreOfADaysGroup s (group_in letters))
-  pub is : fault ≡ WrongGroup part
+-- the group is none of the day's; or the text is deciphered from the message key
+abbrev pub SaysRotor : Day → ℕ → Indicator → List ℕ → Answer → Type 0
+SaysRotor s part indicator letters =
+    IsJudged (AreOfADaysGroup s (group_in letters)) (Err (WrongGroup part))
+    (λ v. v ≡ Ok (cipher_from s (message_key s indicator) (drop 5 letters)))
 
 -- ---- the Converter M-209
 
@@ -47,29 +44,15 @@ list_in letters = slice_range letters 8 10
 abbrev pub text_in : List ℕ → List ℕ
 text_in letters = slice_range letters 10 (length letters - 10)
 
--- the list is the day's, the external letters are on their wheels, and the text is deciphered from the internal key
-pub record IsPinText (s : Day) (letters text : List ℕ) : Type 0 where
-  pub around : HasIndicatorsAround letters
-  pub on_wheels : IsWindow (sheet_key s) (keys_in letters).external
-  pub listed : list_in letters ≡ list_letters s
-  pub internal : List ℕ
-  pub first : IsInternalKey (enciphered_choice s (keys_in letters)) internal
-  pub is : text ≡ cipher_from s internal (text_in letters)
-
--- The first of the reasons: the last ten letters aren't the first ten, or the first two differ; an external letter isn't on
--- its wheel; the list is another one; the letters run out.
-pub data IsPinFault (s : Day) (part : ℕ) (letters : List ℕ) (fault : FormFault) : Type 0 where
-  InIndicators : ¬ (HasIndicatorsAround letters) → fault ≡ IndicatorsDiffer part → IsPinFault s part letters fault
-  InExternal : HasIndicatorsAround letters → ¬ (IsWindow (sheet_key s) (keys_in letters).external)
-      → fault ≡ KeyNotOnWheel
-      → IsPinFault s part letters fault
-  InList : HasIndicatorsAround letters → IsWindow (sheet_key s) (keys_in letters).external
-      → list_in letters ≢ list_letters s
-      → fault ≡ WrongGroup part → IsPinFault s part letters fault
-  InChoice : HasIndicatorsAround letters → IsWindow (sheet_key s) (keys_in letters).external
-      → list_in letters ≡ list_letters s
-      → HaveRunOut (enciphered_choice s (keys_in letters)) → fault ≡ IndicatorSpent part
-      → IsPinFault s part letters fault
+-- The last ten letters aren't the first ten, or the first two differ; an external letter isn't on its wheel; the list is another
+-- one; or the letters run out. Else the text is deciphered from the internal key.
+abbrev pub SaysPin : Day → ℕ → List ℕ → Answer → Type 0
+SaysPin s part letters =
+    IsJudged (HasIndicatorsAround letters) (Err (IndicatorsDiffer part))
+    (IsJudged (IsWindow (sheet_key s) (keys_in letters).external) (Err KeyNotOnWheel)
+    (IsJudged (list_in letters ≡ list_letters s) (Err (WrongGroup part))
+    (IsSought (IsInternalKey (enciphered_choice s (keys_in letters))) (HaveRunOut (enciphered_choice s (keys_in letters)))
+    (Err (IndicatorSpent part)) (λ internal v. v ≡ Ok (cipher_from s internal (text_in letters))))))
 
 -- ---- every model
 
@@ -80,10 +63,6 @@ HasIndicator (OfPins s) None = Unit {0}
 HasIndicator (OfRotors s) None = ⊥
 HasIndicator (OfPins s) (Some i) = ⊥
 
-abbrev pub IsLettersText : Day → Option Indicator → List ℕ → List ℕ → Type 0
-IsLettersText s (Some i) letters text = IsRotorText s i letters text
-IsLettersText s None letters text = IsPinText s letters text
-
-abbrev pub IsLettersFault : Day → ℕ → Option Indicator → List ℕ → FormFault → Type 0
-IsLettersFault s part (Some i) letters fault = IsRotorFault s part letters fault
-IsLettersFault s part None letters fault = IsPinFault s part letters fault
+abbrev pub SaysLetters : Day → ℕ → Option Indicator → List ℕ → Answer → Type 0
+SaysLetters s part (Some i) letters v = SaysRotor s part i letters v
+SaysLetters s part None letters v = SaysPin s part letters v

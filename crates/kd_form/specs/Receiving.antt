@@ -1,27 +1,25 @@
 -- What one part of a form becomes: the letters of its text, or a fault. Parts are counted from 1, positions in bytes from 1.
-use Rattle.std.specs.Prelude.{◌≡◌, ◌≢◌, ◌⊎◌, ℕ, ◌+◌, ◌-◌, List, [], ◌++◌, length, All, IsTrue, Option, Some, None}
+use Rattle.std.specs.Prelude.{◌≡◌, ◌≢◌, ◌⊎◌, ℕ, ◌+◌, ◌-◌, List, length, All, IsTrue, Option, Some, None, Ok, Err}
 use Rattle.kd_tables.specs.Text.{is_text_byte}
 use Rattle.kd_state.specs.SheetDay.{Day}
 use Rattle.kd_state.specs.Words.{line_of}
 use Rattle.kd_form.specs.declared.fault.FormFault.{FormFault}
 use Rattle.kd_form.specs.declared.fault.FormFault.TheVariants.{BadByte, BadHeading, CountWrong, PartOrder}
 use Rattle.kd_form.specs.declared.heading.Heading.{Heading}
-use Rattle.kd_form.specs.Order.{IsEnded}
 use Rattle.kd_form.specs.Part.{heading_words}
 use Rattle.kd_form.specs.Sending.{letters_from, IsBadAt}
-use Rattle.kd_form.specs.Reading.{IsLettersText, IsLettersFault}
-use Rattle.kd_form.specs.FormParts.{IsHeading}
+use Rattle.kd_form.specs.Steps.{Answer, IsJudged}
+use Rattle.kd_form.specs.Reading.{SaysLetters}
+use Rattle.kd_form.specs.FormParts.{IsHeading, HasFirstLine}
 
--- the first line of the part is that of this heading, and the body follows it: the last line of a form may lack its end
+-- the first line of the part is that of this heading, and the body follows it
 pub record HasHeading (s : Day) (part : List ℕ) (h : Heading) (body : List ℕ) : Type 0 where
-  pub line : List ℕ
-  pub joined : part ≡ line ++ body
-  pub ended : IsEnded (line_of (heading_words h)) line ⊎ ((line ≡ line_of (heading_words h)) × (body ≡ []))
   pub is_heading : IsHeading s h
+  pub first : HasFirstLine part (line_of (heading_words h)) body
 
--- a body has as many letters as its heading says, and they become this text
-abbrev pub IsBodyText : Day → Heading → List ℕ → List ℕ → Type 0
-IsBodyText s h letters text = (length letters ≡ h.letters) × IsLettersText s h.indicator letters text
+-- the letters of a body are more or fewer than its heading says; or they become what they say
+abbrev pub SaysBody : Day → ℕ → Heading → List ℕ → Answer → Type 0
+SaysBody s number h letters = IsJudged (length letters ≡ h.letters) (Err (CountWrong number)) (SaysLetters s number h.indicator letters)
 
 -- the part is the one of that number, of so many, its body has as many letters as the heading says, and they become this text
 pub record IsPartRead (s : Day) (number parts : ℕ) (part text : List ℕ) : Type 0 where
@@ -31,8 +29,7 @@ pub record IsPartRead (s : Day) (number parts : ℕ) (part text : List ℕ) : Ty
   pub numbered : heading.part ≡ number
   pub so_many : heading.parts ≡ parts
   pub allowed : All (λ b. IsTrue (is_text_byte b)) body
-  pub counted : length (letters_from None body) ≡ heading.letters
-  pub read : IsLettersText s heading.indicator (letters_from None body) text
+  pub read : SaysBody s number heading (letters_from None body) (Ok text)
 
 -- the number of parts is the one that is expected, if one is
 abbrev pub IsExpected : Option ℕ → ℕ → Type 0
@@ -49,11 +46,6 @@ pub data IsEarlyFault (s : Day) (number : ℕ) (expected : Option ℕ) (start : 
   InBody : (h : Heading) (body : List ℕ) (place : ℕ) → HasHeading s part h body → h.part ≡ number → IsExpected expected h.parts → IsBadAt body place
       → fault ≡ BadByte (start + (length part - length body) + place + 1) → IsEarlyFault s number expected start part fault
 
--- the letters of a body are more or fewer than its heading says; or they are refused
-pub data IsBodyFault (s : Day) (number : ℕ) (h : Heading) (letters : List ℕ) (fault : FormFault) : Type 0 where
-  InCount : length letters ≢ h.letters → fault ≡ CountWrong number → IsBodyFault s number h letters fault
-  InLetters : length letters ≡ h.letters → IsLettersFault s number h.indicator letters fault → IsBodyFault s number h letters fault
-
 -- the reasons that only a whole part has: its letters are refused
 pub record IsLateFault (s : Day) (number : ℕ) (expected : Option ℕ) (part : List ℕ) (fault : FormFault) : Type 0 where
   pub heading : Heading
@@ -62,7 +54,7 @@ pub record IsLateFault (s : Day) (number : ℕ) (expected : Option ℕ) (part : 
   pub numbered : heading.part ≡ number
   pub due : IsExpected expected heading.parts
   pub allowed : All (λ b. IsTrue (is_text_byte b)) body
-  pub found : IsBodyFault s number heading (letters_from None body) fault
+  pub found : SaysBody s number heading (letters_from None body) (Err fault)
 
 -- the first of all reasons
 abbrev pub IsPartFault : Day → ℕ → Option ℕ → ℕ → List ℕ → FormFault → Type 0

@@ -61,7 +61,5 @@ pub(crate) fn push_letters<const N: usize>(letters: &mut ArrayVec<Letter, N>, mo
     requires { length letters.old.items + length more.now ≤ N }
     ensures { letters.new.items ≡ letters.old.items ++ more.now }
 {
-    for letter in more {
-        letters.push(*letter);
-    }
+    letters.try_extend_from_slice(more).unwrap();
 }

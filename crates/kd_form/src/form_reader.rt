@@ -2,14 +2,11 @@
 ghost use Rattle.std.specs.Prelude.{codes, ◌≡◌, ◌≢◌, ◌⊎◌, ◌↔◌, ◌+◌, ◌≤◌, ℕ, List, [], ◌∷◌, ◌++◌};
 ghost use Rattle.std.specs.Prelude.{length, take, IsTrue, MatchResult};
 ghost use Rattle.kd_form.specs.declared.heading.Heading.{Heading};
-ghost use Rattle.kd_form.specs.Receiving.{IsExpected, IsBodyText, IsBodyFault, IsPartFault};
-ghost use Rattle.kd_form.specs.FormParts.{IsHeading};
+ghost use Rattle.kd_form.specs.Receiving.{IsExpected, IsPartFault};
 ghost use Rattle.kd_form.specs.FormText.{form_message};
-ghost use Rattle.kd_form.specs.FormReading.{MayBegin, IsHeadingDue, IsHeadingOff, HoldsStage};
-ghost use Rattle.kd_form.specs.FormReading.{HoldsForm, IsLastText};
+ghost use Rattle.kd_form.specs.FormReading.{FitsAt, IsHeadingDue, IsHeadingOff, HoldsLine, HoldsForm};
 
 use super::fault::FormFault;
-use super::given::given_letters;
 use super::heading::Heading;
 use super::heading_line::{heading_of_ended, heading_of_open};
 use super::keeping::keep;
@@ -18,8 +15,6 @@ use super::stream::reader::{Made, MessageReader};
 use super::text::is_text_byte;
 use arrayvec::ArrayVec;
 use kd_state::SheetDay;
-use kd_state::laws::{numbers_and_letters_are_words, texts_tell_first_parts};
-use kd_tables::Letter;
 
 /// More bytes than the line of a heading has, with its end.
 const LINE: usize = 64;
@@ -52,8 +47,6 @@ impl MessageReader for FormReader {
     ghost holds = { HoldsForm };
 
     fn start(_day: &SheetDay) -> FormReader {
-        texts_tell_first_parts();
-        numbers_and_letters_are_words();
         FormReader {
             position: 0,
             number: 1,
@@ -63,8 +56,6 @@ impl MessageReader for FormReader {
     }
 
     fn feed(&mut self, day: &SheetDay, byte: u8, made: &mut Made) -> Result<(), FormFault> {
-        texts_tell_first_parts();
-        numbers_and_letters_are_words();
         self.position += 1;
         match &mut self.stage {
             Stage::Heading(line) => {
@@ -106,66 +97,42 @@ impl MessageReader for FormReader {
     }
 
     fn end(&mut self, day: &SheetDay, made: &mut Made) -> Result<(), FormFault> {
-        match self.last_text(day) {
-            Ok((parts, letters)) => {
-                *made = given_letters(day, letters.as_slice());
-                if parts != self.number {
-                    return Err(FormFault::PartOrder);
-                }
-                made.push(b'\n');
-                Ok(())
-            }
-            Err(fault) => Err(fault),
-        }
-    }
-}
-
-impl FormReader {
-    /// Of how many parts the last one is, and the letters of its text.
-    fn last_text(&self, day: &SheetDay) -> Result<(u8, ArrayVec<Letter, 500>), FormFault>
-        requires { (part : List ℕ)
-            × HoldsStage day.now self.now.stage self.now.number self.now.expected part }
-        ensures { (part : List ℕ)
-            → HoldsStage day.now self.now.stage self.now.number self.now.expected part
-            → MatchResult result
-            (λ found. IsLastText day.now self.now.number self.now.expected part
-            found.0 found.1.items)
-            (λ fault. (start : ℕ)
-            → IsPartFault day.now self.now.number self.now.expected start part fault) }
-    {
         match &self.stage {
-            Stage::Heading(line) => {
-                let heading = heading_of_open(day, line.as_slice());
-                match check_heading(self.number, &self.expected, heading) {
-                    Ok(heading) => read_last(day, &PartBody::new(heading)),
-                    Err(fault) => Err(fault),
+            Stage::Heading(line) => Err(fault_in_heading(day, self.number, &self.expected, line)),
+            Stage::Body(body) => match body.give(day, 0, made) {
+                Ok(()) => {
+                    if body.heading.parts != self.number {
+                        return Err(FormFault::PartOrder);
+                    }
+                    made.push(b'\n');
+                    Ok(())
                 }
-            }
-            Stage::Body(body) => read_last(day, body),
+                Err(fault) => Err(fault),
+            },
         }
     }
 }
 
-/// Of how many parts the one with that body is, and the letters of its text: it goes to the end of the form.
-fn read_last(day: &SheetDay, body: &PartBody) -> Result<(u8, ArrayVec<Letter, 500>), FormFault>
-    requires { IsHeading day.now body.now.heading }
-    ensures { (letters : List ℕ) → body.now.letters.items ≡ take 525 letters → MatchResult result
-        (λ found. (found.0 ≡ body.now.heading.parts)
-        × IsBodyText day.now body.now.heading letters found.1.items)
-        (IsBodyFault day.now body.now.heading.part body.now.heading letters) }
+/// Why the form may not end in the line of a part's heading: there is none, or its body has no letter.
+fn fault_in_heading(
+    day: &SheetDay,
+    number: u8,
+    expected: &Option<u8>,
+    line: &ArrayVec<u8, LINE>,
+) -> FormFault
+    ensures { (part : List ℕ) → HoldsLine line.now.items part → (start : ℕ)
+        → IsPartFault day.now number expected.now start part result }
 {
-    let parts = body.heading.parts;
-    match body.read(day, 0) {
-        Ok(letters) => Ok((parts, letters)),
-        Err(fault) => Err(fault),
+    let heading = heading_of_open(day, line.as_slice());
+    match check_heading(number, expected, heading) {
+        Ok(_) => FormFault::CountWrong(number),
+        Err(fault) => fault,
     }
 }
 
 /// Whether the byte may follow these in the line of a heading: up to its first digit, there is one byte or a digit.
-#[tactic(auto, using(crate::proofs::Cutting::due_told))]
 fn may_follow(line: &[u8], byte: u8) -> bool
-    ensures { (part : List ℕ) → line.now ≡ take 64 part → MayBegin part
-        → (IsTrue result ↔ MayBegin (part ++ byte ∷ [])) }
+    ensures { IsTrue result ↔ FitsAt (length line.now) byte }
 {
     match head_byte(line.len()) {
         Some(due) => byte == due,

@@ -6,7 +6,6 @@ ghost use Rattle.kd_state.specs.Machine.{AreLetters};
 ghost use Rattle.kd_state.specs.Words.{line_of, IsWithout};
 ghost use Rattle.kd_form.specs.declared.heading.Heading.{Heading};
 ghost use Rattle.kd_form.specs.Part.{fraction, indicator_words, heading_words};
-ghost use Rattle.kd_form.specs.Order.{IsEnded};
 ghost use Rattle.kd_form.specs.FormParts.{IsFraction, AreFewLetters, IsLetterCount, IsHeading};
 ghost use Rattle.kd_form.specs.FormParts.{AreHeadingWords, IsLineText};
 ghost use Rattle.kd_form.specs.Reading.{HasIndicator};
@@ -16,7 +15,6 @@ use super::cipher::are_letters;
 use super::heading::{Heading, Indicator};
 use super::key_line::slots_of;
 use arrayvec::ArrayVec;
-use kd_state::laws::{lines_tell_words, numbers_and_letters_are_words, texts_tell_first_parts};
 use kd_state::{PerSlot, SheetDay, number_of_text, split_once, split_words, wide_number_of_text};
 use kd_tables::Letter;
 
@@ -26,7 +24,6 @@ fn read_fraction(word: &[u8]) -> Option<(u8, u8)>
         ((part parts : ℕ) → IsFraction part parts → fraction part parts ≢ word.now)
         (λ found. IsFraction found.0 found.1 × (fraction found.0 found.1 ≡ word.now)) }
 {
-    texts_tell_first_parts();
     let (part, parts) = split_once(word, b'/')?;
     let part = number_of_text(part)?;
     let parts = number_of_text(parts)?;
@@ -150,8 +147,6 @@ fn heading_of_line(day: &SheetDay, line: &[u8]) -> Option<Heading>
         ((h : _) → IsHeading day.now h → line_of (heading_words h) ≢ line.now)
         (λ h. IsHeading day.now h × (line_of (heading_words h) ≡ line.now)) }
 {
-    lines_tell_words();
-    numbers_and_letters_are_words();
     let _slots = slots_of(day);
     let words = split_words::<5>(line)?;
     heading_of_words(day, words.as_slice())
@@ -171,9 +166,8 @@ pub(crate) fn heading_of_open(day: &SheetDay, line: &[u8]) -> Option<Heading>
 pub(crate) fn heading_of_ended(day: &SheetDay, line: &[u8]) -> Option<Heading>
     ensures { (part : List ℕ) → IsWithout 10 part → line.now ≡ take 64 part → MatchOption result
         ((h : Heading) (body : List ℕ) → ¬ HasHeading day.now (part ++ 10 ∷ []) h body)
-        (λ h. IsHeading day.now h × IsEnded (line_of (heading_words h)) (part ++ 10 ∷ [])) }
+        (λ h. IsHeading day.now h × IsLineText part (line_of (heading_words h))) }
 {
-    texts_tell_first_parts();
     let _slots = slots_of(day);
     heading_of_line(day, without_return(line))
 }

@@ -11,9 +11,7 @@ use super::form_reader::FormReader;
 use super::order_reader::OrderReader;
 use super::stream::whole::judge;
 use kd_state::SheetDay;
-use kd_state::laws::{
-    numbers_and_letters_are_words, texts_tell_first_parts, the_day_deciphers_itself,
-};
+use kd_state::laws::the_day_deciphers_itself;
 
 /// An order becomes one form at most, has one fault at most, and never both.
 pub fn orders_have_one_answer()
@@ -39,18 +37,12 @@ pub fn forms_have_one_answer()
     ensures text { FormsBecomeOneText }
     ensures fault { FormsHaveOneFault }
     ensures never_both { ReceivedFormsHaveNoFault }
-{
-    texts_tell_first_parts();
-    numbers_and_letters_are_words();
-}
+{}
 
 /// What refuses a form for good also refuses it with any bytes behind it.
 pub fn forms_stay_refused()
     ensures { FormsStayRefused }
-{
-    texts_tell_first_parts();
-    numbers_and_letters_are_words();
-}
+{}
 
 /// Every form has an answer. To see it, the form is read.
 pub fn forms_have_an_answer(day: &SheetDay, form: &[u8])

@@ -1,7 +1,7 @@
 //! The body of a part of a form, as it comes.
-ghost use Rattle.std.specs.Prelude.{codes, ◌≡◌, ◌↔◌, ◌<◌, ◌≤◌, ℕ, List, [], ◌∷◌, ◌++◌, length};
-ghost use Rattle.std.specs.Prelude.{take, slice_index, IsTrue, MatchResult, MatchOption, None};
-ghost use Rattle.std.specs.Prelude.{Some};
+ghost use Rattle.std.specs.Prelude.{codes, ◌≡◌, ◌≢◌, ◌↔◌, ◌<◌, ◌≤◌, ℕ, List, [], ◌∷◌, ◌++◌, length};
+ghost use Rattle.std.specs.Prelude.{take, slice_index, IsTrue, MatchResult, MatchOption, OnErr};
+ghost use Rattle.std.specs.Prelude.{OnOk};
 ghost use Rattle.std.specs.Option.{option_to_list};
 ghost use Rattle.kd_tables.specs.Text.{is_text_byte};
 ghost use Rattle.kd_state.specs.Words.{line_of};
@@ -9,8 +9,8 @@ ghost use Rattle.kd_form.specs.Order.{IsEnded};
 ghost use Rattle.kd_form.specs.Part.{heading_words};
 ghost use Rattle.kd_form.specs.Sending.{letters_from};
 ghost use Rattle.kd_form.specs.FormParts.{IsHeading};
-ghost use Rattle.kd_form.specs.Receiving.{IsBodyText, IsBodyFault};
-ghost use Rattle.kd_form.specs.FormReading.{IsNextLine, Begins, HoldsBody, IsBodyGiven};
+ghost use Rattle.kd_form.specs.Receiving.{SaysBody};
+ghost use Rattle.kd_form.specs.FormReading.{HoldsBody, IsBodyGiven};
 
 use super::fault::FormFault;
 use super::given::given_letters;
@@ -27,6 +27,9 @@ use kd_tables::Letter;
 /// the next heading.
 const KEPT: usize = 525;
 
+/// As many bytes tell whether a line begins as a heading does.
+const FIRST: usize = 6;
+
 /// The body of a part of a form, as far as it has come.
 #[derive(Drop)]
 pub(crate) struct PartBody {
@@ -34,8 +37,8 @@ pub(crate) struct PartBody {
     pub(crate) heading: Heading,
     /// Its first letters.
     pub(crate) letters: ArrayVec<Letter, KEPT>,
-    /// How many bytes of `PART ` its last line has, if it has no others.
-    pub(crate) begun: Option<usize>,
+    /// The first bytes of its last line.
+    pub(crate) line: ArrayVec<u8, FIRST>,
 }
 
 impl PartBody {
@@ -43,20 +46,20 @@ impl PartBody {
     pub(crate) fn new(heading: Heading) -> PartBody
         ensures heading { result.heading ≡ heading }
         ensures letters { result.letters.items ≡ [] }
-        ensures begun { result.begun ≡ Some 0 }
+        ensures line { result.line.items ≡ [] }
     {
         PartBody {
             heading,
             letters: ArrayVec::new(),
-            begun: Some(0),
+            line: ArrayVec::new(),
         }
     }
 
     /// Whether the byte is the first digit of the next heading.
     pub(crate) fn ends_before(&self, byte: u8) -> bool
-        ensures { IsTrue result ↔ ((self.now.begun ≡ Some 5) × (48 ≤ byte) × (byte ≤ 57)) }
+        ensures { IsTrue result ↔ ((self.now.line.items ≡ codes "PART ") × (48 ≤ byte) × (byte ≤ 57)) }
     {
-        self.begun == Some(5) && byte.is_ascii_digit()
+        matches!(self.line.as_slice(), b"PART ") && byte.is_ascii_digit()
     }
 
     /// Takes a byte that may stand in a body.
@@ -67,31 +70,11 @@ impl PartBody {
             → HoldsBody s self.new (part ++ byte ∷ []) (body ++ byte ∷ []) }
     {
         keep_letter(&mut self.letters, letter_of_byte(&None, byte));
-        mark(&mut self.begun, byte);
+        keep_byte(&mut self.line, byte);
     }
 
-    /// The letters of the part's text. The last ones of the body, so many, are left out: those of the next heading.
-    pub(crate) fn read(
-        &self,
-        day: &SheetDay,
-        others: usize,
-    ) -> Result<ArrayVec<Letter, 500>, FormFault>
-        requires heading { IsHeading day.now self.now.heading }
-        requires some { others ≤ length self.now.letters.items }
-        requires few { others ≤ 4 }
-        ensures { (letters more : List ℕ) → length more ≡ others
-            → self.now.letters.items ≡ take 525 (letters ++ more)
-            → MatchResult result
-            (λ text. IsBodyText day.now self.now.heading letters text.items)
-            (IsBodyFault day.now self.now.heading.part self.now.heading letters) }
-    {
-        let letters = self.letters.as_slice();
-        let (letters, _) = letters.split_at(letters.len() - others);
-        read_body(day, &self.heading, letters)
-    }
-
-    /// Tells the same letters as they are given. It stands apart, as the bytes before the last one have no room to be made
-    /// for them.
+    /// Tells the letters of the part's text as they are given. The last ones of the body, so many, are left out: those of the
+    /// next heading. It stands apart, as the bytes before the last one have no room to be made for them.
     #[inline(never)]
     pub(crate) fn give(
         &self,
@@ -102,13 +85,17 @@ impl PartBody {
         requires heading { IsHeading day.now self.now.heading }
         requires some { others ≤ length self.now.letters.items }
         requires few { others ≤ 4 }
-        ensures { (letters more : List ℕ) → length more ≡ others
+        ensures given { (letters more : List ℕ) → length more ≡ others
             → self.now.letters.items ≡ take 525 (letters ++ more)
             → MatchResult result
             (λ _. IsBodyGiven day.now self.now.heading letters made.new.items)
-            (IsBodyFault day.now self.now.heading.part self.now.heading letters) }
+            (λ fault. SaysBody day.now self.now.heading.part self.now.heading letters (Err fault)) }
+        ensures few { OnOk result (length made.new.items ≤ 500) }
+        ensures unchanged { OnErr result (made.new ≡ made.old) }
     {
-        match self.read(day, others) {
+        let letters = self.letters.as_slice();
+        let (letters, _) = letters.split_at(letters.len() - others);
+        match read_body(day, &self.heading, letters) {
             Ok(letters) => {
                 *made = given_letters(day, letters.as_slice());
                 Ok(())
@@ -128,32 +115,16 @@ fn keep_letter(letters: &mut ArrayVec<Letter, KEPT>, letter: Option<Letter>)
     }
 }
 
-/// Marks the byte. Where it changes nothing, nothing is written, and the next byte needn't wait for it.
-fn mark(begun: &mut Option<usize>, byte: u8)
-    ensures { (line next : List ℕ) → Begins line begun.old → IsNextLine line byte next
-        → Begins next begun.new }
-{
-    if begun.is_none() && byte != b'\n' {
-        return;
-    }
-    *begun = next_begun(*begun, byte);
-}
-
-/// How many bytes of `PART ` a line has behind that byte, if it has no others.
-fn next_begun(begun: Option<usize>, byte: u8) -> Option<usize>
-    ensures { (line next : List ℕ) → Begins line begun → IsNextLine line byte next
-        → Begins next result }
+/// Keeps the byte among the first ones of its line. Mostly nothing is written, and the next byte needn't wait for it.
+fn keep_byte(line: &mut ArrayVec<u8, FIRST>, byte: u8)
+    ensures ended { byte ≡ 10 → line.new.items ≡ [] }
+    ensures longer { byte ≢ 10 → line.new.items ≡ take 6 (line.old.items ++ byte ∷ []) }
 {
     if byte == b'\n' {
-        return Some(0);
+        line.clear();
+    } else {
+        keep(line, byte);
     }
-    let Some(count) = begun else {
-        return None;
-    };
-    let Some(due) = head_byte(count) else {
-        return None;
-    };
-    if byte == due { Some(count + 1) } else { None }
 }
 
 /// The byte at that place of the five with which a heading begins, before its first digit.

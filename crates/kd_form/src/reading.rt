@@ -1,12 +1,11 @@
 //! The letters of a part's body, read.
 ghost use Rattle.std.specs.Prelude.{◌≡◌, ◌+◌, ◌^◌, ◌<◌, ◌≤◌, ◌↔◌, Some, length, IsTrue};
 ghost use Rattle.std.specs.Prelude.{MatchResult};
-ghost use Rattle.kd_form.specs.Reading.{HasIndicator, IsLettersText, IsLettersFault, IsRotorText};
-ghost use Rattle.kd_form.specs.Reading.{IsRotorFault, IsPinText, IsPinFault};
+ghost use Rattle.kd_form.specs.Reading.{HasIndicator, SaysLetters, SaysRotor, SaysPin};
 ghost use Rattle.kd_form.specs.Reading.{HasIndicatorsAround, keys_in};
 ghost use Rattle.kd_form.specs.KeyPatterns.{HasPins};
 ghost use Rattle.kd_form.specs.FormParts.{IsHeading, IsLetterCount};
-ghost use Rattle.kd_form.specs.Receiving.{IsBodyText, IsBodyFault};
+ghost use Rattle.kd_form.specs.Receiving.{SaysBody};
 
 use super::cipher::{enciphered, is_window};
 use super::fault::FormFault;
@@ -30,8 +29,8 @@ fn read_rotor_letters(
     requires some { 5 ≤ length letters.now }
     requires few { length letters.now ≤ 250 }
     ensures { MatchResult result
-        (λ text. IsRotorText day.now indicator.now letters.now text.items)
-        (IsRotorFault day.now part letters.now) }
+        (λ text. SaysRotor day.now part indicator.now letters.now (Ok text.items))
+        (λ fault. SaysRotor day.now part indicator.now letters.now (Err fault)) }
 {
     let _slots = indicator.key.len();
     let group = <[Letter; 3]>::try_from(&letters[2..5]).unwrap();
@@ -43,6 +42,7 @@ fn read_rotor_letters(
 }
 
 /// Whether these are the same letters in the same order.
+#[tactic(auto, using(crate::proofs::Plain::comparing))]
 fn are_the_same(letters: &[Letter], others: &[Letter]) -> bool
     ensures { IsTrue result ↔ (letters.now ≡ others.now) }
 {
@@ -78,8 +78,8 @@ fn read_pin_letters(
     requires some { 20 ≤ length letters.now }
     requires few { length letters.now ≤ 520 }
     ensures { MatchResult result
-        (λ text. IsPinText day.now letters.now text.items)
-        (IsPinFault day.now part letters.now) }
+        (λ text. SaysPin day.now part letters.now (Ok text.items))
+        (λ fault. SaysPin day.now part letters.now (Err fault)) }
 {
     if !has_indicators_around(letters) {
         return Err(FormFault::IndicatorsDiffer(part));
@@ -109,8 +109,8 @@ fn read_letters(
     requires indicator { HasIndicator day.now indicator.now }
     requires count { IsLetterCount day.now (length letters.now) }
     ensures { MatchResult result
-        (λ text. IsLettersText day.now indicator.now letters.now text.items)
-        (IsLettersFault day.now part indicator.now letters.now) }
+        (λ text. SaysLetters day.now part indicator.now letters.now (Ok text.items))
+        (λ fault. SaysLetters day.now part indicator.now letters.now (Err fault)) }
 {
     let _slots = slots_of(day);
     match indicator {
@@ -127,8 +127,8 @@ pub(crate) fn read_body(
 ) -> Result<ArrayVec<Letter, 500>, FormFault>
     requires { IsHeading day.now heading.now }
     ensures { MatchResult result
-        (λ text. IsBodyText day.now heading.now letters.now text.items)
-        (IsBodyFault day.now heading.now.part heading.now letters.now) }
+        (λ text. SaysBody day.now heading.now.part heading.now letters.now (Ok text.items))
+        (λ fault. SaysBody day.now heading.now.part heading.now letters.now (Err fault)) }
 {
     if letters.len() != heading.letters {
         return Err(FormFault::CountWrong(heading.part));

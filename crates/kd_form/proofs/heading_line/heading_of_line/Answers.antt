@@ -4,5 +4,4 @@ use Rattle.kd_form.proofs.heading_line.heading_of_line.Goals as goal
 
 pub returns : goal.returns
 returns c =
-    heading_told _ _ _ _ _ _ c.numbers_and_letters_are_words.ensures.numbers c.lines_tell_words.ensures.split c.lines_tell_words.ensures.joined
-    c.slots_of-slots.ensures c.in_ok-words.ensures (ap (map (λ word. word.now)) c.as_slice.ensures.value) c.heading_of_words.ensures
+    heading_told _ _ _ _ _ _ c.slots_of-slots.ensures c.in_ok-words.ensures (ap (map (λ word. word.now)) c.as_slice.ensures.value) c.heading_of_words.ensures

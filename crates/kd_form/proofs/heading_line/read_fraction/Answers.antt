@@ -6,16 +6,16 @@ use Rattle.kd_form.proofs.heading_line.read_fraction.Goals.{then-part-lt1-via-th
 pub returns-in_err-part-2 : goal.returns-in_err-part-2
 returns-in_err-part-2 c =
     rw c.from_residual-in_err-part-2.ensures (λ part parts number is. c.in_err-part-2.ensures part (omega (arith, number.in_order, number.few))
-    (fraction_parts _ _ _ part parts c.texts_tell_first_parts.ensures number c.in_ok-part.ensures is).0)
+    (fraction_parts _ _ _ part parts number c.in_ok-part.ensures is).0)
 
 pub returns-in_err-parts : goal.returns-in_err-parts
 returns-in_err-parts c =
     rw c.from_residual-in_err-parts.ensures (λ part parts number is. c.in_err-parts.ensures parts (omega (arith, number.few))
-    (fraction_parts _ _ _ part parts c.texts_tell_first_parts.ensures number c.in_ok-part.ensures is).1)
+    (fraction_parts _ _ _ part parts number c.in_ok-part.ensures is).1)
 
 pub returns-then-part-lt1 : goal.returns-then-part-lt1
 returns-then-part-lt1 c = λ part parts number is.
-    let same = same_fraction _ _ _ part parts c.in_ok-part-2.part c.in_ok-parts.parts c.texts_tell_first_parts.ensures number (search rules) (search rules)
+    let same = same_fraction _ _ _ part parts c.in_ok-part-2.part c.in_ok-parts.parts number (search rules) (search rules)
     c.in_ok-part.ensures c.in_ok-part-2.ensures c.in_ok-parts.ensures is in
     elim c.then-part-lt1.branch [
       | then-part-lt1-via-then-part-lt1 w ↦ omega (arith, number.first, same.0, w.if-part-lt1.true)

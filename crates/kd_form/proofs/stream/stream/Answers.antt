@@ -1,12 +1,15 @@
-use Rattle.kd_form.proofs.Prelude.{refl}
-use Rattle.kd_form.proofs.Streaming.{SoFar-nil, room_behind, SoFar-read, SoFar-ended, IsStreamed-stopped, IsStreamed-closed, IsStreamed-too_long}
+use Rattle.std.proofs.KnownBytes.{Consumes-nil, Consumes-trans, Appends-nil}
+use Rattle.kd_form.proofs.Prelude.{[], ◌∷◌, ◌++◌, ◌∙◌, refl, arith, TooLong}
+use Rattle.kd_form.proofs.Streaming.{SoFar-read, SoFar-ended, IsStreamed-stopped, IsStreamed-closed, well_now}
 use Rattle.kd_form.proofs.stream.stream.Goals as goal
 
 pub loop-read-init : goal.loop-read-init
-loop-read-init g c = SoFar-nil _ _ _ _ _ _ c.requires
+loop-read-init g c = grind (arith, Consumes-nil, Appends-nil)
 
 pub close-requires : goal.close-requires
-close-requires g c = room_behind _ _ _ _ _ (SoFar-read _ _ _ _ _ _ _ _ _ _ _ _ _ _ _ _ _ c.loop-read.invariant refl _ c.in-Ok-eq0.ensures).0
+close-requires g c =
+    let before = (SoFar-read _ _ _ _ _ _ _ _ _ _ _ _ _ _ _ _ _ c.loop-read.invariant refl _ c.in-Ok-eq0.ensures).0 in
+    record { bytes = _; text = _; held = before.held; within = omega (arith, before.counted, before.within) }
 
 pub returns-in-Ok-eq0 : goal.returns-in-Ok-eq0
 returns-in-Ok-eq0 g c =
@@ -28,5 +31,13 @@ returns-in-Ok-true g c =
 
 pub returns-in-Ok-false : goal.returns-in-Ok-false
 returns-in-Ok-false g c =
-    IsStreamed-too_long _ _ _ _ _ _ _ _ _ _ c.loop-read.invariant c.loop-read-test.false _ c.in-Ok-false.field-0-test c.in-Ok-false.ensures.ends
-    c.in-Ok-false.ensures.failed
+    let before = c.loop-read.invariant in
+    let ends = rw c.in-Ok-false.field-0-test at c.in-Ok-false.ensures.ends in
+    record {
+      read = before.read ++ ends.0 ∷ [];
+      text = before.text;
+      given = Consumes-trans _ _ _ before.read (ends.0 ∷ []) before.given ends.1;
+      written = before.written;
+      answers = TooLong before.read ends.0 refl (omega (arith, before.counted, before.within, c.loop-read-test.false)) before.held.open_yet
+          (well_now _ _ c.in-Ok-false.ensures.failed ∙ before.well.0, before.well.1) refl;
+    }

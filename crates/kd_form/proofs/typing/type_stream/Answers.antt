@@ -1,9 +1,15 @@
-use Rattle.kd_form.proofs.Prelude.{refl, false≢true, NotReady, Off}
-use Rattle.kd_form.proofs.TypedTexts.{typed_none}
+use Rattle.kd_form.proofs.Prelude.{[], refl, sym, ap, ◌∙◌, All-nil, IsTrue, is_text_byte, letters_text, typed_letters, cipher, false≢true, NotReady, Off}
+use Rattle.kd_form.proofs.TypedTexts.{typed_held}
 use Rattle.kd_form.proofs.typing.type_stream.Goals as goal
 
 pub stream-requires : goal.stream-requires
-stream-requires g c = typed_none _ c.engines_encipher_as_their_machines.ensures.standing _ c.in-Ok.ensures.key refl
+stream-requires g c =
+    let law = c.engines_encipher_as_their_machines.ensures.standing in
+    typed_held c.args.machine.now _ [] [] (record {
+      counted = refl;
+      allowed = All-nil (λ b. IsTrue (is_text_byte b));
+      behind = λ more. ap letters_text (sym (law _ (typed_letters more)) ∙ ap (λ k. cipher k (typed_letters more)) (sym c.in-Ok.ensures.key));
+    })
 
 pub returns-in-Err-clause-streamed : goal.returns-in-Err-clause-streamed
 returns-in-Err-clause-streamed g c =

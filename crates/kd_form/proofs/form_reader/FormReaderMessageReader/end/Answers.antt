@@ -1,19 +1,25 @@
-use Rattle.kd_form.proofs.Prelude.{◌++◌, ◌∷◌, [], ap, ◌∙◌, given_letters}
-use Rattle.kd_form.proofs.FormSteps.{closes, going, closes_short, closes_refused}
+use Rattle.kd_form.proofs.Prelude.{[], ℕ, ap, ArrayVec, ◌∙◌}
+use Rattle.kd_form.proofs.FormSteps.{next_last, next_refused, closes, closes_refused, closes_short, in_stage}
 use Rattle.kd_form.proofs.form_reader.FormReaderMessageReader.end.Goals as goal
 
-pub returns-then-parts-self : goal.returns-then-parts-self
-returns-then-parts-self c = λ form text so_far.
-    closes_short _ c.args.self.now form text so_far.is _ c.in-Ok.letters.items c.in-Ok.parts (λ part stage. c.in-Ok.ensures part stage)
-    c.if-parts-self.true (c.given_letters.ensures ∙ ap (given_letters c.args.day.now) c.as_slice.ensures.value)
+pub give-requires-clause-heading : goal.give-requires-clause-heading
+give-requires-clause-heading c = (in_stage _ c.args.self.now c.requires.room.bytes _ c.requires.room.held.is _ c.in-Body.is).holds.is_heading
 
-pub last_text-requires : goal.last_text-requires
-last_text-requires c = (_, (going _ c.args.self.now c.requires.room.bytes _ c.requires.room.held.is).stage)
+pub returns-in-Heading : goal.returns-in-Heading
+returns-in-Heading c = λ form text so_far.
+    closes_refused _ c.args.self.now form text so_far.is _ _
+    (c.fault_in_heading.ensures _ (in_stage _ c.args.self.now form text so_far.is _ c.in-Heading.is).0) c.requires.empty
 
-pub returns-else-parts-self : goal.returns-else-parts-self
-returns-else-parts-self c = λ form text so_far.
-    closes _ c.args.self.now form text so_far.is _ c.in-Ok.letters.items c.in-Ok.parts (λ part stage. c.in-Ok.ensures part stage) c.if-parts-self.false
-    (c.push.ensures.items ∙ ap (λ l. l ++ 10 ∷ []) (c.given_letters.ensures ∙ ap (given_letters c.args.day.now) c.as_slice.ensures.value))
+pub returns-then-body-self : goal.returns-then-body-self
+returns-then-body-self c = λ form text so_far.
+    closes_short _ c.args.self.now form text so_far.is _ c.in-Body.is _ c.in-Ok.ensures.given c.if-body-self.true
+
+pub returns-else-body-self : goal.returns-else-body-self
+returns-else-body-self c = λ form text so_far.
+    closes _ c.args.self.now form text so_far.is _ c.in-Body.is _ c.in-Ok.ensures.given _ c.if-body-self.false c.push.ensures.items
 
 pub returns-in-Err : goal.returns-in-Err
-returns-in-Err c = λ form text so_far. closes_refused _ c.args.self.now form text so_far.is _ c.in-Err.fault c.in-Err.ensures c.requires.empty
+returns-in-Err c = λ form text so_far.
+    closes_refused _ c.args.self.now form text so_far.is _ c.in-Err.fault
+    (next_refused _ _ _ _ _ _ [] (next_last _ c.args.self.now form text so_far.is _ c.in-Body.is) _ c.in-Err.ensures.given)
+    (ap (λ (v : ArrayVec ℕ). v.items) c.in-Err.ensures.unchanged ∙ c.requires.empty)

@@ -1,38 +1,72 @@
-use Rattle.kd_form.proofs.Prelude.{arith, sym, ◌∙◌, false≢true}
-use Rattle.kd_form.proofs.FormSteps.{held, in_stage, going, refused, not_following, longer_line, heading_read, heading_refused, longer_body, bad_byte, four_letters, part_refused, part_read}
+use Rattle.kd_form.proofs.Cutting.{follows, not_begun, one_more}
+use Rattle.kd_form.proofs.Headings.{ended_heading}
+use Rattle.kd_form.proofs.OneOrder.{bad_behind}
+use Rattle.kd_form.specs.declared.form_reader.Stage.TheVariants as stages
+use Rattle.kd_form.proofs.Prelude.{◌≢◌, take, All-push, All-nil, IsTrue, is_text_byte, IsLineText, line_of, heading_words, [], ◌∷◌, ◌++◌, ◌+◌, ◌-◌, ◌≡◌, ℕ, List, length, length-append, refl, inl, ap, subst, given_letters, BeginsHeading, NoHeading, BadHeading, BadByte, InBody, arith, sym, ◌∙◌, false≢true}
+use Rattle.kd_form.proofs.FormSteps.{first_longer, goes_on, held, grows, in_stage, take_kept, off, refused, refused_at, four_letters, part_refused, part_read}
 use Rattle.kd_form.proofs.form_reader.FormReaderMessageReader.feed.Goals as goal
 
 pub returns-then-not-may_follow : goal.returns-then-not-may_follow
 returns-then-not-may_follow c = λ form text so_far.
-    refused c.args.day.now _ text _ c.texts_tell_first_parts.ensures c.numbers_and_letters_are_words.ensures.numbers
-    (not_following _ c.args.self.now form text so_far.is _ _ c.in-Heading.is (λ part kept may then_may. false≢true (sym c.if-not-may_follow.true
-    ∙ (c.may_follow.ensures part (c.as_slice.ensures.value ∙ kept) may).1 then_may)))
+    let h = so_far.is in
+    let there = in_stage _ c.args.self.now form text h _ c.in-Heading.is in
+    let (few, none) = not_begun h.last _ c.args.byte there.0.kept
+    (λ fits. false≢true (sym c.if-not-may_follow.true ∙ c.may_follow.ensures.1 (rw c.as_slice.ensures.value fits))) in
+    let (front, nil) = h.first (there.1 few) in
+    refused c.args.day.now _ text _ (NoHeading
+    (λ more begun. none more (subst (λ l. BeginsHeading ((l ++ c.args.byte ∷ []) ++ more)) (rw front at h.joined) begun))
+    (h.is ∙ ap (given_letters c.args.day.now) nil) (ap BadHeading (there.1 few)))
 
 pub returns-then-byte-ne10 : goal.returns-then-byte-ne10
 returns-then-byte-ne10 c = λ form text so_far.
-    held c.args.day.now _ c.texts_tell_first_parts.ensures c.numbers_and_letters_are_words.ensures.numbers _ _
-    (longer_line _ c.args.self.now form text so_far.is _ _ _ _ c.in-Heading.is c.if-byte-ne10.true
-    (λ part kept may. (c.may_follow.ensures part (c.as_slice.ensures.value ∙ kept) may).0 c.if-not-may_follow.false) c.keep.ensures c.requires.empty)
+    let h = so_far.is in
+    let there = in_stage _ c.args.self.now form text h _ c.in-Heading.is in
+    let fits = rw c.as_slice.ensures.value at (c.may_follow.ensures.0 c.if-not-may_follow.false) in
+    held c.args.day.now _ _ _ (grows _ c.args.self.now form text h (stages.Heading c.keep.new.items) _ c.args.byte c.requires.empty
+    (one_more h.last c.args.byte there.0.unbroken) (
+      record {
+        kept = c.keep.ensures ∙ ap (λ l. take 64 (l ++ c.args.byte ∷ [])) there.0.kept ∙ take_kept 64 h.last (c.args.byte ∷ []);
+        unbroken = All-push (λ b. b ≢ 10) h.last c.args.byte there.0.unbroken c.if-byte-ne10.true;
+        begins = follows h.last _ c.args.byte there.0.kept there.0.begins fits;
+      },
+      λ few. there.1 (omega (arith, length-append h.last (c.args.byte ∷ []))),
+    ))
 
 pub returns-then-not-is_text_byte : goal.returns-then-not-is_text_byte
 returns-then-not-is_text_byte c = λ form text so_far.
-    refused c.args.day.now _ text _ c.texts_tell_first_parts.ensures c.numbers_and_letters_are_words.ensures.numbers
-    (bad_byte _ c.args.self.now form text so_far.is _ _ c.in-Body.is
-    (λ digit. false≢true (sym c.if-not-ends_before.true ∙ c.ends_before.ensures.1 digit)) (sym c.is_text_byte.ensures ∙ c.if-not-is_text_byte.true))
+    let h = so_far.is in
+    let r = c.args.self.now in
+    let there = in_stage _ r form text h _ c.in-Body.is in
+    let holds = there.holds in
+    let body : List ℕ = there.body ++ c.args.byte ∷ [] in
+    let first = first_longer h.last holds.line there.body c.args.byte holds.first in
+    let place : r.position + 1 ≡ length h.front + (length (h.last ++ c.args.byte ∷ []) - length body) + length there.body + 1 =
+    omega (arith, h.counted, ap length h.joined, length-append {A = ℕ}, ap length holds.first.joined) in
+    refused_at _ r form text h _ (c.args.byte ∷ []) (h.last ++ c.args.byte ∷ []) []
+    (goes_on _ _ h.last there.body c.args.byte holds h.alone (λ digit. false≢true (sym c.if-not-ends_before.true ∙ c.ends_before.ensures.1 digit))) (
+      (holds.line, body, first),
+      InBody _ body (length there.body) (record { is_heading = holds.is_heading; first = inl (holds.line, first, holds.text) }) there.numbered there.due
+          (bad_behind there.body [] c.args.byte holds.allowed (sym c.is_text_byte.ensures ∙ c.if-not-is_text_byte.true)) (ap BadByte place),
+    )
 
 pub returns-then-not-ends_before : goal.returns-then-not-ends_before
 returns-then-not-ends_before c = λ form text so_far.
-    held c.args.day.now _ c.texts_tell_first_parts.ensures c.numbers_and_letters_are_words.ensures.numbers _ _
-    (longer_body _ c.args.self.now form text so_far.is _ _ _ _ c.in-Body.is
-    (λ digit. false≢true (sym c.if-not-ends_before.true ∙ c.ends_before.ensures.1 digit)) c.push.ensures.body c.push.ensures.heading c.requires.empty)
+    let h = so_far.is in
+    let there = in_stage _ c.args.self.now form text h _ c.in-Body.is in
+    held c.args.day.now _ _ _ (grows _ c.args.self.now form text h (stages.Body c.push.new.self) _ c.args.byte c.requires.empty
+    (goes_on _ _ h.last there.body c.args.byte there.holds h.alone (λ digit. false≢true (sym c.if-not-ends_before.true ∙ c.ends_before.ensures.1 digit)))
+    (record {
+      body = there.body ++ c.args.byte ∷ [];
+      holds = c.push.ensures.body _ h.last there.body there.holds;
+      numbered = rw c.push.ensures.heading there.numbered;
+      due = rw c.push.ensures.heading there.due;
+    }))
 
 pub overflow_add-self : goal.overflow_add-self
-overflow_add-self c = omega (arith, (going _ c.args.self.now c.requires.room.bytes _ c.requires.room.held.is).whole, c.requires.room.within)
+overflow_add-self c = omega (arith, c.requires.room.held.is.counted, c.requires.room.within)
 
 pub overflow_add-self-in-Ok-give : goal.overflow_add-self-in-Ok-give
-overflow_add-self-in-Ok-give c =
-    let there = (in_stage _ c.args.self.now c.requires.room.bytes _ c.requires.room.held.is _ c.in-Body.is) in
-    omega (arith, there.numbered, there.holds.is_heading.number.in_order, there.holds.is_heading.number.few)
+overflow_add-self-in-Ok-give c = grind (arith, in_stage)
 
 pub give-requires-clause-heading : goal.give-requires-clause-heading
 give-requires-clause-heading c = (in_stage _ c.args.self.now c.requires.room.bytes _ c.requires.room.held.is _ c.in-Body.is).holds.is_heading
@@ -43,23 +77,52 @@ give-requires-clause-some c =
 
 pub returns-in-Ok : goal.returns-in-Ok
 returns-in-Ok c = λ form text so_far.
-    rw c.if-byte-ne10.false (held c.args.day.now _ c.texts_tell_first_parts.ensures c.numbers_and_letters_are_words.ensures.numbers _ _
-    (heading_read _ c.args.self.now form text so_far.is _ _ _ _ _ c.in-Heading.is
-    (λ part unbroken kept. c.heading_of_ended-heading.ensures part unbroken (c.as_slice-in-Heading.ensures.value ∙ kept)) c.in-Ok.ensures
-    c.new.ensures.heading c.new.ensures.letters c.new.ensures.begun c.requires.empty))
+    let h = so_far.is in
+    let there = in_stage _ c.args.self.now form text h _ c.in-Heading.is in
+    let due = c.in-Ok.ensures in
+    let told = c.heading_of_ended-heading.ensures h.last there.0.unbroken (c.as_slice-in-Heading.ensures.value ∙ there.0.kept) in
+    let (is_heading, text_is) = rw due.is at told in
+    let heads = c.new.ensures.heading in
+    rw c.if-byte-ne10.false (held c.args.day.now _ _ _ (grows _ c.args.self.now form text h (stages.Body c.new.result) _ 10 c.requires.empty
+    (one_more h.last 10 there.0.unbroken) (record {
+      body = [];
+      holds = record {
+        line = h.last;
+        first = record { joined = refl; without = there.0.unbroken };
+        text = subst (λ x. IsLineText h.last (line_of (heading_words x))) (sym heads) text_is;
+        is_heading = rw heads is_heading;
+        last = record {
+          settled = [];
+          tail = [];
+          front = h.last;
+          lines = refl;
+          broken = refl;
+          unbroken = All-nil (λ b. b ≢ 10);
+          kept = c.new.ensures.line;
+        };
+        allowed = All-nil (λ b. IsTrue (is_text_byte b));
+        kept = c.new.ensures.letters;
+      };
+      numbered = rw heads due.numbered;
+      due = rw heads due.due;
+    })))
 
 pub returns-in-Err : goal.returns-in-Err
 returns-in-Err c = λ form text so_far.
-    rw c.if-byte-ne10.false (refused c.args.day.now _ text _ c.texts_tell_first_parts.ensures c.numbers_and_letters_are_words.ensures.numbers
-    (heading_refused _ c.args.self.now form text so_far.is _ _ _ c.in-Heading.is
-    (λ part unbroken kept. c.heading_of_ended-heading.ensures part unbroken (c.as_slice-in-Heading.ensures.value ∙ kept)) c.in-Err.ensures))
+    let h = so_far.is in
+    let r = c.args.self.now in
+    let there = in_stage _ r form text h _ c.in-Heading.is in
+    let ended = c.heading_of_ended-heading.ensures h.last there.0.unbroken (c.as_slice-in-Heading.ensures.value ∙ there.0.kept) in
+    rw c.if-byte-ne10.false (refused_at _ r form text h _ (10 ∷ []) (h.last ++ 10 ∷ []) [] (one_more h.last 10 there.0.unbroken) (
+      (h.last, [], record { joined = refl; without = there.0.unbroken }),
+      off _ r.number r.expected (length h.front) (h.last ++ 10 ∷ []) _ _ (grind (arith, ended_heading, ended, there.0.unbroken)) c.in-Err.ensures,
+    ))
 
 pub returns-in-Ok-give : goal.returns-in-Ok-give
 returns-in-Ok-give c = λ form text so_far.
-    held c.args.day.now _ c.texts_tell_first_parts.ensures c.numbers_and_letters_are_words.ensures.numbers _ _
-    (part_read _ c.args.self.now form text so_far.is _ _ c.in-Body.is (c.ends_before.ensures.0 c.if-not-ends_before.false) _ _ c.in-Ok-give.ensures c.heading_from.ensures)
+    held c.args.day.now _ _ _
+    (part_read _ c.args.self.now form text so_far.is _ _ c.in-Body.is (c.ends_before.ensures.0 c.if-not-ends_before.false) _ _ c.in-Ok-give.ensures.given c.heading_from.ensures)
 
 pub returns-in-Err-give : goal.returns-in-Err-give
 returns-in-Err-give c = λ form text so_far.
-    refused c.args.day.now _ text _ c.texts_tell_first_parts.ensures c.numbers_and_letters_are_words.ensures.numbers
-    (part_refused _ c.args.self.now form text so_far.is _ _ c.in-Body.is (c.ends_before.ensures.0 c.if-not-ends_before.false) _ c.in-Err-give.ensures)
+    part_refused _ c.args.self.now form text so_far.is _ _ c.in-Body.is (c.ends_before.ensures.0 c.if-not-ends_before.false) _ c.in-Err-give.ensures.given

@@ -1,8 +1,20 @@
-use Rattle.kd_form.proofs.Prelude.{[], refl}
-use Rattle.kd_form.proofs.FormSteps.{held, starts}
+use Rattle.kd_form.proofs.Prelude.{[], ◌≢◌, refl, inl, arith, All-nil}
+use Rattle.kd_form.proofs.FormSteps.{held}
 use Rattle.kd_form.proofs.form_reader.FormReaderMessageReader.start.Goals as goal
 
 pub returns : goal.returns
-returns c =
-    held c.args._day.now _ c.texts_tell_first_parts.ensures c.numbers_and_letters_are_words.ensures.numbers [] []
-    (starts c.args._day.now _ refl refl refl c.new.result refl c.new.ensures)
+returns c = held c.args._day.now _ [] [] (record {
+  front = [];
+  last = [];
+  parts = [];
+  letters = [];
+  joined = refl;
+  cuts = λ more. refl;
+  alone = refl;
+  begun = inl refl;
+  first = λ one. (refl, refl);
+  read = ((refl, refl), refl);
+  is = refl;
+  counted = refl;
+  stage = (record { kept = c.new.ensures; unbroken = All-nil (λ b. b ≢ 10); begins = inl (0, omega arith, refl) }, λ few. refl);
+})

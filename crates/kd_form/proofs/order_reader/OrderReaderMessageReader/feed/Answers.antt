@@ -1,7 +1,8 @@
 use Rattle.kd_form.specs.declared.order_reader.Stage.TheVariants as stages
-use Rattle.kd_form.proofs.Prelude.{[], ◌∷◌, ◌++◌, ◌+◌, ap, refl, sym, text_letters, ◌∙◌}
-use Rattle.kd_form.proofs.OneOrder.{all_of_the_day}
-use Rattle.kd_form.proofs.OrderSteps.{byte_refused, counted_on, head_refused, letters_short, order_held, suited_keys, text_begins, text_more}
+use Rattle.kd_form.specs.SendStream as stream
+use Rattle.kd_form.proofs.Prelude.{blank_of, ◌≡◌, length, length-append, append_assoc, arith, All-push, IsTrue, is_text_byte, filter_map-append, InHead, InText, BadByte, [], ◌∷◌, ◌++◌, ◌+◌, ap, refl, sym, text_letters, ◌∙◌}
+use Rattle.kd_form.proofs.OneOrder.{all_of_the_day, bad_behind, no_head_fault}
+use Rattle.kd_form.proofs.OrderSteps.{counted_on, fault_longer, is_longer, letters_few, order_held, order_refused, suited_keys, text_begins}
 use Rattle.kd_form.proofs.order_reader.OrderReaderMessageReader.feed.Goals as goal
 
 pub check_keys-requires-clause-keys : goal.check_keys-requires-clause-keys
@@ -12,8 +13,16 @@ check_keys-requires-clause-keys c =
 pub returns-then-not-is_text_byte : goal.returns-then-not-is_text_byte
 returns-then-not-is_text_byte c bytes text held =
     let here = rw c.in-Text.is at held.is.stage in
-    byte_refused _ _ _ bytes text here c.args.byte _ (sym c.is_text_byte.ensures ∙ c.if-not-is_text_byte.true)
-    (ap (λ n. n + 1) held.is.counted)
+    let so_far = here.sendable in
+    let bad = sym c.is_text_byte.ensures ∙ c.if-not-is_text_byte.true in
+    let place : c.args.self.now.read + 1 ≡ length here.head + length here.text + 1 =
+    omega (arith, held.is.counted, ap length so_far.is_order.joined, length-append here.head here.text) in
+    order_refused _ (bytes ++ c.args.byte ∷ []) text _ (InText _ here.head (here.text ++ c.args.byte ∷ []) _ (is_longer _ (c.args.byte ∷ []) so_far.is_order)
+    so_far.suited (bad_behind here.text [] c.args.byte so_far.allowed bad) (ap BadByte place))
+    (λ more. stream.InText _ here.head (here.text ++ c.args.byte ∷ more) here.text _
+    (rw (append_assoc bytes (c.args.byte ∷ []) more) (is_longer _ (c.args.byte ∷ more) so_far.is_order)) so_far.suited
+    (record { rest = c.args.byte ∷ more; joined = refl; allowed = so_far.allowed; ends = λ other after same. grind arith })
+    here.taken.written here.taken.made)
 
 pub take-requires-in-Text-clause-keys : goal.take-requires-in-Text-clause-keys
 take-requires-in-Text-clause-keys c =
@@ -24,8 +33,8 @@ pub take-requires-in-Text-clause-taken : goal.take-requires-in-Text-clause-taken
 take-requires-in-Text-clause-taken c =
     let room = c.requires.room in
     let here = rw c.in-Text.is at room.held.is.stage in
-    let short = letters_short _ _ _ _ _ here room.within in
-    (text_letters c.args.day.now here.text, room.text, rw c.keys-in-Text.ensures here.taken, short)
+    let short = letters_few (blank_of c.args.day.now) here.text in
+    (text_letters c.args.day.now here.text, room.text, rw c.keys-in-Text.ensures here.taken, omega (arith, short, room.within, ap length here.sendable.is_order.joined, length-append here.head here.text))
 
 pub returns-in-Open : goal.returns-in-Open
 returns-in-Open c bytes text held =
@@ -38,7 +47,9 @@ returns-in-Open c bytes text held =
 pub returns-in-Bad : goal.returns-in-Bad
 returns-in-Bad c bytes text held =
     let here = rw c.in-Head.is at held.is.stage in
-    head_refused _ _ text _ (c.in-Bad.ensures bytes here.0) (counted_on bytes c.args.byte held.is.counted) here.1
+    let fault = c.in-Bad.ensures bytes here.0 in
+    order_refused _ _ text _ (InHead _ fault (omega arith) (ap BadByte (counted_on bytes c.args.byte held.is.counted)))
+    (λ more. stream.NotYet (λ keys front after is suited. no_head_fault _ _ keys front after _ is (fault_longer _ more fault (omega arith))) here.1)
 
 pub returns-in-Text-take : goal.returns-in-Text-take
 returns-in-Text-take c bytes text held =
@@ -57,6 +68,14 @@ returns-else-not-is_text_byte c bytes text held =
     let allowed = sym c.is_text_byte.ensures ∙ c.if-not-is_text_byte.false in
     order_held c.args.day.now _ _ _ (record {
       counted = counted_on bytes c.args.byte held.is.counted;
-      stage = rw c.in-Text.is
-          (text_more _ _ _ bytes text here _ _ c.args.byte allowed (rw c.keys-in-Text.ensures at taken));
+      stage = rw c.in-Text.is (record {
+        head = here.head;
+        text = here.text ++ c.args.byte ∷ [];
+        sendable = record {
+          is_order = is_longer _ (c.args.byte ∷ []) here.sendable.is_order;
+          suited = here.sendable.suited;
+          allowed = All-push (λ b. IsTrue (is_text_byte b)) here.text c.args.byte here.sendable.allowed allowed;
+        };
+        taken = rw filter_map-append (rw c.keys-in-Text.ensures at taken);
+      });
     })

@@ -1,5 +1,5 @@
-use Rattle.kd_form.proofs.Prelude.{[], length, arith}
-use Rattle.kd_form.proofs.Streaming.{room_less, whole_stopped}
+use Rattle.kd_form.proofs.Prelude.{[], ℕ, append-nil, length, arith}
+use Rattle.kd_form.proofs.Streaming.{room_less}
 use Rattle.kd_form.proofs.stream.whole.write_whole.Goals as goal
 
 pub finish-requires : goal.finish-requires
@@ -8,4 +8,5 @@ finish-requires g c =
     (record { bytes = []; text = []; held = c.start-reader.ensures; within = omega (arith, c.if-prove.false) }) c.in-Ok.ensures.fed
 
 pub returns-clause-written : goal.returns-clause-written
-returns-clause-written g c = whole_stopped _ _ _ _ _ _ c.start-reader.ensures c.in-Err.ensures.fed
+returns-clause-written g c =
+    let fed = c.in-Err.ensures.fed [] [] c.start-reader.ensures in grind (arith, append-nil {A = ℕ}, fed)

@@ -1,19 +1,41 @@
-use Rattle.kd_form.proofs.OrderSteps.{head_off, keys_taken, text_taken}
+use Rattle.kd_form.proofs.Prelude.{◌≡◌, ℕ, List, [], ◌∷◌, ◌++◌, ◌+◌, ◌≤◌, refl, inr, inl, ap, sym, append-nil, length, length-append, arith, codes}
+use Rattle.kd_form.proofs.OneOrder.{behind}
+use Rattle.kd_form.proofs.OrderSteps.{goes_on, head_next, no_next, one_more, text_head}
 use Rattle.kd_form.proofs.order_reader.head.HeadReader.take.Goals as goal
 
+-- the line of keys is whole
 pub returns-in-Ok-Some : goal.returns-in-Ok-Some
 returns-in-Ok-Some c order is =
     let (are, keyed, room) = rw c.in-Ok-Some.field-0-is at c.in-Ok-Some.ensures in
     let ended = rw (c.as_slice.ensures.value, c.push.ensures.items) at keyed in
-    rw (c.push-in-Ok-Some.ensures.items, c.clear.ensures)
-    (keys_taken _ _ _ order is c.args.byte _ (rw c.len.ensures.value at room) are ended)
+    rw (c.push-in-Ok-Some.ensures.items, c.clear.ensures) (record {
+      lines = one_more _ _ _ order is (λ rest. rest ≡ []) _ (c.args.byte ∷ []) [] are ended refl;
+      few = omega (arith, rw c.len.ensures.value at room, length-append c.args.self.now.keys.items (c.in-Ok-Some.keys ∷ []));
+      begins = (codes "TEXT\n", (λ none. cc), inr (inl refl));
+    })
 
+-- the line TEXT is whole
 pub returns-in-Ok-None : goal.returns-in-Ok-None
 returns-in-Ok-None c order is =
-    text_taken _ _ _ order is c.args.byte
-    (rw (c.in-Ok-None.field-0-is, c.as_slice.ensures.value, c.push.ensures.items) at c.in-Ok-None.ensures)
+    let ended = rw (c.in-Ok-None.field-0-is, c.as_slice.ensures.value, c.push.ensures.items) at c.in-Ok-None.ensures in
+    record { joined = sym (append-nil (order ++ c.args.byte ∷ [])); is_head = text_head _ _ _ order is (c.args.byte ∷ []) ended }
 
+-- no head goes on so
 pub returns-in-Err-Off : goal.returns-in-Err-Off
 returns-in-Err-Off c order is =
     let off = rw (c.len.ensures.value, c.as_slice.ensures.value, c.push.ensures.items) at c.in-Err-Off.ensures in
-    head_off _ _ _ order is c.args.byte (rw c.in-Err-Off.field-0-is at off)
+    record {
+      before = order;
+      rest = c.args.byte ∷ [];
+      joined = refl;
+      size = length-append order (c.args.byte ∷ []);
+      begins = goes_on _ _ _ order is;
+      stops = λ found next other same (others, head).
+          let all : List ℕ = order ++ found ∷ other in
+          let whole : order ++ c.args.byte ∷ other ≡ all ++ [] = cc (same, append-nil all) in
+          let keys = c.args.self.now.keys.items in
+          let (after, rest, last, are, mine, ended, alike) = behind _ keys others order all (c.args.byte ∷ other) [] is.lines head.lines whole in
+          let few : length keys + length after ≤ 99 = omega (arith, head.few, ap length are, length-append keys after) in
+          let (one, left, next, split) = head_next _ (length keys) after last few ended in
+          no_next _ _ _ other one left c.args.byte is.begins (rw c.in-Err-Off.field-0-is at off) next (cc (mine, alike, split, append-nil last));
+    }
