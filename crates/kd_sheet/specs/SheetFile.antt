@@ -62,13 +62,9 @@ group_of_item item = option_and_then (capital_letters 3) (as_str item)
 abbrev pub group_for : List (List ℕ) → Data → Result (List ℕ) SheetFault
 group_for earlier item = ok_or (group_of_item item) (BadValue keys.Groups)
 
--- an array of at most four groups
-unfoldable pub all_groups_in : Data → Result (List (List ℕ)) SheetFault
-all_groups_in value = up_to keys.Groups 4 group_for value
-
--- the groups: none where the day does not speak of them
+-- the groups, at most four: none where the day does not speak of them
 unfoldable pub groups_in : Members → Result (List (List ℕ)) SheetFault
-groups_in table = option_map_or all_groups_in (get_member (key_name keys.Groups) table) (Ok [])
+groups_in table = option_map_or (up_to keys.Groups 4 group_for) (get_member (key_name keys.Groups) table) (Ok [])
 
 -- the two letters of the key list
 unfoldable pub list_in : Members → Result (List ℕ) SheetFault
