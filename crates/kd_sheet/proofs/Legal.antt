@@ -171,14 +171,7 @@ rotor_day number model table is =
 
 pub pin_day : (number : ℕ) (table : Members) → IsDayNumber number → Gives (pin_day_in number table) (IsDay number)
 unfolding pin_day_in
-pin_day number table is =
-    after _ _ _ _ (rows_in_rows table) (λ rows are_rows.
-    after _ _ _ _ (pins_in_fit table) (λ pins fit.
-    after _ _ _ _ (letters_shown keys.Window table) (λ window shown.
-    after _ _ _ _ (list_in_letters table) (λ list are_letters. done (IsDay number) _ (
-      record { day = is; count = are_rows.0; rows = are_rows.1; pins = fit; window = shown; list = are_letters },
-      refl,
-    )))))
+pin_day number table is day e = grind (arith, given, rows_in_rows, pins_in_fit, letters_shown, list_in_letters)
 
 model_day : (number : ℕ) (model : Model) (table : Members) → IsDayNumber number
     → Gives (model_day_in number model table) (IsDay number)

@@ -8,7 +8,7 @@ use Rattle.kd_sheet.proofs.Prelude.{concat, flat_map, list_all, list_any, cables
 use Rattle.kd_sheet.proofs.Prelude.{standing_for, key_name, LegalPartsAreReadBack, box_letters_in, known_model_in}
 use Rattle.kd_sheet.proofs.Prelude.{machine_in, model_in, parts_in, pin_parts_in, reflector_in, rotor_parts_in}
 use Rattle.kd_sheet.proofs.Prelude.{version_in, machine_text, cable_text, key_line, listed, pin_texts, pins_text}
-use Rattle.kd_sheet.proofs.Prelude.{quoted, seat_text, version_of, number_to, shown_in, UnknownModel, Key, all_pins}
+use Rattle.kd_sheet.proofs.Prelude.{quoted, seat_text, version_of, number_to, shown_in, UnknownModel, Key}
 use Rattle.kd_sheet.proofs.Prelude.{has_reflector-Decides, has_reflector, IsLegalPin, IsLegalRotor, cables_ordered}
 use Rattle.kd_sheet.proofs.Prelude.{ordered, plugged_letters, Parts, Pin, Rotor, PinParts, RotorParts, IsBefore, figure}
 use Rattle.kd_sheet.proofs.Prelude.{standing_text, model_text, reflector_text, reflectors_of, letters_text, Model, M209}

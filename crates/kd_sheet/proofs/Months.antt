@@ -1,8 +1,8 @@
 -- A month with a day here and there: the days that a sheet's entries describe, each at its number.
-use Rattle.kd_sheet.proofs.Prelude.{Bool, Bor, Contains, IfSome, List, None, Ok, Option, Some, [], ap, arith, drop}
-use Rattle.kd_sheet.proofs.Prelude.{false, find, get_or, inl, inr, is_some, length, length-set, map, nat_eq, ok_or}
-use Rattle.kd_sheet.proofs.Prelude.{refl, set, subst, suc, sym, take, true, zero, ℕ, ◌++◌, ◌+◌, ◌-◌, ◌<◌, ◌==◌, ◌∙◌}
-use Rattle.kd_sheet.proofs.Prelude.{◌∷◌, ◌≡◌, ◌≢◌, cases_Bool, eq-eqb, eqb-false, eqb-true, ne_eqb, nat_tests}
+use Rattle.kd_sheet.proofs.Prelude.{Bool, Bor, Contains, IfSome, List, None, Ok, Option, Some, [], ap, arith, cond}
+use Rattle.kd_sheet.proofs.Prelude.{drop, false, find, get_or, inl, inr, is_some, length, length-set, map, nat_eq}
+use Rattle.kd_sheet.proofs.Prelude.{ok_or, refl, set, subst, suc, sym, take, true, zero, ℕ, ◌++◌, ◌+◌, ◌-◌, ◌<◌, ◌==◌}
+use Rattle.kd_sheet.proofs.Prelude.{◌∙◌, ◌∷◌, ◌≡◌, cases_Bool, cases_eq, eq-eqb, eqb-false, eqb-true, ne_eqb, nat_tests}
 use Rattle.kd_sheet.proofs.Prelude.{get_or-set_at, get_or-set_other, same_lists, Contains-get_or, find-append}
 use Rattle.kd_sheet.proofs.Prelude.{get_or-map-range_with_len, length-map-range_with_len, none-some, same_Some}
 use Rattle.kd_sheet.proofs.Prelude.{slice_get-get_or, slice_get_cases, AllOfLen, list_any, option_and_then}
@@ -20,16 +20,21 @@ has number day = day_number day == number
 
 -- ---- the days of a month, by their numbers
 
+month_size : (days : List Day) → length (month_of days) ≡ 31
+month_size days = length-map-range_with_len (λ n. find (has n) days) 1 31
+
+month_at : (days : List Day) (place : ℕ) (d : Option Day) → place < 31
+    → get_or (month_of days) place d ≡ find (has (suc place)) days
+month_at days place d within = get_or-map-range_with_len (λ n. find (has n) days) 1 31 place (suc place) d within (omega arith)
+
 -- the month's day of a number is the first of the days that has it
 pub day_of_month : (days : List Day) (number : ℕ) → IsDayNumber number
     → day_of (month_of days) number ≡ find (has number) days
 day_of_month days zero is = let first = is.first in absurd (omega arith)
 day_of_month days (suc place) is =
-    let f : ℕ → Option Day = λ n. find (has n) days in
     let last = is.last in
-    let within : place < length (month_of days) = omega (arith, length-map-range_with_len f 1 31) in
-    ap (option_and_then (λ d. d)) (slice_get-get_or (month_of days) place None within)
-    ∙ get_or-map-range_with_len f 1 31 place (suc place) None (omega arith) (omega arith)
+    ap (option_and_then (λ d. d)) (slice_get-get_or (month_of days) place None (omega (arith, month_size days)))
+    ∙ month_at days place None (omega arith)
 
 -- one of the days has the number where one is found
 any_found : (days : List Day) (number : ℕ) → is_some (find (has number) days) ≡ list_any (has number) days
@@ -80,38 +85,24 @@ number_of_found month number found e d = grind arith
 none_found : (days : List Day) (number : ℕ) → list_any (has number) days ≡ false → find (has number) days ≡ None
 none_found days number free = grind (arith, any_found days number)
 
-one_found : (days : List Day) (new : Day) (number : ℕ) → number ≡ day_number new
-    → list_any (has (day_number new)) days ≡ false → find (has number) (days ++ new ∷ []) ≡ Some new
-one_found days new number same free = grind (arith, find-append, none_found, eq-eqb)
-
-other_found : (days : List Day) (new : Day) (number : ℕ) → number ≢ day_number new
-    → find (has number) (days ++ new ∷ []) ≡ find (has number) days
-other_found days new number differs = grind (arith, find-append, ne_eqb)
+found_more : (days : List Day) (new : Day) (number : ℕ) → list_any (has (day_number new)) days ≡ false
+    → find (has number) (days ++ new ∷ []) ≡ cond (nat_eq (day_number new) number) (Some new) (find (has number) days)
+found_more days new number free = grind (arith, nat_tests, find-append, none_found)
 
 month_more : (days : List Day) (new : Day) → IsDayNumber (day_number new) → list_any (has (day_number new)) days ≡ false
     → set (month_of days) (day_number new - 1) (Some new) ≡ month_of (days ++ new ∷ [])
 month_more days new is free =
-    let f : ℕ → Option Day = λ n. find (has n) days in
-    let g : ℕ → Option Day = λ n. find (has n) (days ++ new ∷ []) in
+    let at = day_number new - 1 in
     let first = is.first in
     let last = is.last in
-    let count = length-set (month_of days) (day_number new - 1) (Some new) ∙ length-map-range_with_len f 1 31 in
-    same_lists _ _ (count ∙ sym (length-map-range_with_len g 1 31)) (λ k d within.
-    let inside : k < 31 = omega (arith, count) in
-    elim (cases_Bool (nat_eq (k + 1) (day_number new))) [
-      | inl same ↦
-          let here = eqb-true (k + 1) (day_number new) same in
-          get_or-set_at (month_of days) (day_number new - 1) k (Some new) d (omega arith)
-          (omega (arith, length-map-range_with_len f 1 31))
-          ∙ sym (one_found days new (k + 1) here free)
-          ∙ sym (get_or-map-range_with_len g 1 31 k (k + 1) d inside (omega arith))
-      | inr differs ↦
-          let away = eqb-false (k + 1) (day_number new) differs in
-          get_or-set_other (month_of days) (day_number new - 1) k (Some new) d (λ e. away (omega arith))
-          ∙ get_or-map-range_with_len f 1 31 k (k + 1) d inside (omega arith)
-          ∙ sym (other_found days new (k + 1) away)
-          ∙ sym (get_or-map-range_with_len g 1 31 k (k + 1) d inside (omega arith))
-    ])
+    let size = length-set (month_of days) at (Some new) ∙ month_size days in
+    same_lists _ _ (size ∙ sym (month_size (days ++ new ∷ []))) (λ k d within.
+    let inside : k < 31 = omega (arith, size) in
+    rw (month_at (days ++ new ∷ []) k d inside, found_more days new (suc k) free) (elim (cases_eq (day_number new) (suc k)) [
+      | inl same ↦ rw (eq-eqb _ _ same) (get_or-set_at (month_of days) at k (Some new) d (omega arith) (omega (arith, month_size days)))
+      | inr differs ↦ rw (ne_eqb _ _ differs)
+          (get_or-set_other (month_of days) at k (Some new) d (λ e. differs (omega arith)) ∙ month_at days k d inside)
+    ]))
 
 -- ---- the days of entries
 
