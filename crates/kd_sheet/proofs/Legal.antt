@@ -11,10 +11,9 @@ use Rattle.kd_sheet.proofs.Prelude.{day_in, group_of_item, groups_in, model_day_
 use Rattle.kd_sheet.proofs.Prelude.{pin_day_in, rotor_day_in, group_for, Key, AreLetters, AreOnWheels, HasAllPins}
 use Rattle.kd_sheet.proofs.Prelude.{IsLegalPin, IsLegalRotor, pin_set, Day, IsDayNumber, IsLegalDay, day_number}
 use Rattle.kd_sheet.proofs.Prelude.{IsBefore, IsReading, in_order, place_rank, standing_text, standings, ring_of}
-use Rattle.kd_sheet.proofs.Prelude.{reflectors_of, Model, M209, Place, Data, Members}
+use Rattle.kd_sheet.proofs.Prelude.{box_of, reflectors_of, slots_of, Model, M209, Place, Data, Members}
 use Rattle.kd_sheet.specs.declared.key.Key.TheVariants as keys
-use Rattle.kd_sheet.proofs.Bounds.{day_number_within, capitals_are_letters, rings_in_letters, window_in_letters}
-use Rattle.kd_sheet.proofs.Bounds.{list_in_letters, box_letters_in_letters}
+use Rattle.kd_sheet.proofs.Bounds.{day_number_within, capitals_are_letters, rings_in_letters, letters_at_are}
 use Rattle.kd_sheet.proofs.CableLetters.{are_cables, are_pairs}
 use Rattle.kd_sheet.proofs.InTurn.{Gives, after, after_any, done, given, tested, there_was, some_if, then_read, nothing, as_many, read_at, each_is, each_read, some_read}
 use Rattle.kd_sheet.proofs.PinLetters.{on_wheels}
@@ -119,8 +118,8 @@ unfolding rotor_parts_in
 rotor_parts_legal model table =
     after _ _ _ _ (reflector_there model table) (λ reflector there.
     after _ _ _ _ (seats_in_fill keys.Slots model table) (λ slots fill.
-    after _ _ _ _ (box_letters_in_letters keys.Rings model table) (λ rings are_rings.
-    after _ _ _ _ (box_letters_in_letters keys.Letters model table) (λ letters are_letters.
+    after _ _ _ _ (letters_at_are keys.Rings (length (box_of model)) table) (λ rings are_rings.
+    after _ _ _ _ (letters_at_are keys.Letters (length (box_of model)) table) (λ letters are_letters.
     after _ _ _ _ (are_cables table) (λ cables are. done IsLegalRotor _ (record {
       slots = fill.0;
       allowed = fill.1.allowed;
@@ -152,7 +151,7 @@ rotor_day number model table is =
     after _ _ _ _ (reflector_there model table) (λ reflector there.
     after _ _ _ _ (seats_in_fill keys.Wheels model table) (λ slots fill.
     after _ _ _ _ (rings_in_letters model table) (λ rings are_rings.
-    after _ _ _ _ (window_in_letters model table) (λ window are_letters.
+    after _ _ _ _ (letters_at_are keys.Window (slots_of model) table) (λ window are_letters.
     after _ _ _ _ (are_pairs table) (λ pairs are_pairs.
     after _ _ _ _ (groups_in_groups table) (λ groups are_groups.
     let seated = seats-sheet_wheels slots rings window (recursion_from_All IsSome _ (fill.1.filled refl))
@@ -171,7 +170,7 @@ rotor_day number model table is =
 
 pub pin_day : (number : ℕ) (table : Members) → IsDayNumber number → Gives (pin_day_in number table) (IsDay number)
 unfolding pin_day_in
-pin_day number table is day e = grind (arith, given, rows_in_rows, pins_in_fit, letters_shown, list_in_letters)
+pin_day number table is day e = grind (arith, given, rows_in_rows, pins_in_fit, letters_shown, letters_at_are)
 
 model_day : (number : ℕ) (model : Model) (table : Members) → IsDayNumber number
     → Gives (model_day_in number model table) (IsDay number)

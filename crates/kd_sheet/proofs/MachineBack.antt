@@ -5,7 +5,7 @@ use Rattle.kd_sheet.proofs.Prelude.{◌&&◌, ◌++◌, ◌+◌, ◌<◌, ◌==�
 use Rattle.kd_sheet.proofs.Prelude.{common_steps, append-nil, recursion_from_All, list_all-append}
 use Rattle.kd_sheet.proofs.Prelude.{AllPass-from_list_all, IsUtf8-from_ascii, IsAscii-from_all, digits, AllByRecursion}
 use Rattle.kd_sheet.proofs.Prelude.{concat, flat_map, list_all, list_any, cables_in, thirteen, document_of, bars_in}
-use Rattle.kd_sheet.proofs.Prelude.{standing_for, key_name, LegalPartsAreReadBack, box_letters_in, known_model_in}
+use Rattle.kd_sheet.proofs.Prelude.{standing_for, key_name, LegalPartsAreReadBack, letters_at, known_model_in}
 use Rattle.kd_sheet.proofs.Prelude.{machine_in, model_in, parts_in, pin_parts_in, reflector_in, rotor_parts_in}
 use Rattle.kd_sheet.proofs.Prelude.{version_in, machine_text, cable_text, key_line, listed, pin_texts, pins_text}
 use Rattle.kd_sheet.proofs.Prelude.{quoted, seat_text, version_of, number_to, shown_in, UnknownModel, Key}
@@ -259,7 +259,7 @@ cables_in_again m legal = grind (arith, common_steps, cables_again, thirteen_aga
 
 rotor_parts_again : (m : RotorParts) → IsLegalRotor m
     → rotor_parts_in m.model (rotor_table m) ≡ Ok (record m { cables = map single_first m.cables })
-unfolding rotor_parts_in reflector_in box_letters_in
+unfolding rotor_parts_in reflector_in letters_at
 rotor_parts_again m legal =
     let has = (has_reflector-Decides (reflectors_of m.model) m.reflector).1 legal.reflector in
     let seated = seats_in_again keys.Slots m.model (rotor_table m) m.slots refl (λ k d within. may_stand (get_or m.slots k d))

@@ -6,19 +6,19 @@ use Rattle.kd_sheet.proofs.Prelude.{ne_eqb, common_steps, length-map, length-tak
 use Rattle.kd_sheet.proofs.Prelude.{recursion_from_All, gets, slice_get_within, AllByRecursion, list_all, PinSet}
 use Rattle.kd_sheet.proofs.Prelude.{cable_for, letters_in_cable, pair_for, pairs_in, cable_of, pair_letters, each_at}
 use Rattle.kd_sheet.proofs.Prelude.{items_at, items_in, up_to, value_at, row_of_text, rows_in, may_read, row_for}
-use Rattle.kd_sheet.proofs.Prelude.{key_name, capital_letters, model_in, reflector_in, cable_text, pin_texts, seat_text}
-use Rattle.kd_sheet.proofs.Prelude.{reflector_by_name, standing_by_text, number_to, letters_on_wheels, pins_in}
-use Rattle.kd_sheet.proofs.Prelude.{pins_of_item, shown_in, is_seated, seat_for, seat_of_item, seats_in, wheel_for}
-use Rattle.kd_sheet.proofs.Prelude.{may_be_empty, day_in, group_of_item, groups_in, list_in, model_day_in, number_in}
-use Rattle.kd_sheet.proofs.Prelude.{pin_day_in, rings_in, rotor_day_in, window_in, group_for, sheet_wheels, SheetFault}
-use Rattle.kd_sheet.proofs.Prelude.{UnknownModel, Key, has_reflector-Decides, has_wheel-Decides, has_reflector}
-use Rattle.kd_sheet.proofs.Prelude.{AreAllowed, AreApart, AreCables, AreLetters, AreOnWheels, HasAllPins, cable_letters}
-use Rattle.kd_sheet.proofs.Prelude.{plugged_letters, AreSeated, Day, HasLetters, IsDayNumber, IsLegalDay, IsLegalPinDay}
-use Rattle.kd_sheet.proofs.Prelude.{IsLegalRotorDay, OfPins, OfRotors, PinDay, RotorDay, seats, SheetWheel, IsBefore}
-use Rattle.kd_sheet.proofs.Prelude.{IsReading, reading_text, standing_text, letters_of, model_text, reflector_text}
-use Rattle.kd_sheet.proofs.Prelude.{reflectors_of, slots_of, wheel_text, wheels_for, is_capital, letters_text, Model}
-use Rattle.kd_sheet.proofs.Prelude.{M209, Place, Reflector, Wheel, Data, Members, array, integer, member, no_members}
-use Rattle.kd_sheet.proofs.Prelude.{string, items_of}
+use Rattle.kd_sheet.proofs.Prelude.{key_name, capital_letters, letters_at, model_in, reflector_in, cable_text}
+use Rattle.kd_sheet.proofs.Prelude.{pin_texts, seat_text, reflector_by_name, standing_by_text, number_to}
+use Rattle.kd_sheet.proofs.Prelude.{letters_on_wheels, pins_in, pins_of_item, shown_in, is_seated, seat_for}
+use Rattle.kd_sheet.proofs.Prelude.{seat_of_item, seats_in, wheel_for, may_be_empty, day_in, group_of_item, groups_in}
+use Rattle.kd_sheet.proofs.Prelude.{model_day_in, number_in, pin_day_in, rings_in, rotor_day_in, group_for}
+use Rattle.kd_sheet.proofs.Prelude.{sheet_wheels, SheetFault, UnknownModel, Key, has_reflector-Decides}
+use Rattle.kd_sheet.proofs.Prelude.{has_wheel-Decides, has_reflector, AreAllowed, AreApart, AreCables, AreLetters}
+use Rattle.kd_sheet.proofs.Prelude.{AreOnWheels, HasAllPins, cable_letters, plugged_letters, AreSeated, Day, HasLetters}
+use Rattle.kd_sheet.proofs.Prelude.{IsDayNumber, IsLegalDay, IsLegalPinDay, IsLegalRotorDay, OfPins, OfRotors, PinDay}
+use Rattle.kd_sheet.proofs.Prelude.{RotorDay, seats, SheetWheel, IsBefore, IsReading, reading_text, standing_text}
+use Rattle.kd_sheet.proofs.Prelude.{letters_of, model_text, reflector_text, reflectors_of, slots_of, wheel_text}
+use Rattle.kd_sheet.proofs.Prelude.{wheels_for, is_capital, letters_text, Model, M209, Place, Reflector, Wheel, Data}
+use Rattle.kd_sheet.proofs.Prelude.{Members, array, integer, member, no_members, string, items_of}
 use Rattle.kd_sheet.specs.declared.key.Key.TheVariants as keys
 use Rattle.kd_sheet.proofs.CableLetters.{IsFree, AreFree, free_at}
 use Rattle.kd_sheet.proofs.Documents.{list_of-items_of}
@@ -242,7 +242,7 @@ parts_are s legal part low = record {
 }
 
 rotor_again : (s : RotorDay) → IsLegalRotorDay s → rotor_day_in s.day s.model (rotor_table s) ≡ Ok (OfRotors s)
-unfolding rotor_day_in reflector_in rings_in window_in
+unfolding rotor_day_in reflector_in rings_in letters_at
 rotor_again s legal =
     let has = (has_reflector-Decides (reflectors_of s.model) s.reflector).1 legal.reflector in
     let wheels = seats_in_again keys.Wheels s.model (rotor_table s) (seats s.wheels) refl
@@ -258,7 +258,7 @@ rows_in_again s legal =
     (λ k row at. rw (row_again row (held IsReading s.rows k row legal.rows at)) refl) (pin_table s) refl legal.count
 
 pin_again : (s : PinDay) → IsLegalPinDay s → pin_day_in s.day (pin_table s) ≡ Ok (OfPins s)
-unfolding pin_day_in shown_in list_in
+unfolding pin_day_in shown_in letters_at
 pin_again s legal = grind (arith, then_read, rows_in_again, pins_in_again, window_again, capitals_again)
 
 pub legal_is_described : (day : Day) → IsLegalDay day → (table : Members) × (day_in [] table ≡ Ok day)

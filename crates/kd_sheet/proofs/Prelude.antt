@@ -31,7 +31,8 @@ pub use Rattle.kd_sheet.specs.Drum.{is_figure, may_read, row_for, standing_for}
 pub use Rattle.kd_sheet.specs.Key.{key_name}
 pub use Rattle.kd_sheet.specs.Laws.{DaysAreTheEntries, LegalPartsAreReadBack}
 pub use Rattle.kd_sheet.specs.Letters.{capital_letters}
-unfoldable pub use Rattle.kd_sheet.specs.MachineFile.{box_letters_in, known_model_in, machine_in, model_in, parts_in, pin_parts_in, reflector_in, rotor_parts_in, version_in}
+unfoldable pub use Rattle.kd_sheet.specs.Letters.{letters_at}
+unfoldable pub use Rattle.kd_sheet.specs.MachineFile.{known_model_in, machine_in, model_in, parts_in, pin_parts_in, reflector_in, rotor_parts_in, version_in}
 unfoldable pub use Rattle.kd_sheet.specs.MachineText.{machine_text}
 pub use Rattle.kd_sheet.specs.MachineText.{cable_text, key_line, listed, pin_texts, pins_text, quoted, seat_text, version_of}
 unfoldable pub use Rattle.kd_sheet.specs.Names.{model_by_name, reflector_by_name, standing_by_text, wheel_by_name}
@@ -42,7 +43,7 @@ pub use Rattle.kd_sheet.specs.PinWheels.{are_on_wheels, has_capital, is_on, pins
 unfoldable pub use Rattle.kd_sheet.specs.Seats.{is_seated, seat_for, seat_of_item, seats_in, wheel_for}
 pub use Rattle.kd_sheet.specs.Seats.{holds, may_be_empty}
 pub use Rattle.kd_sheet.specs.Sheet.{IsMonth, day_of, month_of}
-unfoldable pub use Rattle.kd_sheet.specs.SheetFile.{day_for, day_in, group_of_item, groups_in, list_in, model_day_in, new_number_in, number_in, pin_day_in, rings_in, rotor_day_in, sheet_in, window_in}
+unfoldable pub use Rattle.kd_sheet.specs.SheetFile.{day_for, day_in, group_of_item, groups_in, model_day_in, new_number_in, number_in, pin_day_in, rings_in, rotor_day_in, sheet_in}
 pub use Rattle.kd_sheet.specs.SheetFile.{group_for, rings_of, sheet_wheels}
 pub use Rattle.kd_sheet.specs.declared.fault.SheetFault.{SheetFault}
 pub use Rattle.kd_sheet.specs.declared.fault.SheetFault.TheVariants.{BadValue, NotToml, UnknownModel}
