@@ -115,10 +115,7 @@ alike_but thing m n o one two here other = elim (cases_thing thing other) [
 
 same_sizes : {X : Type 0} (xs ys : List X) (place : ℕ) → length xs ≡ length ys
     → is_none (slice_get xs place) ≡ is_none (slice_get ys place)
-same_sizes [] [] place same = refl
-same_sizes (x ∷ xs) (y ∷ ys) zero same = refl
-same_sizes (x ∷ xs) (y ∷ ys) (suc place) same = same_sizes xs ys place (omega (arith, same))
-same_sizes xs ys place same = absurd (omega (arith, same))
+same_sizes xs ys place same = grind (arith, slice_get_cases xs place, slice_get_cases ys place)
 
 -- a cable of a machine: in order, and its letters are new before those of some other cables
 record IsInOrder (cable : Option ℕ × Option ℕ) : Type 0 where
