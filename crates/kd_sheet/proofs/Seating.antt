@@ -7,7 +7,6 @@ use Rattle.kd_sheet.proofs.Prelude.{slice_get_within, AllByRecursion, list_any, 
 use Rattle.kd_sheet.proofs.Prelude.{seat_of_item, seats_in, wheel_for, holds, may_be_empty, sheet_wheels, Key}
 use Rattle.kd_sheet.proofs.Prelude.{has_wheel-Decides, same_wheel-Decides, AreAllowed, AreApart, StandsAt, HasLetters}
 use Rattle.kd_sheet.proofs.Prelude.{seats, IsAllowed, slots_of, Model, Wheel, Data, Members}
-use Rattle.kd_sheet.specs.declared.key.Key.TheVariants as keys
 use Rattle.kd_sheet.proofs.InTurn.{Gives, after_any, done, nothing, as_many, read_at, each_is, each_read, tested}
 
 -- ---- one seat
@@ -93,10 +92,6 @@ pub seats_in_fill : (key : Key) (model : Model) (table : Members)
     → Gives (seats_in key model table) (λ slots. (length slots ≡ slots_of model) × FillsSlots key model slots)
 unfolding seats_in
 seats_in_fill key model table = each_read _ (FillsSlots key model) (fill_slots key model) key (slots_of model) table
-
-pub wheels_fill : (model : Model) (table : Members) (slots : List (Option Wheel)) → seats_in keys.Wheels model table ≡ Ok slots
-    → (length slots ≡ slots_of model) × All IsSome slots
-wheels_fill model table slots e = grind (arith, seats_in_fill)
 
 -- ---- the wheels of a day
 
