@@ -1,6 +1,7 @@
 -- What cables do to the letters, pair by pair.
 use Rattle.std.proofs.Common.{◌≡◌, ◌≢◌, ◌⊎◌, ◌↔◌, inl, inr, ℕ, zero, suc, ◌+◌, ◌<◌, Bool, true, false, cond, List, []}
-use Rattle.std.proofs.Common.{◌∷◌, ◌++◌, All, Contains, eqb, length, get_or, set, take, drop, slice_index, refl, sym, ap}
+use Rattle.std.proofs.Common.{◌∷◌, ◌++◌, All, Contains, eqb, length, get_or, set, take, drop, slice_index, refl, sym}
+use Rattle.std.proofs.Common.{ap}
 use Rattle.std.proofs.Common.{◌∙◌, subst, arith, rules, ◌≤◌}
 use Rattle.std.specs.List.{AllByRecursion, IsDistinct, list_any}
 use Rattle.std.proofs.lemmas.Bool.{cases_Bool, cases_eq, eq-eqb, eqb-true, ne_eqb, false_from_ne_true, false≢true}
@@ -27,7 +28,8 @@ AreApart [] = Unit {0}
 AreApart (pair ∷ pairs) =
     (eqb pair.0 pair.1 ≡ false) × (lies_in pair.0 pairs ≡ false) × (lies_in pair.1 pairs ≡ false) × AreApart pairs
 
-free_tells : (x : ℕ) (letters : List ℕ) → (list_any (eqb x) letters ≡ false) ↔ AllByRecursion (λ y. eqb x y ≡ false) letters
+free_tells : (x : ℕ) (letters : List ℕ)
+    → (list_any (eqb x) letters ≡ false) ↔ AllByRecursion (λ y. eqb x y ≡ false) letters
 free_tells x [] = (λ _. tt, λ _. refl)
 free_tells x (y ∷ letters) = grind (arith, nat_tests, free_tells x letters)
 
@@ -42,7 +44,8 @@ IsApart pairs pair = (eqb pair.0 pair.1 ≡ false) × (lies_in pair.0 pairs ≡ 
 
 apart_push : (pairs : List (ℕ × ℕ)) (pair : ℕ × ℕ) → AreApart pairs → IsApart pairs pair → AreApart (pairs ++ pair ∷ [])
 apart_push [] pair apart is = (is.0, refl, refl, tt)
-apart_push (first ∷ pairs) pair apart is = grind (arith, nat_tests, flat_map-append, list_any-append, apart_push pairs pair)
+apart_push (first ∷ pairs) pair apart is = grind
+    (arith, nat_tests, flat_map-append, list_any-append, apart_push pairs pair)
 
 apart_front : (pairs rest : List (ℕ × ℕ)) (pair : ℕ × ℕ) → AreApart (pairs ++ pair ∷ rest) → IsApart pairs pair
 apart_front [] rest pair apart = (apart.0, refl, refl)
@@ -133,7 +136,8 @@ exchange-size : (pairs : List (ℕ × ℕ)) → length (exchange pairs) ≡ 26
 unfolding exchange
 exchange-size pairs = length-map-range_with_len (exchanged pairs) 0 26
 
-exchange_is : (table : List ℕ) (pairs : List (ℕ × ℕ)) → length table ≡ 26 → ((x : ℕ) → x < 26 → slice_index table x ≡ exchanged pairs x) → table ≡ exchange pairs
+exchange_is : (table : List ℕ) (pairs : List (ℕ × ℕ)) → length table ≡ 26 → ((x : ℕ) → x < 26
+    → slice_index table x ≡ exchanged pairs x) → table ≡ exchange pairs
 unfolding exchange
 exchange_is table pairs size each = fill_by_all (exchanged pairs) table 26 0 size each
 
@@ -170,7 +174,8 @@ no_cables = pairs_make_a_plugboard [] ((apart_tells []).1 tt) (All-nil (λ lette
 exchanged_push : (pairs : List (ℕ × ℕ)) (pair : ℕ × ℕ) (x : ℕ) → AreApart pairs → IsApart pairs pair
     → exchanged (pairs ++ pair ∷ []) x ≡ cond (eqb x pair.0) pair.1 (cond (eqb x pair.1) pair.0 (exchanged pairs x))
 exchanged_push [] pair x apart is = refl
-exchanged_push (first ∷ pairs) pair x apart is = grind (arith, nat_tests, exchanged_push pairs pair x, exchanged_free pairs x)
+exchanged_push (first ∷ pairs) pair x apart is = grind
+    (arith, nat_tests, exchanged_push pairs pair x, exchanged_free pairs x)
 
 -- what is so of the pairs plugged in so far, and of the table that they have made
 pub record IsPlugged (board : List ℕ) (pairs : List (ℕ × ℕ)) : Type 0 where
@@ -199,12 +204,23 @@ plugged_push table after pairs pair h can one_lt other_lt e =
     let is : IsApart pairs pair = (ne_eqb pair.0 pair.1 can.0, one, other) in
     let twice : set once pair.1 pair.0 ≡ exchange (pairs ++ pair ∷ []) =
     exchange_is (set once pair.1 pair.0) (pairs ++ pair ∷ []) (length-set once pair.1 pair.0 ∙ size)
-    (λ x lt. grind (arith, nat_tests, common_steps, size, exchange-size pairs, exchange-at pairs x lt, exchanged_push pairs pair x h.apart is)) in
-    let letters = All-cons (λ letter. letter < 26) pair.0 (pair.1 ∷ []) one_lt (All-cons (λ letter. letter < 26) pair.1 [] other_lt (All-nil (λ letter. letter < 26))) in
+    (λ x lt. grind (
+      arith,
+      nat_tests,
+      common_steps,
+      size,
+      exchange-size pairs,
+      exchange-at pairs x lt,
+      exchanged_push
+          pairs pair x h.apart is,
+    )) in
+    let letters = All-cons (λ letter. letter < 26) pair.0 (pair.1 ∷ []) one_lt (All-cons
+    (λ letter. letter < 26) pair.1 [] other_lt (All-nil (λ letter. letter < 26))) in
     record {
       table = e ∙ ap (λ t. set (set t pair.0 pair.1) pair.1 pair.0) h.table ∙ twice;
       apart = apart_push pairs pair h.apart is;
-      letters = rw flat_map-append (All-append (λ letter. letter < 26) (letters_plugged pairs) (pair.0 ∷ pair.1 ∷ []) h.letters letters);
+      letters = rw flat_map-append (All-append (λ letter. letter < 26) (letters_plugged pairs)
+          (pair.0 ∷ pair.1 ∷ []) h.letters letters);
     }
 
 module _ (all : List (ℕ × ℕ)) (place : ℕ) (table : List ℕ) (h : IsPlugged table (take place all)) where

@@ -23,7 +23,8 @@ unfolding path
 path_turned key window shown = refl
 
 -- enciphered twice, each letter is what it was
-twice_from : TablesAreSound → (key : RotorKey) (start : ℕ) (text : List ℕ) → IsPlugboard key.plugs → All (λ letter. letter < 26) text
+twice_from : TablesAreSound → (key : RotorKey) (start : ℕ) (text : List ℕ) → IsPlugboard key.plugs
+    → All (λ letter. letter < 26) text
     → cipher_from key start (cipher_from key start text) ≡ text
 twice_from sound key start [] board h = refl
 twice_from sound key start (letter ∷ text) board h =
@@ -61,6 +62,7 @@ pub one_more : (key : RotorKey) (text : List ℕ) (n d light : ℕ) → n < leng
     → enigma_cipher key (get_or text n d ∷ []) ≡ light ∷ []
     → take n text ++ enigma_cipher key (drop n text) ≡ take (n + 1) (set text n light) ++ enigma_cipher (key_after key 1) (drop (n + 1) (set text n light))
 one_more key [] n d light lt e = absurd (omega arith)
-one_more key (letter ∷ text) zero d light lt e = cipher_in_turn key (letter ∷ []) text ∙ ap (λ l. l ++ enigma_cipher (key_after key 1) text) e
+one_more key (letter ∷ text) zero d light lt e = cipher_in_turn key (letter ∷ []) text
+    ∙ ap (λ l. l ++ enigma_cipher (key_after key 1) text) e
 one_more key (letter ∷ text) (suc n) d light lt e =
     let rest = one_more key text n d light (omega arith) e in rw (add-one (suc n)) (ap (λ l. letter ∷ l) (rw (add-one n) at rest))

@@ -172,7 +172,8 @@ path_exchanges sound key window board =
 
 pub paths_lead_back : TablesAreSound → PathsLeadBack
 paths_lead_back sound key window board =
-    each_letter (λ x. slice_index (path key window) (slice_index (path key window) x) ≡ x) (path_exchanges sound key window board).back
+    each_letter (λ x. slice_index (path key window) (slice_index (path key window) x)
+    ≡ x) (path_exchanges sound key window board).back
 
 pub paths_move_each_letter : TablesAreSound → PathsMoveEachLetter
 paths_move_each_letter sound key window board =

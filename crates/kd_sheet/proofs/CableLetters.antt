@@ -71,7 +71,8 @@ module _ {X : Type 0} (letters_in : X → List ℕ) where
       ∙ ap (λ y. y ∷ drop (k + 1) plugged) (get_or_from_slice_get plugged k x x at)) in
       let letters : flat_map letters_in plugged ≡ front ++ (letters_in x ++ rest) =
       ap (flat_map letters_in) here ∙ flat_map-append letters_in (take k plugged) (x ∷ drop (k + 1) plugged) in
-      let low = recursion_from_All (λ letter. letter < 26) (front ++ (letters_in x ++ rest)) (rw (← letters) free.within) in
+      let low = recursion_from_All (λ letter. letter < 26) (front ++ (letters_in x ++ rest)) (rw
+      (← letters) free.within) in
       let lie = all_parts (λ letter. letter < 26) front (letters_in x ++ rest) low in
       let apart : IsDistinct nat_eq ((front ++ letters_in x) ++ rest) = rw (append_assoc, ← letters) free.apart in
       let alone = ((apart_behind (front ++ letters_in x) rest).0 apart).1 in
@@ -109,13 +110,15 @@ filled_up cables few free =
 pub are_cables : (table : Members) → Gives (cables_in table) AreCables
 unfolding cables_in
 are_cables table =
-    after _ _ _ _ (if_there (get_member (key_name keys.Cables) table) _ _ _ (all_free cable_letters cable_for cable_read keys.Cables 13)
+    after _ _ _ _ (if_there (get_member (key_name keys.Cables) table) _ _ _
+    (all_free cable_letters cable_for cable_read keys.Cables 13)
     (omega arith, record { within = All-nil (λ letter. letter < 26); apart = no_letters }))
     (λ cables free. done AreCables _ (filled_up cables free.0 free.1))
 
 -- ---- pairs
 
-two_of : (letters : List ℕ) → AreLetters 2 letters → pair_letters (slice_index letters 0, slice_index letters 1) ≡ letters
+two_of : (letters : List ℕ) → AreLetters 2 letters
+    → pair_letters (slice_index letters 0, slice_index letters 1) ≡ letters
 two_of (one ∷ other ∷ []) are = refl
 two_of letters are = absurd (omega (arith, are.count))
 

@@ -103,14 +103,26 @@ module _ {A : Type 0} where
         → on reading values (drop place (map view items))
         ≡ on reading (values ++ value ∷ []) (drop (place + 1) (map view items))
     read_more value is =
-        rw (drop_more (map view items) place (view item) (omega (arith, length-map items view)), viewed_at items place item left here, append-nil, ← is)
+        rw (
+          drop_more (map view items) place (view item) (omega
+              (arith, length-map items view)),
+          viewed_at items place item left here,
+          append-nil,
+          ← is,
+        )
         (simp append_assoc (grind arith))
 
     -- the first fault
     pub read_stops : (fault : SheetFault) → Err fault ≡ reading values (view item)
         → on reading values (drop place (map view items)) ≡ Err fault
     read_stops fault is =
-        rw (drop_more (map view items) place (view item) (omega (arith, length-map items view)), viewed_at items place item left here, append-nil, ← is) refl
+        rw (
+          drop_more (map view items) place (view item) (omega
+              (arith, length-map items view)),
+          viewed_at items place item left here,
+          append-nil,
+          ← is,
+        ) refl
 
   -- as many values as items, and each is read of its item behind the earlier ones
   pub as_many : (reading : List A → Data → Result A SheetFault) (items : List Data)
@@ -119,7 +131,8 @@ module _ {A : Type 0} where
   as_many reading (item ∷ items) values e =
       let first = given (reading [] item) _ values e in
       let more = given (in_turn (λ earlier. reading (first.0 ∷ earlier)) items) _ values first.2 in
-      ap length (sym (same_found _ _ more.2)) ∙ ap suc (as_many (λ earlier. reading (first.0 ∷ earlier)) items more.0 more.1)
+      ap length (sym (same_found _ _ more.2))
+      ∙ ap suc (as_many (λ earlier. reading (first.0 ∷ earlier)) items more.0 more.1)
 
   pub read_at : (reading : List A → Data → Result A SheetFault) (items : List Data) (values : List A)
       → in_turn reading items ≡ Ok values → (k : ℕ) (d : Data) (e : A) → k < length items
@@ -142,7 +155,8 @@ module _ {A : Type 0} where
 
   -- what holds of no values, and with each one that is read of one more, holds of all
   pub keeps : (reading : List A → Data → Result A SheetFault) (Holds : List A → Type 0) → Holds []
-      → ((done : List A) (item : Data) (value : A) → Holds done → reading done item ≡ Ok value → Holds (done ++ value ∷ []))
+      → ((done : List A) (item : Data) (value : A) → Holds done → reading done item ≡ Ok value
+      → Holds (done ++ value ∷ []))
       → (items : List Data) → Gives (in_turn reading items) Holds
   keeps reading Holds start more [] = done Holds [] start
   keeps reading Holds start more (item ∷ items) =

@@ -15,7 +15,8 @@ use Rattle.kd_sheet.proofs.Prelude.{box_of, reflectors_of, slots_of, Model, M209
 use Rattle.kd_sheet.specs.declared.key.Key.TheVariants as keys
 use Rattle.kd_sheet.proofs.Bounds.{day_number_within, capitals_are_letters, rings_in_letters, letters_at_are}
 use Rattle.kd_sheet.proofs.CableLetters.{are_cables, are_pairs}
-use Rattle.kd_sheet.proofs.InTurn.{Gives, after, after_any, done, given, tested, there_was, some_if, then_read, nothing, as_many, read_at, each_is, each_read, some_read}
+use Rattle.kd_sheet.proofs.InTurn.{Gives, after, after_any, done, given, tested, there_was, some_if, then_read, nothing}
+use Rattle.kd_sheet.proofs.InTurn.{as_many, read_at, each_is, each_read, some_read}
 use Rattle.kd_sheet.proofs.PinLetters.{on_wheels}
 use Rattle.kd_sheet.proofs.Seating.{seats_in_fill, seats-sheet_wheels, wheels_have_letters}
 
@@ -77,7 +78,8 @@ text_bar earlier item bar e = grind (arith, there_was, standing_read, none-some)
 
 bars_in_bars : (table : Members) → Gives (bars_in table) (Each IsStanding 27)
 unfolding bars_in
-bars_in_bars table = each_read standing_for (All IsStanding) (each_is standing_for IsStanding text_bar) keys.Bars 27 table
+bars_in_bars table = each_read standing_for (All IsStanding)
+    (each_is standing_for IsStanding text_bar) keys.Bars 27 table
 
 -- ---- pins, and the letters that pin wheels show
 

@@ -105,7 +105,8 @@ pub texts_written : (key : Key) (ts : List (List ℕ)) → AllByRecursion IsPlai
 texts_written key [] plain = grind arith
 texts_written key (text ∷ ts) plain =
     let rest = are_written ts plain.1 in
-    let writes : IsItemsText false false true (items_of (map string (text ∷ ts))) (quoted text ++ (behind ts ++ codes "]")) =
+    let writes : IsItemsText false false true (items_of (map string (text ∷ ts))) (quoted text ++
+    (behind ts ++ codes "]")) =
     (quoted text, behind ts ++ codes "]", refl, quoted_is text plain.0, rest.writes) in
     record {
       writes = grind (arith, append_assoc, quoted, one_line);
@@ -262,7 +263,8 @@ rotor_parts_again : (m : RotorParts) → IsLegalRotor m
 unfolding rotor_parts_in reflector_in letters_at
 rotor_parts_again m legal =
     let has = (has_reflector-Decides (reflectors_of m.model) m.reflector).1 legal.reflector in
-    let seated = seats_in_again keys.Slots m.model (rotor_table m) m.slots refl (λ k d within. may_stand (get_or m.slots k d))
+    let seated = seats_in_again keys.Slots m.model (rotor_table m) m.slots refl (λ k d within. may_stand
+    (get_or m.slots k d))
     (record { count = legal.slots; allowed = legal.allowed; apart = legal.apart }) in
     grind (arith, then_read, reflector_again, capitals_again, cables_in_again)
 

@@ -25,7 +25,8 @@ month_size days = length-map-range_with_len (λ n. find (has n) days) 1 31
 
 month_at : (days : List Day) (place : ℕ) (d : Option Day) → place < 31
     → get_or (month_of days) place d ≡ find (has (suc place)) days
-month_at days place d within = get_or-map-range_with_len (λ n. find (has n) days) 1 31 place (suc place) d within (omega arith)
+month_at days place d within = get_or-map-range_with_len (λ n. find (has n) days) 1 31 place (suc place) d within
+    (omega arith)
 
 -- the month's day of a number is the first of the days that has it
 pub day_of_month : (days : List Day) (number : ℕ) → IsDayNumber number
@@ -98,8 +99,10 @@ month_more days new is free =
     let size = length-set (month_of days) at (Some new) ∙ month_size days in
     same_lists _ _ (size ∙ sym (month_size (days ++ new ∷ []))) (λ k d within.
     let inside : k < 31 = omega (arith, size) in
-    rw (month_at (days ++ new ∷ []) k d inside, found_more days new (suc k) free) (elim (cases_eq (day_number new) (suc k)) [
-      | inl same ↦ rw (eq-eqb _ _ same) (get_or-set_at (month_of days) at k (Some new) d (omega arith) (omega (arith, month_size days)))
+    rw (month_at (days ++ new ∷ []) k d inside, found_more days new (suc k) free) (elim (cases_eq (day_number new)
+    (suc k)) [
+      | inl same ↦ rw (eq-eqb _ _ same) (get_or-set_at (month_of days) at k (Some new) d (omega arith) (omega
+          (arith, month_size days)))
       | inr differs ↦ rw (ne_eqb _ _ differs)
           (get_or-set_other (month_of days) at k (Some new) d (λ e. differs (omega arith)) ∙ month_at days k d inside)
     ]))

@@ -55,7 +55,13 @@ module _ {X : Type 0} (key : Key) (count : ℕ) (text_of : X → List ℕ) (thin
   up_to_again few =
       let read = again reading text_of things each in
       let items = map string (map text_of things) in
-      let fits : length items ≤ count = omega (arith, few, length-map (map text_of things) string, length-map things text_of) in
+      let fits : length items ≤ count = omega (
+        arith,
+        few,
+        length-map
+            (map text_of things) string,
+        length-map things text_of,
+      ) in
       rw (list_of-items_of items, le-leb (length items) count fits) read
 
 -- ---- letters
@@ -98,7 +104,8 @@ seat_again key model slots None may allowed apart k at = rw may refl
 seat_again key model slots (Some wheel) may allowed apart k at =
     let within = slice_get_within slots k (Some wheel) at in
     let before : length (take k slots) ≡ k = length-take-le k slots (omega arith) in
-    let among_them = (has_wheel-Decides (wheels_for model (length (take k slots) + 1)) wheel).1 (rw before (allowed k wheel at)) in
+    let among_them = (has_wheel-Decides (wheels_for model (length (take k slots) + 1)) wheel).1 (rw before
+    (allowed k wheel at)) in
     let free : is_seated (take k slots) wheel ≡ false = false_from_ne_true _ (λ seated.
     let among = (is_seated-Decides (take k slots) wheel).0 seated in
     let stands : slice_get slots among.0 ≡ Some (Some wheel) = grind (arith, common_steps, gets) in
@@ -230,7 +237,8 @@ groups_in_again : (s : RotorDay) → IsLegalRotorDay s → groups_in (rotor_tabl
 unfolding groups_in
 groups_in_again s legal =
     up_to_again keys.Groups 4 letters_text s.groups group_for
-    (λ k group at. group_again (take k s.groups) group (held (AreLetters 3) s.groups k group legal.groups at)) legal.few_groups
+    (λ k group at. group_again (take k s.groups) group (held
+    (AreLetters 3) s.groups k group legal.groups at)) legal.few_groups
 
 -- what each wheel has, the ring or the letter in the window
 parts_are : (s : RotorDay) → IsLegalRotorDay s → (part : SheetWheel → ℕ)

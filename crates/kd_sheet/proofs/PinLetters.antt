@@ -66,7 +66,8 @@ counted text letter = count_by (λ byte. byte == letter + 65) text
 has_counted : (text : List ℕ) (letter : ℕ) → has_capital text letter ≡ nat_lt 0 (counted text letter)
 has_counted [] letter = refl
 has_counted (byte ∷ text) letter =
-    let more : counted (byte ∷ text) letter ≡ cond (byte == letter + 65) 1 0 + counted text letter = sum_by-cons _ byte text in
+    let more : counted (byte ∷ text) letter
+    ≡ cond (byte == letter + 65) 1 0 + counted text letter = sum_by-cons _ byte text in
     rw more (grind (arith, nat_tests, has_counted text letter))
 
 first_counted : (x : ℕ) (ring : List ℕ) (pin : Bool) (pins : List Bool) (letter : ℕ)

@@ -4,4 +4,5 @@ use Rattle.kd_sheet.proofs.cables.thirteen.Goals as goal
 
 pub returns : goal.returns
 returns c =
-    rw c.copy_from_slice.ensures.after (ap (λ rest. c.args.cables.now ++ rest) (drop-replicate (length c.args.cables.now) 13 (None, None)))
+    rw c.copy_from_slice.ensures.after (ap (λ rest. c.args.cables.now ++ rest) (drop-replicate
+    (length c.args.cables.now) 13 (None, None)))
