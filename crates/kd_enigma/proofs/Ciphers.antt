@@ -6,6 +6,7 @@ use Rattle.std.specs.List.{enumerate_from}
 use Rattle.kd_tables.specs.declared.wheel.Wheel.{Wheel}
 use Rattle.kd_step.specs.Stepper.{next_window, window_after}
 use Rattle.kd_enigma.specs.Cipher.{RotorKey, IsPlugboard, key_turned, key_after, path, enigma_cipher}
+use Rattle.kd_enigma.specs.Laws.{TwiceGivesBack, CipherInTurn, KeyInTurn}
 use Rattle.kd_enigma.specs.Sound.{TablesAreSound}
 use Rattle.kd_enigma.proofs.Ways.{path_exchanges}
 
@@ -17,12 +18,13 @@ abbrev cipher_from : RotorKey → ℕ → List ℕ → List ℕ
 cipher_from key start text = map (λ numbered. lit key numbered.0 numbered.1) (enumerate_from start text)
 
 -- the window is no part of the path's other parts
-pub path-turned : (key : RotorKey) (window shown : List ℕ) → path (key_turned key window) shown ≡ path key shown
+pub path_turned : (key : RotorKey) (window shown : List ℕ) → path (key_turned key window) shown ≡ path key shown
 unfolding path
-path-turned key window shown = refl
+path_turned key window shown = refl
 
 -- enciphered twice, each letter is what it was
-pub twice_from : TablesAreSound → (key : RotorKey) (start : ℕ) (text : List ℕ) → IsPlugboard key.plugs → All (λ letter. letter < 26) text
+twice_from : TablesAreSound → (key : RotorKey) (start : ℕ) (text : List ℕ) → IsPlugboard key.plugs
+    → All (λ letter. letter < 26) text
     → cipher_from key start (cipher_from key start text) ≡ text
 twice_from sound key start [] board h = refl
 twice_from sound key start (letter ∷ text) board h =
@@ -30,27 +32,29 @@ twice_from sound key start (letter ∷ text) board h =
     ((path_exchanges sound key (window_after key.wheels key.window start) board).back letter (All-head (λ l. l < 26) letter text h))
     ∙ ap (λ ls. letter ∷ ls) (twice_from sound key (start + 1) text board (All-tail (λ l. l < 26) letter text h))
 
+pub twice_gives_back : TablesAreSound → TwiceGivesBack
+twice_gives_back sound key text = twice_from sound key 1 text
+
 -- ---- a text in two pieces
 
 window_after_sum : (wheels : List Wheel) (window : List ℕ) (m n : ℕ) → window_after wheels (window_after wheels window m) n ≡ window_after wheels window (m + n)
 window_after_sum wheels window m zero = ap (window_after wheels window) (sym (add-zero m))
 window_after_sum wheels window m (suc n) = ap (next_window wheels) (window_after_sum wheels window m n) ∙ ap (window_after wheels window) (sym (add-suc m n))
 
-pub key_after_sum : (key : RotorKey) (m n : ℕ) → key_after (key_after key m) n ≡ key_after key (m + n)
-key_after_sum key m n = ap (key_turned key) (window_after_sum key.wheels key.window m n)
+pub key_in_turn : KeyInTurn
+key_in_turn key m n = ap (key_turned key) (window_after_sum key.wheels key.window m n)
 
 -- what is enciphered later is enciphered on the key of that time
 later : (key : RotorKey) (m start : ℕ) (text : List ℕ) → cipher_from key (m + start) text ≡ cipher_from (key_after key m) start text
 later key m start [] = refl
-later key m start (letter ∷ text) = search (rules, key, window_after_sum, path-turned, later key m (start + 1) text)
+later key m start (letter ∷ text) = search (rules, key, window_after_sum, path_turned, later key m (start + 1) text)
 
 append_from : (key : RotorKey) (start : ℕ) (first rest : List ℕ) → cipher_from key start (first ++ rest) ≡ cipher_from key start first ++ cipher_from key (start + length first) rest
 append_from key start [] rest = ap (λ n. cipher_from key n rest) (sym (add-zero start))
 append_from key start (letter ∷ first) rest = grind (arith, key, append_from key (start + 1) first rest)
 
-pub cipher-append : (key : RotorKey) (first rest : List ℕ)
-    → enigma_cipher key (first ++ rest) ≡ enigma_cipher key first ++ enigma_cipher (key_after key (length first)) rest
-cipher-append key first rest =
+pub cipher_in_turn : CipherInTurn
+cipher_in_turn key first rest =
     append_from key 1 first rest ∙ ap (λ ls. enigma_cipher key first ++ ls) (ap (λ n. cipher_from key n rest) (omega arith) ∙ later key (length first) 1 rest)
 
 -- a letter more is enciphered, and the rest is so on the key that it leaves
@@ -58,6 +62,7 @@ pub one_more : (key : RotorKey) (text : List ℕ) (n d light : ℕ) → n < leng
     → enigma_cipher key (get_or text n d ∷ []) ≡ light ∷ []
     → take n text ++ enigma_cipher key (drop n text) ≡ take (n + 1) (set text n light) ++ enigma_cipher (key_after key 1) (drop (n + 1) (set text n light))
 one_more key [] n d light lt e = absurd (omega arith)
-one_more key (letter ∷ text) zero d light lt e = cipher-append key (letter ∷ []) text ∙ ap (λ l. l ++ enigma_cipher (key_after key 1) text) e
+one_more key (letter ∷ text) zero d light lt e = cipher_in_turn key (letter ∷ []) text
+    ∙ ap (λ l. l ++ enigma_cipher (key_after key 1) text) e
 one_more key (letter ∷ text) (suc n) d light lt e =
     let rest = one_more key text n d light (omega arith) e in rw (add-one (suc n)) (ap (λ l. letter ∷ l) (rw (add-one n) at rest))

@@ -10,6 +10,7 @@ use Rattle.kd_tables.specs.declared.wheel.Wheel.{Wheel}
 use Rattle.kd_tables.specs.declared.reflector.Reflector.{Reflector}
 use Rattle.kd_enigma.specs.Rotor.{turned, rotor}
 use Rattle.kd_enigma.specs.Cipher.{RotorKey, IsPlugboard, rotors, product, path}
+use Rattle.kd_enigma.specs.Laws.{PathsLeadBack, PathsMoveEachLetter}
 use Rattle.kd_enigma.specs.Sound.{TablesAreSound, PermutationLaws}
 
 -- ---- letters
@@ -168,3 +169,12 @@ pub path_exchanges : TablesAreSound → (key : RotorKey) (window : List ℕ) →
     → Exchanges (path key window)
 path_exchanges sound key window board =
     search (rules, nested_exchanges, rotors_permute, reflectors_exchange, path_is, key, board, conjugate, boards_undo)
+
+pub paths_lead_back : TablesAreSound → PathsLeadBack
+paths_lead_back sound key window board =
+    each_letter (λ x. slice_index (path key window) (slice_index (path key window) x)
+    ≡ x) (path_exchanges sound key window board).back
+
+pub paths_move_each_letter : TablesAreSound → PathsMoveEachLetter
+paths_move_each_letter sound key window board =
+    each_letter (λ x. slice_index (path key window) x ≢ x) (path_exchanges sound key window board).moves

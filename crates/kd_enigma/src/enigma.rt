@@ -86,6 +86,7 @@ impl<const S: usize> Enigma<S> {
     }
 
     /// Presses a key: the wheels step, and then a letter lights up.
+    #[tactic(auto, using(crate::proofs::Ciphers::path_turned), unfolding(crate::specs::Cipher::path))]
     pub fn press(&mut self, letter: Letter) -> Letter
         ensures cipher { enigma_cipher self.old (letter ∷ []) ≡ result ∷ [] }
         ensures after { self.new ≡ key_after self.old 1 }

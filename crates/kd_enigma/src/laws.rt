@@ -25,6 +25,7 @@ pub(crate) fn tables_are_sound()
 
 /// Pairs in which no letter lies twice make a plugboard, on which a letter becomes the other letter of its pair; the
 /// order of the pairs, and of the two letters of a pair, makes no difference.
+#[tactic(auto, using(crate::proofs::Cables::pairs_make_a_plugboard, crate::proofs::Cables::same_pairs_exchange_alike))]
 pub fn pairs_make_a_plugboard()
     ensures plugboard { PairsMakeAPlugboard }
     ensures exchanged { PairsExchange }
@@ -32,11 +33,13 @@ pub fn pairs_make_a_plugboard()
 {}
 
 /// A board without cables exchanges no letters, and is a plugboard.
+#[tactic(auto, using(crate::proofs::Cables::no_cables))]
 pub fn an_empty_board_is_a_plugboard()
     ensures { IsPlugboard (exchange []) }
 {}
 
 /// The current that comes back by the way that it took leads each letter to another one, and that one back.
+#[tactic(auto, using(crate::proofs::Ways::paths_lead_back, crate::proofs::Ways::paths_move_each_letter))]
 pub fn path_is_its_own_inverse()
     ensures own_inverse { PathsLeadBack }
     ensures none_fixed { PathsMoveEachLetter }
@@ -45,6 +48,7 @@ pub fn path_is_its_own_inverse()
 }
 
 /// Enciphering twice on the same key gives the text back.
+#[tactic(auto, using(crate::proofs::Ciphers::twice_gives_back))]
 pub fn enciphering_twice_gives_back()
     ensures { TwiceGivesBack }
 {
@@ -52,6 +56,7 @@ pub fn enciphering_twice_gives_back()
 }
 
 /// A text in two pieces is enciphered piece by piece, on the key that the first piece leaves.
+#[tactic(auto, using(crate::proofs::Ciphers::cipher_in_turn, crate::proofs::Ciphers::key_in_turn))]
 pub fn pieces_are_enciphered_in_turn()
     ensures cipher { CipherInTurn }
     ensures after { KeyInTurn }

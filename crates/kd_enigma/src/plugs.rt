@@ -41,10 +41,8 @@ impl Plugs {
         ensures plugboard { IfOk result IsPlugboard }
     {
         let mut table = unplugged();
-        let mut left = pairs;
-        while let Some(((one, other), others)) = left.split_last() {
+        for (one, other) in pairs {
             plug(&mut table, *one, *other)?;
-            left = others;
         }
         Ok(Plugs { table })
     }

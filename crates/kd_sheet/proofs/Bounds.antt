@@ -1,9 +1,9 @@
 -- Numbers and letters that are read lie within their bounds.
 use Rattle.kd_sheet.proofs.Prelude.{List, Some, [], arith, filter_map, is_some, length, refl, true, ℕ, ◌<◌, ◌∷◌, ◌≡◌}
 use Rattle.kd_sheet.proofs.Prelude.{◌≤◌, eqb-true, leb-true, nat_tests, length-map, All-from_recursion, none-some}
-use Rattle.kd_sheet.proofs.Prelude.{AllByRecursion, list_all, value_at, capital_letters, box_letters_in, number_to}
-use Rattle.kd_sheet.proofs.Prelude.{numbered_letter, list_in, number_in, rings_in, window_in, rings_of, Key, AreLetters}
-use Rattle.kd_sheet.proofs.Prelude.{IsDayNumber, box_of, letters_of, slots_of, is_capital, Model, Data, Members}
+use Rattle.kd_sheet.proofs.Prelude.{AllByRecursion, list_all, value_at, capital_letters, letters_at, number_to}
+use Rattle.kd_sheet.proofs.Prelude.{numbered_letter, number_in, rings_in, rings_of, Key, AreLetters, IsDayNumber}
+use Rattle.kd_sheet.proofs.Prelude.{letters_of, slots_of, is_capital, Model, Data, Members}
 use Rattle.kd_sheet.proofs.InTurn.{Gives, given, there_was, some_if}
 
 number_within : (last : ℕ) (value : Data) (number : ℕ) → number_to last value ≡ Some number
@@ -42,15 +42,6 @@ pub rings_in_letters : (model : Model) (table : Members) → Gives (rings_in mod
 unfolding rings_in
 rings_in_letters model table rings e = grind (arith, given, there_was, rings_are_letters)
 
-pub window_in_letters : (model : Model) (table : Members) → Gives (window_in model table) (AreLetters (slots_of model))
-unfolding window_in
-window_in_letters model table window e = grind (arith, given, there_was, capitals_are_letters)
-
-pub list_in_letters : (table : Members) → Gives (list_in table) (AreLetters 2)
-unfolding list_in
-list_in_letters table list e = grind (arith, given, there_was, capitals_are_letters)
-
-pub box_letters_in_letters : (key : Key) (model : Model) (table : Members)
-    → Gives (box_letters_in key model table) (AreLetters (length (box_of model)))
-unfolding box_letters_in
-box_letters_in_letters key model table letters e = grind (arith, given, there_was, capitals_are_letters)
+pub letters_at_are : (key : Key) (count : ℕ) (table : Members) → Gives (letters_at key count table) (AreLetters count)
+unfolding letters_at
+letters_at_are key count table letters e = grind (arith, given, there_was, capitals_are_letters)

@@ -1,17 +1,88 @@
 -- The cables that an array tells, their letters, and the pairs that they join.
-use Rattle.kd_sheet.proofs.Prelude.{All, List, None, Ok, Option, [], arith, length, nat_eq, refl, replicate, suc, true}
-use Rattle.kd_sheet.proofs.Prelude.{zero, ℕ, ◌++◌, ◌<◌, ◌∷◌, ◌≡◌, ◌≤◌, eqb-true, leb-true, common_steps, append-nil}
-use Rattle.kd_sheet.proofs.Prelude.{flat_map-append, All-append, All-nil, filter_map-append, IsPermutation-append_comm}
-use Rattle.kd_sheet.proofs.Prelude.{IsDistinct-IsPermutation, none-some, IsDistinct, all_cables_in, cable_for}
-use Rattle.kd_sheet.proofs.Prelude.{cables_in, pairs_in, plugged_letters_in, cable_of, may_have, pairs_of, thirteen}
-use Rattle.kd_sheet.proofs.Prelude.{key_name, Key, letters_plugged, eqb_flips, new_tells, no_letters, AreCables}
-use Rattle.kd_sheet.proofs.Prelude.{cable_letters, plugged_letters, are_new, ArePairs, Data, Members, get_member}
+use Rattle.kd_sheet.proofs.Prelude.{All, List, None, Ok, Option, Result, Some, [], ap, append_assoc, arith, drop}
+use Rattle.kd_sheet.proofs.Prelude.{length, nat_eq, refl, replicate, slice_get, slice_index, suc, sym, take, true, zero}
+use Rattle.kd_sheet.proofs.Prelude.{ℕ, ◌++◌, ◌+◌, ◌<◌, ◌↔◌, ◌∙◌, ◌∷◌, ◌≡◌, ◌≤◌, leb-true, common_steps, append-nil}
+use Rattle.kd_sheet.proofs.Prelude.{drop_more, take-append-drop, flat_map-append, All-append, All-from_recursion}
+use Rattle.kd_sheet.proofs.Prelude.{All-nil, recursion_from_All, IsPermutation-append_comm, IsDistinct-IsPermutation}
+use Rattle.kd_sheet.proofs.Prelude.{get_or_from_slice_get, none-some, slice_get_within, IsDistinct, AllByRecursion}
+use Rattle.kd_sheet.proofs.Prelude.{flat_map, cable_for, cables_in, letters_in_cable, pair_for, pairs_in, cable_of}
+use Rattle.kd_sheet.proofs.Prelude.{pair_letters, thirteen, up_to, value_at, key_name, SheetFault, Key, eqb_flips}
+use Rattle.kd_sheet.proofs.Prelude.{new_tells, no_letters, AreCables, AreLetters, cable_letters, plugged_letters}
+use Rattle.kd_sheet.proofs.Prelude.{are_new, ArePairs, Data, Members, get_member}
 use Rattle.kd_sheet.specs.declared.key.Key.TheVariants as keys
-use Rattle.kd_sheet.proofs.Bounds.{letters_read}
-use Rattle.kd_sheet.proofs.InTurn.{Gives, after, after_any, done, if_there, some_if, some_read}
+use Rattle.kd_sheet.proofs.Bounds.{letters_read, capitals_are_letters}
+use Rattle.kd_sheet.proofs.InTurn.{Gives, after, after_any, done, if_there, some_if, there_was, keeps, some_read}
 
-abbrev pub Cable : Type 0
-Cable = Option ℕ × Option ℕ
+-- ---- what is plugged, each with letters of its own
+
+pub apart_behind : (plugged letters : List ℕ) → IsDistinct nat_eq (plugged ++ letters)
+    ↔ ((are_new letters plugged ≡ true) × IsDistinct nat_eq plugged)
+apart_behind plugged letters = (
+  λ apart. (new_tells letters plugged).0
+      (IsDistinct-IsPermutation nat_eq eqb_flips _ _ (IsPermutation-append_comm plugged letters) apart),
+  λ new. IsDistinct-IsPermutation nat_eq eqb_flips _ _ (IsPermutation-append_comm letters plugged)
+      ((new_tells letters plugged).1 new),
+)
+
+pub all_parts : {X : Type 0} (P : X → Type 0) (xs ys : List X) → AllByRecursion P (xs ++ ys)
+    → AllByRecursion P xs × AllByRecursion P ys
+all_parts P [] ys all = (tt, all)
+all_parts P (x ∷ xs) ys all = let rest = all_parts P xs ys all.1 in ((all.0, rest.0), rest.1)
+
+-- letters of the alphabet, of which none lies in what is plugged before
+pub record IsFree {X : Type 0} (letters_in : X → List ℕ) (before : List X) (x : X) : Type 0 where
+  pub within : All (λ letter. letter < 26) (letters_in x)
+  pub new : are_new (letters_in x) (flat_map letters_in before) ≡ true
+
+pub record AreFree {X : Type 0} (letters_in : X → List ℕ) (plugged : List X) : Type 0 where
+  pub within : All (λ letter. letter < 26) (flat_map letters_in plugged)
+  pub apart : IsDistinct nat_eq (flat_map letters_in plugged)
+
+module _ {X : Type 0} (letters_in : X → List ℕ) where
+  one_more : (plugged : List X) (x : X) → AreFree letters_in plugged → IsFree letters_in plugged x
+      → AreFree letters_in (plugged ++ x ∷ [])
+  one_more plugged x so_far free =
+      let now : flat_map letters_in (plugged ++ x ∷ []) ≡ flat_map letters_in plugged ++ letters_in x =
+      rw (flat_map-append, append-nil) refl in
+      record {
+        within = rw now (All-append (λ letter. letter < 26) _ _ so_far.within free.within);
+        apart = rw now ((apart_behind _ _).1 (free.new, so_far.apart));
+      }
+
+  -- of so many items at most
+  pub all_free : (reading : List X → Data → Result X SheetFault)
+      → ((before : List X) (item : Data) (x : X) → reading before item ≡ Ok x → IsFree letters_in before x)
+      → (key : Key) (count : ℕ) (value : Data)
+      → Gives (up_to key count reading value) (λ plugged. (length plugged ≤ count) × AreFree letters_in plugged)
+  all_free reading free =
+      some_read reading (AreFree letters_in) (keeps reading (AreFree letters_in)
+      (record { within = All-nil (λ letter. letter < 26); apart = no_letters })
+      (λ plugged item x so_far is. one_more plugged x so_far (free plugged item x is)))
+
+  -- each is free behind those before it
+  pub free_at : (plugged : List X) (k : ℕ) (x : X) → AreFree letters_in plugged → slice_get plugged k ≡ Some x
+      → IsFree letters_in (take k plugged) x
+  free_at plugged k x free at =
+      let within = slice_get_within plugged k x at in
+      let front = flat_map letters_in (take k plugged) in
+      let rest = flat_map letters_in (drop (k + 1) plugged) in
+      let here : plugged ≡ take k plugged ++ x ∷ drop (k + 1) plugged =
+      sym (take-append-drop k plugged) ∙ ap (λ more. take k plugged ++ more) (drop_more plugged k x within
+      ∙ ap (λ y. y ∷ drop (k + 1) plugged) (get_or_from_slice_get plugged k x x at)) in
+      let letters : flat_map letters_in plugged ≡ front ++ (letters_in x ++ rest) =
+      ap (flat_map letters_in) here ∙ flat_map-append letters_in (take k plugged) (x ∷ drop (k + 1) plugged) in
+      let low = recursion_from_All (λ letter. letter < 26) (front ++ (letters_in x ++ rest)) (rw
+      (← letters) free.within) in
+      let lie = all_parts (λ letter. letter < 26) front (letters_in x ++ rest) low in
+      let apart : IsDistinct nat_eq ((front ++ letters_in x) ++ rest) = rw (append_assoc, ← letters) free.apart in
+      let alone = ((apart_behind (front ++ letters_in x) rest).0 apart).1 in
+      record {
+        within = All-from_recursion (λ letter. letter < 26) (letters_in x)
+            (all_parts (λ letter. letter < 26) (letters_in x) rest lie.1).0;
+        new = ((apart_behind front (letters_in x)).0 alone).0;
+      }
+
+-- ---- cables
 
 pub two_letters : (letters : List ℕ) → length letters ≤ 2 → cable_letters (cable_of letters) ≡ letters
 two_letters [] few = refl
@@ -19,103 +90,46 @@ two_letters (one ∷ []) few = refl
 two_letters (one ∷ other ∷ []) few = refl
 two_letters letters few = absurd (omega arith)
 
-few_letters : (key : Key) (count : ℕ) → may_have key count ≡ true → count ≤ 2
-few_letters key count may = grind (arith, leb-true, eqb-true)
+cable_read : (cables : List (Option ℕ × Option ℕ)) (item : Data) (cable : Option ℕ × Option ℕ)
+    → cable_for cables item ≡ Ok cable → IsFree cable_letters cables cable
+unfolding cable_for letters_in_cable
+cable_read cables item cable e = grind (arith, some_if, letters_read, two_letters, leb-true, none-some)
 
--- what an item plugs behind these cables
-record IsCable (key : Key) (cables : List Cable) (cable : Cable) : Type 0 where
-  may : may_have key (length (cable_letters cable)) ≡ true
-  within : All (λ letter. letter < 26) (cable_letters cable)
-  free : are_new (cable_letters cable) (plugged_letters cables) ≡ true
-
-cable_read : (key : Key) (cables : List Cable) (item : Data) (cable : Cable) → cable_for key cables item ≡ Ok cable
-    → IsCable key cables cable
-unfolding cable_for plugged_letters_in
-cable_read key cables item cable e = grind (arith, some_if, letters_read, two_letters, few_letters, none-some)
-
--- none of the letters lies in two places; and those of a sheet's cables are those of the pairs that they join
-record AreFree (key : Key) (cables : List Cable) : Type 0 where
-  within : All (λ letter. letter < 26) (plugged_letters cables)
-  apart : IsDistinct nat_eq (plugged_letters cables)
-  joined : key ≡ keys.Plugs → plugged_letters cables ≡ letters_plugged (pairs_of cables)
-
-letters_more : (cables more : List Cable)
-    → plugged_letters (cables ++ more) ≡ plugged_letters cables ++ plugged_letters more
-letters_more cables more = rw flat_map-append refl
-
-pub apart_behind : (plugged letters : List ℕ) → IsDistinct nat_eq plugged → are_new letters plugged ≡ true
-    → IsDistinct nat_eq (plugged ++ letters)
-apart_behind plugged letters apart new =
-    IsDistinct-IsPermutation nat_eq eqb_flips _ _ (IsPermutation-append_comm letters plugged)
-    ((new_tells letters plugged).1 (new, apart))
-
--- a sheet's cable has two letters
-pair_joined : (cable : Cable) → may_have keys.Plugs (length (cable_letters cable)) ≡ true
-    → cable_letters cable ≡ letters_plugged (pairs_of (cable ∷ []))
-pair_joined cable may = grind (arith, eqb-true)
-
-one_more : (key : Key) (cables : List Cable) (item : Data) (cable : Cable) → AreFree key cables
-    → cable_for key cables item ≡ Ok cable → AreFree key (cables ++ cable ∷ [])
-one_more key cables item cable free e =
-    let here = cable_read key cables item cable e in
-    let now : plugged_letters (cables ++ cable ∷ []) ≡ plugged_letters cables ++ cable_letters cable =
-    rw (letters_more, append-nil) refl in
-    record {
-      within = rw now (All-append (λ letter. letter < 26) _ _ free.within here.within);
-      apart = rw now (apart_behind _ _ free.apart here.free);
-      joined = grind (arith, filter_map-append, flat_map-append, free.joined, pair_joined);
-    }
-
-pub none_in : (n : ℕ) → (plugged_letters (replicate n (None, None)) ≡ []) × (pairs_of (replicate n (None, None)) ≡ [])
-none_in zero = (refl, refl)
+none_in : (n : ℕ) → plugged_letters (replicate n (None, None)) ≡ []
+none_in zero = refl
 none_in (suc n) = none_in n
 
 -- with empty cables behind them
-record ArePlugged (key : Key) (cables : List Cable) : Type 0 where
-  are : AreCables cables
-  pairs : key ≡ keys.Plugs → ArePairs (pairs_of cables)
-
-few_joined : (cables : List Cable) → length (pairs_of cables) ≤ length cables
-few_joined [] = omega arith
-few_joined (cable ∷ cables) = grind (arith, few_joined cables)
-
-filled_up : (key : Key) (cables : List Cable) → length cables ≤ 13 → AreFree key cables
-    → ArePlugged key (thirteen cables)
-filled_up key cables few free =
+filled_up : (cables : List (Option ℕ × Option ℕ)) → length cables ≤ 13 → AreFree cable_letters cables
+    → AreCables (thirteen cables)
+filled_up cables few free =
     let letters : plugged_letters (thirteen cables) ≡ plugged_letters cables =
-    rw (letters_more, (none_in _).0, append-nil) refl in
-    let pairs : pairs_of (thirteen cables) ≡ pairs_of cables = rw (filter_map-append, (none_in _).1, append-nil) refl in
-    record {
-      are = record {
-        count = grind (arith, common_steps);
-        within = rw letters free.within;
-        apart = rw letters free.apart;
-      };
-      pairs = λ plugs. rw pairs (record {
-        few = omega (arith, few, few_joined cables);
-        within = rw (← free.joined plugs) free.within;
-        apart = rw (← free.joined plugs) free.apart;
-      });
-    }
-
-no_cable : (key : Key) → AreFree key []
-no_cable key = record { within = All-nil (λ letter. letter < 26); apart = no_letters; joined = λ plugs. refl }
-
-all_are_cables : (key : Key) (value : Data) → Gives (all_cables_in key value) (ArePlugged key)
-unfolding all_cables_in
-all_are_cables key value =
-    after _ _ _ _ (some_read (cable_for key) (AreFree key) (no_cable key) (one_more key) key 13 value)
-    (λ cables free. done (ArePlugged key) _ (filled_up key cables free.0 free.1))
+    rw (flat_map-append, none_in _, append-nil) refl in
+    record { count = grind (arith, common_steps); within = rw letters free.within; apart = rw letters free.apart }
 
 pub are_cables : (table : Members) → Gives (cables_in table) AreCables
 unfolding cables_in
 are_cables table =
-    if_there (get_member (key_name keys.Cables) table) _ _ AreCables
-    (λ value cables e. (all_are_cables keys.Cables value cables e).are)
-    (filled_up keys.Cables [] (omega arith) (no_cable keys.Cables)).are
+    after _ _ _ _ (if_there (get_member (key_name keys.Cables) table) _ _ _
+    (all_free cable_letters cable_for cable_read keys.Cables 13)
+    (omega arith, record { within = All-nil (λ letter. letter < 26); apart = no_letters }))
+    (λ cables free. done AreCables _ (filled_up cables free.0 free.1))
+
+-- ---- pairs
+
+two_of : (letters : List ℕ) → AreLetters 2 letters
+    → pair_letters (slice_index letters 0, slice_index letters 1) ≡ letters
+two_of (one ∷ other ∷ []) are = refl
+two_of letters are = absurd (omega (arith, are.count))
+
+pair_read : (pairs : List (ℕ × ℕ)) (item : Data) (pair : ℕ × ℕ) → pair_for pairs item ≡ Ok pair
+    → IsFree pair_letters pairs pair
+unfolding pair_for
+pair_read pairs item pair e = grind (arith, there_was, capitals_are_letters, two_of, none-some)
 
 pub are_pairs : (table : Members) → Gives (pairs_in table) ArePairs
 unfolding pairs_in
 are_pairs table =
-    after_any _ _ _ (λ value. after _ _ _ _ (all_are_cables keys.Plugs value)
-    (λ cables are. done ArePairs _ (are.pairs refl)))
+    after_any (value_at keys.Plugs table) (up_to keys.Plugs 13 pair_for) ArePairs (λ value pairs e.
+    let free = all_free pair_letters pair_for pair_read keys.Plugs 13 value pairs e in
+    record { few = free.0; within = free.1.within; apart = free.1.apart })

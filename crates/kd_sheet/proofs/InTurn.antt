@@ -1,11 +1,11 @@
 -- What is read of items one after another, each given what those before it are; and what a reading that succeeds
 -- has found on its way.
-use Rattle.kd_sheet.proofs.Prelude.{Bool, Err, List, None, Ok, Option, Result, Some, [], ap, arith, cond, get_or}
-use Rattle.kd_sheet.proofs.Prelude.{length, map, nat_le, ok_or, refl, replicate, subst, take, true, ℕ, ◌++◌, ◌+◌, ◌-◌}
-use Rattle.kd_sheet.proofs.Prelude.{◌<◌, ◌==◌, ◌∙◌, ◌∷◌, ◌≡◌, ◌≤◌, eqb-true, leb-true, common_steps, append-nil}
-use Rattle.kd_sheet.proofs.Prelude.{drop_more, length-append, length-map, take-append-drop, take_more, map-id}
-use Rattle.kd_sheet.proofs.Prelude.{none-some, same_Some, AllByRecursion, option_map_or, demand, each_at, in_turn}
-use Rattle.kd_sheet.proofs.Prelude.{items_at, items_in, up_to, ◌>>=◌, ◌>>◌, holds, SheetFault, Key, Data, Members, view}
+use Rattle.kd_sheet.proofs.Prelude.{All, Bool, Err, List, None, Ok, Option, Result, Some, [], ap, append_assoc, arith}
+use Rattle.kd_sheet.proofs.Prelude.{cond, drop, get_or, length, map, nat_le, ok_or, refl, slice_get, subst, suc, sym}
+use Rattle.kd_sheet.proofs.Prelude.{take, true, zero, ℕ, ◌++◌, ◌+◌, ◌<◌, ◌==◌, ◌∙◌, ◌∷◌, ◌≡◌, ◌≤◌, eqb-true, leb-true}
+use Rattle.kd_sheet.proofs.Prelude.{common_steps, append-nil, drop_more, drop_all, length-map, gets, none-some}
+use Rattle.kd_sheet.proofs.Prelude.{same_Some, slice_get_within, option_map_or, demand, each_at, in_turn, items_at}
+use Rattle.kd_sheet.proofs.Prelude.{items_in, up_to, ◌>>=◌, ◌>>◌, holds, SheetFault, Key, Data, Members, string, view}
 use Rattle.kd_sheet.proofs.Prelude.{Value}
 use Rattle.kd_sheet.proofs.Documents.{viewed_at}
 
@@ -79,126 +79,119 @@ passing test fault next result e d = grind arith
 
 -- ---- items, one after another
 
+-- what is read for an item past the end
+abbrev pub nothing : Data
+nothing = string []
+
 module _ {A : Type 0} where
   -- the values of some items, and what is read of more behind them
-  abbrev on : (List A → Data → Result A SheetFault) → List A → List Data → Result (List A) SheetFault
+  abbrev pub on : (List A → Data → Result A SheetFault) → List A → List Data → Result (List A) SheetFault
   on reading values items = in_turn (λ more. reading (values ++ more)) items >>= (λ more. Ok (values ++ more))
 
-  joined : (reading : List A → Data → Result A SheetFault) (front rest : List Data) (values : List A)
-      → in_turn reading front ≡ Ok values → in_turn reading (front ++ rest) ≡ on reading values rest
-  joined reading [] rest values e =
-      subst (λ vs. in_turn reading rest ≡ on reading vs rest) (same_found _ _ e) (grind arith)
-  joined reading (item ∷ front) rest values e =
-      let first = given (reading [] item) _ values e in
-      let more = given (in_turn (λ earlier. reading (first.0 ∷ earlier)) front) _ values first.2 in
-      let rest_is = joined (λ earlier. reading (first.0 ∷ earlier)) front rest more.0 more.1 in
-      subst (λ vs. in_turn reading (item ∷ front ++ rest) ≡ on reading vs rest) (same_found _ _ more.2)
-      (then_read _ _ _ _ first.1 (ap (λ answer. answer >>= (λ more. Ok (first.0 ∷ more))) rest_is ∙ grind arith))
+  pub on_none : (reading : List A → Data → Result A SheetFault) (items : List Data)
+      → in_turn reading items ≡ on reading [] items
+  on_none reading items = grind arith
+
+  pub on_all : (reading : List A → Data → Result A SheetFault) (values : List A) (items : List Data) (place : ℕ)
+      → length items ≤ place → on reading values (drop place items) ≡ Ok values
+  on_all reading values items place past = rw drop_all (ap Ok (append-nil values))
 
   module _ (reading : List A → Data → Result A SheetFault) (items : List Value) (place : ℕ) (item : Value)
-      (left : place < length items) (here : item ≡ get_or items place item) (values : List A)
-      (before : in_turn reading (take place (map view items)) ≡ Ok values) where
+      (left : place < length items) (here : item ≡ get_or items place item) (values : List A) where
     -- one item more
     pub read_more : (value : A) → Ok value ≡ reading values (view item)
-        → in_turn reading (take (place + 1) (map view items)) ≡ Ok (values ++ value ∷ [])
-    read_more value is = grind (arith, take_more (map view items) place (view item), length-map, viewed_at items place item, joined reading (take place (map view items)) (view item ∷ []), append-nil)
+        → on reading values (drop place (map view items))
+        ≡ on reading (values ++ value ∷ []) (drop (place + 1) (map view items))
+    read_more value is =
+        rw (
+          drop_more (map view items) place (view item) (omega
+              (arith, length-map items view)),
+          viewed_at items place item left here,
+          append-nil,
+          ← is,
+        )
+        (simp append_assoc (grind arith))
 
     -- the first fault
     pub read_stops : (fault : SheetFault) → Err fault ≡ reading values (view item)
-        → in_turn reading (map view items) ≡ Err fault
+        → on reading values (drop place (map view items)) ≡ Err fault
     read_stops fault is =
         rw (
-          ← take-append-drop place (map view items),
-          drop_more (map view items) place (view item) (omega (arith, length-map items view)),
+          drop_more (map view items) place (view item) (omega
+              (arith, length-map items view)),
           viewed_at items place item left here,
-          joined reading (take place (map view items)) _ values before,
           append-nil,
           ← is,
         ) refl
 
-  -- what holds of no items, and with each one that is read of one more, holds of all
-  pub keeps : (reading : List A → Data → Result A SheetFault) (Holds : List Data → List A → Type 0) → Holds [] []
-      → ((earlier : List Data) (done : List A) (item : Data) (value : A) → Holds earlier done
-      → reading done item ≡ Ok value → Holds (earlier ++ item ∷ []) (done ++ value ∷ []))
-      → (items : List Data) → Gives (in_turn reading items) (Holds items)
-  keeps reading Holds start more [] = done (Holds []) [] start
-  keeps reading Holds start more (item ∷ items) =
-      after (reading [] item) _ _ _ (λ value. more [] [] item value start) (λ value so_far.
-      after (in_turn (λ done. reading (value ∷ done)) items) _ _ _
-      (keeps (λ done. reading (value ∷ done)) (λ xs ys. Holds (item ∷ xs) (value ∷ ys)) so_far
-      (λ earlier done. more (item ∷ earlier) (value ∷ done)) items)
-      (λ values all. done (Holds (item ∷ items)) (value ∷ values) all))
-
-  module _ (reading : List A → Data → Result A SheetFault) (Holds : List A → Type 0) (start : Holds [])
-      (more : (done : List A) (item : Data) (value : A) → Holds done → reading done item ≡ Ok value
-      → Holds (done ++ value ∷ [])) where
-    -- as many values as items, and what holds of them
-    pub counted : (items : List Data)
-        → Gives (in_turn reading items) (λ values. (length values ≡ length items) × Holds values)
-    counted = keeps reading (λ items values. (length values ≡ length items) × Holds values) (refl, start)
-        (λ earlier done item value so_far is. (
-          omega (arith, so_far.0, length-append earlier (item ∷ []), length-append done (value ∷ [])),
-          more done item value so_far.1 is,
-        ))
-
-    pub each_read : (key : Key) (count : ℕ) (table : Members)
-        → Gives (each_at key count reading table) (λ values. (length values ≡ count) × Holds values)
-    each_read key count table =
-        after_any (items_at key table) _ _ (λ items. tested (length items == count) _ _ _ (λ same values e.
-        let all = counted items values e in (all.0 ∙ eqb-true _ _ same, all.1)))
-
-    pub some_read : (key : Key) (count : ℕ) (value : Data)
-        → Gives (up_to key count reading value) (λ values. (length values ≤ count) × Holds values)
-    some_read key count value =
-        after_any (items_in key value) _ _ (λ items. tested (nat_le (length items) count) _ _ _ (λ few values e.
-        let all = counted items values e in (omega (arith, leb-true _ _ few, all.0), all.1)))
-
-  as_many : (reading : List A → Data → Result A SheetFault) (items : List Data)
+  -- as many values as items, and each is read of its item behind the earlier ones
+  pub as_many : (reading : List A → Data → Result A SheetFault) (items : List Data)
       → Gives (in_turn reading items) (λ values. length values ≡ length items)
-  as_many reading items values e = (counted reading (λ _. Unit {0}) tt (λ _ _ _ _ _. tt) items values e).0
+  as_many reading [] values e = ap length (sym (same_found _ _ e))
+  as_many reading (item ∷ items) values e =
+      let first = given (reading [] item) _ values e in
+      let more = given (in_turn (λ earlier. reading (first.0 ∷ earlier)) items) _ values first.2 in
+      ap length (sym (same_found _ _ more.2))
+      ∙ ap suc (as_many (λ earlier. reading (first.0 ∷ earlier)) items more.0 more.1)
 
-  module _ (reading : List A → Data → Result A SheetFault) (items : List Data) (n : ℕ) (blank : A) where
-    abbrev behind : List A → Result (List A) SheetFault
-    behind values = Ok (values ++ replicate (n - length values) blank)
+  pub read_at : (reading : List A → Data → Result A SheetFault) (items : List Data) (values : List A)
+      → in_turn reading items ≡ Ok values → (k : ℕ) (d : Data) (e : A) → k < length items
+      → reading (take k values) (get_or items k d) ≡ Ok (get_or values k e)
+  read_at reading [] values is k d e within = absurd (omega arith)
+  read_at reading (item ∷ items) values is zero d e within = grind (arith, given)
+  read_at reading (item ∷ items) values is (suc k) d e within =
+      let first = given (reading [] item) _ values is in
+      let more = given (in_turn (λ earlier. reading (first.0 ∷ earlier)) items) _ values first.2 in
+      subst (λ vs. reading (take (suc k) vs) (get_or items k d) ≡ Ok (get_or vs (suc k) e)) (same_found _ _ more.2)
+      (read_at (λ earlier. reading (first.0 ∷ earlier)) items more.0 more.1 k d e (omega arith))
 
-    -- no place is blank where there is an item for each
-    pub filled : length items ≡ n → (in_turn reading items >>= behind) ≡ in_turn reading items
-    filled same = grind (arith, as_many reading items, append-nil)
+  -- what holds of each value that is read
+  pub each_is : (reading : List A → Data → Result A SheetFault) (P : A → Type 0)
+      → ((earlier : List A) (item : Data) (x : A) → reading earlier item ≡ Ok x → P x)
+      → (items : List Data) → Gives (in_turn reading items) (All P)
+  each_is reading P has items values e k d within =
+      has (take k values) (get_or items k nothing) (get_or values k d)
+      (read_at reading items values e k nothing d (omega (arith, as_many reading items values e)))
 
-    -- what stands before the blanks
-    pub front_filled : (values : List A) → (in_turn reading items >>= behind) ≡ Ok values
-        → in_turn reading items ≡ Ok (take (length items) values)
-    front_filled values e = grind (arith, common_steps, as_many reading items)
+  -- what holds of no values, and with each one that is read of one more, holds of all
+  pub keeps : (reading : List A → Data → Result A SheetFault) (Holds : List A → Type 0) → Holds []
+      → ((done : List A) (item : Data) (value : A) → Holds done → reading done item ≡ Ok value
+      → Holds (done ++ value ∷ []))
+      → (items : List Data) → Gives (in_turn reading items) Holds
+  keeps reading Holds start more [] = done Holds [] start
+  keeps reading Holds start more (item ∷ items) =
+      after (reading [] item) _ _ _ (λ value. more [] item value start) (λ value so_far.
+      after (in_turn (λ done. reading (value ∷ done)) items) _ _ _
+      (keeps (λ done. reading (value ∷ done)) (λ ys. Holds (value ∷ ys)) so_far (λ done. more (value ∷ done)) items)
+      (λ values all. done Holds (value ∷ values) all))
 
-  -- things that are read again
-  pub read_again : {X : Type 0} (reading : List A → Data → Result A SheetFault) (item_of : X → Data) (value_of : X → A)
-      (all : List X)
-      → ((front rest : List X) (x : X) → all ≡ front ++ x ∷ rest
-      → reading (map value_of front) (item_of x) ≡ Ok (value_of x))
-      → in_turn reading (map item_of all) ≡ Ok (map value_of all)
-  read_again reading item_of value_of [] each = refl
-  read_again reading item_of value_of (x ∷ all) each =
-      rw (
-        each [] all x refl,
-        read_again (λ done. reading (value_of x ∷ done)) item_of value_of all
-            (λ front rest y is. each (x ∷ front) rest y (ap (λ ys. x ∷ ys) is)),
-      ) refl
+  -- what is so read of an array of which the number of items is told
+  module _ (reading : List A → Data → Result A SheetFault) (Holds : List A → Type 0)
+      (all : (items : List Data) → Gives (in_turn reading items) Holds) (key : Key) (count : ℕ) where
+    pub each_read : (table : Members)
+        → Gives (each_at key count reading table) (λ values. (length values ≡ count) × Holds values)
+    each_read table =
+        after_any (items_at key table) _ _ (λ items. tested (length items == count) _ _ _ (λ same values e. (
+          as_many reading items values e ∙ eqb-true _ _ same,
+          all items values e,
+        )))
 
-  -- and as themselves
-  pub again : (reading : List A → Data → Result A SheetFault) (item_of : A → Data) (all : List A)
-      → ((front rest : List A) (x : A) → all ≡ front ++ x ∷ rest → reading front (item_of x) ≡ Ok x)
-      → in_turn reading (map item_of all) ≡ Ok all
-  again reading item_of all each =
-      read_again reading item_of (λ x. x) all (λ front rest x is. rw map-id (each front rest x is)) ∙ ap Ok (map-id all)
+    pub some_read : (value : Data)
+        → Gives (up_to key count reading value) (λ values. (length values ≤ count) × Holds values)
+    some_read value =
+        after_any (items_in key value) _ _ (λ items. tested (nat_le (length items) count) _ _ _ (λ few values e. (
+          omega (arith, as_many reading items values e, leb-true _ _ few),
+          all items values e,
+        )))
 
-  pub each_again : (reading : List A → Data → Result A SheetFault) (item_of : A → Data) (P : A → Type 0)
-      → ((earlier : List A) (x : A) → P x → reading earlier (item_of x) ≡ Ok x)
-      → (all : List A) → AllByRecursion P all → in_turn reading (map item_of all) ≡ Ok all
-  each_again reading item_of P read [] has = refl
-  each_again reading item_of P read (x ∷ all) has =
-      rw (read [] x has.0, each_again (λ done. reading (x ∷ done)) item_of P (λ done. read (x ∷ done)) all has.1) refl
+  -- things that are read again, by their texts
+  pub again : (reading : List A → Data → Result A SheetFault) (text_of : A → List ℕ) (all : List A)
+      → ((k : ℕ) (x : A) → slice_get all k ≡ Some x → reading (take k all) (string (text_of x)) ≡ Ok x)
+      → in_turn reading (map string (map text_of all)) ≡ Ok all
+  again reading text_of [] each = refl
+  again reading text_of (x ∷ all) each =
+      rw (each 0 x refl, again (λ done. reading (x ∷ done)) text_of all (λ k. each (suc k))) refl
 
--- what holds of all holds of one
-pub at_joined : {X : Type 0} (P : X → Type 0) (front : List X) (x : X) (rest : List X) → AllByRecursion P (front ++ x ∷ rest) → P x
-at_joined P [] x rest all = all.0
-at_joined P (y ∷ front) x rest all = at_joined P front x rest all.1
+-- what stands at a place has what all have
+pub held : {X : Type 0} (P : X → Type 0) (xs : List X) (k : ℕ) (x : X) → All P xs → slice_get xs k ≡ Some x → P x
+held P xs k x all at = grind (arith, common_steps, gets, slice_get_within)

@@ -1,28 +1,28 @@
 -- The machine and the day that a table describes are legal.
-use Rattle.kd_sheet.proofs.Prelude.{All, Bool, Contains, IsSome, List, Ok, Result, Some, [], arith, bytes_eq, false}
-use Rattle.kd_sheet.proofs.Prelude.{find, get_or, inl, inr, length, nat_lt, not, refl, subst, suc, sym, true, ℕ, ◌++◌}
-use Rattle.kd_sheet.proofs.Prelude.{◌+◌, ◌-◌, ◌<◌, ◌==◌, ◌∙◌, ◌∷◌, ◌≡◌, ◌≤◌, cases_Bool, leb-true, ltb-true, not-true}
-use Rattle.kd_sheet.proofs.Prelude.{nat_tests, common_steps, All-contains, All-from_recursion, All-nil, All-push}
-use Rattle.kd_sheet.proofs.Prelude.{recursion_from_All, AllPass-from_list_all, none-some, same_Some, list_any, each_at}
+use Rattle.kd_sheet.proofs.Prelude.{All, Bool, Contains, IsSome, List, Ok, Some, [], arith, bytes_eq, false, find}
+use Rattle.kd_sheet.proofs.Prelude.{get_or, inl, inr, length, nat_lt, not, refl, subst, suc, sym, true, ℕ, ◌+◌, ◌-◌}
+use Rattle.kd_sheet.proofs.Prelude.{◌<◌, ◌==◌, ◌∙◌, ◌∷◌, ◌≡◌, ◌≤◌, cases_Bool, leb-true, ltb-true, not-true, nat_tests}
+use Rattle.kd_sheet.proofs.Prelude.{common_steps, length-take-le, All-contains, All-from_recursion, All-nil}
+use Rattle.kd_sheet.proofs.Prelude.{recursion_from_All, AllPass-from_list_all, none-some, same_Some, list_any, in_turn}
 use Rattle.kd_sheet.proofs.Prelude.{bars_in, row_of_text, rows_in, is_figure, may_read, row_for, standing_for, model_in}
 use Rattle.kd_sheet.proofs.Prelude.{pin_parts_in, reflector_in, rotor_parts_in, reflector_by_name, standing_by_text}
 use Rattle.kd_sheet.proofs.Prelude.{letters_on_wheels, pins_in, pins_of_item, pins_of_text, shown_in, pins_behind}
-use Rattle.kd_sheet.proofs.Prelude.{all_groups_in, day_in, group_of_item, groups_in, model_day_in, new_number_in}
-use Rattle.kd_sheet.proofs.Prelude.{number_in, pin_day_in, rotor_day_in, group_for, SheetFault, Key, AreLetters}
-use Rattle.kd_sheet.proofs.Prelude.{AreOnWheels, HasAllPins, IsLegalPin, IsLegalRotor, pin_set, Day, IsDayNumber}
-use Rattle.kd_sheet.proofs.Prelude.{IsLegalDay, day_number, IsBefore, IsReading, in_order, place_rank, standing_text}
-use Rattle.kd_sheet.proofs.Prelude.{standings, ring_of, reflectors_of, Model, M209, Place, Data, Members}
+use Rattle.kd_sheet.proofs.Prelude.{day_in, group_of_item, groups_in, model_day_in, new_number_in, number_in}
+use Rattle.kd_sheet.proofs.Prelude.{pin_day_in, rotor_day_in, group_for, Key, AreLetters, AreOnWheels, HasAllPins}
+use Rattle.kd_sheet.proofs.Prelude.{IsLegalPin, IsLegalRotor, pin_set, Day, IsDayNumber, IsLegalDay, day_number}
+use Rattle.kd_sheet.proofs.Prelude.{IsBefore, IsReading, in_order, place_rank, standing_text, standings, ring_of}
+use Rattle.kd_sheet.proofs.Prelude.{box_of, reflectors_of, slots_of, Model, M209, Place, Data, Members}
 use Rattle.kd_sheet.specs.declared.key.Key.TheVariants as keys
-use Rattle.kd_sheet.proofs.Bounds.{day_number_within, capitals_are_letters, rings_in_letters, window_in_letters}
-use Rattle.kd_sheet.proofs.Bounds.{list_in_letters, box_letters_in_letters}
+use Rattle.kd_sheet.proofs.Bounds.{day_number_within, capitals_are_letters, rings_in_letters, letters_at_are}
 use Rattle.kd_sheet.proofs.CableLetters.{are_cables, are_pairs}
-use Rattle.kd_sheet.proofs.InTurn.{Gives, after, after_any, done, given, tested, there_was, some_if, then_read, each_read, some_read}
+use Rattle.kd_sheet.proofs.InTurn.{Gives, after, after_any, done, given, tested, there_was, some_if, then_read, nothing}
+use Rattle.kd_sheet.proofs.InTurn.{as_many, read_at, each_is, each_read, some_read}
 use Rattle.kd_sheet.proofs.PinLetters.{on_wheels}
 use Rattle.kd_sheet.proofs.Seating.{seats_in_fill, seats-sheet_wheels, wheels_have_letters}
 
 -- ---- reflectors
 
-found_there : {X : Type 0} (p : X → Bool) (xs : List X) (x : X) → find p xs ≡ Some x → Contains xs x
+pub found_there : {X : Type 0} (p : X → Bool) (xs : List X) (x : X) → find p xs ≡ Some x → Contains xs x
 found_there p [] x e = absurd (none-some x e)
 found_there p (y ∷ xs) x e = elim (cases_Bool (p y)) [
   | inl is ↦ (0, omega arith, same_Some y x (rw is at e))
@@ -39,14 +39,6 @@ reflector_there model table reflector e = grind (arith, given, there_was, found_
 abbrev Each : {A : Type 0} → (A → Type 0) → ℕ → List A → Type 0
 Each P count xs = (length xs ≡ count) × All P xs
 
-module _ {A : Type 0} (reading : List A → Data → Result A SheetFault) (P : A → Type 0)
-    (has : (earlier : List A) (item : Data) (x : A) → reading earlier item ≡ Ok x → P x) where
-  more_read : (done : List A) (item : Data) (x : A) → All P done → reading done item ≡ Ok x → All P (done ++ x ∷ [])
-  more_read done item x all e = All-push P done x all (has done item x e)
-
-  all_read : (key : Key) (count : ℕ) (table : Members) → Gives (each_at key count reading table) (Each P count)
-  all_read = each_read reading (All P) (All-nil P) more_read
-
 group_read : (earlier : List (List ℕ)) (item : Data) (group : List ℕ)
     → group_for earlier item ≡ Ok group → AreLetters 3 group
 unfolding group_of_item
@@ -54,11 +46,9 @@ group_read earlier item group e = grind (arith, there_was, capitals_are_letters,
 
 groups_in_groups : (table : Members)
     → Gives (groups_in table) (λ groups. (length groups ≤ 4) × All (AreLetters 3) groups)
-unfolding groups_in all_groups_in
+unfolding groups_in
 groups_in_groups table groups e =
-    let read = some_read group_for (All (AreLetters 3)) (All-nil (AreLetters 3))
-    (more_read group_for (AreLetters 3) group_read)
-    keys.Groups 4 in
+    let read = some_read group_for (All (AreLetters 3)) (each_is group_for (AreLetters 3) group_read) keys.Groups 4 in
     grind (arith, read, All-nil (AreLetters 3))
 
 row_is_reading : (one other : ℕ) → is_figure one ≡ true → is_figure other ≡ true → may_read one other ≡ true
@@ -71,7 +61,7 @@ row_read earlier item row e = grind (arith, there_was, some_if, row_is_reading, 
 
 rows_in_rows : (table : Members) → Gives (rows_in table) (Each IsReading 27)
 unfolding rows_in
-rows_in_rows table = all_read row_for IsReading row_read keys.Rows 27 table
+rows_in_rows table = each_read row_for (All IsReading) (each_is row_for IsReading row_read) keys.Rows 27 table
 
 abbrev IsStanding : Place × Place → Type 0
 IsStanding bar = IsBefore bar.0 bar.1
@@ -88,7 +78,8 @@ text_bar earlier item bar e = grind (arith, there_was, standing_read, none-some)
 
 bars_in_bars : (table : Members) → Gives (bars_in table) (Each IsStanding 27)
 unfolding bars_in
-bars_in_bars table = all_read standing_for IsStanding text_bar keys.Bars 27 table
+bars_in_bars table = each_read standing_for (All IsStanding)
+    (each_is standing_for IsStanding text_bar) keys.Bars 27 table
 
 -- ---- pins, and the letters that pin wheels show
 
@@ -102,9 +93,11 @@ abbrev Fit : List (List Bool) → Type 0
 Fit lists = (place : ℕ) (d : List Bool) → place < length lists
     → length (get_or lists place d) ≡ length (ring_of (place + 1))
 
-fit_more : (lists : List (List Bool)) (item : Data) (pins : List Bool) → Fit lists → pins_behind lists item ≡ Ok pins
-    → Fit (lists ++ pins ∷ [])
-fit_more lists item pins fit e place d within = grind (arith, common_steps, text_pins, fit)
+all_fit : (items : List Data) → Gives (in_turn pins_behind items) Fit
+all_fit items lists e place d within =
+    let few : place ≤ length lists = omega arith in
+    let read = read_at pins_behind items lists e place nothing d (omega (arith, as_many pins_behind items lists e)) in
+    rw length-take-le at (text_pins _ (get_or items place nothing) (get_or lists place d) read)
 
 six_fit : (lists : List (List Bool)) → length lists ≡ 6 → Fit lists → HasAllPins (pin_set lists)
 unfolding ring_of
@@ -113,7 +106,7 @@ six_fit lists six fit = grind (arith, fit)
 pins_in_fit : (table : Members) → Gives (pins_in table) HasAllPins
 unfolding pins_in
 pins_in_fit table =
-    after _ _ _ _ (each_read pins_behind Fit (λ place d within. absurd (omega arith)) fit_more keys.Pins 6 table)
+    after _ _ _ _ (each_read pins_behind Fit all_fit keys.Pins 6 table)
     (λ lists all. done HasAllPins _ (six_fit lists all.0 all.1))
 
 letters_shown : (key : Key) (table : Members) → Gives (shown_in key table) AreOnWheels
@@ -127,12 +120,12 @@ unfolding rotor_parts_in
 rotor_parts_legal model table =
     after _ _ _ _ (reflector_there model table) (λ reflector there.
     after _ _ _ _ (seats_in_fill keys.Slots model table) (λ slots fill.
-    after _ _ _ _ (box_letters_in_letters keys.Rings model table) (λ rings are_rings.
-    after _ _ _ _ (box_letters_in_letters keys.Letters model table) (λ letters are_letters.
+    after _ _ _ _ (letters_at_are keys.Rings (length (box_of model)) table) (λ rings are_rings.
+    after _ _ _ _ (letters_at_are keys.Letters (length (box_of model)) table) (λ letters are_letters.
     after _ _ _ _ (are_cables table) (λ cables are. done IsLegalRotor _ (record {
-      slots = fill.seated.count;
-      allowed = fill.seated.allowed;
-      apart = fill.seated.apart;
+      slots = fill.0;
+      allowed = fill.1.allowed;
+      apart = fill.1.apart;
       reflector = there;
       rings = are_rings;
       letters = are_letters;
@@ -160,15 +153,15 @@ rotor_day number model table is =
     after _ _ _ _ (reflector_there model table) (λ reflector there.
     after _ _ _ _ (seats_in_fill keys.Wheels model table) (λ slots fill.
     after _ _ _ _ (rings_in_letters model table) (λ rings are_rings.
-    after _ _ _ _ (window_in_letters model table) (λ window are_letters.
+    after _ _ _ _ (letters_at_are keys.Window (slots_of model) table) (λ window are_letters.
     after _ _ _ _ (are_pairs table) (λ pairs are_pairs.
     after _ _ _ _ (groups_in_groups table) (λ groups are_groups.
-    let seated = seats-sheet_wheels slots rings window (recursion_from_All IsSome _ (fill.filled refl))
-    (are_rings.count ∙ sym fill.seated.count) (are_letters.count ∙ sym fill.seated.count) in done (IsDay number) _ (
+    let seated = seats-sheet_wheels slots rings window (recursion_from_All IsSome _ (fill.1.filled refl))
+    (are_rings.count ∙ sym fill.0) (are_letters.count ∙ sym fill.0) in done (IsDay number) _ (
       record {
         day = is;
         reflector = there;
-        wheels = rw seated fill.seated;
+        wheels = rw seated (record { count = fill.0; allowed = fill.1.allowed; apart = fill.1.apart });
         letters = grind (arith, All-from_recursion, wheels_have_letters, recursion_from_All);
         pairs = are_pairs;
         few_groups = are_groups.0;
@@ -179,14 +172,7 @@ rotor_day number model table is =
 
 pub pin_day : (number : ℕ) (table : Members) → IsDayNumber number → Gives (pin_day_in number table) (IsDay number)
 unfolding pin_day_in
-pin_day number table is =
-    after _ _ _ _ (rows_in_rows table) (λ rows are_rows.
-    after _ _ _ _ (pins_in_fit table) (λ pins fit.
-    after _ _ _ _ (letters_shown keys.Window table) (λ window shown.
-    after _ _ _ _ (list_in_letters table) (λ list are_letters. done (IsDay number) _ (
-      record { day = is; count = are_rows.0; rows = are_rows.1; pins = fit; window = shown; list = are_letters },
-      refl,
-    )))))
+pin_day number table is day e = grind (arith, given, rows_in_rows, pins_in_fit, letters_shown, letters_at_are)
 
 model_day : (number : ℕ) (model : Model) (table : Members) → IsDayNumber number
     → Gives (model_day_in number model table) (IsDay number)

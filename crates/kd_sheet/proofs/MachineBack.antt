@@ -1,30 +1,30 @@
 -- A file of lines is read as the table of their keys and values, and the machine file of a machine as just that machine.
-use Rattle.kd_sheet.proofs.Prelude.{Bool, List, Ok, Option, Some, [], ap, append_assoc, arith, codes, false, length}
-use Rattle.kd_sheet.proofs.Prelude.{map, nat_le, nat_lt, not, ok_or, option_map, pos, refl, rules, suc, true, ℕ, ◌&&◌}
-use Rattle.kd_sheet.proofs.Prelude.{◌++◌, ◌+◌, ◌<◌, ◌==◌, ◌||◌, ◌∙◌, ◌∷◌, ◌≡◌, ◌≤◌, ltb-true, ne_eqb, nat_tests}
-use Rattle.kd_sheet.proofs.Prelude.{common_steps, recursion_from_All, list_all-append, AllPass-from_list_all}
-use Rattle.kd_sheet.proofs.Prelude.{IsUtf8-from_ascii, IsAscii-from_all, digits, AllByRecursion, concat, flat_map}
-use Rattle.kd_sheet.proofs.Prelude.{list_all, list_any, cables_in, document_of, bars_in, standing_for, key_name}
-use Rattle.kd_sheet.proofs.Prelude.{LegalPartsAreReadBack, box_letters_in, known_model_in, machine_in, model_in}
-use Rattle.kd_sheet.proofs.Prelude.{parts_in, pin_parts_in, reflector_in, rotor_parts_in, version_in, machine_text}
-use Rattle.kd_sheet.proofs.Prelude.{cable_text, key_line, listed, pin_texts, pins_text, quoted, seat_text, version_of}
-use Rattle.kd_sheet.proofs.Prelude.{number_to, shown_in, UnknownModel, Key, all_pins, has_reflector-Decides}
-use Rattle.kd_sheet.proofs.Prelude.{has_reflector, IsLegalPin, IsLegalRotor, cables_ordered, ordered, plugged_letters}
-use Rattle.kd_sheet.proofs.Prelude.{Parts, Pin, Rotor, PinParts, RotorParts, IsBefore, figure, standing_text}
-use Rattle.kd_sheet.proofs.Prelude.{model_text, reflector_text, reflectors_of, letters_text, Model, M209, Place}
-use Rattle.kd_sheet.proofs.Prelude.{Reflector, Wheel, AllPrinted, read_lines, run, Data, Items, Members, depth}
+use Rattle.kd_sheet.proofs.Prelude.{Bool, List, Ok, Option, Some, [], ap, append_assoc, arith, codes, false, get_or}
+use Rattle.kd_sheet.proofs.Prelude.{length, map, nat_le, nat_lt, not, ok_or, option_map, pos, refl, rules, suc, true, ℕ}
+use Rattle.kd_sheet.proofs.Prelude.{◌&&◌, ◌++◌, ◌+◌, ◌<◌, ◌==◌, ◌||◌, ◌∙◌, ◌∷◌, ◌≡◌, ◌≤◌, ltb-true, ne_eqb, nat_tests}
+use Rattle.kd_sheet.proofs.Prelude.{common_steps, append-nil, recursion_from_All, list_all-append}
+use Rattle.kd_sheet.proofs.Prelude.{AllPass-from_list_all, IsUtf8-from_ascii, IsAscii-from_all, digits, AllByRecursion}
+use Rattle.kd_sheet.proofs.Prelude.{concat, flat_map, list_all, list_any, cables_in, thirteen, document_of, bars_in}
+use Rattle.kd_sheet.proofs.Prelude.{standing_for, key_name, LegalPartsAreReadBack, letters_at, known_model_in}
+use Rattle.kd_sheet.proofs.Prelude.{machine_in, model_in, parts_in, pin_parts_in, reflector_in, rotor_parts_in}
+use Rattle.kd_sheet.proofs.Prelude.{version_in, machine_text, cable_text, key_line, listed, pin_texts, pins_text}
+use Rattle.kd_sheet.proofs.Prelude.{quoted, seat_text, version_of, number_to, shown_in, UnknownModel, Key}
+use Rattle.kd_sheet.proofs.Prelude.{has_reflector-Decides, has_reflector, IsLegalPin, IsLegalRotor, cables_ordered}
+use Rattle.kd_sheet.proofs.Prelude.{ordered, plugged_letters, Parts, Pin, Rotor, PinParts, RotorParts, IsBefore, figure}
+use Rattle.kd_sheet.proofs.Prelude.{standing_text, model_text, reflector_text, reflectors_of, letters_text, Model, M209}
+use Rattle.kd_sheet.proofs.Prelude.{Place, Reflector, Wheel, AllPrinted, read_lines, run, Data, Items, Members, depth}
 use Rattle.kd_sheet.proofs.Prelude.{has_valid_dates, integer, items_depth, items_have_valid_dates, member, no_members}
 use Rattle.kd_sheet.proofs.Prelude.{string, parse_document, skip_bom, along_dots, along_header, at_key, define}
 use Rattle.kd_sheet.proofs.Prelude.{Expression, close, key_value, no_nodes, IsItemsText, IsLinesText, IsValueText}
 use Rattle.kd_sheet.proofs.Prelude.{breaks_lines, items_of, encoding_of, escaped, key_text, needs_escape, quotes_after}
 use Rattle.kd_sheet.proofs.Prelude.{string_text}
 use Rattle.kd_sheet.specs.declared.key.Key.TheVariants as keys
+use Rattle.kd_sheet.proofs.CableLetters.{all_parts}
 use Rattle.kd_sheet.proofs.Documents.{document_parsed}
-use Rattle.kd_sheet.proofs.InTurn.{then_read, passing, each_again}
+use Rattle.kd_sheet.proofs.InTurn.{then_read, passing, held}
 use Rattle.kd_sheet.proofs.Namings.{model_by_name-text}
 use Rattle.kd_sheet.proofs.PartsBack.{texts, each_at_again, capitals_again, window_again, reflector_again, MayStand}
-use Rattle.kd_sheet.proofs.PartsBack.{seats_in_again, single_first, MayPlug, all_parts, all_cables_again, pins_in_again}
-use Rattle.kd_sheet.proofs.PartsBack.{standing_again}
+use Rattle.kd_sheet.proofs.PartsBack.{seats_in_again, single_first, cables_again, pins_in_again, standing_again}
 use Rattle.kd_sheet.proofs.PinLetters.{rings_below, letters_below}
 
 -- ---- texts in double quotes
@@ -70,8 +70,8 @@ Entry = Key × Data × List ℕ
 abbrev pub text_entry : Key → List ℕ → Entry
 text_entry key text = (key, string text, quoted text)
 
-abbrev pub texts_entry : {X : Type 0} → Key → (X → List ℕ) → List X → Entry
-texts_entry key text_of things = (key, texts text_of things, listed (map text_of things))
+abbrev pub texts_entry : Key → List (List ℕ) → Entry
+texts_entry key ts = (key, texts ts, listed ts)
 
 -- the text writes the value, and the reader takes it
 pub record IsWritten (entry : Entry) : Type 0 where
@@ -84,40 +84,35 @@ pub text_written : (key : Key) (text : List ℕ) → IsPlain text → IsWritten 
 text_written key text plain = grind (arith, quoted_is, list_all-append, plain_low)
 
 -- what stands behind the first text of an array
-abbrev behind : {X : Type 0} → (X → List ℕ) → List X → List ℕ
-behind text_of things = flat_map (λ text. codes ", " ++ quoted text) (map text_of things)
+abbrev behind : List (List ℕ) → List ℕ
+behind ts = flat_map (λ text. codes ", " ++ quoted text) ts
 
-abbrev items : {X : Type 0} → (X → List ℕ) → List X → Items
-items text_of things = items_of (map (λ x. string (text_of x)) things)
+record AreWritten (ts : List (List ℕ)) : Type 0 where
+  writes : IsItemsText false false false (items_of (map string ts)) (behind ts ++ codes "]")
+  shallow : items_depth (items_of (map string ts)) ≡ 0
+  dated : items_have_valid_dates (items_of (map string ts)) ≡ true
+  low : list_all is_low (behind ts) ≡ true
 
-record AreWritten {X : Type 0} (text_of : X → List ℕ) (things : List X) : Type 0 where
-  writes : IsItemsText false false false (items text_of things) (behind text_of things ++ codes "]")
-  shallow : items_depth (items text_of things) ≡ 0
-  dated : items_have_valid_dates (items text_of things) ≡ true
-  low : list_all is_low (behind text_of things) ≡ true
-
-are_written : {X : Type 0} (text_of : X → List ℕ) (things : List X) → AllByRecursion (λ x. IsPlain (text_of x)) things
-    → AreWritten text_of things
-are_written text_of [] plain = record { writes = refl; shallow = refl; dated = refl; low = refl }
-are_written text_of (x ∷ things) plain =
-    grind (arith, common_steps, append_assoc, quoted_is, list_all-append, plain_low, are_written text_of things plain.1)
+are_written : (ts : List (List ℕ)) → AllByRecursion IsPlain ts → AreWritten ts
+are_written [] plain = record { writes = refl; shallow = refl; dated = refl; low = refl }
+are_written (text ∷ ts) plain =
+    grind (arith, common_steps, append_assoc, quoted_is, list_all-append, plain_low, are_written ts plain.1)
 
 one_line : (ds : Items) → breaks_lines false ds ≡ false
 one_line ds = grind arith
 
-pub texts_written : {X : Type 0} (key : Key) (text_of : X → List ℕ) (things : List X)
-    → AllByRecursion (λ x. IsPlain (text_of x)) things → IsWritten (texts_entry key text_of things)
-texts_written key text_of [] plain = grind arith
-texts_written key text_of (x ∷ things) plain =
-    let rest = are_written text_of things plain.1 in
-    let text = quoted (text_of x) ++ (behind text_of things ++ codes "]") in
-    let writes : IsItemsText false false true (items text_of (x ∷ things)) text =
-    (quoted (text_of x), behind text_of things ++ codes "]", refl, quoted_is (text_of x) plain.0, rest.writes) in
+pub texts_written : (key : Key) (ts : List (List ℕ)) → AllByRecursion IsPlain ts → IsWritten (texts_entry key ts)
+texts_written key [] plain = grind arith
+texts_written key (text ∷ ts) plain =
+    let rest = are_written ts plain.1 in
+    let writes : IsItemsText false false true (items_of (map string (text ∷ ts))) (quoted text ++
+    (behind ts ++ codes "]")) =
+    (quoted text, behind ts ++ codes "]", refl, quoted_is text plain.0, rest.writes) in
     record {
       writes = grind (arith, append_assoc, quoted, one_line);
       shallow = rw rest.shallow (omega arith);
       dated = rest.dated;
-      low = simp (list_all-append, plain_low (text_of x) plain.0, rest.low);
+      low = simp (list_all-append, plain_low text plain.0, rest.low);
     }
 
 -- ---- the file
@@ -181,12 +176,12 @@ model_plain model = grind arith
 reflector_plain : (reflector : Reflector) → IsPlain (reflector_text reflector)
 reflector_plain reflector = grind arith
 
-seats_plain : (slots : List (Option Wheel)) → AllByRecursion (λ seat. IsPlain (seat_text seat)) slots
+seats_plain : (slots : List (Option Wheel)) → AllByRecursion IsPlain (map seat_text slots)
 seats_plain [] = tt
 seats_plain (seat ∷ slots) = grind (arith, seats_plain slots)
 
 cables_plain : (cables : List (Option ℕ × Option ℕ)) → AllByRecursion (λ letter. letter < 26) (plugged_letters cables)
-    → AllByRecursion (λ cable. IsPlain (cable_text cable)) cables
+    → AllByRecursion IsPlain (map cable_text cables)
 cables_plain [] within = tt
 cables_plain (cable ∷ cables) within = grind (arith, all_parts, letters_plain, cables_plain cables)
 
@@ -196,7 +191,7 @@ pins_plain [] pins within = refl
 pins_plain (letter ∷ ring) [] within = refl
 pins_plain (letter ∷ ring) (pin ∷ pins) within = grind (arith, letter_plain, pins_plain ring pins within.1)
 
-bars_plain : (bars : List (Place × Place)) → AllByRecursion (λ bar. IsPlain (standing_text bar)) bars
+bars_plain : (bars : List (Place × Place)) → AllByRecursion IsPlain (map standing_text bars)
 bars_plain [] = tt
 bars_plain (bar ∷ bars) = grind (arith, list_all-append, bars_plain bars)
 
@@ -223,34 +218,29 @@ told model table m version is parts = grind (arith, then_read, passing)
 -- ---- a rotor machine
 
 -- with a single letter first a cable holds the same letters
-same_cables : (cables : List (Option ℕ × Option ℕ))
+same_order : (cables : List (Option ℕ × Option ℕ))
     → map (λ cable. ordered cable.0 cable.1) (map single_first cables) ≡ map (λ cable. ordered cable.0 cable.1) cables
-same_cables [] = refl
-same_cables (cable ∷ cables) = grind (arith, same_cables cables)
+same_order [] = refl
+same_order (cable ∷ cables) = grind (arith, same_order cables)
 
-all_few : (cables : List (Option ℕ × Option ℕ)) → AllByRecursion (MayPlug keys.Cables) cables
-all_few [] = tt
-all_few (cable ∷ cables) = grind (arith, all_few cables)
-
-all_may_stand : (slots : List (Option Wheel)) → AllByRecursion (MayStand keys.Slots) slots
-all_may_stand [] = tt
-all_may_stand (seat ∷ slots) = grind (arith, all_may_stand slots)
+may_stand : (seat : Option Wheel) → MayStand keys.Slots seat
+may_stand seat = grind arith
 
 abbrev rotor_entries : RotorParts → List Entry
 rotor_entries m =
     version_entry m.model ∷ text_entry keys.Model (model_text m.model)
-    ∷ text_entry keys.Reflector (reflector_text m.reflector) ∷ texts_entry keys.Slots seat_text m.slots
+    ∷ text_entry keys.Reflector (reflector_text m.reflector) ∷ texts_entry keys.Slots (map seat_text m.slots)
     ∷ text_entry keys.Rings (letters_text m.rings) ∷ text_entry keys.Letters (letters_text m.letters)
-    ∷ texts_entry keys.Cables cable_text m.cables ∷ []
+    ∷ texts_entry keys.Cables (map cable_text m.cables) ∷ []
 
 abbrev rotor_table : RotorParts → Members
 rotor_table m =
-    member (key_name keys.Cables) (texts cable_text m.cables)
+    member (key_name keys.Cables) (texts (map cable_text m.cables))
     (member (key_name keys.Letters) (string (letters_text m.letters))
     (member (key_name keys.Model) (string (model_text m.model))
     (member (key_name keys.Reflector) (string (reflector_text m.reflector))
     (member (key_name keys.Rings) (string (letters_text m.rings))
-    (member (key_name keys.Slots) (texts seat_text m.slots)
+    (member (key_name keys.Slots) (texts (map seat_text m.slots))
     (member (key_name keys.Version) (integer (pos (version_of m.model))) no_members))))))
 
 rotor_read : (m : RotorParts) → IsLegalRotor m → document_of (machine_text (Rotor m)) ≡ Ok (rotor_table m)
@@ -260,16 +250,21 @@ rotor_read m legal =
     search (rules, are_plain, legal.rings.within, legal.letters.within, legal.cables.within) in
     file_read (rotor_entries m) (rotor_table m) all refl
 
+-- with empty cables behind 13 they are the same
+thirteen_again : (cables : List (Option ℕ × Option ℕ)) → length cables ≡ 13 → thirteen cables ≡ cables
+thirteen_again cables all = rw all (append-nil cables)
+
 cables_in_again : (m : RotorParts) → IsLegalRotor m → cables_in (rotor_table m) ≡ Ok (map single_first m.cables)
 unfolding cables_in
-cables_in_again m legal = grind (arith, common_steps, all_cables_again, all_few, recursion_from_All)
+cables_in_again m legal = grind (arith, common_steps, cables_again, thirteen_again)
 
 rotor_parts_again : (m : RotorParts) → IsLegalRotor m
     → rotor_parts_in m.model (rotor_table m) ≡ Ok (record m { cables = map single_first m.cables })
-unfolding rotor_parts_in reflector_in box_letters_in
+unfolding rotor_parts_in reflector_in letters_at
 rotor_parts_again m legal =
     let has = (has_reflector-Decides (reflectors_of m.model) m.reflector).1 legal.reflector in
-    let seated = seats_in_again keys.Slots m.model (rotor_table m) m.slots refl (all_may_stand m.slots)
+    let seated = seats_in_again keys.Slots m.model (rotor_table m) m.slots refl (λ k d within. may_stand
+    (get_or m.slots k d))
     (record { count = legal.slots; allowed = legal.allowed; apart = legal.apart }) in
     grind (arith, then_read, reflector_again, capitals_again, cables_in_again)
 
@@ -284,14 +279,14 @@ by_model model reflector table m e d = grind arith
 abbrev pin_entries : PinParts → List Entry
 pin_entries m =
     version_entry M209 ∷ text_entry keys.Model (model_text M209) ∷ text_entry keys.Letters (letters_text m.letters)
-    ∷ texts_entry keys.Pins (λ text. text) (pin_texts m.pins) ∷ texts_entry keys.Bars standing_text m.bars ∷ []
+    ∷ texts_entry keys.Pins (pin_texts m.pins) ∷ texts_entry keys.Bars (map standing_text m.bars) ∷ []
 
 abbrev pin_table : PinParts → Members
 pin_table m =
-    member (key_name keys.Bars) (texts standing_text m.bars)
+    member (key_name keys.Bars) (texts (map standing_text m.bars))
     (member (key_name keys.Letters) (string (letters_text m.letters))
     (member (key_name keys.Model) (string (model_text M209))
-    (member (key_name keys.Pins) (texts (λ text. text) (pin_texts m.pins))
+    (member (key_name keys.Pins) (texts (pin_texts m.pins))
     (member (key_name keys.Version) (integer (pos (version_of M209))) no_members))))
 
 pin_read : (m : PinParts) → IsLegalPin m → document_of (machine_text (Pin m)) ≡ Ok (pin_table m)
@@ -305,9 +300,8 @@ pin_read m legal =
 bars_again : (m : PinParts) → IsLegalPin m → bars_in (pin_table m) ≡ Ok m.bars
 unfolding bars_in
 bars_again m legal =
-    each_at_again keys.Bars 27 standing_text m.bars standing_for m.bars
-    (each_again standing_for (λ bar. string (standing_text bar)) (λ bar. IsBefore bar.0 bar.1)
-    (λ earlier bar before. rw (standing_again bar before) refl) m.bars (recursion_from_All _ _ legal.apart))
+    each_at_again keys.Bars 27 standing_text m.bars standing_for (λ k bar at.
+    rw (standing_again bar (held (λ bar. IsBefore bar.0 bar.1) m.bars k bar legal.apart at)) refl)
     (pin_table m) refl legal.bars
 
 pin_parts_again : (m : PinParts) → IsLegalPin m → pin_parts_in (pin_table m) ≡ Ok m
@@ -323,7 +317,7 @@ parts_are_read_back (Rotor m) legal =
     let read = told m.model (rotor_table m) _ (rw (version_again m.model) refl) (rw (model_by_name-text m.model) refl)
     (by_model m.model m.reflector (rotor_table m) _ has (rotor_parts_again m legal)) in
     then_read (document_of (machine_text (Rotor m))) machine_in (rotor_table m) _ (rotor_read m legal) read
-    ∙ ap (λ cables. Ok (Rotor (record m { cables = cables }))) (same_cables m.cables)
+    ∙ ap (λ cables. Ok (Rotor (record m { cables = cables }))) (same_order m.cables)
 parts_are_read_back (Pin m) legal =
     let read = told M209 (pin_table m) _ refl (ap (λ found. ok_or found UnknownModel) (model_by_name-text M209))
     (rw (pin_parts_again m legal) refl) in

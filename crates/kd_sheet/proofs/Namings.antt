@@ -1,17 +1,20 @@
 -- What has a name, and that nothing else has it.
 use Rattle.kd_sheet.proofs.Prelude.{List, MatchOption, None, Option, Some, [], ap, arith, bytes_eq, find, refl, sym, ℕ}
 use Rattle.kd_sheet.proofs.Prelude.{◌∙◌, ◌∷◌, ◌≡◌, ◌≢◌, cases_Bool, bytes_eq-Decides, model_by_name, wheel_by_name}
-use Rattle.kd_sheet.proofs.Prelude.{every_model, every_wheel, model_text, wheel_text, Model, Wheel}
+use Rattle.kd_sheet.proofs.Prelude.{model_text, wheel_text, Model, Wheel}
 
 -- a list has nothing of a name that none has
-find_unnamed : {A : Type 0} (text_of : A → List ℕ) (name : List ℕ) → ((x : A) → text_of x ≢ name) → (xs : List A) → find (λ x. bytes_eq (text_of x) name) xs ≡ None
+find_unnamed : {A : Type 0} (text_of : A → List ℕ) (name : List ℕ) → ((x : A) → text_of x ≢ name) → (xs : List A)
+    → find (λ x. bytes_eq (text_of x) name) xs ≡ None
 find_unnamed text_of name none [] = refl
 find_unnamed text_of name none (x ∷ xs) =
     grind (arith, cases_Bool, none, bytes_eq-Decides, find_unnamed text_of name none xs)
 
 -- what has the name is what the list finds, where the list finds each by its own name
-find_named : {A : Type 0} (text_of : A → List ℕ) (xs : List A) → ((x : A) → find (λ y. bytes_eq (text_of y) (text_of x)) xs ≡ Some x)
-    → (name : List ℕ) (found : Option A) → MatchOption found ((x : A) → text_of x ≢ name) (λ x. text_of x ≡ name) → found ≡ find (λ x. bytes_eq (text_of x) name) xs
+pub find_named : {A : Type 0} (text_of : A → List ℕ) (xs : List A)
+    → ((x : A) → find (λ y. bytes_eq (text_of y) (text_of x)) xs ≡ Some x) → (name : List ℕ) (found : Option A)
+    → MatchOption found ((x : A) → text_of x ≢ name) (λ x. text_of x ≡ name)
+    → found ≡ find (λ x. bytes_eq (text_of x) name) xs
 find_named text_of xs own name None none = sym (find_unnamed text_of name none xs)
 find_named text_of xs own name (Some x) named = sym (own x) ∙ ap (λ text. find (λ y. bytes_eq (text_of y) text) xs) named
 
@@ -24,13 +27,3 @@ model_by_name-text model = grind arith
 pub wheel_by_name-text : (wheel : Wheel) → wheel_by_name (wheel_text wheel) ≡ Some wheel
 unfolding wheel_by_name
 wheel_by_name-text wheel = grind arith
-
--- the model that has the name, if one has it
-pub model_by_name_found : (name : List ℕ) (found : Option Model) → MatchOption found ((model : Model) → model_text model ≢ name) (λ model. model_text model ≡ name) → found ≡ model_by_name name
-unfolding model_by_name
-model_by_name_found = find_named model_text every_model model_by_name-text
-
--- the wheel that has the name, if one has it
-pub wheel_by_name_found : (name : List ℕ) (found : Option Wheel) → MatchOption found ((wheel : Wheel) → wheel_text wheel ≢ name) (λ wheel. wheel_text wheel ≡ name) → found ≡ wheel_by_name name
-unfolding wheel_by_name
-wheel_by_name_found = find_named wheel_text every_wheel wheel_by_name-text

@@ -1,31 +1,28 @@
 -- What is written of the parts of a machine, or of a day, is read as just these; and each legal day is described by a table.
-use Rattle.kd_sheet.proofs.Prelude.{List, None, Ok, Option, Result, Some, [], ap, append_assoc, arith, false, length}
-use Rattle.kd_sheet.proofs.Prelude.{map, nat_eq, ok_or, pos, refl, rules, slice_get, sym, true, ℕ, ◌++◌, ◌+◌, ◌<◌, ◌==◌}
-use Rattle.kd_sheet.proofs.Prelude.{◌∙◌, ◌∷◌, ◌≡◌, ◌≤◌, and-false, or-true, cases_eq, eq-eqb, false_from_ne_true}
-use Rattle.kd_sheet.proofs.Prelude.{le-leb, ne_eqb, common_steps, append-nil, length-map, flat_map-append, All-map}
-use Rattle.kd_sheet.proofs.Prelude.{All-weaker, filter_map-append, recursion_from_All, IsPermutation-append_comm}
-use Rattle.kd_sheet.proofs.Prelude.{IsPermutation-append_left, IsPermutation-trans, IsDistinct-IsPermutation, gets}
-use Rattle.kd_sheet.proofs.Prelude.{slice_get-get_or, slice_get_within, IsDistinct, AllByRecursion, list_all, PinSet}
-use Rattle.kd_sheet.proofs.Prelude.{all_cables_in, cable_for, pairs_in, plugged_letters_in, cable_of, may_have}
-use Rattle.kd_sheet.proofs.Prelude.{pairs_of, thirteen, each_at, in_turn, items_at, items_in, up_to, value_at}
-use Rattle.kd_sheet.proofs.Prelude.{row_of_text, rows_in, may_read, row_for, key_name, capital_letters, model_in}
-use Rattle.kd_sheet.proofs.Prelude.{reflector_in, cable_text, pin_texts, seat_text, reflector_by_name, standing_by_text}
-use Rattle.kd_sheet.proofs.Prelude.{number_to, letters_on_wheels, pins_in, pins_of_item, shown_in, is_seated, seat_for}
-use Rattle.kd_sheet.proofs.Prelude.{seat_of_item, seats_in, wheel_for, may_be_empty, all_groups_in, day_in}
-use Rattle.kd_sheet.proofs.Prelude.{group_of_item, groups_in, list_in, model_day_in, number_in, pin_day_in, rings_in}
-use Rattle.kd_sheet.proofs.Prelude.{rotor_day_in, window_in, group_for, sheet_wheels, SheetFault, UnknownModel, Key}
-use Rattle.kd_sheet.proofs.Prelude.{letters_plugged, eqb_flips, new_tells, has_reflector-Decides, has_wheel-Decides}
-use Rattle.kd_sheet.proofs.Prelude.{has_reflector, AreAllowed, AreApart, AreLetters, AreOnWheels, HasAllPins}
-use Rattle.kd_sheet.proofs.Prelude.{cable_letters, plugged_letters, are_new, AreSeated, Day, HasLetters, IsDayNumber}
-use Rattle.kd_sheet.proofs.Prelude.{IsLegalDay, IsLegalPinDay, IsLegalRotorDay, OfPins, OfRotors, PinDay, RotorDay}
-use Rattle.kd_sheet.proofs.Prelude.{seats, SheetWheel, IsBefore, IsReading, reading_text, standing_text, letters_of}
-use Rattle.kd_sheet.proofs.Prelude.{model_text, reflector_text, reflectors_of, slots_of, wheel_text, is_capital}
-use Rattle.kd_sheet.proofs.Prelude.{letters_text, Model, M209, Place, Reflector, Wheel, Data, Members, array, integer}
-use Rattle.kd_sheet.proofs.Prelude.{member, no_members, string, items_of}
+use Rattle.kd_sheet.proofs.Prelude.{All, List, None, Ok, Option, Result, Some, [], ap, arith, false, get_or, length}
+use Rattle.kd_sheet.proofs.Prelude.{map, ok_or, pos, refl, rules, slice_get, sym, take, true, ℕ, ◌+◌, ◌<◌, ◌==◌, ◌∙◌}
+use Rattle.kd_sheet.proofs.Prelude.{◌∷◌, ◌≡◌, ◌≤◌, and-false, or-true, cases_eq, eq-eqb, false_from_ne_true, le-leb}
+use Rattle.kd_sheet.proofs.Prelude.{ne_eqb, common_steps, length-map, length-take-le, All-map, All-weaker}
+use Rattle.kd_sheet.proofs.Prelude.{recursion_from_All, gets, slice_get_within, AllByRecursion, list_all, PinSet}
+use Rattle.kd_sheet.proofs.Prelude.{cable_for, letters_in_cable, pair_for, pairs_in, cable_of, pair_letters, each_at}
+use Rattle.kd_sheet.proofs.Prelude.{items_at, items_in, up_to, value_at, row_of_text, rows_in, may_read, row_for}
+use Rattle.kd_sheet.proofs.Prelude.{key_name, capital_letters, letters_at, model_in, reflector_in, cable_text}
+use Rattle.kd_sheet.proofs.Prelude.{pin_texts, seat_text, reflector_by_name, standing_by_text, number_to}
+use Rattle.kd_sheet.proofs.Prelude.{letters_on_wheels, pins_in, pins_of_item, shown_in, is_seated, seat_for}
+use Rattle.kd_sheet.proofs.Prelude.{seat_of_item, seats_in, wheel_for, may_be_empty, day_in, group_of_item, groups_in}
+use Rattle.kd_sheet.proofs.Prelude.{model_day_in, number_in, pin_day_in, rings_in, rotor_day_in, group_for}
+use Rattle.kd_sheet.proofs.Prelude.{sheet_wheels, SheetFault, UnknownModel, Key, has_reflector-Decides}
+use Rattle.kd_sheet.proofs.Prelude.{has_wheel-Decides, has_reflector, AreAllowed, AreApart, AreCables, AreLetters}
+use Rattle.kd_sheet.proofs.Prelude.{AreOnWheels, HasAllPins, cable_letters, plugged_letters, AreSeated, Day, HasLetters}
+use Rattle.kd_sheet.proofs.Prelude.{IsDayNumber, IsLegalDay, IsLegalPinDay, IsLegalRotorDay, OfPins, OfRotors, PinDay}
+use Rattle.kd_sheet.proofs.Prelude.{RotorDay, seats, SheetWheel, IsBefore, IsReading, reading_text, standing_text}
+use Rattle.kd_sheet.proofs.Prelude.{letters_of, model_text, reflector_text, reflectors_of, slots_of, wheel_text}
+use Rattle.kd_sheet.proofs.Prelude.{wheels_for, is_capital, letters_text, Model, M209, Place, Reflector, Wheel, Data}
+use Rattle.kd_sheet.proofs.Prelude.{Members, array, integer, member, no_members, string, items_of}
 use Rattle.kd_sheet.specs.declared.key.Key.TheVariants as keys
-use Rattle.kd_sheet.proofs.CableLetters.{none_in, two_letters}
+use Rattle.kd_sheet.proofs.CableLetters.{IsFree, AreFree, free_at}
 use Rattle.kd_sheet.proofs.Documents.{list_of-items_of}
-use Rattle.kd_sheet.proofs.InTurn.{then_read, passing, read_again, at_joined, again, each_again}
+use Rattle.kd_sheet.proofs.InTurn.{then_read, passing, again, held}
 use Rattle.kd_sheet.proofs.Legal.{day_again}
 use Rattle.kd_sheet.proofs.Namings.{model_by_name-text, wheel_by_name-text}
 use Rattle.kd_sheet.proofs.PinLetters.{are_own, letters_below, pins_back}
@@ -34,30 +31,38 @@ use Rattle.kd_sheet.proofs.Seating.{is_seated-Decides}
 -- ---- arrays of texts
 
 -- an array of texts
-abbrev pub texts : {X : Type 0} → (X → List ℕ) → List X → Data
-texts text_of things = array (items_of (map (λ x. string (text_of x)) things))
+abbrev pub texts : List (List ℕ) → Data
+texts ts = array (items_of (map string ts))
 
-pub texts_read : {X : Type 0} (key : Key) (text_of : X → List ℕ) (things : List X)
-    → items_in key (texts text_of things) ≡ Ok (map (λ x. string (text_of x)) things)
-texts_read key text_of things = ap Ok (list_of-items_of (map (λ x. string (text_of x)) things))
+pub texts_read : (key : Key) (ts : List (List ℕ)) → items_in key (texts ts) ≡ Ok (map string ts)
+texts_read key ts = ap Ok (list_of-items_of (map string ts))
 
-texts_at : {X : Type 0} (key : Key) (table : Members) (text_of : X → List ℕ) (things : List X)
-    → value_at key table ≡ Ok (texts text_of things) → items_at key table ≡ Ok (map (λ x. string (text_of x)) things)
-texts_at key table text_of things there = search (rules, then_read, value_at, texts_read)
+texts_at : (key : Key) (table : Members) (ts : List (List ℕ)) → value_at key table ≡ Ok (texts ts)
+    → items_at key table ≡ Ok (map string ts)
+texts_at key table ts there = search (rules, then_read, value_at, texts_read)
 
--- an array of so many texts, and one of so many at most, of which each is read as its value
-module _ {X A : Type 0} (key : Key) (count : ℕ) (text_of : X → List ℕ) (things : List X)
-    (reading : List A → Data → Result A SheetFault) (values : List A)
-    (read : in_turn reading (map (λ x. string (text_of x)) things) ≡ Ok values) where
-  pub each_at_again : (table : Members) → value_at key table ≡ Ok (texts text_of things) → length things ≡ count
-      → each_at key count reading table ≡ Ok values
+-- an array of so many texts, and one of so many at most, of which each is read as what it was
+module _ {X : Type 0} (key : Key) (count : ℕ) (text_of : X → List ℕ) (things : List X)
+    (reading : List X → Data → Result X SheetFault)
+    (each : (k : ℕ) (x : X) → slice_get things k ≡ Some x → reading (take k things) (string (text_of x)) ≡ Ok x) where
+  pub each_at_again : (table : Members) → value_at key table ≡ Ok (texts (map text_of things)) → length things ≡ count
+      → each_at key count reading table ≡ Ok things
   each_at_again table there counted =
-      grind (arith, common_steps, eq-eqb, then_read, items_at, texts_at, passing, read)
+      let read = again reading text_of things each in
+      grind (arith, common_steps, eq-eqb, then_read, items_at, texts_at, passing)
 
-  pub up_to_again : length things ≤ count → up_to key count reading (texts text_of things) ≡ Ok values
+  pub up_to_again : length things ≤ count → up_to key count reading (texts (map text_of things)) ≡ Ok things
   up_to_again few =
-      let items = map (λ x. string (text_of x)) things in
-      rw (list_of-items_of items, le-leb (length items) count (omega (arith, few, length-map things (λ x. string (text_of x))))) read
+      let read = again reading text_of things each in
+      let items = map string (map text_of things) in
+      let fits : length items ≤ count = omega (
+        arith,
+        few,
+        length-map
+            (map text_of things) string,
+        length-map things text_of,
+      ) in
+      rw (list_of-items_of items, le-leb (length items) count fits) read
 
 -- ---- letters
 
@@ -88,110 +93,79 @@ abbrev pub MayStand : Key → Option Wheel → Type 0
 MayStand key None = may_be_empty key ≡ true
 MayStand key (Some wheel) = Unit {0}
 
-abbrev seat_item : Option Wheel → Data
-seat_item seat = string (seat_text seat)
-
 has_name : (wheel : Wheel) → (length (wheel_text wheel) == 0) ≡ false
 has_name wheel = grind arith
 
-stands_behind : {X : Type 0} (front rest : List X) (x : X) → slice_get (front ++ x ∷ rest) (length front) ≡ Some x
-stands_behind front rest x = grind (arith, common_steps, gets)
-
-stands_before : {X : Type 0} (front rest : List X) (place : ℕ) (x : X) → slice_get front place ≡ Some x
-    → slice_get (front ++ rest) place ≡ Some x
-stands_before front rest place x at = grind (arith, common_steps, gets, slice_get_within)
-
-seat_again : (key : Key) (model : Model) (slots rest : List (Option Wheel)) (seat : Option Wheel) → MayStand key seat
-    → AreAllowed model (slots ++ seat ∷ rest) → AreApart (slots ++ seat ∷ rest)
-    → seat_of_item key model slots (seat_item seat) ≡ Ok seat
+seat_again : (key : Key) (model : Model) (slots : List (Option Wheel)) (seat : Option Wheel) → MayStand key seat
+    → AreAllowed model slots → AreApart slots → (k : ℕ) → slice_get slots k ≡ Some seat
+    → seat_of_item key model (take k slots) (string (seat_text seat)) ≡ Ok seat
 unfolding seat_of_item seat_for wheel_for
-seat_again key model slots rest None may allowed apart = rw may refl
-seat_again key model slots rest (Some wheel) may allowed apart =
-    let here = stands_behind slots rest (Some wheel) in
-    let among_them = (has_wheel-Decides _ wheel).1 (allowed (length slots) wheel here) in
-    let free : is_seated slots wheel ≡ false = false_from_ne_true _ (λ seated.
-    let among = (is_seated-Decides slots wheel).0 seated in
-    let at = slice_get-get_or slots among.0 (Some wheel) among.1 ∙ ap Some among.2 in
-    let same =
-    apart among.0 (length slots) wheel (stands_before slots (Some wheel ∷ rest) among.0 (Some wheel) at) here in
-    omega (arith, same, among.1)) in
+seat_again key model slots None may allowed apart k at = rw may refl
+seat_again key model slots (Some wheel) may allowed apart k at =
+    let within = slice_get_within slots k (Some wheel) at in
+    let before : length (take k slots) ≡ k = length-take-le k slots (omega arith) in
+    let among_them = (has_wheel-Decides (wheels_for model (length (take k slots) + 1)) wheel).1 (rw before
+    (allowed k wheel at)) in
+    let free : is_seated (take k slots) wheel ≡ false = false_from_ne_true _ (λ seated.
+    let among = (is_seated-Decides (take k slots) wheel).0 seated in
+    let stands : slice_get slots among.0 ≡ Some (Some wheel) = grind (arith, common_steps, gets) in
+    omega (arith, apart among.0 k wheel stands at, among.1)) in
     rw (has_name wheel, and-false, wheel_by_name-text wheel, among_them, free) refl
 
 pub seats_in_again : (key : Key) (model : Model) (table : Members) (slots : List (Option Wheel))
-    → value_at key table ≡ Ok (texts seat_text slots) → AllByRecursion (MayStand key) slots → AreSeated model slots
+    → value_at key table ≡ Ok (texts (map seat_text slots)) → All (MayStand key) slots → AreSeated model slots
     → seats_in key model table ≡ Ok slots
 unfolding seats_in
 seats_in_again key model table slots there may seated =
-    each_at_again key (slots_of model) seat_text slots (seat_of_item key model) slots
-    (again (seat_of_item key model) seat_item slots (λ front rest seat is.
-    seat_again key model front rest seat (at_joined (MayStand key) front seat rest (rw is at may))
-    (rw is at seated.allowed) (rw is at seated.apart)))
+    each_at_again key (slots_of model) seat_text slots (seat_of_item key model) (λ k seat at.
+    seat_again key model slots seat (held (MayStand key) slots k seat may at) seated.allowed seated.apart k at)
     table there seated.count
 
--- ---- cables
+-- ---- cables and pairs
 
 -- the cable as its text tells it, with a single letter first
 abbrev pub single_first : Option ℕ × Option ℕ → Option ℕ × Option ℕ
 single_first cable = cable_of (cable_letters cable)
 
-abbrev cable_item : Option ℕ × Option ℕ → Data
-cable_item cable = string (cable_text cable)
+-- it has the same letters, and the same text
+pub same_cables : (cables : List (Option ℕ × Option ℕ))
+    → (plugged_letters (map single_first cables) ≡ plugged_letters cables)
+    × (map cable_text (map single_first cables) ≡ map cable_text cables)
+same_cables [] = (refl, refl)
+same_cables (cable ∷ cables) = grind (arith, same_cables cables)
 
--- a text at the key may have the cable's letters
-abbrev pub MayPlug : Key → Option ℕ × Option ℕ → Type 0
-MayPlug key cable = may_have key (length (cable_letters cable)) ≡ true
+abbrev IsTold : Option ℕ × Option ℕ → Type 0
+IsTold cable = single_first cable ≡ cable
 
-cable_spelled : (key : Key) (cable : Option ℕ × Option ℕ) → MayPlug key cable
-    → AllByRecursion (λ letter. letter < 26) (cable_letters cable)
-    → plugged_letters_in key (cable_text cable) ≡ Some (cable_letters cable)
-unfolding plugged_letters_in
-cable_spelled key cable may within = grind (arith, letters_spelled, within)
+told_once : (cable : Option ℕ × Option ℕ) → IsTold (single_first cable)
+told_once cable = grind arith
 
--- letters that lie in one place, among others, are new behind the first of these
-new_letters : (plugged letters rest : List ℕ) → IsDistinct nat_eq (plugged ++ (letters ++ rest))
-    → are_new letters plugged ≡ true
-new_letters plugged letters rest apart =
-    let moved = IsPermutation-trans _ _ _ (IsPermutation-append_comm plugged (letters ++ rest))
-    (IsPermutation-append_left plugged _ _ (IsPermutation-append_comm letters rest)) in
-    let behind = (new_tells rest (letters ++ plugged)).0
-    (IsDistinct-IsPermutation nat_eq eqb_flips _ _ (rw append_assoc at moved) apart) in
-    ((new_tells letters plugged).0 behind.1).0
+cable_again : (before : List (Option ℕ × Option ℕ)) (cable : Option ℕ × Option ℕ) → IsTold cable
+    → IsFree cable_letters before cable → cable_for before (string (cable_text cable)) ≡ Ok cable
+unfolding cable_for letters_in_cable
+cable_again before cable is free = grind (arith, letters_spelled, recursion_from_All, free)
 
-pub all_parts : {X : Type 0} (P : X → Type 0) (xs ys : List X) → AllByRecursion P (xs ++ ys)
-    → AllByRecursion P xs × AllByRecursion P ys
-all_parts P [] ys all = (tt, all)
-all_parts P (x ∷ xs) ys all = let rest = all_parts P xs ys all.1 in ((all.0, rest.0), rest.1)
+pub cables_again : (cables : List (Option ℕ × Option ℕ)) → AreCables cables
+    → up_to keys.Cables 13 cable_for (texts (map cable_text cables)) ≡ Ok (map single_first cables)
+cables_again cables are =
+    let told = map single_first cables in
+    let same = (same_cables cables).0 in
+    let free : AreFree cable_letters told = record { within = rw same are.within; apart = rw same are.apart } in
+    let all : All IsTold told = All-map IsTold single_first cables (λ k d within. told_once (get_or cables k d)) in
+    ap (λ ts. up_to keys.Cables 13 cable_for (texts ts)) (sym (same_cables cables).1)
+    ∙ up_to_again keys.Cables 13 cable_text told cable_for (λ k cable at.
+    cable_again (take k told) cable (held IsTold told k cable all at) (free_at cable_letters told k cable free at))
+    (omega (arith, are.count, length-map cables single_first))
 
-same_letters : (cables : List (Option ℕ × Option ℕ))
-    → plugged_letters (map single_first cables) ≡ plugged_letters cables
-same_letters [] = refl
-same_letters (cable ∷ cables) = grind (arith, same_letters cables)
-
-cables_again : (key : Key) (cables : List (Option ℕ × Option ℕ)) → AllByRecursion (MayPlug key) cables
-    → AllByRecursion (λ letter. letter < 26) (plugged_letters cables) → IsDistinct nat_eq (plugged_letters cables)
-    → in_turn (cable_for key) (map cable_item cables) ≡ Ok (map single_first cables)
-unfolding cable_for
-cables_again key cables may within apart =
-    read_again (cable_for key) cable_item single_first cables (λ front rest cable is.
-    let letters : plugged_letters cables ≡ plugged_letters front ++ (cable_letters cable ++ plugged_letters rest) = rw (is, flat_map-append) refl in
-    let lie = all_parts (λ letter. letter < 26) (plugged_letters front) _ (rw letters at within) in
-    rw (
-      same_letters front,
-      cable_spelled key cable (at_joined (MayPlug key) front cable rest (rw is at may)) (all_parts (λ letter. letter < 26) _ _ lie.1).0,
-      new_letters (plugged_letters front) (cable_letters cable) (plugged_letters rest) (rw letters at apart),
-    ) refl)
-
-pub all_cables_again : (key : Key) (cables : List (Option ℕ × Option ℕ)) → length cables ≤ 13
-    → AllByRecursion (MayPlug key) cables → AllByRecursion (λ letter. letter < 26) (plugged_letters cables)
-    → IsDistinct nat_eq (plugged_letters cables)
-    → all_cables_in key (texts cable_text cables) ≡ Ok (thirteen (map single_first cables))
-unfolding all_cables_in
-all_cables_again key cables few may within apart = grind (arith, then_read, up_to_again, cables_again, within, few)
+pair_again : (before : List (ℕ × ℕ)) (pair : ℕ × ℕ) → IsFree pair_letters before pair
+    → pair_for before (string (letters_text (pair_letters pair))) ≡ Ok pair
+unfolding pair_for
+pair_again before pair free = grind (arith, letters_spelled, recursion_from_All, free)
 
 -- ---- pins and bars
 
 pub pins_in_again : (table : Members) (pins : PinSet)
-    → value_at keys.Pins table ≡ Ok (texts (λ text. text) (pin_texts pins))
+    → value_at keys.Pins table ≡ Ok (texts (pin_texts pins))
     → HasAllPins pins → pins_in table ≡ Ok pins
 unfolding pins_in pins_of_item
 pins_in_again table pins there fit = grind (arith, pins_back, fit, then_read, items_at, texts_read)
@@ -207,26 +181,6 @@ wheels_again : (wheels : List SheetWheel)
 wheels_again [] = refl
 wheels_again (w ∷ wheels) = ap (λ rest. w ∷ rest) (wheels_again wheels)
 
--- ---- pairs
-
-abbrev pair_cable : ℕ × ℕ → Option ℕ × Option ℕ
-pair_cable pair = (Some pair.0, Some pair.1)
-
-two_each : (pairs : List (ℕ × ℕ)) → AllByRecursion (MayPlug keys.Plugs) (map pair_cable pairs)
-two_each [] = tt
-two_each (pair ∷ pairs) = (refl, two_each pairs)
-
-pairs_plugged : (pairs : List (ℕ × ℕ)) → plugged_letters (map pair_cable pairs) ≡ letters_plugged pairs
-pairs_plugged [] = refl
-pairs_plugged (pair ∷ pairs) = ap (λ rest. pair.0 ∷ pair.1 ∷ rest) (pairs_plugged pairs)
-
-pairs_joined_again : (pairs : List (ℕ × ℕ)) → pairs_of (map single_first (map pair_cable pairs)) ≡ pairs
-pairs_joined_again [] = refl
-pairs_joined_again (pair ∷ pairs) = ap (λ rest. pair ∷ rest) (pairs_joined_again pairs)
-
-pairs_found : (pairs : List (ℕ × ℕ)) → pairs_of (thirteen (map single_first (map pair_cable pairs))) ≡ pairs
-pairs_found pairs = rw (filter_map-append, pairs_joined_again pairs, (none_in _).1) (append-nil pairs)
-
 -- ---- rows
 
 may_read_again : (row : ℕ × ℕ) → IsReading row → may_read (row.0 + 48) (row.1 + 48) ≡ true
@@ -241,12 +195,12 @@ row_again row is = grind (arith, le-leb, may_read_again)
 abbrev rotor_table : RotorDay → Members
 rotor_table s =
     member (key_name keys.Day) (integer (pos s.day))
-    (member (key_name keys.Groups) (texts letters_text s.groups)
+    (member (key_name keys.Groups) (texts (map letters_text s.groups))
     (member (key_name keys.Model) (string (model_text s.model))
-    (member (key_name keys.Plugs) (texts cable_text (map pair_cable s.pairs))
+    (member (key_name keys.Plugs) (texts (map (λ pair. letters_text (pair_letters pair)) s.pairs))
     (member (key_name keys.Reflector) (string (reflector_text s.reflector))
     (member (key_name keys.Rings) (string (letters_text (map (λ w. w.ring) s.wheels)))
-    (member (key_name keys.Wheels) (texts seat_text (seats s.wheels))
+    (member (key_name keys.Wheels) (texts (map seat_text (seats s.wheels)))
     (member (key_name keys.Window) (string (letters_text (map (λ w. w.letter) s.wheels))) no_members)))))))
 
 abbrev pin_table : PinDay → Members
@@ -254,8 +208,8 @@ pin_table s =
     member (key_name keys.Day) (integer (pos s.day))
     (member (key_name keys.List) (string (letters_text s.list))
     (member (key_name keys.Model) (string (model_text M209))
-    (member (key_name keys.Pins) (texts (λ text. text) (pin_texts s.pins))
-    (member (key_name keys.Rows) (texts reading_text s.rows)
+    (member (key_name keys.Pins) (texts (pin_texts s.pins))
+    (member (key_name keys.Rows) (texts (map reading_text s.rows))
     (member (key_name keys.Window) (string (letters_text s.window)) no_members)))))
 
 number_again : (number : ℕ) → IsDayNumber number → number_to 31 (integer (pos number)) ≡ Some number
@@ -267,14 +221,12 @@ by_model : (number : ℕ) (model : Model) (reflector : Reflector) (table : Membe
 unfolding model_day_in
 by_model number model reflector table day e d = grind arith
 
-all_seated : (wheels : List SheetWheel) → AllByRecursion (MayStand keys.Wheels) (seats wheels)
-all_seated [] = tt
-all_seated (w ∷ wheels) = (tt, all_seated wheels)
-
 pairs_in_again : (s : RotorDay) → IsLegalRotorDay s → pairs_in (rotor_table s) ≡ Ok s.pairs
 unfolding pairs_in
 pairs_in_again s legal =
-    grind (arith, common_steps, pairs_plugged, then_read, all_cables_again, two_each, recursion_from_All, pairs_found)
+    let free : AreFree pair_letters s.pairs = record { within = legal.pairs.within; apart = legal.pairs.apart } in
+    up_to_again keys.Plugs 13 (λ pair. letters_text (pair_letters pair)) s.pairs pair_for
+    (λ k pair at. pair_again (take k s.pairs) pair (free_at pair_letters s.pairs k pair free at)) legal.pairs.few
 
 group_again : (earlier : List (List ℕ)) (group : List ℕ) → AreLetters 3 group
     → group_for earlier (string (letters_text group)) ≡ Ok group
@@ -282,11 +234,11 @@ unfolding group_of_item
 group_again earlier group are = rw (capitals_again 3 group are) refl
 
 groups_in_again : (s : RotorDay) → IsLegalRotorDay s → groups_in (rotor_table s) ≡ Ok s.groups
-unfolding groups_in all_groups_in
+unfolding groups_in
 groups_in_again s legal =
-    up_to_again keys.Groups 4 letters_text s.groups group_for s.groups
-    (each_again group_for (λ group. string (letters_text group)) (AreLetters 3) group_again s.groups
-    (recursion_from_All (AreLetters 3) _ legal.groups)) legal.few_groups
+    up_to_again keys.Groups 4 letters_text s.groups group_for
+    (λ k group at. group_again (take k s.groups) group (held
+    (AreLetters 3) s.groups k group legal.groups at)) legal.few_groups
 
 -- what each wheel has, the ring or the letter in the window
 parts_are : (s : RotorDay) → IsLegalRotorDay s → (part : SheetWheel → ℕ)
@@ -298,11 +250,11 @@ parts_are s legal part low = record {
 }
 
 rotor_again : (s : RotorDay) → IsLegalRotorDay s → rotor_day_in s.day s.model (rotor_table s) ≡ Ok (OfRotors s)
-unfolding rotor_day_in reflector_in rings_in window_in
+unfolding rotor_day_in reflector_in rings_in letters_at
 rotor_again s legal =
     let has = (has_reflector-Decides (reflectors_of s.model) s.reflector).1 legal.reflector in
     let wheels = seats_in_again keys.Wheels s.model (rotor_table s) (seats s.wheels) refl
-    (all_seated s.wheels) legal.wheels in
+    (All-map (MayStand keys.Wheels) _ s.wheels (λ k d within. tt)) legal.wheels in
     let rings = capitals_again _ _ (parts_are s legal (λ w. w.ring) (λ w has. has.ring)) in
     let letters = capitals_again _ _ (parts_are s legal (λ w. w.letter) (λ w has. has.letter)) in
     grind (arith, then_read, reflector_again, pairs_in_again, groups_in_again, wheels_again)
@@ -310,12 +262,11 @@ rotor_again s legal =
 rows_in_again : (s : PinDay) → IsLegalPinDay s → rows_in (pin_table s) ≡ Ok s.rows
 unfolding rows_in
 rows_in_again s legal =
-    each_at_again keys.Rows 27 reading_text s.rows row_for s.rows
-    (each_again row_for (λ row. string (reading_text row)) IsReading (λ earlier row is. rw (row_again row is) refl)
-    s.rows (recursion_from_All IsReading _ legal.rows)) (pin_table s) refl legal.count
+    each_at_again keys.Rows 27 reading_text s.rows row_for
+    (λ k row at. rw (row_again row (held IsReading s.rows k row legal.rows at)) refl) (pin_table s) refl legal.count
 
 pin_again : (s : PinDay) → IsLegalPinDay s → pin_day_in s.day (pin_table s) ≡ Ok (OfPins s)
-unfolding pin_day_in shown_in list_in
+unfolding pin_day_in shown_in letters_at
 pin_again s legal = grind (arith, then_read, rows_in_again, pins_in_again, window_again, capitals_again)
 
 pub legal_is_described : (day : Day) → IsLegalDay day → (table : Members) × (day_in [] table ≡ Ok day)

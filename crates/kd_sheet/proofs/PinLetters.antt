@@ -1,12 +1,12 @@
 -- The letters of the Converter's six wheels, and that the text of a wheel's effective pins is read as these pins.
-use Rattle.kd_sheet.proofs.Prelude.{All, Bool, List, Some, [], ap, append_assoc, arith, false, get_or, length, map}
-use Rattle.kd_sheet.proofs.Prelude.{nat_eq, nat_lt, not, refl, subst, suc, true, ℕ, ◌&&◌, ◌++◌, ◌+◌, ◌-◌, ◌<◌, ◌==◌}
-use Rattle.kd_sheet.proofs.Prelude.{◌∷◌, ◌≡◌, or-true, and_parts, both_ways, cases_Bool, ltb-true, ne_eqb, not-true}
-use Rattle.kd_sheet.proofs.Prelude.{nat_tests, All-contains, recursion_from_All, list_any-append, get_or-enumerate_from}
-use Rattle.kd_sheet.proofs.Prelude.{length-enumerate_from, AllPass-from_list_all, list_all-from_AllPass, sum_by-append}
-use Rattle.kd_sheet.proofs.Prelude.{sum_by-cons, slice_get-get_or, AllByRecursion, count_by, enumerate_from, list_all}
-use Rattle.kd_sheet.proofs.Prelude.{pins_text, pins_of_text, are_on_wheels, has_capital, is_on, stands_once}
-use Rattle.kd_sheet.proofs.Prelude.{on_all_wheels, has_letter-Decides, numbered, AreOnWheels, has_letter, ring_of}
+use Rattle.kd_sheet.proofs.Prelude.{All, Bool, List, Some, [], arith, cond, false, get_or, length, map, nat_lt, not}
+use Rattle.kd_sheet.proofs.Prelude.{refl, subst, suc, sym, true, zero, ℕ, ◌&&◌, ◌+◌, ◌-◌, ◌<◌, ◌==◌, ◌∙◌, ◌∷◌, ◌≡◌}
+use Rattle.kd_sheet.proofs.Prelude.{cases_Bool, ltb-true, nat_tests, get_or-map, length-map, same_lists, All-contains}
+use Rattle.kd_sheet.proofs.Prelude.{Contains-get_or, recursion_from_All, get_or-enumerate_from, length-enumerate_from}
+use Rattle.kd_sheet.proofs.Prelude.{AllPass-from_list_all, list_all-from_AllPass, sum_by-cons, slice_get-get_or}
+use Rattle.kd_sheet.proofs.Prelude.{AllByRecursion, count_by, enumerate_from, list_all, pins_text, pins_of_text}
+use Rattle.kd_sheet.proofs.Prelude.{are_on_wheels, has_capital, is_on, stands_once, on_all_wheels, has_letter-Decides}
+use Rattle.kd_sheet.proofs.Prelude.{numbered, AreOnWheels, has_letter, ring_of}
 
 abbrev is_own : ℕ × ℕ → Bool
 is_own numbered = has_letter (ring_of numbered.0) numbered.1
@@ -56,71 +56,67 @@ letters_apart : (wheel : ℕ) → are_apart (ring_of wheel) ≡ true
 unfolding ring_of
 letters_apart wheel = grind arith
 
--- the text has no letter that isn't on the wheel
-none_there : (ring : List ℕ) (pins : List Bool) (letter : ℕ) → has_letter ring letter ≡ false
-    → has_capital (pins_text ring pins) letter ≡ false
-none_there [] pins letter absent = refl
-none_there (x ∷ ring) [] letter absent = refl
-none_there (x ∷ ring) (true ∷ pins) letter absent = grind (arith, nat_tests, none_there ring pins letter)
-none_there (x ∷ ring) (false ∷ pins) letter absent = grind (arith, nat_tests, none_there ring pins letter)
+letter_there : (ring : List ℕ) (k d : ℕ) → k < length ring → has_letter ring (get_or ring k d) ≡ true
+letter_there ring k d within = (has_letter-Decides ring (get_or ring k d)).1 (Contains-get_or ring k d within)
 
-none_counted : (text : List ℕ) (letter : ℕ) → has_capital text letter ≡ false
-    → count_by (λ other. other == letter + 65) text ≡ 0
-none_counted [] letter none = refl
-none_counted (byte ∷ text) letter none = grind (arith, nat_tests, sum_by-cons, none_counted text letter)
+-- how often the text of the pins has a letter
+abbrev counted : List ℕ → ℕ → ℕ
+counted text letter = count_by (λ byte. byte == letter + 65) text
+
+has_counted : (text : List ℕ) (letter : ℕ) → has_capital text letter ≡ nat_lt 0 (counted text letter)
+has_counted [] letter = refl
+has_counted (byte ∷ text) letter =
+    let more : counted (byte ∷ text) letter
+    ≡ cond (byte == letter + 65) 1 0 + counted text letter = sum_by-cons _ byte text in
+    rw more (grind (arith, nat_tests, has_counted text letter))
+
+first_counted : (x : ℕ) (ring : List ℕ) (pin : Bool) (pins : List Bool) (letter : ℕ)
+    → counted (pins_text (x ∷ ring) (pin ∷ pins)) letter
+    ≡ cond (pin && x + 65 == letter + 65) 1 0 + counted (pins_text ring pins) letter
+first_counted x ring true pins letter = sum_by-cons _ (x + 65) (pins_text ring pins)
+first_counted x ring false pins letter = omega arith
+
+none_counted : (ring : List ℕ) (pins : List Bool) (letter : ℕ) → has_letter ring letter ≡ false
+    → counted (pins_text ring pins) letter ≡ 0
+none_counted [] pins letter absent = refl
+none_counted (x ∷ ring) [] letter absent = refl
+none_counted (x ∷ ring) (pin ∷ pins) letter absent =
+    grind (arith, nat_tests, sum_by-cons, none_counted ring pins letter)
+
+-- a letter of the wheel stands once in the text where its pin is effective, and else not
+once_counted : (ring : List ℕ) (pins : List Bool) (k d : ℕ) (e : Bool) → are_apart ring ≡ true
+    → length pins ≡ length ring → k < length ring
+    → counted (pins_text ring pins) (get_or ring k d) ≡ cond (get_or pins k e) 1 0
+once_counted (x ∷ ring) (pin ∷ pins) zero d e apart same within =
+    rw first_counted (grind (arith, nat_tests, none_counted ring pins x))
+once_counted (x ∷ ring) (pin ∷ pins) (suc k) d e apart same within =
+    rw first_counted (grind (arith, nat_tests, once_counted ring pins k d e, letter_there ring k d))
+once_counted ring pins k d e apart same within = absurd (omega arith)
+
+-- what holds of the letters of effective pins, holds of the text
+all_of_pins : (test : ℕ → Bool) (ring : List ℕ) (pins : List Bool) → length pins ≡ length ring
+    → ((k : ℕ) → k < length ring → get_or pins k false ≡ true → test (get_or ring k 0 + 65) ≡ true)
+    → list_all test (pins_text ring pins) ≡ true
+all_of_pins test [] pins same each = refl
+all_of_pins test (x ∷ ring) [] same each = refl
+all_of_pins test (x ∷ ring) (pin ∷ pins) same each =
+    grind (arith, nat_tests, each 0, all_of_pins test ring pins (omega arith) (λ k within. each (suc k) (omega arith)))
 
 is_on_ring : (ring : List ℕ) (letter : ℕ) → has_letter ring letter ≡ true → is_on ring (letter + 65) ≡ true
 is_on_ring [] letter has = has
 is_on_ring (x ∷ ring) letter has = grind (arith, cases_Bool)
 
-first_there : (ring : List ℕ) (x : ℕ) → has_letter (x ∷ ring) x ≡ true
-first_there ring x = grind (arith, nat_tests)
-
-also_there : (ring : List ℕ) (x letter : ℕ) → has_letter ring letter ≡ true → has_letter (x ∷ ring) letter ≡ true
-also_there ring x letter has = rw has (or-true (nat_eq x letter))
-
-apart_from : (x letter : ℕ) (ring : List ℕ) → has_letter ring x ≡ false → has_letter ring letter ≡ true
-    → nat_eq x letter ≡ false
-apart_from x letter ring absent has = ne_eqb x letter (λ e. both_ways (has_letter ring letter) (rw e at absent) has)
-
--- behind a text that has none of the letters
-record AreBack (all front ring : List ℕ) (pins : List Bool) : Type 0 where
-  proper : list_all (λ byte. is_on all byte && stands_once (front ++ pins_text ring pins) byte) (pins_text ring pins) ≡ true
-  read : map (has_capital (front ++ pins_text ring pins)) ring ≡ pins
-
-pins_behind_text : (all front ring : List ℕ) (pins : List Bool) → are_apart ring ≡ true → length pins ≡ length ring
-    → ((letter : ℕ) → has_letter ring letter ≡ true → (is_on all (letter + 65) ≡ true) × (has_capital front letter ≡ false))
-    → AreBack all front ring pins
-pins_behind_text all front [] [] apart same each = record { proper = refl; read = refl }
-pins_behind_text all front (x ∷ ring) (true ∷ pins) apart same each =
-    let parts = and_parts (not (has_letter ring x)) (are_apart ring) apart in
-    let absent = not-true _ parts.0 in
-    let text = pins_text ring pins in
-    let here = each x (first_there ring x) in
-    let whole : (front ++ (x + 65) ∷ []) ++ text ≡ front ++ (x + 65) ∷ text = append_assoc front ((x + 65) ∷ []) text in
-    let rest = pins_behind_text all (front ++ (x + 65) ∷ []) ring pins parts.1 (omega arith) (λ letter has.
-    let later = each letter (also_there ring x letter has) in
-    let differs = apart_from x letter ring absent has in
-    (later.0, grind (arith, nat_tests, list_any-append))) in
-    let once : count_by (λ other. other == x + 65) (front ++ (x + 65) ∷ text) ≡ 1 =
-    grind (arith, nat_tests, sum_by-append, sum_by-cons, none_counted front x, none_counted text x, none_there ring pins x) in
-    let there : has_capital (front ++ (x + 65) ∷ text) x ≡ true = grind (arith, nat_tests, list_any-append) in
-    record {
-      proper = rw (here.0, once) (rw whole at rest.proper);
-      read = rw there (ap (λ bs. true ∷ bs) (rw whole at rest.read));
-    }
-pins_behind_text all front (x ∷ ring) (false ∷ pins) apart same each =
-    let parts = and_parts (not (has_letter ring x)) (are_apart ring) apart in
-    let rest = pins_behind_text all front ring pins parts.1 (omega arith) (λ letter has. each letter (also_there ring x letter has)) in
-    let none : has_capital (front ++ pins_text ring pins) x ≡ false =
-    rw (list_any-append, (each x (first_there ring x)).1, none_there ring pins x (not-true _ parts.0)) refl in
-    record { proper = rest.proper; read = rw none (ap (λ bs. false ∷ bs) rest.read) }
-pins_behind_text all front ring pins apart same each = absurd (omega arith)
-
 pub pins_back : (wheel : ℕ) (pins : List Bool) → length pins ≡ length (ring_of wheel)
     → pins_of_text (ring_of wheel) (pins_text (ring_of wheel) pins) ≡ Some pins
 unfolding pins_of_text
 pins_back wheel pins same =
-    let back = pins_behind_text (ring_of wheel) [] (ring_of wheel) pins (letters_apart wheel) same
-    (λ letter has. (is_on_ring (ring_of wheel) letter has, refl)) in
-    rw (back.proper, back.read) refl
+    let ring = ring_of wheel in
+    let text = pins_text ring pins in
+    let once : (k d : ℕ) (e : Bool) → k < length ring → counted text (get_or ring k d) ≡ cond (get_or pins k e) 1 0 =
+    λ k d e. once_counted ring pins k d e (letters_apart wheel) same in
+    let proper = all_of_pins (λ byte. is_on ring byte && stands_once text byte) ring pins same (λ k within effective.
+    rw (is_on_ring ring (get_or ring k 0) (letter_there ring k 0 within), once k 0 false within, effective) refl) in
+    let read : map (has_capital text) ring ≡ pins = same_lists _ _ (length-map ring _ ∙ sym same) (λ k e within.
+    let here : k < length ring = omega (arith, length-map ring (has_capital text)) in
+    get_or-map (has_capital text) ring k 0 e here ∙ rw (has_counted, once k 0 e here) (grind arith)) in
+    rw (proper, read) refl

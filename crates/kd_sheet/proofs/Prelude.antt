@@ -1,12 +1,12 @@
 -- What the proofs of this crate speak of.
-pub use Rattle.std.proofs.Common.{All, Bool, Bor, Contains, Decides, Err, Global, IfSome, IsSome, IsUtf8, List, MatchOption, None, Ok, Option, Result, Some, Vec, [], ap, append_assoc, arith, bytes_eq, codes, cond, drop, false, filter_map, find, get_or, inl, inr, is_some, length, length-set, map, nat_eq, nat_le, nat_lt, not, ok_or, option_map, pos, refl, replicate, rules, set, slice_get, subst, suc, sym, take, true, zero, ℕ, ◌&&◌, ◌*◌, ◌++◌, ◌+◌, ◌-◌, ◌<◌, ◌==◌, ◌||◌, ◌↔◌, ◌∙◌, ◌∷◌, ◌≡◌, ◌≢◌, ◌≤◌, ◌⊎◌}
+pub use Rattle.std.proofs.Common.{All, Bool, Bor, Contains, Decides, Err, Global, IfSome, IsSome, IsUtf8, List, MatchOption, None, Ok, Option, Result, Some, Vec, [], ap, append_assoc, arith, bytes_eq, codes, cond, drop, false, filter_map, find, get_or, inl, inr, is_some, length, length-set, map, nat_eq, nat_le, nat_lt, not, ok_or, option_map, pos, refl, replicate, rules, set, slice_get, slice_index, subst, suc, sym, take, true, zero, ℕ, ◌&&◌, ◌*◌, ◌++◌, ◌+◌, ◌-◌, ◌<◌, ◌==◌, ◌||◌, ◌↔◌, ◌∙◌, ◌∷◌, ◌≡◌, ◌≢◌, ◌≤◌, ◌⊎◌}
 pub use Rattle.std.proofs.Math.Bool.{and-false, or-true}
 pub use Rattle.std.proofs.lemmas.Bool.{and_parts, both_ways, cases_Bool, cases_eq, cases_lt, eq-eqb, eqb-false, eqb-true, false_from_ne_true, false≢true, le-leb, leb-true, ltb-true, ne_eqb, not-true}
 pub use Rattle.std.proofs.lemmas.Bool.Decides.{Decides-by_or, Decides-like, nat_tests, not_from_Decides, same_from_decides}
 pub use Rattle.std.proofs.lemmas.Grind.{common_steps, get_or-set_at}
-pub use Rattle.std.proofs.lemmas.List.{append-nil, drop-set-lt, drop_more, get_or-map, get_or-set_other, length-append, length-map, length-take-le, same_lists, take-append-drop, take_all, take_more, take_more_set, map-id}
+pub use Rattle.std.proofs.lemmas.List.{append-nil, drop-set-lt, drop_more, get_or-map, get_or-set_other, length-append, drop_all, length-map, length-take-le, same_lists, take-append-drop, take_all, take_more, take_more_set, map-id}
 pub use Rattle.std.proofs.lemmas.List.Concat.{flat_map-append}
-pub use Rattle.std.proofs.lemmas.List.Elements.{All-append, All-contains, All-from_recursion, All-map, All-nil, All-push, All-weaker, Contains-append_left, Contains-push, Contains-push_cases, Decides-contains, filter_map-append, recursion_from_All}
+pub use Rattle.std.proofs.lemmas.List.Elements.{All-append, All-contains, All-from_recursion, All-map, All-nil, All-push, All-weaker, Contains-get_or, Decides-contains, filter_map-append, recursion_from_All}
 pub use Rattle.std.proofs.lemmas.List.Folds.{find-append, list_all-append, list_any-append}
 pub use Rattle.std.proofs.lemmas.List.FromFn.{get_or-enumerate_from, get_or-map-range_with_len, length-enumerate_from, length-map-range_with_len}
 pub use Rattle.std.proofs.lemmas.List.Sums.{AllPass-from_list_all, list_all-from_AllPass, sum_by-append, sum_by-cons}
@@ -22,8 +22,8 @@ unfoldable pub use Rattle.std.specs.List.{IsDistinct}
 pub use Rattle.std.specs.List.{AllByRecursion, concat, count_by, enumerate_from, flat_map, list_all, list_any}
 pub use Rattle.std.specs.Option.{option_and_then, option_copied, option_map_or, option_or}
 pub use Rattle.kd_pins.specs.declared.pin_set.PinSet.{PinSet}
-unfoldable pub use Rattle.kd_sheet.specs.Cables.{all_cables_in, cable_for, cables_in, pairs_in, plugged_letters_in}
-pub use Rattle.kd_sheet.specs.Cables.{cable_of, may_have, pairs_of, thirteen}
+unfoldable pub use Rattle.kd_sheet.specs.Cables.{cable_for, cables_in, letters_in_cable, pair_for, pairs_in}
+pub use Rattle.kd_sheet.specs.Cables.{cable_of, pair_letters, thirteen}
 unfoldable pub use Rattle.kd_sheet.specs.Document.{document_of}
 pub use Rattle.kd_sheet.specs.Document.{demand, each_at, in_turn, items_at, items_in, list_of, result_map, up_to, value_at, ◌>>=◌, ◌>>◌}
 unfoldable pub use Rattle.kd_sheet.specs.Drum.{bars_in, row_of_text, rows_in}
@@ -31,7 +31,8 @@ pub use Rattle.kd_sheet.specs.Drum.{is_figure, may_read, row_for, standing_for}
 pub use Rattle.kd_sheet.specs.Key.{key_name}
 pub use Rattle.kd_sheet.specs.Laws.{DaysAreTheEntries, LegalPartsAreReadBack}
 pub use Rattle.kd_sheet.specs.Letters.{capital_letters}
-unfoldable pub use Rattle.kd_sheet.specs.MachineFile.{box_letters_in, known_model_in, machine_in, model_in, parts_in, pin_parts_in, reflector_in, rotor_parts_in, version_in}
+unfoldable pub use Rattle.kd_sheet.specs.Letters.{letters_at}
+unfoldable pub use Rattle.kd_sheet.specs.MachineFile.{known_model_in, machine_in, model_in, parts_in, pin_parts_in, reflector_in, rotor_parts_in, version_in}
 unfoldable pub use Rattle.kd_sheet.specs.MachineText.{machine_text}
 pub use Rattle.kd_sheet.specs.MachineText.{cable_text, key_line, listed, pin_texts, pins_text, quoted, seat_text, version_of}
 unfoldable pub use Rattle.kd_sheet.specs.Names.{model_by_name, reflector_by_name, standing_by_text, wheel_by_name}
@@ -42,12 +43,11 @@ pub use Rattle.kd_sheet.specs.PinWheels.{are_on_wheels, has_capital, is_on, pins
 unfoldable pub use Rattle.kd_sheet.specs.Seats.{is_seated, seat_for, seat_of_item, seats_in, wheel_for}
 pub use Rattle.kd_sheet.specs.Seats.{holds, may_be_empty}
 pub use Rattle.kd_sheet.specs.Sheet.{IsMonth, day_of, month_of}
-unfoldable pub use Rattle.kd_sheet.specs.SheetFile.{all_groups_in, day_for, day_in, group_of_item, groups_in, list_in, model_day_in, new_number_in, number_in, pin_day_in, rings_in, rotor_day_in, sheet_in, window_in}
+unfoldable pub use Rattle.kd_sheet.specs.SheetFile.{day_for, day_in, group_of_item, groups_in, model_day_in, new_number_in, number_in, pin_day_in, rings_in, rotor_day_in, sheet_in}
 pub use Rattle.kd_sheet.specs.SheetFile.{group_for, rings_of, sheet_wheels}
 pub use Rattle.kd_sheet.specs.declared.fault.SheetFault.{SheetFault}
 pub use Rattle.kd_sheet.specs.declared.fault.SheetFault.TheVariants.{BadValue, NotToml, UnknownModel}
 pub use Rattle.kd_sheet.specs.declared.key.Key.{Key}
-pub use Rattle.kd_state.proofs.Prelude.{letters_plugged}
 pub use Rattle.kd_state.proofs.Cables.{eqb_flips, new_tells, no_letters}
 pub use Rattle.kd_state.proofs.Slots.{all_pins, are_on_wheels as on_all_wheels, has_letter-Decides, numbered_here, numbered_other}
 pub use Rattle.kd_state.proofs.Wheels.{has_reflector-Decides, has_wheel-Decides, same_wheel-Decides}
@@ -63,7 +63,7 @@ pub use Rattle.kd_state.specs.declared.machine.rotor_parts.RotorParts.{RotorPart
 pub use Rattle.kd_state.specs.declared.sheet_day.rotor_entry.SheetWheel.{SheetWheel}
 pub use Rattle.kd_tables.specs.Places.{IsBefore, IsReading, figure, in_order, place_rank, reading_text, standing_text, standings}
 unfoldable pub use Rattle.kd_tables.specs.Rings.{ring_of}
-pub use Rattle.kd_tables.specs.Tables.{IsAllowed, box_of, letters_of, model_text, reflector_text, reflectors_of, slots_of, wheel_text}
+pub use Rattle.kd_tables.specs.Tables.{IsAllowed, box_of, letters_of, model_text, reflector_text, reflectors_of, slots_of, wheel_text, wheels_for}
 pub use Rattle.kd_tables.specs.Text.{is_capital, letters_text}
 pub use Rattle.kd_tables.specs.declared.model.Model.{Model}
 pub use Rattle.kd_tables.specs.declared.model.Model.TheVariants.{M209}

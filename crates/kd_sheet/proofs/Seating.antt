@@ -1,14 +1,13 @@
 -- The wheels that an array seats, slot by slot, and the wheels of a day in their slots.
 use Rattle.kd_sheet.proofs.Prelude.{All, Contains, Decides, IfSome, IsSome, List, Ok, Option, Some, [], ap, arith}
-use Rattle.kd_sheet.proofs.Prelude.{false, length, refl, slice_get, ℕ, ◌++◌, ◌+◌, ◌<◌, ◌∷◌, ◌≡◌, ◌⊎◌, cases_lt}
-use Rattle.kd_sheet.proofs.Prelude.{false≢true, not-true, Decides-by_or, Decides-like, not_from_Decides, common_steps}
-use Rattle.kd_sheet.proofs.Prelude.{All-nil, All-push, Decides-contains, get_or_from_slice_get, gets, none-some}
-use Rattle.kd_sheet.proofs.Prelude.{same_Some, slice_get_within, AllByRecursion, list_any, is_seated, seat_for}
+use Rattle.kd_sheet.proofs.Prelude.{false, get_or, length, refl, take, ℕ, ◌+◌, ◌<◌, ◌∷◌, ◌≡◌, ◌≤◌, cases_lt, false≢true}
+use Rattle.kd_sheet.proofs.Prelude.{not-true, Decides-by_or, Decides-like, not_from_Decides, common_steps}
+use Rattle.kd_sheet.proofs.Prelude.{length-take-le, Decides-contains, get_or_from_slice_get, gets, none-some, same_Some}
+use Rattle.kd_sheet.proofs.Prelude.{slice_get_within, AllByRecursion, list_any, in_turn, is_seated, seat_for}
 use Rattle.kd_sheet.proofs.Prelude.{seat_of_item, seats_in, wheel_for, holds, may_be_empty, sheet_wheels, Key}
-use Rattle.kd_sheet.proofs.Prelude.{has_wheel-Decides, same_wheel-Decides, AreAllowed, AreApart, StandsAt, AreSeated}
-use Rattle.kd_sheet.proofs.Prelude.{HasLetters, seats, IsAllowed, slots_of, Model, Wheel, Data, Members}
-use Rattle.kd_sheet.specs.declared.key.Key.TheVariants as keys
-use Rattle.kd_sheet.proofs.InTurn.{Gives, after_any, done, each_read, tested}
+use Rattle.kd_sheet.proofs.Prelude.{has_wheel-Decides, same_wheel-Decides, AreAllowed, AreApart, StandsAt, HasLetters}
+use Rattle.kd_sheet.proofs.Prelude.{seats, IsAllowed, slots_of, Model, Wheel, Data, Members}
+use Rattle.kd_sheet.proofs.InTurn.{Gives, after_any, done, nothing, as_many, read_at, each_is, each_read, tested}
 
 -- ---- one seat
 
@@ -47,55 +46,52 @@ seat_read : (key : Key) (model : Model) (slots : List (Option Wheel)) (item : Da
 unfolding seat_of_item seat_for
 seat_read key model slots item seat e = record { free = grind (arith, wheel_read); filled = grind (arith, none-some) }
 
--- ---- the slots so far
+-- ---- the slots that an array fills
 
--- what stands at a place stands among the first slots, or is the last
-push_cases : {A : Type 0} (xs : List A) (y : A) (place : ℕ) (x : A) → slice_get (xs ++ y ∷ []) place ≡ Some x
-    → (slice_get xs place ≡ Some x) ⊎ ((place ≡ length xs) × (y ≡ x))
-push_cases xs y place x h = grind (arith, common_steps, gets, cases_lt place (length xs))
+-- a wheel that stands in a slot is free behind the slots before it
+stands_free : (key : Key) (model : Model) (items : List Data) (slots : List (Option Wheel))
+    → in_turn (seat_of_item key model) items ≡ Ok slots → (place : ℕ) (wheel : Wheel) → StandsAt slots place wheel
+    → (place < length slots) × IsFree model (take place slots) wheel
+stands_free key model items slots e place wheel stands =
+    let within = slice_get_within slots place (Some wheel) stands in
+    let here = get_or_from_slice_get slots place (Some wheel) (Some wheel) stands in (
+      within,
+      (seat_read key model (take place slots) (get_or items place nothing) (Some wheel) (
+          rw here at (read_at _ items slots e place nothing (Some wheel) (omega (arith, as_many _ items slots e)))
+          )).free,
+    )
 
--- what stands at a place is among the slots
-stands_among : (slots : List (Option Wheel)) (place : ℕ) (wheel : Wheel) → StandsAt slots place wheel
-    → Contains slots (Some wheel)
-stands_among slots place wheel stands =
-    let seat = Some wheel in
-    (place, slice_get_within slots place seat stands, get_or_from_slice_get slots place seat seat stands)
+-- a wheel that stands further left isn't free
+not_free : (model : Model) (slots : List (Option Wheel)) (place other : ℕ) (wheel : Wheel) → StandsAt slots place wheel
+    → IsFree model (take other slots) wheel → other ≤ length slots → other ≤ place
+not_free model slots place other wheel stands free within =
+    grind (arith, common_steps, gets, cases_lt place other)
 
 -- each wheel stands where it may, and none in two slots
-record AreSeats (key : Key) (model : Model) (slots : List (Option Wheel)) : Type 0 where
-  allowed : AreAllowed model slots
-  apart : AreApart slots
-  filled : may_be_empty key ≡ false → All IsSome slots
-
-one_more : (key : Key) (model : Model) (slots : List (Option Wheel)) (item : Data) (seat : Option Wheel)
-    → AreSeats key model slots → seat_of_item key model slots item ≡ Ok seat → AreSeats key model (slots ++ seat ∷ [])
-one_more key model slots item seat seats e =
-    let here = seat_read key model slots item seat e in
-    record {
-      allowed = λ place wheel stands. grind (arith, push_cases, seats.allowed);
-      apart = λ place other wheel stands again. grind (arith, push_cases, seats.apart, stands_among);
-      filled = λ full. All-push IsSome slots seat (seats.filled full) (here.filled full);
-    }
-
--- the slots that an array fills
 pub record FillsSlots (key : Key) (model : Model) (slots : List (Option Wheel)) : Type 0 where
-  pub seated : AreSeated model slots
+  pub allowed : AreAllowed model slots
+  pub apart : AreApart slots
   pub filled : may_be_empty key ≡ false → All IsSome slots
 
-pub seats_in_fill : (key : Key) (model : Model) (table : Members)
-    → Gives (seats_in key model table) (FillsSlots key model)
-unfolding seats_in
-seats_in_fill key model table slots e =
-    let all = each_read (seat_of_item key model) (AreSeats key model) (record {
-      allowed = λ place wheel stands. absurd (none-some _ stands);
-      apart = λ place other wheel stands again. absurd (none-some _ stands);
-      filled = λ full. All-nil IsSome;
-    }) (one_more key model) key (slots_of model) table slots e in
-    record { seated = record { count = all.0; allowed = all.1.allowed; apart = all.1.apart }; filled = all.1.filled }
+fill_slots : (key : Key) (model : Model) (items : List Data)
+    → Gives (in_turn (seat_of_item key model) items) (FillsSlots key model)
+fill_slots key model items slots e =
+    let free = stands_free key model items slots e in
+    record {
+      allowed = λ place wheel stands. grind (arith, free place wheel stands, length-take-le);
+      apart = λ place other wheel stands again.
+          let one = free place wheel stands in
+          let two = free other wheel again in
+          let first = not_free model slots place other wheel stands two.1 (omega (arith, two.0)) in
+          omega (arith, first, not_free model slots other place wheel again one.1 (omega (arith, one.0)));
+      filled = λ full. each_is (seat_of_item key model) IsSome
+          (λ before item seat is. (seat_read key model before item seat is).filled full) items slots e;
+    }
 
-pub wheels_fill : (model : Model) (table : Members) (slots : List (Option Wheel)) → seats_in keys.Wheels model table ≡ Ok slots
-    → (length slots ≡ slots_of model) × All IsSome slots
-wheels_fill model table slots e = grind (arith, seats_in_fill)
+pub seats_in_fill : (key : Key) (model : Model) (table : Members)
+    → Gives (seats_in key model table) (λ slots. (length slots ≡ slots_of model) × FillsSlots key model slots)
+unfolding seats_in
+seats_in_fill key model table = each_read _ (FillsSlots key model) (fill_slots key model) key (slots_of model) table
 
 -- ---- the wheels of a day
 

@@ -13,12 +13,11 @@ use Rattle.kd_state.specs.declared.machine.parts.Parts.TheVariants.{Rotor, Pin}
 use Rattle.kd_sheet.specs.Cables.{cables_in}
 use Rattle.kd_sheet.specs.Document.{◌>>=◌, ◌>>◌, demand, document_of, value_at, text_at}
 use Rattle.kd_sheet.specs.Drum.{bars_in}
-use Rattle.kd_sheet.specs.Letters.{capital_letters}
+use Rattle.kd_sheet.specs.Letters.{letters_at}
 use Rattle.kd_sheet.specs.Names.{model_by_name, reflector_by_name}
 use Rattle.kd_sheet.specs.Numbers.{number_to}
 use Rattle.kd_sheet.specs.PinWheels.{shown_in, pins_in}
 use Rattle.kd_sheet.specs.Seats.{seats_in}
-use Rattle.kd_sheet.specs.declared.key.Key.{Key}
 use Rattle.kd_sheet.specs.declared.key.Key.TheVariants as keys
 use Rattle.kd_sheet.specs.declared.fault.SheetFault.{SheetFault}
 use Rattle.kd_sheet.specs.declared.fault.SheetFault.TheVariants.{UnknownModel, BadValue}
@@ -53,19 +52,13 @@ reflector_in model table = do
   name ← text_at keys.Reflector table
   ok_or (reflector_by_name model name) (BadValue keys.Reflector)
 
--- a letter for each wheel of the model's box, in box order
-unfoldable pub box_letters_in : Key → Model → Members → Result (List ℕ) SheetFault
-box_letters_in key model table = do
-  text ← text_at key table
-  ok_or (capital_letters (length (box_of model)) text) (BadValue key)
-
--- the parts of a rotor machine
+-- the parts of a rotor machine. Each wheel of the model's box has a ring and a letter, in box order
 unfoldable pub rotor_parts_in : Model → Members → Result RotorParts SheetFault
 rotor_parts_in model table = do
   reflector ← reflector_in model table
   slots ← seats_in keys.Slots model table
-  rings ← box_letters_in keys.Rings model table
-  letters ← box_letters_in keys.Letters model table
+  rings ← letters_at keys.Rings (length (box_of model)) table
+  letters ← letters_at keys.Letters (length (box_of model)) table
   cables ← cables_in table
   Ok (record { model = model; slots = slots; reflector = reflector; rings = rings; letters = letters; cables = cables })
 

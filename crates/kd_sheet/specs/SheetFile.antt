@@ -10,10 +10,10 @@ use Rattle.kd_tables.specs.declared.wheel.Wheel.{Wheel}
 use Rattle.kd_state.specs.SheetDay.{Day, OfRotors, OfPins, day_number}
 use Rattle.kd_state.specs.declared.sheet_day.rotor_entry.SheetWheel.{SheetWheel}
 use Rattle.kd_sheet.specs.Cables.{pairs_in}
-use Rattle.kd_sheet.specs.Document.{◌>>=◌, ◌>>◌, demand, document_of, in_turn, value_at, text_at, list_of, items_at, up_to}
+use Rattle.kd_sheet.specs.Document.{◌>>=◌, ◌>>◌, demand, document_of, in_turn, value_at, list_of, items_at, up_to}
 use Rattle.kd_sheet.specs.Drum.{rows_in}
 use Rattle.kd_sheet.specs.Key.{key_name}
-use Rattle.kd_sheet.specs.Letters.{capital_letters}
+use Rattle.kd_sheet.specs.Letters.{capital_letters, letters_at}
 use Rattle.kd_sheet.specs.MachineFile.{model_in, reflector_in}
 use Rattle.kd_sheet.specs.Numbers.{number_to, numbered_letters}
 use Rattle.kd_sheet.specs.PinWheels.{shown_in, pins_in}
@@ -48,12 +48,6 @@ rings_in model table = do
   value ← value_at keys.Rings table
   ok_or (rings_of (slots_of model) value) (BadValue keys.Rings)
 
--- a letter for each of the model's windows
-unfoldable pub window_in : Model → Members → Result (List ℕ) SheetFault
-window_in model table = do
-  text ← text_at keys.Window table
-  ok_or (capital_letters (slots_of model) text) (BadValue keys.Window)
-
 -- the letters of an item that is a text of three capital letters
 unfoldable pub group_of_item : Data → Option (List ℕ)
 group_of_item item = option_and_then (capital_letters 3) (as_str item)
@@ -62,19 +56,9 @@ group_of_item item = option_and_then (capital_letters 3) (as_str item)
 abbrev pub group_for : List (List ℕ) → Data → Result (List ℕ) SheetFault
 group_for earlier item = ok_or (group_of_item item) (BadValue keys.Groups)
 
--- an array of at most four groups
-unfoldable pub all_groups_in : Data → Result (List (List ℕ)) SheetFault
-all_groups_in value = up_to keys.Groups 4 group_for value
-
--- the groups: none where the day does not speak of them
+-- the groups, at most four: none where the day does not speak of them
 unfoldable pub groups_in : Members → Result (List (List ℕ)) SheetFault
-groups_in table = option_map_or all_groups_in (get_member (key_name keys.Groups) table) (Ok [])
-
--- the two letters of the key list
-unfoldable pub list_in : Members → Result (List ℕ) SheetFault
-list_in table = do
-  text ← text_at keys.List table
-  ok_or (capital_letters 2 text) (BadValue keys.List)
+groups_in table = option_map_or (up_to keys.Groups 4 group_for) (get_member (key_name keys.Groups) table) (Ok [])
 
 -- the wheels in their slots, each with its ring and the letter in its window
 abbrev pub sheet_wheels : List (Option Wheel) → List ℕ → List ℕ → List SheetWheel
@@ -88,7 +72,7 @@ rotor_day_in number model table = do
   reflector ← reflector_in model table
   seats ← seats_in keys.Wheels model table
   rings ← rings_in model table
-  window ← window_in model table
+  window ← letters_at keys.Window (slots_of model) table
   pairs ← pairs_in table
   groups ← groups_in table
   Ok (OfRotors (record { day = number; model = model; reflector = reflector; wheels = sheet_wheels seats rings window; pairs = pairs; groups = groups }))
@@ -99,7 +83,7 @@ pin_day_in number table = do
   rows ← rows_in table
   pins ← pins_in table
   window ← shown_in keys.Window table
-  list ← list_in table
+  list ← letters_at keys.List 2 table
   Ok (OfPins (record { day = number; rows = rows; pins = pins; window = window; list = list }))
 
 -- the day of a model

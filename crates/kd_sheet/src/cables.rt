@@ -1,17 +1,17 @@
-//! What the items of an array plug, cable by cable.
-ghost use Rattle.std.specs.Prelude.{◌≡◌, ◌≤◌, None, Some, map, length, IfSome};
+//! The cables of a machine, one after another.
+ghost use Rattle.std.specs.Prelude.{◌≡◌, ◌≤◌, Some, None, length, IfSome};
 ghost use Rattle.std.specs.Option.{option_map};
 ghost use Rattle.toml.specs.View.{view, table_view};
-ghost use Rattle.kd_tables.specs.Text.{is_capital};
 ghost use Rattle.kd_state.specs.Machine.{cable_letters, plugged_letters};
 ghost use Rattle.kd_state.specs.Setting.{has_letter, are_new};
-ghost use Rattle.kd_sheet.specs.Cables.{may_have, plugged_letters_in, cable_of, cable_for, all_cables_in, cables_in};
+ghost use Rattle.kd_sheet.specs.Cables.{letters_in_cable, cable_of, cable_for, thirteen, cables_in};
 
-use super::document::{find_at, items_in};
+use super::document::find_at;
 use super::fault::SheetFault;
-use super::items::{ItemReader, read_items};
+use super::items::{ItemReader, read_up_to};
 use super::key::Key;
 use super::letters::capital_letter;
+use arrayvec::ArrayVec;
 use kd_tables::Letter;
 use toml::{Table, Value};
 
@@ -21,26 +21,13 @@ pub type Cable = (Option<Letter>, Option<Letter>);
 /// How many cables a plugboard takes.
 const CABLES: usize = 13;
 
-/// Whether a text at the key may have so many letters: up to two in a machine's cable, two in a sheet's pair.
-fn may_have(key: Key, count: usize) -> bool
-    ensures { result ≡ may_have key count }
-{
-    match key {
-        Key::Cables => count <= 2,
-        _ => count == 2,
-    }
-}
-
 /// The cable with the letters of a text.
-#[tactic(auto, unfolding(crate::specs::Cables::plugged_letters_in))]
-fn cable_of_text(key: Key, text: &[u8]) -> Option<Cable>
-    ensures value { result ≡ option_map cable_of (plugged_letters_in key text.now) }
+#[tactic(auto, unfolding(crate::specs::Cables::letters_in_cable))]
+fn cable_of_text(text: &[u8]) -> Option<Cable>
+    ensures value { result ≡ option_map cable_of (letters_in_cable text.now) }
     ensures letters { IfSome result
-        (λ cable. plugged_letters_in key text.now ≡ Some (cable_letters cable)) }
+        (λ cable. letters_in_cable text.now ≡ Some (cable_letters cable)) }
 {
-    if !may_have(key, text.len()) {
-        return None;
-    }
     match text {
         [] => Some((None, None)),
         [one] => {
@@ -98,46 +85,35 @@ fn are_new(cables: &[Cable], cable: &Cable) -> bool
     }
 }
 
-/// The cable of an item behind these cables.
-#[tactic(auto, unfolding(crate::specs::Cables::cable_for))]
-fn cable_for(key: Key, cables: &[Cable], item: &Value) -> Result<Cable, SheetFault>
-    ensures { result ≡ cable_for key cables.now (view item.now) }
-{
-    let text = item.as_str().ok_or(SheetFault::BadValue(key))?;
-    let cable = cable_of_text(key, text.as_bytes()).ok_or(SheetFault::BadValue(key))?;
-    if are_new(cables, &cable) {
-        Ok(cable)
-    } else {
-        Err(SheetFault::LetterTwice)
-    }
-}
-
-/// Reads the cables of an array at a key.
+/// Reads the cables, of which none has a letter of another.
 #[derive(Clone, Copy)]
-struct CableReader {
-    key: Key,
-}
+struct CableReader;
 
 impl ItemReader<Cable> for CableReader {
     ghost room = { λ _. 13 };
 
-    ghost reading = { λ reader. cable_for reader.key };
+    ghost reading = { λ _. cable_for };
 
+    #[tactic(auto, unfolding(crate::specs::Cables::cable_for))]
     fn read(&self, before: &[Cable], item: &Value) -> Result<Cable, SheetFault> {
-        cable_for(self.key, before, item)
+        let text = item.as_str().ok_or(SheetFault::BadValue(Key::Cables))?;
+        let cable = cable_of_text(text.as_bytes()).ok_or(SheetFault::BadValue(Key::Cables))?;
+        if are_new(before, &cable) {
+            Ok(cable)
+        } else {
+            Err(SheetFault::LetterTwice)
+        }
     }
 }
 
-/// The 13 cables of an array of at most 13.
-#[tactic(auto, unfolding(crate::specs::Cables::all_cables_in))]
-pub fn all_cables_in(value: &Value, key: Key) -> Result<[Cable; CABLES], SheetFault>
-    ensures { result ≡ all_cables_in key (view value.now) }
+/// The cables, and empty ones behind them: 13 in all.
+fn thirteen(cables: &[Cable]) -> [Cable; CABLES]
+    requires { length cables.now ≤ 13 }
+    ensures { result ≡ thirteen cables.now }
 {
-    let items = items_in(value, key)?;
-    if items.len() > CABLES {
-        return Err(SheetFault::BadValue(key));
-    }
-    read_items(&CableReader { key }, items, (None, None))
+    let mut all = [(None, None); CABLES];
+    all[..cables.len()].copy_from_slice(cables);
+    all
 }
 
 /// The machine's cables: none is plugged where the file does not speak of them.
@@ -145,8 +121,9 @@ pub fn all_cables_in(value: &Value, key: Key) -> Result<[Cable; CABLES], SheetFa
 pub fn cables_in(table: &Table) -> Result<[Cable; CABLES], SheetFault>
     ensures { result ≡ cables_in (table_view table.now) }
 {
-    match find_at(table, Key::Cables) {
-        Some(value) => all_cables_in(value, Key::Cables),
-        None => Ok([(None, None); CABLES]),
-    }
+    let cables: ArrayVec<Cable, CABLES> = match find_at(table, Key::Cables) {
+        Some(value) => read_up_to(value, Key::Cables, &CableReader)?,
+        None => ArrayVec::new(),
+    };
+    Ok(thirteen(cables.as_slice()))
 }

@@ -1,12 +1,13 @@
 //! The items of an array, read one after another, each in the light of those before it.
-ghost use Rattle.std.specs.Prelude.{◌≡◌, ◌-◌, ◌<◌, ◌≤◌, ◌++◌, ℕ, List, Result, Ok, map, length, replicate};
+ghost use Rattle.std.specs.Prelude.{◌≡◌, ◌<◌, ◌≤◌, ℕ, List, Result, map, length};
 ghost use Rattle.toml.specs.Data.{Data};
 ghost use Rattle.toml.specs.View.{view, table_view};
-ghost use Rattle.kd_sheet.specs.Document.{◌>>=◌ as ◌followed_by◌, in_turn, each_at};
+ghost use Rattle.kd_sheet.specs.Document.{in_turn, each_at, up_to, result_map};
 
-use super::document::items_at;
+use super::document::{items_at, items_in};
 use super::fault::SheetFault;
 use super::key::Key;
+use arrayvec::ArrayVec;
 use toml::{Table, Value};
 
 /// How the items of an array are read.
@@ -25,23 +26,21 @@ pub trait ItemReader<T> {
         ensures { result ≡ reading self.now before.now (view item.now) };
 }
 
-/// What the items are, with blanks behind them.
-pub fn read_items<T: Copy, R: ItemReader<T>, const N: usize>(
+/// Fills the places with what the items are, an item for each.
+fn read_items<T: Copy, R: ItemReader<T>>(
     reader: &R,
     items: &[Value],
-    blank: T,
-) -> Result<[T; N], SheetFault>
+    values: &mut [T],
+) -> Result<(), SheetFault>
     requires room { length items.now ≤ R.room reader.now }
-    requires count { length items.now ≤ N }
-    ensures { result ≡ (in_turn (R.reading reader.now) (map view items.now)
-        followed_by (λ values. Ok (values ++ replicate (N - length values) blank))) }
+    requires count { length values.old ≡ length items.now }
+    ensures { result_map (λ _. values.new) result ≡ in_turn (R.reading reader.now) (map view items.now) }
 {
-    let mut values = [blank; N];
     for (place, item) in items.iter().enumerate() {
         let value = reader.read(&values[..place], item)?;
         values[place] = value;
     }
-    Ok(values)
+    Ok(())
 }
 
 /// What the items of the array at a key are, of which there have to be `N`.
@@ -58,5 +57,25 @@ pub fn read_each<T: Copy, R: ItemReader<T>, const N: usize>(
     if items.len() != N {
         return Err(SheetFault::BadValue(key));
     }
-    read_items(reader, items, blank)
+    let mut values = [blank; N];
+    read_items(reader, items, &mut values)?;
+    Ok(values)
+}
+
+/// What the items of the array are that a key's value has to be, of which there may be `N`.
+pub fn read_up_to<T: Copy + Default, R: ItemReader<T>, const N: usize>(
+    value: &Value,
+    key: Key,
+    reader: &R,
+) -> Result<ArrayVec<T, N>, SheetFault>
+    requires { R.room reader.now ≡ N }
+    ensures { result_map (λ values. values.items) result ≡ up_to key N (R.reading reader.now) (view value.now) }
+{
+    let items = items_in(value, key)?;
+    if items.len() > N {
+        return Err(SheetFault::BadValue(key));
+    }
+    let mut values = [T::default(); N];
+    read_items(reader, items, &mut values[..items.len()])?;
+    Ok(ArrayVec::try_from(&values[..items.len()]).ok().unwrap())
 }

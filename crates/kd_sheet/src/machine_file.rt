@@ -1,9 +1,10 @@
 //! Machine files: what stands on the desk.
-ghost use Rattle.std.specs.Prelude.{◌≡◌, ◌≤◌, ◌<◌};
+ghost use Rattle.std.specs.Prelude.{◌≡◌, ◌≤◌, ◌<◌, length};
 ghost use Rattle.toml.specs.View.{table_view};
-ghost use Rattle.kd_tables.specs.Tables.{slots_of};
+ghost use Rattle.kd_tables.specs.Tables.{box_of, slots_of};
 ghost use Rattle.kd_sheet.specs.Document.{Answers};
-ghost use Rattle.kd_sheet.specs.MachineFile.{version_in, model_in, knows, known_model_in, reflector_in, box_letters_in, rotor_parts_in, pin_parts_in, parts_in, machine_in, machine_of};
+ghost use Rattle.kd_sheet.specs.Letters.{letters_at};
+ghost use Rattle.kd_sheet.specs.MachineFile.{version_in, model_in, knows, known_model_in, reflector_in, rotor_parts_in, pin_parts_in, parts_in, machine_in, machine_of};
 
 use super::cables::cables_in;
 use super::document::{document, text_at, value_at};
@@ -72,10 +73,10 @@ pub fn reflector_in(table: &Table, model: Model) -> Result<Reflector, SheetFault
 }
 
 /// A letter for each wheel of the model's box, in box order.
-#[tactic(auto, unfolding(crate::specs::MachineFile::box_letters_in))]
+#[tactic(auto, unfolding(crate::specs::Letters::letters_at))]
 fn box_letters_in(table: &Table, key: Key, model: Model) -> Result<PerWheel<Letter>, SheetFault>
     requires { 0 < slots_of model }
-    ensures { result ≡ box_letters_in key model (table_view table.now) }
+    ensures { result ≡ letters_at key (length (box_of model)) (table_view table.now) }
 {
     box_letters(model, text_at(table, key)?.as_bytes()).ok_or(SheetFault::BadValue(key))
 }

@@ -1,54 +1,59 @@
 //! The pairs that a sheet plugs.
-ghost use Rattle.std.specs.Prelude.{◌≡◌, ◌+◌, ◌<◌, ◌≤◌, ◌++◌};
-ghost use Rattle.std.specs.Option.{option_to_list};
-ghost use Rattle.arrayvec.specs.ArrayVec.{array_vec_len};
-ghost use Rattle.toml.specs.View.{table_view};
-ghost use Rattle.kd_state.specs.TwoCiphers.{both_ends};
+ghost use Rattle.std.specs.Prelude.{◌≡◌};
+ghost use Rattle.std.specs.List.{flat_map};
+ghost use Rattle.toml.specs.View.{view, table_view};
+ghost use Rattle.kd_state.specs.Setting.{has_letter};
 ghost use Rattle.kd_sheet.specs.Document.{result_map};
-ghost use Rattle.kd_sheet.specs.Cables.{pairs_of, pairs_in};
+ghost use Rattle.kd_sheet.specs.Cables.{pair_letters, pair_for, pairs_in};
 
-use super::cables::{Cable, all_cables_in};
 use super::document::value_at;
 use super::fault::SheetFault;
+use super::items::{ItemReader, read_up_to};
 use super::key::Key;
+use super::letters::capital_letters;
 use arrayvec::ArrayVec;
 use kd_tables::Letter;
-use toml::Table;
+use toml::{Table, Value};
+
+/// Two letters that are exchanged.
+type Pair = (Letter, Letter);
 
 /// The pairs that are plugged, in the sheet's order.
-pub type Pairs = ArrayVec<(Letter, Letter), 13>;
+pub type Pairs = ArrayVec<Pair, 13>;
 
-/// The pair that a cable joins.
-fn pair_of(cable: &Cable) -> Option<(Letter, Letter)>
-    ensures { result ≡ both_ends cable.now.0 cable.now.1 }
+/// Whether the letter lies in one of the pairs.
+fn is_plugged(pairs: &[Pair], letter: Letter) -> bool
+    ensures { result ≡ has_letter (flat_map pair_letters pairs.now) letter }
 {
-    match *cable {
-        (Some(one), Some(other)) => Some((one, other)),
-        _ => None,
+    for (one, other) in pairs {
+        if *one == letter || *other == letter {
+            return true;
+        }
     }
+    false
 }
 
-/// Puts the pair that a cable joins behind the others, if it joins one.
-fn push_pair(pairs: &mut Pairs, cable: &Cable)
-    requires { array_vec_len pairs.old < 13 }
-    ensures items { pairs.new.items
-        ≡ pairs.old.items ++ option_to_list (both_ends cable.now.0 cable.now.1) }
-    ensures len { array_vec_len pairs.new ≤ array_vec_len pairs.old + 1 }
-{
-    if let Some(pair) = pair_of(cable) {
-        pairs.push(pair);
-    }
-}
+/// Reads the pairs, of which none has a letter of another.
+#[derive(Clone, Copy)]
+struct PairReader;
 
-/// The pairs that the cables join.
-fn pairs_of(cables: &[Cable; 13]) -> Pairs
-    ensures { result.items ≡ pairs_of cables.now }
-{
-    let mut pairs = ArrayVec::new();
-    for cable in cables {
-        push_pair(&mut pairs, cable);
+impl ItemReader<Pair> for PairReader {
+    ghost room = { λ _. 13 };
+
+    ghost reading = { λ _. pair_for };
+
+    #[tactic(auto, unfolding(crate::specs::Cables::pair_for))]
+    fn read(&self, before: &[Pair], item: &Value) -> Result<Pair, SheetFault> {
+        let text = item.as_str().ok_or(SheetFault::BadValue(Key::Plugs))?;
+        let letters = capital_letters::<2>(text.as_bytes()).ok_or(SheetFault::BadValue(
+            Key::Plugs,
+        ))?;
+        let [one, other] = letters;
+        if one == other || is_plugged(before, one) || is_plugged(before, other) {
+            return Err(SheetFault::LetterTwice);
+        }
+        Ok((one, other))
     }
-    pairs
 }
 
 /// The sheet's pairs.
@@ -56,6 +61,5 @@ fn pairs_of(cables: &[Cable; 13]) -> Pairs
 pub fn pairs_in(table: &Table) -> Result<Pairs, SheetFault>
     ensures { result_map (λ pairs. pairs.items) result ≡ pairs_in (table_view table.now) }
 {
-    let cables = all_cables_in(value_at(table, Key::Plugs)?, Key::Plugs)?;
-    Ok(pairs_of(&cables))
+    read_up_to(value_at(table, Key::Plugs)?, Key::Plugs, &PairReader)
 }

@@ -3,7 +3,9 @@ ghost use Rattle.std.specs.Prelude.{◌≡◌, ◌≤◌, ◌<◌, ◌⊎◌, le
 ghost use Rattle.toml.specs.View.{view, table_view};
 ghost use Rattle.kd_tables.specs.Tables.{slots_of};
 ghost use Rattle.kd_state.specs.SheetDay.{IsDayNumber};
-ghost use Rattle.kd_sheet.specs.SheetFile.{rings_of, rings_in, window_in, list_in, sheet_wheels, rotor_day_in, pin_day_in, model_day_in};
+ghost use Rattle.kd_sheet.specs.Letters.{letters_at};
+ghost use Rattle.kd_sheet.specs.declared.key.Key.TheVariants as keys;
+ghost use Rattle.kd_sheet.specs.SheetFile.{rings_of, rings_in, sheet_wheels, rotor_day_in, pin_day_in, model_day_in};
 
 use super::document::{text_at, value_at};
 use super::drum::rows_in;
@@ -42,19 +44,19 @@ fn rings_in(table: &Table, model: Model) -> Result<PerSlot<Letter>, SheetFault>
 }
 
 /// A letter for each of the model's windows.
-#[tactic(auto, unfolding(crate::specs::SheetFile::window_in))]
+#[tactic(auto, unfolding(crate::specs::Letters::letters_at))]
 fn window_in(table: &Table, model: Model) -> Result<PerSlot<Letter>, SheetFault>
     requires { 0 < slots_of model }
-    ensures { result ≡ window_in model (table_view table.now) }
+    ensures { result ≡ letters_at keys.Window (slots_of model) (table_view table.now) }
 {
     let text = text_at(table, Key::Window)?;
     slot_letters(model, text.as_bytes()).ok_or(SheetFault::BadValue(Key::Window))
 }
 
 /// The two letters of the key list.
-#[tactic(auto, unfolding(crate::specs::SheetFile::list_in))]
+#[tactic(auto, unfolding(crate::specs::Letters::letters_at))]
 fn list_in(table: &Table) -> Result<[Letter; 2], SheetFault>
-    ensures { result ≡ list_in (table_view table.now) }
+    ensures { result ≡ letters_at keys.List 2 (table_view table.now) }
 {
     let text = text_at(table, Key::List)?;
     capital_letters(text.as_bytes()).ok_or(SheetFault::BadValue(Key::List))
@@ -88,7 +90,7 @@ fn sheet_wheels(slots: &[Option<Wheel>], rings: &[Letter], window: &[Letter]) ->
 }
 
 /// The day of a rotor model.
-#[tactic(auto, using(crate::proofs::Seating::wheels_fill, crate::proofs::Bounds::rings_in_letters, crate::proofs::Bounds::window_in_letters), unfolding(crate::specs::SheetFile::rotor_day_in))]
+#[tactic(auto, using(crate::proofs::Seating::seats_in_fill, crate::proofs::Bounds::rings_in_letters, crate::proofs::Bounds::letters_at_are), unfolding(crate::specs::SheetFile::rotor_day_in))]
 fn rotor_day_in(table: &Table, day: u8, model: Model) -> Result<SheetDay, SheetFault>
     requires slots { 0 < slots_of model }
     requires day { IsDayNumber day }

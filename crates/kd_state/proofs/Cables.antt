@@ -1,18 +1,17 @@
 -- The letters in the cables, and cables that are a day's pairs.
-use Rattle.std.proofs.Common.{◌≡◌, ◌↔◌, get_or, ℕ, zero, suc, ◌+◌, ◌<◌, nat_eq, true, false, not, ◌&&◌, List, [], ◌∷◌}
-use Rattle.std.proofs.Common.{◌++◌, length, map, set, drop, Option, Some, None, slice_get, refl, sym, subst, arith, ◌≢◌}
-use Rattle.std.proofs.Common.{◌⊎◌, All, Any, Contains, inl, inr, ap, ◌∙◌, filter_map, rules}
-use Rattle.kd_state.proofs.Prelude.{AllByRecursion, is_none, true≢false, cond_both, eq-eqb, or_parts, or_from}
-use Rattle.kd_state.proofs.Prelude.{leb-false, le-leb, and_parts, and_from, not-true, nat_tests, append_assoc}
-use Rattle.kd_state.proofs.Prelude.{drop_more, IsPermutation-refl, IsPermutation-trans, IsPermutation-append_comm}
-use Rattle.kd_state.proofs.Prelude.{IsPermutation-append_left, IsPermutation-append, IsPermutation-append_right}
-use Rattle.kd_state.proofs.Prelude.{cable_letters, plugged_letters, ordered, has_letter, are_new, cable_without}
-use Rattle.kd_state.proofs.Prelude.{cable_with, eqb-false, All-contains, All-from_recursion, Contains-append_right}
-use Rattle.kd_state.proofs.Prelude.{recursion_from_All, none-some, same_Some, slice_get-get_or, letters_plugged}
-use Rattle.kd_state.proofs.Prelude.{NoLetterTwice, AreCables, SameLetters, AreTheLetters, Joins, IsPaired, IsJoined}
-use Rattle.kd_state.proofs.Prelude.{AreThePairs, both_ends, option_map_or}
-use Rattle.std.specs.List.{IsDistinct}
-use Rattle.std.specs.List.Sorted.{IsPermutation}
+use Rattle.kd_state.proofs.Prelude.{NoLetterTwice, letters_plugged, AreCables, cable_letters, ordered, plugged_letters}
+use Rattle.kd_state.proofs.Prelude.{AreTheLetters, AreThePairs, IsJoined, IsPaired, Joins, SameLetters, are_new}
+use Rattle.kd_state.proofs.Prelude.{cable_with, cable_without, has_letter, both_ends, and_from, and_parts, cond_both}
+use Rattle.kd_state.proofs.Prelude.{eq-eqb, eqb-false, le-leb, leb-false, not-true, or_from, or_parts, true≢false}
+use Rattle.kd_state.proofs.Prelude.{nat_tests, append_assoc, drop_more, All-contains, All-from_recursion}
+use Rattle.kd_state.proofs.Prelude.{Contains-append_right, recursion_from_All, IsPermutation-append}
+use Rattle.kd_state.proofs.Prelude.{IsPermutation-append_comm, IsPermutation-append_left, IsPermutation-append_right}
+use Rattle.kd_state.proofs.Prelude.{IsPermutation-refl, IsPermutation-trans, none-some, same_Some, slice_get-get_or}
+use Rattle.kd_state.proofs.Prelude.{All, AllByRecursion, is_none, option_map_or, Contains, List, None, Option, Some, []}
+use Rattle.kd_state.proofs.Prelude.{ap, arith, drop, false, filter_map, get_or, inl, inr, length, map, nat_eq, not}
+use Rattle.kd_state.proofs.Prelude.{refl, rules, set, slice_get, subst, suc, sym, true, zero, ℕ, ◌++◌, ◌+◌, ◌<◌, ◌↔◌}
+use Rattle.kd_state.proofs.Prelude.{◌∙◌, ◌∷◌, ◌≡◌, ◌≢◌, ◌⊎◌, IsDistinct, IsPermutation, ◌&&◌}
+use Rattle.std.proofs.Common.{Any}
 use Rattle.kd_state.proofs.CostTable.{tests_tell_letters}
 use Rattle.kd_enigma.specs.Plugs as plugs
 

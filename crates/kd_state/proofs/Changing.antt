@@ -1,29 +1,25 @@
 -- What a setting that is carried out makes of a machine: a machine again, in which the readers tell what was set, and all else as before.
-use Rattle.std.proofs.lemmas.Grind.{common_steps}
-use Rattle.std.proofs.Common.{◌≡◌, ◌≢◌, ◌⊎◌, ◌↔◌, ℕ, zero, suc, ◌+◌, ◌-◌, ◌<◌, ◌≤◌, nat_eq, Bool, true, false, List, [], ◌∷◌, length, map, set, find, All, Contains, Option, Some, None, slice_get, refl, sym, ap, ◌∙◌, inl, inr, subst, arith, rules}
-use Rattle.kd_state.proofs.Prelude.{AllByRecursion, is_none, option_map, option_map_or, option_or, option_and_then}
-use Rattle.kd_state.proofs.Prelude.{AreAllowed, AreApart, AreOnWheels, true≢false, unwrap_or, cases_eq, cases_Bool}
-use Rattle.kd_state.proofs.Prelude.{both_ways, not-false, eqb-false}
-use Rattle.kd_state.proofs.Prelude.{true_from_ne_false, length-set, map-set, length-map, All-set, All-tail, All-cons}
-use Rattle.kd_state.proofs.Prelude.{All-contains, All-from_recursion, Contains-append_left, Contains-append_right}
-use Rattle.kd_state.proofs.Prelude.{Contains-append_cases, position-Some, All-permutation, Contains-permutation}
-use Rattle.kd_state.proofs.Prelude.{IsPermutation-sym, Contains-tail, none-some, same_Some, slice_get-map}
-use Rattle.kd_state.proofs.Prelude.{slice_get_within, Model, Wheel, Place, Lug, box_of, wheels_for}
-use Rattle.kd_state.proofs.Prelude.{reflectors_of, place_on, IsBefore, RotorParts, PinParts, Parts, Rotor}
-use Rattle.kd_state.proofs.Prelude.{Pin, Setting, Pull, Put, Seat, SeatReflector, RingTo, Turn, PinTo, LugTo, Why}
-use Rattle.kd_state.proofs.Prelude.{WouldPass, numbered, place_in_box, wheel_pins, pin_at, pin_set, with_pin}
-use Rattle.kd_state.proofs.Prelude.{cable_letters, plugged_letters, ordered, StandsAt, AreLetters, AreCables}
-use Rattle.kd_state.proofs.Prelude.{IsLegalRotor, IsLegalPin, IsMachine, letter_at, cables_ordered, cable_at}
-use Rattle.kd_state.proofs.Prelude.{cable_without, cable_with, without, with_letter, with_lug, with_lug_at, lug_place}
-use Rattle.kd_state.proofs.Prelude.{other_lug, is_at, lies_beyond, reasons, why_refused, changed, Thing, TheSlot}
-use Rattle.kd_state.proofs.Prelude.{TheReflector, TheLetter, TheCable, ThePin, TheBar, IsKept, SetsOnly}
-use Rattle.kd_state.proofs.Prelude.{MovesLug, Makes, IsSeatOf, SettingsAreTold, SettingsKeepMachines, IsInRange}
-use Rattle.std.specs.List.{IsDistinct}
-use Rattle.std.specs.List.Sorted.{IsPermutation}
+use Rattle.kd_state.proofs.Prelude.{numbered, place_in_box, IsKept, IsSeatOf, Makes, MovesLug, SetsOnly, TheBar}
+use Rattle.kd_state.proofs.Prelude.{TheCable, TheLetter, ThePin, TheReflector, TheSlot, Thing, SettingsAreTold}
+use Rattle.kd_state.proofs.Prelude.{SettingsKeepMachines, IsInRange, AreAllowed, AreApart, AreCables, AreLetters}
+use Rattle.kd_state.proofs.Prelude.{AreOnWheels, IsLegalPin, IsLegalRotor, IsMachine, StandsAt, cable_letters}
+use Rattle.kd_state.proofs.Prelude.{cables_ordered, letter_at, ordered, plugged_letters, pin_at, pin_set, wheel_pins}
+use Rattle.kd_state.proofs.Prelude.{with_pin, cable_at, cable_with, cable_without, changed, is_at, lies_beyond}
+use Rattle.kd_state.proofs.Prelude.{lug_place, other_lug, reasons, why_refused, with_letter, with_lug, with_lug_at}
+use Rattle.kd_state.proofs.Prelude.{without, Parts, Pin, Rotor, PinParts, RotorParts, Setting, LugTo, PinTo, Pull, Put}
+use Rattle.kd_state.proofs.Prelude.{RingTo, Seat, SeatReflector, Turn, Why, WouldPass, IsBefore, place_on, box_of}
+use Rattle.kd_state.proofs.Prelude.{reflectors_of, wheels_for, Lug, Model, Place, Wheel, both_ways, cases_Bool}
+use Rattle.kd_state.proofs.Prelude.{cases_eq, eqb-false, not-false, true_from_ne_false, true≢false, length-map}
+use Rattle.kd_state.proofs.Prelude.{length-set, map-set, All-cons, All-contains, All-from_recursion, All-set, All-tail}
+use Rattle.kd_state.proofs.Prelude.{Contains-append_cases, Contains-append_left, Contains-append_right, position-Some}
+use Rattle.kd_state.proofs.Prelude.{All-permutation, Contains-permutation, IsPermutation-sym, Contains-tail, none-some}
+use Rattle.kd_state.proofs.Prelude.{same_Some, slice_get-map, slice_get_within, All, AllByRecursion, is_none}
+use Rattle.kd_state.proofs.Prelude.{option_and_then, option_map, option_map_or, option_or, unwrap_or, pins_of, PinSet}
+use Rattle.kd_state.proofs.Prelude.{ring_of, Bool, Contains, List, None, Option, Some, [], ap, arith, false, find, inl}
+use Rattle.kd_state.proofs.Prelude.{inr, length, map, nat_eq, refl, rules, set, slice_get, subst, suc, sym, true, zero}
+use Rattle.kd_state.proofs.Prelude.{ℕ, ◌+◌, ◌-◌, ◌<◌, ◌↔◌, ◌∙◌, ◌∷◌, ◌≡◌, ◌≢◌, ◌≤◌, ◌⊎◌, common_steps, IsDistinct}
+use Rattle.kd_state.proofs.Prelude.{IsPermutation}
 use Rattle.std.proofs.lemmas.Map.Keys.{IsDistinct-IsPermutation, IsDistinct-head, IsDistinct-tail, IsDistinct-cons}
-use Rattle.kd_tables.specs.Rings.{ring_of}
-use Rattle.kd_pins.specs.declared.pin_set.PinSet.{PinSet}
-use Rattle.kd_pins.specs.PinWheels.{pins_of}
 use Rattle.kd_state.proofs.Cables.{all_ordered, all_ordered_move, all_ordered_again, ordered_again, without_ordered}
 use Rattle.kd_state.proofs.Cables.{without_moves, with_moves, set_moves, eqb_flips, free_tells, of_one}
 use Rattle.kd_state.proofs.Slots.{has_letter-Decides, place_there, only_place, stands, set_here, set_other}

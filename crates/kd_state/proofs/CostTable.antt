@@ -1,11 +1,13 @@
 -- What it costs to make of a cable a pair and of a bar a row: letters that are counted, columns, and the standings of a row.
-use Rattle.std.proofs.lemmas.Grind.{common_steps}
-use Rattle.std.specs.Prelude.{nat_le, count_by}
-use Rattle.kd_state.proofs.Prelude.{range_with_len, le-leb, alphabet, cable_letters, has_letter, differ, column_letters}
-use Rattle.kd_state.proofs.Prelude.{cable_cost, length-append, length-map, length-replicate, TestsTellLetters}
-use Rattle.kd_state.proofs.Prelude.{ThirteenColumns, ColumnsAreThePairs, CostTablesAreSquare, All-nil, All-map, Rotor}
-use Rattle.kd_state.proofs.Prelude.{Pin, OfRotors, OfPins, bar_cost, columns_of, sum_by_more, IsReading}
-use Rattle.std.proofs.Common.{zero, suc, arith, rules, ◌≡◌, ℕ, ◌+◌, ◌-◌, ◌<◌, ◌≤◌, nat_eq, Bool, ◌||◌, List, [], ◌∷◌, ◌++◌, length, get_or, map, replicate, Option, Some, None, slice_get, refl, sym, ◌∙◌, All, ap, take, ◌≢◌}
+use Rattle.kd_state.proofs.Prelude.{bar_cost, cable_cost, column_letters, columns_of, differ, ColumnsAreThePairs}
+use Rattle.kd_state.proofs.Prelude.{CostTablesAreSquare, TestsTellLetters, ThirteenColumns, cable_letters, has_letter}
+use Rattle.kd_state.proofs.Prelude.{OfPins, OfRotors, Pin, Rotor, alphabet, IsReading, le-leb, length-append}
+use Rattle.kd_state.proofs.Prelude.{length-map, length-replicate, All-map, All-nil, sum_by_more, All, count_by}
+use Rattle.kd_state.proofs.Prelude.{range_with_len, Bool, List, None, Option, Some, [], ap, arith, get_or, length, map}
+use Rattle.kd_state.proofs.Prelude.{nat_eq, refl, rules, slice_get, suc, sym, zero, ℕ, ◌++◌, ◌+◌, ◌-◌, ◌<◌, ◌||◌, ◌∙◌}
+use Rattle.kd_state.proofs.Prelude.{◌∷◌, ◌≡◌, ◌≢◌, ◌≤◌, common_steps, take}
+use Rattle.std.specs.Prelude.{nat_le}
+use Rattle.std.proofs.Common.{replicate}
 use Rattle.kd_state.proofs.SortedAlike.{once, count_by-cons}
 use Rattle.std.specs.Cmp.{both_ways}
 use Rattle.kd_state.proofs.Slots.{has_letter-Decides}

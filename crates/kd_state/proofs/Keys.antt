@@ -1,17 +1,16 @@
 -- The key of a machine that is on the key of a day, and its cipher.
-use Rattle.std.proofs.lemmas.Grind.{common_steps}
-use Rattle.std.proofs.Common.{◌≡◌, ℕ, ◌+◌, ◌-◌, ◌%◌, Bool, List, map, filter_map, Some, refl, sym, ap, ◌∙◌, subst, min, max, ◌||◌, [], ◌∷◌, arith}
-use Rattle.std.specs.Prelude.{IsPermutation}
-use Rattle.kd_state.proofs.Prelude.{enumerate_from, count_by, recursion_from_All, sum_by-IsPermutation, reading_of}
-use Rattle.kd_state.proofs.Prelude.{place_number, PinKey, bars_met, converter_cipher, acts_after, Parts, Rotor, Pin}
-use Rattle.kd_state.proofs.Prelude.{RotorParts, PinParts, SheetWheel, TurnedEngineIsTheTurnedMachine, ReadingIsReady}
-use Rattle.kd_state.proofs.Prelude.{ReadingIsItsCipher, OnKeyIsReady, OnKeyIsItsCipher, TurnedHasTheDaysCipher}
-use Rattle.kd_state.proofs.Prelude.{EquallySetDecipher, TheDayDeciphersItself, TurnedIsOnKey, TurnedHasItsKey}
-use Rattle.kd_state.proofs.Prelude.{EngineIsTheMachine, IsMachine, AreCables, ring_at, letter_at, OnKey, IsRotorOnKey}
-use Rattle.kd_state.proofs.Prelude.{IsPinOnKey, RotorDay, Day, OfRotors, OfPins, IsLegalDay, IsLegalRotorDay, EngineKey}
-use Rattle.kd_state.proofs.Prelude.{OfWheels, cipher, key_with_window, window_of, plugged_pairs, physical_key}
-use Rattle.kd_state.proofs.Prelude.{CipherInTurn, KeyInTurn, OfDrum, physical_cipher, sheet_key, sum_by-cons, Place}
-use Rattle.kd_pins.specs.PinWheels.{pins_of}
+use Rattle.kd_state.proofs.Prelude.{PinKey, acts_after, bars_met, converter_cipher, CipherInTurn, EngineIsTheMachine}
+use Rattle.kd_state.proofs.Prelude.{EquallySetDecipher, KeyInTurn, OnKeyIsItsCipher, OnKeyIsReady, ReadingIsItsCipher}
+use Rattle.kd_state.proofs.Prelude.{ReadingIsReady, TheDayDeciphersItself, TurnedEngineIsTheTurnedMachine}
+use Rattle.kd_state.proofs.Prelude.{TurnedHasItsKey, TurnedHasTheDaysCipher, TurnedIsOnKey, AreCables, IsMachine}
+use Rattle.kd_state.proofs.Prelude.{letter_at, ring_at, IsPinOnKey, IsRotorOnKey, OnKey, Day, IsLegalDay}
+use Rattle.kd_state.proofs.Prelude.{IsLegalRotorDay, OfPins, OfRotors, RotorDay, EngineKey, OfDrum, OfWheels, cipher}
+use Rattle.kd_state.proofs.Prelude.{key_with_window, physical_cipher, physical_key, plugged_pairs, sheet_key, window_of}
+use Rattle.kd_state.proofs.Prelude.{Parts, Pin, Rotor, PinParts, RotorParts, SheetWheel, place_number, reading_of}
+use Rattle.kd_state.proofs.Prelude.{Place, recursion_from_All, sum_by-IsPermutation, sum_by-cons, count_by}
+use Rattle.kd_state.proofs.Prelude.{enumerate_from, pins_of, Bool, List, Some, [], ap, arith, filter_map, map, refl}
+use Rattle.kd_state.proofs.Prelude.{subst, sym, ℕ, ◌+◌, ◌-◌, ◌||◌, ◌∙◌, ◌∷◌, ◌≡◌, common_steps, IsPermutation}
+use Rattle.std.proofs.Common.{◌%◌, min, max}
 use Rattle.kd_enigma.specs.Laws.{PairsMakeAPlugboard, SamePairsExchangeAlike}
 use Rattle.kd_enigma.specs.Laws as enigma
 use Rattle.kd_drum.specs.Laws as drum

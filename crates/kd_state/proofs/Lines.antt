@@ -1,20 +1,22 @@
 -- Lines: words are told by them, a text's part before a byte by the text, and settings by the words of their lines.
-use Rattle.std.proofs.lemmas.Grind.{common_steps}
-use Rattle.std.proofs.Common.{◌≡◌, ◌≢◌, ℕ, ◌^◌, ◌<◌, Bool, true, false, eqb, ltb, List, [], ◌∷◌, ◌++◌, length, map}
-use Rattle.std.proofs.Common.{get_or, Bor, Some, None, MatchOption, Result, Ok, MatchResult, Decides, refl, sym, ap}
-use Rattle.std.proofs.Common.{◌∙◌, append_assoc, length-append, arith, rules, ◌+◌, ◌*◌, ◌≤◌, Option}
-use Rattle.kd_state.proofs.Prelude.{eqb-true, then_some, All, AllByRecursion, list_all, slice_split}
-use Rattle.kd_state.proofs.Prelude.{AllPass-from_list_all, ltb-true, ne_eqb, eq-eqb, false≢true, decimal_nonempty}
-use Rattle.kd_state.proofs.Prelude.{digits_decimal, IsAscii-decimal, parse-decimal, All-nil, All-cons, All-append}
-use Rattle.kd_state.proofs.Prelude.{All-from_recursion, All-from_get_or, All-weaker, recursion_from_All, map_push}
-use Rattle.kd_state.proofs.Prelude.{append_cancel_left, decimal_injective, All-push, Wheel, I, Reflector, Place, One}
-use Rattle.kd_state.proofs.Prelude.{Lug, Left, wheel_text, reflector_text, place_text, lug_text, places, keyword_text}
-use Rattle.kd_state.proofs.Prelude.{setting_words, setting_line, pin_text, IsInRange, IsReadOff, list_text, IsList}
-use Rattle.kd_state.proofs.Prelude.{BeginsWith, BeginsWithLine, BeginsWithNoLine, Setting, Pull, append-nil, get_or_at}
-use Rattle.kd_state.proofs.Prelude.{TextsTellLists, ListsHaveNoFault, OneListFault}
+use Rattle.kd_state.proofs.Prelude.{ListsHaveNoFault, OneListFault, TextsTellLists, BeginsWith, BeginsWithLine}
+use Rattle.kd_state.proofs.Prelude.{BeginsWithNoLine, IsInRange, IsList, IsReadOff, keyword_text, list_text, pin_text}
+use Rattle.kd_state.proofs.Prelude.{setting_line, setting_words, Setting, Pull, lug_text, place_text, places}
+use Rattle.kd_state.proofs.Prelude.{reflector_text, wheel_text, Lug, Left, Place, One, Reflector, Wheel, I, eq-eqb}
+use Rattle.kd_state.proofs.Prelude.{eqb-true, false≢true, ltb-true, ne_eqb, IsAscii-decimal, decimal_injective}
+use Rattle.kd_state.proofs.Prelude.{decimal_nonempty, digits_decimal, parse-decimal, append-nil, append_assoc}
+use Rattle.kd_state.proofs.Prelude.{append_cancel_left, get_or_at, length-append, map_push, All-append, All-cons}
+use Rattle.kd_state.proofs.Prelude.{All-from_get_or, All-from_recursion, All-nil, All-push, All-weaker}
+use Rattle.kd_state.proofs.Prelude.{recursion_from_All, AllPass-from_list_all, Decides, then_some, All, AllByRecursion}
+use Rattle.kd_state.proofs.Prelude.{list_all, slice_split, Bool, List, MatchOption, None, Option, Some, [], ap, arith}
+use Rattle.kd_state.proofs.Prelude.{false, get_or, length, map, refl, rules, sym, true, ℕ, ◌++◌, ◌+◌, ◌<◌, ◌∙◌, ◌∷◌}
+use Rattle.kd_state.proofs.Prelude.{◌≡◌, ◌≢◌, ◌≤◌, common_steps, ParsesUnsigned}
+use Rattle.std.proofs.Common.{◌^◌, eqb, ltb}
+use Rattle.std.proofs.Common.{Bor, Result, Ok, MatchResult}
+use Rattle.std.proofs.Common.{◌*◌}
 use Rattle.std.specs.Result.{result_ok}
 use Rattle.std.specs.Str.{IsUtf8}
-use Rattle.std.specs.Str.Parse.{ParsesUnsigned, digits_value}
+use Rattle.std.specs.Str.Parse.{digits_value}
 use Rattle.std.proofs.lemmas.Str.{IsUtf8-from_ascii}
 use Rattle.std.specs.Fmt.{decimal}
 use Rattle.std.specs.Int.{IsInRange as IsFigure}

@@ -48,3 +48,17 @@ pub use Rattle.std.specs.Cmp.{IsStrictWeakOrder, nat_cmp_total, on_total, then_t
 pub use Rattle.std.specs.Cmp.Lexicographic.{pointwise_decides}
 pub use Rattle.std.specs.List.{All, AllByRecursion, AllWithin, cons_option, count_by, enumerate_from, list_all, list_any, position_or_len, range_with_len, slice_split}
 pub use Rattle.std.specs.Option.{IsSome, SomeIff, is_none, is_some, option_and_then, option_eq, option_map, option_map_or, option_or, option_to_list, unwrap_or}
+pub use Rattle.kd_pins.specs.PinWheels.{pins_of}
+pub use Rattle.kd_pins.specs.declared.pin_set.PinSet.{PinSet}
+unfoldable pub use Rattle.kd_tables.specs.Rings.{ring_of}
+pub use Rattle.kd_tables.specs.declared.model.Model.TheVariants.{M209}
+pub use Rattle.std.proofs.Common.{Bool, Contains, List, MatchOption, None, Option, Some, [], ap, arith, drop, false}
+pub use Rattle.std.proofs.Common.{filter_map, find, get_or, inl, inr, length, map, nat_eq, not, refl, rules, set}
+pub use Rattle.std.proofs.Common.{slice_get, subst, suc, sym, true, zero, ℕ, ◌++◌, ◌+◌, ◌-◌, ◌<◌, ◌||◌, ◌↔◌, ◌∙◌, ◌∷◌}
+pub use Rattle.std.proofs.Common.{◌≡◌, ◌≢◌, ◌≤◌, ◌⊎◌}
+pub use Rattle.std.proofs.lemmas.Grind.{common_steps}
+unfoldable pub use Rattle.std.specs.List.{IsDistinct}
+pub use Rattle.std.specs.Ordering.{is_lt, nat_cmp}
+pub use Rattle.std.specs.Prelude.{IsPermutation, take, ◌&&◌}
+pub use Rattle.std.specs.Str.Parse.{ParsesUnsigned}
+pub use lib.Pointwise.{pointwise}

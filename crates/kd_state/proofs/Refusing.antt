@@ -1,18 +1,19 @@
 -- What a machine refuses, as its readers tell it; and settings and lists of them, refused and carried out.
-use Rattle.std.proofs.Common.{Bool, Decides, ◌≡◌, ◌↔◌, ℕ, not, List, [], ◌∷◌, All, Contains, Option, None, MatchOption, refl, sym, ◌∙◌, subst, arith, zero, suc, ◌<◌, nat_eq, ◌⊎◌, true, false, length, Some, IsSome, slice_get, ap, inl, inr}
-use Rattle.kd_state.proofs.Prelude.{not-false, All-head, All-tail, none-some, Wheel, Reflector, box_of, wheels_for}
-use Rattle.kd_state.proofs.Prelude.{reflectors_of, IsAllowed, RotorParts, Parts, Rotor, Setting, Seat, SeatReflector}
-use Rattle.kd_state.proofs.Prelude.{RingTo, Why, WheelNotAllowed, IsMachine, why_refused, changed, Carries, Leads}
-use Rattle.kd_state.proofs.Prelude.{IsInRange, is_none, is_some, option_map, option_map_or, option_and_then, unwrap_or}
-use Rattle.kd_state.proofs.Prelude.{false_from_ne_true, false≢true, Contains-append_cases, position-Some, same_Some}
-use Rattle.kd_state.proofs.Prelude.{slice_get-get_or, Place, Lug, place_on, PinParts, Pin, Pull, Put, Turn, PinTo}
-use Rattle.kd_state.proofs.Prelude.{LugTo, OtherModel, NoSuchCable, NotThere, NoLooseEnd, SocketTaken, SlotEmpty}
-use Rattle.kd_state.proofs.Prelude.{NotOnWheel, NoSuchBar, PlaceTaken, WouldPass, numbered, wheel_pins, pin_at}
-use Rattle.kd_state.proofs.Prelude.{cable_letters, plugged_letters, HasAllPins, has_letter, is_plugged, is_at}
-use Rattle.kd_state.proofs.Prelude.{lies_beyond, lug_place, other_lug, with_lug, Stands, RefusalsAreTold}
+use Rattle.kd_state.proofs.Prelude.{numbered, RefusalsAreTold, IsInRange, HasAllPins, IsMachine, cable_letters}
+use Rattle.kd_state.proofs.Prelude.{plugged_letters, pin_at, wheel_pins, Carries, Leads, Stands, changed, has_letter}
+use Rattle.kd_state.proofs.Prelude.{is_at, is_plugged, lies_beyond, lug_place, other_lug, why_refused, with_lug, Parts}
+use Rattle.kd_state.proofs.Prelude.{Pin, Rotor, PinParts, RotorParts, Setting, LugTo, PinTo, Pull, Put, RingTo, Seat}
+use Rattle.kd_state.proofs.Prelude.{SeatReflector, Turn, Why, NoLooseEnd, NoSuchBar, NoSuchCable, NotOnWheel, NotThere}
+use Rattle.kd_state.proofs.Prelude.{OtherModel, PlaceTaken, SlotEmpty, SocketTaken, WheelNotAllowed, WouldPass}
+use Rattle.kd_state.proofs.Prelude.{place_on, IsAllowed, box_of, reflectors_of, wheels_for, Lug, Place, Reflector}
+use Rattle.kd_state.proofs.Prelude.{Wheel, false_from_ne_true, false≢true, not-false, All-head, All-tail}
+use Rattle.kd_state.proofs.Prelude.{Contains-append_cases, position-Some, none-some, same_Some, slice_get-get_or}
+use Rattle.kd_state.proofs.Prelude.{Decides, All, IsSome, is_none, is_some, option_and_then, option_map, option_map_or}
+use Rattle.kd_state.proofs.Prelude.{unwrap_or, ring_of, Bool, Contains, List, MatchOption, None, Option, Some, [], ap}
+use Rattle.kd_state.proofs.Prelude.{arith, false, inl, inr, length, nat_eq, not, refl, slice_get, subst, suc, sym, true}
+use Rattle.kd_state.proofs.Prelude.{zero, ℕ, ◌<◌, ◌↔◌, ◌∙◌, ◌∷◌, ◌≡◌, ◌⊎◌}
 use Rattle.kd_state.proofs.Changing.{first_reason, settings_keep_machines, no_reason, lies_plugged, still_before}
 use Rattle.kd_state.proofs.Wheels.{has_wheel-Decides, has_reflector-Decides}
-use Rattle.kd_tables.specs.Rings.{ring_of}
 use Rattle.kd_state.proofs.Slots.{has_letter-Decides, is_some-place_on, place_there}
 
 pub lists_keep_machines : (m n : Parts) (xs : List Setting) → IsMachine m → All IsInRange xs → Leads m xs n → IsMachine n

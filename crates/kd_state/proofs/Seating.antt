@@ -1,12 +1,11 @@
 -- The wheels in the slots, with their rings and their window letters, and that they can be turned to each window.
-use Rattle.std.proofs.Common.{◌≡◌, ◌≢◌, ℕ, ◌+◌, ◌<◌, List, [], ◌∷◌, length, map, get_or, slice_get, filter_map, Option}
-use Rattle.std.proofs.Common.{Some, None, IsSome, All, Contains, refl, sym, ap, ◌∙◌, subst, arith, zero, suc, set}
-use Rattle.std.specs.Prelude.{MatchOption}
-use Rattle.kd_state.proofs.Prelude.{AllByRecursion, false≢true, get_or-map, length-map, All-map, none-some}
-use Rattle.kd_state.proofs.Prelude.{slice_get-get_or, Wheel, exchange, Rotor, RotorParts, SheetWheel, place_in_box}
-use Rattle.kd_state.proofs.Prelude.{IsLegalRotor, ring_at, letter_at, seats, OfWheels, IsRotorReady, seated_wheels}
-use Rattle.kd_state.proofs.Prelude.{plugged_pairs, physical_key, cons_option, recursion_from_All, AreLetters, Model}
-use Rattle.kd_state.proofs.Prelude.{box_of, Pin, MachinesCanBeTurned, StandsAt, AreApart}
+use Rattle.kd_state.proofs.Prelude.{place_in_box, MachinesCanBeTurned, AreApart, AreLetters, IsLegalRotor, StandsAt}
+use Rattle.kd_state.proofs.Prelude.{letter_at, ring_at, seats, IsRotorReady, OfWheels, physical_key, plugged_pairs}
+use Rattle.kd_state.proofs.Prelude.{seated_wheels, Pin, Rotor, RotorParts, SheetWheel, exchange, box_of, Model, Wheel}
+use Rattle.kd_state.proofs.Prelude.{false≢true, get_or-map, length-map, All-map, recursion_from_All, none-some}
+use Rattle.kd_state.proofs.Prelude.{slice_get-get_or, All, AllByRecursion, cons_option, IsSome, Contains, List}
+use Rattle.kd_state.proofs.Prelude.{MatchOption, None, Option, Some, [], ap, arith, filter_map, get_or, length, map}
+use Rattle.kd_state.proofs.Prelude.{refl, set, slice_get, subst, suc, sym, zero, ℕ, ◌+◌, ◌<◌, ◌∙◌, ◌∷◌, ◌≡◌, ◌≢◌}
 use Rattle.kd_state.specs.Seated.{wheel_with, seated_wheel, key_of_wheels}
 use Rattle.kd_state.proofs.Wheels.{placed, place_within, places_tell_wheels}
 use Rattle.kd_state.proofs.Changing.{letters_set, with_letters}

@@ -1,14 +1,12 @@
 -- Things counted from 1: what stands in the slots, and the letters and pins of the six pin wheels.
-use Rattle.std.proofs.lemmas.Grind.{common_steps}
-use Rattle.std.proofs.Common.{◌≡◌, ◌≢◌, ℕ, ◌+◌, ◌-◌, ◌<◌, ◌≤◌, false, List, length, set, Contains, Option, Some}
-use Rattle.std.proofs.Common.{slice_get, refl, arith, add-one, nat_eq, Decides, sym, ◌∙◌}
-use Rattle.kd_state.proofs.Prelude.{gets, slice_get_within, Model, Wheel, box_of, is_none, unwrap_or, numbered}
-use Rattle.kd_state.proofs.Prelude.{AreAllowed, is_some, cases_Bool, lt-ltb, le-ltb, eqb-true, position-Some}
-use Rattle.kd_state.proofs.Prelude.{Decides-like, Decides-eqb, is_member-Decides, get_or_from_slice_get}
-use Rattle.kd_state.proofs.Prelude.{slice_get-get_or, place_on, HasAllPins, AreOnWheels, has_letter, OnWheels}
+use Rattle.kd_state.proofs.Prelude.{OnWheels, numbered, AreAllowed, AreOnWheels, HasAllPins, has_letter, place_on}
+use Rattle.kd_state.proofs.Prelude.{box_of, Model, Wheel, cases_Bool, eqb-true, le-ltb, lt-ltb, Decides-eqb}
+use Rattle.kd_state.proofs.Prelude.{Decides-like, position-Some, is_member-Decides, get_or_from_slice_get, gets}
+use Rattle.kd_state.proofs.Prelude.{slice_get-get_or, slice_get_within, Decides, is_none, is_some, unwrap_or, PinSet}
+use Rattle.kd_state.proofs.Prelude.{ring_of, Contains, List, Option, Some, arith, false, length, nat_eq, refl, set}
+use Rattle.kd_state.proofs.Prelude.{slice_get, sym, ℕ, ◌+◌, ◌-◌, ◌<◌, ◌∙◌, ◌≡◌, ◌≢◌, ◌≤◌, common_steps}
+use Rattle.std.proofs.Common.{add-one}
 use Rattle.kd_state.proofs.Wheels.{placed, first_within, first_nowhere}
-use Rattle.kd_tables.specs.Rings.{ring_of}
-use Rattle.kd_pins.specs.declared.pin_set.PinSet.{PinSet}
 
 -- what has a number, stands at a place
 pub record IsNumbered {X : Type 0} (xs : List X) (number : ℕ) (x : X) : Type 0 where

@@ -1,10 +1,9 @@
 -- Two lists that are sorted, and hold the same elements as often, are one list.
-use Rattle.std.specs.Prelude.{◌≡◌, ℕ, ◌+◌, ◌<◌, ◌≤◌, Bool, true, false, if◌then◌else◌, List, [], ◌∷◌, length, count_by, slice_index_or, IsPermutation, IsSortedBy}
-use Rattle.kd_state.proofs.Prelude.{IsStrictWeakOrder, false_from_ne_true, sum_by-cons, sum_by-le, sorted_far}
-use Rattle.kd_state.proofs.Prelude.{sum_by-IsPermutation, IsPermutation-sym, IsPermutation-trans, Decides}
-use Rattle.kd_state.proofs.Prelude.{pointwise_decides}
-use Rattle.std.proofs.Common.{suc, refl, sym, ap, ◌∙◌, ◌↔◌, subst, arith}
-use lib.Pointwise.{pointwise}
+use Rattle.kd_state.proofs.Prelude.{false_from_ne_true, IsPermutation-sym, IsPermutation-trans, sorted_far}
+use Rattle.kd_state.proofs.Prelude.{sum_by-IsPermutation, sum_by-cons, sum_by-le, Decides, IsStrictWeakOrder}
+use Rattle.kd_state.proofs.Prelude.{pointwise_decides, count_by, Bool, List, [], ap, arith, false, length, refl, subst}
+use Rattle.kd_state.proofs.Prelude.{suc, sym, true, ℕ, ◌+◌, ◌<◌, ◌↔◌, ◌∙◌, ◌∷◌, ◌≡◌, ◌≤◌, IsPermutation, pointwise}
+use Rattle.std.specs.Prelude.{if◌then◌else◌, slice_index_or, IsSortedBy}
 
 -- 1 where it holds
 abbrev pub once : Bool → ℕ

@@ -1,20 +1,18 @@
 -- What the readers of a machine tell is all that it is; so what they tell of a setting tells the machine that it makes.
-use Rattle.std.proofs.lemmas.Grind.{common_steps}
-use Rattle.std.proofs.Common.{◌≡◌, ◌≢◌, ◌⊎◌, ◌↔◌, ℕ, zero, suc, ◌≤◌, nat_eq, true, List, [], ◌∷◌, length, get_or, map, Contains, Option, Some, None, slice_get, IfSome, refl, sym, ap, ◌∙◌, inl, inr, subst, arith}
-use Rattle.kd_state.proofs.Prelude.{range_with_len, is_none, option_map, option_map_or, option_and_then, cases_eq}
-use Rattle.kd_state.proofs.Prelude.{cases_Bool, leb-true, nat_tests, none-some, same_Some, get_or-map, slice_get_cases}
-use Rattle.kd_state.proofs.Prelude.{slice_get_past, Model, Wheel, Place, Lug, box_of, reflectors_of, place_on}
-use Rattle.kd_state.proofs.Prelude.{RotorParts, PinParts, Parts, Rotor, Pin, Setting, Pull, Put, Seat, Turn, LugTo}
-use Rattle.kd_state.proofs.Prelude.{numbered, place_in_box, wheel_pins, cable_letters, plugged_letters, ordered}
-use Rattle.kd_state.proofs.Prelude.{model_of, slot_in, letter_in, cable_in, standing_in, IsLegalRotor, IsLegalPin}
-use Rattle.kd_state.proofs.Prelude.{IsMachine, has_letter, are_new, lug_place, other_lug, changed, Carries, Thing}
-use Rattle.kd_state.proofs.Prelude.{TheSlot, TheReflector, TheRing, TheLetter, TheCable, ThePin, TheShown, TheBar}
-use Rattle.kd_state.proofs.Prelude.{IsKept, SetsOnly, IsSeatOf, Seats, Turns, Makes, letters_in, TellingIsMaking}
-use Rattle.kd_state.proofs.Prelude.{SameLetters}
-use Rattle.std.specs.List.{IsDistinct}
+use Rattle.kd_state.proofs.Prelude.{numbered, place_in_box, IsKept, IsSeatOf, Makes, Seats, SetsOnly, TheBar, TheCable}
+use Rattle.kd_state.proofs.Prelude.{TheLetter, ThePin, TheReflector, TheRing, TheShown, TheSlot, Thing, Turns}
+use Rattle.kd_state.proofs.Prelude.{letters_in, TellingIsMaking, IsLegalPin, IsLegalRotor, IsMachine, cable_in}
+use Rattle.kd_state.proofs.Prelude.{cable_letters, letter_in, model_of, ordered, plugged_letters, slot_in, standing_in}
+use Rattle.kd_state.proofs.Prelude.{SameLetters, wheel_pins, Carries, are_new, changed, has_letter, lug_place}
+use Rattle.kd_state.proofs.Prelude.{other_lug, Parts, Pin, Rotor, PinParts, RotorParts, Setting, LugTo, Pull, Put, Seat}
+use Rattle.kd_state.proofs.Prelude.{Turn, place_on, box_of, reflectors_of, Lug, Model, Place, Wheel, cases_Bool}
+use Rattle.kd_state.proofs.Prelude.{cases_eq, leb-true, nat_tests, get_or-map, none-some, same_Some, slice_get_cases}
+use Rattle.kd_state.proofs.Prelude.{slice_get_past, range_with_len, is_none, option_and_then, option_map, option_map_or}
+use Rattle.kd_state.proofs.Prelude.{ring_of, M209, Contains, List, None, Option, Some, [], ap, arith, get_or, inl, inr}
+use Rattle.kd_state.proofs.Prelude.{length, map, nat_eq, refl, slice_get, subst, suc, sym, true, zero, ℕ, ◌↔◌, ◌∙◌, ◌∷◌}
+use Rattle.kd_state.proofs.Prelude.{◌≡◌, ◌≢◌, ◌≤◌, ◌⊎◌, common_steps, IsDistinct}
+use Rattle.std.proofs.Common.{IfSome}
 use Rattle.std.proofs.lemmas.List.FromFn.{get_or-map-range_with_len}
-use Rattle.kd_tables.specs.declared.model.Model.TheVariants.{M209}
-use Rattle.kd_tables.specs.Rings.{ring_of}
 use Rattle.kd_state.proofs.Cables.{all_ordered, new_tells}
 use Rattle.kd_state.proofs.Changing.{in_their_order, settings_are_told, settings_keep_machines}
 use Rattle.kd_state.proofs.CostTable.{tests_tell_letters}
@@ -117,10 +115,7 @@ alike_but thing m n o one two here other = elim (cases_thing thing other) [
 
 same_sizes : {X : Type 0} (xs ys : List X) (place : ℕ) → length xs ≡ length ys
     → is_none (slice_get xs place) ≡ is_none (slice_get ys place)
-same_sizes [] [] place same = refl
-same_sizes (x ∷ xs) (y ∷ ys) zero same = refl
-same_sizes (x ∷ xs) (y ∷ ys) (suc place) same = same_sizes xs ys place (omega (arith, same))
-same_sizes xs ys place same = absurd (omega (arith, same))
+same_sizes xs ys place same = grind (arith, slice_get_cases xs place, slice_get_cases ys place)
 
 -- a cable of a machine: in order, and its letters are new before those of some other cables
 record IsInOrder (cable : Option ℕ × Option ℕ) : Type 0 where

@@ -1,22 +1,24 @@
 -- Wheels and reflectors by their names, and where the wheels of the box may stand.
-use Rattle.std.proofs.Common.{inl, inr, find, unwrap_or, ◌≡◌, ◌≢◌, ℕ, ◌<◌, ◌≤◌, ◌==◌, Bool, true, false, cond, List, [], ◌∷◌, length, get_or, Contains, Decides, refl, sym, ap, ◌∙◌, arith, Some, rules, Option, ◌↔◌, All}
-use Rattle.kd_state.proofs.Prelude.{list_any, position_or_len, cases_Bool, false_from_ne_true, or_parts, leb-true}
-use Rattle.kd_state.proofs.Prelude.{eqb-true, Decides-like, Contains-append_left, Contains-append_right}
-use Rattle.kd_state.proofs.Prelude.{Contains-get_or, is_member-Decides, position_or_len_is, passes_at_first, Model}
-use Rattle.kd_state.proofs.Prelude.{Wheel, I, II, III, IV, V, VI, VII, VIII, Beta, Gamma, Reflector, box_of, slots_of}
-use Rattle.kd_state.proofs.Prelude.{wheels_for, wheel_text, reflector_text, lies_in, IsAllowed, same_wheel}
-use Rattle.kd_state.proofs.Prelude.{same_reflector, has_wheel, has_reflector, place_in_box, option_map, slice_get-map}
-use Rattle.kd_state.proofs.Prelude.{slice_get-get_or, SheetWheel, StandsAt, seats, AllowedWheelsLieInTheBox}
-use Rattle.kd_state.proofs.Prelude.{PlacesTellWheels, DaysWheelsHaveTheirPlaces, option_eq, pointwise_decides}
-use Rattle.kd_state.proofs.Prelude.{same_Some, RotorParts, PinParts, Parts, Rotor, Pin, ring_in, ring_at, letter_in}
-use Rattle.kd_state.proofs.Prelude.{RotorDay, PinDay, Day, OfRotors, OfPins, ShowsWindow}
+use Rattle.kd_state.proofs.Prelude.{has_reflector, has_wheel, place_in_box, same_reflector, same_wheel}
+use Rattle.kd_state.proofs.Prelude.{AllowedWheelsLieInTheBox, DaysWheelsHaveTheirPlaces, PlacesTellWheels, StandsAt}
+use Rattle.kd_state.proofs.Prelude.{letter_in, ring_at, ring_in, ShowsWindow, Day, OfPins, OfRotors, PinDay, RotorDay}
+use Rattle.kd_state.proofs.Prelude.{seats, Parts, Pin, Rotor, PinParts, RotorParts, SheetWheel, IsAllowed, box_of}
+use Rattle.kd_state.proofs.Prelude.{lies_in, reflector_text, slots_of, wheel_text, wheels_for, Model, Reflector, Wheel}
+use Rattle.kd_state.proofs.Prelude.{Beta, Gamma, I, II, III, IV, V, VI, VII, VIII, cases_Bool, eqb-true}
+use Rattle.kd_state.proofs.Prelude.{false_from_ne_true, leb-true, Decides-like, Contains-append_left}
+use Rattle.kd_state.proofs.Prelude.{Contains-append_right, Contains-get_or, passes_at_first, position_or_len_is}
+use Rattle.kd_state.proofs.Prelude.{is_member-Decides, same_Some, slice_get-get_or, slice_get-map, Decides}
+use Rattle.kd_state.proofs.Prelude.{pointwise_decides, All, list_any, position_or_len, option_eq, option_map, unwrap_or}
+use Rattle.kd_state.proofs.Prelude.{M209, Bool, Contains, List, Option, Some, [], ap, arith, false, find, get_or}
+use Rattle.kd_state.proofs.Prelude.{length, refl, rules, sym, true, ℕ, ◌<◌, ◌↔◌, ◌∙◌, ◌∷◌, ◌≡◌, ◌≢◌, ◌≤◌}
+use Rattle.kd_state.proofs.Prelude.{pointwise}
+use Rattle.std.proofs.Common.{◌==◌, cond}
 use Rattle.std.specs.Str.{bytes_eq}
 use denote.Enum.Bare.{sameb, same_true, same_false}
 use Rattle.kd_tables.specs.contracts.wheel.Wheel.{the_type}
 use Rattle.std.proofs.lemmas.Slice.Eq.{bytes_eq-Decides}
-use Rattle.kd_tables.specs.declared.model.Model.TheVariants.{M4, M209}
+use Rattle.kd_tables.specs.declared.model.Model.TheVariants.{M4}
 use Rattle.kd_tables.specs.declared.reflector.Reflector.TheVariants as reflectors
-use lib.Pointwise.{pointwise}
 
 -- a name tells what has it, where it is found again by the name
 abbrev pub named : {T : Type 0} → (T → List ℕ) → List T → T → List ℕ → T
@@ -62,11 +64,11 @@ has_reflector-Decides reflectors reflector = is_member-Decides same_reflector-De
 -- the first that passes is within the list, where one passes; where none does, the length stands for it
 pub first_within : {X : Type 0} (p : X → Bool) (xs : List X) → list_any p xs ≡ true → position_or_len p xs < length xs
 first_within p [] h = cc
-first_within p (x ∷ xs) h = elim (cases_Bool (p x)) [ inl e ↦ rw e (omega arith) | inr e ↦ let further = first_within p xs (rw e at h) in rw e (omega arith) ]
+first_within p (x ∷ xs) h = grind (arith, cases_Bool, first_within p xs)
 
 pub first_nowhere : {X : Type 0} (p : X → Bool) (xs : List X) → list_any p xs ≡ false → position_or_len p xs ≡ length xs
 first_nowhere p [] h = refl
-first_nowhere p (x ∷ xs) h = let parts = or_parts (p x) (list_any p xs) h in let further = first_nowhere p xs parts.1 in rw parts.0 (omega arith)
+first_nowhere p (x ∷ xs) h = grind (arith, cases_Bool, first_nowhere p xs)
 
 pub place_within : (model : Model) (wheel : Wheel) → Contains (box_of model) wheel → place_in_box model wheel < length (box_of model)
 place_within model wheel h = first_within (same_wheel wheel) (box_of model) ((has_wheel-Decides (box_of model) wheel).1 h)

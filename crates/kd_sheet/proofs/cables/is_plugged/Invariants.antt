@@ -1,4 +1,4 @@
-use Rattle.kd_sheet.proofs.Prelude.{◌≡◌, drop, plugged_letters, has_letter}
+use Rattle.kd_sheet.proofs.Prelude.{drop, ◌≡◌, plugged_letters, has_letter}
 use Rattle.kd_sheet.proofs.cables.is_plugged.Given as goal
 
 abbrev pub invariant-loop-cable : goal.invariant-loop-cable

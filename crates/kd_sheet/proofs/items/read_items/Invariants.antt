@@ -1,11 +1,9 @@
-use Rattle.kd_sheet.proofs.Prelude.{Ok, drop, length, map, replicate, take, ◌-◌, ◌≡◌, in_turn, view}
+use Rattle.kd_sheet.proofs.Prelude.{drop, map, take, ◌≡◌, in_turn, view}
+use Rattle.kd_sheet.proofs.InTurn.{on}
 use Rattle.kd_sheet.proofs.items.read_items.Given as goal
 
--- the values so far are those of the items so far, and the others are blank
+-- what is read of all items is read on behind the values so far
 abbrev pub invariant-loop-place : goal.invariant-loop-place
-invariant-loop-place g l = record {
-  count : length l.values ≡ g.row.N;
-  read : in_turn (g.R.ItemReader.reading l.reader) (take l.place (map view l.items))
-      ≡ Ok (take l.place l.values);
-  blank : drop l.place l.values ≡ replicate (g.row.N - l.place) l.fn.blank;
-}
+invariant-loop-place g l =
+    in_turn (g.R.ItemReader.reading l.reader) (map view l.items)
+    ≡ on (g.R.ItemReader.reading l.reader) (take l.place l.values) (drop l.place (map view l.items))

@@ -1,4 +1,4 @@
-use Rattle.kd_sheet.proofs.Prelude.{◌≡◌, ◌<◌, All, true, length, take, list_all, letters_of, is_capital}
+use Rattle.kd_sheet.proofs.Prelude.{All, length, take, true, ◌<◌, ◌≡◌, list_all, letters_of, is_capital}
 use Rattle.kd_sheet.proofs.letters.capital_letters.Given as goal
 
 -- the bytes so far are capital letters, and their letters stand in the array, which holds nothing but letters

@@ -1,4 +1,4 @@
-use Rattle.kd_sheet.proofs.Prelude.{◌≡◌, ◌+◌, ◌*◌, ◌≤◌, ◌++◌, length, map, take, codes, flat_map, quoted}
+use Rattle.kd_sheet.proofs.Prelude.{codes, length, map, take, ◌*◌, ◌++◌, ◌+◌, ◌≡◌, ◌≤◌, flat_map, quoted}
 use Rattle.kd_sheet.proofs.lines.push_rest.Given as goal
 
 abbrev pub invariant-loop-item : goal.invariant-loop-item

@@ -1,4 +1,4 @@
-use Rattle.kd_sheet.proofs.Prelude.{rules, day_for}
+use Rattle.kd_sheet.proofs.Prelude.{rules, ◌∙◌, day_for}
 use Rattle.kd_sheet.proofs.InTurn.{read_stops}
 use Rattle.kd_sheet.proofs.sheet_file.month.Goals as goal
 
@@ -6,5 +6,5 @@ pub returns-in_err-day : goal.returns-in_err-day
 unfolding day_for
 returns-in_err-day c =
     let so_far = c.loop-item.invariant in
-    rw (read_stops day_for _ _ _ c.loop-item-test.true c.item-item.is _ so_far.read _
+    rw (so_far.read ∙ read_stops day_for _ _ _ c.loop-item-test.true c.item-item.is so_far.days _
     (c.in_err-day.ensures so_far.days so_far.month)) (search rules)

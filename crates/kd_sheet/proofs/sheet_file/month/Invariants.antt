@@ -1,6 +1,6 @@
-use Rattle.kd_sheet.proofs.Prelude.{map, take, view}
+use Rattle.kd_sheet.proofs.Prelude.{drop, map, view}
 use Rattle.kd_sheet.proofs.Months.{IsMonthOf}
 use Rattle.kd_sheet.proofs.sheet_file.month.Given as goal
 
 abbrev pub invariant-loop-item : goal.invariant-loop-item
-invariant-loop-item l = IsMonthOf l.sheet (take l.item-index (map view l.items))
+invariant-loop-item l = IsMonthOf (map view l.items) l.sheet (drop l.item-index (map view l.items))

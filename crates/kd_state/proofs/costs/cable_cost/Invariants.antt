@@ -1,5 +1,4 @@
-use Rattle.std.specs.Prelude.{◌≡◌, count_by, take}
-use Rattle.kd_state.proofs.Prelude.{alphabet, lies_in_one}
+use Rattle.kd_state.proofs.Prelude.{lies_in_one, alphabet, count_by, ◌≡◌, take}
 use Rattle.kd_state.proofs.costs.cable_cost.Given as goal
 
 abbrev pub invariant-loop-index : goal.invariant-loop-index

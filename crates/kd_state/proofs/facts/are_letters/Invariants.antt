@@ -1,5 +1,4 @@
-use Rattle.std.proofs.Common.{◌<◌}
-use Rattle.std.specs.List.{AllWithin}
+use Rattle.kd_state.proofs.Prelude.{AllWithin, ◌<◌}
 use Rattle.kd_state.proofs.facts.are_letters.Given as goal
 
 abbrev pub invariant-loop-letter : goal.invariant-loop-letter

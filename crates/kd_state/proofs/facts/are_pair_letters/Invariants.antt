@@ -1,5 +1,4 @@
-use Rattle.std.proofs.Common.{◌<◌, All, take}
-use Rattle.kd_enigma.specs.Plugs.{letters_plugged}
+use Rattle.kd_state.proofs.Prelude.{letters_plugged, All, ◌<◌, take}
 use Rattle.kd_state.proofs.facts.are_pair_letters.Given as goal
 
 abbrev pub invariant-loop-one : goal.invariant-loop-one

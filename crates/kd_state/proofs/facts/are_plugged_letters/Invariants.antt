@@ -1,5 +1,4 @@
-use Rattle.std.proofs.Common.{◌<◌, All, take}
-use Rattle.kd_state.specs.Machine.{plugged_letters}
+use Rattle.kd_state.proofs.Prelude.{plugged_letters, All, ◌<◌, take}
 use Rattle.kd_state.proofs.facts.are_plugged_letters.Given as goal
 
 abbrev pub invariant-loop-cable : goal.invariant-loop-cable

@@ -1,4 +1,4 @@
-use Rattle.kd_state.proofs.Prelude.{AllWithin, IsReading}
+use Rattle.kd_state.proofs.Prelude.{IsReading, AllWithin}
 use Rattle.kd_state.proofs.facts.are_readings.Given as goal
 
 abbrev pub invariant-loop-row : goal.invariant-loop-row

@@ -1,4 +1,4 @@
-use Rattle.kd_state.proofs.Prelude.{AllWithin, IsBefore}
+use Rattle.kd_state.proofs.Prelude.{IsBefore, AllWithin}
 use Rattle.kd_state.proofs.facts.are_standings.Given as goal
 
 abbrev pub invariant-loop-bar : goal.invariant-loop-bar

@@ -1,4 +1,4 @@
-use Rattle.kd_state.proofs.Prelude.{AllWithin, AreLetters}
+use Rattle.kd_state.proofs.Prelude.{AreLetters, AllWithin}
 use Rattle.kd_state.proofs.facts.are_words.Given as goal
 
 abbrev pub invariant-loop-group : goal.invariant-loop-group

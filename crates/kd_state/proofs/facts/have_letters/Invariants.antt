@@ -1,4 +1,4 @@
-use Rattle.kd_state.proofs.Prelude.{AllWithin, HasLetters}
+use Rattle.kd_state.proofs.Prelude.{HasLetters, AllWithin}
 use Rattle.kd_state.proofs.facts.have_letters.Given as goal
 
 abbrev pub invariant-loop-wheel : goal.invariant-loop-wheel

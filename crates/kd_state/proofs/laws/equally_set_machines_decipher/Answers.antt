@@ -1,4 +1,4 @@
-use Rattle.std.proofs.Common.{rules}
+use Rattle.kd_state.proofs.Prelude.{rules}
 use Rattle.kd_state.proofs.Keys.{equally_set}
 use Rattle.kd_state.proofs.laws.equally_set_machines_decipher.Goals as goal
 

@@ -1,4 +1,4 @@
-use Rattle.std.proofs.Common.{length, map}
+use Rattle.kd_state.proofs.Prelude.{length, map}
 use Rattle.kd_state.proofs.Lines.{AreTaken}
 use Rattle.kd_state.proofs.words.split_words.Given as goal
 

@@ -1,6 +1,4 @@
-use Rattle.std.proofs.Common.{◌∙◌, sym, subst, Decides, ◌≡◌, arith}
-use Rattle.std.specs.Str.Parse.{ParsesUnsigned}
-use Rattle.std.proofs.lemmas.Bool.Decides.{Decides-eqb}
+use Rattle.kd_state.proofs.Prelude.{Decides-eqb, Decides, arith, subst, sym, ◌∙◌, ◌≡◌, ParsesUnsigned}
 use Rattle.std.proofs.lemmas.Slice.Eq.{slice_eq-Decides}
 use Rattle.kd_state.proofs.Lines.{no_text, no_number, only_number, ok_part}
 use Rattle.kd_state.proofs.words.wide_number_of_text.Goals as goal

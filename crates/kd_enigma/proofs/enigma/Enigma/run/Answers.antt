@@ -1,11 +1,11 @@
 use Rattle.std.proofs.Common.{◌∙◌, ap, arith}
 use Rattle.kd_enigma.specs.Cipher.{key_after}
-use Rattle.kd_enigma.proofs.Ciphers.{key_after_sum, one_more}
+use Rattle.kd_enigma.proofs.Ciphers.{key_in_turn, one_more}
 use Rattle.kd_enigma.proofs.enigma.Enigma.run.Goals as goal
 
 pub loop-letter-preserved : goal.loop-letter-preserved
 loop-letter-preserved g c = record {
   key = c.press.ensures.after ∙ ap (λ k. key_after k 1) c.loop-letter.invariant.key
-      ∙ key_after_sum c.args.self.now c.loop-letter.letter-index 1;
+      ∙ key_in_turn c.args.self.now c.loop-letter.letter-index 1;
   rest = grind (arith, one_more);
 }

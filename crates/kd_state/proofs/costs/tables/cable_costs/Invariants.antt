@@ -1,4 +1,4 @@
-use Rattle.std.specs.Prelude.{◌≡◌, take, length}
+use Rattle.kd_state.proofs.Prelude.{length, ◌≡◌, take}
 use Rattle.kd_state.specs.Costs as costs
 use Rattle.kd_state.proofs.costs.tables.cable_costs.Given as goal
 

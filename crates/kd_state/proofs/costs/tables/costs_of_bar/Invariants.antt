@@ -1,5 +1,4 @@
-use Rattle.std.specs.Prelude.{◌≡◌, map, take, length}
-use Rattle.kd_state.specs.Costs.{bar_cost}
+use Rattle.kd_state.proofs.Prelude.{bar_cost, length, map, ◌≡◌, take}
 use Rattle.kd_state.proofs.costs.tables.costs_of_bar.Given as goal
 
 abbrev pub invariant-loop-row : goal.invariant-loop-row

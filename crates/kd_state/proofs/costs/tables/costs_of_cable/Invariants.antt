@@ -1,5 +1,4 @@
-use Rattle.std.specs.Prelude.{◌≡◌, map, take, length}
-use Rattle.kd_state.specs.Costs.{cable_cost, columns_of}
+use Rattle.kd_state.proofs.Prelude.{cable_cost, columns_of, length, map, ◌≡◌, take}
 use Rattle.kd_state.proofs.costs.tables.costs_of_cable.Given as goal
 
 abbrev pub invariant-loop-column : goal.invariant-loop-column

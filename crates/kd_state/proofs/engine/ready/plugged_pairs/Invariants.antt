@@ -1,10 +1,11 @@
-use Rattle.std.proofs.Common.{◌≡◌, ◌≤◌, filter_map, take}
+use Rattle.kd_state.proofs.Prelude.{drop, ◌++◌, ◌≡◌, ◌≤◌}
 use Rattle.arrayvec.specs.ArrayVec.{array_vec_len}
-use Rattle.kd_state.specs.TwoCiphers.{both_ends}
+use Rattle.kd_state.proofs.Cables.{pairs_of}
 use Rattle.kd_state.proofs.engine.ready.plugged_pairs.Given as goal
 
+-- the pairs so far, and those of the other cables
 abbrev pub invariant-loop-cable : goal.invariant-loop-cable
 invariant-loop-cable l = record {
   few : array_vec_len l.pairs ≤ l.cable-index;
-  pairs : l.pairs.items ≡ filter_map (λ cable. both_ends cable.0 cable.1) (take l.cable-index l.cables);
+  pairs : pairs_of l.cables ≡ l.pairs.items ++ pairs_of (drop l.cable-index l.cables);
 }

@@ -1,4 +1,4 @@
-use Rattle.std.proofs.Common.{refl, sym}
+use Rattle.kd_state.proofs.Prelude.{refl, sym}
 use Rattle.kd_state.proofs.Seating.{of_seated}
 use Rattle.kd_state.proofs.engine.ready.rotor_engine.Goals as goal
 

@@ -1,5 +1,4 @@
-use Rattle.std.proofs.Common.{rules, sym, ◌∙◌, subst, arith}
-use Rattle.kd_state.proofs.Prelude.{false≢true, iff_false, not-false, AreThePairs}
+use Rattle.kd_state.proofs.Prelude.{AreThePairs, false≢true, iff_false, not-false, arith, rules, subst, sym, ◌∙◌}
 use Rattle.kd_state.proofs.Wheels.{seats_Decides, rings_read}
 use Rattle.kd_state.proofs.machine.Machine.is_rotor_on_key.Goals as goal
 

@@ -1,5 +1,4 @@
-use Rattle.std.proofs.Common.{sym, subst}
-use Rattle.kd_state.specs.Machine.{IsMachine}
+use Rattle.kd_state.proofs.Prelude.{IsMachine, subst, sym}
 use Rattle.kd_state.proofs.Changing.{ordered_parts}
 use Rattle.kd_state.proofs.machine.Machine.rotor.Goals as goal
 

@@ -1,5 +1,4 @@
-use Rattle.std.proofs.Common.{sym, ap, ◌∙◌, arith}
-use Rattle.kd_state.proofs.Prelude.{pointwise_decides}
+use Rattle.kd_state.proofs.Prelude.{pointwise_decides, ap, arith, sym, ◌∙◌}
 use Rattle.kd_state.specs.Entry.{rotor_values, values_of}
 use Rattle.kd_state.proofs.Wheels.{letters_show, pin_letters_show}
 use Rattle.kd_state.proofs.machine.Machine.shows_window.Goals as goal

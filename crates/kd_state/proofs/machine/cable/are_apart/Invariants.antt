@@ -1,6 +1,4 @@
-use Rattle.std.proofs.Common.{◌↔◌, nat_eq, drop}
-use Rattle.std.specs.List.{IsDistinct}
-use Rattle.kd_state.specs.Machine.{plugged_letters}
+use Rattle.kd_state.proofs.Prelude.{plugged_letters, drop, nat_eq, ◌↔◌, IsDistinct}
 use Rattle.kd_state.proofs.machine.cable.are_apart.Given as goal
 
 abbrev pub invariant-loop-place : goal.invariant-loop-place

@@ -1,5 +1,4 @@
-use Rattle.std.proofs.Common.{◌≡◌, drop}
-use Rattle.kd_state.proofs.Prelude.{plugged_letters, has_letter}
+use Rattle.kd_state.proofs.Prelude.{plugged_letters, has_letter, drop, ◌≡◌}
 use Rattle.kd_state.proofs.machine.cable.lies_in_any.Given as goal
 
 abbrev pub invariant-loop-cable : goal.invariant-loop-cable

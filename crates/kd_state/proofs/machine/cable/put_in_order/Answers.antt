@@ -1,5 +1,4 @@
-use Rattle.std.proofs.Common.{◌∙◌, ap, arith, set, Option, ℕ, get_or}
-use Rattle.kd_state.proofs.Prelude.{get_or_default, ordered}
+use Rattle.kd_state.proofs.Prelude.{ordered, get_or_default, Option, ap, arith, get_or, set, ℕ, ◌∙◌}
 use Rattle.std.proofs.lemmas.List.Edits.{map_over_more}
 use Rattle.kd_state.proofs.machine.cable.put_in_order.Goals as goal
 

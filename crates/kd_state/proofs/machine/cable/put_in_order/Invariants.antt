@@ -1,5 +1,4 @@
-use Rattle.std.proofs.Common.{◌≡◌, ◌++◌, map, take, drop}
-use Rattle.kd_state.specs.Machine.{ordered}
+use Rattle.kd_state.proofs.Prelude.{ordered, drop, map, ◌++◌, ◌≡◌, take}
 use Rattle.kd_state.proofs.machine.cable.put_in_order.Given as goal
 
 abbrev pub invariant-loop-cable : goal.invariant-loop-cable

@@ -1,6 +1,5 @@
-use Rattle.std.proofs.Common.{sym, subst, arith, rules}
-use Rattle.kd_state.proofs.Prelude.{false≢true, iff_false, All-from_all_within, AllWithin-upto, AllWithin-more, at_read}
-use Rattle.kd_state.proofs.Prelude.{IsJoined}
+use Rattle.kd_state.proofs.Prelude.{IsJoined, false≢true, iff_false, All-from_all_within, AllWithin-more}
+use Rattle.kd_state.proofs.Prelude.{AllWithin-upto, at_read, arith, rules, subst, sym}
 use Rattle.kd_state.proofs.machine.on_key.are_joined.Goals as goal
 
 pub loop-pair-preserved : goal.loop-pair-preserved

@@ -1,4 +1,4 @@
-use Rattle.kd_state.proofs.Prelude.{AllWithin, IsJoined}
+use Rattle.kd_state.proofs.Prelude.{IsJoined, AllWithin}
 use Rattle.kd_state.proofs.machine.on_key.are_joined.Given as goal
 
 abbrev pub invariant-loop-pair : goal.invariant-loop-pair

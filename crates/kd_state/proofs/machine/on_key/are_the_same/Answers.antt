@@ -1,7 +1,6 @@
-use Rattle.std.specs.Prelude.{◌≡◌, ℕ, Bool, false, nat_eq, ◌&&◌}
-use Rattle.kd_state.proofs.Prelude.{Decides, nat_cmp_total, on_total, then_total, Decides-and, Decides-like, ranks_by}
-use Rattle.std.specs.Ordering.{is_lt, ordering_then, nat_cmp}
-use Rattle.std.proofs.Common.{arith}
+use Rattle.kd_state.proofs.Prelude.{Decides-and, Decides-like, ranks_by, Decides, nat_cmp_total, on_total, then_total}
+use Rattle.kd_state.proofs.Prelude.{Bool, arith, false, nat_eq, ℕ, ◌≡◌, is_lt, nat_cmp, ◌&&◌}
+use Rattle.std.specs.Ordering.{ordering_then}
 use Rattle.kd_state.proofs.SortedAlike.{sorted_tell}
 use Rattle.kd_state.proofs.machine.on_key.are_the_same.Goals as goal
 

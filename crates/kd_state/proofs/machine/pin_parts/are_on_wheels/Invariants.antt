@@ -1,6 +1,4 @@
-use Rattle.std.proofs.Common.{◌≡◌, ◌≤◌, ℕ, Contains, Some}
-use Rattle.kd_tables.specs.Rings.{ring_of}
-use Rattle.kd_state.proofs.Prelude.{numbered}
+use Rattle.kd_state.proofs.Prelude.{numbered, ring_of, Contains, Some, ℕ, ◌≡◌, ◌≤◌}
 use Rattle.kd_state.proofs.machine.pin_parts.are_on_wheels.Given as goal
 
 abbrev pub invariant-loop-place : goal.invariant-loop-place

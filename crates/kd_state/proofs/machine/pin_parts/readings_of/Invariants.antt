@@ -1,5 +1,4 @@
-use Rattle.std.specs.Prelude.{◌≡◌, map, take, length}
-use Rattle.kd_state.proofs.Prelude.{Place, reading_of}
+use Rattle.kd_state.proofs.Prelude.{reading_of, Place, length, map, ◌≡◌, take}
 use Rattle.kd_state.proofs.machine.pin_parts.readings_of.Given as goal
 
 abbrev pub invariant-loop-bar : goal.invariant-loop-bar

@@ -1,5 +1,4 @@
-use Rattle.std.proofs.Common.{◌+◌, ◌<◌, ℕ}
-use Rattle.kd_state.proofs.Prelude.{Wheel, IsAllowed, StandsAt}
+use Rattle.kd_state.proofs.Prelude.{StandsAt, IsAllowed, Wheel, ℕ, ◌+◌, ◌<◌}
 use Rattle.kd_state.proofs.machine.seats.are_allowed.Given as goal
 
 abbrev pub invariant-loop-place : goal.invariant-loop-place

@@ -1,5 +1,4 @@
-use Rattle.std.proofs.Common.{◌∙◌, ◌≡◌, true, length, get_or, arith, sym, ap}
-use Rattle.kd_state.proofs.Prelude.{I, same_wheel}
+use Rattle.kd_state.proofs.Prelude.{same_wheel, I, ap, arith, get_or, length, sym, true, ◌∙◌, ◌≡◌}
 use Rattle.kd_state.proofs.Wheels.{same_tested, found_in_box}
 use Rattle.kd_state.proofs.machine.seats.place_in_box.Goals as goal
 

@@ -1,5 +1,4 @@
-use Rattle.std.proofs.Common.{◌≡◌, ◌<◌, ℕ, false, get_or}
-use Rattle.kd_state.proofs.Prelude.{I, same_wheel}
+use Rattle.kd_state.proofs.Prelude.{same_wheel, I, false, get_or, ℕ, ◌<◌, ◌≡◌}
 use Rattle.kd_state.proofs.machine.seats.place_in_box.Given as goal
 
 abbrev pub invariant-loop-place : goal.invariant-loop-place

@@ -1,5 +1,4 @@
-use Rattle.std.proofs.Common.{arith}
-use Rattle.kd_state.proofs.Prelude.{gets, slice_get_within, iff_false}
+use Rattle.kd_state.proofs.Prelude.{iff_false, gets, slice_get_within, arith}
 use Rattle.kd_state.proofs.machine.seats.stands_only_at.Goals as goal
 
 pub loop-other-preserved : goal.loop-other-preserved

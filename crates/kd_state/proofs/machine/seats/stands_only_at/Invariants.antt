@@ -1,5 +1,4 @@
-use Rattle.std.proofs.Common.{◌≡◌, ◌<◌, ℕ}
-use Rattle.kd_state.proofs.Prelude.{StandsAt}
+use Rattle.kd_state.proofs.Prelude.{StandsAt, ℕ, ◌<◌, ◌≡◌}
 use Rattle.kd_state.proofs.machine.seats.stands_only_at.Given as goal
 
 abbrev pub invariant-loop-other : goal.invariant-loop-other

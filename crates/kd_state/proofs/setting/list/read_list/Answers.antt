@@ -1,5 +1,4 @@
-use Rattle.std.proofs.Common.{◌∙◌, sym, [], ◌∷◌, ◌++◌, arith}
-use Rattle.kd_state.proofs.Prelude.{eqb-true, length_push}
+use Rattle.kd_state.proofs.Prelude.{eqb-true, length_push, [], arith, sym, ◌++◌, ◌∙◌, ◌∷◌}
 use Rattle.kd_state.proofs.Lines.{one_more}
 use Rattle.kd_state.proofs.setting.list.read_list.Goals as goal
 

@@ -1,5 +1,4 @@
-use Rattle.std.proofs.Common.{◌≤◌, length}
-use Rattle.kd_state.specs.Line.{BeginsWith}
+use Rattle.kd_state.proofs.Prelude.{BeginsWith, length, ◌≤◌}
 use Rattle.kd_state.proofs.setting.list.read_list.Given as goal
 
 abbrev pub invariant-loop-rest : goal.invariant-loop-rest

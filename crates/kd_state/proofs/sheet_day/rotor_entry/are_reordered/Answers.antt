@@ -1,7 +1,5 @@
-use Rattle.std.specs.Prelude.{◌≡◌, ℕ, Bool, false, nat_eq}
-use Rattle.kd_state.proofs.Prelude.{nat_cmp_total, nat_tests, Decides-eqb, ranks_by}
-use Rattle.std.specs.Ordering.{is_lt, nat_cmp}
-use Rattle.std.proofs.Common.{arith}
+use Rattle.kd_state.proofs.Prelude.{Decides-eqb, nat_tests, ranks_by, nat_cmp_total, Bool, arith, false, nat_eq, ℕ, ◌≡◌}
+use Rattle.kd_state.proofs.Prelude.{is_lt, nat_cmp}
 use Rattle.kd_state.proofs.SortedAlike.{sorted_tell}
 use Rattle.kd_state.proofs.sheet_day.rotor_entry.are_reordered.Goals as goal
 

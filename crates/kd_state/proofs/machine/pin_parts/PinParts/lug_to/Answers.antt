@@ -1,5 +1,4 @@
-use Rattle.std.proofs.Common.{◌∙◌, sym, ap, refl}
-use Rattle.kd_state.specs.Setting.{is_at}
+use Rattle.kd_state.proofs.Prelude.{is_at, ap, refl, sym, ◌∙◌}
 use Rattle.kd_state.proofs.Changing.{would_pass}
 use Rattle.kd_state.proofs.machine.pin_parts.PinParts.lug_to.Goals as goal
 

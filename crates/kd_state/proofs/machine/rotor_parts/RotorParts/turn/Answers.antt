@@ -1,5 +1,4 @@
-use Rattle.std.proofs.Common.{◌∙◌, ap, sym, Option, Some, arith}
-use Rattle.kd_state.proofs.Prelude.{SomeIff, IsSome, numbered}
+use Rattle.kd_state.proofs.Prelude.{numbered, IsSome, SomeIff, Option, Some, ap, arith, sym, ◌∙◌}
 use Rattle.kd_state.proofs.Slots.{seated_in_box}
 use Rattle.kd_state.proofs.machine.rotor_parts.RotorParts.turn.Goals as goal
 

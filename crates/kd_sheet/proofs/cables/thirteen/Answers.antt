@@ -1,0 +1,8 @@
+use Rattle.kd_sheet.proofs.Prelude.{None, ap, length, ◌++◌}
+use Rattle.std.proofs.lemmas.List.{drop-replicate}
+use Rattle.kd_sheet.proofs.cables.thirteen.Goals as goal
+
+pub returns : goal.returns
+returns c =
+    rw c.copy_from_slice.ensures.after (ap (λ rest. c.args.cables.now ++ rest) (drop-replicate
+    (length c.args.cables.now) 13 (None, None)))
