@@ -1,8 +1,7 @@
 //! The machine files, the key sheet, and the orders and forms that tests begin from.
 use kd_trials::texts::{M1, M209};
-use std::alloc::{AllocError, Global};
-
 pub use kd_trials::texts::{ALL_MET, M3, M4_AS_ENIGMA, WITHOUT_PINS};
+use std::alloc::{AllocError, Global};
 
 /// A text, a part of it, and what stands wherever the part stood.
 pub type Text = (&'static str, &'static str, &'static str);
