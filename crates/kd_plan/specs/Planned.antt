@@ -75,7 +75,8 @@ letters_due (Some pair) = column_letters (Some (in_order pair.0 pair.1))
 abbrev pub besides : List (Option ℕ × Option ℕ) → List (ℕ × ℕ) → List ℕ → List ((Option ℕ × Option ℕ) × Option (ℕ × ℕ))
 besides cables pairs to = zip cables (map (λ j. slice_index_or (columns_of pairs) j None) to)
 
--- PULL, of the letters of a cable that its column hasn't, and PUT, of those of its column that it hasn't
+-- PULL, of the letters of a cable that its column hasn't, which lie in a machine's cable in alphabetical order; and PUT, of
+-- those of its column that it hasn't
 abbrev pub pulls_of : ℕ → (Option ℕ × Option ℕ) × Option (ℕ × ℕ) → List Setting
 pulls_of cable z = map (λ letter. Pull cable letter) (letters_apart (cable_letters z.0) (column_letters z.1))
 
