@@ -1,14 +1,31 @@
 //! The internal key of the Converter M-209.
 ghost use Rattle.std.specs.Prelude.{◌≡◌, ◌≤◌, ◌<◌, ◌+◌, ◌++◌, ◌∷◌, MatchOption};
+ghost use Rattle.kd_state.specs.TwoCiphers.{sheet_key, IsWindow};
 ghost use Rattle.kd_form.specs.InternalKey.{IsInternalKey, HaveRunOut, IsTakenInTurn};
+ghost use Rattle.kd_form.specs.Making.{enciphered_choice};
 
+use super::cipher::encipher;
+use super::keys::PinKeys;
 use arrayvec::ArrayVec;
+use kd_state::SheetDay;
 use kd_tables::{Letter, place_on_wheel};
+
+/// The internal key to which the external letters lead, if the letters don't run out.
+pub(crate) fn internal_key_of(day: &SheetDay, keys: &PinKeys) -> Option<ArrayVec<Letter, 6>>
+    requires { IsWindow (sheet_key day.now) keys.now.external }
+    ensures { MatchOption result
+        (HaveRunOut (enciphered_choice day.now keys.now))
+        (λ internal. IsInternalKey (enciphered_choice day.now keys.now) internal.items) }
+{
+    let mut letters = [keys.chosen; 12];
+    encipher(day, &keys.external, &mut letters);
+    internal_key(&letters)
+}
 
 /// The letters for the six wheels, taken in order from these: one that isn't on the wheel in turn is struck out. None where
 /// the letters run out.
 #[tactic(auto, using(crate::proofs::Picking::picking_none, crate::proofs::Picking::picking_more))]
-pub(crate) fn internal_key(letters: &[Letter]) -> Option<ArrayVec<Letter, 6>>
+fn internal_key(letters: &[Letter]) -> Option<ArrayVec<Letter, 6>>
     ensures { MatchOption result
         (HaveRunOut letters.now)
         (λ key. IsInternalKey letters.now key.items) }

@@ -1,7 +1,6 @@
 //! A part of a form, made of a piece of text and its keys.
-ghost use Rattle.std.specs.Prelude.{◌≡◌, ◌≤◌, ℕ, List, length, MatchOption};
-ghost use Rattle.kd_state.specs.TwoCiphers.{sheet_key, IsWindow};
-ghost use Rattle.kd_form.specs.InternalKey.{IsInternalKey, HaveRunOut};
+ghost use Rattle.std.specs.Prelude.{◌≡◌, ◌≤◌, ℕ, List, length};
+ghost use Rattle.kd_form.specs.InternalKey.{IsInternalKey};
 ghost use Rattle.kd_form.specs.Keys.{AreKeys};
 ghost use Rattle.kd_form.specs.Part.{part_text};
 ghost use Rattle.kd_form.specs.Making.{Suits, IsMadeText, part_of, part_size};
@@ -9,9 +8,9 @@ ghost use Rattle.kd_form.specs.Making.{indicator_of, rotor_letters, enciphered_c
 ghost use Rattle.kd_form.specs.Making.{pin_indicators, pin_letters, filled};
 
 use super::body::push_body;
-use super::cipher::{encipher, enciphered, push_letters};
+use super::cipher::{enciphered, push_letters};
 use super::heading::{Heading, Indicator, push_heading};
-use super::internal_key::internal_key;
+use super::internal_key::internal_key_of;
 use super::keys::{Keys, PinKeys, RotorKeys};
 use arrayvec::{ArrayString, ArrayVec};
 use kd_state::{PerSlot, SheetDay};
@@ -117,18 +116,6 @@ fn pin_letters(day: &SheetDay, keys: &PinKeys, text: &[Letter]) -> ArrayVec<Lett
     push_letters(&mut letters, enciphered.as_slice());
     push_letters(&mut letters, indicators.as_slice());
     letters
-}
-
-/// The internal key to which the external letters lead, if the letters don't run out.
-pub(crate) fn internal_key_of(day: &SheetDay, keys: &PinKeys) -> Option<ArrayVec<Letter, 6>>
-    requires { IsWindow (sheet_key day.now) keys.now.external }
-    ensures { MatchOption result
-        (HaveRunOut (enciphered_choice day.now keys.now))
-        (λ internal. IsInternalKey (enciphered_choice day.now keys.now) internal.items) }
-{
-    let mut letters = [keys.chosen; 12];
-    encipher(day, &keys.external, &mut letters);
-    internal_key(&letters)
 }
 
 /// The indicators of a part on the Converter M-209.

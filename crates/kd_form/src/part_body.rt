@@ -16,7 +16,7 @@ use super::fault::FormFault;
 use super::given::given_letters;
 use super::heading::Heading;
 use super::keeping::keep;
-use super::reading::read_body;
+use super::part_letters::read_body;
 use super::stream::reader::Made;
 use super::text::letter_of_byte;
 use arrayvec::ArrayVec;

@@ -6,8 +6,8 @@ ghost use Rattle.kd_form.specs.Sending.{IsKeysFault, IsFirstKeysFault};
 
 use super::cipher::is_window;
 use super::fault::FormFault;
+use super::internal_key::internal_key_of;
 use super::keys::{Keys, PinKeys};
-use super::making::internal_key_of;
 use kd_state::SheetDay;
 
 /// Refuses the first keys that don't suit the day. It stands apart, as each byte of an order would make room for what it keeps.
