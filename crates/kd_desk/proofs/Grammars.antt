@@ -2,7 +2,7 @@
 use Rattle.kd_desk.proofs.Prelude.{arith, ◌≡◌, ◌∙◌, [], ◌∷◌, ◌++◌, ℕ, List, true, false, ap, ap₂, sym, subst, App}
 use Rattle.kd_desk.proofs.Prelude.{app_of, rule_of, new_rule, app_of_fields, Arg, Bor}
 use Rattle.std.proofs.lemmas.List.{map-append}
-use Rattle.clap.specs.Simple.{new_app, with_subcommand}
+use Rattle.clap.specs.Simple.{Shape, new_app, with_subcommand}
 use Rattle.kd_desk.specs.CommandLine.{IsMadeOf, shape_with}
 use Rattle.clap.specs.Built.{AddsArg, AddsSubcommand}
 use Rattle.clap.specs.declared.builder.command.Command.{Command}
@@ -40,3 +40,7 @@ one_word_more word more has rule local adds = record {
 pub one_command_more : {name : List ℕ} {words : List (Bor (List ℕ))} {app : App} {old sub new : Command} → app_of old ≡ app
     → IsMadeOf sub name words → AddsSubcommand old sub new → app_of new ≡ with_subcommand app (shape_with name words)
 one_command_more is has adds = adds.shape has.local ∙ ap₂ with_subcommand is (ap (λ (a : App). a.top) has.shape)
+
+-- and of a grammar that is known
+pub grown : {old known new : App} (shape : Shape) → old ≡ known → new ≡ with_subcommand old shape → new ≡ with_subcommand known shape
+grown shape is adds = adds ∙ ap (λ app. with_subcommand app shape) is

@@ -1,7 +1,8 @@
 ghost use Rattle.std.specs.Prelude.{◌≡◌, ◌≢◌, [], ◌∷◌, ℕ, List, false, codes, decimal, map, Err, IfSome, IfOk, IfErr};
+ghost use Rattle.clap.specs.Simple.{with_subcommand};
 ghost use Rattle.clap.specs.Words.{app_of, found_of, kind_of, rows_of};
 ghost use Rattle.kd_state.specs.SheetDay.{IsDayNumber};
-ghost use Rattle.kd_desk.specs.CommandLine.{IsMadeOf, way_name, way_word, desk_grammar};
+ghost use Rattle.kd_desk.specs.CommandLine.{IsMadeOf, way_name, way_word, desk_grammar, shape_with};
 ghost use Rattle.kd_desk.specs.CommandLine.{named, action_named, HaveDay, IsActionOf, IsOf, IsOfNone, Says, SaysNothing};
 
 use crate::fault::DeskFault;
@@ -205,15 +206,29 @@ fn day_number(word: &str) -> Option<u8>
 fn grammar<'a>(alloc: Global) -> Result<Grammar<'a>, AllocError>
     ensures { IfOk result (λ grammar. app_of grammar ≡ desk_grammar) }
 {
-    Grammar::new(alloc, "desk")
+    let desk = Grammar::new(alloc, "desk")
         .disable_help_flag(true)
-        .disable_help_subcommand(true)
-        .subcommand(with_words(alloc, "type", &["MACHINE"])?)?
-        .subcommand(with_words(alloc, "apply", &["MACHINE", "LIST"])?)?
-        .subcommand(with_words(alloc, "card", &["MACHINE", "SHEET", "DAY"])?)?
-        .subcommand(with_words(alloc, "check", &["MACHINE", "SHEET", "DAY", "CARD"])?)?
-        .subcommand(with_words(alloc, "send", &["MACHINE", "SHEET", "DAY", "ORDER"])?)?
-        .subcommand(with_words(alloc, "receive", &["MACHINE", "SHEET", "DAY", "FORM"])?)
+        .disable_help_subcommand(true);
+    let desk = with_command(alloc, desk, "type", &["MACHINE"])?;
+    let desk = with_command(alloc, desk, "apply", &["MACHINE", "LIST"])?;
+    let desk = with_command(alloc, desk, "card", &["MACHINE", "SHEET", "DAY"])?;
+    let desk = with_command(alloc, desk, "check", &["MACHINE", "SHEET", "DAY", "CARD"])?;
+    let desk = with_command(alloc, desk, "send", &["MACHINE", "SHEET", "DAY", "ORDER"])?;
+    with_command(alloc, desk, "receive", &["MACHINE", "SHEET", "DAY", "FORM"])
+}
+
+/// The grammar with one command more, which has these words.
+fn with_command<'a>(
+    alloc: Global,
+    grammar: Grammar<'a>,
+    name: &'a str,
+    words: &[&'a str],
+) -> Result<Grammar<'a>, AllocError>
+    ensures { IfOk result (λ more. app_of more
+        ≡ with_subcommand (app_of grammar.entry) (shape_with name.entry.now words.now)) }
+{
+    let command = with_words(alloc, name, words)?;
+    grammar.subcommand(command)
 }
 
 /// A command with these words.

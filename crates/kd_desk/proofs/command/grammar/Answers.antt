@@ -1,7 +1,8 @@
 use Rattle.kd_desk.proofs.Prelude.{true, ap, codes, ◌≡◌, ◌∙◌, App, app_of, new_app, app_of_fields}
 use Rattle.std.proofs.lemmas.Result.{IfOk-weaker}
-use Rattle.kd_desk.specs.CommandLine.{desk_grammar}
-use Rattle.kd_desk.proofs.Grammars.{without_help, one_command_more}
+use Rattle.kd_desk.specs.declared.command.Way.TheVariants.{Send, Receive}
+use Rattle.kd_desk.specs.CommandLine.{desk_grammar, type_shape, apply_shape, card_shape, check_shape, way_shape}
+use Rattle.kd_desk.proofs.Grammars.{without_help, grown}
 use Rattle.kd_desk.proofs.command.grammar.Goals as goal
 
 abbrev without_help_command : App → App
@@ -10,12 +11,10 @@ without_help_command a = record a { top = record a.top { disable_help_subcommand
 pub returns : goal.returns
 unfolding desk_grammar
 returns c =
-    let desk_new : app_of c.disable_help_subcommand.result ≡ without_help_command (without_help (new_app (codes "desk"))) =
-    ap app_of_fields c.disable_help_subcommand.ensures
+    let empty : app_of c.disable_help_subcommand-desk.result ≡ without_help_command (without_help (new_app (codes "desk"))) =
+    ap app_of_fields c.disable_help_subcommand-desk.ensures
     ∙ ap without_help_command (ap app_of_fields c.disable_help_flag.ensures ∙ ap without_help c.new.ensures.app) in
-    let types = one_command_more desk_new c.in_ok-with_words.ensures c.in_ok-subcommand.ensures in
-    let lists = one_command_more types c.in_ok-with_words-2.ensures c.in_ok-subcommand-2.ensures in
-    let cards = one_command_more lists c.in_ok-with_words-3.ensures c.in_ok-subcommand-3.ensures in
-    let checks = one_command_more cards c.in_ok-with_words-4.ensures c.in_ok-subcommand-4.ensures in
-    let orders = one_command_more checks c.in_ok-with_words-5.ensures c.in_ok-subcommand-5.ensures in
-    IfOk-weaker c.subcommand-6.result _ _ (λ r adds. one_command_more orders c.in_ok-with_words-6.ensures adds) c.subcommand-6.ensures
+    let lists = grown apply_shape (grown type_shape empty c.in_ok-desk.ensures) c.in_ok-desk-2.ensures in
+    let checks = grown check_shape (grown card_shape lists c.in_ok-desk-3.ensures) c.in_ok-desk-4.ensures in
+    let orders = grown (way_shape Send) checks c.in_ok-desk-5.ensures in
+    IfOk-weaker c.with_command-6.result _ _ (λ r adds. grown (way_shape Receive) orders adds) c.with_command-6.ensures
