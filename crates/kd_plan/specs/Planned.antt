@@ -20,7 +20,7 @@ use Rattle.kd_state.specs.declared.setting.Setting.TheVariants.{Pull, Put, Seat,
 use Rattle.kd_state.specs.ToldApart.{same_wheel, same_reflector}
 use Rattle.kd_state.specs.Machine.{model_of, cable_letters, ring_at, letter_at}
 use Rattle.kd_state.specs.Setting.{has_letter, is_at}
-use Rattle.kd_state.specs.SheetDay.{Day, RotorDay, OfRotors, OfPins, day_model}
+use Rattle.kd_state.specs.SheetDay.{Day, OfRotors, OfPins, day_model}
 use Rattle.kd_state.specs.Costs.{differ, column_letters, columns_of, nearest_standing, cost_table}
 use Rattle.kd_card.specs.declared.prices.PriceParts.{PriceParts}
 use Rattle.kd_card.specs.Prices.{row_prices, column_prices, Fits, price_sum}
@@ -129,14 +129,10 @@ lugs_of bar z = lugs_to bar z.0 (target_of z.0 z.1)
 abbrev pub lug_lines : List (Place × Place) → List (ℕ × ℕ) → List ℕ → List Setting
 lug_lines bars rows to = lines_from lugs_of 1 (bars_beside bars rows to)
 
--- the lines of wheels: SEAT, REFLECTOR, RING and TURN
-abbrev pub wheel_lines : RotorParts → RotorDay → List Setting
-wheel_lines m s = seat_lines m s.wheels ++ reflector_lines m.reflector s.reflector ++ ring_lines m s.wheels ++ turn_lines m s.wheels
-
 -- all lines, in the order in which they are carried out
 abbrev pub planned_lines : Parts → Day → List ℕ → List Setting
 planned_lines (Rotor m) (OfRotors s) to =
-    wheel_lines m s ++ pull_lines m.cables s.pairs to ++ put_lines m.cables s.pairs to
+    seat_lines m s.wheels ++ reflector_lines m.reflector s.reflector ++ ring_lines m s.wheels ++ turn_lines m s.wheels ++ pull_lines m.cables s.pairs to ++ put_lines m.cables s.pairs to
 planned_lines (Pin m) (OfPins s) to = pin_lines m.pins s.pins ++ pin_turn_lines m.letters s.window ++ lug_lines m.bars s.rows to
 planned_lines _ _ _ = []
 

@@ -8,7 +8,7 @@ ghost use Rattle.kd_state.specs.Setting.{has_letter};
 ghost use Rattle.kd_state.specs.Costs.{column_letters};
 ghost use Rattle.kd_plan.specs.Planned.{unless_so, besides, letters_apart, lines_from, pulls_of, puts_of};
 
-use super::lines::push_lines;
+use super::lines::push_line;
 use kd_state::{Setting, Settings, column_at};
 use kd_tables::Letter;
 
@@ -74,9 +74,8 @@ fn push_pulls_of(settings: &mut Settings, number: u8, cable: &Cable, column: &Co
         array_vec_len settings.old + length lines ≤ 192 }
     ensures { settings.new.items ≡ settings.old.items ++ pulls_of number (cable.now, column.now) }
 {
-    let first = pull_line(number, cable.0, *column);
-    let second = pull_line(number, cable.1, *column);
-    push_lines(settings, first, second);
+    push_line(settings, pull_line(number, cable.0, *column));
+    push_line(settings, pull_line(number, cable.1, *column));
 }
 
 /// Appends PUT for each letter of the pair that isn't in the cable, in alphabetical order.
@@ -87,9 +86,8 @@ fn push_puts_of(settings: &mut Settings, number: u8, cable: &Cable, column: &Col
 {
     if let Some((one, other)) = *column {
         let (first, second) = ordered(one, other);
-        let first = put_line(number, *cable, first);
-        let second = put_line(number, *cable, second);
-        push_lines(settings, first, second);
+        push_line(settings, put_line(number, *cable, first));
+        push_line(settings, put_line(number, *cable, second));
     }
 }
 

@@ -14,14 +14,3 @@ pub(crate) fn push_line(settings: &mut Settings, line: Option<Setting>)
         settings.push(line);
     }
 }
-
-/// Appends two lines, each if there is one.
-pub(crate) fn push_lines(settings: &mut Settings, first: Option<Setting>, second: Option<Setting>)
-    requires { let lines = option_to_list first ++ option_to_list second in
-        array_vec_len settings.old + length lines ≤ 192 }
-    ensures { let lines = option_to_list first ++ option_to_list second in
-        settings.new.items ≡ settings.old.items ++ lines }
-{
-    push_line(settings, first);
-    push_line(settings, second);
-}

@@ -2,7 +2,7 @@ ghost use Rattle.std.specs.Prelude.{◌≡◌, ◌≢◌, ◌<◌, ◌≤◌, Al
 ghost use Rattle.kd_state.specs.Machine.{IsMachine, model_of};
 ghost use Rattle.kd_state.specs.SheetDay.{OfRotors, OfPins, IsLegalDay, day_model};
 ghost use Rattle.kd_state.specs.Entry.{rotor_values, pin_values};
-ghost use Rattle.kd_plan.specs.Planned.{wheel_lines, planned_lines, IsPlanned, Plans};
+ghost use Rattle.kd_plan.specs.Planned.{planned_lines, IsPlanned, Plans};
 
 use super::bar_lines::push_lugs;
 use super::cable_lines::{push_pulls, push_puts};
@@ -109,26 +109,15 @@ fn rotor_settings(
     ensures { result.items
         ≡ planned_lines (Parts.Rotor parts.now) (OfRotors (rotor_values entry.now)) to.now }
 {
-    let pairs = entry.pairs.as_slice();
-    let mut settings = wheel_settings(machine, parts, entry);
-    push_pulls(&mut settings, 1, &parts.cables, pairs, to);
-    push_puts(&mut settings, 1, &parts.cables, pairs, to);
-    settings
-}
-
-/// What differs from the day in a rotor machine's slots, reflector, rings and window, line by line.
-fn wheel_settings(machine: &Machine, parts: &RotorParts, entry: &RotorEntry) -> Settings
-    requires parts { machine.now ≡ Parts.Rotor parts.now }
-    requires model { parts.now.model ≡ entry.now.model }
-    requires room { length (wheel_lines parts.now (rotor_values entry.now)) ≤ 192 }
-    ensures { result.items ≡ wheel_lines parts.now (rotor_values entry.now) }
-{
     let wheels = entry.wheels.as_slice();
+    let pairs = entry.pairs.as_slice();
     let mut settings = ArrayVec::new();
     push_seats(&mut settings, 1, parts.slots.as_slice(), wheels);
     push_reflector(&mut settings, parts.reflector, entry.reflector);
     push_rings(&mut settings, machine, parts, parts.model.wheels(), wheels);
     push_turns(&mut settings, machine, parts, 1, wheels);
+    push_pulls(&mut settings, 1, &parts.cables, pairs, to);
+    push_puts(&mut settings, 1, &parts.cables, pairs, to);
     settings
 }
 
