@@ -1,5 +1,5 @@
 -- The machine and the day that files say, and what is answered to them.
-use Rattle.kd_desk.proofs.Prelude.{◌≡◌, ◌⊎◌, ℕ, List, Option, Some, None, Result, Ok, Err, IsErrAnd, inl, inr, refl, sym, ap, ◌∙◌, ok_or, Parts, Day, machine_of, DeskFault, FindsDay, LackedMemory, NoMachine, NoSheet, NoDay, Found, OnDay, arith}
+use Rattle.kd_desk.proofs.Prelude.{◌≡◌, ◌⊎◌, ℕ, List, Option, Result, Ok, Err, IsErrAnd, inl, inr, refl, sym, ap, ◌∙◌, ok_or, Parts, Day, machine_of, DeskFault, FindsDay, LackedMemory, NoMachine, NoSheet, NoDay, Found, OnDay, arith}
 use Rattle.kd_sheet.specs.declared.fault.SheetFault.{SheetFault}
 use Rattle.kd_sheet.specs.declared.fault.SheetFault.TheVariants as files
 use Rattle.kd_sheet.specs.Document.{Answers}

@@ -1,5 +1,5 @@
 -- SEAT, REFLECTOR, RING and TURN, and that all lines of a rotor machine lead to the day.
-use Rattle.std.proofs.Common.{[], All, AllPairs, ap, append_assoc, arith, Bool, cond, Contains, false, find, fold, get_or, length, length-append, List, map, nat_eq, None, Option, refl, set, slice_get, Some, subst, suc, sym, true, zero, zip, ℕ, ◌++◌, ◌+◌, ◌-◌, ◌<◌, ◌∙◌, ◌∷◌, ◌≡◌, ◌≢◌}
+use Rattle.std.proofs.Common.{[], All, AllPairs, ap, append_assoc, arith, Bool, cond, Contains, false, find, fold, get_or, length, length-append, List, map, nat_eq, None, Option, refl, set, slice_get, Some, subst, suc, sym, true, zero, zip, ℕ, ◌++◌, ◌+◌, ◌<◌, ◌∙◌, ◌∷◌, ◌≡◌, ◌≢◌}
 use Rattle.kd_tables.specs.declared.reflector.Reflector.{Reflector}
 use Rattle.kd_plan.proofs.Prelude.{AllByRecursion, allowed_in_box, AreSeated, besides, box_of, changed, common_steps}
 use Rattle.kd_plan.proofs.Prelude.{cond_both, Contains-get_or, days_wheels_have_their_places, false_from_ne_true}
