@@ -69,7 +69,8 @@ pub fn read_up_to<T: Copy + Default, R: ItemReader<T>, const N: usize>(
     reader: &R,
 ) -> Result<ArrayVec<T, N>, SheetFault>
     requires { R.room reader.now ≡ N }
-    ensures { result_map (λ values. values.items) result ≡ up_to key N (R.reading reader.now) (view value.now) }
+    ensures { result_map (λ values. values.items) result
+        ≡ up_to key N (R.reading reader.now) (view value.now) }
 {
     let items = items_in(value, key)?;
     if items.len() > N {
