@@ -1,7 +1,6 @@
 //! What becomes of a call of the desk, and what is so of all of them.
 use crate::samples::{
-    CANCELLING, DAYS, ENIGMA, FORM, M3, OFF_KEY, ORDER, SHEET, TEXT, TWO_BARS, Text, UNREADY,
-    changed,
+    CANCELLING, DAYS, ENIGMA, FORM, OFF_KEY, ORDER, TEXT, TWO_BARS, Text, changed,
 };
 use kd_desk::DeskFault::{self, Device, File, Message, NoSuchDay, OtherModel};
 use kd_desk::run_apply::run_apply;
@@ -17,7 +16,8 @@ use kd_sheet::SheetFault::{
     WheelTwice,
 };
 use kd_tables::{MemorySink, MemorySource, Sink, Source};
-use kd_trials::texts::{EMPTY_KINDS, M1, M1_WRITTEN, M4, M209, NO_SETTINGS, TEN_CABLES_WRITTEN};
+use kd_trials::named::TextName::{self, Empty, M1, M3, M4, M209, Sheet, TenCablesWritten, Unready};
+use kd_trials::texts::{EMPTY_KINDS, M1_WRITTEN, NO_SETTINGS};
 use std::alloc::{AllocError, Global};
 use std::process::Abort;
 
@@ -103,14 +103,14 @@ pub fn are_streamed(rt: &impl Abort, alloc: Global, cases: &[Streams]) -> Result
 pub type Judged = (&'static str, &'static str, Result<Text, DeskFault>);
 
 /// A call, a machine, a card or a list, and what becomes of it with changes.
-pub type Cards = (Call, Text, &'static str, &'static [Judged]);
+pub type Cards = (Call, Text, TextName, &'static [Judged]);
 
 /// Each of the cards and lists has its answer.
 pub fn are_judged(rt: &impl Abort, alloc: Global, cases: &[Cards]) -> Result<(), AllocError> {
     for (call, machine, list, changes) in cases {
         let machine = changed(alloc, machine)?;
         for judged in *changes {
-            is_judged(rt, alloc, *call, machine.as_str(), list, judged)?;
+            is_judged(rt, alloc, *call, machine.as_str(), *list, judged)?;
         }
     }
     Ok(())
@@ -122,10 +122,10 @@ fn is_judged(
     alloc: Global,
     call: Call,
     machine: &str,
-    list: &str,
+    list: TextName,
     (old, new, answer): &Judged,
 ) -> Result<(), AllocError> {
-    let list = list.replace(alloc, old, new)?;
+    let list = list.text().replace(alloc, old, new)?;
     let mut source = MemorySource::new(b"", 1, Some(0));
     let ran = run(alloc, call, machine, DAYS, list.as_str(), &mut source, 4096);
     match answer {
@@ -211,7 +211,7 @@ static CALLS: [Call; 6] = [
 ];
 
 /// A text that is no TOML document.
-static NO_TOML: Text = ("=", "", "");
+static NO_TOML: Text = (Empty, "", "=");
 
 /// A machine file, and its fault.
 static MACHINES: [(Text, SheetFault); 12] = [
@@ -224,7 +224,7 @@ static MACHINES: [(Text, SheetFault); 12] = [
     ((M1, "\"II\"", "\"I\""), WheelTwice),
     ((M1, "\"III\"", "\"VI\""), WheelNotAllowed),
     ((M1, "letters", "letter"), Missing(Key::Letters)),
-    ((TEN_CABLES_WRITTEN, "\"BS\"", "\"AB\""), LetterTwice),
+    ((TenCablesWritten, "\"BS\"", "\"AB\""), LetterTwice),
     ((M209, "\"1-2\"", "\"0R-3\""), BadRow(1)),
     (
         (
@@ -257,61 +257,61 @@ const ON_DAY: &[Call] = &[
 const OF_MESSAGES: &[Call] = &[Call::Send(17), Call::Receive(17)];
 
 /// The machine with an empty slot, and one with one letter in a cable.
-const EMPTY_SLOT: Text = (UNREADY, "", "");
+const EMPTY_SLOT: Text = (Unready, "", "");
 
 const LOOSE_END: Text = (M1, "version", "cables = [\"C\"]\nversion");
 
 /// Two days of a sheet with one number, and a row that is none.
-const TWICE: Text = (SHEET, "day = 1\n", "day = 3\n");
+const TWICE: Text = (Sheet, "day = 1\n", "day = 3\n");
 
 const NO_ROW: Text = (
-    SHEET,
+    Sheet,
     "\"0-3\", \"3-6\", \"0-0\", \"0-0\"",
     "\"0-3\", \"3-6\", \"0-0\", \"4-4\"",
 );
 
 /// Calls, a machine, a sheet, and the fault.
 static KEYS: [(&[Call], Text, Text, DeskFault); 15] = [
-    (ON_DAY, EMPTY_SLOT, ("=", "", ""), File(NotToml)),
+    (ON_DAY, EMPTY_SLOT, (Empty, "", "="), File(NotToml)),
     (
         ON_DAY,
         EMPTY_SLOT,
-        ("x = 1", "", ""),
+        (Empty, "", "x = 1"),
         File(Missing(Key::Day)),
     ),
     (
         ON_DAY,
         EMPTY_SLOT,
-        ("day = 5", "", ""),
+        (Empty, "", "day = 5"),
         File(BadValue(Key::Day)),
     ),
     (ON_DAY, EMPTY_SLOT, TWICE, File(DayTwice(3))),
     (ON_DAY, EMPTY_SLOT, NO_ROW, File(BadRow(4))),
-    (ON_DAY, EMPTY_SLOT, ("day = []", "", ""), NoSuchDay),
-    (ON_DAY, EMPTY_SLOT, (SHEET, "", ""), NoSuchDay),
-    (&[Call::Card(9)], ENIGMA, (SHEET, "", ""), OtherModel),
-    (&[Call::Card(11)], TWO_BARS, (SHEET, "", ""), OtherModel),
+    (ON_DAY, EMPTY_SLOT, (Empty, "", "day = []"), NoSuchDay),
+    (ON_DAY, EMPTY_SLOT, (Sheet, "", ""), NoSuchDay),
+    (&[Call::Card(9)], ENIGMA, (Sheet, "", ""), OtherModel),
+    (&[Call::Card(11)], TWO_BARS, (Sheet, "", ""), OtherModel),
     (
         &[Call::Type],
         EMPTY_SLOT,
-        (SHEET, "", ""),
+        (Sheet, "", ""),
         Message(FormFault::NotReady),
     ),
     (
         &[Call::Type],
         LOOSE_END,
-        (SHEET, "", ""),
+        (Sheet, "", ""),
         Message(FormFault::NotReady),
     ),
     (
         OF_MESSAGES,
         EMPTY_SLOT,
-        (SHEET, "", ""),
+        (Sheet, "", ""),
         Message(FormFault::NotReady),
     ),
-    (OF_MESSAGES, OFF_KEY, (SHEET, "", ""), Message(NotOnKey)),
-    (OF_MESSAGES, TWO_BARS, (SHEET, "", ""), Message(NotOnKey)),
-    (OF_MESSAGES, ENIGMA, (SHEET, "", ""), Device),
+    (OF_MESSAGES, OFF_KEY, (Sheet, "", ""), Message(NotOnKey)),
+    (OF_MESSAGES, TWO_BARS, (Sheet, "", ""), Message(NotOnKey)),
+    (OF_MESSAGES, ENIGMA, (Sheet, "", ""), Device),
 ];
 
 #[test]

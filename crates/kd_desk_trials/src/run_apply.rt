@@ -1,13 +1,13 @@
 use crate::calls::{Call, Cards, are_judged};
-use crate::run_check::{DEAR_BAR, FAULTY_BARS, FAULTY_CABLES, WITHOUT_PRICES};
+use crate::run_check::{FAULTY_BARS, FAULTY_CABLES};
 use crate::samples::{CANCELLING, ENIGMA, ONE_BAR, PLUGGED, TWO_BARS};
 use kd_card::{CardFault, IllegalAt};
 use kd_desk::DeskFault::{Card, Illegal, List};
 use kd_state::ListFault::BadLine;
 use kd_state::Why;
-use kd_trials::texts::{
-    BAR_KINDS, M1_WRITTEN, M4, M209, NO_SETTINGS, ONE_LUG, TEN_CABLES_WRITTEN, TWO_CABLE_KINDS,
-    TWO_CABLES,
+use kd_trials::named::TextName::{
+    BarKinds, Empty, Higher, M1Written, M4, M209, NoPrices, NoSettings, OneLug, TenCablesWritten,
+    TwoCableKinds, TwoCables,
 };
 use std::alloc::AllocError;
 
@@ -16,14 +16,14 @@ static APPLIED: [Cards; 16] = [
     (
         Call::Apply,
         ENIGMA,
-        "",
+        Empty,
         &[
             (
                 "",
                 "RING I B\nTURN 1 B\n",
-                Ok((M1_WRITTEN, "AAAAA", "BAAAA")),
+                Ok((M1Written, "AAAAA", "BAAAA")),
             ),
-            ("", "", Ok((M1_WRITTEN, "", ""))),
+            ("", "", Ok((M1Written, "", ""))),
             ("", "SEAT", Err(List(BadLine(1)))),
             ("", "TURN 4 B\nSEAT", Err(List(BadLine(2)))),
             ("", "CARD\n", Err(List(BadLine(1)))),
@@ -49,18 +49,23 @@ static APPLIED: [Cards; 16] = [
     (
         Call::Apply,
         PLUGGED,
-        "",
+        Empty,
         &[(
             "",
             "PULL 1 A\nPULL 2 C\n",
-            Ok((M1_WRITTEN, "[\"\", \"\"", "[\"B\", \"D\"")),
+            Ok((M1Written, "[\"\", \"\"", "[\"B\", \"D\"")),
         )],
     ),
-    (Call::Apply, (M4, "", ""), "", &[("", "", Ok((M4, "", "")))]),
     (
         Call::Apply,
-        (TEN_CABLES_WRITTEN, "", ""),
-        "",
+        (M4, "", ""),
+        Empty,
+        &[("", "", Ok((M4, "", "")))],
+    ),
+    (
+        Call::Apply,
+        (TenCablesWritten, "", ""),
+        Empty,
         &[(
             "",
             "LUG 1 L 2\n",
@@ -73,22 +78,22 @@ static APPLIED: [Cards; 16] = [
     (
         Call::Apply,
         PLUGGED,
-        TWO_CABLES,
+        TwoCables,
         &[
-            ("", "", Ok((M1_WRITTEN, "[\"\", \"\"", "[\"BC\", \"DE\""))),
+            ("", "", Ok((M1Written, "[\"\", \"\"", "[\"BC\", \"DE\""))),
             ("SUM 4\n", "SUM", Err(Card(CardFault::BadLine(9)))),
         ],
     ),
     (
         Call::Apply,
         PLUGGED,
-        TWO_CABLE_KINDS,
-        &[("", "", Ok((M1_WRITTEN, "[\"\", \"\"", "[\"BC\", \"DE\"")))],
+        TwoCableKinds,
+        &[("", "", Ok((M1Written, "[\"\", \"\"", "[\"BC\", \"DE\"")))],
     ),
     (
         Call::Apply,
         ENIGMA,
-        TWO_CABLES,
+        TwoCables,
         &[(
             "",
             "",
@@ -101,52 +106,42 @@ static APPLIED: [Cards; 16] = [
     (
         Call::Apply,
         ENIGMA,
-        NO_SETTINGS,
+        NoSettings,
         &[
-            ("", "", Ok((M1_WRITTEN, "", ""))),
+            ("", "", Ok((M1Written, "", ""))),
             (
                 "SETTINGS 0",
                 "TURN 1 A\nSETTINGS 1",
-                Ok((M1_WRITTEN, "", "")),
+                Ok((M1Written, "", "")),
             ),
         ],
     ),
-    (Call::Apply, ENIGMA, NO_SETTINGS, FAULTY_CABLES),
+    (Call::Apply, ENIGMA, NoSettings, FAULTY_CABLES),
     (
         Call::Apply,
         CANCELLING,
-        NO_SETTINGS,
+        NoSettings,
         &[(
             "DAY 11\nSETTINGS 0",
             "DAY 12\nRING I A\nTURN 1 A\nSETTINGS 2",
-            Ok((M1_WRITTEN, "", "")),
+            Ok((M1Written, "", "")),
         )],
     ),
     (
         Call::Apply,
         TWO_BARS,
-        ONE_LUG,
+        OneLug,
         &[(
             "",
             "",
             Ok((M209, "\"1-2\", \"0L-0R\"", "\"3-6\", \"0L-3\"")),
         )],
     ),
-    (Call::Apply, TWO_BARS, ONE_LUG, FAULTY_BARS),
+    (Call::Apply, TWO_BARS, OneLug, FAULTY_BARS),
     (
         Call::Apply,
         TWO_BARS,
-        BAR_KINDS,
-        &[(
-            "",
-            "",
-            Ok((M209, "\"1-2\", \"0L-0R\"", "\"3-6\", \"0L-3\"")),
-        )],
-    ),
-    (
-        Call::Apply,
-        TWO_BARS,
-        WITHOUT_PRICES,
+        BarKinds,
         &[(
             "",
             "",
@@ -156,7 +151,17 @@ static APPLIED: [Cards; 16] = [
     (
         Call::Apply,
         TWO_BARS,
-        DEAR_BAR,
+        NoPrices,
+        &[(
+            "",
+            "",
+            Ok((M209, "\"1-2\", \"0L-0R\"", "\"3-6\", \"0L-3\"")),
+        )],
+    ),
+    (
+        Call::Apply,
+        TWO_BARS,
+        Higher,
         &[(
             "",
             "",
@@ -166,7 +171,7 @@ static APPLIED: [Cards; 16] = [
     (
         Call::Apply,
         ONE_BAR,
-        ONE_LUG,
+        OneLug,
         &[
             (
                 "SETTINGS 1",

@@ -1,9 +1,8 @@
 use crate::calls::{Call, Streams, are_streamed, run};
-use crate::samples::{
-    CANCELLING, DAYS, ENIGMA, FARTHEST, M4_AS_ENIGMA, ONE_BAR, PLUGGED, TWO_BARS, Text, changed,
-};
+use crate::samples::{CANCELLING, DAYS, ENIGMA, ONE_BAR, PLUGGED, TWO_BARS, Text, changed};
 use kd_tables::{MemorySource, Sink};
-use kd_trials::texts::{EMPTY_KINDS, M1, M209};
+use kd_trials::named::TextName::{Farthest, M1, M4AsEnigma, M209};
+use kd_trials::texts::EMPTY_KINDS;
 use std::alloc::{AllocError, Global};
 use std::process::Abort;
 use std::test::Fail;
@@ -49,7 +48,7 @@ static UNPRICED: [Streams; 6] = [
     ),
     (
         Call::Card(31),
-        (M4_AS_ENIGMA, "", ""),
+        (M4AsEnigma, "", ""),
         &[(
             "",
             Ok(()),
@@ -140,7 +139,7 @@ static PRICED: [Priced; 7] = [
         ],
     ),
     (
-        (FARTHEST, "", ""),
+        (Farthest, "", ""),
         13,
         "CARD 2 DAY 13\nPIN 1 A ON\nPIN 1 B ON\n",
         "\nSUM 54\n",

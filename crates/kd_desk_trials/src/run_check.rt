@@ -7,7 +7,9 @@ use kd_prices::Doubt::{
 };
 use kd_state::Why;
 use kd_tables::MemorySource;
-use kd_trials::texts::{BAR_KINDS, HIGHEST, NO_SETTINGS, ONE_LUG, TWO_CABLE_KINDS, TWO_CABLES};
+use kd_trials::named::TextName::{
+    BarKinds, Empty, Higher, Highest, NoPrices, NoSettings, OneLug, TwoCableKinds, TwoCables,
+};
 use std::alloc::AllocError;
 
 /// What keeps the card without settings from being one, by its lines.
@@ -47,35 +49,18 @@ pub const FAULTY_BARS: &[Judged] = &[
     ("SUM 1\n", "SUM", Err(Card(BadLine(6)))),
 ];
 
-/// The card of one lug with all prices 0, and with a price too high.
-pub const WITHOUT_PRICES: &str = "CARD 1 DAY 9
-LUG 1 R 6
-SETTINGS 1
-BARS 0 0 0 0 0 0 0 0 0 0 0 0 0 0 0 0 0 0 0 0 0 0 0 0 0 0 0
-ROWS 0 0 0 0 0 0 0 0 0 0 0 0 0 0 0 0 0 0 0 0 0 0 0 0 0 0 0
-SUM 0
-";
-
-pub const DEAR_BAR: &str = "CARD 1 DAY 9
-LUG 1 R 6
-SETTINGS 1
-BARS 2 1 0 0 0 0 0 0 0 0 0 0 0 0 0 0 0 0 0 0 0 0 0 0 0 0 0
-ROWS -1 0 0 0 0 0 0 0 0 0 0 0 0 0 0 0 0 0 0 0 0 0 0 0 0 0 0
-SUM 2
-";
-
 /// Cards that are checked. Their own faults come before another day, and that before the doubts.
 static CHECKED: [Cards; 17] = [
     (
         Call::Check(8),
         PLUGGED,
-        TWO_CABLES,
+        TwoCables,
         &[
-            ("", "", Ok(("SHORTEST 4\n", "", ""))),
+            ("", "", Ok((Empty, "", "SHORTEST 4\n"))),
             (
                 "PULL 1 A\nPULL 2 C",
                 "PULL 2 C\nPULL 1 A",
-                Ok(("SHORTEST 4\n", "", "")),
+                Ok((Empty, "", "SHORTEST 4\n")),
             ),
             ("SUM 4\n", "SUM", Err(Card(BadLine(9)))),
         ],
@@ -83,67 +68,67 @@ static CHECKED: [Cards; 17] = [
     (
         Call::Check(8),
         PLUGGED,
-        TWO_CABLE_KINDS,
+        TwoCableKinds,
         &[
-            ("", "", Ok(("SHORTEST 4\n", "", ""))),
+            ("", "", Ok((Empty, "", "SHORTEST 4\n"))),
             (
                 "PULL 1 A\nPULL 2 C",
                 "PULL 2 C\nPULL 1 A",
-                Ok(("SHORTEST 4\n", "", "")),
+                Ok((Empty, "", "SHORTEST 4\n")),
             ),
         ],
     ),
     (
         Call::Check(8),
         PLUGGED,
-        NO_SETTINGS,
+        NoSettings,
         &[("DAY 11", "DAY 8", Err(Doubtful(NotTheSheet)))],
     ),
-    (Call::Check(8), PLUGGED, NO_SETTINGS, FAULTY_CABLES),
+    (Call::Check(8), PLUGGED, NoSettings, FAULTY_CABLES),
     (
         Call::Check(9),
         TWO_BARS,
-        ONE_LUG,
-        &[("", "", Ok(("SHORTEST 1\n", "", "")))],
+        OneLug,
+        &[("", "", Ok((Empty, "", "SHORTEST 1\n")))],
     ),
-    (Call::Check(9), TWO_BARS, ONE_LUG, FAULTY_BARS),
+    (Call::Check(9), TWO_BARS, OneLug, FAULTY_BARS),
     (
         Call::Check(9),
         TWO_BARS,
-        BAR_KINDS,
+        BarKinds,
         &[
-            ("", "", Ok(("SHORTEST 1\n", "", ""))),
+            ("", "", Ok((Empty, "", "SHORTEST 1\n"))),
             ("BAR 0L-3", "BAR 0L-4", Err(Doubtful(Doubt::PriceMissing))),
         ],
     ),
     (
         Call::Check(9),
         TWO_BARS,
-        WITHOUT_PRICES,
+        NoPrices,
         &[("", "", Err(Doubtful(SumDiffers)))],
     ),
     (
         Call::Check(9),
         TWO_BARS,
-        DEAR_BAR,
+        Higher,
         &[("", "", Err(Doubtful(PriceTooHigh(1, 1))))],
     ),
     (
         Call::Check(9),
         TWO_BARS,
-        HIGHEST,
+        Highest,
         &[("", "", Err(Doubtful(PriceTooHigh(1, 2))))],
     ),
     (
         Call::Check(9),
         ENIGMA,
-        ONE_LUG,
+        OneLug,
         &[("", "", Err(Doubtful(OtherModel)))],
     ),
     (
         Call::Check(10),
         ONE_BAR,
-        ONE_LUG,
+        OneLug,
         &[
             (
                 "DAY 9\nLUG 1 R 6\nSETTINGS 1",
@@ -160,9 +145,9 @@ static CHECKED: [Cards; 17] = [
     (
         Call::Check(11),
         ENIGMA,
-        NO_SETTINGS,
+        NoSettings,
         &[
-            ("", "", Ok(("SHORTEST 0\n", "", ""))),
+            ("", "", Ok((Empty, "", "SHORTEST 0\n"))),
             (
                 "SETTINGS 0",
                 "TURN 1 A\nSETTINGS 1",
@@ -173,26 +158,31 @@ static CHECKED: [Cards; 17] = [
     (
         Call::Check(11),
         ENIGMA,
-        ONE_LUG,
+        OneLug,
         &[("DAY 9", "DAY 11", Err(Doubtful(OtherModel)))],
     ),
     (
         Call::Check(12),
         ENIGMA,
-        NO_SETTINGS,
+        NoSettings,
         &[("", "", Err(OtherDay))],
     ),
     (
         Call::Check(12),
         CANCELLING,
-        NO_SETTINGS,
+        NoSettings,
         &[(
             "DAY 11\nSETTINGS 0",
             "DAY 12\nRING I A\nTURN 1 A\nSETTINGS 2",
-            Ok(("SHORTEST 2\n", "", "")),
+            Ok((Empty, "", "SHORTEST 2\n")),
         )],
     ),
-    (Call::Check(12), ENIGMA, "", &[("", "", Err(Card(BadHead)))]),
+    (
+        Call::Check(12),
+        ENIGMA,
+        Empty,
+        &[("", "", Err(Card(BadHead)))],
+    ),
 ];
 
 #[test]

@@ -1,13 +1,11 @@
 use crate::calls::{Call, Streams, are_streamed};
-use crate::samples::{
-    CONVERTER_FORM, CONVERTER_TEXT, ENIGMA, FORM, M3, M4_AS_ENIGMA, M4_FORM, TEXT, TURNED,
-    WITHOUT_PINS,
-};
+use crate::samples::{CONVERTER_FORM, CONVERTER_TEXT, ENIGMA, FORM, M4_FORM, TEXT, TURNED};
 use kd_desk::DeskFault::Message;
 use kd_form::FormFault::{
     BadByte, BadHeading, CountWrong, IndicatorSpent, IndicatorsDiffer, KeyNotOnWheel, PartOrder,
     WrongGroup,
 };
+use kd_trials::named::TextName::{M3, M4AsEnigma, WithoutPins};
 use std::alloc::AllocError;
 
 /// Forms on each machine, and the texts that they become: of a refused form those of the parts before.
@@ -61,12 +59,12 @@ static RECEIVED: [Streams; 5] = [
     (Call::Receive(3), (M3, "", ""), &[(FORM, Ok(()), TEXT)]),
     (
         Call::Receive(1),
-        (M4_AS_ENIGMA, "", ""),
+        (M4AsEnigma, "", ""),
         &[(M4_FORM, Ok(()), TEXT)],
     ),
     (
         Call::Receive(15),
-        (WITHOUT_PINS, "", ""),
+        (WithoutPins, "", ""),
         &[
             (CONVERTER_FORM, Ok(()), CONVERTER_TEXT),
             (

@@ -1,10 +1,10 @@
 use crate::calls::{Call, Streams, are_streamed};
 use crate::samples::{
-    CONVERTER_FORM, CONVERTER_ORDER, ENIGMA, FORM, M3, M4_AS_ENIGMA, M4_FORM, M4_ORDER, ORDER,
-    TURNED, WITHOUT_PINS,
+    CONVERTER_FORM, CONVERTER_ORDER, ENIGMA, FORM, M4_FORM, M4_ORDER, ORDER, TURNED,
 };
 use kd_desk::DeskFault::{self, Message};
 use kd_form::FormFault::{BadByte, EmptyText, IndicatorSpent, KeyNotOnWheel, PartKeys, WrongGroup};
+use kd_trials::named::TextName::{M3, M4AsEnigma, WithoutPins};
 use std::alloc::AllocError;
 
 /// 246 letters with one line of keys.
@@ -56,12 +56,12 @@ static SENT: [Streams; 5] = [
     (Call::Send(3), (M3, "", ""), &[(ORDER, Ok(()), FORM)]),
     (
         Call::Send(1),
-        (M4_AS_ENIGMA, "", ""),
+        (M4AsEnigma, "", ""),
         &[(M4_ORDER, Ok(()), M4_FORM)],
     ),
     (
         Call::Send(15),
-        (WITHOUT_PINS, "", ""),
+        (WithoutPins, "", ""),
         &[
             (CONVERTER_ORDER, Ok(()), CONVERTER_FORM),
             ("PART T ABCDEZ\nTEXT\nA", Err(Message(KeyNotOnWheel)), ""),

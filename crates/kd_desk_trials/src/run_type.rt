@@ -1,11 +1,11 @@
 ghost use Rattle.std.specs.Prelude.{false};
 
 use crate::calls::{Call, Streams, are_streamed, run};
-use crate::samples::{ALL_MET, CANCELLING, DAYS, ENIGMA, M3, M4_AS_ENIGMA, MACHINE};
+use crate::samples::{CANCELLING, DAYS, ENIGMA, MACHINE};
 use kd_desk::DeskFault::{self, Device, Message, ReadTooLong};
 use kd_form::FormFault::BadByte;
 use kd_tables::{Failed, MemorySource, Source};
-use kd_trials::texts::{M1, M4, M209, TEN_CABLES_WRITTEN};
+use kd_trials::named::TextName::{AllMet, M1, M3, M4, M4AsEnigma, M209, TenCablesWritten};
 use std::alloc::AllocError;
 
 /// Texts on each machine, and the lamps that light up.
@@ -39,7 +39,7 @@ static TYPED: [Streams; 11] = [
     (Call::Type, (M3, "", ""), &[("AAAAA", Ok(()), "BDZGO\n")]),
     (
         Call::Type,
-        (M4_AS_ENIGMA, "", ""),
+        (M4AsEnigma, "", ""),
         &[("AAAAA", Ok(()), "BDZGO\n")],
     ),
     (
@@ -49,18 +49,18 @@ static TYPED: [Streams; 11] = [
     ),
     (
         Call::Type,
-        (TEN_CABLES_WRITTEN, "", ""),
+        (TenCablesWritten, "", ""),
         &[("EDPUD", Ok(()), "AUFKL\n")],
     ),
     (
         Call::Type,
-        (TEN_CABLES_WRITTEN, "ABALA", "AWAXC"),
+        (TenCablesWritten, "ABALA", "AWAXC"),
         &[("KCH", Ok(()), "BLA\n"), ("BLA", Ok(()), "KCH\n")],
     ),
     (Call::Type, (M209, "", ""), &[("A", Ok(()), "A\n")]),
     (
         Call::Type,
-        (ALL_MET, "", ""),
+        (AllMet, "", ""),
         &[("AAAAA", Ok(()), "AZZZZ\n")],
     ),
 ];

@@ -1,14 +1,14 @@
 //! The machine files, the key sheet, and the orders and forms that tests begin from.
-use kd_trials::texts::{M1, M209};
-pub use kd_trials::texts::{ALL_MET, M3, M4_AS_ENIGMA, WITHOUT_PINS};
+use kd_trials::named::TextName::{self, M1, M209};
+use kd_trials::texts;
 use std::alloc::{AllocError, Global};
 
 /// A text, a part of it, and what stands wherever the part stood.
-pub type Text = (&'static str, &'static str, &'static str);
+pub type Text = (TextName, &'static str, &'static str);
 
 /// The text with its change.
-pub fn changed(alloc: Global, (text, old, new): &Text) -> Result<String, AllocError> {
-    text.replace(alloc, old, new)
+pub fn changed(alloc: Global, (name, old, new): &Text) -> Result<String, AllocError> {
+    name.text().replace(alloc, old, new)
 }
 
 /// An Enigma I with reflector B, the wheels I, II and III in the slots, and all rings and letters A.
@@ -26,169 +26,16 @@ pub const TURNED: Text = (M1, "letters = \"AAAAA\"", "letters = \"QRSAA\"");
 /// It with another ring, which is off the key.
 pub const OFF_KEY: Text = (M1, "rings = \"AAAAA\"", "rings = \"BAAAA\"");
 
-/// It with an empty slot, which isn't ready.
-pub const UNREADY: &str = "version = 1
-model = \"Enigma I\"
-reflector = \"B\"
-slots = [\"I\", \"\", \"III\"]
-rings = \"AAAAA\"
-letters = \"AAAAA\"
-";
-
 /// A Converter M-209 whose first two bars have to change places, or one lug of the first has to move.
 pub const TWO_BARS: Text = (M209, "\"1-2\", \"0L-0R\"", "\"3-0R\", \"0L-3\"");
 
 /// One whose first bar has to move both lugs.
 pub const ONE_BAR: Text = (M209, "\"1-2\"", "\"1-3\"");
 
-/// A Converter M-209 that differs from its day in each pin and letter, and in both lugs of each bar.
-pub const FARTHEST: &str = "version = 1
-model = \"M-209\"
-letters = \"BBBBBB\"
-pins = [\"\", \"\", \"\", \"\", \"\", \"\"]
-bars = [
-    \"1-2\", \"1-2\", \"1-2\", \"1-2\", \"1-2\", \"1-2\", \"1-2\", \"1-2\", \"1-2\",
-    \"1-2\", \"1-2\", \"1-2\", \"1-2\", \"1-2\", \"1-2\", \"1-2\", \"1-2\", \"1-2\",
-    \"1-2\", \"1-2\", \"1-2\", \"1-2\", \"1-2\", \"1-2\", \"1-2\", \"1-2\", \"1-2\",
-]
-";
-
-/// A day for each of these machines.
-pub const SHEET: &str = "[[day]]
-day = 3
-model = \"M3\"
-reflector = \"B\"
-wheels = [\"I\", \"II\", \"III\"]
-rings = \"AAA\"
-window = \"AAA\"
-plugs = []
-groups = [\"ZUG\"]
-
-[[day]]
-day = 1
-model = \"M4\"
-reflector = \"b\"
-wheels = [\"Beta\", \"I\", \"II\", \"III\"]
-rings = \"AAAA\"
-window = \"AAAA\"
-plugs = []
-groups = [\"ZUG\"]
-
-[[day]]
-day = 8
-model = \"Enigma I\"
-reflector = \"B\"
-wheels = [\"I\", \"II\", \"III\"]
-rings = \"AAA\"
-window = \"AAA\"
-plugs = [\"BC\", \"DE\"]
-
-[[day]]
-day = 9
-model = \"M-209\"
-rows = [
-    \"0-3\", \"3-6\", \"0-0\", \"0-0\", \"0-0\", \"0-0\", \"0-0\", \"0-0\", \"0-0\",
-    \"0-0\", \"0-0\", \"0-0\", \"0-0\", \"0-0\", \"0-0\", \"0-0\", \"0-0\", \"0-0\",
-    \"0-0\", \"0-0\", \"0-0\", \"0-0\", \"0-0\", \"0-0\", \"0-0\", \"0-0\", \"0-0\",
-]
-pins = [\"P\", \"O\", \"\", \"\", \"\", \"\"]
-window = \"AAAAAA\"
-list = \"QV\"
-
-[[day]]
-day = 10
-model = \"M-209\"
-rows = [
-    \"3-6\", \"0-0\", \"0-0\", \"0-0\", \"0-0\", \"0-0\", \"0-0\", \"0-0\", \"0-0\",
-    \"0-0\", \"0-0\", \"0-0\", \"0-0\", \"0-0\", \"0-0\", \"0-0\", \"0-0\", \"0-0\",
-    \"0-0\", \"0-0\", \"0-0\", \"0-0\", \"0-0\", \"0-0\", \"0-0\", \"0-0\", \"0-0\",
-]
-pins = [\"P\", \"O\", \"\", \"\", \"\", \"\"]
-window = \"AAAAAA\"
-list = \"QV\"
-
-[[day]]
-day = 11
-model = \"Enigma I\"
-reflector = \"B\"
-wheels = [\"I\", \"II\", \"III\"]
-rings = \"AAA\"
-window = \"AAA\"
-plugs = []
-
-[[day]]
-day = 12
-model = \"Enigma I\"
-reflector = \"B\"
-wheels = [\"I\", \"II\", \"III\"]
-rings = \"AAA\"
-window = \"AAA\"
-plugs = []
-
-[[day]]
-day = 13
-model = \"M-209\"
-rows = [
-    \"3-4\", \"3-4\", \"3-4\", \"3-4\", \"3-4\", \"3-4\", \"3-4\", \"3-4\", \"3-4\",
-    \"3-4\", \"3-4\", \"3-4\", \"3-4\", \"3-4\", \"3-4\", \"3-4\", \"3-4\", \"3-4\",
-    \"3-4\", \"3-4\", \"3-4\", \"3-4\", \"3-4\", \"3-4\", \"3-4\", \"3-4\", \"3-4\",
-]
-pins = [
-    \"ABCDEFGHIJKLMNOPQRSTUVWXYZ\",
-    \"ABCDEFGHIJKLMNOPQRSTUVXYZ\",
-    \"ABCDEFGHIJKLMNOPQRSTUVX\",
-    \"ABCDEFGHIJKLMNOPQRSTU\",
-    \"ABCDEFGHIJKLMNOPQRS\",
-    \"ABCDEFGHIJKLMNOPQ\",
-]
-window = \"AAAAAA\"
-list = \"QV\"
-
-[[day]]
-day = 15
-model = \"M-209\"
-rows = [
-    \"0-0\", \"0-0\", \"0-0\", \"0-0\", \"0-0\", \"0-0\", \"0-0\", \"0-0\", \"0-0\",
-    \"0-0\", \"0-0\", \"0-0\", \"0-0\", \"0-0\", \"0-0\", \"0-0\", \"0-0\", \"0-0\",
-    \"0-0\", \"0-0\", \"0-0\", \"0-0\", \"0-0\", \"0-0\", \"0-0\", \"0-0\", \"0-0\",
-]
-pins = [\"\", \"\", \"\", \"\", \"\", \"\"]
-window = \"AAAAAA\"
-list = \"QV\"
-
-[[day]]
-day = 16
-model = \"Enigma I\"
-reflector = \"B\"
-wheels = [\"I\", \"II\", \"III\"]
-rings = \"AAA\"
-window = \"AAA\"
-plugs = [\"CF\"]
-
-[[day]]
-day = 17
-model = \"Enigma I\"
-reflector = \"B\"
-wheels = [\"I\", \"II\", \"III\"]
-rings = \"AAA\"
-window = \"AAA\"
-plugs = []
-groups = [\"ZUG\"]
-
-[[day]]
-day = 31
-model = \"M4\"
-reflector = \"c\"
-wheels = [\"Gamma\", \"I\", \"II\", \"III\"]
-rings = \"AAAA\"
-window = \"AAAA\"
-plugs = []
-";
-
 /// The Enigma's file and this sheet, for the bodies of tests: a constant's bytes would be carried through their proofs.
-pub static MACHINE: &str = M1;
+pub static MACHINE: &str = texts::M1;
 
-pub static DAYS: &str = SHEET;
+pub static DAYS: &str = texts::SHEET;
 
 /// An order for the Enigma and the M3, the form that it becomes, and the text that this becomes.
 pub const ORDER: &str = "PART AAA AAA QX UGZ

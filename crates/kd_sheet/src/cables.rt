@@ -2,8 +2,7 @@
 ghost use Rattle.std.specs.Prelude.{◌≡◌, ◌≤◌, Some, None, length, IfSome};
 ghost use Rattle.std.specs.Option.{option_map};
 ghost use Rattle.toml.specs.View.{view, table_view};
-ghost use Rattle.kd_state.specs.Machine.{cable_letters, plugged_letters};
-ghost use Rattle.kd_state.specs.Setting.{has_letter, are_new};
+ghost use Rattle.kd_state.specs.Machine.{cable_letters};
 ghost use Rattle.kd_sheet.specs.Cables.{letters_in_cable, cable_of, cable_for, thirteen, cables_in};
 
 use super::document::find_at;
@@ -12,11 +11,8 @@ use super::items::{ItemReader, read_up_to};
 use super::key::Key;
 use super::letters::capital_letter;
 use arrayvec::ArrayVec;
-use kd_tables::Letter;
+use kd_state::{Cable, is_new};
 use toml::{Table, Value};
-
-/// The letters in a cable: none, one or two.
-pub type Cable = (Option<Letter>, Option<Letter>);
 
 /// How many cables a plugboard takes.
 const CABLES: usize = 13;
@@ -43,48 +39,6 @@ fn cable_of_text(text: &[u8]) -> Option<Cable>
     }
 }
 
-/// Whether the letter is plugged into the cable's end.
-fn is_letter(end: Option<Letter>, letter: Letter) -> bool
-    ensures { result ≡ has_letter (cable_letters (end, None)) letter }
-{
-    match end {
-        None => false,
-        Some(other) => other == letter,
-    }
-}
-
-/// Whether the letter lies in the cable.
-fn lies_in(cable: &Cable, letter: Letter) -> bool
-    ensures { result ≡ has_letter (cable_letters cable.now) letter }
-{
-    is_letter(cable.0, letter) || is_letter(cable.1, letter)
-}
-
-/// Whether the letter lies in one of the cables.
-fn is_plugged(cables: &[Cable], letter: Letter) -> bool
-    ensures { result ≡ has_letter (plugged_letters cables.now) letter }
-{
-    for cable in cables {
-        if lies_in(cable, letter) {
-            return true;
-        }
-    }
-    false
-}
-
-/// Whether none of the cable's letters lies in one of the others, nor comes twice.
-fn are_new(cables: &[Cable], cable: &Cable) -> bool
-    ensures { result ≡ are_new (cable_letters cable.now) (plugged_letters cables.now) }
-{
-    match *cable {
-        (None, None) => true,
-        (Some(letter), None) | (None, Some(letter)) => !is_plugged(cables, letter),
-        (Some(one), Some(other)) => {
-            !(one == other || is_plugged(cables, one)) && !is_plugged(cables, other)
-        }
-    }
-}
-
 /// Reads the cables, of which none has a letter of another.
 #[derive(Clone, Copy)]
 struct CableReader;
@@ -98,7 +52,7 @@ impl ItemReader<Cable> for CableReader {
     fn read(&self, before: &[Cable], item: &Value) -> Result<Cable, SheetFault> {
         let text = item.as_str().ok_or(SheetFault::BadValue(Key::Cables))?;
         let cable = cable_of_text(text.as_bytes()).ok_or(SheetFault::BadValue(Key::Cables))?;
-        if are_new(before, &cable) {
+        if is_new(&cable, before) {
             Ok(cable)
         } else {
             Err(SheetFault::LetterTwice)

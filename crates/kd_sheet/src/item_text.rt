@@ -3,9 +3,8 @@ ghost use Rattle.std.specs.Prelude.{◌≡◌, ◌+◌, ◌<◌, ◌≤◌, ◌+
 ghost use Rattle.arrayvec.specs.ArrayString.{array_string_len};
 ghost use Rattle.kd_sheet.specs.MachineText.{cable_text};
 
-use super::cables::Cable;
 use arrayvec::ArrayString;
-use kd_state::push_letter;
+use kd_state::{Cable, push_letter};
 use kd_tables::{Letter, Standing, Wheel};
 
 /// An item's text, of at most 32 bytes.

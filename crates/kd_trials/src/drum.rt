@@ -1,7 +1,7 @@
 //! Tests of the drum.
 use crate::letters::letters;
 use crate::machines::{File, day};
-use crate::texts::{DAY_OF_ALL_MET, DAY_WITHOUT_PINS};
+use crate::named::TextName::{DayOfAllMet, DayWithoutPins};
 use kd_drum::Converter;
 use kd_tables::Letter;
 use std::alloc::Global;
@@ -14,14 +14,14 @@ type Case = (File, u8, &'static [u8]);
 static CASES: [Case; 2] = [
     (
         (
-            DAY_WITHOUT_PINS,
+            DayWithoutPins,
             "pins = [\"\", \"\", \"\", \"\", \"\", \"\"]\nrows = [\"0-0\"",
             "pins = [\"P\", \"O\", \"\", \"\", \"\", \"\"]\nrows = [\"1-2\"",
         ),
         1,
         b"A",
     ),
-    ((DAY_OF_ALL_MET, "", ""), 27, b"AZZZZ"),
+    ((DayOfAllMet, "", ""), 27, b"AZZZZ"),
 ];
 
 /// The day's pins and rows make of letters A what they are told to.

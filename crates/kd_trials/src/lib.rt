@@ -16,6 +16,7 @@ mod form;
 mod letters;
 #[cfg(test)]
 mod machines;
+pub mod named;
 #[cfg(test)]
 mod pins;
 #[cfg(test)]

@@ -1,12 +1,12 @@
 //! Machines and days, read from their files.
-use crate::texts::{DAY_WITHOUT_PINS, M1, PLAIN_DAY, WITHOUT_PINS};
+use crate::named::TextName::{self, DayWithoutPins, M1, PlainDay, WithoutPins};
 use kd_sheet::{read_machine, read_sheet};
 use kd_state::{Machine, SheetDay};
 use std::alloc::Global;
 use std::process::Abort;
 
 /// A file, a part of it, and what stands in the part's place, wherever that is. Nothing in the place of nothing changes nothing.
-pub type File = (&'static str, &'static str, &'static str);
+pub type File = (TextName, &'static str, &'static str);
 
 /// The file of a machine, and a sheet with one day.
 pub type Told = (File, File);
@@ -15,26 +15,26 @@ pub type Told = (File, File);
 pub type Keyed = (Machine, SheetDay);
 
 /// An Enigma I on its day.
-pub const PLAIN: Told = ((M1, "", ""), (PLAIN_DAY, "", ""));
+pub const PLAIN: Told = ((M1, "", ""), (PlainDay, "", ""));
 
 /// An Enigma I two of whose cables have to change places.
 pub const CABLES: Told = (
     (M1, "version = 1", "version = 1\ncables = [\"AB\", \"CD\"]"),
-    (PLAIN_DAY, "plugs = []", "plugs = [\"BC\", \"DE\"]"),
+    (PlainDay, "plugs = []", "plugs = [\"BC\", \"DE\"]"),
 );
 
 /// A Converter without effective pins, on its day.
-pub const IDLE: Told = ((WITHOUT_PINS, "", ""), (DAY_WITHOUT_PINS, "", ""));
+pub const IDLE: Told = ((WithoutPins, "", ""), (DayWithoutPins, "", ""));
 
 /// A Converter two of whose bars come to read as two rows if one lug is moved.
 pub const TWO_BARS: Told = (
     (
-        WITHOUT_PINS,
+        WithoutPins,
         "bars = [\"0L-0R\", \"0L-0R\"",
         "bars = [\"3-0R\", \"0L-3\"",
     ),
     (
-        DAY_WITHOUT_PINS,
+        DayWithoutPins,
         "rows = [\"0-0\", \"0-0\"",
         "rows = [\"0-3\", \"3-6\"",
     ),
@@ -42,16 +42,20 @@ pub const TWO_BARS: Told = (
 
 /// A Converter on which both lugs of a bar have to be moved, the right one first.
 pub const ONE_BAR: Told = (
-    (WITHOUT_PINS, "bars = [\"0L-0R\"", "bars = [\"1-3\""),
-    (DAY_WITHOUT_PINS, "rows = [\"0-0\"", "rows = [\"3-6\""),
+    (WithoutPins, "bars = [\"0L-0R\"", "bars = [\"1-3\""),
+    (DayWithoutPins, "rows = [\"0-0\"", "rows = [\"3-6\""),
 );
 
 /// A machine and a day of two models.
-pub const TWO_MODELS: Told = ((M1, "", ""), (DAY_WITHOUT_PINS, "", ""));
+pub const TWO_MODELS: Told = ((M1, "", ""), (DayWithoutPins, "", ""));
 
 /// The machine of that file.
 pub fn machine(rt: &impl Abort, alloc: Global, (file, old, new): &File) -> Machine {
-    let text = file.replace(alloc, old, new).ok().expect(rt, "memory");
+    let text = file
+        .text()
+        .replace(alloc, old, new)
+        .ok()
+        .expect(rt, "memory");
     read_machine(alloc, text.as_bytes())
         .ok()
         .expect(rt, "a machine file")
@@ -59,7 +63,11 @@ pub fn machine(rt: &impl Abort, alloc: Global, (file, old, new): &File) -> Machi
 
 /// The first day of the month in that sheet.
 pub fn day(rt: &impl Abort, alloc: Global, (sheet, old, new): &File) -> SheetDay {
-    let text = sheet.replace(alloc, old, new).ok().expect(rt, "memory");
+    let text = sheet
+        .text()
+        .replace(alloc, old, new)
+        .ok()
+        .expect(rt, "memory");
     let sheet = read_sheet(alloc, text.as_bytes())
         .ok()
         .expect(rt, "a sheet");

@@ -1,6 +1,6 @@
 //! Tests of the planner.
 use crate::machines::{CABLES, ONE_BAR, PLAIN, TWO_BARS, TWO_MODELS, Told, keyed};
-use crate::texts::{DAY_OF_M4, DAY_WITHOUT_PINS, M1, M3, M4_AS_ENIGMA, PLAIN_DAY, WITHOUT_PINS};
+use crate::named::TextName::{DayOfM4, DayWithoutPins, M1, M3, M4AsEnigma, PlainDay, WithoutPins};
 use kd_card::write_card;
 use kd_plan::{OtherModel, plan};
 use kd_tables::MemorySink;
@@ -28,7 +28,7 @@ static CASES: [Case; 11] = [
     (
         (
             (M1, "version = 1", "version = 1\ncables = [\"AB\", \"CD\"]"),
-            (PLAIN_DAY, "plugs = []", "plugs = [\"DE\", \"BC\"]"),
+            (PlainDay, "plugs = []", "plugs = [\"DE\", \"BC\"]"),
         ),
         "CARD 1 DAY 1\nPULL 1 A\nPULL 2 C\nPUT 1 C\nPUT 2 E\nSETTINGS 4\nCABLES ",
         "\nSUM 4\n",
@@ -36,7 +36,7 @@ static CASES: [Case; 11] = [
     (
         (
             (M1, "version = 1", "version = 1\ncables = [\"C\"]"),
-            (PLAIN_DAY, "plugs = []", "plugs = [\"CF\"]"),
+            (PlainDay, "plugs = []", "plugs = [\"CF\"]"),
         ),
         "CARD 1 DAY 1\nPUT 1 F\nSETTINGS 1\nCABLES ",
         "\nSUM 1\n",
@@ -44,25 +44,25 @@ static CASES: [Case; 11] = [
     // Wheels, rings, letters and reflectors.
     (PLAIN, "CARD 1 DAY 1\nSETTINGS 0", NO_PRICES),
     (
-        ((M1, "AAAAA", "BAAAA"), (PLAIN_DAY, "", "")),
+        ((M1, "AAAAA", "BAAAA"), (PlainDay, "", "")),
         "CARD 1 DAY 1\nRING I A\nTURN 1 A\nSETTINGS 2",
         NO_PRICES,
     ),
     (
-        ((M1, "\"I\", \"II\"", "\"II\", \"I\""), (PLAIN_DAY, "", "")),
+        ((M1, "\"I\", \"II\"", "\"II\", \"I\""), (PlainDay, "", "")),
         "CARD 1 DAY 1\nSEAT 1 I\nSEAT 2 II\nSETTINGS 2",
         NO_PRICES,
     ),
     (
-        ((M1, "\"I\", \"II\"", "\"\", \"I\""), (PLAIN_DAY, "", "")),
+        ((M1, "\"I\", \"II\"", "\"\", \"I\""), (PlainDay, "", "")),
         "CARD 1 DAY 1\nSEAT 1 I\nSEAT 2 II\nSETTINGS 2",
         NO_PRICES,
     ),
     (
         (
-            (M4_AS_ENIGMA, "", ""),
+            (M4AsEnigma, "", ""),
             (
-                DAY_OF_M4,
+                DayOfM4,
                 "\"b\"\nwheels = [\"Beta\"",
                 "\"c\"\nwheels = [\"Gamma\"",
             ),
@@ -80,12 +80,12 @@ static CASES: [Case; 11] = [
     (
         (
             (
-                WITHOUT_PINS,
+                WithoutPins,
                 "bars = [\"0L-0R\", \"0L-0R\"",
                 "bars = [\"0L-3\", \"3-0R\"",
             ),
             (
-                DAY_WITHOUT_PINS,
+                DayWithoutPins,
                 "rows = [\"0-0\", \"0-0\"",
                 "rows = [\"0-3\", \"3-6\"",
             ),
@@ -121,7 +121,7 @@ fn cards_are_planned(rt: HostRuntime) {
 }
 
 /// Machines and days of two models.
-static OF_TWO_MODELS: [Told; 2] = [TWO_MODELS, ((M3, "", ""), (PLAIN_DAY, "", ""))];
+static OF_TWO_MODELS: [Told; 2] = [TWO_MODELS, ((M3, "", ""), (PlainDay, "", ""))];
 
 #[test]
 fn two_models(rt: HostRuntime) {

@@ -256,3 +256,221 @@ BARS 9999 0 0 0 0 0 0 0 0 0 0 0 0 0 0 0 0 0 0 0 0 0 0 0 0 0 0
 ROWS -9999 0 0 0 0 0 0 0 0 0 0 0 0 0 0 0 0 0 0 0 0 0 0 0 0 0 0
 SUM 0
 ";
+
+/// A card that moves one lug, and whose prices are 0.
+pub const NO_PRICES: &str = "CARD 1 DAY 9
+LUG 1 R 6
+SETTINGS 1
+BARS 0 0 0 0 0 0 0 0 0 0 0 0 0 0 0 0 0 0 0 0 0 0 0 0 0 0 0
+ROWS 0 0 0 0 0 0 0 0 0 0 0 0 0 0 0 0 0 0 0 0 0 0 0 0 0 0 0
+SUM 0
+";
+
+/// The same, with a price of the first bar that is above its cost.
+pub const HIGHER: &str = "CARD 1 DAY 9
+LUG 1 R 6
+SETTINGS 1
+BARS 2 1 0 0 0 0 0 0 0 0 0 0 0 0 0 0 0 0 0 0 0 0 0 0 0 0 0
+ROWS -1 0 0 0 0 0 0 0 0 0 0 0 0 0 0 0 0 0 0 0 0 0 0 0 0 0 0
+SUM 2
+";
+
+/// A line more than is needed, since the first bar is kept for the row that it reads as already, and prices with the right
+/// sum that pretend it isn't.
+pub const TWO_LUGS: &str = "CARD 1 DAY 9
+LUG 2 R 6
+LUG 2 L 3
+SETTINGS 2
+BARS 2 0 0 0 0 0 0 0 0 0 0 0 0 0 0 0 0 0 0 0 0 0 0 0 0 0 0
+ROWS 0 0 0 0 0 0 0 0 0 0 0 0 0 0 0 0 0 0 0 0 0 0 0 0 0 0 0
+SUM 2
+";
+
+/// The same, by kind.
+pub const TWO_LUGS_BY_KIND: &str = "CARD 2 DAY 9
+LUG 2 R 6
+LUG 2 L 3
+SETTINGS 2
+BAR 0L-3 1 0
+BAR 0L-0R 25 0
+BAR 3-0R 1 2
+ROW 0-0 25 0
+ROW 0-3 1 0
+ROW 3-6 1 0
+SUM 2
+";
+
+/// The right lug of a bar makes room for the left one.
+pub const BOTH_LUGS: &str = "CARD 1 DAY 10
+LUG 1 R 6
+LUG 1 L 3
+SETTINGS 2
+BARS 2 0 0 0 0 0 0 0 0 0 0 0 0 0 0 0 0 0 0 0 0 0 0 0 0 0 0
+ROWS 0 0 0 0 0 0 0 0 0 0 0 0 0 0 0 0 0 0 0 0 0 0 0 0 0 0 0
+SUM 2
+";
+
+/// No line where two cables have to change places, and prices that say none is needed.
+pub const NO_LINE: &str = "CARD 2 DAY 8
+SETTINGS 0
+CABLE AB 1 0
+CABLE CD 1 0
+CABLE - 11 0
+PAIR BC 1 0
+PAIR DE 1 0
+PAIR - 11 0
+SUM 0
+";
+
+/// That Enigma I with an empty slot, which isn't ready.
+pub const UNREADY: &str = "version = 1
+model = \"Enigma I\"
+reflector = \"B\"
+slots = [\"I\", \"\", \"III\"]
+rings = \"AAAAA\"
+letters = \"AAAAA\"
+";
+
+/// A Converter M-209 that differs from its day in each pin and letter, and in both lugs of each bar.
+pub const FARTHEST: &str = "version = 1
+model = \"M-209\"
+letters = \"BBBBBB\"
+pins = [\"\", \"\", \"\", \"\", \"\", \"\"]
+bars = [
+    \"1-2\", \"1-2\", \"1-2\", \"1-2\", \"1-2\", \"1-2\", \"1-2\", \"1-2\", \"1-2\",
+    \"1-2\", \"1-2\", \"1-2\", \"1-2\", \"1-2\", \"1-2\", \"1-2\", \"1-2\", \"1-2\",
+    \"1-2\", \"1-2\", \"1-2\", \"1-2\", \"1-2\", \"1-2\", \"1-2\", \"1-2\", \"1-2\",
+]
+";
+
+/// A sheet with a day for each of these machines.
+pub const SHEET: &str = "[[day]]
+day = 3
+model = \"M3\"
+reflector = \"B\"
+wheels = [\"I\", \"II\", \"III\"]
+rings = \"AAA\"
+window = \"AAA\"
+plugs = []
+groups = [\"ZUG\"]
+
+[[day]]
+day = 1
+model = \"M4\"
+reflector = \"b\"
+wheels = [\"Beta\", \"I\", \"II\", \"III\"]
+rings = \"AAAA\"
+window = \"AAAA\"
+plugs = []
+groups = [\"ZUG\"]
+
+[[day]]
+day = 8
+model = \"Enigma I\"
+reflector = \"B\"
+wheels = [\"I\", \"II\", \"III\"]
+rings = \"AAA\"
+window = \"AAA\"
+plugs = [\"BC\", \"DE\"]
+
+[[day]]
+day = 9
+model = \"M-209\"
+rows = [
+    \"0-3\", \"3-6\", \"0-0\", \"0-0\", \"0-0\", \"0-0\", \"0-0\", \"0-0\", \"0-0\",
+    \"0-0\", \"0-0\", \"0-0\", \"0-0\", \"0-0\", \"0-0\", \"0-0\", \"0-0\", \"0-0\",
+    \"0-0\", \"0-0\", \"0-0\", \"0-0\", \"0-0\", \"0-0\", \"0-0\", \"0-0\", \"0-0\",
+]
+pins = [\"P\", \"O\", \"\", \"\", \"\", \"\"]
+window = \"AAAAAA\"
+list = \"QV\"
+
+[[day]]
+day = 10
+model = \"M-209\"
+rows = [
+    \"3-6\", \"0-0\", \"0-0\", \"0-0\", \"0-0\", \"0-0\", \"0-0\", \"0-0\", \"0-0\",
+    \"0-0\", \"0-0\", \"0-0\", \"0-0\", \"0-0\", \"0-0\", \"0-0\", \"0-0\", \"0-0\",
+    \"0-0\", \"0-0\", \"0-0\", \"0-0\", \"0-0\", \"0-0\", \"0-0\", \"0-0\", \"0-0\",
+]
+pins = [\"P\", \"O\", \"\", \"\", \"\", \"\"]
+window = \"AAAAAA\"
+list = \"QV\"
+
+[[day]]
+day = 11
+model = \"Enigma I\"
+reflector = \"B\"
+wheels = [\"I\", \"II\", \"III\"]
+rings = \"AAA\"
+window = \"AAA\"
+plugs = []
+
+[[day]]
+day = 12
+model = \"Enigma I\"
+reflector = \"B\"
+wheels = [\"I\", \"II\", \"III\"]
+rings = \"AAA\"
+window = \"AAA\"
+plugs = []
+
+[[day]]
+day = 13
+model = \"M-209\"
+rows = [
+    \"3-4\", \"3-4\", \"3-4\", \"3-4\", \"3-4\", \"3-4\", \"3-4\", \"3-4\", \"3-4\",
+    \"3-4\", \"3-4\", \"3-4\", \"3-4\", \"3-4\", \"3-4\", \"3-4\", \"3-4\", \"3-4\",
+    \"3-4\", \"3-4\", \"3-4\", \"3-4\", \"3-4\", \"3-4\", \"3-4\", \"3-4\", \"3-4\",
+]
+pins = [
+    \"ABCDEFGHIJKLMNOPQRSTUVWXYZ\",
+    \"ABCDEFGHIJKLMNOPQRSTUVXYZ\",
+    \"ABCDEFGHIJKLMNOPQRSTUVX\",
+    \"ABCDEFGHIJKLMNOPQRSTU\",
+    \"ABCDEFGHIJKLMNOPQRS\",
+    \"ABCDEFGHIJKLMNOPQ\",
+]
+window = \"AAAAAA\"
+list = \"QV\"
+
+[[day]]
+day = 15
+model = \"M-209\"
+rows = [
+    \"0-0\", \"0-0\", \"0-0\", \"0-0\", \"0-0\", \"0-0\", \"0-0\", \"0-0\", \"0-0\",
+    \"0-0\", \"0-0\", \"0-0\", \"0-0\", \"0-0\", \"0-0\", \"0-0\", \"0-0\", \"0-0\",
+    \"0-0\", \"0-0\", \"0-0\", \"0-0\", \"0-0\", \"0-0\", \"0-0\", \"0-0\", \"0-0\",
+]
+pins = [\"\", \"\", \"\", \"\", \"\", \"\"]
+window = \"AAAAAA\"
+list = \"QV\"
+
+[[day]]
+day = 16
+model = \"Enigma I\"
+reflector = \"B\"
+wheels = [\"I\", \"II\", \"III\"]
+rings = \"AAA\"
+window = \"AAA\"
+plugs = [\"CF\"]
+
+[[day]]
+day = 17
+model = \"Enigma I\"
+reflector = \"B\"
+wheels = [\"I\", \"II\", \"III\"]
+rings = \"AAA\"
+window = \"AAA\"
+plugs = []
+groups = [\"ZUG\"]
+
+[[day]]
+day = 31
+model = \"M4\"
+reflector = \"c\"
+wheels = [\"Gamma\", \"I\", \"II\", \"III\"]
+rings = \"AAAA\"
+window = \"AAAA\"
+plugs = []
+";

@@ -33,7 +33,7 @@ pub(crate) fn put_in_order(cables: &mut [Cable])
 }
 
 /// Whether the letter lies in the cable.
-pub(crate) fn lies_in(cable: &Cable, letter: Letter) -> bool
+pub fn lies_in(cable: &Cable, letter: Letter) -> bool
     ensures { result ≡ has_letter (cable_letters cable.now) letter }
 {
     is_letter(cable.0, letter) || is_letter(cable.1, letter)
@@ -100,7 +100,7 @@ pub(crate) fn are_apart(cables: &[Cable]) -> bool
 }
 
 /// Whether the cable's letters differ, and lie in none of the others.
-fn is_new(cable: &Cable, others: &[Cable]) -> bool
+pub fn is_new(cable: &Cable, others: &[Cable]) -> bool
     ensures { result ≡ are_new (cable_letters cable.now) (plugged_letters others.now) }
 {
     match *cable {

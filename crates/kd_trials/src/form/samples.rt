@@ -1,7 +1,7 @@
 //! Machines on their days, orders and forms.
 use crate::machines::Told;
-use crate::texts::{
-    ALL_MET, DAY_OF_1941, DAY_OF_ALL_MET, DAY_OF_M4, M1, M4_AS_ENIGMA, PLAIN_DAY, TEN_CABLES,
+use crate::named::TextName::{
+    AllMet, DayOf1941, DayOfAllMet, DayOfM4, M1, M4AsEnigma, PlainDay, TenCables,
 };
 use kd_form::FormFault;
 use std::alloc::{AllocError, Global};
@@ -9,30 +9,30 @@ use std::alloc::{AllocError, Global};
 /// The first machine with other letters in its windows, with another ring, and with one end of a cable plugged.
 pub const TURNED: Told = (
     (M1, "letters = \"AAAAA\"", "letters = \"QRSAA\""),
-    (PLAIN_DAY, "", ""),
+    (PlainDay, "", ""),
 );
 
 pub const OFF_KEY: Told = (
     (M1, "rings = \"AAAAA\"", "rings = \"BAAAA\""),
-    (PLAIN_DAY, "", ""),
+    (PlainDay, "", ""),
 );
 
 pub const UNREADY: Told = (
     (M1, "version = 1", "version = 1\ncables = [\"A\"]"),
-    (PLAIN_DAY, "", ""),
+    (PlainDay, "", ""),
 );
 
 /// An M4 that acts as the first machine.
-pub const FOUR_WHEELS: Told = ((M4_AS_ENIGMA, "", ""), (DAY_OF_M4, "", ""));
+pub const FOUR_WHEELS: Told = ((M4AsEnigma, "", ""), (DayOfM4, "", ""));
 
 /// A Converter all of whose bars are met by one pin.
-pub const ONE_PIN: Told = ((ALL_MET, "", ""), (DAY_OF_ALL_MET, "", ""));
+pub const ONE_PIN: Told = ((AllMet, "", ""), (DayOfAllMet, "", ""));
 
 /// The machine with ten cables, on the day of a message of 1941.
-pub const OF_1941: Told = ((TEN_CABLES, "", ""), (DAY_OF_1941, "", ""));
+pub const OF_1941: Told = ((TenCables, "", ""), (DayOf1941, "", ""));
 
 /// The same machine on a day with another group.
-pub const OTHER_GROUP: Told = ((TEN_CABLES, "", ""), (DAY_OF_1941, "UGZ", "ABC"));
+pub const OTHER_GROUP: Told = ((TenCables, "", ""), (DayOf1941, "UGZ", "ABC"));
 
 /// A form of two parts, each with the text AAAAA.
 pub const TWO_PARTS: &str = "PART 1/2 10 AAA BDZ\nQXUGZ BDZGO\nPART 2/2 10 AAA BDZ\nQXUGZ BDZGO\n";

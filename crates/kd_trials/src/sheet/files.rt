@@ -1,7 +1,7 @@
 //! Machines that are written, and the days of sheets.
 use super::SHEET;
 use crate::machines::{File, machine};
-use crate::texts::{M1, M1_WRITTEN, M4, M209, TEN_CABLES, TEN_CABLES_WRITTEN};
+use crate::named::TextName::{self, M1, M1Written, M4, M209, TenCables, TenCablesWritten};
 use kd_sheet::{SheetFault, read_machine, read_sheet, write_machine};
 use kd_tables::{Device, MemorySink};
 use std::alloc::{AllocError, Global};
@@ -9,9 +9,9 @@ use std::process::Abort;
 
 /// Each file beside the one that is written for its machine, if that is another one. Either version tells the same machine,
 /// and what no key speaks of is passed over.
-static WRITTEN: [(File, Option<&str>); 16] = [
-    ((M1, "", ""), Some(M1_WRITTEN)),
-    ((M1, "version = 1", "version = 2"), Some(M1_WRITTEN)),
+static WRITTEN: [(File, Option<TextName>); 16] = [
+    ((M1, "", ""), Some(M1Written)),
+    ((M1, "version = 1", "version = 2"), Some(M1Written)),
     (
         (
             M1,
@@ -19,28 +19,24 @@ static WRITTEN: [(File, Option<&str>); 16] = [
             "x = [[[[[[[[[[[[[[[[[[[[[[[[[[[[[[[[[[[[[[[[[[[[[[[[[[[[[[[[[[[[[[[[
 ]]]]]]]]]]]]]]]]]]]]]]]]]]]]]]]]]]]]]]]]]]]]]]]]]]]]]]]]]]]]]]]]\nversion = 1",
         ),
-        Some(M1_WRITTEN),
+        Some(M1Written),
     ),
-    ((M1_WRITTEN, "", ""), None),
-    ((TEN_CABLES, "", ""), Some(TEN_CABLES_WRITTEN)),
-    ((TEN_CABLES_WRITTEN, "", ""), None),
+    ((M1Written, "", ""), None),
+    ((TenCables, "", ""), Some(TenCablesWritten)),
+    ((TenCablesWritten, "", ""), None),
     ((M4, "", ""), None),
     ((M209, "", ""), None),
-    ((M1_WRITTEN, "\"AAAAA\"\nl", "\"BBBAA\"\nl"), None),
-    ((M1_WRITTEN, "[\"\", \"\",", "[\"AB\", \"CD\","), None),
+    ((M1Written, "\"AAAAA\"\nl", "\"BBBAA\"\nl"), None),
+    ((M1Written, "[\"\", \"\",", "[\"AB\", \"CD\","), None),
     (
-        (
-            M1_WRITTEN,
-            "[\"I\", \"II\", \"III\"]",
-            "[\"\", \"I\", \"\"]",
-        ),
+        (M1Written, "[\"I\", \"II\", \"III\"]", "[\"\", \"I\", \"\"]"),
         None,
     ),
     (
-        (M1_WRITTEN, "letters = \"AAAAA\"", "letters = \"BAAAA\""),
+        (M1Written, "letters = \"AAAAA\"", "letters = \"BAAAA\""),
         None,
     ),
-    ((M1_WRITTEN, "\"AAAAA\"", "\"BAAAA\""), None),
+    ((M1Written, "\"AAAAA\"", "\"BAAAA\""), None),
     ((M209, "\"1-2\", \"0L-0R\"", "\"3-0R\", \"0L-3\""), None),
     (
         (
@@ -57,16 +53,14 @@ static WRITTEN: [(File, Option<&str>); 16] = [
 fn is_written(
     rt: &impl Abort,
     alloc: Global,
-    (told, due): &(File, Option<&str>),
+    (told, due): &(File, Option<TextName>),
 ) -> Result<(), AllocError> {
     let (file, old, new) = told;
-    let text = file.replace(alloc, old, new)?;
+    let text = file.text().replace(alloc, old, new)?;
     let mut sink = MemorySink::<1024>::new(1024);
     assert!(rt; write_machine(&mut sink, &machine(rt, alloc, told)).is_ok());
-    assert!(rt;
-        sink.taken() == due.unwrap_or(text.as_str()).as_bytes(),
-        "{new}"
-    );
+    let due = due.map_or(text.as_str(), |due| due.text());
+    assert!(rt; sink.taken() == due.as_bytes(), "{new}");
     Ok(())
 }
 
@@ -79,7 +73,7 @@ fn machines_are_written(rt: HostRuntime) -> Result<(), AllocError> {
 }
 
 /// Files that are written as they are.
-static WHOLE: [&str; 4] = [M1_WRITTEN, TEN_CABLES_WRITTEN, M4, M209];
+static WHOLE: [TextName; 4] = [M1Written, TenCablesWritten, M4, M209];
 
 /// A sink with less room than the machine's file has taken a front of it that fills the room.
 fn fronts_are_taken(rt: &impl Abort, alloc: Global, file: &[u8]) -> Result<(), SheetFault> {
@@ -95,7 +89,7 @@ fn fronts_are_taken(rt: &impl Abort, alloc: Global, file: &[u8]) -> Result<(), S
 #[test]
 fn tells_that_the_sink_failed(rt: HostRuntime) -> Result<(), SheetFault> {
     for file in &WHOLE {
-        fronts_are_taken(&rt, rt.alloc(), file.as_bytes())?;
+        fronts_are_taken(&rt, rt.alloc(), file.text().as_bytes())?;
     }
     Ok(())
 }

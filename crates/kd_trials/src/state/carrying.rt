@@ -1,6 +1,6 @@
 //! Single settings, carried out and refused.
 use crate::machines::{File, machine};
-use crate::texts::{M1, M4, M209};
+use crate::named::TextName::{M1, M4, M209};
 use kd_state::Why::{
     NoLooseEnd, NoSuchBar, NoSuchCable, NotOnWheel, NotThere, OtherModel, PlaceTaken, SlotEmpty,
     SocketTaken, WheelNotAllowed, WouldPass,

@@ -1,7 +1,7 @@
 //! Days of a sheet, and machines that read as them.
 use crate::letters::letter;
 use crate::machines::{CABLES, IDLE, PLAIN, TWO_BARS, Told, day, keyed};
-use crate::texts::{DAY_OF_1941, DAY_OF_ALL_MET, DAY_WITHOUT_PINS, M1, PLAIN_DAY, WITHOUT_PINS};
+use crate::named::TextName::{DayOf1941, DayOfAllMet, DayWithoutPins, M1, PlainDay, WithoutPins};
 use kd_state::SheetDay;
 use kd_tables::{Letter, Model, Reading, Reflector, Wheel};
 
@@ -10,11 +10,11 @@ type Case = (Told, bool, bool);
 
 static CASES: [Case; 8] = [
     (PLAIN, true, true),
-    (((M1, "AAAAA", "BAAAA"), (PLAIN_DAY, "", "")), false, false),
+    (((M1, "AAAAA", "BAAAA"), (PlainDay, "", "")), false, false),
     (
         (
             (M1, "letters = \"AAAAA\"", "letters = \"QRSAA\""),
-            (PLAIN_DAY, "", ""),
+            (PlainDay, "", ""),
         ),
         true,
         false,
@@ -23,7 +23,7 @@ static CASES: [Case; 8] = [
     (
         (
             (M1, "version = 1", "version = 1\ncables = [\"AB\", \"CD\"]"),
-            (PLAIN_DAY, "plugs = []", "plugs = [\"DC\", \"AB\"]"),
+            (PlainDay, "plugs = []", "plugs = [\"DC\", \"AB\"]"),
         ),
         true,
         true,
@@ -31,7 +31,7 @@ static CASES: [Case; 8] = [
     (
         (
             (M1, "version = 1", "version = 1\ncables = [\"AB\", \"CD\"]"),
-            (PLAIN_DAY, "plugs = []", "plugs = [\"AC\", \"BD\"]"),
+            (PlainDay, "plugs = []", "plugs = [\"AC\", \"BD\"]"),
         ),
         false,
         false,
@@ -40,12 +40,12 @@ static CASES: [Case; 8] = [
     (
         (
             (
-                WITHOUT_PINS,
+                WithoutPins,
                 "bars = [\"0L-0R\", \"0L-0R\"",
                 "bars = [\"3-0R\", \"3-6\"",
             ),
             (
-                DAY_WITHOUT_PINS,
+                DayWithoutPins,
                 "rows = [\"0-0\", \"0-0\"",
                 "rows = [\"3-6\", \"0-3\"",
             ),
@@ -78,9 +78,9 @@ fn tells_its_wheels(day: &SheetDay) -> bool {
 
 #[test]
 fn days_tell_their_parts(rt: HostRuntime) {
-    let of_1941 = day(&rt, rt.alloc(), &(DAY_OF_1941, "", ""));
+    let of_1941 = day(&rt, rt.alloc(), &(DayOf1941, "", ""));
     assert!(rt; tells_its_wheels(&of_1941));
-    let all_met = day(&rt, rt.alloc(), &(DAY_OF_ALL_MET, "", ""));
+    let all_met = day(&rt, rt.alloc(), &(DayOfAllMet, "", ""));
     assert!(rt; all_met.rows() == Reading::new(0, 1).map(|row| [row; 27]));
     assert!(rt; all_met.list() == Some([letter(&rt, b'Q'), letter(&rt, b'V')]));
 }

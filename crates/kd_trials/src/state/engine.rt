@@ -1,7 +1,7 @@
 //! What machines make of a text.
 use crate::letters::{letter, letters};
 use crate::machines::{File, machine};
-use crate::texts::{ALL_MET, M1, M3, M4, M4_AS_ENIGMA, M209, TEN_CABLES};
+use crate::named::TextName::{AllMet, M1, M3, M4, M4AsEnigma, M209, TenCables};
 use std::alloc::Global;
 use std::process::Abort;
 
@@ -18,14 +18,14 @@ static CASES: [Case; 11] = [
     ),
     // Ring and letter of the leftmost wheel, moved together, change nothing of the cipher, nor does Beta beside the three.
     ((M1, "AAAAA", "BAAAA"), None, b"AAAAA", b"BDZGO"),
-    ((M4_AS_ENIGMA, "", ""), None, b"AAAAA", b"BDZGO"),
+    ((M4AsEnigma, "", ""), None, b"AAAAA", b"BDZGO"),
     ((M3, "", ""), None, b"AAAAA", b"BDZGO"),
-    ((TEN_CABLES, "", ""), None, b"EDPUD", b"AUFKL"),
-    ((TEN_CABLES, "", ""), Some(b"WXC"), b"KCH", b"BLA"),
-    ((TEN_CABLES, "", ""), Some(b"WXC"), b"BLA", b"KCH"),
+    ((TenCables, "", ""), None, b"EDPUD", b"AUFKL"),
+    ((TenCables, "", ""), Some(b"WXC"), b"KCH", b"BLA"),
+    ((TenCables, "", ""), Some(b"WXC"), b"BLA", b"KCH"),
     ((M4, "", ""), None, b"NCZWVUSX", b"VONVONJL"),
     ((M209, "", ""), None, b"A", b"A"),
-    ((ALL_MET, "", ""), None, b"AAAAA", b"AZZZZ"),
+    ((AllMet, "", ""), None, b"AAAAA", b"AZZZZ"),
 ];
 
 /// The machine makes that of the text.

@@ -1,6 +1,6 @@
 //! What can be read off a machine.
 use crate::machines::machine;
-use crate::texts::{M209, TEN_CABLES};
+use crate::named::TextName::{M209, TenCables};
 use kd_state::Machine;
 use kd_tables::{Letter, Model, Place, Reflector, Standing, Wheel};
 
@@ -28,6 +28,6 @@ fn tells_its_letters_and_bars(machine: &Machine) -> bool {
 
 #[test]
 fn machines_tell_their_parts(rt: HostRuntime) {
-    assert!(rt; tells_its_parts(&machine(&rt, rt.alloc(), &(TEN_CABLES, "", ""))));
+    assert!(rt; tells_its_parts(&machine(&rt, rt.alloc(), &(TenCables, "", ""))));
     assert!(rt; tells_its_letters_and_bars(&machine(&rt, rt.alloc(), &(M209, "", ""))));
 }
