@@ -108,7 +108,7 @@ fn becomes(
     if let Some(other) = by_kind(&machine, &day, &card) {
         assert!(rt; write_card(&mut sink, number, &other).is_ok());
     }
-    let due = due.map_or("", |due| due.text());
+    let due = due.unwrap_or(TextName::Empty).text();
     assert!(rt; sink.taken() == due.as_bytes());
 }
 

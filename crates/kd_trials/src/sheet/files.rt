@@ -59,7 +59,10 @@ fn is_written(
     let text = file.text().replace(alloc, old, new)?;
     let mut sink = MemorySink::<1024>::new(1024);
     assert!(rt; write_machine(&mut sink, &machine(rt, alloc, told)).is_ok());
-    let due = due.map_or(text.as_str(), |due| due.text());
+    let due = match due {
+        Some(due) => due.text(),
+        None => text.as_str(),
+    };
     assert!(rt; sink.taken() == due.as_bytes(), "{new}");
     Ok(())
 }
