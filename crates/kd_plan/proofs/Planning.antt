@@ -1,34 +1,11 @@
 -- How many lines there are, and how many of them the prices speak of: as many as the pairing costs.
-use Rattle.std.proofs.Common.{[], All, ap, arith, Bool, cond, false, find, fold, get_or, length, length-append, List, map, min, nat_eq, nat_le, nat_lt, None, not, Option, pos, refl, replicate, rules, suc, sym, true, unsigned_abs, zero, zip, ℕ, ℤ, ◌&&◌, ◌++◌, ◌+ℤ◌, ◌+◌, ◌<◌, ◌||◌, ◌∙◌, ◌∷◌, ◌≡◌, ◌≤ℤ◌, ◌≤◌}
+pub mod Pins
+unfoldable pub use Pins.*
 use Rattle.kd_assign.specs.Prices.{cost_at, CostsAtMost, Fits, price_at, price_sum, sum_of}
 use Rattle.kd_card.specs.declared.prices.PriceParts.{PriceParts}
 use Rattle.kd_card.specs.declared.prices.Version.TheVariants.{ByNumber}
-use Rattle.kd_state.specs.Costs.{standings_as}
 use Rattle.kd_tables.specs.Permutation.{alphabet}
-use Rattle.kd_tables.specs.Rings.{ring_of}
 use Rattle.std.proofs.lemmas.Int.{ints}
-use Rattle.std.specs.List.{IsDistinct}
-use Rattle.kd_plan.proofs.Prelude.{All-append, All-map, All-replicate, AllByRecursion, AreOfKind, ArePrices}
-use Rattle.kd_plan.proofs.Prelude.{as_few_are_needed, assignment_cost, at_most_four, bar_cost, bars_beside, besides}
-use Rattle.kd_plan.proofs.Prelude.{box_of, cable_cost, cable_letters, card_sum, column_kinds, column_letters}
-use Rattle.kd_plan.proofs.Prelude.{column_prices, columns_of, common_steps, cond_both, cost_table, count_by}
-use Rattle.kd_plan.proofs.Prelude.{count_by-le-length, Day, day_model, differ, eqb-true, fold_of_both, get_or-map}
-use Rattle.kd_plan.proofs.Prelude.{get_or-replicate, has_letter, HasAllPins, how_many, is_priced, IsLegalDay}
-use Rattle.kd_plan.proofs.Prelude.{IsLegalRotorDay, IsMachine, IsOneToOne, IsPlanned, LeadsToTheDay, length-filter}
-use Rattle.kd_plan.proofs.Prelude.{length-map, length-zip, letters_apart, letters_due, lines_from, loose_count}
-use Rattle.kd_plan.proofs.Prelude.{loose_rings, lugs_moved, lugs_of, lugs_to, Model, model_of, nat_tests, no_rotors}
-use Rattle.kd_plan.proofs.Prelude.{OfPins, OfRotors, option_map_or, option_to_list, Parts, Pin, pin_lines, pin_of}
-use Rattle.kd_plan.proofs.Prelude.{pin_turn_of, PinDay, PinParts, pins_of, PinSet, Place, planned_lines, priced_count}
-use Rattle.kd_plan.proofs.Prelude.{Pull, pulls_of, Put, puts_of, range_with_len, recursion_from_All, ring_at}
-use Rattle.kd_plan.proofs.Prelude.{ring_lines, ring_of_wheel, Rotor, RotorDay, RotorParts, row_kinds, row_prices}
-use Rattle.kd_plan.proofs.Prelude.{same_reflector, same_wheel, seat_of, SeatReflector, Setting, SheetWheel, slots_of}
-use Rattle.kd_plan.proofs.Prelude.{sum-map, sum_by, sum_by-append, sum_by-cons, sum_by-le, sum_by-le-sum_by, table_size}
-use Rattle.kd_plan.proofs.Prelude.{thirteen_columns, turn_of, unless_same, unless_same_at_most, unless_so, version_of}
-use Rattle.kd_plan.proofs.Prelude.{Wheel, wheel_pin_lines}
-use Rattle.kd_plan.proofs.Cables.{are_pluggable, AreProper, Beside, beside_each, IsPluggable}
-use Rattle.kd_plan.proofs.Carrying.{lines_of_each}
-use Rattle.kd_plan.proofs.Pins.{are_movable, at_most_two, BarRow, is_target, IsMovable, pin_machine_leads, to_stand}
-use Rattle.kd_plan.proofs.Rotors.{rotors_lead}
 use Rattle.kd_plan.specs.Due.{prices_due}
 use Rattle.kd_plan.specs.Laws.{PlannedCardsProve, PlannedLinesLead}
 use Rattle.kd_card.specs.Prices as card
@@ -222,7 +199,7 @@ good (Rotor m) (OfRotors s) to machine legal same count one_to_one =
     let cost = table_cost cable_cost (columns_of s.pairs) None m.cables to (machine.legal.cables.count ∙ sym count) within in
     record {
       leads = rotors_lead m s machine legal same to count one_to_one;
-      counted = rw cost (rotor_counted m s to (are_pluggable m.cables s.pairs to machine.legal.cables legal.pairs count one_to_one));
+      counted = rw cost (rotor_counted m s to (are_pluggable m s machine legal same to count one_to_one));
     }
 good (Pin m) (OfPins s) to machine legal same count one_to_one =
     let within = recursion_from_All (λ j. j < length s.rows) to (λ k d lt. omega (arith, one_to_one.in_range k d lt, count, legal.count)) in
@@ -296,7 +273,7 @@ pub rotor_room : (m : RotorParts) (s : RotorDay) (to : List ℕ) → IsMachine (
     → length (planned_lines (Rotor m) (OfRotors s) to) ≤ 192
 rotor_room m s to machine legal same count one_to_one =
     let cables = besides m.cables s.pairs to in
-    let counted = rotor_counted m s to (are_pluggable m.cables s.pairs to machine.legal.cables legal.pairs count one_to_one) in
+    let counted = rotor_counted m s to (are_pluggable m s machine legal same to count one_to_one) in
     let costs = sum_by-le (λ (z : Beside). cable_cost z.0 z.1) 4 cables (λ k d lt. let z : Beside = get_or cables k d in at_most_four z.0 z.1) in
     grind (arith, counted.few, count_by-le-length, length-zip, unless_same_at_most, few_slots, length-map)
 

@@ -1,5 +1,4 @@
-use Rattle.std.proofs.Common.{arith, rules, ◌+◌}
-use Rattle.kd_plan.proofs.Prelude.{common_steps}
+use Rattle.kd_plan.proofs.Planning.{arith, common_steps, rules, ◌+◌}
 use Rattle.kd_plan.proofs.bar_lines.+push_lugs.Goals as goal
 
 pub push_lugs-requires : goal.push_lugs-requires

@@ -1,6 +1,5 @@
-use Rattle.std.proofs.Common.{arith}
-use Rattle.kd_plan.proofs.Prelude.{bar_cost, pin_values, some_since}
-use Rattle.kd_plan.proofs.Planning.{bar_cost_at_most, pin_room, planned, prices_of, table_at_most}
+use Rattle.kd_plan.proofs.Planning.{arith, bar_cost, bar_cost_at_most, pin_room, pin_values, planned, prices_of}
+use Rattle.kd_plan.proofs.Planning.{some_since, table_at_most}
 use Rattle.kd_plan.proofs.planner.pin_card.Goals as goal
 
 pub assign-total-requires : goal.assign-total-requires

@@ -1,6 +1,4 @@
-use Rattle.std.proofs.Common.{refl, subst}
-use Rattle.kd_plan.proofs.Prelude.{ArePrices, Same}
-use Rattle.kd_plan.proofs.Planning.{by_number}
+use Rattle.kd_plan.proofs.Planning.{ArePrices, by_number, refl, Same, subst}
 use Rattle.kd_plan.proofs.planner.plan.Goals as goal
 
 pub returns-clause-card : goal.returns-clause-card

@@ -1,6 +1,5 @@
-use Rattle.std.proofs.Common.{arith, rules}
-use Rattle.kd_plan.proofs.Prelude.{at_most_four, cable_cost, rotor_values, some_since}
-use Rattle.kd_plan.proofs.Planning.{planned, prices_of, rotor_room, table_at_most}
+use Rattle.kd_plan.proofs.Planning.{arith, at_most_four, cable_cost, planned, prices_of, rotor_room, rotor_values}
+use Rattle.kd_plan.proofs.Planning.{rules, some_since, table_at_most}
 use Rattle.kd_plan.proofs.planner.rotor_card.Goals as goal
 
 pub assign-total-requires : goal.assign-total-requires

@@ -1,22 +1,198 @@
--- SEAT, REFLECTOR, RING and TURN, and that all lines of a rotor machine lead to the day.
-use Rattle.std.proofs.Common.{[], All, AllPairs, ap, append_assoc, arith, Bool, cond, Contains, false, find, fold, get_or, length, length-append, List, map, nat_eq, None, Option, refl, set, slice_get, Some, subst, suc, sym, true, zero, zip, ℕ, ◌++◌, ◌+◌, ◌<◌, ◌∙◌, ◌∷◌, ◌≡◌, ◌≢◌}
-use Rattle.kd_tables.specs.declared.reflector.Reflector.{Reflector}
-use Rattle.kd_plan.proofs.Prelude.{AllByRecursion, allowed_in_box, AreSeated, besides, box_of, changed, common_steps}
-use Rattle.kd_plan.proofs.Prelude.{cond_both, Contains-get_or, days_wheels_have_their_places, false_from_ne_true}
-use Rattle.kd_plan.proofs.Prelude.{find_at, get_or-map, get_or-range_with_len, get_or_from_slice_get}
-use Rattle.kd_plan.proofs.Prelude.{has_reflector-Decides, has_wheel-Decides, IsAllowed, IsLegalRotorDay, IsMachine}
-use Rattle.kd_plan.proofs.Prelude.{IsOneToOne, LeadsToTheDay, length-map, length-set, lines_from, map-append, Model}
-use Rattle.kd_plan.proofs.Prelude.{numbered_at, OfRotors, option_and_then, option_map_or, option_to_list, Parts}
-use Rattle.kd_plan.proofs.Prelude.{place_in_box, place_within, planned_lines, position_or_len_is, range_with_len}
-use Rattle.kd_plan.proofs.Prelude.{recursion_from_All, reflector_lines, reflectors_of, ring_lines, ring_of_wheel}
-use Rattle.kd_plan.proofs.Prelude.{RingTo, Rotor, RotorDay, RotorParts, same_reflector-Decides, same_wheel}
-use Rattle.kd_plan.proofs.Prelude.{same_wheel-Decides, same_wheel_self, seat_lines, seat_of, seats, set-get_or, set_at}
-use Rattle.kd_plan.proofs.Prelude.{set_here, set_other, Setting, SheetWheel, slice_get-get_or, slice_get-map, Turn}
-use Rattle.kd_plan.proofs.Prelude.{turn_lines, unless_so, Wheel, why_refused, without}
-use Rattle.kd_plan.proofs.Cables.{all_pulled, all_put, are_pluggable, are_the_pairs, Beside, once_put, same_cables}
-use Rattle.kd_plan.proofs.Cables.{wanted_once, with_cables}
-use Rattle.kd_plan.proofs.Carrying.{all_from, AllFrom, is_number, Led, led_append, led_none, led_unless, lines_of_each}
+-- SEAT, REFLECTOR, RING, TURN, PULL and PUT, and that all lines of a rotor machine lead to the day.
+pub mod Carrying
+unfoldable pub use Carrying.*
+use Rattle.kd_enigma.specs.Plugs.{letters_plugged}
+use Rattle.kd_state.specs.OnKey.{AreThePairs, IsPaired, Joins}
 
+-- ---- PULL and PUT: each cable loses the letters that its column hasn't, and then takes those that it lacks.
+abbrev pub Cable : Type 0
+Cable = Option ℕ × Option ℕ
+
+abbrev pub Column : Type 0
+Column = Option (ℕ × ℕ)
+
+-- a cable beside the column that it is paired with
+abbrev pub Beside : Type 0
+Beside = Cable × Column
+
+abbrev pub column_at : List (ℕ × ℕ) → ℕ → Column
+column_at pairs j = get_or (columns_of pairs) j None
+
+-- the letter lies in the cable, and the column has it
+abbrev pub holds : Cable → ℕ → Bool
+holds cable y = has_letter (cable_letters cable) y
+
+abbrev pub wants : Column → ℕ → Bool
+wants column y = has_letter (column_letters column) y
+
+-- letters of the alphabet, none of them twice
+pub record AreProper (letters : List ℕ) : Type 0 where
+  pub apart : IsDistinct nat_eq letters
+  pub within : AllByRecursion (λ x. x < 26) letters
+
+pub record IsPluggable (z : Beside) : Type 0 where
+  pub held : AreProper (cable_letters z.0)
+  pub due : AreProper (column_letters z.1)
+
+-- letters can be pulled or put one after another, each where it may be
+abbrev may_all : (ℕ → Cable → Bool) → (ℕ → Cable → Cable) → Cable → List ℕ → Bool
+may_all may step cable [] = true
+may_all may step cable (x ∷ letters) = may x cable && may_all may step (step x cable) letters
+
+-- a letter can be put that is due and not in the cable, if it has a loose end
+abbrev takes : (ℕ → Bool) → ℕ → Cable → Bool
+takes due x cable = due x && (not (holds cable x) && not (is_plugged cable))
+
+-- the cable with those of its letters that are due, and then with those letters that it hadn't
+abbrev left_in : (ℕ → Bool) → Cable → Cable
+left_in due cable = fold (λ c x. cable_without x c) cable (filter (λ x. not (due x)) (cable_letters cable))
+
+abbrev put_in : (ℕ → Bool) → Cable → List ℕ → Cable
+put_in due cable letters = fold (λ c x. cable_with x c) (left_in due cable) (letters_apart letters (cable_letters cable))
+
+-- a cable once it was pulled, and once it was put
+abbrev pub once_pulled : Beside → Cable
+once_pulled z = left_in (wants z.1) z.0
+
+abbrev pub once_put : Beside → Cable
+once_put z = put_in (wants z.1) z.0 (letters_due z.1)
+
+all_held : (due : ℕ → Bool) (cable : Cable) → may_all (λ x c. holds c x) cable_without cable (filter (λ x. not (due x)) (cable_letters cable)) ≡ true
+all_held due cable = grind (arith, nat_tests)
+
+left_is : (due : ℕ → Bool) (cable : Cable) (y : ℕ) → holds (left_in due cable) y ≡ (holds cable y && due y)
+left_is due cable y = grind (arith, nat_tests)
+
+-- the letters can be put, and in the end the cable has those that are due
+abbrev IsPut : (ℕ → Bool) → Cable → List ℕ → Type 0
+IsPut due cable letters =
+    (may_all (takes due) cable_with (left_in due cable) (letters_apart letters (cable_letters cable)) ≡ true)
+    × ((y : ℕ) → holds (put_in due cable letters) y ≡ due y)
+
+two_put : (a b : ℕ) (due : ℕ → Bool) (cable : Cable) → nat_eq a b ≡ false → ((y : ℕ) → due y ≡ has_letter (a ∷ b ∷ []) y)
+    → IsDistinct nat_eq (cable_letters cable) → IsPut due cable (a ∷ b ∷ [])
+unfolding IsDistinct
+two_put a b due cable apart both once = (grind (arith, nat_tests, both), λ y. grind (arith, nat_tests, both))
+
+-- a pair's letters in order
+in_their_order : (a b : ℕ) → nat_eq a b ≡ false
+    → (nat_eq (min a b) (max a b) ≡ false) × ((y : ℕ) → has_letter (a ∷ b ∷ []) y ≡ has_letter (min a b ∷ max a b ∷ []) y)
+in_their_order a b e = (grind (arith, nat_tests), λ y. grind (arith, nat_tests))
+
+pub is_put : (z : Beside) → IsPluggable z → IsPut (wants z.1) z.0 (letters_due z.1)
+unfolding IsDistinct
+is_put (cable, None) h = (refl, λ y. grind (arith, left_is))
+is_put (cable, Some pair) h =
+    let order = in_their_order pair.0 pair.1 h.due.apart.0.0 in
+    two_put (min pair.0 pair.1) (max pair.0 pair.1) (wants (Some pair)) cable order.0 order.1 h.held.apart
+
+-- One cable among others.
+module _ (m : RotorParts) where
+  abbrev pub with_cables : List Cable → Parts
+  with_cables cables = Rotor (record m { cables = cables })
+
+  module _ (front back : List Cable) where
+    abbrev with_cable : Cable → Parts
+    with_cable cable = with_cables (front ++ cable ∷ back)
+
+    abbrev number : ℕ
+    number = suc (length front)
+
+    one_pulled : (x : ℕ) (cable : Cable) → holds cable x ≡ true → Led (with_cable cable) (Pull number x ∷ []) (with_cable (cable_without x cable))
+    one_pulled x cable e = grind (arith, led_cons, led_none, seam_get, seam_set)
+
+    -- the letter lies in none of the others
+    abbrev IsFree : ℕ → Type 0
+    IsFree x = (has_letter (plugged_letters front) x ≡ false) × (has_letter (plugged_letters back) x ≡ false)
+
+    one_put : (due : ℕ → Bool) (x : ℕ) (cable : Cable) → takes due x cable ≡ true → (due x ≡ true → IsFree x)
+        → Led (with_cable cable) (Put number x ∷ []) (with_cable (cable_with x cable))
+    one_put due x cable e free = grind (arith, false, led_cons, led_none, flat_map-append, list_any-append, seam_get, seam_set)
+
+    in_turn : (may : ℕ → Cable → Bool) (step : ℕ → Cable → Cable) (line : ℕ → Setting)
+        → ((x : ℕ) (cable : Cable) → may x cable ≡ true → Led (with_cable cable) (line x ∷ []) (with_cable (step x cable)))
+        → (cable : Cable) (letters : List ℕ) → may_all may step cable letters ≡ true
+        → Led (with_cable cable) (map line letters) (with_cable (fold (λ c x. step x c) cable letters))
+    in_turn may step line one cable [] h = led_none refl
+    in_turn may step line one cable (x ∷ letters) h =
+        let parts = and_parts (may x cable) (may_all may step (step x cable) letters) h in
+        led_append (line x ∷ []) (map line letters) (one x cable parts.0) (in_turn may step line one (step x cable) letters parts.1)
+
+    pulled : (z : Beside) → Led (with_cable z.0) (pulls_of number z) (with_cable (once_pulled z))
+    pulled z = in_turn (λ x c. holds c x) cable_without (λ x. Pull number x) one_pulled z.0 _ (all_held (wants z.1) z.0)
+
+    put : (z : Beside) → IsPluggable z → ((x : ℕ) → wants z.1 x ≡ true → IsFree x) → Led (with_cable (once_pulled z)) (puts_of number z) (with_cable (once_put z))
+    put z h free =
+        in_turn (takes (wants z.1)) cable_with (λ x. Put number x) (λ x c e. one_put (wants z.1) x c e (free x)) (once_pulled z) _
+        (is_put z h).0
+
+  -- the letters of one column lie in no other cable
+  none_has : (f : Beside → Cable) (y : ℕ) → ((v : Beside) → IsPluggable v → wants v.1 y ≡ false → holds (f v) y ≡ false) → (vs : List Beside) → AllByRecursion IsPluggable vs
+      → count_by (λ (v : Beside). wants v.1 y) vs ≡ 0 → has_letter (plugged_letters (map f vs)) y ≡ false
+  none_has f y h [] all none = refl
+  none_has f y h (v ∷ vs) all none =
+      grind (arith, list_any-append, sum_by-cons (λ (v : Beside). cond {A = ℕ} (wants v.1 y) 1 0) v vs, h v all.0, none_has f y h vs all.1)
+
+  module _ (zs : List Beside) (pluggable : AllByRecursion IsPluggable zs) where
+    pub all_pulled : Led (with_cables (map (λ (z : Beside). z.0) zs)) (lines_from pulls_of 1 zs) (with_cables (map once_pulled zs))
+    all_pulled =
+        cells_led with_cables (λ (z : Beside). z.0) once_pulled pulls_of zs (λ front back z e.
+        rw length-map at (pulled (map once_pulled front) (map (λ (z : Beside). z.0) back) z))
+
+    pub all_put : ((y : ℕ) → count_by (λ (v : Beside). wants v.1 y) zs ≤ 1)
+        → Led (with_cables (map once_pulled zs)) (lines_from puts_of 1 zs) (with_cables (map once_put zs))
+    all_put once =
+        cells_led with_cables once_pulled once_put puts_of zs (λ front back z e.
+        let parts = all_parts IsPluggable zs front back z e pluggable in
+        rw length-map at (put (map once_put front) (map once_pulled back) z parts.1 (λ y wanted.
+        let counts = sum_by-append (λ (v : Beside). cond (wants v.1 y) 1 0) front (z ∷ back) in
+        let here = sum_by-cons (λ (v : Beside). cond (wants v.1 y) 1 0) z back in
+        let one : cond {A = ℕ} (wants z.1 y) 1 0 ≡ 1 = ap (λ b. cond b 1 0) wanted in
+        let all = ap (count_by (λ (v : Beside). wants v.1 y)) e in (
+          none_has once_put y (λ v h d. (is_put v h).1 y ∙ d) front parts.0 (omega (arith, once y, counts, here, one, all)),
+          none_has once_pulled y (λ v h d. grind (arith, left_is (wants v.1) v.0 y)) back parts.2 (omega (arith, once y, counts, here, one, all)),
+        ))))
+
+cable_parts : (cable : Cable) (letters : List ℕ) → AreProper (cable_letters cable ++ letters) → AreProper (cable_letters cable) × AreProper letters
+unfolding IsDistinct
+cable_parts cable letters h = grind arith
+
+pair_proper : (pairs : List (ℕ × ℕ)) (k : ℕ) → AreProper (letters_plugged pairs) → AreProper (column_letters (slice_get pairs k))
+unfolding IsDistinct
+pair_proper [] k h = h
+pair_proper (pair ∷ pairs) k h = grind (arith, pair_proper pairs)
+
+all_pluggable : (cables : List Cable) (columns : List Column) → AreProper (plugged_letters cables) → AllByRecursion (λ column. AreProper (column_letters column)) columns
+    → AllByRecursion IsPluggable (zip cables columns)
+all_pluggable [] columns h due = tt
+all_pluggable (cable ∷ cables) [] h due = tt
+all_pluggable (cable ∷ cables) (column ∷ columns) h due =
+    let parts = cable_parts cable (plugged_letters cables) h in
+    (record { held = parts.0; due = due.0 }, all_pluggable cables columns parts.1 due.1)
+
+once_wanted : (y : ℕ) (pairs : List (ℕ × ℕ)) (none : ℕ) → count_by (λ column. wants column y) (map Some pairs ++ replicate none None) ≤ times y (letters_plugged pairs)
+once_wanted y [] none = omega (arith, sum_by-replicate (λ (column : Column). cond (wants column y) 1 0) none None)
+once_wanted y (pair ∷ pairs) none = simp sum_by-cons (grind (arith, nat_tests, once_wanted y pairs none))
+
+pub beside_each : {A B : Type 0} (f : B → ℕ) (xs : List A) (ys : List B) → sum_by (λ (z : A × B). f z.1) (zip xs ys) ≤ sum_by f ys
+beside_each f [] ys = omega arith
+beside_each f (x ∷ xs) [] = omega arith
+beside_each f (x ∷ xs) (y ∷ ys) = simp sum_by-cons (omega (arith, beside_each f xs ys))
+
+no_letters : (xs : List ℕ) → ((y : ℕ) → has_letter xs y ≡ false) → xs ≡ []
+no_letters [] h = refl
+no_letters (x ∷ xs) h = absurd (grind (arith, nat_tests, h x))
+
+joins : (z : Beside) (pair : ℕ × ℕ) → IsPluggable z → z.1 ≡ Some pair → Joins (once_put z) pair
+joins z pair h e =
+    record { letters = (tests_tell_letters (cable_letters (once_put z)) (pair.0 ∷ pair.1 ∷ [])).1 (λ y. (is_put z h).1 y ∙ ap (λ column. wants column y) e) }
+
+is_paired : (pairs : List (ℕ × ℕ)) (z : Beside) (column : Column) → z.1 ≡ column → ((pair : ℕ × ℕ) → column ≡ Some pair → Contains pairs pair) → IsPluggable z
+    → IsPaired pairs (once_put z)
+is_paired pairs z None e known h = grind (arith, joins, no_letters, (is_put z h).1)
+is_paired pairs z (Some pair) e known h = grind (arith, known pair, joins z pair)
+
+-- ---- wheels
 -- the box has no wheel twice
 places_in_box : (model : Model) → map (place_in_box model) (box_of model) ≡ range_with_len 0 (length (box_of model))
 places_in_box model = grind arith
@@ -228,12 +404,73 @@ module _ (m : RotorParts) (s : RotorDay) (machine : IsMachine (Rotor m)) (legal 
   abbrev zs : List Beside
   zs = besides m.cables s.pairs to
 
+  abbrev columns : List Column
+  columns = map (column_at s.pairs) to
+
+  sizes : length columns ≡ length m.cables
+  sizes = omega (arith, machine.legal.cables.count, count, length-map to (column_at s.pairs))
+
+  order : IsPermutation (columns_of s.pairs) columns
+  order = paired None (columns_of s.pairs) to (count ∙ sym (thirteen_columns s.pairs legal.pairs.few)) one_to_one
+
+  pub are_pluggable : AllByRecursion IsPluggable zs
+  are_pluggable =
+      let due : AreProper (letters_plugged s.pairs) = record { apart = legal.pairs.apart; within = recursion_from_All (λ x. x < 26) (letters_plugged s.pairs) legal.pairs.within } in
+      all_pluggable m.cables columns (record { apart = machine.legal.cables.apart; within = recursion_from_All (λ x. x < 26) (plugged_letters m.cables) machine.legal.cables.within })
+      (recursion_from_All (λ column. AreProper (column_letters column)) columns
+      (All-map (λ column. AreProper (column_letters column)) (column_at s.pairs) to (λ k d lt. rw (columns_are_the_pairs s.pairs (get_or to k d)) (pair_proper s.pairs (get_or to k d) due))))
+
+  pub same_cables : map (λ (z : Beside). z.0) zs ≡ m.cables
+  same_cables = firsts-zip m.cables columns sizes
+
+  pub wanted_once : (y : ℕ) → count_by (λ (v : Beside). wants v.1 y) zs ≤ 1
+  wanted_once y =
+      let wanted = λ (column : Column). cond {A = ℕ} (wants column y) 1 0 in
+      let moved = sum_by-IsPermutation wanted (columns_of s.pairs) columns order in
+      let once = once_of_distinct (letters_plugged s.pairs) legal.pairs.apart y in
+      omega (arith, beside_each wanted m.cables columns, once_wanted y s.pairs (13 - length s.pairs))
+
+  among_columns : (k : ℕ) (d : ℕ × ℕ) → k < length s.pairs → Contains columns (Some (get_or s.pairs k d))
+  among_columns k d lt =
+      let within : k < length (columns_of s.pairs) = omega (arith, lt, thirteen_columns s.pairs legal.pairs.few, legal.pairs.few) in
+      Contains-permutation (columns_of s.pairs) columns (Some (get_or s.pairs k d)) order
+      (k, within, get_or_default (columns_of s.pairs) k (Some (get_or s.pairs k d)) None within ∙ columns_are_the_pairs s.pairs k ∙ slice_get-get_or s.pairs k d lt)
+
+  column_of : (k : ℕ) (z : Beside) → k < length columns → get_or columns k z.1 ≡ (get_or zs k z).1
+  column_of k z lt = sym (ap (λ (v : Beside). v.1) (get_or-zip m.cables columns k z (omega (arith, sizes)) lt))
+
+  pub are_the_pairs : AreThePairs (map once_put zs) s.pairs
+  are_the_pairs = record {
+    pair = All-map (IsPaired s.pairs) once_put zs (λ k d lt.
+        let z : Beside = get_or zs k d in
+        let j = get_or to k 0 in
+        let within : k < length columns = omega (arith, lt, length-zip m.cables columns) in
+        let here = get_or-map (column_at s.pairs) to k 0 d.1 (omega (arith, within, length-map to (column_at s.pairs))) in
+        is_paired s.pairs z z.1 refl (λ pair e.
+        let at = sym (columns_are_the_pairs s.pairs j) ∙ sym here ∙ column_of k d within ∙ e in
+        (j, slice_get_within s.pairs j pair at, get_or_from_slice_get s.pairs j pair pair at)) (All-from_recursion IsPluggable zs are_pluggable k d lt));
+    cable = λ i d lt.
+        let pair = get_or s.pairs i d in
+        let there = among_columns i d lt in
+        let dz : Beside = ((None, None), Some pair) in
+        let z : Beside = get_or zs there.0 dz in
+        let within : there.0 < length zs = omega (arith, there.1, length-zip m.cables columns, sizes) in
+        record {
+          joins = (
+            there.0,
+            once_put z,
+            omega (arith, length-map zs once_put, within),
+            get_or-map once_put zs there.0 dz (once_put z) within,
+            joins z pair (All-from_recursion IsPluggable zs are_pluggable there.0 dz within) (sym (column_of there.0 dz there.1) ∙ there.2),
+          );
+        };
+  }
+
   all_led : Led (Rotor m) (planned_lines (Rotor m) (OfRotors s) to) (with_cables turned (map once_put zs))
   all_led =
-      let pluggable = are_pluggable m.cables s.pairs to machine.legal.cables legal.pairs count one_to_one in
       let reflector = reflector_led m (seats s.wheels) s.reflector (subst (λ model. Contains (reflectors_of model) s.reflector) (sym same) legal.reflector) in
-      let pulled = rw (same_cables m.cables s.pairs to machine.legal.cables legal.pairs count one_to_one) at (all_pulled turned zs pluggable) in
-      let put = all_put turned zs pluggable (wanted_once m.cables s.pairs to machine.legal.cables legal.pairs count one_to_one) in
+      let pulled = rw same_cables at (all_pulled turned zs are_pluggable) in
+      let put = all_put turned zs are_pluggable wanted_once in
       led_append _ _ (led_append _ _ (led_append _ _ (led_append _ _ (led_append _ _ seats_lead reflector) rings_lead) turns_lead) pulled) put
 
   pub rotors_lead : LeadsToTheDay (Rotor m) (OfRotors s) (planned_lines (Rotor m) (OfRotors s) to)
@@ -249,7 +486,7 @@ module _ (m : RotorParts) (s : RotorDay) (machine : IsMachine (Rotor m)) (legal 
             let w = get_or s.wheels k d in
             is_set the_one place (λ w. w.ring) with_rings ring_line m.rings (box_of m.model) there.0 w.wheel w box_apart there.1 (ap the_one there.2 ∙ one_is k d lt) (omega (arith, place_within m.model w.wheel there, machine.legal.rings.count));
         reflector = refl;
-        cables = are_the_pairs m.cables s.pairs to machine.legal.cables legal.pairs count one_to_one;
+        cables = are_the_pairs;
       };
       window = λ k d lt.
           let w = get_or s.wheels k d in

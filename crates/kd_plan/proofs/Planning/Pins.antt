@@ -1,25 +1,8 @@
 -- PIN, TURN and LUG, and that all lines of a Converter M-209 lead to the day.
-use Rattle.std.proofs.Common.{[], All, ap, arith, Bool, Contains, false, find, fold, get_or, inl, inr, is_some, IsPermutation, length, length-append, List, map, min, nat_eq, nat_lt, None, Option, refl, slice_get, Some, suc, sym, true, unwrap_or, zero, zip, ℕ, ◌++◌, ◌+◌, ◌<◌, ◌∙◌, ◌∷◌, ◌≡◌, ◌≤◌}
-use Rattle.kd_state.specs.Costs.{standings_as}
+pub mod Rotors
+unfoldable pub use Rotors.*
 use Rattle.kd_state.specs.Pins.{pin_set, wheel_pins, with_pin}
 use Rattle.kd_tables.specs.Places.{IsBefore, IsReading, place_rank, places, reading_of, standings}
-use Rattle.kd_tables.specs.Rings.{ring_of}
-use Rattle.kd_tables.specs.declared.lug.Lug.{Lug}
-use Rattle.kd_tables.specs.declared.lug.Lug.TheVariants.{Left, Right}
-use Rattle.kd_tables.specs.declared.place.Place.TheVariants.{One}
-use Rattle.kd_plan.proofs.Prelude.{All-filter, AllByRecursion, AllPass-from_list_all, AreOnWheels, bar_cost}
-use Rattle.kd_plan.proofs.Prelude.{bars_beside, cases_eq, common_steps, cond_both, eqb-true, filter_passes, firsts-zip}
-use Rattle.kd_plan.proofs.Prelude.{get_or-map, get_or-range_with_len, get_or_from_slice_get, has_letter}
-use Rattle.kd_plan.proofs.Prelude.{has_letter-Decides, HasAllPins, is_at, is_some-place_on, IsLegalPinDay, IsMachine}
-use Rattle.kd_plan.proofs.Prelude.{IsOneToOne, IsPermutation-sym, LeadsToTheDay, length-map, length-range_with_len}
-use Rattle.kd_plan.proofs.Prelude.{length-zip, lines_from, ltb-false, ltb-true, lug_place, lugs_moved, lugs_of, lugs_to}
-use Rattle.kd_plan.proofs.Prelude.{LugTo, nat_tests, no_zero, OfPins, one_zero, option_to_list, Parts, Pin, pin_lines}
-use Rattle.kd_plan.proofs.Prelude.{pin_of, pin_turn_lines, pin_turn_of, PinDay, PinParts, pins_of, PinSet, Place}
-use Rattle.kd_plan.proofs.Prelude.{place_on, planned_lines, range_with_len, reads_as_row, recursion_from_All}
-use Rattle.kd_plan.proofs.Prelude.{seconds-zip, set_at, Setting, slice_get_within, target_of, unless_so}
-use Rattle.kd_plan.proofs.Prelude.{wheel_pin_lines, why_refused, with_lug, zeros}
-use Rattle.kd_plan.proofs.Carrying.{all_parts, cells_led, Led, led_append, led_unless, lines_of_each, paired, seam_get}
-use Rattle.kd_plan.proofs.Carrying.{seam_map, seam_set}
 
 -- ---- PIN: wheel after wheel, and on each wheel letter after letter, each of which stands at its own place
 letters_have_places : (number : ℕ) → map (place_on (ring_of number)) (ring_of number) ≡ map Some (range_with_len 0 (length (ring_of number)))
