@@ -33,9 +33,6 @@ Cell = ℕ × (Bool × Bool)
 abbrev TwoPins : Type 0
 TwoPins = List Bool × List Bool
 
-abbrev pub wheel_lines : ℕ → TwoPins → List Setting
-wheel_lines number z = wheel_pin_lines number (ring_of number) z.0 z.1
-
 module _ (m : PinParts) where
   abbrev with_pins : List (List Bool) → Parts
   with_pins lists = Pin (record m { pins = pin_set lists })
@@ -63,7 +60,7 @@ module _ (m : PinParts) where
         grind (arith, led_unless, pin_made done rest w.1.0 w.1.1 w.0 placed)
 
     wheel_led : (now day : List Bool) → length now ≡ length (ring_of number) → length day ≡ length (ring_of number)
-        → Led (with_wheel now) (wheel_lines number (now, day)) (with_wheel day)
+        → Led (with_wheel now) (wheel_pin_lines number (ring_of number) now day) (with_wheel day)
     wheel_led now day e d =
         let ring = ring_of number in
         let cells = zip ring (zip now day) in
@@ -79,7 +76,7 @@ module _ (m : PinParts) where
   pins_lead : (day : PinSet) → HasAllPins m.pins → HasAllPins day → Led (Pin m) (pin_lines m.pins day) (Pin (record m { pins = day }))
   pins_lead day has due =
       let wheels = zip (pins_of m.pins) (pins_of day) in
-      cells_led with_pins (λ (z : TwoPins). z.0) (λ z. z.1) wheel_lines wheels (λ fs bs z e.
+      cells_led with_pins (λ (z : TwoPins). z.0) (λ z. z.1) (λ n z. wheel_pin_lines n (ring_of n) z.0 z.1) wheels (λ fs bs z e.
       let six : length fs + length bs ≡ 5 = omega (arith, ap length e, length-append fs (z ∷ bs)) in
       let now : wheel_pins m.pins (suc (length fs)) ≡ z.0 = ap (λ found. unwrap_or found []) (seam_map (λ (z : TwoPins). z.0) wheels fs bs z e) in
       let wanted : wheel_pins day (suc (length fs)) ≡ z.1 = ap (λ found. unwrap_or found []) (seam_map (λ (z : TwoPins). z.1) wheels fs bs z e) in
@@ -87,8 +84,7 @@ module _ (m : PinParts) where
       (wheel_led (map (λ (z : TwoPins). z.1) fs) (map (λ (z : TwoPins). z.0) bs) (omega (arith, length-map fs (λ (z : TwoPins). z.1), length-map bs (λ (z : TwoPins). z.0))) z.0 z.1
       (rw length-map (rw now at (has (suc (length fs))))) (rw length-map (rw wanted at (due (suc (length fs)))))))
 
--- ---- TURN
-module _ (m : PinParts) where
+  -- TURN
   abbrev with_shown : List ℕ → Parts
   with_shown letters = Pin (record m { letters = letters })
 
@@ -117,13 +113,7 @@ place_of_same place other e = grind (arith, place_by_rank, eqb-true)
 pub at_most_two : (bar standing : Place × Place) → lugs_moved bar standing ≤ 2
 at_most_two bar standing = grind (arith, common_steps)
 
--- what a target is
-pub record IsTarget (bar : Place × Place) (row : ℕ × ℕ) (target : Place × Place) : Type 0 where
-  pub stands : IsBefore target.0 target.1
-  pub reads : reading_of target.0 target.1 ≡ row
-  pub moved : lugs_moved bar target ≡ bar_cost bar row
-
--- a standing of the row is one
+-- a standing of the row
 abbrev IsOfRow : ℕ × ℕ → Place × Place → Type 0
 IsOfRow row x = IsBefore x.0 x.1 × (reads_as_row row x ≡ true)
 
@@ -131,19 +121,11 @@ of_row : (row : ℕ × ℕ) → All (IsOfRow row) (standings_as row)
 unfolding standings_as
 of_row row k d lt =
     let before = λ (x : Place × Place). nat_lt (place_rank x.0) (place_rank x.1) in
-    let x = get_or (standings_as row) k d in (
-      ltb-true (place_rank x.0) (place_rank x.1) (All-filter (reads_as_row row) (λ x. before x ≡ true) standings (AllPass-from_list_all before standings refl) k d lt),
-      filter_passes (reads_as_row row) standings k d lt,
-    )
+    let x = get_or (standings_as row) k d in
+    let stands = All-filter (reads_as_row row) (λ x. before x ≡ true) standings (AllPass-from_list_all before standings refl) k d lt in
+    (ltb-true (place_rank x.0) (place_rank x.1) stands, filter_passes (reads_as_row row) standings k d lt)
 
 -- a row has one standing, or two
-few_standings : (row : ℕ × ℕ) → IsReading row → (x : Place × Place) × (more : Option (Place × Place)) × (standings_as row ≡ x ∷ option_to_list more)
-few_standings row h =
-    elim (cases_eq row.1 0) [
-      | inl e ↦ (_, None, zeros row h.ordered e)
-      | inr some ↦ elim (cases_eq row.0 0) [ inl e ↦ (_, Some _, one_zero row e (omega arith) h.within) | inr other ↦ (_, None, no_zero row h other) ]
-    ]
-
 nearest : (bar x : Place × Place) (more : Option (Place × Place)) (xs : List (Place × Place)) (P : Place × Place → Type 0) → xs ≡ x ∷ option_to_list more → AllByRecursion P xs
     → let least = fold min 2 (map (lugs_moved bar) xs) in
     let target = unwrap_or (find (λ y. nat_eq (lugs_moved bar y) least) xs) bar in
@@ -151,11 +133,17 @@ nearest : (bar x : Place × Place) (more : Option (Place × Place)) (xs : List (
 nearest bar x None xs P e h = grind (arith, nat_tests, at_most_two bar x)
 nearest bar x (Some y) xs P e h = grind (arith, nat_tests, at_most_two bar x, at_most_two bar y)
 
-pub is_target : (bar : Place × Place) (row : ℕ × ℕ) → IsReading row → IsTarget bar row (target_of bar row)
+pub is_target : (bar : Place × Place) (row : ℕ × ℕ) → IsReading row
+    → IsOfRow row (target_of bar row) × (lugs_moved bar (target_of bar row) ≡ bar_cost bar row)
 is_target bar row h =
-    let few = few_standings row h in
-    let so = nearest bar few.0 few.1 (standings_as row) (IsOfRow row) few.2 (recursion_from_All (IsOfRow row) (standings_as row) (of_row row)) in
-    record { stands = so.0.0; reads = grind (arith, eqb-true); moved = so.1 }
+    let all = recursion_from_All (IsOfRow row) (standings_as row) (of_row row) in
+    elim (cases_eq row.1 0) [
+      | inl e ↦ nearest bar _ None (standings_as row) (IsOfRow row) (zeros row h.ordered e) all
+      | inr some ↦ elim (cases_eq row.0 0) [
+        | inl e ↦ nearest bar _ (Some _) (standings_as row) (IsOfRow row) (one_zero row e (omega arith) h.within) all
+        | inr other ↦ nearest bar _ None (standings_as row) (IsOfRow row) (no_zero row h other) all
+      ]
+    ]
 
 -- a bar, and the row that it is paired with
 abbrev pub BarRow : Type 0
@@ -209,12 +197,12 @@ module _ (m : PinParts) where
   lugs_lead zs h =
       cells_led with_bars (λ (z : BarRow). z.0) to_stand lugs_of zs (λ front back z e.
       let movable = (all_parts IsMovable zs front back z e h).1 in
-      rw length-map at (lugs_led (map to_stand front) (map (λ (z : BarRow). z.0) back) z.0 (to_stand z) movable.stands (is_target z.0 z.1 movable.reading).stands))
+      rw length-map at (lugs_led (map to_stand front) (map (λ (z : BarRow). z.0) back) z.0 (to_stand z) movable.stands (is_target z.0 z.1 movable.reading).0.0))
 
 -- the rows that the bars read as in the end
 rows_read : (zs : List BarRow) → AllByRecursion IsMovable zs → map (λ (bar : Place × Place). reading_of bar.0 bar.1) (map to_stand zs) ≡ map (λ (z : BarRow). z.1) zs
 rows_read [] h = refl
-rows_read (z ∷ zs) h = grind (arith, is_target, rows_read zs h.1)
+rows_read (z ∷ zs) h = grind (arith, eqb-true, is_target, rows_read zs h.1)
 
 -- ---- all lines
 movable : (bars : List (Place × Place)) (rows : List (ℕ × ℕ)) (to : List ℕ) → AllByRecursion (λ bar. IsBefore bar.0 bar.1) bars → All IsReading rows

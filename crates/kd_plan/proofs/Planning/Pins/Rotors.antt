@@ -1,8 +1,157 @@
--- SEAT, REFLECTOR, RING, TURN, PULL and PUT, and that all lines of a rotor machine lead to the day.
-pub mod Carrying
-unfoldable pub use Carrying.*
+-- Settings carried out one after another; SEAT, REFLECTOR, RING, TURN, PULL and PUT; and that all lines of a rotor machine
+-- lead to the day.
+pub use Rattle.kd_assign.specs.Assignment.{assignment_cost, IsOneToOne}
+pub use Rattle.kd_card.proofs.{Counts.once_of_distinct, Counts.times, Duality.fold_of_both, Duality.sum_of as card_sum}
+pub use Rattle.kd_card.proofs.{Falling.unless_same_at_most, Shortest.as_few_are_needed, Shortest.no_rotors}
+pub use Rattle.kd_card.proofs.{Shortest.proving_cards_are_shortest}
+pub use Rattle.kd_card.specs.Prices.{ArePrices, column_kinds, column_prices, how_many, row_kinds, row_prices, version_of}
+pub use Rattle.kd_card.specs.Proving.{AreOfKind, is_priced, LeadsToTheDay, priced_count, Proves, Same}
+pub use Rattle.kd_pins.specs.{PinWheels.pins_of, declared.pin_set.PinSet.PinSet}
+pub use Rattle.kd_plan.specs.Planned.{bars_beside, besides, IsPlanned, letters_apart, letters_due, lines_from, lugs_of, lugs_to, pin_lines, pin_of, pin_turn_lines, pin_turn_of, planned_lines, Plans, pulls_of, puts_of, reflector_lines, ring_lines, ring_of_wheel, seat_lines, seat_of, table_size, target_of, turn_lines, turn_of, unless_so, wheel_pin_lines}
+pub use Rattle.kd_state.proofs.CostTable.{at_most_four, columns_are_the_pairs, no_zero, one_zero, tests_tell_letters, thirteen_columns, zeros}
+pub use Rattle.kd_state.proofs.Cables.{free_tells}
+pub use Rattle.kd_state.proofs.Slots.{has_letter-Decides, is_some-place_on, numbered_at, set_here, set_other}
+pub use Rattle.kd_state.proofs.Wheels.{allowed_in_box, days_wheels_have_their_places, has_reflector-Decides, has_wheel-Decides, place_within, same_reflector-Decides, same_wheel-Decides, same_wheel_self}
+pub use Rattle.kd_state.specs.Costs.{bar_cost, cable_cost, column_letters, columns_of, cost_table, differ, loose_count, loose_rings, lugs_moved, reads_as_row, unless_same}
+pub use Rattle.kd_state.specs.Entry.{pin_values, rotor_values}
+pub use Rattle.kd_state.specs.Machine.{AreCables, AreOnWheels, cable_letters, HasAllPins, IsMachine, model_of, plugged_letters, ring_at}
+pub use Rattle.kd_state.specs.Setting.{cable_with, cable_without, changed, has_letter, is_at, is_plugged, Leads, lug_place, why_refused, with_lug, without}
+pub use Rattle.kd_state.specs.SheetDay.{ArePairs, AreSeated, Day, day_model, IsLegalDay, IsLegalPinDay, IsLegalRotorDay, OfPins, OfRotors, PinDay, RotorDay, seats}
+pub use Rattle.kd_state.specs.ToldApart.{numbered, place_in_box, same_reflector, same_wheel}
+pub use Rattle.kd_state.specs.declared.machine.parts.{Parts.Parts, Parts.TheVariants.Pin, Parts.TheVariants.Rotor}
+pub use Rattle.kd_state.specs.declared.machine.{pin_parts.PinParts.PinParts, rotor_parts.RotorParts.RotorParts}
+pub use Rattle.kd_state.specs.declared.setting.Setting.TheVariants.{LugTo, Pull, Put, RingTo, SeatReflector, Turn}
+pub use Rattle.kd_state.specs.declared.{setting.Setting.Setting, sheet_day.rotor_entry.SheetWheel.SheetWheel}
+pub use Rattle.kd_tables.specs.{Rings.place_on, Tables.box_of, Tables.IsAllowed, Tables.reflectors_of, Tables.slots_of}
+pub use Rattle.kd_tables.specs.declared.{lug.Lug.Lug, lug.Lug.TheVariants.Left, lug.Lug.TheVariants.Right}
+pub use Rattle.kd_tables.specs.declared.{model.Model.Model, place.Place.Place, place.Place.TheVariants.One}
+pub use Rattle.kd_tables.specs.declared.{reflector.Reflector.Reflector, wheel.Wheel.Wheel}
+pub use Rattle.std.proofs.Common.{[], All, AllPairs, ap, append_assoc, arith, Bool, cond, Contains, eqb-true, false, filter, find}
+pub use Rattle.std.proofs.Common.{fold, get_or, inl, inr, is_some, IsPermutation, length, length-append, List, ltb-false, ltb-true, map}
+pub use Rattle.std.proofs.Common.{max, min, nat_eq, nat_le, nat_lt, None, not, Option, pos, refl, remove, replicate, rules, set}
+pub use Rattle.std.proofs.Common.{slice_get, Some, subst, suc, sym, true, unsigned_abs, unwrap_or, zero, zip, ℕ, ℤ}
+pub use Rattle.std.proofs.Common.{◌&&◌, ◌++◌, ◌+ℤ◌, ◌+◌, ◌-◌, ◌<◌, ◌||◌, ◌∙◌, ◌∷◌, ◌≡◌, ◌≢◌, ◌≤ℤ◌, ◌≤◌}
+pub use Rattle.std.proofs.lemmas.Bool.{and_parts, cases_eq, cond_both, false_from_ne_true, some_since}
+pub use Rattle.std.proofs.lemmas.{Bool.Decides.nat_tests, Grind.common_steps, Grind.flat_map-append}
+use Rattle.std.proofs.lemmas.List.Edits.{length-remove}
+pub use Rattle.std.proofs.lemmas.List.Elements.{All-append, All-filter, All-from_recursion, All-map, All-replicate, Contains-get_or, filter_passes, recursion_from_All}
+pub use Rattle.std.proofs.lemmas.List.Folds.{find_at, list_any-append, sum_by-replicate}
+pub use Rattle.std.proofs.lemmas.List.FromFn.{fill_by_all, get_or-range_with_len, length-range_with_len}
+pub use Rattle.std.proofs.lemmas.List.Sorted.{Contains-permutation, IsPermutation-cons, IsPermutation-map, IsPermutation-refl, IsPermutation-remove, IsPermutation-sym, IsPermutation-trans, sum_by-IsPermutation}
+pub use Rattle.std.proofs.lemmas.List.Sums.{AllPass-from_list_all, count_by-le-length, length-filter, position_or_len_is, sum-map, sum_by-append, sum_by-cons, sum_by-le, sum_by-le-sum_by}
+pub use Rattle.std.proofs.lemmas.List.{get_or-map, get_or-replicate, get_or_default, length-map, length-set, map-append, set-get_or, set_at}
+pub use Rattle.std.proofs.lemmas.Option.{get_or_from_slice_get, slice_get-get_or, slice_get-map, slice_get_within}
+pub use Rattle.std.proofs.lemmas.Slice.Zip.{firsts-zip, get_or-zip, length-zip, seconds-zip}
+pub use Rattle.std.specs.List.{AllByRecursion, count_by, flat_map, range_with_len, sum_by}
+pub use Rattle.std.specs.Option.{option_and_then, option_map_or, option_to_list}
+unfoldable pub use Rattle.{kd_state.specs.Costs.standings_as, kd_tables.specs.Rings.ring_of, std.specs.List.IsDistinct}
 use Rattle.kd_enigma.specs.Plugs.{letters_plugged}
-use Rattle.kd_state.specs.OnKey.{AreThePairs, IsPaired, Joins}
+use Rattle.kd_state.specs.OnKey.{AreThePairs, IsPaired, Joins, OnKey}
+
+-- as many different ones of some numbers as there are, are all of them in another order
+other_than : (x y : ℕ) (xs : List ℕ) → x ≢ y → Contains (x ∷ xs) y → Contains xs y
+other_than x y xs e d = grind arith
+
+reordered : (js xs : List ℕ) → AllPairs (λ j k. j ≢ k) js → All (Contains xs) js → length js ≡ length xs → IsPermutation xs js
+reordered [] [] apart among e = IsPermutation-refl []
+reordered [] (x ∷ xs) apart among e = absurd (omega arith)
+reordered (j ∷ js) xs apart among e =
+    let there = among zero j (omega arith) in
+    let rest = remove xs there.0 in
+    let order = IsPermutation-remove xs there.0 j there.1 (sym there.2) in
+    let others = reordered js rest (λ i k d before lt. apart (suc i) (suc k) d (omega arith) (omega arith))
+    (λ k d lt. other_than j (get_or js k d) rest (apart zero (suc k) d (omega arith) (omega arith))
+    (Contains-permutation xs (j ∷ rest) (get_or js k d) order (among (suc k) d (omega arith)))) (omega (arith, length-remove xs there.0 there.1)) in
+    IsPermutation-trans xs (j ∷ rest) (j ∷ js) order (IsPermutation-cons j rest js others)
+
+-- what stands at the places of a pairing is the whole list, in another order
+pub paired : {X : Type 0} (d : X) (xs : List X) (to : List ℕ) → length to ≡ length xs → IsOneToOne to → IsPermutation xs (map (λ j. get_or xs j d) to)
+paired d xs to size h =
+    let places = range_with_len 0 (length xs) in
+    let many = length-range_with_len 0 (length xs) in
+    let within : (k e : ℕ) → k < length to → get_or to k e < length xs = λ k e lt. omega (arith, h.in_range k e lt) in
+    let order = reordered to places h.distinct
+    (λ k e lt. (get_or to k e, omega (arith, within k e lt), get_or-range_with_len 0 (length xs) (get_or to k e) (get_or to k e) (within k e lt) ∙ omega arith))
+    (omega arith) in
+    subst (λ all. IsPermutation all (map (λ j. get_or xs j d) to)) (sym (fill_by_all (λ j. get_or xs j d) xs (length xs) d refl (λ k lt. refl)))
+    (IsPermutation-map (λ j. get_or xs j d) places to order)
+
+-- the element in the middle
+module _ {X : Type 0} where
+  pub seam_get : (front : List X) (x : X) (back : List X) → slice_get (front ++ x ∷ back) (length front) ≡ Some x
+  seam_get [] x back = refl
+  seam_get (y ∷ front) x back = seam_get front x back
+
+  pub seam_set : (front : List X) (x : X) (back : List X) (new : X) → set (front ++ x ∷ back) (suc (length front) - 1) new ≡ front ++ new ∷ back
+  seam_set front x back new = ap (λ place. set (front ++ x ∷ back) place new) (omega arith) ∙ set_at front x back new (length front) refl
+
+  -- what holds of each element
+  parted : (P : X → Type 0) (front : List X) (x : X) (back : List X) → AllByRecursion P (front ++ x ∷ back)
+      → AllByRecursion P front × P x × AllByRecursion P back
+  parted P [] x back h = (tt, h.0, h.1)
+  parted P (y ∷ front) x back h = let rest = parted P front x back h.1 in ((h.0, rest.0), rest.1, rest.2)
+
+  pub all_parts : (P : X → Type 0) (xs front back : List X) (x : X) → xs ≡ front ++ x ∷ back → AllByRecursion P xs
+      → AllByRecursion P front × P x × AllByRecursion P back
+  all_parts P xs front back x e h = parted P front x back (subst (AllByRecursion P) e h)
+
+pub seam_map : {X Y : Type 0} (f : X → Y) (xs front back : List X) (x : X) → xs ≡ front ++ x ∷ back → slice_get (map f xs) (length front) ≡ Some (f x)
+seam_map f xs front back x e = rw (e, map-append) (rw length-map at (seam_get (map f front) (f x) (map f back)))
+
+-- ---- settings carried out one after another.
+pub record Led (m : Parts) (xs : List Setting) (n : Parts) : Type 0 where
+  pub leads : Leads m xs n
+
+pub led_none : {m n : Parts} → n ≡ m → Led m [] n
+led_none e = record { leads = e }
+
+pub led_cons : {m k n : Parts} {x : Setting} {xs : List Setting} → why_refused m x ≡ None → changed m x ≡ k → Led k xs n → Led m (x ∷ xs) n
+led_cons {k = k} allowed made rest = record { leads = (k, record { allowed = allowed; made = sym made }, rest.leads) }
+
+pub led_append : (xs ys : List Setting) {m k n : Parts} → Led m xs k → Led k ys n → Led m (xs ++ ys) n
+led_append [] ys {n = n} first second = subst (λ from. Led from ys n) first.leads second
+led_append (x ∷ xs) ys first second = search (rules, led_cons, led_append xs ys (record { leads = first.leads.2 }) second)
+
+-- a setting that is left out where things are so already
+pub led_unless : (so : Bool) (m n : Parts) (x : Setting) → (so ≡ true → n ≡ m) → (so ≡ false → changed m x ≡ n)
+    → (so ≡ false → why_refused m x ≡ None)
+    → Led m (option_to_list (unless_so so x)) n
+led_unless so m n x same made allowed = grind (arith, led_none, led_cons)
+
+-- lines that don't go by numbers
+pub lines_of_each : {X : Type 0} (f : X → List Setting) (xs : List X) (number : ℕ) → flat_map f xs ≡ lines_from (λ n x. f x) number xs
+lines_of_each f [] number = refl
+lines_of_each f (x ∷ xs) number = ap (λ lines. f x ++ lines) (lines_of_each f xs (number + 1))
+
+-- what holds of things by their numbers
+abbrev pub AllFrom : {X : Type 0} → (ℕ → X → Type 0) → ℕ → List X → Type 0
+AllFrom P number [] = Unit {0}
+AllFrom P number (x ∷ xs) = P number x × AllFrom P (number + 1) xs
+
+pub all_from : {X : Type 0} (P : ℕ → X → Type 0) (number : ℕ) (xs : List X) → ((k n : ℕ) (d : X) → n ≡ k + number → k < length xs → P n (get_or xs k d)) → AllFrom P number xs
+all_from P number [] h = tt
+all_from P number (x ∷ xs) h =
+    (h zero number x (omega arith) (omega arith), all_from P (number + 1) xs (λ k n d e lt. h (suc k) n d (omega arith) (omega arith)))
+
+-- Things side by side, each with settings of its own that change it alone: before and after them the machine is made of
+-- what the things are before and after.
+module _ {Z A : Type 0} (put : List A → Parts) (before after : Z → A) (lines : ℕ → Z → List Setting) where
+  -- the lines of one thing, with those in front of it done, and those behind it not
+  abbrev pub LeadsAt : List Z → Z → List Z → Type 0
+  LeadsAt front z back =
+      Led (put (map after front ++ before z ∷ map before back)) (lines (suc (length front)) z) (put (map after front ++ after z ∷ map before back))
+
+  led_from : (front zs : List Z) (number : ℕ) → number ≡ suc (length front)
+      → ((fs bs : List Z) (z : Z) → front ++ zs ≡ fs ++ z ∷ bs → LeadsAt fs z bs)
+      → Led (put (map after front ++ map before zs)) (lines_from lines number zs) (put (map after front ++ map after zs))
+  led_from front [] number e each = led_none refl
+  led_from front (z ∷ zs) number e each =
+      let rest = led_from (front ++ z ∷ []) zs (number + 1) (omega (arith, length-append front (z ∷ []))) (λ fs bs v d. each fs bs v (sym (append_assoc front (z ∷ []) zs) ∙ d)) in
+      led_append (lines number z) (lines_from lines (number + 1) zs) (rw e (each front zs z refl)) (simp (map-append, append_assoc) at rest)
+
+  pub cells_led : (zs : List Z) → ((front back : List Z) (z : Z) → zs ≡ front ++ z ∷ back → LeadsAt front z back)
+      → Led (put (map before zs)) (lines_from lines 1 zs) (put (map after zs))
+  cells_led zs each = led_from [] zs 1 refl each
 
 -- ---- PULL and PUT: each cable loses the letters that its column hasn't, and then takes those that it lacks.
 abbrev pub Cable : Type 0
@@ -258,10 +407,7 @@ set_same : (xs : List ℕ) (p v : ℕ) → slice_get xs p ≡ Some v → set xs 
 set_same xs p v e = rw (get_or_from_slice_get xs p v 0 e) at (set-get_or xs p 0)
 
 -- ---- lines that each set the number at a place of a list, where it is another one, as RING and TURN do
-module _ {X : Type 0} (due : X → Option SheetWheel) (place value : SheetWheel → ℕ) (put : List ℕ → Parts) (line : ℕ → SheetWheel → Setting) where
-  abbrev line_of : List ℕ → ℕ → X → List Setting
-  line_of letters number x = option_to_list (option_and_then (λ w. unless_so (option_map_or (nat_eq (value w)) (slice_get letters (place w)) false) (line number w)) (due x))
-
+module _ {X : Type 0} (due : X → Option SheetWheel) (place value : SheetWheel → ℕ) where
   abbrev with_its : List ℕ → X → List ℕ
   with_its letters x = option_map_or (λ w. set letters (place w) (value w)) (due x) letters
 
@@ -272,27 +418,12 @@ module _ {X : Type 0} (due : X → Option SheetWheel) (place value : SheetWheel 
   abbrev AreApart : X → X → Type 0
   AreApart x y = (w v : SheetWheel) → due x ≡ Some w → due y ≡ Some v → place v ≢ place w
 
-  pub record SetsIts (number : ℕ) (x : X) : Type 0 where
-    pub allowed : (w : SheetWheel) (letters : List ℕ) → due x ≡ Some w → why_refused (put letters) (line number w) ≡ None
-    pub made : (w : SheetWheel) (letters : List ℕ) → due x ≡ Some w → changed (put letters) (line number w) ≡ put (set letters (place w) (value w))
-
   -- at the thing's place stands what stood there
   abbrev IsLeft : List ℕ → List ℕ → X → Type 0
   IsLeft letters now x = (w : SheetWheel) → due x ≡ Some w → slice_get now (place w) ≡ slice_get letters (place w)
 
   kept : (letters : List ℕ) (x : X) (p : ℕ) → ((w : SheetWheel) → due x ≡ Some w → p ≢ place w) → slice_get (with_its letters x) p ≡ slice_get letters p
   kept letters x p away = grind (arith, set_other, away)
-
-  one_set : (letters now : List ℕ) (x : X) (number : ℕ) → SetsIts number x → IsLeft letters now x → Led (put now) (line_of letters number x) (put (with_its now x))
-  one_set letters now x number h left = grind (arith, led_none, led_unless, h.allowed, h.made, left, set_same, is_number)
-
-  pub sets_led : (letters now : List ℕ) (xs : List X) (number : ℕ) → AllFrom SetsIts number xs → AllPairs AreApart xs → All (IsLeft letters now) xs
-      → Led (put now) (lines_from (line_of letters) number xs) (put (all_set now xs))
-  sets_led letters now [] number sets apart left = led_none refl
-  sets_led letters now (x ∷ xs) number sets apart left =
-      led_append (line_of letters number x) (lines_from (line_of letters) (number + 1) xs) (one_set letters now x number sets.0 (left zero x (omega arith)))
-      (sets_led letters (with_its now x) xs (number + 1) sets.1 (λ i j d before lt. apart (suc i) (suc j) d (omega arith) (omega arith))
-      (λ k d lt w e. kept now x (place w) (λ v f. apart zero (suc k) d (omega arith) (omega arith) v w f e) ∙ left (suc k) d (omega arith) w e))
 
   kept_by_all : (letters : List ℕ) (xs : List X) (p : ℕ) → AllByRecursion (λ x. (w : SheetWheel) → due x ≡ Some w → p ≢ place w) xs → slice_get (all_set letters xs) p ≡ slice_get letters p
   kept_by_all letters [] p h = refl
@@ -303,9 +434,28 @@ module _ {X : Type 0} (due : X → Option SheetWheel) (place value : SheetWheel 
   is_set letters [] k d w apart lt e within = absurd (omega arith)
   is_set letters (x ∷ xs) zero d w apart lt e within =
       kept_by_all (with_its letters x) xs (place w) (recursion_from_All (λ y. (v : SheetWheel) → due y ≡ Some v → place w ≢ place v) xs (λ k d lt v f same. apart zero (suc k) d (omega arith) (omega arith) w v e f (sym same)))
-      ∙ grind (arith, set_here, is_number)
+      ∙ grind (arith, set_here, eqb-true)
   is_set letters (x ∷ xs) (suc k) d w apart lt e within =
       is_set (with_its letters x) xs k d w (λ i j d before lt. apart (suc i) (suc j) d (omega arith) (omega arith)) (omega arith) e (grind (arith, length-set))
+
+  module _ (put : List ℕ → Parts) (line : ℕ → SheetWheel → Setting) where
+    abbrev line_of : List ℕ → ℕ → X → List Setting
+    line_of letters number x = option_to_list (option_and_then (λ w. unless_so (option_map_or (nat_eq (value w)) (slice_get letters (place w)) false) (line number w)) (due x))
+
+    pub record SetsIts (number : ℕ) (x : X) : Type 0 where
+      pub allowed : (w : SheetWheel) (letters : List ℕ) → due x ≡ Some w → why_refused (put letters) (line number w) ≡ None
+      pub made : (w : SheetWheel) (letters : List ℕ) → due x ≡ Some w → changed (put letters) (line number w) ≡ put (set letters (place w) (value w))
+
+    one_set : (letters now : List ℕ) (x : X) (number : ℕ) → SetsIts number x → IsLeft letters now x → Led (put now) (line_of letters number x) (put (with_its now x))
+    one_set letters now x number h left = grind (arith, led_none, led_unless, h.allowed, h.made, left, set_same, eqb-true)
+
+    pub sets_led : (letters now : List ℕ) (xs : List X) (number : ℕ) → AllFrom SetsIts number xs → AllPairs AreApart xs → All (IsLeft letters now) xs
+        → Led (put now) (lines_from (line_of letters) number xs) (put (all_set now xs))
+    sets_led letters now [] number sets apart left = led_none refl
+    sets_led letters now (x ∷ xs) number sets apart left =
+        led_append (line_of letters number x) (lines_from (line_of letters) (number + 1) xs) (one_set letters now x number sets.0 (left zero x (omega arith)))
+        (sets_led letters (with_its now x) xs (number + 1) sets.1 (λ i j d before lt. apart (suc i) (suc j) d (omega arith) (omega arith))
+        (λ k d lt w e. kept now x (place w) (λ v f. apart zero (suc k) d (omega arith) (omega arith) v w f e) ∙ left (suc k) d (omega arith) w e))
 
 -- ---- the planned lines of a rotor machine lead to the day.
 found : {X : Type 0} (p : X → Bool) (xs : List X) (x : X) → find p xs ≡ Some x → p x ≡ true
@@ -319,11 +469,11 @@ module _ (m : RotorParts) (s : RotorDay) (machine : IsMachine (Rotor m)) (legal 
   abbrev place : SheetWheel → ℕ
   place w = place_in_box m.model w.wheel
 
-  allowed : (k : ℕ) (d : SheetWheel) → k < length s.wheels → IsAllowed m.model (k + 1) (get_or s.wheels k d).wheel
-  allowed k d lt = are_seated.allowed k (get_or s.wheels k d).wheel (seated s.wheels k d lt)
+  allowed : (k n : ℕ) (d : SheetWheel) → n ≡ k + 1 → k < length s.wheels → IsAllowed m.model n (get_or s.wheels k d).wheel
+  allowed k n d e lt = rw e (are_seated.allowed k (get_or s.wheels k d).wheel (seated s.wheels k d lt))
 
   boxed : (k : ℕ) (d : SheetWheel) → k < length s.wheels → Contains (box_of m.model) (get_or s.wheels k d).wheel
-  boxed k d lt = allowed_in_box m.model (k + 1) (get_or s.wheels k d).wheel (allowed k d lt)
+  boxed k d lt = allowed_in_box m.model (k + 1) (get_or s.wheels k d).wheel (allowed k (k + 1) d refl lt)
 
   places_differ : AllPairs (λ (w v : SheetWheel). place w ≢ place v) s.wheels
   places_differ = days_wheels_have_their_places m.model s.wheels are_seated
@@ -355,13 +505,10 @@ module _ (m : RotorParts) (s : RotorDay) (machine : IsMachine (Rotor m)) (legal 
   abbrev with_rings : List ℕ → Parts
   with_rings rings = Rotor (record m { slots = seats s.wheels; reflector = s.reflector; rings = rings })
 
-  abbrev ring_line : ℕ → SheetWheel → Setting
-  ring_line number w = RingTo w.wheel w.ring
-
   abbrev then_rings : List ℕ
-  then_rings = all_set the_one place (λ w. w.ring) with_rings ring_line m.rings (box_of m.model)
+  then_rings = all_set the_one place (λ w. w.ring) m.rings (box_of m.model)
 
-  box_apart : AllPairs (AreApart the_one place (λ w. w.ring) with_rings ring_line) (box_of m.model)
+  box_apart : AllPairs (AreApart the_one place (λ w. w.ring)) (box_of m.model)
   box_apart i j d before lt w v e f same =
       let one = ap (place_in_box m.model) (is_the_one (get_or (box_of m.model) i d) w e) in
       let other = ap (place_in_box m.model) (is_the_one (get_or (box_of m.model) j d) v f) in
@@ -370,37 +517,32 @@ module _ (m : RotorParts) (s : RotorDay) (machine : IsMachine (Rotor m)) (legal 
   rings_lead : Led (with_rings m.rings) (ring_lines m s.wheels) (with_rings then_rings)
   rings_lead =
       rw (lines_of_each (ring_of_wheel m s.wheels) (box_of m.model) 1)
-      (sets_led the_one place (λ w. w.ring) with_rings ring_line m.rings m.rings (box_of m.model) 1
-      (all_from (SetsIts the_one place (λ w. w.ring) with_rings ring_line) 1 (box_of m.model) (λ k d lt. record {
+      (sets_led the_one place (λ w. w.ring) with_rings (λ n w. RingTo w.wheel w.ring) m.rings m.rings (box_of m.model) 1
+      (all_from (SetsIts the_one place (λ w. w.ring) with_rings (λ n w. RingTo w.wheel w.ring)) 1 (box_of m.model) (λ k n d e lt. record {
         allowed = λ w rings e. rw ((has_wheel-Decides (box_of m.model) w.wheel).1 (subst (Contains (box_of m.model)) (is_the_one (get_or (box_of m.model) k d) w e) (Contains-get_or (box_of m.model) k d lt))) refl;
         made = λ w rings e. refl;
       })) box_apart (λ k d lt w e. refl))
 
   -- TURN
-  abbrev with_letters : List ℕ → Parts
-  with_letters letters =
-      Rotor (record m { slots = seats s.wheels; reflector = s.reflector; rings = then_rings; letters = letters })
-
-  abbrev turn_line : ℕ → SheetWheel → Setting
-  turn_line number w = Turn number w.letter
+  abbrev turned_to : List ℕ → RotorParts
+  turned_to letters = record m { slots = seats s.wheels; reflector = s.reflector; rings = then_rings; letters = letters }
 
   abbrev then_letters : List ℕ
-  then_letters = all_set (λ w. Some w) place (λ w. w.letter) with_letters turn_line m.letters s.wheels
+  then_letters = all_set (λ w. Some w) place (λ w. w.letter) m.letters s.wheels
 
-  turns_apart : AllPairs (AreApart (λ w. Some w) place (λ w. w.letter) with_letters turn_line) s.wheels
+  turns_apart : AllPairs (AreApart (λ w. Some w) place (λ w. w.letter)) s.wheels
   turns_apart i j d before lt w v e f same = grind (arith, places_differ i j d before lt)
 
-  turns_lead : Led (with_letters m.letters) (turn_lines m s.wheels) (with_letters then_letters)
+  turns_lead : Led (Rotor (turned_to m.letters)) (turn_lines m s.wheels) (Rotor (turned_to then_letters))
   turns_lead =
-      sets_led (λ w. Some w) place (λ w. w.letter) with_letters turn_line m.letters m.letters s.wheels 1
-      (all_from (SetsIts (λ w. Some w) place (λ w. w.letter) with_letters turn_line) 1 s.wheels (λ k d lt.
-      let here = numbered_at (seats s.wheels) k ∙ seated s.wheels k d lt in
+      let put = λ (letters : List ℕ). Rotor (turned_to letters) in
+      let line = λ (n : ℕ) (w : SheetWheel). Turn n w.letter in
+      sets_led (λ w. Some w) place (λ w. w.letter) put line m.letters m.letters s.wheels 1
+      (all_from (SetsIts (λ w. Some w) place (λ w. w.letter) put line) 1 s.wheels (λ k n d e lt.
+      let here : numbered (seats s.wheels) n ≡ Some (Some (get_or s.wheels k d).wheel) = rw e (numbered_at (seats s.wheels) k ∙ seated s.wheels k d lt) in
       record { allowed = λ w letters e. rw here refl; made = λ w letters e. grind (arith, here) })) turns_apart (λ k d lt w e. refl)
 
   -- CABLES
-  abbrev turned : RotorParts
-  turned = record m { slots = seats s.wheels; reflector = s.reflector; rings = then_rings; letters = then_letters }
-
   abbrev zs : List Beside
   zs = besides m.cables s.pairs to
 
@@ -455,41 +597,32 @@ module _ (m : RotorParts) (s : RotorDay) (machine : IsMachine (Rotor m)) (legal 
         let dz : Beside = ((None, None), Some pair) in
         let z : Beside = get_or zs there.0 dz in
         let within : there.0 < length zs = omega (arith, there.1, length-zip m.cables columns, sizes) in
-        record {
-          joins = (
-            there.0,
-            once_put z,
-            omega (arith, length-map zs once_put, within),
-            get_or-map once_put zs there.0 dz (once_put z) within,
-            joins z pair (All-from_recursion IsPluggable zs are_pluggable there.0 dz within) (sym (column_of there.0 dz there.1) ∙ there.2),
-          );
-        };
+        let place : there.0 < length (map once_put zs) = omega (arith, length-map zs once_put, within) in
+        let here = get_or-map once_put zs there.0 dz (once_put z) within in
+        let each = All-from_recursion IsPluggable zs are_pluggable there.0 dz within in
+        record { joins = (there.0, once_put z, place, here, joins z pair each (sym (column_of there.0 dz there.1) ∙ there.2)) };
   }
 
-  all_led : Led (Rotor m) (planned_lines (Rotor m) (OfRotors s) to) (with_cables turned (map once_put zs))
+  all_led : Led (Rotor m) (planned_lines (Rotor m) (OfRotors s) to) (with_cables (turned_to then_letters) (map once_put zs))
   all_led =
       let reflector = reflector_led m (seats s.wheels) s.reflector (subst (λ model. Contains (reflectors_of model) s.reflector) (sym same) legal.reflector) in
-      let pulled = rw same_cables at (all_pulled turned zs are_pluggable) in
-      let put = all_put turned zs are_pluggable wanted_once in
+      let pulled = rw same_cables at (all_pulled (turned_to then_letters) zs are_pluggable) in
+      let put = all_put (turned_to then_letters) zs are_pluggable wanted_once in
       led_append _ _ (led_append _ _ (led_append _ _ (led_append _ _ (led_append _ _ seats_lead reflector) rings_lead) turns_lead) pulled) put
 
   pub rotors_lead : LeadsToTheDay (Rotor m) (OfRotors s) (planned_lines (Rotor m) (OfRotors s) to)
-  rotors_lead = (
-    with_cables turned (map once_put zs),
-    all_led.leads,
-    record {
-      key = record {
-        model = same;
-        slots = refl;
-        rings = λ k d lt.
-            let there = boxed k d lt in
-            let w = get_or s.wheels k d in
-            is_set the_one place (λ w. w.ring) with_rings ring_line m.rings (box_of m.model) there.0 w.wheel w box_apart there.1 (ap the_one there.2 ∙ one_is k d lt) (omega (arith, place_within m.model w.wheel there, machine.legal.rings.count));
-        reflector = refl;
-        cables = are_the_pairs;
-      };
-      window = λ k d lt.
-          let w = get_or s.wheels k d in
-          is_set (λ w. Some w) place (λ w. w.letter) with_letters turn_line m.letters s.wheels k d w turns_apart lt refl (omega (arith, place_within m.model w.wheel (boxed k d lt), machine.legal.letters.count));
-    },
-  )
+  rotors_lead =
+      let rings = λ (k : ℕ) (d : SheetWheel) (lt : k < length s.wheels).
+      let there = boxed k d lt in
+      let w = get_or s.wheels k d in
+      let within = place_within m.model w.wheel there in
+      is_set the_one place (λ w. w.ring) m.rings (box_of m.model) there.0 w.wheel w box_apart there.1
+      (ap the_one there.2 ∙ one_is k d lt) (omega (arith, within, machine.legal.rings.count)) in
+      let window = λ (k : ℕ) (d : SheetWheel) (lt : k < length s.wheels).
+      let w = get_or s.wheels k d in
+      let within = place_within m.model w.wheel (boxed k d lt) in
+      is_set (λ w. Some w) place (λ w. w.letter) m.letters s.wheels k d w turns_apart lt refl
+      (omega (arith, within, machine.legal.letters.count)) in
+      let key : OnKey (with_cables (turned_to then_letters) (map once_put zs)) (OfRotors s) =
+      record { model = same; slots = refl; rings = rings; reflector = refl; cables = are_the_pairs } in
+      (with_cables (turned_to then_letters) (map once_put zs), all_led.leads, record { key = key; window = window })
