@@ -198,15 +198,11 @@ planned_cards_prove m s settings prices machine legal h =
     let needed = as_few_are_needed m s (planned_lines m s h.to) legal h.model so.0 (omega (arith, so.1.few, so.1.priced)) in
     rw h.lines (record { model = h.model; kind = h.kind; leads = so.0; fits = h.fits; sum = sum; needed = needed })
 
--- so they are by number
-pub by_number : (m : Parts) (prices : PriceParts) → AreOfKind m prices → version_of prices ≡ ByNumber
-by_number m prices e = grind arith
-
 -- and no list of settings is shorter
 pub plans : (m : Parts) (s : Day) (settings : List Setting) (prices : PriceParts) → IsMachine m → IsLegalDay s → ArePrices prices → IsPlanned m s settings prices → Plans m s settings prices
 plans m s settings prices machine legal are made =
     let proves = planned_cards_prove m s settings prices machine legal made in
-    let whole : Proves m s settings prices = record { numbered = prices; expands = Same (by_number m prices proves.kind) refl; proves = proves } in
+    let whole : Proves m s settings prices = record { numbered = prices; expands = Same (grind (arith, proves.kind)) refl; proves = proves } in
     record { planned = made; leads = proves.leads; proves = proves; shortest = proving_cards_are_shortest m s settings prices machine legal are whole }
 
 -- ---- the card that is made of an assignment, its prices and its lines is a planned one.

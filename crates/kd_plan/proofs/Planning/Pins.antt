@@ -161,9 +161,6 @@ abbrev IsClear : Lug → Place → Place × Place → Type 0
 IsClear Left place bar = place_rank place < place_rank bar.1
 IsClear Right place bar = place_rank bar.0 < place_rank place
 
-there_already : (lug : Lug) (place : Place) (bar : Place × Place) → is_at (lug_place lug bar) place ≡ true → with_lug lug place bar ≡ bar
-there_already lug place bar e = grind (arith, place_of_same)
-
 module _ (m : PinParts) where
   abbrev pub with_bars : List (Place × Place) → Parts
   with_bars bars = Pin (record m { bars = bars })
@@ -180,7 +177,7 @@ module _ (m : PinParts) where
 
     one_lug : (bar : Place × Place) (lug : Lug) (place : Place) → IsClear lug place bar
         → Led (with_bar bar) (option_to_list (unless_so (is_at (lug_place lug bar) place) (LugTo bar_number lug place))) (with_bar (with_lug lug place bar))
-    one_lug bar lug place h = grind (arith, led_unless, there_already, seam_get, seam_set, lug_allowed)
+    one_lug bar lug place h = grind (arith, led_unless, place_of_same, seam_get, seam_set, lug_allowed)
 
     lugs_led : (bar target : Place × Place) → IsBefore bar.0 bar.1 → IsBefore target.0 target.1
         → Led (with_bar bar) (lugs_to bar_number bar target) (with_bar target)
@@ -213,9 +210,6 @@ movable (bar ∷ bars) rows (j ∷ to) stand reading within =
     (record { stands = stand.0; reading = reading j (0, 0) within.0 }, movable bars rows to stand.1 reading within.1)
 
 module _ (m : PinParts) (s : PinDay) (to : List ℕ) (machine : IsMachine (Pin m)) (legal : IsLegalPinDay s) (count : length to ≡ 27) (one_to_one : IsOneToOne to) where
-  abbrev after_pins : PinParts
-  after_pins = record m { pins = s.pins }
-
   abbrev after_turns : PinParts
   after_turns = record m { pins = s.pins; letters = s.window }
 
@@ -241,6 +235,6 @@ module _ (m : PinParts) (s : PinDay) (to : List ℕ) (machine : IsMachine (Pin m
   pub pin_machine_leads : LeadsToTheDay (Pin m) (OfPins s) (planned_lines (Pin m) (OfPins s) to)
   pin_machine_leads =
       let pins = pins_lead m s.pins machine.legal.pins legal.pins in
-      let turns = turns_lead after_pins s.window machine.legal.letters.count legal.window in
+      let turns = turns_lead (record m { pins = s.pins }) s.window machine.legal.letters.count legal.window in
       let lugs = rw (firsts-zip m.bars chosen sizes) at (lugs_lead after_turns zs are_movable) in
       (with_bars after_turns (map to_stand zs), (led_append _ _ (led_append _ _ pins turns) lugs).leads, record { key = record { pins = refl; rows = rows_are }; window = refl })

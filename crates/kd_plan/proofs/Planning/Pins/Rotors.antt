@@ -14,9 +14,9 @@ pub use Rattle.kd_state.proofs.Slots.{has_letter-Decides, is_some-place_on, numb
 pub use Rattle.kd_state.proofs.Wheels.{allowed_in_box, days_wheels_have_their_places, has_reflector-Decides, has_wheel-Decides, place_within, same_reflector-Decides, same_wheel-Decides, same_wheel_self}
 pub use Rattle.kd_state.specs.Costs.{bar_cost, cable_cost, column_letters, columns_of, cost_table, differ, loose_count, loose_rings, lugs_moved, reads_as_row, unless_same}
 pub use Rattle.kd_state.specs.Entry.{pin_values, rotor_values}
-pub use Rattle.kd_state.specs.Machine.{AreCables, AreOnWheels, cable_letters, HasAllPins, IsMachine, model_of, plugged_letters, ring_at}
+pub use Rattle.kd_state.specs.Machine.{AreOnWheels, cable_letters, HasAllPins, IsMachine, model_of, plugged_letters, ring_at}
 pub use Rattle.kd_state.specs.Setting.{cable_with, cable_without, changed, has_letter, is_at, is_plugged, Leads, lug_place, why_refused, with_lug, without}
-pub use Rattle.kd_state.specs.SheetDay.{ArePairs, AreSeated, Day, day_model, IsLegalDay, IsLegalPinDay, IsLegalRotorDay, OfPins, OfRotors, PinDay, RotorDay, seats}
+pub use Rattle.kd_state.specs.SheetDay.{AreSeated, Day, day_model, IsLegalDay, IsLegalPinDay, IsLegalRotorDay, OfPins, OfRotors, PinDay, RotorDay, seats}
 pub use Rattle.kd_state.specs.ToldApart.{numbered, place_in_box, same_reflector, same_wheel}
 pub use Rattle.kd_state.specs.declared.machine.parts.{Parts.Parts, Parts.TheVariants.Pin, Parts.TheVariants.Rotor}
 pub use Rattle.kd_state.specs.declared.machine.{pin_parts.PinParts.PinParts, rotor_parts.RotorParts.RotorParts}
@@ -478,12 +478,9 @@ module _ (m : RotorParts) (s : RotorDay) (machine : IsMachine (Rotor m)) (legal 
   places_differ : AllPairs (λ (w v : SheetWheel). place w ≢ place v) s.wheels
   places_differ = days_wheels_have_their_places m.model s.wheels are_seated
 
-  pub slots_count : length m.slots ≡ length s.wheels
-  slots_count = grind (arith, length-map)
-
   seats_lead : Led (Rotor m) (seat_lines m s.wheels) (with_slots m (seats s.wheels))
   seats_lead =
-      seats_led m [] m.slots s.wheels 1 refl slots_count (all_from (λ slot (w : SheetWheel). IsAllowed m.model slot w.wheel) 1 s.wheels allowed) (λ k d lt. refl)
+      seats_led m [] m.slots s.wheels 1 refl (grind (arith, length-map)) (all_from (λ slot (w : SheetWheel). IsAllowed m.model slot w.wheel) 1 s.wheels allowed) (λ k d lt. refl)
       (λ i j d before lt same. places_differ i j d before lt (ap (place_in_box m.model) same))
 
   -- RING: the day's wheel that is one of the box, if there is one
@@ -562,9 +559,6 @@ module _ (m : RotorParts) (s : RotorDay) (machine : IsMachine (Rotor m)) (legal 
       (recursion_from_All (λ column. AreProper (column_letters column)) columns
       (All-map (λ column. AreProper (column_letters column)) (column_at s.pairs) to (λ k d lt. rw (columns_are_the_pairs s.pairs (get_or to k d)) (pair_proper s.pairs (get_or to k d) due))))
 
-  pub same_cables : map (λ (z : Beside). z.0) zs ≡ m.cables
-  same_cables = firsts-zip m.cables columns sizes
-
   pub wanted_once : (y : ℕ) → count_by (λ (v : Beside). wants v.1 y) zs ≤ 1
   wanted_once y =
       let wanted = λ (column : Column). cond {A = ℕ} (wants column y) 1 0 in
@@ -606,7 +600,7 @@ module _ (m : RotorParts) (s : RotorDay) (machine : IsMachine (Rotor m)) (legal 
   all_led : Led (Rotor m) (planned_lines (Rotor m) (OfRotors s) to) (with_cables (turned_to then_letters) (map once_put zs))
   all_led =
       let reflector = reflector_led m (seats s.wheels) s.reflector (subst (λ model. Contains (reflectors_of model) s.reflector) (sym same) legal.reflector) in
-      let pulled = rw same_cables at (all_pulled (turned_to then_letters) zs are_pluggable) in
+      let pulled = rw (firsts-zip m.cables columns sizes) at (all_pulled (turned_to then_letters) zs are_pluggable) in
       let put = all_put (turned_to then_letters) zs are_pluggable wanted_once in
       led_append _ _ (led_append _ _ (led_append _ _ (led_append _ _ (led_append _ _ seats_lead reflector) rings_lead) turns_lead) pulled) put
 
