@@ -1,37 +1,10 @@
 -- How many lines there are, and how many of them the prices speak of: as many as the pairing costs.
-use Rattle.std.proofs.Common.{[], All, ap, arith, Bool, cond, false, find, fold, get_or, length, length-append, List, map, min, nat_eq, nat_le, nat_lt, None, not, Option, pos, refl, replicate, rules, suc, sym, true, unsigned_abs, zero, zip, ℕ, ℤ, ◌&&◌, ◌++◌, ◌+ℤ◌, ◌+◌, ◌<◌, ◌||◌, ◌∙◌, ◌∷◌, ◌≡◌, ◌≤ℤ◌, ◌≤◌}
+pub mod Pins
+unfoldable pub use Pins.*
 use Rattle.kd_assign.specs.Prices.{cost_at, CostsAtMost, Fits, price_at, price_sum, sum_of}
-use Rattle.kd_card.specs.declared.prices.PriceParts.{PriceParts}
-use Rattle.kd_card.specs.declared.prices.Version.TheVariants.{ByNumber}
-use Rattle.kd_state.specs.Costs.{standings_as}
-use Rattle.kd_tables.specs.Permutation.{alphabet}
-use Rattle.kd_tables.specs.Rings.{ring_of}
-use Rattle.std.proofs.lemmas.Int.{ints}
-use Rattle.std.specs.List.{IsDistinct}
-use Rattle.kd_plan.proofs.Prelude.{All-append, All-map, All-replicate, AllByRecursion, AreOfKind, ArePrices}
-use Rattle.kd_plan.proofs.Prelude.{as_few_are_needed, assignment_cost, at_most_four, bar_cost, bars_beside, besides}
-use Rattle.kd_plan.proofs.Prelude.{box_of, cable_cost, cable_letters, card_sum, column_kinds, column_letters}
-use Rattle.kd_plan.proofs.Prelude.{column_prices, columns_of, common_steps, cond_both, cost_table, count_by}
-use Rattle.kd_plan.proofs.Prelude.{count_by-le-length, Day, day_model, differ, eqb-true, fold_of_both, get_or-map}
-use Rattle.kd_plan.proofs.Prelude.{get_or-replicate, has_letter, HasAllPins, how_many, is_priced, IsLegalDay}
-use Rattle.kd_plan.proofs.Prelude.{IsLegalRotorDay, IsMachine, IsOneToOne, IsPlanned, LeadsToTheDay, length-filter}
-use Rattle.kd_plan.proofs.Prelude.{length-map, length-zip, letters_apart, letters_due, lines_from, loose_count}
-use Rattle.kd_plan.proofs.Prelude.{loose_rings, lugs_moved, lugs_of, lugs_to, Model, model_of, nat_tests, no_rotors}
-use Rattle.kd_plan.proofs.Prelude.{OfPins, OfRotors, option_map_or, option_to_list, Parts, Pin, pin_lines, pin_of}
-use Rattle.kd_plan.proofs.Prelude.{pin_turn_of, PinDay, PinParts, pins_of, PinSet, Place, planned_lines, priced_count}
-use Rattle.kd_plan.proofs.Prelude.{Pull, pulls_of, Put, puts_of, range_with_len, recursion_from_All, ring_at}
-use Rattle.kd_plan.proofs.Prelude.{ring_lines, ring_of_wheel, Rotor, RotorDay, RotorParts, row_kinds, row_prices}
-use Rattle.kd_plan.proofs.Prelude.{same_reflector, same_wheel, seat_of, SeatReflector, Setting, SheetWheel, slots_of}
-use Rattle.kd_plan.proofs.Prelude.{sum-map, sum_by, sum_by-append, sum_by-cons, sum_by-le, sum_by-le-sum_by, table_size}
-use Rattle.kd_plan.proofs.Prelude.{thirteen_columns, turn_of, unless_same, unless_same_at_most, unless_so, version_of}
-use Rattle.kd_plan.proofs.Prelude.{Wheel, wheel_pin_lines}
-use Rattle.kd_plan.proofs.Cables.{are_pluggable, AreProper, Beside, beside_each, IsPluggable}
-use Rattle.kd_plan.proofs.Carrying.{lines_of_each}
-use Rattle.kd_plan.proofs.Pins.{are_movable, at_most_two, BarRow, is_target, IsMovable, pin_machine_leads, to_stand}
-use Rattle.kd_plan.proofs.Rotors.{rotors_lead}
-use Rattle.kd_plan.specs.Due.{prices_due}
-use Rattle.kd_plan.specs.Laws.{PlannedCardsProve, PlannedLinesLead}
-use Rattle.kd_card.specs.Prices as card
+use Rattle.kd_card.specs.declared.prices.{PriceParts.PriceParts, Version.TheVariants.ByNumber}
+use Rattle.kd_plan.specs.{Due.prices_due, Laws.PlannedCardsProve, Laws.PlannedLinesLead}
+use Rattle.{kd_tables.specs.Permutation.alphabet, std.proofs.lemmas.Int.ints}
 
 -- so many lines at most beside those of cables and bars, and so many of these
 pub record AreCounted (lines : List Setting) (loose cost : ℕ) : Type 0 where
@@ -49,9 +22,6 @@ counted_loose so x e = grind arith
 counted_priced : (so : Bool) (x : Setting) → is_priced x ≡ true
     → AreCounted (option_to_list (unless_so so x)) 0 (unless_same so)
 counted_priced so x e = grind arith
-
-not_same : (b : Bool) → cond {A = ℕ} (not b) 1 0 ≡ unless_same b
-not_same b = grind arith
 
 -- lines of things by their numbers
 counted_each : {Z : Type 0} (lines : ℕ → Z → List Setting) (f g : Z → ℕ) → ((number : ℕ) (z : Z) → AreCounted (lines number z) (f z) (g z))
@@ -76,10 +46,6 @@ sums_add : {X : Type 0} (f g h : X → ℕ) → ((x : X) → f x + g x ≡ h x) 
 sums_add f g h e [] = refl
 sums_add f g h e (x ∷ xs) = simp sum_by-cons (omega (arith, e x, sums_add f g h e xs))
 
-none_again : (x : ℕ) (xs : List ℕ) → AllByRecursion (λ y. nat_eq x y ≡ false) xs → has_letter xs x ≡ false
-none_again x [] h = refl
-none_again x (y ∷ xs) h = grind (arith, nat_tests, none_again x xs h.1)
-
 once_among : (p : ℕ → Bool) (x first number : ℕ) → count_by (λ y. nat_eq x y && p y) (range_with_len first number) ≡ cond (nat_le first x && (nat_lt x (first + number) && p x)) 1 0
 once_among p x first zero = grind (arith, nat_tests)
 once_among p x first (suc number) =
@@ -89,7 +55,7 @@ counted_among : (p : ℕ → Bool) (xs : List ℕ) → AreProper xs → count_by
 unfolding IsDistinct
 counted_among p [] h = refl
 counted_among p (x ∷ xs) h =
-    let none = none_again x xs h.apart.0 in
+    let none = (free_tells xs x).1 h.apart.0 in
     let first : count_by (λ y. nat_eq x y && p y) alphabet ≡ cond (p x) 1 0 = once_among p x 0 26 ∙ grind (arith, nat_tests, h.within.0) in
     let rest = counted_among p xs (record { apart = h.apart.1; within = h.within.1 }) in
     let both = sums_add (λ y. cond (nat_eq x y && p y) 1 0) (λ y. cond (has_letter xs y && p y) 1 0) (λ y. cond ((nat_eq x y || has_letter xs y) && p y) 1 0) (λ y. grind (arith, nat_tests)) alphabet in
@@ -98,28 +64,24 @@ counted_among p (x ∷ xs) h =
 due_counted : (p : ℕ → Bool) (column : Option (ℕ × ℕ)) → count_by p (letters_due column) ≡ count_by p (column_letters column)
 due_counted p column = grind (arith, sum_by-cons)
 
-cable_lines : (z : Beside) → IsPluggable z
-    → length (letters_apart (cable_letters z.0) (column_letters z.1)) + length (letters_apart (letters_due z.1) (cable_letters z.0)) ≡ cable_cost z.0 z.1
-cable_lines z h =
-    let held = has_letter (cable_letters z.0) in
-    let due = has_letter (column_letters z.1) in
-    omega (
-      arith,
-      length-filter (λ l. not (due l)) (cable_letters z.0),
-      length-filter (λ l. not (held l)) (letters_due z.1),
-      due_counted (λ l. not (held l)) z.1,
-      counted_among (λ l. not (due l)) (cable_letters z.0) h.held,
-      counted_among (λ l. not (held l)) (column_letters z.1) h.due,
-      sums_add _ _ _ (λ l. one_letter (held l) (due l)) alphabet,
-    )
-
 abbrev pulled_letters : Beside → ℕ
 pulled_letters z = length (letters_apart (cable_letters z.0) (column_letters z.1))
 
 abbrev put_letters : Beside → ℕ
 put_letters z = length (letters_apart (letters_due z.1) (cable_letters z.0))
 
-cable_sums : (zs : List Beside) → AllByRecursion IsPluggable zs → sum_by pulled_letters zs + sum_by put_letters zs ≡ sum_by (λ z. cable_cost z.0 z.1) zs
+cable_lines : (z : Beside) → IsPluggable z → pulled_letters z + put_letters z ≡ cable_cost z.0 z.1
+cable_lines z h =
+    let held = has_letter (cable_letters z.0) in
+    let due = has_letter (column_letters z.1) in
+    let pulled = length-filter (λ l. not (due l)) (cable_letters z.0) in
+    let put = length-filter (λ l. not (held l)) (letters_due z.1) ∙ due_counted (λ l. not (held l)) z.1 in
+    let out = counted_among (λ l. not (due l)) (cable_letters z.0) h.held in
+    let into = counted_among (λ l. not (held l)) (column_letters z.1) h.due in
+    omega (arith, sums_add _ _ _ (λ l. one_letter (held l) (due l)) alphabet)
+
+cable_sums : (zs : List Beside) → AllByRecursion IsPluggable zs
+    → sum_by pulled_letters zs + sum_by put_letters zs ≡ sum_by (λ z. cable_cost z.0 z.1) zs
 cable_sums [] h = refl
 cable_sums (z ∷ zs) h = grind (arith, common_steps, sum_by-cons, cable_lines, cable_sums zs h.1)
 
@@ -180,7 +142,7 @@ module _ (m : RotorParts) (s : RotorDay) (to : List ℕ) where
       let put = counted_each puts_of (λ z. 0) put_letters (λ n z. counted_map (λ letter. Put n letter) (λ x. refl) (letters_apart (letters_due z.1) (cable_letters z.0))) cables 1 in
       let all = simp sum_none at (counted-append _ _ (counted-append _ _ (counted-append _ _ (counted-append _ _ (counted-append _ _ seats reflector) counted_rings) turns) pulled) put) in
       let sums = cable_sums cables pluggable in
-      record { few = omega (arith, all.few, sums, not_same (same_reflector m.reflector s.reflector)); priced = omega (arith, all.priced, sums) }
+      record { few = grind (arith, all.few, sums); priced = omega (arith, all.priced, sums) }
 
 -- And of a Converter M-209.
 module _ (m : PinParts) (s : PinDay) (to : List ℕ) where
@@ -200,10 +162,9 @@ module _ (m : PinParts) (s : PinDay) (to : List ℕ) where
       let turns = counted_each pin_turn_of _ (λ z. 0) (λ n z. counted_loose _ _ refl) (zip m.letters s.window) 1 in
       let lugs = counted_each lugs_of (λ z. 0) (λ z. lugs_moved z.0 (to_stand z)) (λ n z. counted_lugs n z.0 (to_stand z)) bars 1 in
       let all = simp sum_none at (counted-append _ _ (counted-append (pin_lines m.pins s.pins) _ pins turns) lugs) in
-      record {
-        few = omega (arith, all.few, sum-map (λ (z : List Bool × List Bool). count_by (λ (pin : Bool × Bool). differ pin.0 pin.1) (zip z.0 z.1)) (zip (pins_of m.pins) (pins_of s.pins)));
-        priced = omega (arith, all.priced);
-      }
+      let differing = λ (z : List Bool × List Bool). count_by (λ (pin : Bool × Bool). differ pin.0 pin.1) (zip z.0 z.1) in
+      let same = sum-map differing (zip (pins_of m.pins) (pins_of s.pins)) in
+      record { few = omega (arith, all.few); priced = omega (arith, all.priced) }
 
 -- ---- the planned lines of any pairing lead to the day, and a planned card proves itself.
 -- the bars are moved by as many lugs as their rows cost
@@ -212,42 +173,37 @@ least_moved [] h = refl
 least_moved (z ∷ zs) h = grind (arith, common_steps, sum_by-cons, is_target, least_moved zs h.1)
 
 -- What the lines lead to, and how many of them there are.
-record IsGood (m : Parts) (s : Day) (to : List ℕ) : Type 0 where
-  leads : LeadsToTheDay m s (planned_lines m s to)
-  counted : AreCounted (planned_lines m s to) (loose_count m s) (assignment_cost (cost_table m s) to)
-
-good : (m : Parts) (s : Day) (to : List ℕ) → IsMachine m → IsLegalDay s → model_of m ≡ day_model s → length to ≡ table_size m → IsOneToOne to → IsGood m s to
+good : (m : Parts) (s : Day) (to : List ℕ) → IsMachine m → IsLegalDay s → model_of m ≡ day_model s → length to ≡ table_size m → IsOneToOne to
+    → LeadsToTheDay m s (planned_lines m s to) × AreCounted (planned_lines m s to) (loose_count m s) (assignment_cost (cost_table m s) to)
 good (Rotor m) (OfRotors s) to machine legal same count one_to_one =
     let within = recursion_from_All (λ j. j < length (columns_of s.pairs)) to (λ k d lt. omega (arith, one_to_one.in_range k d lt, count, thirteen_columns s.pairs legal.pairs.few)) in
     let cost = table_cost cable_cost (columns_of s.pairs) None m.cables to (machine.legal.cables.count ∙ sym count) within in
-    record {
-      leads = rotors_lead m s machine legal same to count one_to_one;
-      counted = rw cost (rotor_counted m s to (are_pluggable m.cables s.pairs to machine.legal.cables legal.pairs count one_to_one));
-    }
+    let counted = rotor_counted m s to (are_pluggable m s machine legal same to count one_to_one) in
+    (rotors_lead m s machine legal same to count one_to_one, rw cost counted)
 good (Pin m) (OfPins s) to machine legal same count one_to_one =
     let within = recursion_from_All (λ j. j < length s.rows) to (λ k d lt. omega (arith, one_to_one.in_range k d lt, count, legal.count)) in
     let cost = table_cost bar_cost s.rows (0, 0) m.bars to (machine.legal.bars ∙ sym count) within in
-    record {
-      leads = pin_machine_leads m s to machine legal count one_to_one;
-      counted = rw (cost, ← least_moved _ (are_movable m s to machine legal count one_to_one)) (pin_counted m s to);
-    }
+    let least = least_moved _ (are_movable m s to machine legal count one_to_one) in
+    (pin_machine_leads m s to machine legal count one_to_one, rw (cost, ← least) (pin_counted m s to))
 good (Rotor m) (OfPins s) to machine legal same count one_to_one = absurd (no_rotors m.model m.reflector same machine.legal.reflector)
 good (Pin m) (OfRotors s) to machine legal same count one_to_one = absurd (no_rotors s.model s.reflector (sym same) legal.reflector)
 
 pub planned_lines_lead : PlannedLinesLead
-planned_lines_lead m s to machine legal same count one_to_one = (good m s to machine legal same count one_to_one).leads
+planned_lines_lead m s to machine legal same count one_to_one = (good m s to machine legal same count one_to_one).0
 
 pub planned_cards_prove : PlannedCardsProve
 planned_cards_prove m s settings prices machine legal h =
     let so = good m s h.to machine legal h.model h.all_rows h.one_to_one in
-    rw h.lines (record {
-      model = h.model;
-      kind = h.kind;
-      leads = so.leads;
-      fits = h.fits;
-      sum = h.total ∙ ap pos (sym so.counted.priced);
-      needed = as_few_are_needed m s (planned_lines m s h.to) legal h.model so.leads (omega (arith, so.counted.few, so.counted.priced));
-    })
+    let sum = h.total ∙ ap pos (sym so.1.priced) in
+    let needed = as_few_are_needed m s (planned_lines m s h.to) legal h.model so.0 (omega (arith, so.1.few, so.1.priced)) in
+    rw h.lines (record { model = h.model; kind = h.kind; leads = so.0; fits = h.fits; sum = sum; needed = needed })
+
+-- and no list of settings is shorter
+pub plans : (m : Parts) (s : Day) (settings : List Setting) (prices : PriceParts) → IsMachine m → IsLegalDay s → ArePrices prices → IsPlanned m s settings prices → Plans m s settings prices
+plans m s settings prices machine legal are made =
+    let proves = planned_cards_prove m s settings prices machine legal made in
+    let whole : Proves m s settings prices = record { numbered = prices; expands = Same (grind (arith, proves.kind)) refl; proves = proves } in
+    record { planned = made; leads = proves.leads; proves = proves; shortest = proving_cards_are_shortest m s settings prices machine legal are whole }
 
 -- ---- the card that is made of an assignment, its prices and its lines is a planned one.
 pub prices_of : (prices : PriceParts) (most : ℕ) → most ≤ 9999 → row_kinds prices ≡ [] → column_kinds prices ≡ [] → length (row_prices prices) ≡ how_many prices → length (column_prices prices) ≡ how_many prices
@@ -258,9 +214,6 @@ prices_of prices most le no_rows no_columns rows columns row_bound column_bound 
 sums_alike : (prices : List ℤ) → card_sum prices ≡ sum_of prices
 sums_alike [] = refl
 sums_alike (price ∷ prices) = ap (λ sum. price +ℤ sum) (sums_alike prices)
-
-same_sum : (prices : PriceParts) → card.price_sum prices ≡ price_sum (row_prices prices) (column_prices prices)
-same_sum prices = grind (arith, fold_of_both, sums_alike)
 
 -- prices of 0, where nothing has to be paid, fit as well as any
 record AreDue (costs : List (List ℕ)) (total number : ℕ) (rows columns : List ℤ) : Type 0 where
@@ -278,10 +231,6 @@ due_are : (free : Bool) (costs : List (List ℕ)) (total : ℕ) (rows columns : 
 due_are free costs total rows columns number e d g h o =
     grind (arith, common_steps, get_or-replicate, none_due, eqb-true, All-append, All-replicate)
 
--- so they are by number
-pub by_number : (m : Parts) (prices : PriceParts) → AreOfKind m prices → version_of prices ≡ ByNumber
-by_number m prices e = grind arith
-
 -- no cost is above the greatest
 pub table_at_most : {A B : Type 0} (cost : A → B → ℕ) (most : ℕ) → ((x : A) (y : B) → cost x y ≤ most) → (costs : List (List ℕ)) (xs : List A) (ys : List B)
     → costs ≡ map (λ x. map (cost x) ys) xs → CostsAtMost most costs
@@ -296,7 +245,7 @@ pub rotor_room : (m : RotorParts) (s : RotorDay) (to : List ℕ) → IsMachine (
     → length (planned_lines (Rotor m) (OfRotors s) to) ≤ 192
 rotor_room m s to machine legal same count one_to_one =
     let cables = besides m.cables s.pairs to in
-    let counted = rotor_counted m s to (are_pluggable m.cables s.pairs to machine.legal.cables legal.pairs count one_to_one) in
+    let counted = rotor_counted m s to (are_pluggable m s machine legal same to count one_to_one) in
     let costs = sum_by-le (λ (z : Beside). cable_cost z.0 z.1) 4 cables (λ k d lt. let z : Beside = get_or cables k d in at_most_four z.0 z.1) in
     grind (arith, counted.few, count_by-le-length, length-zip, unless_same_at_most, few_slots, length-map)
 
@@ -319,4 +268,6 @@ pub planned : (m : Parts) (s : Day) (costs : List (List ℕ)) (to : List ℕ) (s
     → row_prices prices ≡ prices_due total rows → column_prices prices ≡ prices_due total columns → length rows ≡ how_many prices → length columns ≡ how_many prices
     → Fits costs rows columns → price_sum rows columns ≡ pos total → assignment_cost costs to ≡ total → IsPlanned m s settings prices
 planned m s costs to settings prices total rows columns same table kind size one_to_one lines first second many more fits sum cost =
-    grind (arith, same_sum, due_are (nat_eq total 0) costs total rows columns (how_many prices) refl many more fits sum)
+    grind (arith, fold_of_both, sums_alike, due_are (nat_eq total 0) costs total rows columns (how_many prices) refl many more fits sum)
+
+pub ruleset card_made = (planned, prices_of, some_since)

@@ -7,13 +7,11 @@ ghost use Rattle.kd_plan.specs.Planned.{planned_lines, IsPlanned, Plans};
 use super::bar_lines::push_lugs;
 use super::cable_lines::{push_pulls, push_puts};
 use super::card_prices::prices_due;
-use super::laws::planned_cards_prove_themselves;
 use super::other_model::OtherModel;
 use super::pin_lines::{push_pin_turns, push_pins};
 use super::rotor_lines::{push_reflector, push_rings, push_seats, push_turns};
 use arrayvec::ArrayVec;
 use kd_assign::{Solution, assign};
-use kd_card::laws::proving_cards_are_shortest;
 use kd_card::{Card, Prices};
 use kd_state::{
     Machine, OneModel, Parts, PinEntry, PinParts, RotorEntry, RotorParts, Settings, SheetDay,
@@ -22,6 +20,7 @@ use kd_state::{
 
 /// The card that leads the machine to the day by the fewest settings. Which of several shortest ones it is isn't promised,
 /// nor which prices prove it; but where cables and bars cost nothing, all prices are 0.
+#[tactic(auto, using(crate::proofs::Planning::plans))]
 pub fn plan(machine: &Machine, day: &SheetDay) -> Result<Card, OtherModel>
     ensures refused { IsErr result ↔ (model_of machine.now ≢ day_model day.now) }
     ensures card { IfOk result (λ card.
@@ -30,9 +29,7 @@ pub fn plan(machine: &Machine, day: &SheetDay) -> Result<Card, OtherModel>
     let Some(card) = planned_card(machine, day) else {
         return Err(OtherModel);
     };
-    planned_cards_prove_themselves();
-    proving_cards_are_shortest();
-    // What the type says of the prices, for the two laws.
+    // What the type says of the prices.
     let _prices = card.prices.parts();
     Ok(card)
 }
@@ -52,6 +49,7 @@ fn planned_card(machine: &Machine, day: &SheetDay) -> Option<Card>
 }
 
 /// The card of a rotor machine.
+#[tactic(auto, using(crate::proofs::Planning::card_made))]
 fn rotor_card(machine: &Machine, parts: &RotorParts, entry: &RotorEntry) -> Card
     requires parts { machine.now ≡ Parts.Rotor parts.now }
     requires machine { IsMachine (Parts.Rotor parts.now) }
@@ -74,6 +72,7 @@ fn rotor_card(machine: &Machine, parts: &RotorParts, entry: &RotorEntry) -> Card
 }
 
 /// The card of a Converter M-209.
+#[tactic(auto, using(crate::proofs::Planning::card_made))]
 fn pin_card(parts: &PinParts, entry: &PinEntry) -> Card
     requires machine { IsMachine (Parts.Pin parts.now) }
     requires legal { IsLegalDay (OfPins (pin_values entry.now)) }
@@ -122,6 +121,7 @@ fn rotor_settings(
 }
 
 /// What differs from the day on a Converter M-209, line by line, the bars being made to read as the rows of these places.
+#[tactic(auto, using(std::proofs::lemmas::List::Elements::recursion_from_All))]
 fn pin_settings(parts: &PinParts, entry: &PinEntry, to: &[u8; 27]) -> Settings
     requires legal { IsLegalDay (OfPins (pin_values entry.now)) }
     requires within { All (λ j. j < 27) to.now }

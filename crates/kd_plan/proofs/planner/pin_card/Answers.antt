@@ -1,6 +1,4 @@
-use Rattle.std.proofs.Common.{arith}
-use Rattle.kd_plan.proofs.Prelude.{bar_cost, pin_values, some_since}
-use Rattle.kd_plan.proofs.Planning.{bar_cost_at_most, pin_room, planned, prices_of, table_at_most}
+use Rattle.kd_plan.proofs.Planning.{arith, bar_cost, bar_cost_at_most, pin_room, pin_values, table_at_most}
 use Rattle.kd_plan.proofs.planner.pin_card.Goals as goal
 
 pub assign-total-requires : goal.assign-total-requires
@@ -8,9 +6,3 @@ assign-total-requires c = grind (arith, table_at_most bar_cost 4 bar_cost_at_mos
 
 pub pin_settings-settings-requires-clause-room : goal.pin_settings-settings-requires-clause-room
 pin_settings-settings-requires-clause-room c = pin_room c.args.parts.now (pin_values c.args.entry.now) _ c.requires.machine
-
-pub unwrap-prices-requires : goal.unwrap-prices-requires
-unwrap-prices-requires c = grind (arith, some_since, prices_of)
-
-pub returns : goal.returns
-returns c = grind (arith, planned)

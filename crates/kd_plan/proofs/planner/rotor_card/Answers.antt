@@ -1,6 +1,4 @@
-use Rattle.std.proofs.Common.{arith, rules}
-use Rattle.kd_plan.proofs.Prelude.{at_most_four, cable_cost, rotor_values, some_since}
-use Rattle.kd_plan.proofs.Planning.{planned, prices_of, rotor_room, table_at_most}
+use Rattle.kd_plan.proofs.Planning.{arith, at_most_four, cable_cost, rotor_room, rotor_values, rules, table_at_most}
 use Rattle.kd_plan.proofs.planner.rotor_card.Goals as goal
 
 pub assign-total-requires : goal.assign-total-requires
@@ -8,9 +6,3 @@ assign-total-requires c = grind (arith, table_at_most cable_cost 4 at_most_four 
 
 pub rotor_settings-settings-requires-clause-room : goal.rotor_settings-settings-requires-clause-room
 rotor_settings-settings-requires-clause-room c = rotor_room c.args.parts.now (rotor_values c.args.entry.now) _ c.requires.machine c.requires.legal c.requires.model (search rules) c.assign-total.ensures.one_to_one
-
-pub unwrap-prices-requires : goal.unwrap-prices-requires
-unwrap-prices-requires c = grind (arith, some_since, prices_of)
-
-pub returns : goal.returns
-returns c = grind (arith, planned)

@@ -1,25 +1,8 @@
 -- PIN, TURN and LUG, and that all lines of a Converter M-209 lead to the day.
-use Rattle.std.proofs.Common.{[], All, ap, arith, Bool, Contains, false, find, fold, get_or, inl, inr, is_some, IsPermutation, length, length-append, List, map, min, nat_eq, nat_lt, None, Option, refl, slice_get, Some, suc, sym, true, unwrap_or, zero, zip, ℕ, ◌++◌, ◌+◌, ◌<◌, ◌∙◌, ◌∷◌, ◌≡◌, ◌≤◌}
-use Rattle.kd_state.specs.Costs.{standings_as}
+pub mod Rotors
+unfoldable pub use Rotors.*
 use Rattle.kd_state.specs.Pins.{pin_set, wheel_pins, with_pin}
 use Rattle.kd_tables.specs.Places.{IsBefore, IsReading, place_rank, places, reading_of, standings}
-use Rattle.kd_tables.specs.Rings.{ring_of}
-use Rattle.kd_tables.specs.declared.lug.Lug.{Lug}
-use Rattle.kd_tables.specs.declared.lug.Lug.TheVariants.{Left, Right}
-use Rattle.kd_tables.specs.declared.place.Place.TheVariants.{One}
-use Rattle.kd_plan.proofs.Prelude.{All-filter, AllByRecursion, AllPass-from_list_all, AreOnWheels, bar_cost}
-use Rattle.kd_plan.proofs.Prelude.{bars_beside, cases_eq, common_steps, cond_both, eqb-true, filter_passes, firsts-zip}
-use Rattle.kd_plan.proofs.Prelude.{get_or-map, get_or-range_with_len, get_or_from_slice_get, has_letter}
-use Rattle.kd_plan.proofs.Prelude.{has_letter-Decides, HasAllPins, is_at, is_some-place_on, IsLegalPinDay, IsMachine}
-use Rattle.kd_plan.proofs.Prelude.{IsOneToOne, IsPermutation-sym, LeadsToTheDay, length-map, length-range_with_len}
-use Rattle.kd_plan.proofs.Prelude.{length-zip, lines_from, ltb-false, ltb-true, lug_place, lugs_moved, lugs_of, lugs_to}
-use Rattle.kd_plan.proofs.Prelude.{LugTo, nat_tests, no_zero, OfPins, one_zero, option_to_list, Parts, Pin, pin_lines}
-use Rattle.kd_plan.proofs.Prelude.{pin_of, pin_turn_lines, pin_turn_of, PinDay, PinParts, pins_of, PinSet, Place}
-use Rattle.kd_plan.proofs.Prelude.{place_on, planned_lines, range_with_len, reads_as_row, recursion_from_All}
-use Rattle.kd_plan.proofs.Prelude.{seconds-zip, set_at, Setting, slice_get_within, target_of, unless_so}
-use Rattle.kd_plan.proofs.Prelude.{wheel_pin_lines, why_refused, with_lug, zeros}
-use Rattle.kd_plan.proofs.Carrying.{all_parts, cells_led, Led, led_append, led_unless, lines_of_each, paired, seam_get}
-use Rattle.kd_plan.proofs.Carrying.{seam_map, seam_set}
 
 -- ---- PIN: wheel after wheel, and on each wheel letter after letter, each of which stands at its own place
 letters_have_places : (number : ℕ) → map (place_on (ring_of number)) (ring_of number) ≡ map Some (range_with_len 0 (length (ring_of number)))
@@ -50,9 +33,6 @@ Cell = ℕ × (Bool × Bool)
 abbrev TwoPins : Type 0
 TwoPins = List Bool × List Bool
 
-abbrev pub wheel_lines : ℕ → TwoPins → List Setting
-wheel_lines number z = wheel_pin_lines number (ring_of number) z.0 z.1
-
 module _ (m : PinParts) where
   abbrev with_pins : List (List Bool) → Parts
   with_pins lists = Pin (record m { pins = pin_set lists })
@@ -80,7 +60,7 @@ module _ (m : PinParts) where
         grind (arith, led_unless, pin_made done rest w.1.0 w.1.1 w.0 placed)
 
     wheel_led : (now day : List Bool) → length now ≡ length (ring_of number) → length day ≡ length (ring_of number)
-        → Led (with_wheel now) (wheel_lines number (now, day)) (with_wheel day)
+        → Led (with_wheel now) (wheel_pin_lines number (ring_of number) now day) (with_wheel day)
     wheel_led now day e d =
         let ring = ring_of number in
         let cells = zip ring (zip now day) in
@@ -96,7 +76,7 @@ module _ (m : PinParts) where
   pins_lead : (day : PinSet) → HasAllPins m.pins → HasAllPins day → Led (Pin m) (pin_lines m.pins day) (Pin (record m { pins = day }))
   pins_lead day has due =
       let wheels = zip (pins_of m.pins) (pins_of day) in
-      cells_led with_pins (λ (z : TwoPins). z.0) (λ z. z.1) wheel_lines wheels (λ fs bs z e.
+      cells_led with_pins (λ (z : TwoPins). z.0) (λ z. z.1) (λ n z. wheel_pin_lines n (ring_of n) z.0 z.1) wheels (λ fs bs z e.
       let six : length fs + length bs ≡ 5 = omega (arith, ap length e, length-append fs (z ∷ bs)) in
       let now : wheel_pins m.pins (suc (length fs)) ≡ z.0 = ap (λ found. unwrap_or found []) (seam_map (λ (z : TwoPins). z.0) wheels fs bs z e) in
       let wanted : wheel_pins day (suc (length fs)) ≡ z.1 = ap (λ found. unwrap_or found []) (seam_map (λ (z : TwoPins). z.1) wheels fs bs z e) in
@@ -104,8 +84,7 @@ module _ (m : PinParts) where
       (wheel_led (map (λ (z : TwoPins). z.1) fs) (map (λ (z : TwoPins). z.0) bs) (omega (arith, length-map fs (λ (z : TwoPins). z.1), length-map bs (λ (z : TwoPins). z.0))) z.0 z.1
       (rw length-map (rw now at (has (suc (length fs))))) (rw length-map (rw wanted at (due (suc (length fs)))))))
 
--- ---- TURN
-module _ (m : PinParts) where
+  -- TURN
   abbrev with_shown : List ℕ → Parts
   with_shown letters = Pin (record m { letters = letters })
 
@@ -134,13 +113,7 @@ place_of_same place other e = grind (arith, place_by_rank, eqb-true)
 pub at_most_two : (bar standing : Place × Place) → lugs_moved bar standing ≤ 2
 at_most_two bar standing = grind (arith, common_steps)
 
--- what a target is
-pub record IsTarget (bar : Place × Place) (row : ℕ × ℕ) (target : Place × Place) : Type 0 where
-  pub stands : IsBefore target.0 target.1
-  pub reads : reading_of target.0 target.1 ≡ row
-  pub moved : lugs_moved bar target ≡ bar_cost bar row
-
--- a standing of the row is one
+-- a standing of the row
 abbrev IsOfRow : ℕ × ℕ → Place × Place → Type 0
 IsOfRow row x = IsBefore x.0 x.1 × (reads_as_row row x ≡ true)
 
@@ -148,19 +121,11 @@ of_row : (row : ℕ × ℕ) → All (IsOfRow row) (standings_as row)
 unfolding standings_as
 of_row row k d lt =
     let before = λ (x : Place × Place). nat_lt (place_rank x.0) (place_rank x.1) in
-    let x = get_or (standings_as row) k d in (
-      ltb-true (place_rank x.0) (place_rank x.1) (All-filter (reads_as_row row) (λ x. before x ≡ true) standings (AllPass-from_list_all before standings refl) k d lt),
-      filter_passes (reads_as_row row) standings k d lt,
-    )
+    let x = get_or (standings_as row) k d in
+    let stands = All-filter (reads_as_row row) (λ x. before x ≡ true) standings (AllPass-from_list_all before standings refl) k d lt in
+    (ltb-true (place_rank x.0) (place_rank x.1) stands, filter_passes (reads_as_row row) standings k d lt)
 
 -- a row has one standing, or two
-few_standings : (row : ℕ × ℕ) → IsReading row → (x : Place × Place) × (more : Option (Place × Place)) × (standings_as row ≡ x ∷ option_to_list more)
-few_standings row h =
-    elim (cases_eq row.1 0) [
-      | inl e ↦ (_, None, zeros row h.ordered e)
-      | inr some ↦ elim (cases_eq row.0 0) [ inl e ↦ (_, Some _, one_zero row e (omega arith) h.within) | inr other ↦ (_, None, no_zero row h other) ]
-    ]
-
 nearest : (bar x : Place × Place) (more : Option (Place × Place)) (xs : List (Place × Place)) (P : Place × Place → Type 0) → xs ≡ x ∷ option_to_list more → AllByRecursion P xs
     → let least = fold min 2 (map (lugs_moved bar) xs) in
     let target = unwrap_or (find (λ y. nat_eq (lugs_moved bar y) least) xs) bar in
@@ -168,11 +133,17 @@ nearest : (bar x : Place × Place) (more : Option (Place × Place)) (xs : List (
 nearest bar x None xs P e h = grind (arith, nat_tests, at_most_two bar x)
 nearest bar x (Some y) xs P e h = grind (arith, nat_tests, at_most_two bar x, at_most_two bar y)
 
-pub is_target : (bar : Place × Place) (row : ℕ × ℕ) → IsReading row → IsTarget bar row (target_of bar row)
+pub is_target : (bar : Place × Place) (row : ℕ × ℕ) → IsReading row
+    → IsOfRow row (target_of bar row) × (lugs_moved bar (target_of bar row) ≡ bar_cost bar row)
 is_target bar row h =
-    let few = few_standings row h in
-    let so = nearest bar few.0 few.1 (standings_as row) (IsOfRow row) few.2 (recursion_from_All (IsOfRow row) (standings_as row) (of_row row)) in
-    record { stands = so.0.0; reads = grind (arith, eqb-true); moved = so.1 }
+    let all = recursion_from_All (IsOfRow row) (standings_as row) (of_row row) in
+    elim (cases_eq row.1 0) [
+      | inl e ↦ nearest bar _ None (standings_as row) (IsOfRow row) (zeros row h.ordered e) all
+      | inr some ↦ elim (cases_eq row.0 0) [
+        | inl e ↦ nearest bar _ (Some _) (standings_as row) (IsOfRow row) (one_zero row e (omega arith) h.within) all
+        | inr other ↦ nearest bar _ None (standings_as row) (IsOfRow row) (no_zero row h other) all
+      ]
+    ]
 
 -- a bar, and the row that it is paired with
 abbrev pub BarRow : Type 0
@@ -190,9 +161,6 @@ abbrev IsClear : Lug → Place → Place × Place → Type 0
 IsClear Left place bar = place_rank place < place_rank bar.1
 IsClear Right place bar = place_rank bar.0 < place_rank place
 
-there_already : (lug : Lug) (place : Place) (bar : Place × Place) → is_at (lug_place lug bar) place ≡ true → with_lug lug place bar ≡ bar
-there_already lug place bar e = grind (arith, place_of_same)
-
 module _ (m : PinParts) where
   abbrev pub with_bars : List (Place × Place) → Parts
   with_bars bars = Pin (record m { bars = bars })
@@ -209,7 +177,7 @@ module _ (m : PinParts) where
 
     one_lug : (bar : Place × Place) (lug : Lug) (place : Place) → IsClear lug place bar
         → Led (with_bar bar) (option_to_list (unless_so (is_at (lug_place lug bar) place) (LugTo bar_number lug place))) (with_bar (with_lug lug place bar))
-    one_lug bar lug place h = grind (arith, led_unless, there_already, seam_get, seam_set, lug_allowed)
+    one_lug bar lug place h = grind (arith, led_unless, place_of_same, seam_get, seam_set, lug_allowed)
 
     lugs_led : (bar target : Place × Place) → IsBefore bar.0 bar.1 → IsBefore target.0 target.1
         → Led (with_bar bar) (lugs_to bar_number bar target) (with_bar target)
@@ -226,12 +194,12 @@ module _ (m : PinParts) where
   lugs_lead zs h =
       cells_led with_bars (λ (z : BarRow). z.0) to_stand lugs_of zs (λ front back z e.
       let movable = (all_parts IsMovable zs front back z e h).1 in
-      rw length-map at (lugs_led (map to_stand front) (map (λ (z : BarRow). z.0) back) z.0 (to_stand z) movable.stands (is_target z.0 z.1 movable.reading).stands))
+      rw length-map at (lugs_led (map to_stand front) (map (λ (z : BarRow). z.0) back) z.0 (to_stand z) movable.stands (is_target z.0 z.1 movable.reading).0.0))
 
 -- the rows that the bars read as in the end
 rows_read : (zs : List BarRow) → AllByRecursion IsMovable zs → map (λ (bar : Place × Place). reading_of bar.0 bar.1) (map to_stand zs) ≡ map (λ (z : BarRow). z.1) zs
 rows_read [] h = refl
-rows_read (z ∷ zs) h = grind (arith, is_target, rows_read zs h.1)
+rows_read (z ∷ zs) h = grind (arith, eqb-true, is_target, rows_read zs h.1)
 
 -- ---- all lines
 movable : (bars : List (Place × Place)) (rows : List (ℕ × ℕ)) (to : List ℕ) → AllByRecursion (λ bar. IsBefore bar.0 bar.1) bars → All IsReading rows
@@ -242,9 +210,6 @@ movable (bar ∷ bars) rows (j ∷ to) stand reading within =
     (record { stands = stand.0; reading = reading j (0, 0) within.0 }, movable bars rows to stand.1 reading within.1)
 
 module _ (m : PinParts) (s : PinDay) (to : List ℕ) (machine : IsMachine (Pin m)) (legal : IsLegalPinDay s) (count : length to ≡ 27) (one_to_one : IsOneToOne to) where
-  abbrev after_pins : PinParts
-  after_pins = record m { pins = s.pins }
-
   abbrev after_turns : PinParts
   after_turns = record m { pins = s.pins; letters = s.window }
 
@@ -270,6 +235,6 @@ module _ (m : PinParts) (s : PinDay) (to : List ℕ) (machine : IsMachine (Pin m
   pub pin_machine_leads : LeadsToTheDay (Pin m) (OfPins s) (planned_lines (Pin m) (OfPins s) to)
   pin_machine_leads =
       let pins = pins_lead m s.pins machine.legal.pins legal.pins in
-      let turns = turns_lead after_pins s.window machine.legal.letters.count legal.window in
+      let turns = turns_lead (record m { pins = s.pins }) s.window machine.legal.letters.count legal.window in
       let lugs = rw (firsts-zip m.bars chosen sizes) at (lugs_lead after_turns zs are_movable) in
       (with_bars after_turns (map to_stand zs), (led_append _ _ (led_append _ _ pins turns) lugs).leads, record { key = record { pins = refl; rows = rows_are }; window = refl })
