@@ -1,11 +1,9 @@
 -- What stands in a card's lines are words, and its numbers have the keywords that are read.
-use Rattle.kd_card.proofs.Prelude.{Bool, true, codes, ◌≡◌, ◌≢◌, ℕ, zero, suc, ◌+◌, ◌*◌, ◌^◌, ◌<◌, ◌≤◌, inl, inr, List, [], ◌∷◌, ◌++◌, length, map, get_or, fold, decimal, Ok, Err, Result, MatchResult, not, eqb, false, pointwise, not-false, false≢true, Decides-eqb, slice_eq-Decides, err_from_is_err_and, refl, ap, arith, ℤ, pos, negsuc, ◌+ℤ◌, unsigned_abs, length-append, ltb, sym, subst, ◌∙◌, All, AllByRecursion, list_all, digits_value, signed_decimal, decimal_nonempty, digits_decimal, decimal_digit, first_decimal, All-cons, All-map, All-weaker, All-append, All-from_recursion, All-from_get_or, recursion_from_All, IsWord, NumbersAreWords, PriceParts, Version, how_many, price_sum, AreWithinReach, ArePrices, Group, Name, PricedKind, BadLine, CountWrong, PriceMissing, Refused, Found, BeginsWithHead, kinds_text, row_word, column_word, version_text, head_words, price_words, IsGroup, IsDigit, IsNumberText, IsNumeral, with_line, HasWords, SaysValue, SaysLine, SaysFirst, SaysPrices, SaysPriceLine, SaysGroup, nil_from_length, common_steps}
+use Rattle.kd_card.proofs.Prelude.{Bool, true, codes, ◌≡◌, ◌≢◌, ℕ, zero, suc, ◌+◌, ◌*◌, ◌^◌, ◌<◌, ◌≤◌, inl, inr, List, [], ◌∷◌, ◌++◌, length, map, get_or, fold, decimal, Ok, Err, Result, MatchResult, not, eqb, false, pointwise, not-false, false≢true, Decides-eqb, slice_eq-Decides, err_from_is_err_and, refl, ap, arith, ℤ, pos, negsuc, ◌+ℤ◌, unsigned_abs, length-append, sym, subst, ◌∙◌, All, AllByRecursion, digits_value, signed_decimal, decimal_nonempty, digits_decimal, decimal_digit, first_decimal, All-cons, All-map, All-weaker, All-append, All-from_recursion, All-from_get_or, recursion_from_All, IsWord, PriceParts, Version, how_many, price_sum, AreWithinReach, ArePrices, Group, Name, PricedKind, BadLine, CountWrong, PriceMissing, Refused, Found, BeginsWithHead, kinds_text, row_word, column_word, version_text, head_words, price_words, IsGroup, IsDigit, IsNumberText, IsNumeral, with_line, HasWords, SaysValue, SaysLine, SaysFirst, SaysPrices, SaysPriceLine, SaysGroup, nil_from_length, common_steps, numbers_are_words, word_by_bytes, word_by_test, passed, CardFault}
 use Rattle.std.specs.Int.{IsInRange}
 use Rattle.std.specs.Result.{IsErrAnd}
 use Rattle.std.proofs.lemmas.Str.Parse.{IsNumeralModel, numerals_by_value, tells_by_index}
-use Rattle.kd_card.specs.Steps.{passed}
-use Rattle.kd_card.specs.declared.fault.CardFault.{CardFault}
-use Rattle.kd_card.proofs.Lines.{Laws, bytes_above, is_line, line_has_words, some_bytes}
+use Rattle.kd_card.proofs.Lines.{is_line, line_has_words, some_bytes}
 
 -- ---- answers
 
@@ -32,18 +30,8 @@ no_line some (Found x is next) = next
 
 -- ---- words
 
-pub word_by_bytes : (word : List ℕ) → word ≢ [] → All (λ b. 32 < b) word → IsWord word
-word_by_bytes word filled a = record {
-  filled = filled;
-  spaceless = All-weaker (λ b. 32 < b) (λ b. b ≢ 32) (λ b above space. omega (arith, above, space)) word a;
-  unbroken = All-weaker (λ b. 32 < b) (λ b. b ≢ 10) (λ b above break. omega (arith, above, break)) word a;
-}
-
 pub bytes_are_word : (b : ℕ) (bs : List ℕ) → AllByRecursion (λ c. 32 < c) (b ∷ bs) → IsWord (b ∷ bs)
 bytes_are_word b bs above = word_by_bytes (b ∷ bs) (λ none. cc) (All-from_recursion (λ c. 32 < c) (b ∷ bs) above)
-
-pub word_by_test : (b : ℕ) (bs : List ℕ) → list_all (ltb 32) (b ∷ bs) ≡ true → IsWord (b ∷ bs)
-word_by_test b bs e = word_by_bytes (b ∷ bs) (λ none. cc) (bytes_above 32 (b ∷ bs) e)
 
 below_zero : (word : List ℕ) → IsWord word → IsWord (45 ∷ word)
 below_zero word w = record {
@@ -58,34 +46,31 @@ number_word text e = grind (arith, word_by_bytes, All-weaker, All-cons)
 pub numeral_word : (signed : Bool) (text : List ℕ) → IsNumeral signed text → IsWord text
 numeral_word signed text e = grind (arith, number_word, below_zero)
 
-pub signed_word : NumbersAreWords → (z : ℤ) → unsigned_abs z < 2 ^ 64 → IsWord (signed_decimal z)
-signed_word numbers (pos n) small = numbers n small
-signed_word numbers (negsuc n) small = below_zero (decimal (suc n)) (numbers (suc n) small)
+pub signed_word : (z : ℤ) → unsigned_abs z < 2 ^ 64 → IsWord (signed_decimal z)
+signed_word (pos n) small = numbers_are_words n small
+signed_word (negsuc n) small = below_zero (decimal (suc n)) (numbers_are_words (suc n) small)
 
 version_is_word : (version : Version) → IsWord (version_text version)
 version_is_word version = grind (arith, word_by_test)
 
-pub head_is_words : NumbersAreWords → (version : Version) (day : ℕ) → day ≤ 31 → All IsWord (head_words version day)
-head_is_words numbers version day small = grind (arith, All-from_recursion, word_by_test, version_is_word, numbers)
+pub head_is_words : (version : Version) (day : ℕ) → day ≤ 31 → All IsWord (head_words version day)
+head_is_words version day small = grind (arith, All-from_recursion, word_by_test, version_is_word, numbers_are_words)
 
-pub head_has_words : Laws → {bytes : List ℕ} (version : Version) (day : ℕ) (rest : List ℕ)
+pub head_has_words : {bytes : List ℕ} (version : Version) (day : ℕ) (rest : List ℕ)
     → BeginsWithHead bytes version day rest → HasWords bytes (head_words version day) rest
-head_has_words laws version day rest head =
-    line_has_words laws (head_words version day) rest (λ none. cc)
-    (head_is_words laws.numbers version day head.of_month.last) head.text
+head_has_words version day rest head =
+    line_has_words (head_words version day) rest (λ none. cc) (head_is_words version day head.of_month.last) head.text
 
-pub row_is_word : (kind : Group) → IsWord (row_word kind)
-row_is_word kind = grind (arith, word_by_test)
+pub first_is_word : (kind : Group) → IsWord (row_word kind) × IsWord (column_word kind)
+first_is_word kind = grind (arith, word_by_test)
 
-pub column_is_word : (kind : Group) → IsWord (column_word kind)
-column_is_word kind = grind (arith, word_by_test)
-
-pub prices_are_words : NumbersAreWords → (word : List ℕ) (prices : List ℤ) → IsWord word → AreWithinReach prices → All IsWord (price_words word prices)
-prices_are_words numbers word prices w reach =
+pub prices_are_words : (word : List ℕ) (prices : List ℤ) → IsWord word → AreWithinReach prices
+    → All IsWord (price_words word prices)
+prices_are_words word prices w reach =
     All-cons IsWord word (map signed_decimal prices) w
     (All-map IsWord signed_decimal prices
     (All-weaker (λ price. unsigned_abs price ≤ 9999) (λ price. IsWord (signed_decimal price))
-    (λ price within. signed_word numbers price (omega (arith, within))) prices reach))
+    (λ price within. signed_word price (omega (arith, within))) prices reach))
 
 -- ---- the keywords of numbers
 

@@ -1,34 +1,21 @@
 -- Lists of kinds, kind by kind.
-use Rattle.kd_card.proofs.Prelude.{◌≡◌, ℕ, zero, suc, ◌+◌, ◌*◌, ◌<◌, ◌≤◌, List, [], ◌∷◌, ◌++◌, length, take, get_or, refl, sym, ap, subst, ◌∙◌, append_assoc, length-append, arith, All, All-nil, All-cons, flat_map-append, Name, PricedKind, look_name, look_rank, kind_words, kinds_text, counted, IsPricedKind, AreKinds, AreCalled, line_of, floor_behind, IsNextKind, BeginsWithKinds}
+use Rattle.kd_card.proofs.Prelude.{◌≡◌, ℕ, zero, suc, ◌+◌, ◌*◌, ◌<◌, ◌≤◌, List, [], ◌∷◌, ◌++◌, length, take, get_or, refl, sym, ap, subst, ◌∙◌, append_assoc, length-append, arith, All, All-nil, All-cons, Name, PricedKind, look_name, look_rank, kind_words, counted, IsPricedKind, AreKinds, AreCalled, IsNextKind, BeginsWithKinds, append-nil, HasNoNext, with_line}
 use Rattle.kd_card.proofs.KindPrices.{text_of_more_kinds, text_by_kind}
 use Rattle.kd_card.proofs.Lines.{is_line}
 
--- ---- one more kind at the end
-
-pub more_kinds : (floor : ℕ) (kinds : List PricedKind) (kind : PricedKind) → AreKinds floor kinds → IsPricedKind kind
-    → floor_behind floor kinds ≤ look_rank kind.look → AreKinds floor (kinds ++ kind ∷ [])
-more_kinds floor [] kind are good above = (good, above, tt)
-more_kinds floor (first ∷ kinds) kind are good above = (are.0, are.1, more_kinds (look_rank first.look + 1) kinds kind are.2 good above)
-
-pub more_called : (name : Name) (kinds : List PricedKind) (kind : PricedKind) → AreCalled name kinds → look_name kind.look ≡ name
-    → AreCalled name (kinds ++ kind ∷ [])
-more_called name [] kind called this = (this, tt)
-more_called name (first ∷ kinds) kind called this = (called.0, more_called name kinds kind called.1 this)
-
-pub more_floor : (floor : ℕ) (kinds : List PricedKind) (kind : PricedKind) → floor_behind floor (kinds ++ kind ∷ []) ≡ look_rank kind.look + 1
-more_floor floor [] kind = refl
-more_floor floor (first ∷ kinds) kind = more_floor (look_rank first.look + 1) kinds kind
+pub first_kind : {name : Name} {floor : ℕ} {bytes after rest : List ℕ} {kind : PricedKind} {kinds : List PricedKind}
+    → IsNextKind name floor bytes kind after → BeginsWithKinds name (look_rank kind.look + 1) after kinds rest
+    → BeginsWithKinds name floor bytes (kind ∷ kinds) rest
+first_kind {rest} {kind} {kinds} next behind = record {
+  lines = is_line next.line ∙ ap (with_line (kind_words kind)) behind.lines ∙ sym (text_of_more_kinds kind kinds rest);
+  called = (next.called, behind.called);
+  in_order = (next.good, next.above, behind.in_order);
+  none_more = behind.none_more;
+}
 
 counted-append : (kinds more : List PricedKind) → counted (kinds ++ more) ≡ counted kinds + counted more
 counted-append [] more = omega arith
 counted-append (first ∷ kinds) more = omega (arith, counted-append kinds more)
-
--- ---- bounds
-
-pub floor_bounds : (floor : ℕ) (kinds : List PricedKind) → AreKinds floor kinds
-    → (counted kinds + 255 * floor ≤ 255 * floor_behind floor kinds) × (floor + length kinds ≤ floor_behind floor kinds)
-floor_bounds floor [] are = (omega arith, omega arith)
-floor_bounds floor (kind ∷ kinds) are = grind (arith, floor_bounds (look_rank kind.look + 1) kinds are.2)
 
 -- ---- how many things there are
 
@@ -54,36 +41,50 @@ pub ruleset kinds_written = (all_kinds, text_by_kind, append_assoc)
 
 -- ---- kinds, read
 
--- These kinds have been read, with what follows; the next has at least this rank and stands in that line, and they are of so
--- many things.
+-- These kinds have been read: with those that the rest begins with they are all. The next has at least this rank and
+-- stands in that line, and they are of so many things.
 pub record HasRead (name : Name) (line : ℕ) (text rest : List ℕ) (floor total at : ℕ) (kept : List PricedKind) : Type 0 where
-  pub begins : BeginsWithKinds name text kept rest
-  pub floor_is : floor ≡ floor_behind 0 kept
+  pub goes_on : (more : List PricedKind) (end : List ℕ) → BeginsWithKinds name floor rest more end
+      → BeginsWithKinds name 0 text (kept ++ more) end
   pub low : floor ≤ 703
+  pub most : total ≤ 255 * floor
+  pub few : length kept ≤ floor
   pub total_is : total ≡ counted kept
   pub at_is : at ≡ line + length kept
 
-pub read_bounds : {name : Name} {line : ℕ} {text rest : List ℕ} {floor total at : ℕ} {kept : List PricedKind}
-    → HasRead name line text rest floor total at kept → (total ≤ 255 * floor) × (length kept ≤ floor) × (floor ≤ 703)
-read_bounds {kept} read = grind (arith, floor_bounds)
+pub reads_none : (name : Name) (line : ℕ) (text : List ℕ) (kept : List PricedKind) → kept ≡ []
+    → HasRead name line text text 0 0 line kept
+reads_none name line text kept none = subst (HasRead name line text text 0 0 line) (sym none) (record {
+  goes_on = λ more end begins. begins;
+  low = omega arith;
+  most = omega arith;
+  few = omega arith;
+  total_is = refl;
+  at_is = omega arith;
+})
 
 pub reads_on : {name : Name} {line : ℕ} {text rest after : List ℕ} {floor total at count rank : ℕ} {kept more : List PricedKind} {kind : PricedKind}
     → HasRead name line text rest floor total at kept → IsNextKind name floor rest kind after → rank ≡ look_rank kind.look → rank < 703
     → count ≡ kind.count → more ≡ kept ++ kind ∷ [] → HasRead name line text after (rank + 1) (total + count) (at + 1) more
-reads_on {name} {line} {text} {after} {floor} {total} {at} {count} {rank} {kept} {kind} read next ranked low counts keeps =
-    let at_is = read.at_is in
-    let total_is = read.total_is in
+reads_on {name} {line} {text} {after} {total} {at} {count} {rank} {kept} {kind} read next ranked low counts keeps =
+    let longer = length-append kept (kind ∷ []) in
+    let above = next.above in
+    let most = next.good.most in
     subst (HasRead name line text after (rank + 1) (total + count) (at + 1)) (sym keeps) (record {
-      begins = record {
-        lines =
-            read.begins.lines ∙ ap (λ t. kinds_text kept ++ t) (is_line next.line ∙ sym (text_of_more_kinds kind [] after))
-            ∙ sym (append_assoc (kinds_text kept) (kinds_text (kind ∷ [])) after)
-            ∙ ap (λ t. t ++ after) (sym (flat_map-append (λ (k : PricedKind). line_of (kind_words k) ++ 10 ∷ []) kept (kind ∷ [])));
-        called = more_called name kept kind read.begins.called next.called;
-        in_order = more_kinds 0 kept kind read.begins.in_order next.good (rw (← read.floor_is) next.above);
-      };
-      floor_is = ap (λ r. r + 1) ranked ∙ sym (more_floor 0 kept kind);
+      goes_on = λ more end begins.
+          let behind = subst (λ r. BeginsWithKinds name (r + 1) after more end) ranked begins in
+          subst (λ kinds. BeginsWithKinds name 0 text kinds end) (sym (append_assoc kept (kind ∷ []) more))
+          (read.goes_on (kind ∷ more) end (first_kind next behind));
       low = omega arith;
-      total_is = omega (arith, counted-append kept (kind ∷ []));
-      at_is = omega (arith, length-append kept (kind ∷ []));
+      most = omega (arith, read.most);
+      few = omega (arith, read.few);
+      total_is = omega (arith, counted-append kept (kind ∷ []), read.total_is);
+      at_is = omega (arith, read.at_is);
     })
+
+pub all_read : {name : Name} {line : ℕ} {text rest : List ℕ} {floor total at : ℕ} {kept : List PricedKind}
+    → HasRead name line text rest floor total at kept → HasNoNext name floor rest
+    → BeginsWithKinds name 0 text kept rest
+all_read {name} {text} {rest} {kept} read none =
+    subst (λ kinds. BeginsWithKinds name 0 text kinds rest) (append-nil kept)
+    (read.goes_on [] rest (record { lines = refl; called = tt; in_order = tt; none_more = none }))

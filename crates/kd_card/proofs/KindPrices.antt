@@ -1,5 +1,6 @@
 -- The prices of kinds, one for each thing.
-use Rattle.kd_card.proofs.Prelude.{◌≡◌, ◌↔◌, ℕ, ◌+◌, ◌≤◌, List, [], ◌∷◌, length, replicate, refl, sym, ap, ◌∙◌, length-append, arith, unsigned_abs, ◌++◌, map, Option, None, length-replicate, length-map, All-append, All-nil, All-replicate, PricedKind, PriceParts, CableKinds, BarKinds, ByKind, look_rank, counted, prices_of_kinds, AreKinds, look_name, kind_words, kinds_text, cable_kind, pair_kind, bar_kind, row_kind, AreCalled, version_of, how_many, row_kinds, column_kinds, row_prices, column_prices, AreWithinReach, ArePrices, flat_map-append, flat_map-map, Place, One, line_of, Look, Cable, Pair, Bar, Row, Name, Group, group_of, row_name, column_name, price_count, lines_text, price_lines, IsGroup, HaveKinds, with_line, rules, common_steps}
+use Rattle.kd_card.proofs.Prelude.{◌≡◌, ◌↔◌, ℕ, ◌+◌, ◌≤◌, List, [], ◌∷◌, length, replicate, refl, sym, ap, ◌∙◌, length-append, arith, unsigned_abs, ◌++◌, map, Option, None, length-replicate, length-map, All-append, All-nil, All-replicate, PricedKind, PriceParts, CableKinds, BarKinds, ByKind, look_rank, counted, prices_of_kinds, AreKinds, look_name, kind_words, kinds_text, cable_kind, pair_kind, bar_kind, row_kind, AreCalled, version_of, how_many, row_kinds, column_kinds, row_prices, column_prices, AreWithinReach, ArePrices, flat_map-append, flat_map-map, Place, One, line_of, Look, Cable, Pair, Bar, Row, Name, Group, group_of, row_name, column_name, price_count, lines_text, price_lines, IsGroup, HaveKinds, with_line, rules, common_steps, map-id, ◌<◌}
+use Rattle.std.proofs.lemmas.Simd.{map-map}
 use Rattle.arrayvec.specs.ArrayVec.{ArrayVec}
 use Rattle.kd_card.specs.declared.kinds.CableKind.{CableKind}
 use Rattle.kd_card.specs.declared.kinds.PairKind.{PairKind}
@@ -41,12 +42,6 @@ pub are_prices : (parts : PriceParts) → version_of parts ≡ ByKind
 are_prices (CableKinds row col) by = grind (arith, length_of_kinds, reach_of_kinds)
 are_prices (BarKinds row col) by = grind (arith, length_of_kinds, reach_of_kinds)
 are_prices parts by = cc
-
-pub row_count : (parts : PriceParts) → version_of parts ≡ ByKind → ArePrices parts → counted (row_kinds parts) ≡ how_many parts
-row_count parts by are = ((are_prices parts by).0 are).1
-
-pub column_count : (parts : PriceParts) → version_of parts ≡ ByKind → ArePrices parts → counted (column_kinds parts) ≡ how_many parts
-column_count parts by are = ((are_prices parts by).0 are).3
 
 pub cables_are_prices : (rows : List CableKind) (columns : List PairKind)
     → ArePrices (CableKinds (record { items = rows }) (record { items = columns }))
@@ -91,15 +86,12 @@ both_groups prices by are = cc
 
 -- ---- kinds tell the prices
 
-undone : {A B : Type 0} (there : A → B) (back : B → A) → ((x : A) → back (there x) ≡ x) → (xs : List A) → map back (map there xs) ≡ xs
-undone there back leads [] = refl
-undone there back leads (x ∷ xs) = cc (leads x, undone there back leads xs)
-
 told : {A B : Type 0} (there : A → B) (back : B → A) → ((x : A) → back (there x) ≡ x) → (a b : ArrayVec A)
     → map there a.items ≡ map there b.items → a ≡ b
 told {A} there back leads a b e =
     let make : List A → ArrayVec A = λ items. record { items = items } in
-    ap make (sym (undone there back leads a.items) ∙ ap (map back) e ∙ undone there back leads b.items)
+    let undone : (xs : List A) → map back (map there xs) ≡ xs = λ xs. simp (map-map, leads, map-id) in
+    ap make (sym (undone a.items) ∙ ap (map back) e ∙ undone b.items)
 
 pub same_kind_parts : {group : Group} {rows columns : List PricedKind} (prices others : PriceParts) → HaveKinds group rows columns prices
     → HaveKinds group rows columns others → prices ≡ others
@@ -131,5 +123,5 @@ of_two_groups group prices by many r c x y =
 pub size_of : (prices : PriceParts) → price_count (group_of prices) ≡ how_many prices
 size_of prices = grind arith
 
-pub few_prices_of : (group : Group) → price_count group ≤ 27
-few_prices_of group = grind arith
+pub some_and_few : (group : Group) → (0 < price_count group) × (price_count group ≤ 27)
+some_and_few group = grind arith

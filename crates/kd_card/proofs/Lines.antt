@@ -1,5 +1,5 @@
 -- Lines of words, as they are written and as they are split.
-use Rattle.kd_card.proofs.Prelude.{◌≡◌, ◌≢◌, ℕ, ◌<◌, true, false, eqb, ltb, List, [], ◌∷◌, ◌++◌, length, refl, sym, ap, ◌∙◌, append_assoc, length-append, arith, ℤ, All, list_all, flat_map, signed_decimal, ne_eqb, ltb-true, append-nil, get_or_at, take_all, flat_map-append, AllPass-from_list_all, All-weaker, All-from_recursion, All-push, flat_map-map, Setting, words_of, line_of, IsWord, IsWithout, IsFirstPart, TextsTellFirstParts, LinesSplitIntoWords, WordsMakeOneLine, NumbersAreWords, setting_line, list_text, IsInRange, BeginsWith, BeginsWithLine, PriceParts, Version, version_of, price_sum, head_words, settings_words, price_words, sum_words, lines_text, price_lines, card_text, with_line, HasWords, common_steps}
+use Rattle.kd_card.proofs.Prelude.{◌≡◌, ◌≢◌, ℕ, ◌<◌, true, false, eqb, ltb, List, [], ◌∷◌, ◌++◌, length, refl, sym, ap, ◌∙◌, append_assoc, length-append, arith, ℤ, All, list_all, flat_map, signed_decimal, ne_eqb, ltb-true, append-nil, get_or_at, take_all, flat_map-append, AllPass-from_list_all, All-weaker, All-from_recursion, flat_map-map, Setting, words_of, line_of, IsWord, IsWithout, IsFirstPart, setting_line, list_text, PriceParts, Version, version_of, price_sum, head_words, settings_words, price_words, sum_words, lines_text, price_lines, card_text, with_line, HasWords, common_steps, lines_split_into_words, texts_tell_first_parts, words_make_one_line, map, setting_words}
 use Rattle.std.proofs.lemmas.List.Splits.{slice_split_none, slice_split_at, join_with_byte-slice_split}
 
 -- ---- writing
@@ -33,26 +33,22 @@ pub card_and_more : (day : ℕ) (xs : List Setting) (prices : PriceParts) (rest 
     (lines_text (price_lines prices) ++ with_line (sum_words (price_sum prices)) rest))
 card_and_more day xs prices rest = grind (arith, common_steps, all_lines, flat_map-map)
 
-nested : (head list count prices sum : List ℕ)
-    → (((([] ++ (head ++ 10 ∷ [])) ++ list) ++ (count ++ 10 ∷ [])) ++ prices) ++ (sum ++ 10 ∷ [])
-    ≡ head ++ 10 ∷ (list ++ (count ++ 10 ∷ (prices ++ (sum ++ 10 ∷ []))))
-nested head list count prices sum = simp append_assoc
-
-parts_make_card : (day : ℕ) (xs : List Setting) (prices : PriceParts)
-    → (((([] ++ with_line (head_words (version_of prices) day) []) ++ list_text xs) ++ with_line (settings_words (length xs)) []) ++ lines_text (price_lines prices))
-    ++ with_line (sum_words (price_sum prices)) []
-    ≡ card_text day xs prices
-parts_make_card day xs prices =
-    nested (line_of (head_words (version_of prices) day)) (list_text xs) (line_of (settings_words (length xs))) (lines_text (price_lines prices))
-    (line_of (sum_words (price_sum prices)))
-    ∙ sym (card_and_more day xs prices []) ∙ append-nil (card_text day xs prices)
+in_turn : (head count sum : List (List ℕ)) (settings lines : List (List (List ℕ)))
+    → (((([] ++ with_line head []) ++ lines_text settings) ++ with_line count []) ++ lines_text lines)
+    ++ with_line sum []
+    ≡ lines_text (head ∷ settings ++ count ∷ lines ++ sum ∷ [])
+in_turn head count sum settings lines = simp (flat_map-append, append_assoc)
 
 pub written : (version : Version) (day count : ℕ) (xs ys : List Setting) (prices : PriceParts) (sum : ℤ) (empty head list number lines whole : List ℕ)
     → empty ≡ [] → head ≡ empty ++ with_line (head_words version day) [] → list ≡ head ++ list_text ys
     → number ≡ list ++ with_line (settings_words count) [] → lines ≡ number ++ lines_text (price_lines prices)
     → whole ≡ lines ++ with_line (sum_words sum) [] → version ≡ version_of prices → ys ≡ xs → count ≡ length xs → sum ≡ price_sum prices
     → whole ≡ card_text day xs prices
-written version day count xs ys prices sum empty head list number lines whole a b c d e f by same counted summed = cc (parts_make_card day xs prices)
+written version day count xs ys prices sum empty head list number lines whole a b c d e f by same counted summed =
+    let lines_of = map setting_words xs in
+    let card = in_turn (head_words version day) (settings_words count) (sum_words sum) lines_of (price_lines prices) in
+    let all : lines_text lines_of ≡ list_text xs = flat_map-map (λ words. line_of words ++ 10 ∷ []) setting_words xs in
+    cc
 
 -- two lines, and what follows them
 pub two_lines : (a b : List (List ℕ)) (rest : List ℕ) → lines_text (a ∷ b ∷ []) ++ rest ≡ with_line a (with_line b rest)
@@ -62,22 +58,11 @@ two_lines a b rest = simp (append_assoc, append-nil)
 pub text_of_more : (x : Setting) (xs : List Setting) (rest : List ℕ) → list_text (x ∷ xs) ++ rest ≡ setting_line x ++ 10 ∷ (list_text xs ++ rest)
 text_of_more x xs rest = line_and_more (setting_line x) (list_text xs) rest
 
-pub one_more_line : {bytes : List ℕ} {xs : List Setting} {rest : List ℕ} {x : Setting} {after : List ℕ} → BeginsWith bytes xs rest
-    → BeginsWithLine rest x after → BeginsWith bytes (xs ++ x ∷ []) after
-one_more_line {xs} {x} b l = record {
-  lines = simp (flat_map-append, append_assoc, append-nil) (b.lines ∙ ap (λ more. list_text xs ++ more) l.line);
-  in_range = All-push IsInRange xs x b.in_range l.in_range;
-}
-
 -- ---- the part before a byte
 
 pub no_first_part : {byte : ℕ} {text part rest : List ℕ} → IsFirstPart byte text part rest → ¬ (IsWithout byte text)
 no_first_part {byte} {text} {part} {rest} first without =
     grind (arith, without, length-append part (byte ∷ rest), get_or_at part byte rest 0 (length part) refl)
-
-pub same_first_part : TextsTellFirstParts → {byte : ℕ} {text part other rest more : List ℕ} → IsFirstPart byte text part rest → IsFirstPart byte text other more
-    → (part ≡ other) × (rest ≡ more)
-same_first_part tells first second = tells _ _ _ _ _ first.without second.without (sym first.joined ∙ second.joined)
 
 -- ---- texts without LF
 
@@ -103,22 +88,17 @@ is_line {rest} has =
 pub some_bytes : {bytes rest : List ℕ} {words : List (List ℕ)} → HasWords bytes words rest → bytes ≢ []
 some_bytes {rest} has none = omega (arith, ap length (sym has.first.joined ∙ none), length-append has.line (10 ∷ rest))
 
-pub same_words : TextsTellFirstParts → {bytes rest more : List ℕ} {words others : List (List ℕ)} → HasWords bytes words rest
+pub same_words : {bytes rest more : List ℕ} {words others : List (List ℕ)} → HasWords bytes words rest
     → HasWords bytes others more → (words ≡ others) × (rest ≡ more)
-same_words tells a b = grind (arith, same_first_part)
+same_words a b =
+    let joined = sym a.first.joined ∙ b.first.joined in
+    let parts = texts_tell_first_parts 10 a.line b.line _ _ a.first.without b.first.without joined in
+    (sym a.parts ∙ ap words_of parts.0 ∙ b.parts, parts.1)
 
--- what the laws of kd_state say of lines
-pub record Laws : Type 0 where
-  pub first_parts : TextsTellFirstParts
-  pub split : LinesSplitIntoWords
-  pub one_line : WordsMakeOneLine
-  pub numbers : NumbersAreWords
+pub line_has_words : {bytes : List ℕ} (words : List (List ℕ)) (rest : List ℕ) → words ≢ [] → All IsWord words
+    → bytes ≡ with_line words rest → HasWords bytes words rest
+line_has_words words rest some are e = grind (arith, lines_split_into_words, words_make_one_line)
 
-module _ (laws : Laws) where
-  pub line_has_words : {bytes : List ℕ} (words : List (List ℕ)) (rest : List ℕ) → words ≢ [] → All IsWord words → bytes ≡ with_line words rest
-      → HasWords bytes words rest
-  line_has_words words rest some are e = grind arith
-
-  pub value_line : {bytes : List ℕ} (name value rest : List ℕ) → IsWord name → IsWord value
-      → bytes ≡ with_line (name ∷ value ∷ []) rest → HasWords bytes (name ∷ value ∷ []) rest
-  value_line name value rest named valued e = grind (arith, line_has_words, All-from_recursion)
+pub value_line : {bytes : List ℕ} (name value rest : List ℕ) → IsWord name → IsWord value
+    → bytes ≡ with_line (name ∷ value ∷ []) rest → HasWords bytes (name ∷ value ∷ []) rest
+value_line name value rest named valued e = grind (arith, line_has_words, All-from_recursion)

@@ -8,7 +8,7 @@ use Rattle.kd_state.specs.declared.sheet_day.rotor_entry.SheetWheel.{SheetWheel}
 use Rattle.kd_state.specs.Pins.{pin_set, wheel_pins, with_pin}
 use Rattle.kd_card.proofs.Counts.{count_by-cons, zip_set, at_most_one}
 use Rattle.kd_card.proofs.Duality.{pairing_cost}
-use Rattle.kd_card.proofs.Falling.{unless_same_at_most, one_less, not_differing, pull_falls, put_falls, lug_falls}
+use Rattle.kd_card.proofs.Falling.{unless_same_at_most, one_less, not_differing, cables_fall, pulls, puts, lug_moves}
 
 zip_set_lowers : {X Y : Type 0} (p : X × Y → Bool) (xs : List X) (ys : List Y) (i : ℕ) (v : X) → count_by p (zip xs ys) ≤ count_by p (zip (set xs i v) ys) + 1
 zip_set_lowers p xs ys i v = zip_set (λ z. cond (p z) 1 0) xs ys i v v (λ y. omega (arith, at_most_one (p (get_or xs i v, y))))
@@ -76,8 +76,8 @@ module _ (columns : List (Option (ℕ × ℕ) × ℤ)) (rows : List ((ℕ × ℕ
 
   rotor_lowers : (x : Setting) → why_refused (Rotor m) x ≡ None
       → left columns rows (Rotor m) (OfRotors s) ≤ left columns rows (changed (Rotor m) x) (OfRotors s) + 1
-  rotor_lowers (Pull cable letter) e = omega (arith, pull_falls m cable letter columns e)
-  rotor_lowers (Put cable letter) e = omega (arith, put_falls m cable letter columns e)
+  rotor_lowers (Pull cable letter) e = omega (arith, cables_fall m cable letter _ columns (pulls m cable letter e))
+  rotor_lowers (Put cable letter) e = omega (arith, cables_fall m cable letter _ columns (puts m cable letter e))
   rotor_lowers (Seat slot wheel) e =
       omega (arith, without_raises wheel m.slots s.wheels, zip_set_lowers wrong_slot (map (without wheel) m.slots) s.wheels (slot - 1) (Some wheel))
   rotor_lowers (SeatReflector reflector) e = omega (arith, unless_same_at_most (same_reflector m.reflector s.reflector))
@@ -91,13 +91,10 @@ differing wheel = count_by (λ (pin : Bool × Bool). differ pin.0 pin.1) (zip wh
 
 wheel_set_lowers : (xss yss : List (List Bool)) (i p : ℕ) (effective : Bool) → sum (map differing (zip xss yss)) ≤ sum (map differing (zip (set xss i (set (get_or xss i []) p effective)) yss)) + 1
 wheel_set_lowers xss yss i p effective =
-    let now = set (get_or xss i []) p effective in
-    omega (
-      arith,
-      sum-map differing (zip xss yss),
-      sum-map differing (zip (set xss i now) yss),
-      zip_set differing xss yss i now [] (λ ys. zip_set_lowers (λ (pin : Bool × Bool). differ pin.0 pin.1) (get_or xss i []) ys p effective),
-    )
+    let was = get_or xss i [] in
+    let differs = λ (pin : Bool × Bool). differ pin.0 pin.1 in
+    simp sum-map
+    (zip_set differing xss yss i (set was p effective) [] (λ ys. zip_set_lowers differs was ys p effective))
 
 pins_of-set : (pins : PinSet) (i : ℕ) (new : List Bool) → pins_of (pin_set (set (pins_of pins) i new)) ≡ set (pins_of pins) i new
 pins_of-set pins i new = grind arith
@@ -116,8 +113,7 @@ pin_lowers m s (suc wheel) letter effective e =
 
 pin_machine_lowers : (columns : List (Option (ℕ × ℕ) × ℤ)) (rows : List ((ℕ × ℕ) × ℤ)) (m : PinParts) (s : PinDay) (x : Setting) → why_refused (Pin m) x ≡ None
     → left columns rows (Pin m) (OfPins s) ≤ left columns rows (changed (Pin m) x) (OfPins s) + 1
-pin_machine_lowers columns rows m s (LugTo zero lug place) e = omega arith
-pin_machine_lowers columns rows m s (LugTo (suc bar) lug place) e = omega (arith, lug_falls m.bars rows bar lug place (slice_get m.bars bar) refl)
+pin_machine_lowers columns rows m s (LugTo bar lug place) e = omega (arith, (lug_moves m rows bar lug place e).0)
 pin_machine_lowers columns rows m s x e = grind (arith, zip_set_lowers, pin_lowers)
 
 -- whatever the setting and the machine

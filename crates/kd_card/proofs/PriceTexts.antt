@@ -28,10 +28,6 @@ pub no_text : {S E : Type 0} (bs : List ℕ) (r : Result S E) (P : S → Type 0)
 no_text bs (Ok s) P Q h none price within e = cc
 no_text bs (Err f) P Q h none price within e = h.0 (subst IsUtf8 e (IsUtf8-from_ascii (signed_decimal price) (IsAscii-signed price (small price within))))
 
--- what holds of the value of an Ok
-pub ok_part : {S E : Type 0} (r : Result S E) (s : S) (P : S → Type 0) (Q : E → Type 0) → MatchResult r P Q → Some s ≡ result_ok r → P s
-ok_part r s P Q e d = grind arith
-
 pub read_price : {E : Type 0} (bs : List ℕ) (r : Result ℤ E) → ParsesSigned w16 10 bs r → (price : ℤ) → unsigned_abs price ≤ 9999 → signed_decimal price ≡ bs
     → result_ok r ≡ Some price
 read_price bs r h price within e = ap result_ok (parse-signed_decimal w16 price bs r (fits price within) (small price within) (sym e) h)

@@ -1,7 +1,6 @@
 -- No list of settings that leads to the day has fewer than there are loose things and prices in sum, and a card that proves
 -- itself has as many.
-use Rattle.kd_card.proofs.Prelude.{◌≡◌, ℕ, ◌+◌, ◌<◌, ◌≤◌, Bool, cond, List, [], ◌∷◌, ◌++◌, length, get_or, map, zip, fold, Contains, Option, ℤ, pos, ◌+ℤ◌, ◌≤ℤ◌, IsPermutation, refl, sym, ap, ◌∙◌, subst, arith, None, ints, length_permutation, All-permutation, Contains-permutation, IsPermutation-sym, Model, reflectors_of, letters_plugged, Parts, Rotor, Pin, Setting, model_of, IsMachine, Leads, changed, Day, OfRotors, OfPins, day_model, IsLegalDay, ReadsAs, cable_cost, bar_cost, columns_of, cost_table, loose_count, PriceParts, Cables, Bars, ArePrices, Fits, AreTight, price_sum, is_priced, priced_count, AreOfKind, IsNeeded, AreNeeded, Same, Expanded, FittingPricesBoundLists, ProvingCardsAreAsLong, ProvingCardsAreShortest, ProvingPricesAreTight, get_or_default, get_or-map, length-zip, get_or-zip, One, AsFewAreNeeded, why_refused, sum_by, thirteen_columns}
-use Rattle.std.proofs.lemmas.List.Elements.{All-from_get_or, Contains-get_or}
+use Rattle.kd_card.proofs.Prelude.{◌≡◌, ℕ, ◌+◌, ◌<◌, ◌≤◌, Bool, cond, List, [], ◌∷◌, length, get_or, map, zip, Contains, Option, ℤ, pos, ◌+ℤ◌, ◌≤ℤ◌, IsPermutation, refl, sym, ap, ◌∙◌, subst, arith, None, ints, length_permutation, All-permutation, Contains-permutation, IsPermutation-sym, Model, reflectors_of, letters_plugged, Parts, Rotor, Pin, Setting, model_of, IsMachine, Leads, changed, Day, OfRotors, OfPins, day_model, IsLegalDay, ReadsAs, cable_cost, bar_cost, columns_of, cost_table, loose_count, PriceParts, Cables, Bars, ArePrices, Fits, AreTight, price_sum, is_priced, priced_count, AreOfKind, IsNeeded, AreNeeded, Same, Expanded, FittingPricesBoundLists, ProvingCardsAreAsLong, ProvingCardsAreShortest, ProvingPricesAreTight, get_or_default, get_or-map, length-zip, get_or-zip, One, AsFewAreNeeded, why_refused, sum_by, thirteen_columns, IsTightAt, column_prices, cost_at, how_many, price_at, row_prices, All-from_get_or, Contains-get_or}
 use Rattle.kd_tables.specs.declared.model.Model.TheVariants.{M209}
 use Rattle.kd_tables.specs.declared.reflector.Reflector.{Reflector}
 use Rattle.kd_card.proofs.Duality.{fold_of_both, prices_moved, pairing_cost, fitting_prices, tight_at, sum_of, prices_with, FitTogether, FitAll}
@@ -27,18 +26,6 @@ module _ (columns : List (Option (ℕ × ℕ) × ℤ)) (rows : List ((ℕ × ℕ
 
 -- ---- fitting prices, and columns beside the rows for which so many lines pay
 
-record IsTable {A B : Type 0} (cost : A → B → ℕ) (number : ℕ) (rows : List A) (row_prices : List ℤ) (columns : List B) (prices : List ℤ)
-    (loose lines : ℕ) : Type 0 where
-  rows_count : length rows ≡ number
-  row_prices_count : length row_prices ≡ number
-  columns_count : length columns ≡ number
-  prices_count : length prices ≡ number
-  fits : (i j : ℕ) → i < number → j < number
-      → (get_or row_prices i (pos 0) +ℤ get_or prices j (pos 0)) ≤ℤ pos (get_or (get_or (map (λ row. map (cost row) columns) rows) i []) j 0)
-  beside : List (B × ℤ)
-  order : IsPermutation (zip columns prices) beside
-  enough : loose + pairing_cost cost rows beside ≤ lines
-
 -- what stands in a list stands in each other order of it
 placed : {X : Type 0} (xs ys : List X) (i : ℕ) (d : X) → IsPermutation xs ys → i < length ys
     → (j : ℕ) × (j < length xs) × (get_or ys i d ≡ get_or xs j d)
@@ -46,78 +33,91 @@ placed xs ys i d order lt =
     let there = Contains-permutation ys xs (get_or ys i d) (IsPermutation-sym xs ys order) (Contains-get_or ys i d lt) in
     (there.0, there.1, sym there.2 ∙ get_or_default xs there.0 (get_or ys i d) d there.1)
 
-module _ {A B : Type 0} {cost : A → B → ℕ} {number : ℕ} {rows : List A} {row_prices : List ℤ} {columns : List B} {prices : List ℤ}
-    {loose lines : ℕ} (a : A) (b : B) (h : IsTable cost number rows row_prices columns prices loose lines) where
-  abbrev TightIn : ℕ → ℕ → Type 0
-  TightIn i j =
-      (get_or row_prices i (pos 0) +ℤ get_or prices j (pos 0)) ≡ pos (get_or (get_or (map (λ row. map (cost row) columns) rows) i []) j 0)
+-- what fitting prices tell of so many lines
+record AreBounds (costs : List (List ℕ)) (prices : PriceParts) (loose lines : ℕ) : Type 0 where
+  bound : (pos loose +ℤ price_sum prices) ≤ℤ pos lines
+  tight : pos lines ≡ (pos loose +ℤ price_sum prices) → AreTight costs prices
 
-  zipped : length (zip columns prices) ≡ number
-  zipped = omega (arith, length-zip columns prices, h.columns_count, h.prices_count)
+module _ {A B : Type 0} (a : A) (b : B) (cost : A → B → ℕ) (rows : List A) (columns : List B) (prices : PriceParts)
+    (loose lines : ℕ) (rows_count : length rows ≡ how_many prices) (columns_count : length columns ≡ how_many prices)
+    (are : ArePrices prices) (fits : Fits (map (λ row. map (cost row) columns) rows) prices) (beside : List (B × ℤ))
+    (order : IsPermutation (zip columns (column_prices prices)) beside)
+    (enough : loose + pairing_cost cost rows beside ≤ lines) where
+  abbrev costs : List (List ℕ)
+  costs = map (λ row. map (cost row) columns) rows
 
-  size : length h.beside ≡ number
-  size = length_permutation (zip columns prices) h.beside h.order ∙ zipped
+  abbrev priced : List (B × ℤ)
+  priced = zip columns (column_prices prices)
 
-  column : (j : ℕ) → j < number → get_or (zip columns prices) j (b, pos 0) ≡ (get_or columns j b, get_or prices j (pos 0))
-  column j lt = get_or-zip columns prices j (b, pos 0) (omega (arith, h.columns_count)) (omega (arith, h.prices_count))
+  zipped : length priced ≡ how_many prices
+  zipped = omega (arith, length-zip columns (column_prices prices), are.columns)
 
-  at : (i j : ℕ) → i < number → j < number
-      → get_or (get_or (map (λ row. map (cost row) columns) rows) i []) j 0 ≡ cost (get_or rows i a) (get_or columns j b)
-  at i j lt lt' = let e = h.rows_count in let d = h.columns_count in grind (arith, get_or-map)
+  size : length beside ≡ how_many prices
+  size = length_permutation priced beside order ∙ zipped
 
-  fit : FitAll cost a rows row_prices h.beside
+  column : (j : ℕ) → j < how_many prices
+      → get_or priced j (b, pos 0) ≡ (get_or columns j b, price_at (column_prices prices) j)
+  column j lt = get_or-zip columns (column_prices prices) j (b, pos 0) (omega arith) (omega (arith, are.columns))
+
+  at : (i j : ℕ) → i < how_many prices → j < how_many prices
+      → cost_at costs i j ≡ cost (get_or rows i a) (get_or columns j b)
+  at i j lt lt' = grind (arith, get_or-map)
+
+  fit : FitAll cost a rows (row_prices prices) beside
   fit i lt =
-      let fits = FitTogether cost (get_or rows i a) (get_or row_prices i (pos 0)) in
-      let inside : i < number = omega (arith, h.rows_count) in
-      All-permutation fits (zip columns prices) h.beside h.order (All-from_get_or fits (zip columns prices) (b, pos 0) (λ j lt'.
-      let within : j < number = omega (arith, zipped) in
-      rw (column j within, ← at i j inside within) (h.fits i j inside within)))
+      let fits_here = FitTogether cost (get_or rows i a) (get_or (row_prices prices) i (pos 0)) in
+      let inside : i < how_many prices = omega arith in
+      All-permutation fits_here priced beside order (All-from_get_or fits_here priced (b, pos 0) (λ j lt'.
+      let within : j < how_many prices = omega (arith, zipped) in
+      rw (column j within, ← at i j inside within) (fits i j inside within)))
 
-  sums : fold (λ sum price. sum +ℤ price) (pos 0) (row_prices ++ prices) ≡ (sum_of row_prices +ℤ prices_with h.beside)
+  sums : price_sum prices ≡ (sum_of (row_prices prices) +ℤ prices_with beside)
   sums =
-      let same = prices_moved columns prices h.beside (h.prices_count ∙ sym h.columns_count) h.order in
-      let both = fold_of_both row_prices prices in
+      let same = prices_moved columns (column_prices prices) beside (are.columns ∙ sym columns_count) order in
+      let both = fold_of_both (row_prices prices) (column_prices prices) in
       omega (arith, ints)
 
-  bound : (pos loose +ℤ fold (λ sum price. sum +ℤ price) (pos 0) (row_prices ++ prices)) ≤ℤ pos lines
-  bound =
-      let below = fitting_prices cost a rows row_prices h.beside (h.rows_count ∙ sym size) (h.rows_count ∙ sym h.row_prices_count) fit in
-      omega (arith, ints, sums, h.enough)
+  below : (pos loose +ℤ price_sum prices) ≤ℤ pos lines
+  below =
+      let many = rows_count ∙ sym are.rows in
+      let fitting = fitting_prices cost a rows (row_prices prices) beside (rows_count ∙ sym size) many fit in
+      omega (arith, ints, sums)
 
-  module _ (exact : pos lines ≡ (pos loose +ℤ fold (λ sum price. sum +ℤ price) (pos 0) (row_prices ++ prices))) where
+  module _ (exact : pos lines ≡ (pos loose +ℤ price_sum prices)) where
     -- the column at place j stands beside the row at place i
-    tight_where : (i j : ℕ) → i < number → j < number → get_or h.beside i (b, pos 0) ≡ get_or (zip columns prices) j (b, pos 0) → TightIn i j
+    tight_where : (i j : ℕ) → i < how_many prices → j < how_many prices
+        → get_or beside i (b, pos 0) ≡ get_or priced j (b, pos 0) → IsTightAt costs prices i j
     tight_where i j lt lt' e =
-        let enough : pos (pairing_cost cost rows h.beside) ≤ℤ (sum_of row_prices +ℤ prices_with h.beside) = omega (arith, ints, sums, h.enough) in
+        let all = sum_of (row_prices prices) +ℤ prices_with beside in
+        let due : pos (pairing_cost cost rows beside) ≤ℤ all = omega (arith, ints, sums) in
         let tight =
-        tight_at cost a rows row_prices h.beside i (b, pos 0) (h.rows_count ∙ sym size) (h.rows_count ∙ sym h.row_prices_count) fit enough (omega (arith, h.rows_count)) in
+        tight_at cost a rows (row_prices prices) beside i (b, pos 0) (rows_count ∙ sym size) (rows_count ∙ sym are.rows)
+        fit due (omega arith) in
         rw (at i j lt lt') (rw (e ∙ column j lt') at tight)
 
-    column_for : (i : ℕ) → i < number → (j : ℕ) × (j < number) × TightIn i j
+    column_for : (i : ℕ) → i < how_many prices → (j : ℕ) × (j < how_many prices) × IsTightAt costs prices i j
     column_for i lt =
-        let there = placed (zip columns prices) h.beside i (b, pos 0) h.order (omega (arith, size)) in
-        let inside : there.0 < number = omega (arith, there.1, zipped) in
+        let there = placed priced beside i (b, pos 0) order (omega (arith, size)) in
+        let inside : there.0 < how_many prices = omega (arith, there.1, zipped) in
         (there.0, inside, tight_where i there.0 lt inside there.2)
 
-    row_for : (j : ℕ) → j < number → (i : ℕ) × (i < number) × TightIn i j
+    row_for : (j : ℕ) → j < how_many prices → (i : ℕ) × (i < how_many prices) × IsTightAt costs prices i j
     row_for j lt =
-        let there =
-        placed h.beside (zip columns prices) j (b, pos 0) (IsPermutation-sym (zip columns prices) h.beside h.order) (omega (arith, zipped)) in
-        let inside : there.0 < number = omega (arith, there.1, size) in
+        let there = placed beside priced j (b, pos 0) (IsPermutation-sym priced beside order) (omega (arith, zipped)) in
+        let inside : there.0 < how_many prices = omega (arith, there.1, size) in
         (there.0, inside, tight_where there.0 j inside lt (sym there.2))
 
--- ---- machines and days
+  bounded : AreBounds costs prices loose lines
+  bounded = record { bound = below; tight = λ exact. record { column_of = column_for exact; row_of = row_for exact } }
 
--- what fitting prices tell of so many lines that lead to the day
-record AreBounds (m : Parts) (s : Day) (prices : PriceParts) (lines : ℕ) : Type 0 where
-  bound : (pos (loose_count m s) +ℤ price_sum prices) ≤ℤ pos lines
-  tight : pos lines ≡ (pos (loose_count m s) +ℤ price_sum prices) → AreTight (cost_table m s) prices
+-- ---- machines and days
 
 pub no_rotors : (model : Model) (reflector : Reflector) → model ≡ M209 → Contains (reflectors_of model) reflector → ⊥
 no_rotors model reflector e h = let none = subst (λ model. Contains (reflectors_of model) reflector) e h in omega (arith, none.1)
 
 bounds : (m n : Parts) (s : Day) (prices : PriceParts) (settings : List Setting) → IsMachine m → IsLegalDay s → ArePrices prices
-    → AreOfKind m prices → Fits (cost_table m s) prices → Leads m settings n → ReadsAs n s → AreBounds m s prices (length settings)
+    → AreOfKind m prices → Fits (cost_table m s) prices → Leads m settings n → ReadsAs n s
+    → AreBounds (cost_table m s) prices (loose_count m s) (length settings)
 bounds (Rotor m) (Rotor n) (OfRotors s) (Cables row column) settings machine legal are kind fits leads reads =
     let at_first = machines_have_all (Rotor m) machine.legal in
     let at_last = list_keeps (Rotor m) (Rotor n) settings leads at_first in
@@ -125,43 +125,18 @@ bounds (Rotor m) (Rotor n) (OfRotors s) (Cables row column) settings machine leg
     let pairing = cables_paired n.cables s.pairs column at_last once legal.pairs.few are.columns reads.key.cables in
     let same = sym (model_of-list (Rotor m) (Rotor n) settings leads) ∙ reads.key.model in
     let falling = list_lowers pairing.beside [] (OfRotors s) legal (Rotor m) (Rotor n) settings same leads in
-    let table : IsTable cable_cost 13 m.cables row (columns_of s.pairs) column (loose_count (Rotor m) (OfRotors s)) (length settings) =
-    record {
-      rows_count = at_first.count;
-      row_prices_count = are.rows;
-      columns_count = thirteen_columns s.pairs legal.pairs.few;
-      prices_count = are.columns;
-      fits = fits;
-      beside = pairing.beside;
-      order = pairing.order;
-      enough = omega (arith, falling, pairing.free, nothing_loose (Rotor n) (OfRotors s) reads);
-    }
-    in
-    record {
-      bound = bound (None, None) None table;
-      tight = λ exact. record { column_of = column_for (None, None) None table exact; row_of = row_for (None, None) None table exact };
-    }
+    bounded (None, None) None cable_cost m.cables (columns_of s.pairs) (Cables row column)
+    (loose_count (Rotor m) (OfRotors s)) (length settings) at_first.count (thirteen_columns s.pairs legal.pairs.few) are
+    fits pairing.beside pairing.order
+    (omega (arith, falling, pairing.free, nothing_loose (Rotor n) (OfRotors s) reads))
 bounds (Pin m) (Pin n) (OfPins s) (Bars row column) settings machine legal are kind fits leads reads =
     let at_first = machines_have_all (Pin m) machine.legal in
     let at_last = list_keeps (Pin m) (Pin n) settings leads at_first in
     let pairing = bars_paired n.bars s.rows column at_last (legal.count ∙ sym are.columns) reads.key.rows in
     let falling = list_lowers [] pairing.beside (OfPins s) legal (Pin m) (Pin n) settings refl leads in
-    let table : IsTable bar_cost 27 m.bars row s.rows column (loose_count (Pin m) (OfPins s)) (length settings) =
-    record {
-      rows_count = at_first.count;
-      row_prices_count = are.rows;
-      columns_count = legal.count;
-      prices_count = are.columns;
-      fits = fits;
-      beside = pairing.beside;
-      order = pairing.order;
-      enough = omega (arith, falling, pairing.free, nothing_loose (Pin n) (OfPins s) reads);
-    }
-    in
-    record {
-      bound = bound (One, One) (0, 0) table;
-      tight = λ exact. record { column_of = column_for (One, One) (0, 0) table exact; row_of = row_for (One, One) (0, 0) table exact };
-    }
+    bounded (One, One) (0, 0) bar_cost m.bars s.rows (Bars row column) (loose_count (Pin m) (OfPins s))
+    (length settings) at_first.count legal.count are fits pairing.beside pairing.order
+    (omega (arith, falling, pairing.free, nothing_loose (Pin n) (OfPins s) reads))
 bounds (Rotor m) (Pin n) (OfPins s) prices settings machine legal are kind fits leads reads =
     absurd (no_rotors m.model m.reflector (sym (model_of-list (Rotor m) (Pin n) settings leads)) machine.legal.reflector)
 bounds (Pin m) (Rotor n) (OfRotors s) prices settings machine legal are kind fits leads reads =
