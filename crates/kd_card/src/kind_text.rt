@@ -82,7 +82,7 @@ fn next_kind(
 
 /// The kinds of a group of things of that name, in lines of which the first is that of this number, and what follows
 /// them. They are in order, each once, and of so many things together.
-#[tactic(auto, using(crate::proofs::KindLists::reads_none))]
+#[tactic(auto, using(crate::proofs::KindPrices::reads_none))]
 pub(crate) fn read_kinds<'a>(
     text: &'a [u8],
     name: Name,
@@ -134,7 +134,7 @@ pub(crate) fn push_kinds<const N: usize>(text: &mut ArrayString<N>, kinds: &[Pri
 }
 
 /// Appends the line of the kind.
-#[tactic(auto, using(crate::proofs::KindWords::line_in_pieces, crate::proofs::PriceTexts::written_price))]
+#[tactic(auto, using(crate::proofs::KindWords::line_in_pieces, crate::proofs::Lines::written_price))]
 fn push_kind<const N: usize>(text: &mut ArrayString<N>, kind: &PricedKind)
     requires room { array_string_len text.old + 24 ≤ N }
     requires kind { IsPricedKind kind.now }

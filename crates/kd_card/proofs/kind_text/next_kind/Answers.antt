@@ -1,5 +1,5 @@
 use Rattle.kd_card.proofs.Prelude.{◌∷◌, ◌∙◌, sym, refl, subst, eqb-true, nil_from_length, HasWords, AtOther, common_steps, arith, option_copied, passed, words_behind}
-use Rattle.kd_card.proofs.CardWords.{same_text, other_text, filled, no_line}
+use Rattle.kd_card.proofs.Lines.{same_text, other_text, filled, no_line}
 use Rattle.kd_card.proofs.KindWords.{ends_at, unended, no_kind, words_are, low_next}
 use Rattle.kd_card.proofs.kind_text.next_kind.Goals as goal
 use Rattle.kd_card.proofs.kind_text.next_kind.Goals.{in_default-via-in-Some+else-floor-rank, in_default-via-in_default}

@@ -1,5 +1,5 @@
 use Rattle.kd_card.proofs.Prelude.{◌∙◌, refl, sym, ap, BadLine, PriceMissing, Refused, Found}
-use Rattle.kd_card.proofs.KindLists.{all_read, reads_on}
+use Rattle.kd_card.proofs.KindPrices.{all_read, reads_on}
 use Rattle.kd_card.proofs.kind_text.read_kinds.Goals as goal
 
 pub returns-in-Err : goal.returns-in-Err

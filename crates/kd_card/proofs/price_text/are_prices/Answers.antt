@@ -3,7 +3,7 @@ use Rattle.std.proofs.lemmas.Iterator.{cases_from_all}
 use Rattle.std.proofs.lemmas.Iterator.Splits.{YieldsList-from_slice_split}
 use Rattle.std.proofs.lemmas.Iterator.Search.{true_from_All}
 use borrow.Author.Tests.{tests}
-use Rattle.kd_card.proofs.PriceTexts.{tells_price}
+use Rattle.kd_card.proofs.Lines.{tells_price}
 use Rattle.kd_card.proofs.price_text.are_prices.Goals as goal
 
 pub returns : goal.returns

@@ -1,5 +1,4 @@
-use Rattle.kd_card.proofs.Lines.{same_words}
-use Rattle.kd_card.proofs.CardWords.{head_has_words}
+use Rattle.kd_card.proofs.Lines.{same_words, head_has_words}
 use Rattle.kd_card.proofs.read.read_head.Goals as goal
 
 pub returns-in_err-behind : goal.returns-in_err-behind

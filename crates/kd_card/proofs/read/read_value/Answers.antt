@@ -1,6 +1,5 @@
 use Rattle.kd_card.proofs.Prelude.{◌∙◌, [], ◌∷◌, sym, ap, drop, subst, false≢true, line_of, IsNumeral, with_line, parts_make_lines}
-use Rattle.kd_card.proofs.Lines.{value_line, same_words, is_line, words_of_last}
-use Rattle.kd_card.proofs.CardWords.{same_text, other_text, numeral_word, value_says, other_value, no_value}
+use Rattle.kd_card.proofs.Lines.{value_line, same_words, is_line, words_of_last, same_text, other_text, numeral_word, value_says, other_value, no_value}
 use Rattle.kd_card.proofs.read.read_value.Goals as goal
 
 pub returns-in_default : goal.returns-in_default
