@@ -1,6 +1,6 @@
 -- What a pairing of cables with pairs, or of bars with rows, costs falls by at most one with each setting that changes a
 -- cable or a bar. Another one puts at most one loose thing right.
-use Rattle.kd_card.proofs.Prelude.{◌≡◌, ℕ, suc, ◌+◌, ◌-◌, ◌≤◌, nat_eq, min, Bool, false, inl, inr, List, [], ◌∷◌, get_or, set, map, fold, count_by, Option, None, unwrap_or, ℤ, sym, ◌∙◌, subst, arith, length, Place, alphabet, RotorParts, Parts, Rotor, Pin, Setting, Pull, Put, LugTo, cable_letters, plugged_letters, IsLegal, has_letter, reasons, why_refused, cable_at, cable_without, cable_with, with_lug, changed, Leads, differ, unless_same, column_letters, cable_cost, lugs_moved, bar_cost, All-set, length-set, numbered, common_steps, All, no_reason, still_before, IsPermutation, refl, true, ◌||◌, ◌⊎◌, not-false, Contains-permutation, IsPermutation-sym, IsDistinct-IsPermutation, IsDistinct-cons, IsDistinct-tail, get_or_from_slice_get, IsDistinct, eqb_flips, free_tells, set_moves, with_moves, without_moves, tests_tell_letters, stands, PinParts, Stands, with_lug_at, ◌≢◌, zero, not, cond, zip, sum, AllPairs, Some, slice_get, ap, AllByRecursion, sum_by, option_map_or, bytes_eq, cases_eq, eq-eqb, recursion_from_All, map-id, sum-map, sum_by-cons, unwrap_or-slice_get, bytes_eq-Decides, Model, wheel_text, reflector_text, Seat, SeatReflector, RingTo, Turn, PinTo, same_wheel, same_reflector, place_in_box, model_of, ring_at, letter_at, seated_in, without, with_letter, RotorDay, PinDay, Day, OfRotors, OfPins, IsLegalDay, day_model, ReadsAs, loose_slots, loose_reflector, loose_rings, loose_letters, loose_pins, loose_pin_letters, loose_count, is_priced, set_other, days_wheels_have_their_places}
+use Rattle.kd_card.proofs.Prelude.{◌≡◌, ℕ, suc, ◌+◌, ◌-◌, ◌≤◌, nat_eq, min, Bool, false, inl, inr, List, [], ◌∷◌, get_or, set, map, fold, count_by, Option, None, unwrap_or, ℤ, sym, ◌∙◌, subst, arith, length, Place, alphabet, RotorParts, Parts, Rotor, Pin, Setting, Pull, Put, LugTo, cable_letters, plugged_letters, IsLegal, has_letter, reasons, why_refused, cable_at, cable_without, cable_with, with_lug, changed, Leads, differ, unless_same, column_letters, cable_cost, lugs_moved, bar_cost, All-set, length-set, numbered, common_steps, All, no_reason, still_before, IsPermutation, refl, true, ◌||◌, ◌⊎◌, not-false, Contains-permutation, IsPermutation-sym, IsDistinct-IsPermutation, IsDistinct-cons, IsDistinct-tail, get_or_from_slice_get, IsDistinct, eqb_flips, free_tells, set_moves, with_moves, without_moves, tests_tell_letters, stands, PinParts, Stands, with_lug_at, ◌≢◌, zero, not, cond, zip, sum, AllPairs, Some, slice_get, ap, AllByRecursion, sum_by, option_map_or, bytes_eq, cases_eq, eq-eqb, recursion_from_All, map-id, sum-map, sum_by-cons, unwrap_or-slice_get, bytes_eq-Decides, Model, wheel_text, reflector_text, Seat, SeatReflector, RingTo, Turn, PinTo, same_wheel, same_reflector, place_in_box, model_of, ring_at, letter_at, seated_in, without, with_letter, RotorDay, PinDay, Day, OfRotors, OfPins, IsLegalDay, day_model, ReadsAs, loose_slots, loose_reflector, loose_rings, loose_letters, loose_pins, loose_pin_letters, loose_count, is_priced, set_other, days_wheels_have_their_places, is_none}
 use Rattle.kd_state.specs.Costs.{standings_as}
 use Rattle.kd_tables.specs.declared.lug.Lug.{Lug}
 use Rattle.kd_card.proofs.Counts.{count_by-cons, zip_set, at_most_one, once_in_alphabet}
@@ -53,23 +53,30 @@ pub record ChangesCable (m : RotorParts) (cable letter : ℕ) (new : Option ℕ 
   pub same : SameBut letter (cable_letters (cable_at m cable)) (cable_letters new)
   pub keeps : HasCables m.cables → HasCables (set m.cables (cable - 1) new)
 
+changes : (m : RotorParts) (cable letter : ℕ) (new : Option ℕ × Option ℕ)
+    → is_none (numbered m.cables cable) ≡ false
+    → SameBut letter (cable_letters (cable_at m cable)) (cable_letters new)
+    → (slice_get m.cables (cable - 1) ≡ Some (cable_at m cable) → IsDistinct nat_eq (plugged_letters m.cables)
+    → IsDistinct nat_eq (plugged_letters (set m.cables (cable - 1) new))) → ChangesCable m cable letter new
+changes m cable letter new some same keeps =
+    let there = (stands m.cables cable (None, None) some).here in
+    record {
+      here = get_or_from_slice_get m.cables (cable - 1) (cable_at m cable) (cable_at m cable) there;
+      same = same;
+      keeps = λ h. record { count = length-set m.cables (cable - 1) new ∙ h.count; apart = keeps there h.apart };
+    }
+
 pub pulls : (m : RotorParts) (cable letter : ℕ) → why_refused (Rotor m) (Pull cable letter) ≡ None
     → ChangesCable m cable letter (cable_without letter (cable_at m cable))
 pulls m cable letter e =
     let allowed = no_reason (reasons (Rotor m) (Pull cable letter)) e in
     let old = cable_at m cable in
     let new = cable_without letter old in
-    let there = (stands m.cables cable (None, None) allowed.0).here in
     let moved = without_moves letter old.0 old.1 (not-false _ allowed.1.0) in
+    let one = one_apart letter (cable_letters new) (cable_letters old) moved in
+    changes m cable letter new allowed.0 one (λ there apart.
     let moves = set_moves [] (letter ∷ []) m.cables (cable - 1) old new there moved in
-    record {
-      here = get_or_from_slice_get m.cables (cable - 1) old old there;
-      same = one_apart letter (cable_letters new) (cable_letters old) moved;
-      keeps = λ h. record {
-        count = length-set m.cables (cable - 1) new ∙ h.count;
-        apart = IsDistinct-tail nat_eq letter _ (IsDistinct-IsPermutation nat_eq eqb_flips _ _ moves h.apart);
-      };
-    }
+    IsDistinct-tail nat_eq letter _ (IsDistinct-IsPermutation nat_eq eqb_flips _ _ moves apart))
 
 pub puts : (m : RotorParts) (cable letter : ℕ) → why_refused (Rotor m) (Put cable letter) ≡ None
     → ChangesCable m cable letter (cable_with letter (cable_at m cable))
@@ -77,19 +84,12 @@ puts m cable letter e =
     let allowed = no_reason (reasons (Rotor m) (Put cable letter)) e in
     let old = cable_at m cable in
     let new = cable_with letter old in
-    let there = (stands m.cables cable (None, None) allowed.0).here in
     let moved = with_moves letter old.0 old.1 allowed.1.0 in
-    let moves = set_moves (letter ∷ []) [] m.cables (cable - 1) old new there moved in
     let one = one_apart letter (cable_letters old) (cable_letters new) (IsPermutation-sym _ _ moved) in
     let free = (free_tells (plugged_letters m.cables) letter).0 allowed.1.1.0 in
-    record {
-      here = get_or_from_slice_get m.cables (cable - 1) old old there;
-      same = λ l. elim (one l) [ inl e ↦ inl (sym e) | inr e ↦ inr e ];
-      keeps = λ h. record {
-        count = length-set m.cables (cable - 1) new ∙ h.count;
-        apart = IsDistinct-IsPermutation nat_eq eqb_flips _ _ moves (IsDistinct-cons nat_eq letter _ free h.apart);
-      };
-    }
+    changes m cable letter new allowed.0 (λ l. elim (one l) [ inl e ↦ inl (sym e) | inr e ↦ inr e ]) (λ there apart.
+    let moves = set_moves (letter ∷ []) [] m.cables (cable - 1) old new there moved in
+    IsDistinct-IsPermutation nat_eq eqb_flips _ _ moves (IsDistinct-cons nat_eq letter _ free apart))
 
 counted_apart : (letters others wanted : List ℕ) (x : ℕ) → SameBut x letters others → (alphabet : List ℕ)
     → count_by (λ letter. differ (has_letter letters letter) (has_letter wanted letter)) alphabet

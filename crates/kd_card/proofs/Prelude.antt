@@ -1,24 +1,22 @@
 -- What the proofs of this crate speak of.
 pub use Rattle.std.proofs.lemmas.{Grind.common_steps, List.Concat.flat_map-append, Result.err_from_is_err_and}
-pub use Rattle.std.proofs.Common.{AllPairs, Bool, Bor, Contains, Decides, Err, FitsSigned, IsPermutation, IsTrue, List, MatchOption, MatchResult, None, Ok, Option, Result, Some, [], ap, append_assoc, arith, codes, cond, count_by, decimal, drop, eqb, false, fold, get_or, inl, inr, is_some, length, length-append, ltb, map, min, nat_eq, negsuc, not, of_z, pos, refl, remove, replicate, rules, set, slice_get, subst, suc, sum, sym, take, to_z, true, unsigned_abs, unwrap_or, w16, w32, zero, zip, ℕ, ℤ, ◌*◌, ◌++◌, ◌+ℤ◌, ◌+◌, ◌-◌, ◌<◌, ◌^◌, ◌||◌, ◌↔◌, ◌∙◌, ◌∷◌, ◌≡◌, ◌≢◌, ◌≤ℤ◌, ◌≤◌, ◌⊎◌}
+pub use Rattle.std.proofs.Common.{AllPairs, Bool, Bor, Contains, Decides, Err, FitsSigned, IsPermutation, IsTrue, List, MatchOption, MatchResult, None, Ok, Option, Result, Some, [], ap, append_assoc, arith, codes, cond, count_by, decimal, drop, eqb, false, fold, get_or, inl, inr, is_none, is_some, length, length-append, ltb, map, min, nat_eq, negsuc, not, of_z, pos, refl, remove, replicate, rules, set, slice_get, subst, suc, sum, sym, take, to_z, true, unsigned_abs, unwrap_or, w16, w32, zero, zip, ℕ, ℤ, ◌*◌, ◌++◌, ◌+ℤ◌, ◌+◌, ◌-◌, ◌<◌, ◌^◌, ◌||◌, ◌↔◌, ◌∙◌, ◌∷◌, ◌≡◌, ◌≢◌, ◌≤ℤ◌, ◌≤◌, ◌⊎◌}
 pub use Rattle.std.proofs.Math.Seq.{drop-cons}
 pub use Rattle.std.proofs.lemmas.Bool.{cases_eq, eq-eqb, eqb-true, false≢true, ltb-true, ne_eqb, not-false}
-pub use Rattle.std.proofs.lemmas.Bool.Decides.{Decides-eqb, eqb_tells}
+pub use Rattle.std.proofs.lemmas.{Bool.Decides.Decides-eqb, Bool.Decides.eqb_tells, Int.fits_signed_from_abs, Int.ints}
+pub use Rattle.std.proofs.lemmas.{Int.to_z-of_z, List.Folds.flat_map-map, Option.get_or_from_slice_get}
+pub use Rattle.std.proofs.lemmas.{Option.unwrap_or-slice_get, Slice.Eq.bytes_eq-Decides, Slice.Eq.slice_eq-Decides}
+pub use Rattle.std.proofs.lemmas.{Map.Made.Contains-tail, Map.Made.IsDistinct-from_count}
 pub use Rattle.std.proofs.lemmas.Fmt.{IsAscii-signed, decimal_digit, decimal_injective, decimal_nonempty, digits_decimal, first_decimal, length-decimal-le, parse-signed_decimal, signed_decimal_injective}
-pub use Rattle.std.proofs.lemmas.Int.{fits_signed_from_abs, ints, to_z-of_z}
 pub use Rattle.std.proofs.lemmas.List.{append-nil, get_or-map, get_or_at, get_or_default, length-map, length-replicate, length-set, length-take-le, length_push, map-id, nil_from_length, take-append-drop, take_all, take_more}
 pub use Rattle.std.proofs.lemmas.List.Elements.{All-append, All-cons, All-contains, All-from_get_or, All-from_recursion, All-map, All-more, All-nil, All-replicate, All-set, All-weaker, recursion_from_All, All-head, All-tail, Contains-append_right, Contains-get_or}
-pub use Rattle.std.proofs.lemmas.List.Folds.{flat_map-map}
 pub use Rattle.std.proofs.lemmas.List.Sorted.{All-permutation, Contains-permutation, IsPermutation-cons, IsPermutation-keeps, IsPermutation-refl, IsPermutation-remove, IsPermutation-swap, IsPermutation-sym, IsPermutation-trans, length_permutation, sum_by-IsPermutation, IsPermutation-map}
 pub use Rattle.std.proofs.lemmas.List.Sums.{AllPass-from_list_all, fold-append, get_or-le-sum_by, sum-map, sum_by-append, sum_by-cons}
 pub use Rattle.std.proofs.lemmas.Map.Keys.{IsDistinct-IsPermutation, IsDistinct-cons, IsDistinct-head, IsDistinct-tail}
-pub use Rattle.std.proofs.lemmas.Option.{get_or_from_slice_get, unwrap_or-slice_get}
-pub use Rattle.std.proofs.lemmas.Slice.Eq.{bytes_eq-Decides, slice_eq-Decides}
 pub use Rattle.std.proofs.lemmas.Slice.Zip.{AllZip-long, get_or-zip, length-zip, seconds-zip}
 pub use Rattle.std.specs.{Bool.then_some, Fmt.signed_decimal, Str.IsUtf8, Str.bytes_eq}
 pub use Rattle.std.specs.List.{All, AllByRecursion, AllZip, IsDistinct, flat_map, list_all, sum_by}
-pub use Rattle.std.specs.Option.{option_map_or, option_copied}
-pub use Rattle.std.specs.Str.Parse.{ParsesSigned, digits_value}
+pub use Rattle.std.specs.{Option.option_map_or, Option.option_copied, Str.Parse.ParsesSigned, Str.Parse.digits_value}
 pub use Rattle.arrayvec.specs.ArrayString.{array_string_len}
 pub use Rattle.kd_card.specs.CardFault.{AtNothing, AtOther, BeginsWithHead, BeginsWithKinds, BeginsWithSettings, BeginsWithWord, EndsGroup, HasNoNext, HasWords, IsDigit, IsNextKind, IsNumberText, IsPriceText, IsNumeral, SaysAllPrices, SaysBehind, SaysCard, SaysFirst, SaysGroup, SaysKinded, SaysLine, SaysNumbered, SaysPriceLine, SaysPrices, SaysSettings, SaysValue, floor_behind, with_line}
 pub use Rattle.kd_card.specs.CardText.{HaveKinds, IsCard, IsGroup, card_text, column_name, column_word, group_of, head_words, lines_text, price_count, price_lines, price_words, row_name, row_word, settings_words, sum_words, version_text}
@@ -57,6 +55,4 @@ pub use Rattle.kd_tables.specs.Places.{IsBefore, place_rank, place_text, places,
 pub use Rattle.kd_tables.specs.Tables.{reflector_text, reflectors_of, wheel_text}
 pub use Rattle.kd_tables.specs.declared.place.Place.TheVariants.{One}
 pub use lib.Pointwise.{pointwise}
-pub use Rattle.std.proofs.lemmas.Map.Made.{Contains-tail, IsDistinct-from_count}
-pub use Rattle.kd_card.specs.Reading.{EndsAt, IsBadAt, words_behind}
-pub use Rattle.kd_card.specs.declared.fault.CardFault.{CardFault}
+pub use Rattle.kd_card.specs.{Reading.EndsAt, Reading.IsBadAt, Reading.words_behind, declared.fault.CardFault.CardFault}
