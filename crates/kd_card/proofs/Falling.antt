@@ -134,9 +134,9 @@ lug_moves m ws bar lug place e =
     let cost = pairing_cost bar_cost m.bars ws in
     subst (λ bars. (cost ≤ pairing_cost bar_cost bars ws + 1) × (HasBars m.bars → HasBars bars)) (sym all) (
       zip_set (λ pair. bar_cost pair.0 pair.1.0) m.bars ws (bar - 1) new old (λ w.
-      let step = lugs_moved_step lug place old in
-      subst (λ was. bar_cost was w.0 ≤ bar_cost new w.0 + 1) (sym here)
-      (least_falls (lugs_moved old) (lugs_moved new) step (standings_as w.0) 2 2 (omega arith))),
+          let step = lugs_moved_step lug place old in
+          subst (λ was. bar_cost was w.0 ≤ bar_cost new w.0 + 1) (sym here)
+          (least_falls (lugs_moved old) (lugs_moved new) step (standings_as w.0) 2 2 (omega arith))),
       λ h. record {
         count = length-set m.bars (bar - 1) new ∙ h.count;
         stand = All-set Stands m.bars (bar - 1) new before h.stand;

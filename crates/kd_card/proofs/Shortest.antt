@@ -106,9 +106,11 @@ all_empty : (cables : List (Option ℕ × Option ℕ)) (number : ℕ) → length
     → AllZip CostsNothing cables (replicate number None)
 all_empty [] zero e h = tt
 all_empty (cable ∷ cables) (suc number) e h =
-    let here = empty_costs_nothing cable (h cable (zero, omega arith, refl)) in
-    (here, all_empty cables number (omega arith) (λ other among.
-    h other (Contains-append_right (cable ∷ []) cables other among)))
+    let here = empty_costs_nothing cable (h cable (zero, omega arith, refl)) in (
+      here,
+      all_empty cables number (omega arith) (λ other among.
+          h other (Contains-append_right (cable ∷ []) cables other among)),
+    )
 all_empty cables number e h = absurd (omega arith)
 
 -- the cables in an order in which each costs nothing at its column
