@@ -41,13 +41,7 @@ look_is_word look = grind (arith, bytes_are_word, word_by_bytes, length-append, 
 
 pub kind_is_words : (kind : PricedKind) → IsPricedKind kind → All IsWord (kind_words kind)
 kind_is_words kind good =
-    All-from_recursion IsWord (kind_words kind) (
-      name_is_word (look_name kind.look),
-      (
-        look_is_word kind.look,
-        (numbers_are_words kind.count (omega arith), (signed_word kind.price (omega arith), tt)),
-      ),
-    )
+    grind (arith, All-from_recursion, name_is_word, look_is_word, numbers_are_words, signed_word)
 
 -- ---- looks by their texts
 

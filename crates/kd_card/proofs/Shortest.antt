@@ -7,8 +7,7 @@ use Rattle.std.proofs.lemmas.List.Edits.{length-remove}
 use Rattle.kd_card.proofs.Duality.{pairing_cost, reordered, fold_of_both, prices_moved, fitting_prices, tight_at, sum_of, prices_with, FitTogether, FitAll}
 use Rattle.kd_card.proofs.Counts.{count_by-cons, times, times-append, AreOnce, once_of_distinct}
 use Rattle.kd_card.proofs.Falling.{HasCables, HasBars, not_differing, machines_have_all, list_keeps, left, lowers, leaves, model_of-changed, nothing_loose}
-use Rattle.kd_tables.specs.declared.model.Model.TheVariants.{M209}
-use Rattle.kd_tables.specs.declared.reflector.Reflector.{Reflector}
+use Rattle.kd_tables.specs.declared.{model.Model.TheVariants.M209, reflector.Reflector.Reflector}
 
 -- a cable with the letters of its column costs nothing
 none_differ : (xs ys : List ℕ) → ((letter : ℕ) → has_letter xs letter ≡ has_letter ys letter) → (letters : List ℕ) → count_by (λ letter. differ (has_letter xs letter) (has_letter ys letter)) letters ≡ 0
@@ -106,11 +105,10 @@ all_empty : (cables : List (Option ℕ × Option ℕ)) (number : ℕ) → length
     → AllZip CostsNothing cables (replicate number None)
 all_empty [] zero e h = tt
 all_empty (cable ∷ cables) (suc number) e h =
-    let here = empty_costs_nothing cable (h cable (zero, omega arith, refl)) in (
-      here,
-      all_empty cables number (omega arith) (λ other among.
-          h other (Contains-append_right (cable ∷ []) cables other among)),
-    )
+    let here = empty_costs_nothing cable (h cable (zero, omega arith, refl)) in
+    let later = λ (other : Option ℕ × Option ℕ) (among : Contains cables other).
+    h other (Contains-append_right (cable ∷ []) cables other among) in
+    (here, all_empty cables number (omega arith) later)
 all_empty cables number e h = absurd (omega arith)
 
 -- the cables in an order in which each costs nothing at its column
