@@ -1,5 +1,5 @@
 -- How often letters are among others.
-use Rattle.kd_card.proofs.Prelude.{◌≡◌, ℕ, zero, suc, ◌+◌, ◌≤◌, nat_eq, set, get_or, zip, sum_by, Bool, false, cond, inl, inr, List, [], ◌∷◌, ◌++◌, count_by, refl, ap, ◌∙◌, arith, AllByRecursion, IsDistinct, eqb_tells, sum_by-append, sum_by-cons, alphabet, IsDistinct-head, IsDistinct-tail, IsDistinct-from_count}
+use Rattle.kd_card.proofs.Prelude.{◌≡◌, ℕ, zero, suc, ◌+◌, ◌≤◌, nat_eq, set, get_or, zip, sum_by, Bool, false, cond, List, [], ◌∷◌, ◌++◌, count_by, refl, arith, AllByRecursion, IsDistinct, eqb_tells, sum_by-append, sum_by-cons, alphabet, IsDistinct-head, IsDistinct-tail, IsDistinct-from_count, common_steps}
 use Rattle.std.proofs.lemmas.Cmp.{nat_eq_equiv}
 
 -- one more element to count
@@ -31,19 +31,14 @@ AreOnce letters = (letter : ℕ) → times letter letters ≤ 1
 times_apart : (letter : ℕ) (letters : List ℕ) → AllByRecursion (λ other. nat_eq letter other ≡ false) letters
     → times letter letters ≡ 0
 times_apart letter [] h = refl
-times_apart letter (other ∷ letters) h =
-    count_by-cons (nat_eq letter) other letters ∙ rw (h.0, times_apart letter letters h.1) refl
+times_apart letter (other ∷ letters) h = grind (arith, common_steps, count_by-cons, times_apart letter letters h.1)
 
 pub once_of_distinct : (letters : List ℕ) → IsDistinct nat_eq letters → AreOnce letters
 once_of_distinct [] distinct letter = omega arith
 once_of_distinct (other ∷ letters) distinct letter =
-    let more = count_by-cons (nat_eq letter) other letters in
     let none = times_apart other letters (IsDistinct-head nat_eq other letters distinct) in
     let rest = once_of_distinct letters (IsDistinct-tail nat_eq other letters distinct) letter in
-    elim (eqb_tells letter other) [
-      | inl here ↦ let same = ap (λ x. times x letters) here.1 in omega (arith, at_most_one (nat_eq letter other))
-      | inr away ↦ let head = ap (λ b. cond {A = ℕ} b 1 0) away.0 in omega arith
-    ]
+    grind (arith, common_steps, count_by-cons, at_most_one, eqb_tells)
 
 pub once_in_alphabet : AreOnce alphabet
 once_in_alphabet = once_of_distinct alphabet (IsDistinct-from_count nat_eq_equiv alphabet refl)

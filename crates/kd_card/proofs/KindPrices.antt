@@ -174,14 +174,7 @@ pub record HasRead (name : Name) (line : ℕ) (text rest : List ℕ) (floor tota
 
 pub reads_none : (name : Name) (line : ℕ) (text : List ℕ) (kept : List PricedKind) → kept ≡ []
     → HasRead name line text text 0 0 line kept
-reads_none name line text kept none = subst (HasRead name line text text 0 0 line) (sym none) (record {
-  goes_on = λ more end begins. begins;
-  low = omega arith;
-  most = omega arith;
-  few = omega arith;
-  total_is = refl;
-  at_is = omega arith;
-})
+reads_none name line text kept none = grind arith
 
 pub reads_on : {name : Name} {line : ℕ} {text rest after : List ℕ} {floor total at count rank : ℕ} {kept more : List PricedKind} {kind : PricedKind}
     → HasRead name line text rest floor total at kept → IsNextKind name floor rest kind after → rank ≡ look_rank kind.look → rank < 703

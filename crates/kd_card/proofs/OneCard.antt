@@ -1,5 +1,5 @@
 -- Bytes are one card, or have one fault.
-use Rattle.kd_card.proofs.Prelude.{Bool, true, false, codes, ◌≡◌, ◌≢◌, ℕ, ◌+◌, ◌*◌, ◌^◌, ◌<◌, ◌≤◌, List, [], ◌∷◌, ◌++◌, length, map, get_or, Result, Ok, Err, refl, sym, ap, subst, ◌∙◌, arith, ℤ, unsigned_abs, append_assoc, AllByRecursion, signed_decimal, decimal_injective, signed_decimal_injective, append-nil, recursion_from_All, Setting, IsWord, setting_line, list_text, IsInRange, BeginsWith, BeginsWithNoLine, PriceParts, Cables, Bars, CableKinds, BarKinds, Version, ByNumber, ByKind, Group, OfCables, OfBars, Name, PricedKind, Trailing, Then, Refused, Found, Only, Demands, look_rank, name_text, kind_words, kinds_text, AreKinds, AreCalled, version_of, row_kinds, column_kinds, price_sum, AreWithinReach, ArePrices, group_of, row_word, column_word, row_name, column_name, price_count, version_text, settings_words, price_words, sum_words, lines_text, price_lines, card_text, IsGroup, IsCard, with_line, SaysValue, SaysFirst, BeginsWithHead, BeginsWithSettings, SaysSettings, SaysPriceLine, SaysNumbered, BeginsWithWord, EndsGroup, AtOther, IsNextKind, floor_behind, SaysGroup, SaysKinded, SaysAllPrices, SaysBehind, SaysCard, TextsTellCards, NoCardBeginsAnother, CardsHaveNoFault, OneCardFault, common_steps, line_has_no_break, lines_tell_settings, texts_tell_first_parts, word_by_test, BeginsWithKinds, CardsAreSaid, IsOnly, only_demands, only_finds, only_only, only_takes, only_then, passed, same_ok, CardFault, head_words}
+use Rattle.kd_card.proofs.Prelude.{Bool, true, false, codes, ◌≡◌, ◌≢◌, ℕ, ◌+◌, ◌*◌, ◌^◌, ◌<◌, ◌≤◌, List, [], ◌∷◌, ◌++◌, length, map, get_or, Result, Ok, Err, refl, sym, ap, subst, ◌∙◌, arith, ℤ, unsigned_abs, append_assoc, AllByRecursion, signed_decimal, decimal_injective, signed_decimal_injective, append-nil, recursion_from_All, Setting, IsWord, setting_line, list_text, IsInRange, BeginsWith, BeginsWithNoLine, PriceParts, Cables, Bars, CableKinds, BarKinds, Version, ByNumber, ByKind, Group, OfCables, OfBars, Name, PricedKind, Trailing, Then, Refused, Found, Only, Demands, look_rank, name_text, kinds_text, AreKinds, AreCalled, version_of, row_kinds, column_kinds, price_sum, AreWithinReach, ArePrices, group_of, row_word, column_word, row_name, column_name, price_count, version_text, settings_words, price_words, sum_words, lines_text, price_lines, card_text, IsGroup, IsCard, with_line, SaysValue, SaysFirst, BeginsWithHead, BeginsWithSettings, SaysSettings, SaysPriceLine, SaysNumbered, BeginsWithWord, EndsGroup, AtOther, IsNextKind, floor_behind, SaysGroup, SaysKinded, SaysAllPrices, SaysBehind, SaysCard, TextsTellCards, NoCardBeginsAnother, CardsHaveNoFault, OneCardFault, common_steps, line_has_no_break, lines_tell_settings, texts_tell_first_parts, word_by_test, BeginsWithKinds, CardsAreSaid, IsOnly, only_demands, only_finds, only_only, only_takes, only_then, passed, same_ok, CardFault, head_words, kind_words}
 use Rattle.kd_card.specs.CardFault.{numbered}
 use Rattle.kd_card.proofs.Lines.{line_has_words, value_line, same_words, text_of_more, two_lines, card_and_more, small, numeral_word, signed_word, head_has_words, first_is_word, prices_are_words, number_text, signed_text, price_sum_is_small, value_says, value_said, first_says, HasPrices, line_said, group_said}
 use Rattle.kd_card.proofs.KindWords.{kind_is_words, kind_begins, end_has_no_next, same_kind}
@@ -318,10 +318,7 @@ lists_end (x ∷ xs) (y ∷ ys) rest more a b none e =
 
 lists_meet : {body : List ℕ} {xs ys : List Setting} {rest more : List ℕ} → BeginsWithSettings body xs rest
     → BeginsWith body ys more → (length ys ≤ length xs) × (BeginsWithNoLine more → (xs ≡ ys) × (rest ≡ more))
-lists_meet {xs} {ys} {rest} {more} a b =
-    let first = recursion_from_All IsInRange xs a.lines.in_range in
-    let other = recursion_from_All IsInRange ys b.in_range in
-    lists_end xs ys rest more first other a.none_more (sym a.lines.lines ∙ b.lines)
+lists_meet {xs} {ys} {rest} {more} a b = grind (arith, lists_end xs ys rest more, recursion_from_All)
 
 not_too_many : {body : List ℕ} {xs ys : List Setting} {rest more : List ℕ} → BeginsWithSettings body xs rest
     → BeginsWith body ys more → length ys ≡ 193 → ⊥
