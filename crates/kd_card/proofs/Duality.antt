@@ -1,8 +1,5 @@
 -- Prices that fit bound from below what any pairing of rows and columns costs.
-use Rattle.kd_card.proofs.Prelude.{◌≡◌, ℕ, zero, suc, ◌<◌, List, [], ◌∷◌, ◌++◌, length, get_or, set, map, zip, fold, ℤ, pos, ◌+ℤ◌, ◌≤ℤ◌, ◌∙◌, ap, IsPermutation, refl, arith, All, AllZip, ints, fold-append, sum_by-cons, sum_by-IsPermutation, IsPermutation-keeps, IsPermutation-refl, IsPermutation-trans, IsPermutation-swap, AllZip-long, common_steps}
-use Rattle.std.proofs.lemmas.List.Elements.{All-head, All-tail}
-use Rattle.std.proofs.lemmas.List.Sorted.{IsPermutation-map}
-use Rattle.std.proofs.lemmas.Slice.Zip.{seconds-zip}
+use Rattle.kd_card.proofs.Prelude.{◌≡◌, ℕ, zero, suc, ◌<◌, List, [], ◌∷◌, ◌++◌, length, get_or, set, map, zip, fold, ℤ, pos, ◌+ℤ◌, ◌≤ℤ◌, ◌∙◌, ap, IsPermutation, refl, arith, All, AllZip, ints, fold-append, sum_by-cons, sum_by-IsPermutation, IsPermutation-keeps, IsPermutation-refl, IsPermutation-trans, IsPermutation-swap, AllZip-long, common_steps, All-head, All-tail, IsPermutation-map, seconds-zip}
 use Rattle.std.specs.List as lists
 use borrow.Author.Differences.{up, down}
 

@@ -1,14 +1,91 @@
 -- What a pairing of cables with pairs, or of bars with rows, costs falls by at most one with each setting that changes a
--- cable or a bar, and doesn't change with the others.
-use Rattle.kd_card.proofs.Prelude.{◌≡◌, ℕ, zero, suc, ◌+◌, ◌-◌, ◌≤◌, nat_eq, min, Bool, false, inl, inr, List, [], ◌∷◌, get_or, set, map, fold, count_by, Option, Some, None, unwrap_or, slice_get, ℤ, sym, ap, ◌∙◌, subst, arith, length, option_map, option_map_or, unwrap_or-slice_get, Place, alphabet, RotorParts, Parts, Rotor, Pin, Setting, Pull, Put, LugTo, cable_letters, plugged_letters, IsLegal, has_letter, is_at, reasons, why_refused, cable_at, cable_without, cable_with, with_lug, changed, lies_beyond, other_lug, lug_place, Leads, differ, unless_same, column_letters, cable_cost, lugs_moved, bar_cost, All-set, length-set, numbered, common_steps, All, no_reason, still_before}
-use Rattle.kd_state.specs.Costs.{standings_as}
-use Rattle.kd_state.specs.Setting.{Stands}
-use Rattle.kd_tables.specs.declared.lug.Lug.{Lug}
-use Rattle.kd_card.proofs.Counts.{count_by-cons, zip_set, at_most_one, once_in_alphabet, times, times-append, AreOnce, once_of_distinct, once_more, SameBut, same_but, same_but-sym, pulled, put, times_more}
+-- cable or a bar. Another one puts at most one loose thing right.
+use Rattle.kd_card.proofs.Prelude.{◌≡◌, ℕ, suc, ◌+◌, ◌-◌, ◌≤◌, nat_eq, min, Bool, false, inl, inr, List, [], ◌∷◌, get_or, set, map, fold, count_by, Option, None, unwrap_or, ℤ, sym, ◌∙◌, subst, arith, length, Place, alphabet, RotorParts, Parts, Rotor, Pin, Setting, Pull, Put, LugTo, cable_letters, plugged_letters, IsLegal, has_letter, reasons, why_refused, cable_at, cable_without, cable_with, with_lug, changed, Leads, differ, unless_same, column_letters, cable_cost, lugs_moved, bar_cost, All-set, length-set, numbered, common_steps, All, no_reason, still_before, IsPermutation, refl, true, ◌||◌, ◌⊎◌, not-false, Contains-permutation, IsPermutation-sym, IsDistinct-IsPermutation, IsDistinct-cons, IsDistinct-tail, get_or_from_slice_get, IsDistinct, eqb_flips, free_tells, set_moves, with_moves, without_moves, tests_tell_letters, stands, PinParts, Stands, with_lug_at, ◌≢◌, zero, not, cond, zip, sum, AllPairs, Some, slice_get, ap, AllByRecursion, sum_by, option_map_or, bytes_eq, cases_eq, eq-eqb, recursion_from_All, map-id, sum-map, sum_by-cons, unwrap_or-slice_get, bytes_eq-Decides, Model, wheel_text, reflector_text, Seat, SeatReflector, RingTo, Turn, PinTo, same_wheel, same_reflector, place_in_box, model_of, ring_at, letter_at, seated_in, without, with_letter, RotorDay, PinDay, Day, OfRotors, OfPins, IsLegalDay, day_model, ReadsAs, loose_slots, loose_reflector, loose_rings, loose_letters, loose_pins, loose_pin_letters, loose_count, is_priced, set_other, days_wheels_have_their_places, is_none}
+use Rattle.kd_state.specs.{Costs.standings_as, declared.sheet_day.rotor_entry.SheetWheel.SheetWheel, Pins.pin_set}
+use Rattle.kd_state.specs.{Pins.wheel_pins, Pins.with_pin}
+use Rattle.kd_tables.specs.{declared.lug.Lug.Lug, declared.wheel.Wheel.Wheel, Rings.ring_of, Rings.place_on}
+use Rattle.kd_card.proofs.Counts.{count_by-cons, zip_set, at_most_one, once_in_alphabet}
 use Rattle.kd_card.proofs.Duality.{pairing_cost}
+use Rattle.kd_pins.specs.{declared.pin_set.PinSet.PinSet, PinWheels.pins_of}
 
 pub not_differing : (b : Bool) → differ b b ≡ false
 not_differing b = grind arith
+
+pub one_less : (place : ℕ) → suc place - 1 ≡ place
+one_less place = omega arith
+
+-- What holds of a machine's cables, or bars, and is kept by every setting.
+pub record HasCables (cables : List (Option ℕ × Option ℕ)) : Type 0 where
+  pub count : length cables ≡ 13
+  pub apart : IsDistinct nat_eq (plugged_letters cables)
+
+pub record HasBars (bars : List (Place × Place)) : Type 0 where
+  pub count : length bars ≡ 27
+  pub stand : All Stands bars
+
+-- ---- a letter is pulled out of a cable, or put into one
+
+-- the letters are the same, one letter apart
+abbrev pub SameBut : ℕ → List ℕ → List ℕ → Type 0
+SameBut x letters others =
+    (letter : ℕ) → (has_letter letters letter ≡ has_letter others letter) ⊎ (nat_eq x letter ≡ true)
+
+in_front : (t h g : Bool) → h ≡ (t || g) → (h ≡ g) ⊎ (t ≡ true)
+in_front t h g e = grind arith
+
+one_apart : (x : ℕ) (fewer letters : List ℕ) → IsPermutation letters (x ∷ fewer) → SameBut x letters fewer
+one_apart x fewer letters order letter =
+    let back = IsPermutation-sym letters (x ∷ fewer) order in
+    let same = (tests_tell_letters letters (x ∷ fewer)).0 (λ l. (
+      Contains-permutation letters (x ∷ fewer) l order,
+      Contains-permutation (x ∷ fewer) letters l back,
+    ))
+    in
+    in_front (nat_eq x letter) (has_letter letters letter) (has_letter fewer letter) (same letter)
+
+-- this is made of the cable of that number, as the letter is pulled or put
+pub record ChangesCable (m : RotorParts) (cable letter : ℕ) (new : Option ℕ × Option ℕ) : Type 0 where
+  pub here : get_or m.cables (cable - 1) (cable_at m cable) ≡ cable_at m cable
+  pub same : SameBut letter (cable_letters (cable_at m cable)) (cable_letters new)
+  pub keeps : HasCables m.cables → HasCables (set m.cables (cable - 1) new)
+
+changes : (m : RotorParts) (cable letter : ℕ) (new : Option ℕ × Option ℕ)
+    → is_none (numbered m.cables cable) ≡ false
+    → SameBut letter (cable_letters (cable_at m cable)) (cable_letters new)
+    → (slice_get m.cables (cable - 1) ≡ Some (cable_at m cable) → IsDistinct nat_eq (plugged_letters m.cables)
+    → IsDistinct nat_eq (plugged_letters (set m.cables (cable - 1) new))) → ChangesCable m cable letter new
+changes m cable letter new some same keeps =
+    let there = (stands m.cables cable (None, None) some).here in
+    record {
+      here = get_or_from_slice_get m.cables (cable - 1) (cable_at m cable) (cable_at m cable) there;
+      same = same;
+      keeps = λ h. record { count = length-set m.cables (cable - 1) new ∙ h.count; apart = keeps there h.apart };
+    }
+
+pub pulls : (m : RotorParts) (cable letter : ℕ) → why_refused (Rotor m) (Pull cable letter) ≡ None
+    → ChangesCable m cable letter (cable_without letter (cable_at m cable))
+pulls m cable letter e =
+    let allowed = no_reason (reasons (Rotor m) (Pull cable letter)) e in
+    let old = cable_at m cable in
+    let new = cable_without letter old in
+    let moved = without_moves letter old.0 old.1 (not-false _ allowed.1.0) in
+    let one = one_apart letter (cable_letters new) (cable_letters old) moved in
+    changes m cable letter new allowed.0 one (λ there apart.
+    let moves = set_moves [] (letter ∷ []) m.cables (cable - 1) old new there moved in
+    IsDistinct-tail nat_eq letter _ (IsDistinct-IsPermutation nat_eq eqb_flips _ _ moves apart))
+
+pub puts : (m : RotorParts) (cable letter : ℕ) → why_refused (Rotor m) (Put cable letter) ≡ None
+    → ChangesCable m cable letter (cable_with letter (cable_at m cable))
+puts m cable letter e =
+    let allowed = no_reason (reasons (Rotor m) (Put cable letter)) e in
+    let old = cable_at m cable in
+    let new = cable_with letter old in
+    let moved = with_moves letter old.0 old.1 allowed.1.0 in
+    let one = one_apart letter (cable_letters old) (cable_letters new) (IsPermutation-sym _ _ moved) in
+    let free = (free_tells (plugged_letters m.cables) letter).0 allowed.1.1.0 in
+    changes m cable letter new allowed.0 (λ l. elim (one l) [ inl e ↦ inl (sym e) | inr e ↦ inr e ]) (λ there apart.
+    let moves = set_moves (letter ∷ []) [] m.cables (cable - 1) old new there moved in
+    IsDistinct-IsPermutation nat_eq eqb_flips _ _ moves (IsDistinct-cons nat_eq letter _ free apart))
 
 counted_apart : (letters others wanted : List ℕ) (x : ℕ) → SameBut x letters others → (alphabet : List ℕ)
     → count_by (λ letter. differ (has_letter letters letter) (has_letter wanted letter)) alphabet
@@ -17,40 +94,17 @@ counted_apart letters others wanted x same [] = omega arith
 counted_apart letters others wanted x same (letter ∷ alphabet) =
     grind (arith, common_steps, count_by-cons, counted_apart letters others wanted x same alphabet, same, at_most_one)
 
-pub one_less : (place : ℕ) → suc place - 1 ≡ place
-one_less place = omega arith
+pub cables_fall : (m : RotorParts) (cable letter : ℕ) (new : Option ℕ × Option ℕ) (ws : List (Option (ℕ × ℕ) × ℤ))
+    → ChangesCable m cable letter new
+    → pairing_cost cable_cost m.cables ws ≤ pairing_cost cable_cost (set m.cables (cable - 1) new) ws + 1
+cables_fall m cable letter new ws c =
+    let old = cable_at m cable in
+    zip_set (λ pair. cable_cost pair.0 pair.1.0) m.cables ws (cable - 1) new old (λ w.
+    let fewer = counted_apart (cable_letters old) (cable_letters new) (column_letters w.0) letter c.same alphabet in
+    subst (λ was. cable_cost was w.0 ≤ cable_cost new w.0 + 1) (sym c.here) (omega (arith, once_in_alphabet letter)))
 
--- One cable is changed.
-cables_fall : (m : RotorParts) (place : ℕ) (now : Option ℕ × Option ℕ) (ws : List (Option (ℕ × ℕ) × ℤ)) (x : ℕ)
-    → SameBut x (cable_letters (cable_at m (suc place))) (cable_letters now)
-    → pairing_cost cable_cost m.cables ws ≤ pairing_cost cable_cost (set m.cables (suc place - 1) now) ws + 1
-cables_fall m place now ws x same =
-    rw (one_less place)
-    (zip_set (λ pair. cable_cost pair.0 pair.1.0) m.cables ws place now (None, None) (λ w.
-    subst (λ cable. cable_cost cable w.0 ≤ cable_cost now w.0 + 1) (unwrap_or-slice_get m.cables place (None, None))
-    (omega (arith, counted_apart (cable_letters (cable_at m (suc place))) (cable_letters now) (column_letters w.0) x same alphabet, once_in_alphabet x))))
+-- ---- one lug of a bar is moved
 
-pub pull_falls : (m : RotorParts) (cable letter : ℕ) (ws : List (Option (ℕ × ℕ) × ℤ)) → why_refused (Rotor m) (Pull cable letter) ≡ None
-    → pairing_cost cable_cost m.cables ws ≤ pairing_cost cable_cost (set m.cables (cable - 1) (cable_without letter (cable_at m cable))) ws + 1
-pull_falls m zero letter ws e = cc
-pull_falls m (suc place) letter ws e =
-    let was = cable_at m (suc place) in
-    let now = cable_without letter was in
-    elim (pulled letter was) [
-      | inl same ↦ cables_fall m place now ws 0 (λ l. inl (ap (λ letters. has_letter letters l) (sym same)))
-      | inr less ↦ cables_fall m place now ws less.0 (same_but less.0 (cable_letters now) (cable_letters was) less.1)
-    ]
-
-pub put_falls : (m : RotorParts) (cable letter : ℕ) (ws : List (Option (ℕ × ℕ) × ℤ)) → why_refused (Rotor m) (Put cable letter) ≡ None
-    → pairing_cost cable_cost m.cables ws ≤ pairing_cost cable_cost (set m.cables (cable - 1) (cable_with letter (cable_at m cable))) ws + 1
-put_falls m zero letter ws e = cc
-put_falls m (suc place) letter ws e =
-    let was = cable_at m (suc place) in
-    let now = cable_with letter was in
-    let more = put letter was (no_reason (reasons (Rotor m) (Put (suc place) letter)) e).1.0 in
-    cables_fall m place now ws letter (same_but-sym letter (cable_letters now) (cable_letters was) (same_but letter (cable_letters was) (cable_letters now) more))
-
--- one lug of a bar is moved
 pub unless_same_at_most : (b : Bool) → unless_same b ≤ 1
 unless_same_at_most b = grind arith
 
@@ -61,87 +115,213 @@ least_falls : {X : Type 0} (f g : X → ℕ) → ((x : X) → f x ≤ g x + 1) �
 least_falls f g h [] a b start = start
 least_falls f g h (x ∷ xs) a b start = least_falls f g h xs (min a (f x)) (min b (g x)) (omega (arith, h x))
 
-pub lug_falls : (bars : List (Place × Place)) (ws : List ((ℕ × ℕ) × ℤ)) (bar : ℕ) (lug : Lug) (place : Place) (found : Option (Place × Place)) → slice_get bars bar ≡ found
-    → pairing_cost bar_cost bars ws ≤ pairing_cost bar_cost (option_map_or (λ standing. set bars (suc bar - 1) (with_lug lug place standing)) found bars) ws + 1
-lug_falls bars ws bar lug place None e = omega arith
-lug_falls bars ws bar lug place (Some standing) e =
-    let here : get_or bars bar standing ≡ standing = sym (unwrap_or-slice_get bars bar standing) ∙ ap (λ o. unwrap_or o standing) e in
-    rw (one_less bar)
-    (zip_set (λ pair. bar_cost pair.0 pair.1.0) bars ws bar (with_lug lug place standing) standing
-    (λ w. subst (λ was. bar_cost was w.0 ≤ bar_cost (with_lug lug place standing) w.0 + 1) (sym here)
-    (least_falls (lugs_moved standing) (lugs_moved (with_lug lug place standing)) (lugs_moved_step lug place standing) (standings_as w.0) 2 2 (omega arith))))
+pub lug_moves : (m : PinParts) (ws : List ((ℕ × ℕ) × ℤ)) (bar : ℕ) (lug : Lug) (place : Place)
+    → why_refused (Pin m) (LugTo bar lug place) ≡ None
+    → (pairing_cost bar_cost m.bars ws ≤ pairing_cost bar_cost (with_lug_at m bar lug place) ws + 1)
+    × (HasBars m.bars → HasBars (with_lug_at m bar lug place))
+lug_moves m ws bar lug place e =
+    let allowed = no_reason (reasons (Pin m) (LugTo bar lug place)) e in
+    let there = stands m.bars bar (place, place) allowed.0 in
+    let old = unwrap_or (numbered m.bars bar) (place, place) in
+    let new = with_lug lug place old in
+    let here = get_or_from_slice_get m.bars (bar - 1) old old there.here in
+    let before = still_before lug place old (rw there.is at allowed.1.0) (rw there.is at allowed.1.1.0) in
+    let all : with_lug_at m bar lug place ≡ set m.bars (bar - 1) new = rw there.is refl in
+    let cost = pairing_cost bar_cost m.bars ws in
+    subst (λ bars. (cost ≤ pairing_cost bar_cost bars ws + 1) × (HasBars m.bars → HasBars bars)) (sym all) (
+      zip_set (λ pair. bar_cost pair.0 pair.1.0) m.bars ws (bar - 1) new old (λ w.
+          let step = lugs_moved_step lug place old in
+          subst (λ was. bar_cost was w.0 ≤ bar_cost new w.0 + 1) (sym here)
+          (least_falls (lugs_moved old) (lugs_moved new) step (standings_as w.0) 2 2 (omega arith))),
+      λ h. record {
+        count = length-set m.bars (bar - 1) new ∙ h.count;
+        stand = All-set Stands m.bars (bar - 1) new before h.stand;
+      },
+    )
 
 -- ---- what settings keep
-
--- one cable is changed
-times-set : (letter k : ℕ) (cables : List (Option ℕ × Option ℕ)) (place : ℕ) (now d : Option ℕ × Option ℕ)
-    → times letter (cable_letters now) ≤ times letter (cable_letters (get_or cables place d)) + k → times letter (plugged_letters (set cables place now)) ≤ times letter (plugged_letters cables) + k
-times-set letter k [] place now d h = omega arith
-times-set letter k (cable ∷ cables) zero now d h =
-    omega (arith, times-append letter (cable_letters cable) (plugged_letters cables), times-append letter (cable_letters now) (plugged_letters cables))
-times-set letter k (cable ∷ cables) (suc place) now d h =
-    grind (arith, common_steps, times-append, times-set letter k cables place now d h)
-
--- no letter in two places, one setting later
-abbrev pub CablesAreOnce : List (Option ℕ × Option ℕ) → Type 0
-CablesAreOnce cables = AreOnce (plugged_letters cables)
-
-pull_keeps : (m : RotorParts) (cable letter : ℕ) → why_refused (Rotor m) (Pull cable letter) ≡ None → CablesAreOnce m.cables → CablesAreOnce (set m.cables (cable - 1) (cable_without letter (cable_at m cable)))
-pull_keeps m zero letter e once l = cc
-pull_keeps m (suc place) letter e once l =
-    let was = cable_at m (suc place) in
-    let now = cable_without letter was in
-    let here = ap (λ cable. times l (cable_letters cable)) (unwrap_or-slice_get m.cables place (None, None)) in
-    let less : times l (cable_letters now) ≤ times l (cable_letters was) = grind (arith, pulled, times_more) in
-    rw (one_less place) (omega (arith, once l, times-set l 0 m.cables place now (None, None) (omega arith)))
-
-put_keeps : (m : RotorParts) (cable letter : ℕ) → why_refused (Rotor m) (Put cable letter) ≡ None → CablesAreOnce m.cables → CablesAreOnce (set m.cables (cable - 1) (cable_with letter (cable_at m cable)))
-put_keeps m zero letter e once l = cc
-put_keeps m (suc place) letter e once l =
-    let reasons = no_reason (reasons (Rotor m) (Put (suc place) letter)) e in
-    let was = cable_at m (suc place) in
-    let now = cable_with letter was in
-    let here = ap (λ cable. times l (cable_letters cable)) (unwrap_or-slice_get m.cables place (None, None)) in
-    let more = times_more l letter (cable_letters was) (cable_letters now) (put letter was reasons.1.0) in
-    rw (one_less place)
-    (omega (arith, once_more l letter (plugged_letters m.cables) once reasons.1.1.0, times-set l (times l (letter ∷ [])) m.cables place now (None, None) (omega arith)))
-
--- What holds of a machine's cables, or bars, and is kept by every setting.
-pub record HasCables (cables : List (Option ℕ × Option ℕ)) : Type 0 where
-  pub count : length cables ≡ 13
-  pub once : CablesAreOnce cables
-
-pub record HasBars (bars : List (Place × Place)) : Type 0 where
-  pub count : length bars ≡ 27
-  pub stand : All Stands bars
-
-bars_keep : (bars : List (Place × Place)) (i : ℕ) (lug : Lug) (place : Place) (found : Option (Place × Place))
-    → option_map_or (is_at place) (option_map (lug_place (other_lug lug)) found) false ≡ false → option_map_or (lies_beyond lug place) (option_map (lug_place (other_lug lug)) found) false ≡ false
-    → HasBars bars → HasBars (option_map_or (λ standing. set bars i (with_lug lug place standing)) found bars)
-bars_keep bars i lug place None apart within h = h
-bars_keep bars i lug place (Some standing) apart within h = record {
-  count = length-set bars i (with_lug lug place standing) ∙ h.count;
-  stand = All-set Stands bars i (with_lug lug place standing) (still_before lug place standing apart within) h.stand;
-}
 
 abbrev pub HasAll : Parts → Type 0
 HasAll (Rotor m) = HasCables m.cables
 HasAll (Pin m) = HasBars m.bars
 
 pub machines_have_all : (m : Parts) → IsLegal m → HasAll m
-machines_have_all (Rotor m) h = record { count = h.cables.count; once = once_of_distinct (plugged_letters m.cables) h.cables.apart }
+machines_have_all (Rotor m) h = record { count = h.cables.count; apart = h.cables.apart }
 machines_have_all (Pin m) h = record { count = h.bars; stand = h.apart }
 
 setting_keeps : (m : Parts) (x : Setting) → why_refused m x ≡ None → HasAll m → HasAll (changed m x)
-setting_keeps (Rotor m) (Pull cable letter) e h =
-    record { count = length-set m.cables (cable - 1) (cable_without letter (cable_at m cable)) ∙ h.count; once = pull_keeps m cable letter e h.once }
-setting_keeps (Rotor m) (Put cable letter) e h =
-    record { count = length-set m.cables (cable - 1) (cable_with letter (cable_at m cable)) ∙ h.count; once = put_keeps m cable letter e h.once }
-setting_keeps (Pin m) (LugTo bar lug place) e h =
-    let reasons = no_reason (reasons (Pin m) (LugTo bar lug place)) e in
-    bars_keep m.bars (bar - 1) lug place (numbered m.bars bar) reasons.1.0 reasons.1.1.0 h
+setting_keeps (Rotor m) (Pull cable letter) e h = (pulls m cable letter e).keeps h
+setting_keeps (Rotor m) (Put cable letter) e h = (puts m cable letter e).keeps h
+setting_keeps (Pin m) (LugTo bar lug place) e h = (lug_moves m [] bar lug place e).1 h
 setting_keeps m x e h = h
 
 pub list_keeps : (m n : Parts) (xs : List Setting) → Leads m xs n → HasAll m → HasAll n
 list_keeps m n [] leads h = subst HasAll (sym leads) h
 list_keeps m n (x ∷ xs) leads h = list_keeps leads.0 n xs leads.2 (subst HasAll (sym leads.1.made) (setting_keeps m x leads.1.allowed h))
+
+-- ---- loose things
+
+zip_set_lowers : {X Y : Type 0} (p : X × Y → Bool) (xs : List X) (ys : List Y) (i : ℕ) (v : X) → count_by p (zip xs ys) ≤ count_by p (zip (set xs i v) ys) + 1
+zip_set_lowers p xs ys i v = zip_set (λ z. cond (p z) 1 0) xs ys i v v (λ y. omega (arith, at_most_one (p (get_or xs i v, y))))
+
+-- Letters of which one is set: of things at different places at most one is right then that was not.
+module _ {X : Type 0} (place target : X → ℕ) where
+  abbrev wrong : List ℕ → X → Bool
+  wrong letters x = not (option_map_or (nat_eq (target x)) (slice_get letters (place x)) false)
+
+  same_elsewhere : (letters : List ℕ) (p l : ℕ) (x : X) → place x ≢ p → wrong (set letters p l) x ≡ wrong letters x
+  same_elsewhere letters p l x away =
+      ap (λ seen. not (option_map_or (nat_eq (target x)) seen false)) (set_other letters p (place x) l away)
+
+  other_places : (letters : List ℕ) (p l : ℕ) (xs : List X) → AllByRecursion (λ y. place y ≢ p) xs → count_by (wrong (set letters p l)) xs ≡ count_by (wrong letters) xs
+  other_places letters p l [] h = refl
+  other_places letters p l (x ∷ xs) h =
+      grind (arith, common_steps, same_elsewhere, count_by-cons, other_places letters p l xs h.1)
+
+  set_lowers : (letters : List ℕ) (p l : ℕ) (xs : List X) → AllPairs (λ x y. place x ≢ place y) xs → count_by (wrong letters) xs ≤ count_by (wrong (set letters p l)) xs + 1
+  set_lowers letters p l [] h = omega arith
+  set_lowers letters p l (x ∷ xs) h =
+      let now = count_by-cons (wrong letters) x xs in
+      let later = count_by-cons (wrong (set letters p l)) x xs in
+      elim (cases_eq (place x) p) [
+        | inl here ↦
+            let others = recursion_from_All (λ y. place y ≢ place x) xs (λ k d lt same. h zero (suc k) d (omega arith) (omega arith) (sym same)) in
+            let rest = other_places letters p l xs (subst (λ q. AllByRecursion (λ y. place y ≢ q) xs) here others) in
+            omega (arith, at_most_one (wrong letters x), rest)
+        | inr away ↦
+            let head = ap (λ b. cond {A = ℕ} b 1 0) (same_elsewhere letters p l x away) in
+            omega (arith, now, later, head, set_lowers letters p l xs (λ i j d before within. h (suc i) (suc j) d (omega arith) (omega arith)))
+      ]
+
+-- a slot that becomes empty is not right
+abbrev wrong_slot : Option Wheel × SheetWheel → Bool
+wrong_slot slot = not (option_map_or (same_wheel slot.1.wheel) slot.0 false)
+
+empty_wrong : (seated : Option Wheel) (wheel : Wheel) (wanted : SheetWheel) → cond {A = ℕ} (wrong_slot (seated, wanted)) 1 0 ≤ cond {A = ℕ} (wrong_slot (without wheel seated, wanted)) 1 0
+empty_wrong seated wheel wanted = grind (arith, at_most_one)
+
+without_raises : (wheel : Wheel) (slots : List (Option Wheel)) (wheels : List SheetWheel) → count_by wrong_slot (zip slots wheels) ≤ count_by wrong_slot (zip (map (without wheel) slots) wheels)
+without_raises wheel [] wheels = omega arith
+without_raises wheel (now ∷ slots) [] = omega arith
+without_raises wheel (now ∷ slots) (wanted ∷ wheels) =
+    grind (arith, common_steps, count_by-cons, empty_wrong, without_raises wheel slots wheels)
+
+-- no two of these wheels have one place in the box
+abbrev HaveTheirPlaces : Model → List SheetWheel → Type 0
+HaveTheirPlaces model wheels = AllPairs (λ (w other : SheetWheel). place_in_box model w.wheel ≢ place_in_box model other.wheel) wheels
+
+-- What is still to be done: things to put right, and what it costs to make of the cables these columns, or of the bars these rows.
+abbrev pub left : List (Option (ℕ × ℕ) × ℤ) → List ((ℕ × ℕ) × ℤ) → Parts → Day → ℕ
+left columns rows (Rotor m) (OfRotors s) = loose_count (Rotor m) (OfRotors s) + pairing_cost cable_cost m.cables columns
+left columns rows (Pin m) (OfPins s) = loose_count (Pin m) (OfPins s) + pairing_cost bar_cost m.bars rows
+left columns rows m s = 0
+
+-- each setting does one of these things at most
+module _ (columns : List (Option (ℕ × ℕ) × ℤ)) (rows : List ((ℕ × ℕ) × ℤ)) (m : RotorParts) (s : RotorDay) (apart : HaveTheirPlaces m.model s.wheels) where
+  abbrev place : SheetWheel → ℕ
+  place w = place_in_box m.model w.wheel
+
+  turned_lowers : (seated : Option Wheel) (letter : ℕ) → loose_count (Rotor m) (OfRotors s) ≤ loose_count (Rotor (record m { letters = with_letter m seated letter })) (OfRotors s) + 1
+  turned_lowers None letter = omega arith
+  turned_lowers (Some wheel) letter = omega (arith, set_lowers place (λ (w : SheetWheel). w.letter) m.letters (place_in_box m.model wheel) letter s.wheels apart)
+
+  rotor_lowers : (x : Setting) → why_refused (Rotor m) x ≡ None
+      → left columns rows (Rotor m) (OfRotors s) ≤ left columns rows (changed (Rotor m) x) (OfRotors s) + 1
+  rotor_lowers (Pull cable letter) e = omega (arith, cables_fall m cable letter _ columns (pulls m cable letter e))
+  rotor_lowers (Put cable letter) e = omega (arith, cables_fall m cable letter _ columns (puts m cable letter e))
+  rotor_lowers (Seat slot wheel) e =
+      omega (arith, without_raises wheel m.slots s.wheels, zip_set_lowers wrong_slot (map (without wheel) m.slots) s.wheels (slot - 1) (Some wheel))
+  rotor_lowers (SeatReflector reflector) e = omega (arith, unless_same_at_most (same_reflector m.reflector s.reflector))
+  rotor_lowers (RingTo wheel letter) e = omega (arith, set_lowers place (λ (w : SheetWheel). w.ring) m.rings (place_in_box m.model wheel) letter s.wheels apart)
+  rotor_lowers (Turn slot letter) e = omega (arith, turned_lowers (seated_in m slot) letter)
+  rotor_lowers x e = omega arith
+
+-- a pin is set
+abbrev differing : List Bool × List Bool → ℕ
+differing wheel = count_by (λ (pin : Bool × Bool). differ pin.0 pin.1) (zip wheel.0 wheel.1)
+
+wheel_set_lowers : (xss yss : List (List Bool)) (i p : ℕ) (effective : Bool) → sum (map differing (zip xss yss)) ≤ sum (map differing (zip (set xss i (set (get_or xss i []) p effective)) yss)) + 1
+wheel_set_lowers xss yss i p effective =
+    let was = get_or xss i [] in
+    let differs = λ (pin : Bool × Bool). differ pin.0 pin.1 in
+    simp sum-map
+    (zip_set differing xss yss i (set was p effective) [] (λ ys. zip_set_lowers differs was ys p effective))
+
+pins_of-set : (pins : PinSet) (i : ℕ) (new : List Bool) → pins_of (pin_set (set (pins_of pins) i new)) ≡ set (pins_of pins) i new
+pins_of-set pins i new = grind arith
+
+pin_lowers : (m : PinParts) (s : PinDay) (wheel letter : ℕ) (effective : Bool) → why_refused (Pin m) (PinTo wheel letter effective) ≡ None
+    → loose_pins m s ≤ loose_pins (record m { pins = with_pin m.pins wheel letter effective }) s + 1
+unfolding ring_of
+pin_lowers m s zero letter effective e = cc
+pin_lowers m s (suc wheel) letter effective e =
+    let place = unwrap_or (place_on (ring_of (suc wheel)) letter) 0 in
+    let new = set (wheel_pins m.pins (suc wheel)) place effective in
+    let all : pins_of (with_pin m.pins (suc wheel) letter effective) ≡ set (pins_of m.pins) wheel (set (get_or (pins_of m.pins) wheel []) place effective)
+    = pins_of-set m.pins (suc wheel - 1) new ∙ ap (λ i. set (pins_of m.pins) i new) (one_less wheel)
+    ∙ ap (λ pins. set (pins_of m.pins) wheel (set pins place effective)) (unwrap_or-slice_get (pins_of m.pins) wheel []) in
+    subst (λ pins. loose_pins m s ≤ sum (map differing (zip pins (pins_of s.pins))) + 1) (sym all) (wheel_set_lowers (pins_of m.pins) (pins_of s.pins) wheel place effective)
+
+pin_machine_lowers : (columns : List (Option (ℕ × ℕ) × ℤ)) (rows : List ((ℕ × ℕ) × ℤ)) (m : PinParts) (s : PinDay) (x : Setting) → why_refused (Pin m) x ≡ None
+    → left columns rows (Pin m) (OfPins s) ≤ left columns rows (changed (Pin m) x) (OfPins s) + 1
+pin_machine_lowers columns rows m s (LugTo bar lug place) e = omega (arith, (lug_moves m rows bar lug place e).0)
+pin_machine_lowers columns rows m s x e = grind (arith, zip_set_lowers, pin_lowers)
+
+-- whatever the setting and the machine
+pub lowers : (columns : List (Option (ℕ × ℕ) × ℤ)) (rows : List ((ℕ × ℕ) × ℤ)) (m : Parts) (s : Day) (x : Setting) → IsLegalDay s
+    → model_of m ≡ day_model s → why_refused m x ≡ None → left columns rows m s ≤ left columns rows (changed m x) s + 1
+lowers columns rows (Rotor m) (OfRotors s) x h same e =
+    rotor_lowers columns rows m s (subst (λ model. HaveTheirPlaces model s.wheels) (sym same) (days_wheels_have_their_places s.model s.wheels h.wheels)) x e
+lowers columns rows (Pin m) (OfPins s) x h same e = pin_machine_lowers columns rows m s x e
+lowers columns rows m s x h same e = omega arith
+
+-- no setting makes another model of a machine, and those of cables and bars leave what is loose
+pub model_of-changed : (m : Parts) (x : Setting) → model_of (changed m x) ≡ model_of m
+model_of-changed m x = grind arith
+
+pub leaves : (m : Parts) (s : Day) (x : Setting) → is_priced x ≡ true → loose_count (changed m x) s ≡ loose_count m s
+leaves m s x e = grind arith
+
+-- a machine that reads as the day has nothing loose
+itself : (name : List ℕ) → bytes_eq name name ≡ true
+itself name = (bytes_eq-Decides name name).1 refl
+
+zip_none : {X Y : Type 0} (f : Y × X → ℕ) (seen : X → Y) → ((x : X) → f (seen x, x) ≡ 0) → (xs : List X) → sum_by f (zip (map seen xs) xs) ≡ 0
+zip_none f seen h [] = refl
+zip_none f seen h (x ∷ xs) = sum_by-cons f (seen x, x) (zip (map seen xs) xs) ∙ rw (h x, zip_none f seen h xs) refl
+
+self_none : {X : Type 0} (f : X × X → ℕ) → ((x : X) → f (x, x) ≡ 0) → (xs : List X) → sum_by f (zip xs xs) ≡ 0
+self_none f h xs = subst (λ ys. sum_by f (zip ys xs) ≡ 0) (map-id xs) (zip_none f (λ x. x) h xs)
+
+none_wrong : (seen : SheetWheel → Option ℕ) (wanted : SheetWheel → ℕ) (wheels : List SheetWheel) → AllByRecursion (λ w. seen w ≡ Some (wanted w)) wheels
+    → count_by (λ w. not (option_map_or (nat_eq (wanted w)) (seen w) false)) wheels ≡ 0
+none_wrong seen wanted [] h = refl
+none_wrong seen wanted (w ∷ wheels) h =
+    count_by-cons (λ w. not (option_map_or (nat_eq (wanted w)) (seen w) false)) w wheels
+    ∙ rw (h.0, eq-eqb (wanted w) (wanted w) refl, none_wrong seen wanted wheels h.1) refl
+
+rotor_not_loose : (n : RotorParts) (s : RotorDay) → ReadsAs (Rotor n) (OfRotors s) → loose_count (Rotor n) (OfRotors s) ≡ 0
+rotor_not_loose n s h =
+    let slots : loose_slots n s ≡ 0 =
+    ap (λ slots. count_by wrong_slot (zip slots s.wheels)) h.key.slots
+    ∙ zip_none (λ slot. cond (wrong_slot slot) 1 0) (λ w. Some w.wheel) (λ w. ap (λ b. cond (not b) 1 0) (itself (wheel_text w.wheel))) s.wheels in
+    let reflector : loose_reflector n s ≡ 0 = ap (λ reflector. unless_same (same_reflector reflector s.reflector)) h.key.reflector ∙ ap unless_same (itself (reflector_text s.reflector)) in
+    let rings : loose_rings n s ≡ 0 = none_wrong (λ w. ring_at n w.wheel) (λ w. w.ring) s.wheels (recursion_from_All (λ (w : SheetWheel). ring_at n w.wheel ≡ Some w.ring) s.wheels h.key.rings) in
+    let letters : loose_letters n s ≡ 0 = none_wrong (λ w. letter_at n w.wheel) (λ w. w.letter) s.wheels (recursion_from_All (λ (w : SheetWheel). letter_at n w.wheel ≡ Some w.letter) s.wheels h.window) in
+    omega (arith, slots, reflector, rings, letters)
+
+no_pin_wrong : (pins : List Bool) → differing (pins, pins) ≡ 0
+no_pin_wrong pins = self_none (λ (pin : Bool × Bool). cond (differ pin.0 pin.1) 1 0) (λ b. ap (λ d. cond d 1 0) (not_differing b)) pins
+
+pin_not_loose : (n : PinParts) (s : PinDay) → ReadsAs (Pin n) (OfPins s) → loose_count (Pin n) (OfPins s) ≡ 0
+pin_not_loose n s h =
+    let pins : loose_pins n s ≡ 0 =
+    ap (λ pins. sum (map differing (zip (pins_of pins) (pins_of s.pins)))) h.key.pins
+    ∙ sum-map differing (zip (pins_of s.pins) (pins_of s.pins)) ∙ self_none differing no_pin_wrong (pins_of s.pins) in
+    let letters : loose_pin_letters n s ≡ 0 =
+    ap (λ letters. count_by (λ (letter : ℕ × ℕ). not (nat_eq letter.0 letter.1)) (zip letters s.window)) h.window
+    ∙ self_none (λ (letter : ℕ × ℕ). cond (not (nat_eq letter.0 letter.1)) 1 0) (λ l. ap (λ b. cond (not b) 1 0) (eq-eqb l l refl)) s.window in
+    omega (arith, pins, letters)
+
+pub nothing_loose : (n : Parts) (s : Day) → ReadsAs n s → loose_count n s ≡ 0
+nothing_loose n s e = grind (arith, rotor_not_loose, pin_not_loose)

@@ -1,11 +1,9 @@
--- The prices of kinds, one for each thing.
-use Rattle.kd_card.proofs.Prelude.{◌≡◌, ◌↔◌, ℕ, ◌+◌, ◌≤◌, List, [], ◌∷◌, length, replicate, refl, sym, ap, ◌∙◌, length-append, arith, unsigned_abs, ◌++◌, map, Option, None, length-replicate, length-map, All-append, All-nil, All-replicate, PricedKind, PriceParts, CableKinds, BarKinds, ByKind, look_rank, counted, prices_of_kinds, AreKinds, look_name, kind_words, kinds_text, cable_kind, pair_kind, bar_kind, row_kind, AreCalled, version_of, how_many, row_kinds, column_kinds, row_prices, column_prices, AreWithinReach, ArePrices, flat_map-append, flat_map-map, Place, One, line_of, Look, Cable, Pair, Bar, Row, Name, Group, group_of, row_name, column_name, price_count, lines_text, price_lines, IsGroup, HaveKinds, with_line, rules, common_steps}
+-- Kinds: the prices of their things, one for each, and kinds that are read one after another.
+use Rattle.kd_card.proofs.Prelude.{◌≡◌, ◌↔◌, ℕ, ◌+◌, ◌≤◌, List, [], ◌∷◌, length, replicate, refl, sym, ap, ◌∙◌, length-append, arith, unsigned_abs, ◌++◌, map, Option, None, length-replicate, length-map, All-append, All-nil, All-replicate, PricedKind, PriceParts, CableKinds, BarKinds, ByKind, look_rank, counted, prices_of_kinds, AreKinds, look_name, kind_words, kinds_text, cable_kind, pair_kind, bar_kind, row_kind, AreCalled, version_of, how_many, row_kinds, column_kinds, row_prices, column_prices, AreWithinReach, ArePrices, flat_map-append, flat_map-map, Place, One, line_of, Look, Cable, Pair, Bar, Row, Name, Group, group_of, row_name, column_name, price_count, lines_text, price_lines, IsGroup, HaveKinds, with_line, rules, common_steps, map-id, ◌<◌, zero, suc, ◌*◌, take, get_or, subst, append_assoc, All, All-cons, IsPricedKind, IsNextKind, BeginsWithKinds, append-nil, HasNoNext}
+use Rattle.std.proofs.lemmas.Simd.{map-map}
 use Rattle.arrayvec.specs.ArrayVec.{ArrayVec}
-use Rattle.kd_card.specs.declared.kinds.CableKind.{CableKind}
-use Rattle.kd_card.specs.declared.kinds.PairKind.{PairKind}
-use Rattle.kd_card.specs.declared.kinds.BarKind.{BarKind}
-use Rattle.kd_card.specs.declared.kinds.RowKind.{RowKind}
-use Rattle.kd_card.proofs.Lines.{line_and_more}
+use Rattle.kd_card.specs.declared.kinds.{CableKind.CableKind, PairKind.PairKind, BarKind.BarKind, RowKind.RowKind}
+use Rattle.kd_card.proofs.Lines.{line_and_more, is_line}
 
 pub length_of_kinds : (kinds : List PricedKind) → length (prices_of_kinds kinds) ≡ counted kinds
 length_of_kinds [] = refl
@@ -41,12 +39,6 @@ pub are_prices : (parts : PriceParts) → version_of parts ≡ ByKind
 are_prices (CableKinds row col) by = grind (arith, length_of_kinds, reach_of_kinds)
 are_prices (BarKinds row col) by = grind (arith, length_of_kinds, reach_of_kinds)
 are_prices parts by = cc
-
-pub row_count : (parts : PriceParts) → version_of parts ≡ ByKind → ArePrices parts → counted (row_kinds parts) ≡ how_many parts
-row_count parts by are = ((are_prices parts by).0 are).1
-
-pub column_count : (parts : PriceParts) → version_of parts ≡ ByKind → ArePrices parts → counted (column_kinds parts) ≡ how_many parts
-column_count parts by are = ((are_prices parts by).0 are).3
 
 pub cables_are_prices : (rows : List CableKind) (columns : List PairKind)
     → ArePrices (CableKinds (record { items = rows }) (record { items = columns }))
@@ -91,15 +83,12 @@ both_groups prices by are = cc
 
 -- ---- kinds tell the prices
 
-undone : {A B : Type 0} (there : A → B) (back : B → A) → ((x : A) → back (there x) ≡ x) → (xs : List A) → map back (map there xs) ≡ xs
-undone there back leads [] = refl
-undone there back leads (x ∷ xs) = cc (leads x, undone there back leads xs)
-
 told : {A B : Type 0} (there : A → B) (back : B → A) → ((x : A) → back (there x) ≡ x) → (a b : ArrayVec A)
     → map there a.items ≡ map there b.items → a ≡ b
 told {A} there back leads a b e =
     let make : List A → ArrayVec A = λ items. record { items = items } in
-    ap make (sym (undone there back leads a.items) ∙ ap (map back) e ∙ undone there back leads b.items)
+    let undone : (xs : List A) → map back (map there xs) ≡ xs = λ xs. simp (map-map, leads, map-id) in
+    ap make (sym (undone a.items) ∙ ap (map back) e ∙ undone b.items)
 
 pub same_kind_parts : {group : Group} {rows columns : List PricedKind} (prices others : PriceParts) → HaveKinds group rows columns prices
     → HaveKinds group rows columns others → prices ≡ others
@@ -131,5 +120,84 @@ of_two_groups group prices by many r c x y =
 pub size_of : (prices : PriceParts) → price_count (group_of prices) ≡ how_many prices
 size_of prices = grind arith
 
-pub few_prices_of : (group : Group) → price_count group ≤ 27
-few_prices_of group = grind arith
+pub some_and_few : (group : Group) → (0 < price_count group) × (price_count group ≤ 27)
+some_and_few group = grind arith
+
+pub first_kind : {name : Name} {floor : ℕ} {bytes after rest : List ℕ} {kind : PricedKind} {kinds : List PricedKind}
+    → IsNextKind name floor bytes kind after → BeginsWithKinds name (look_rank kind.look + 1) after kinds rest
+    → BeginsWithKinds name floor bytes (kind ∷ kinds) rest
+first_kind {rest} {kind} {kinds} next behind = record {
+  lines = is_line next.line ∙ ap (with_line (kind_words kind)) behind.lines ∙ sym (text_of_more_kinds kind kinds rest);
+  called = (next.called, behind.called);
+  in_order = (next.good, next.above, behind.in_order);
+  none_more = behind.none_more;
+}
+
+counted-append : (kinds more : List PricedKind) → counted (kinds ++ more) ≡ counted kinds + counted more
+counted-append [] more = omega arith
+counted-append (first ∷ kinds) more = omega (arith, counted-append kinds more)
+
+-- ---- how many things there are
+
+pub counted_within : (kinds : List PricedKind) (i : ℕ) {kind : PricedKind} → i < length kinds → kind ≡ get_or kinds i kind
+    → counted (take i kinds) + kind.count ≤ counted kinds
+counted_within [] i inside is = absurd (omega arith)
+counted_within (first ∷ kinds) zero inside is = let same = ap (λ (k : PricedKind). k.count) is in omega arith
+counted_within (first ∷ kinds) (suc i) inside is = omega (arith, counted_within kinds i (omega arith) is)
+
+-- ---- what kinds are called
+
+pub called_at : (name : Name) (kinds : List PricedKind) (i : ℕ) (kind : PricedKind) → i < length kinds → kind ≡ get_or kinds i kind → AreCalled name kinds
+    → look_name kind.look ≡ name
+called_at name [] i kind inside is called = absurd (omega arith)
+called_at name (first ∷ kinds) zero kind inside is called = subst (λ k. look_name k.look ≡ name) (sym is) called.0
+called_at name (first ∷ kinds) (suc i) kind inside is called = called_at name kinds i kind (omega arith) is called.1
+
+pub all_kinds : (floor : ℕ) (kinds : List PricedKind) → AreKinds floor kinds → All IsPricedKind kinds
+all_kinds floor [] are = All-nil IsPricedKind
+all_kinds floor (kind ∷ kinds) are = All-cons IsPricedKind kind kinds are.0 (all_kinds (look_rank kind.look + 1) kinds are.2)
+
+pub ruleset kinds_written = (all_kinds, text_by_kind, append_assoc)
+
+-- ---- kinds, read
+
+-- These kinds have been read: with those that the rest begins with they are all. The next has at least this rank and
+-- stands in that line, and they are of so many things.
+pub record HasRead (name : Name) (line : ℕ) (text rest : List ℕ) (floor total at : ℕ) (kept : List PricedKind) : Type 0 where
+  pub goes_on : (more : List PricedKind) (end : List ℕ) → BeginsWithKinds name floor rest more end
+      → BeginsWithKinds name 0 text (kept ++ more) end
+  pub low : floor ≤ 703
+  pub most : total ≤ 255 * floor
+  pub few : length kept ≤ floor
+  pub total_is : total ≡ counted kept
+  pub at_is : at ≡ line + length kept
+
+pub reads_none : (name : Name) (line : ℕ) (text : List ℕ) (kept : List PricedKind) → kept ≡ []
+    → HasRead name line text text 0 0 line kept
+reads_none name line text kept none = grind arith
+
+pub reads_on : {name : Name} {line : ℕ} {text rest after : List ℕ} {floor total at count rank : ℕ} {kept more : List PricedKind} {kind : PricedKind}
+    → HasRead name line text rest floor total at kept → IsNextKind name floor rest kind after → rank ≡ look_rank kind.look → rank < 703
+    → count ≡ kind.count → more ≡ kept ++ kind ∷ [] → HasRead name line text after (rank + 1) (total + count) (at + 1) more
+reads_on {name} {line} {text} {after} {total} {at} {count} {rank} {kept} {kind} read next ranked low counts keeps =
+    let longer = length-append kept (kind ∷ []) in
+    let above = next.above in
+    let most = next.good.most in
+    subst (HasRead name line text after (rank + 1) (total + count) (at + 1)) (sym keeps) (record {
+      goes_on = λ more end begins.
+          let behind = subst (λ r. BeginsWithKinds name (r + 1) after more end) ranked begins in
+          subst (λ kinds. BeginsWithKinds name 0 text kinds end) (sym (append_assoc kept (kind ∷ []) more))
+          (read.goes_on (kind ∷ more) end (first_kind next behind));
+      low = omega arith;
+      most = omega (arith, read.most);
+      few = omega (arith, read.few);
+      total_is = omega (arith, counted-append kept (kind ∷ []), read.total_is);
+      at_is = omega (arith, read.at_is);
+    })
+
+pub all_read : {name : Name} {line : ℕ} {text rest : List ℕ} {floor total at : ℕ} {kept : List PricedKind}
+    → HasRead name line text rest floor total at kept → HasNoNext name floor rest
+    → BeginsWithKinds name 0 text kept rest
+all_read {name} {text} {rest} {kept} read none =
+    subst (λ kinds. BeginsWithKinds name 0 text kinds rest) (append-nil kept)
+    (read.goes_on [] rest (record { lines = refl; called = tt; in_order = tt; none_more = none }))

@@ -1,32 +1,22 @@
 -- The words of kinds' lines, and the looks that they tell.
-use Rattle.kd_card.proofs.Prelude.{ltb, codes, ◌≡◌, ◌≢◌, ℕ, ◌<◌, true, List, [], ◌∷◌, ◌++◌, length, get_or, drop, subst, ℤ, Option, sym, ap, ◌∙◌, append_assoc, length-append, arith, map, decimal, Bor, All, find, list_all, bytes_eq, decimal_injective, signed_decimal_injective, All-append, All-weaker, All-from_recursion, Place, One, place_text, place_rank, places, standing_text, IsWord, IsWithout, NumbersAreWords, TextsTellFirstParts, Look, Cable, Pair, Bar, Name, PricedKind, look_name, name_text, look_text, look_rank, ends_rank, pair_rank, kind_words, AreEnds, IsPairInOrder, IsInForm, IsPricedKind, kinds_text, HasKindWords, RanksTellLooks, signed_decimal, append-nil, HasWords, BeginsWithWord, EndsGroup, AtNothing, AtOther, IsNextKind, HasNoNext, common_steps}
-use Rattle.std.specs.Option.{unwrap_or}
-use Rattle.kd_card.proofs.Lines.{bytes_above, same_words, some_bytes}
-use Rattle.kd_card.proofs.CardWords.{word_by_bytes, bytes_are_word, word_by_test, signed_word}
-use Rattle.kd_card.proofs.PriceTexts.{small}
-use Rattle.kd_card.specs.Reading.{EndsAt, IsBadAt}
+use Rattle.kd_card.proofs.Prelude.{ltb, codes, ◌≡◌, ◌≢◌, ℕ, ◌<◌, true, List, [], ◌∷◌, ◌++◌, length, get_or, drop, subst, ℤ, Option, sym, ap, ◌∙◌, append_assoc, length-append, arith, map, decimal, Bor, All, list_all, decimal_injective, signed_decimal_injective, All-append, All-weaker, All-from_recursion, Place, One, place_text, place_rank, places, standing_text, IsWord, IsWithout, Look, Cable, Pair, Bar, Name, PricedKind, look_name, name_text, look_text, look_rank, ends_rank, pair_rank, kind_words, AreEnds, IsPairInOrder, IsInForm, IsPricedKind, kinds_text, HasKindWords, RanksTellLooks, signed_decimal, append-nil, HasWords, BeginsWithWord, EndsGroup, AtNothing, AtOther, IsNextKind, HasNoNext, common_steps, numbers_are_words, texts_tell_first_parts, word_by_bytes, word_by_test, named, told, EndsAt, IsBadAt}
+use Rattle.kd_card.proofs.Lines.{bytes_above, same_words, some_bytes, bytes_are_word, signed_word, small}
 
 -- ---- names and places by their texts
 
 pub same_name : (n m : Name) → name_text n ≡ name_text m → n ≡ m
 same_name n m e = grind arith
 
-place_back : List ℕ → Place
-place_back text = unwrap_or (find (λ p. bytes_eq (place_text p) text) places) One
-
-rank_back : ℕ → Place
-rank_back rank = get_or places rank One
-
 -- a place is told by its text and by its rank, of which there are 8, and no byte of the text is - or comes before it
-about_place : (p : Place) → (place_back (place_text p) ≡ p) × (rank_back (place_rank p) ≡ p) × (place_rank p < 8) × (list_all (ltb 45) (place_text p) ≡ true)
-unfolding place_back rank_back
+about_place : (p : Place) → (named place_text places One (place_text p) ≡ p) × (get_or places (place_rank p) One ≡ p)
+    × (place_rank p < 8) × (list_all (ltb 45) (place_text p) ≡ true)
 about_place p = grind arith
 
 same_place : (p q : Place) → place_text p ≡ place_text q → p ≡ q
-same_place p q e = sym (about_place p).0 ∙ ap place_back e ∙ (about_place q).0
+same_place = told place_text (named place_text places One) (λ p. (about_place p).0)
 
 same_rank : (p q : Place) → place_rank p ≡ place_rank q → p ≡ q
-same_rank p q e = sym (about_place p).1 ∙ ap rank_back e ∙ (about_place q).1
+same_rank p q e = sym (about_place p).1 ∙ ap (λ rank. get_or places rank One) e ∙ (about_place q).1
 
 pub low_rank : (p : Place) → place_rank p < 8
 low_rank p = (about_place p).2
@@ -49,10 +39,9 @@ standing_above left right =
 look_is_word : (look : Look) → IsWord (look_text look)
 look_is_word look = grind (arith, bytes_are_word, word_by_bytes, length-append, standing_above)
 
-pub kind_is_words : NumbersAreWords → (kind : PricedKind) → IsPricedKind kind → All IsWord (kind_words kind)
-kind_is_words numbers kind good =
-    All-from_recursion IsWord (kind_words kind)
-    (name_is_word (look_name kind.look), (look_is_word kind.look, (numbers kind.count (omega arith), (signed_word numbers kind.price (omega arith), tt))))
+pub kind_is_words : (kind : PricedKind) → IsPricedKind kind → All IsWord (kind_words kind)
+kind_is_words kind good =
+    grind (arith, All-from_recursion, name_is_word, look_is_word, numbers_are_words, signed_word)
 
 -- ---- looks by their texts
 
@@ -68,21 +57,22 @@ same_pair a b e = grind (arith, alike)
 place_without : (p : Place) → IsWithout 45 (place_text p)
 place_without p = All-weaker (λ b. 45 < b) (λ b. b ≢ 45) (λ b above same. omega (arith, above, same)) (place_text p) (place_above p)
 
-same_standing : TextsTellFirstParts → (a b c d : Place) → look_text (Bar (a, b)) ≡ look_text (Bar (c, d)) → Bar (a, b) ≡ Bar (c, d)
-same_standing tells a b c d e =
+same_standing : (a b c d : Place) → look_text (Bar (a, b)) ≡ look_text (Bar (c, d)) → Bar (a, b) ≡ Bar (c, d)
+same_standing a b c d e =
     let parts =
-    tells 45 (place_text a) (place_text c) (place_text b) (place_text d) (place_without a) (place_without c)
+    texts_tell_first_parts 45 (place_text a) (place_text c) _ _ (place_without a) (place_without c)
     (sym (append_assoc (place_text a) (codes "-") (place_text b)) ∙ e ∙ append_assoc (place_text c) (codes "-") (place_text d)) in
     alike (λ m n. Bar (m, n)) (same_place a c parts.0) (same_place b d parts.1)
 
-pub same_look : TextsTellFirstParts → (look other : Look) → look_name look ≡ look_name other → IsInForm look → IsInForm other
+pub same_look : (look other : Look) → look_name look ≡ look_name other → IsInForm look → IsInForm other
     → look_text look ≡ look_text other → look ≡ other
-same_look e look other d g h o = grind (arith, common_steps, same_ends, same_pair, same_standing, alike)
+same_look look other d g h o = grind (arith, common_steps, same_ends, same_pair, same_standing, alike)
 
-pub same_kind : TextsTellFirstParts → (kind other : PricedKind) → IsPricedKind kind → IsPricedKind other → kind_words kind ≡ kind_words other → kind ≡ other
-same_kind tells kind other a b e =
+pub same_kind : (kind other : PricedKind) → IsPricedKind kind → IsPricedKind other → kind_words kind ≡ kind_words other
+    → kind ≡ other
+same_kind kind other a b e =
     let names : look_name kind.look ≡ look_name other.look = same_name (look_name kind.look) (look_name other.look) (ap (λ w. get_or w 0 []) e) in
-    let looks : kind.look ≡ other.look = same_look tells kind.look other.look names a.form b.form (ap (λ w. get_or w 1 []) e) in
+    let looks = same_look kind.look other.look names a.form b.form (ap (λ w. get_or w 1 []) e) in
     let counts : kind.count ≡ other.count =
     decimal_injective kind.count other.count (omega arith) (omega arith) (ap (λ w. get_or w 2 []) e) in
     let prices : kind.price ≡ other.price =
@@ -109,49 +99,55 @@ no_count name look count price zero kind has =
     let is : kind.count ≡ 0 = decimal_injective kind.count 0 (omega arith) (omega arith) (ap (λ w. get_or w 2 []) has.written ∙ sym zero) in
     omega arith
 
-module _ (tells : TextsTellFirstParts) where
-  one_word : {bytes word other : List ℕ} → BeginsWithWord word bytes → BeginsWithWord other bytes → word ≡ other
-  one_word a b = ap (λ words. get_or words 0 []) (same_words tells a.has b.has).0
+one_word : {bytes word other : List ℕ} → BeginsWithWord word bytes → BeginsWithWord other bytes → word ≡ other
+one_word a b = ap (λ words. get_or words 0 []) (same_words a.has b.has).0
 
-  -- the line of a kind begins with its name
-  pub kind_begins : {name : Name} {floor : ℕ} {bytes : List ℕ} {kind : PricedKind} {rest : List ℕ}
-      → IsNextKind name floor bytes kind rest → BeginsWithWord (name_text name) bytes
-  kind_begins {bytes} {kind} {rest} next = record {
-    behind = drop 1 (kind_words kind);
-    rest = rest;
-    has = subst (λ n. HasWords bytes (name_text n ∷ drop 1 (kind_words kind)) rest) next.called next.line;
-  }
+-- the line of a kind begins with its name
+pub kind_begins : {name : Name} {floor : ℕ} {bytes : List ℕ} {kind : PricedKind} {rest : List ℕ}
+    → IsNextKind name floor bytes kind rest → BeginsWithWord (name_text name) bytes
+kind_begins {bytes} {kind} {rest} next = record {
+  behind = drop 1 (kind_words kind);
+  rest = rest;
+  has = subst (λ n. HasWords bytes (name_text n ∷ drop 1 (kind_words kind)) rest) next.called next.line;
+}
 
-  pub end_has_no_next : {name : Name} {bytes : List ℕ} (floor : ℕ) → EndsGroup name bytes → HasNoNext name floor bytes
-  end_has_no_next floor e = grind (arith, common_steps, some_bytes, one_word, kind_begins)
+pub end_has_no_next : {name : Name} {bytes : List ℕ} (floor : ℕ) → EndsGroup name bytes → HasNoNext name floor bytes
+end_has_no_next floor (AtNothing none) kind rest next = some_bytes next.line none
+end_has_no_next floor (AtOther word begins differs) kind rest next = differs (one_word begins (kind_begins next))
 
-  pub ends_at : {name : Name} {bytes : List ℕ} (floor : ℕ) → EndsGroup name bytes → EndsAt name floor bytes
-  ends_at floor ends = record { ends = ends; none_more = end_has_no_next floor ends }
+pub ends_at : {name : Name} {bytes : List ℕ} (floor : ℕ) → EndsGroup name bytes → EndsAt name floor bytes
+ends_at floor ends = record { ends = ends; none_more = end_has_no_next floor ends }
 
-  -- no line stands there, though there are bytes
-  pub unended : {name : Name} {bytes : List ℕ} (floor : ℕ) → bytes ≢ []
-      → ((found : List (List ℕ) × List ℕ) → ¬ (HasWords bytes found.0 found.1)) → IsBadAt name floor bytes
-  unended floor some none = record {
-    goes_on = λ ends. elim ends [
-      | AtNothing empty ↦ some empty
-      | AtOther word begins differs ↦ none (word ∷ begins.behind, begins.rest) begins.has
-    ];
-    none_more = λ kind rest next. none (kind_words kind, rest) next.line;
-  }
+-- no line stands there, though there are bytes
+pub unended : {name : Name} {bytes : List ℕ} (floor : ℕ) → bytes ≢ []
+    → ((found : List (List ℕ) × List ℕ) → ¬ (HasWords bytes found.0 found.1)) → IsBadAt name floor bytes
+unended floor some none = record {
+  goes_on = λ ends. elim ends [
+    | AtNothing empty ↦ some empty
+    | AtOther word begins differs ↦ none (word ∷ begins.behind, begins.rest) begins.has
+  ];
+  none_more = λ kind rest next. none (kind_words kind, rest) next.line;
+}
 
-  -- or a line of that name that isn't a kind's
-  pub no_kind : {name : Name} {bytes : List ℕ} (floor : ℕ) → BeginsWithWord (name_text name) bytes → HasNoNext name floor bytes
-      → IsBadAt name floor bytes
-  no_kind floor named none = grind (arith, common_steps, some_bytes, one_word)
+-- or a line of that name that isn't a kind's
+pub no_kind : {name : Name} {bytes : List ℕ} (floor : ℕ) → BeginsWithWord (name_text name) bytes → HasNoNext name floor bytes
+    → IsBadAt name floor bytes
+no_kind floor begins none = record {
+  goes_on = λ ends. elim ends [
+    | AtNothing empty ↦ some_bytes begins.has empty
+    | AtOther word other differs ↦ differs (one_word other begins)
+  ];
+  none_more = none;
+}
 
-module _ (tells : TextsTellFirstParts) {name : Name} {text : List ℕ} {words : List (List ℕ)} {rest : List ℕ} (has : HasWords text words rest) where
+module _ {name : Name} {text : List ℕ} {words : List (List ℕ)} {rest : List ℕ} (has : HasWords text words rest) where
   pub words_are : {floor : ℕ} {kind : PricedKind} {more : List ℕ} → IsNextKind name floor text kind more → HasKindWords name words kind
-  words_are next = record { called = next.called; good = next.good; written = (same_words tells next.line has).0 }
+  words_are next = record { called = next.called; good = next.good; written = (same_words next.line has).0 }
 
   pub low_next : {floor rank : ℕ} {kind : PricedKind} → HasKindWords name words kind → rank ≡ look_rank kind.look → rank < floor
       → (other : PricedKind) (more : List ℕ) → ¬ (IsNextKind name floor text other more)
   low_next {kind} is ranked low other more next =
-      let same : kind ≡ other = same_kind tells kind other is.good next.good (is.written ∙ sym (words_are next).written) in
+      let same : kind ≡ other = same_kind kind other is.good next.good (is.written ∙ sym (words_are next).written) in
       omega (arith, ap (λ (k : PricedKind). look_rank k.look) same)
 
 -- four words

@@ -1,15 +1,10 @@
 pub mod Prelude
 pub mod Lines
 pub mod Leading
-pub mod PriceTexts
-pub mod CardWords
 pub mod KindWords
 pub mod KindPrices
-pub mod KindLists
 pub mod OneCard
 pub mod Counts
 pub mod Duality
 pub mod Falling
-pub mod Loosening
-pub mod Pairing
 pub mod Shortest

@@ -1,6 +1,9 @@
--- Lines of words, as they are written and as they are split.
-use Rattle.kd_card.proofs.Prelude.{◌≡◌, ◌≢◌, ℕ, ◌<◌, true, false, eqb, ltb, List, [], ◌∷◌, ◌++◌, length, refl, sym, ap, ◌∙◌, append_assoc, length-append, arith, ℤ, All, list_all, flat_map, signed_decimal, ne_eqb, ltb-true, append-nil, get_or_at, take_all, flat_map-append, AllPass-from_list_all, All-weaker, All-from_recursion, All-push, flat_map-map, Setting, words_of, line_of, IsWord, IsWithout, IsFirstPart, TextsTellFirstParts, LinesSplitIntoWords, WordsMakeOneLine, NumbersAreWords, setting_line, list_text, IsInRange, BeginsWith, BeginsWithLine, PriceParts, Version, version_of, price_sum, head_words, settings_words, price_words, sum_words, lines_text, price_lines, card_text, with_line, HasWords, common_steps}
+-- Lines of words as they are written and as they are split; prices by their texts; and what stands in a card's lines.
+use Rattle.kd_card.proofs.Prelude.{◌≡◌, ◌≢◌, ℕ, ◌<◌, true, false, eqb, ltb, List, [], ◌∷◌, ◌++◌, length, refl, sym, ap, ◌∙◌, append_assoc, length-append, arith, ℤ, All, list_all, flat_map, signed_decimal, ne_eqb, ltb-true, append-nil, get_or_at, take_all, flat_map-append, AllPass-from_list_all, All-weaker, All-from_recursion, flat_map-map, Setting, words_of, line_of, IsWord, IsWithout, IsFirstPart, setting_line, list_text, PriceParts, Version, version_of, price_sum, head_words, settings_words, price_words, sum_words, lines_text, price_lines, card_text, with_line, HasWords, common_steps, lines_split_into_words, texts_tell_first_parts, words_make_one_line, map, setting_words, suc, ◌^◌, ◌≤◌, Bool, get_or, Option, Some, None, MatchOption, Result, Ok, Err, MatchResult, Decides, Bor, ◌↔◌, IsTrue, is_some, subst, pos, negsuc, unsigned_abs, FitsSigned, w16, to_z, of_z, then_some, IsUtf8, ParsesSigned, AllByRecursion, false≢true, fits_signed_from_abs, to_z-of_z, get_or-map, length-map, recursion_from_All, All-map, IsPriceText, SaysPrices, BadLine, PriceMissing, Refused, Found, parse-signed_decimal, IsAscii-signed, length-decimal-le, AreWithinReach, codes, zero, ◌+◌, ◌*◌, inl, inr, fold, decimal, not, pointwise, not-false, Decides-eqb, slice_eq-Decides, err_from_is_err_and, ◌+ℤ◌, digits_value, decimal_nonempty, digits_decimal, decimal_digit, first_decimal, All-cons, All-append, All-from_get_or, how_many, ArePrices, Group, Name, PricedKind, CountWrong, BeginsWithHead, kinds_text, row_word, column_word, version_text, IsGroup, IsDigit, IsNumberText, IsNumeral, SaysValue, SaysLine, SaysFirst, SaysPriceLine, SaysGroup, nil_from_length, numbers_are_words, word_by_bytes, word_by_test, passed, CardFault}
 use Rattle.std.proofs.lemmas.List.Splits.{slice_split_none, slice_split_at, join_with_byte-slice_split}
+use Rattle.std.specs.{Result.result_ok, Result.IsErrAnd, Int.Signed.mag, Int.IsInRange}
+use Rattle.std.proofs.lemmas.Str.{IsUtf8-from_ascii}
+use Rattle.std.proofs.lemmas.Str.Parse.{IsNumeralModel, numerals_by_value, tells_by_index}
 
 -- ---- writing
 
@@ -33,26 +36,22 @@ pub card_and_more : (day : ℕ) (xs : List Setting) (prices : PriceParts) (rest 
     (lines_text (price_lines prices) ++ with_line (sum_words (price_sum prices)) rest))
 card_and_more day xs prices rest = grind (arith, common_steps, all_lines, flat_map-map)
 
-nested : (head list count prices sum : List ℕ)
-    → (((([] ++ (head ++ 10 ∷ [])) ++ list) ++ (count ++ 10 ∷ [])) ++ prices) ++ (sum ++ 10 ∷ [])
-    ≡ head ++ 10 ∷ (list ++ (count ++ 10 ∷ (prices ++ (sum ++ 10 ∷ []))))
-nested head list count prices sum = simp append_assoc
-
-parts_make_card : (day : ℕ) (xs : List Setting) (prices : PriceParts)
-    → (((([] ++ with_line (head_words (version_of prices) day) []) ++ list_text xs) ++ with_line (settings_words (length xs)) []) ++ lines_text (price_lines prices))
-    ++ with_line (sum_words (price_sum prices)) []
-    ≡ card_text day xs prices
-parts_make_card day xs prices =
-    nested (line_of (head_words (version_of prices) day)) (list_text xs) (line_of (settings_words (length xs))) (lines_text (price_lines prices))
-    (line_of (sum_words (price_sum prices)))
-    ∙ sym (card_and_more day xs prices []) ∙ append-nil (card_text day xs prices)
+in_turn : (head count sum : List (List ℕ)) (settings lines : List (List (List ℕ)))
+    → (((([] ++ with_line head []) ++ lines_text settings) ++ with_line count []) ++ lines_text lines)
+    ++ with_line sum []
+    ≡ lines_text (head ∷ settings ++ count ∷ lines ++ sum ∷ [])
+in_turn head count sum settings lines = simp (flat_map-append, append_assoc)
 
 pub written : (version : Version) (day count : ℕ) (xs ys : List Setting) (prices : PriceParts) (sum : ℤ) (empty head list number lines whole : List ℕ)
     → empty ≡ [] → head ≡ empty ++ with_line (head_words version day) [] → list ≡ head ++ list_text ys
     → number ≡ list ++ with_line (settings_words count) [] → lines ≡ number ++ lines_text (price_lines prices)
     → whole ≡ lines ++ with_line (sum_words sum) [] → version ≡ version_of prices → ys ≡ xs → count ≡ length xs → sum ≡ price_sum prices
     → whole ≡ card_text day xs prices
-written version day count xs ys prices sum empty head list number lines whole a b c d e f by same counted summed = cc (parts_make_card day xs prices)
+written version day count xs ys prices sum empty head list number lines whole a b c d e f by same counted summed =
+    let lines_of = map setting_words xs in
+    let card = in_turn (head_words version day) (settings_words count) (sum_words sum) lines_of (price_lines prices) in
+    let all : lines_text lines_of ≡ list_text xs = flat_map-map (λ words. line_of words ++ 10 ∷ []) setting_words xs in
+    cc
 
 -- two lines, and what follows them
 pub two_lines : (a b : List (List ℕ)) (rest : List ℕ) → lines_text (a ∷ b ∷ []) ++ rest ≡ with_line a (with_line b rest)
@@ -62,22 +61,11 @@ two_lines a b rest = simp (append_assoc, append-nil)
 pub text_of_more : (x : Setting) (xs : List Setting) (rest : List ℕ) → list_text (x ∷ xs) ++ rest ≡ setting_line x ++ 10 ∷ (list_text xs ++ rest)
 text_of_more x xs rest = line_and_more (setting_line x) (list_text xs) rest
 
-pub one_more_line : {bytes : List ℕ} {xs : List Setting} {rest : List ℕ} {x : Setting} {after : List ℕ} → BeginsWith bytes xs rest
-    → BeginsWithLine rest x after → BeginsWith bytes (xs ++ x ∷ []) after
-one_more_line {xs} {x} b l = record {
-  lines = simp (flat_map-append, append_assoc, append-nil) (b.lines ∙ ap (λ more. list_text xs ++ more) l.line);
-  in_range = All-push IsInRange xs x b.in_range l.in_range;
-}
-
 -- ---- the part before a byte
 
 pub no_first_part : {byte : ℕ} {text part rest : List ℕ} → IsFirstPart byte text part rest → ¬ (IsWithout byte text)
 no_first_part {byte} {text} {part} {rest} first without =
     grind (arith, without, length-append part (byte ∷ rest), get_or_at part byte rest 0 (length part) refl)
-
-pub same_first_part : TextsTellFirstParts → {byte : ℕ} {text part other rest more : List ℕ} → IsFirstPart byte text part rest → IsFirstPart byte text other more
-    → (part ≡ other) × (rest ≡ more)
-same_first_part tells first second = tells _ _ _ _ _ first.without second.without (sym first.joined ∙ second.joined)
 
 -- ---- texts without LF
 
@@ -103,22 +91,293 @@ is_line {rest} has =
 pub some_bytes : {bytes rest : List ℕ} {words : List (List ℕ)} → HasWords bytes words rest → bytes ≢ []
 some_bytes {rest} has none = omega (arith, ap length (sym has.first.joined ∙ none), length-append has.line (10 ∷ rest))
 
-pub same_words : TextsTellFirstParts → {bytes rest more : List ℕ} {words others : List (List ℕ)} → HasWords bytes words rest
+pub same_words : {bytes rest more : List ℕ} {words others : List (List ℕ)} → HasWords bytes words rest
     → HasWords bytes others more → (words ≡ others) × (rest ≡ more)
-same_words tells a b = grind (arith, same_first_part)
+same_words a b =
+    let joined = sym a.first.joined ∙ b.first.joined in
+    let parts = texts_tell_first_parts 10 a.line b.line _ _ a.first.without b.first.without joined in
+    (sym a.parts ∙ ap words_of parts.0 ∙ b.parts, parts.1)
 
--- what the laws of kd_state say of lines
-pub record Laws : Type 0 where
-  pub first_parts : TextsTellFirstParts
-  pub split : LinesSplitIntoWords
-  pub one_line : WordsMakeOneLine
-  pub numbers : NumbersAreWords
+pub line_has_words : {bytes : List ℕ} (words : List (List ℕ)) (rest : List ℕ) → words ≢ [] → All IsWord words
+    → bytes ≡ with_line words rest → HasWords bytes words rest
+line_has_words words rest some are e = grind (arith, lines_split_into_words, words_make_one_line)
 
-module _ (laws : Laws) where
-  pub line_has_words : {bytes : List ℕ} (words : List (List ℕ)) (rest : List ℕ) → words ≢ [] → All IsWord words → bytes ≡ with_line words rest
-      → HasWords bytes words rest
-  line_has_words words rest some are e = grind arith
+pub value_line : {bytes : List ℕ} (name value rest : List ℕ) → IsWord name → IsWord value
+    → bytes ≡ with_line (name ∷ value ∷ []) rest → HasWords bytes (name ∷ value ∷ []) rest
+value_line name value rest named valued e = grind (arith, line_has_words, All-from_recursion)
 
-  pub value_line : {bytes : List ℕ} (name value rest : List ℕ) → IsWord name → IsWord value
-      → bytes ≡ with_line (name ∷ value ∷ []) rest → HasWords bytes (name ∷ value ∷ []) rest
-  value_line name value rest named valued e = grind (arith, line_has_words, All-from_recursion)
+-- ---- prices by their texts
+
+pub fits : (p : ℤ) → unsigned_abs p ≤ 9999 → FitsSigned w16 p
+fits p within = fits_signed_from_abs w16 p (omega (arith, within))
+
+-- a price that is written from its 16 bits
+pub written_price : (text : List ℕ) (p : ℤ) → text ≡ signed_decimal (to_z w16 (of_z w16 p)) → unsigned_abs p ≤ 9999
+    → text ≡ signed_decimal p
+written_price text p e within = e ∙ ap signed_decimal (to_z-of_z w16 p (fits p within))
+
+pub small : (p : ℤ) → unsigned_abs p ≤ 9999 → mag p < 2 ^ 63
+small p e = grind arith
+
+short_price : (p : ℤ) → unsigned_abs p ≤ 9999 → length (signed_decimal p) ≤ 5
+short_price (pos n) within = omega (arith, length-decimal-le 4 n (omega arith) (omega arith) (omega arith))
+short_price (negsuc n) within = omega (arith, length-decimal-le 4 (suc n) (omega arith) (omega arith) (omega arith))
+
+pub short_text : (text : List ℕ) (p : ℤ) → text ≡ signed_decimal (to_z w16 (of_z w16 p)) → unsigned_abs p ≤ 9999
+    → length text ≤ 5
+short_text text p e within = omega (arith, ap length (written_price text p e within), short_price p within)
+
+pub no_text : {S E : Type 0} (bs : List ℕ) (r : Result S E) (P : S → Type 0) (Q : E → Type 0)
+    → MatchResult r P (λ e. ¬ (IsUtf8 bs) × Q e) → result_ok r ≡ None → (price : ℤ) → unsigned_abs price ≤ 9999 → signed_decimal price ≢ bs
+no_text bs (Ok s) P Q h none price within e = cc
+no_text bs (Err f) P Q h none price within e = h.0 (subst IsUtf8 e (IsUtf8-from_ascii (signed_decimal price) (IsAscii-signed price (small price within))))
+
+pub read_price : {E : Type 0} (bs : List ℕ) (r : Result ℤ E) → ParsesSigned w16 10 bs r → (price : ℤ) → unsigned_abs price ≤ 9999 → signed_decimal price ≡ bs
+    → result_ok r ≡ Some price
+read_price bs r h price within e = ap result_ok (parse-signed_decimal w16 price bs r (fits price within) (small price within) (sym e) h)
+
+pub only_price : {E : Type 0} (bs : List ℕ) (r : Result ℤ E) (q : ℤ) (test : Bool) → ParsesSigned w16 10 bs r → result_ok r ≡ Some q
+    → unsigned_abs q ≤ 9999 → Decides test (signed_decimal q ≡ bs)
+    → MatchOption (then_some test q)
+    ((price : ℤ) → unsigned_abs price ≤ 9999 → signed_decimal price ≢ bs)
+    (λ price. (signed_decimal price ≡ bs) × (unsigned_abs price ≤ 9999))
+only_price bs r q true h some near d = (d.0 refl, near)
+only_price bs r q false h some near d = λ price within e.
+    let same : q ≡ price = let read = read_price bs r h price within e in cc in
+    false≢true (d.1 (ap signed_decimal same ∙ e))
+
+-- ---- words that are prices
+
+-- what `price_of_text` says of a word
+abbrev pub IsPriceOf : List ℕ → Option ℤ → Type 0
+IsPriceOf word r =
+    MatchOption r ((price : ℤ) → unsigned_abs price ≤ 9999 → signed_decimal price ≢ word) (λ price. (signed_decimal price ≡ word) × (unsigned_abs price ≤ 9999))
+
+pub tells_price : (word : List ℕ) (r : Option ℤ) → IsPriceOf word r → IsTrue (is_some r) ↔ IsPriceText word
+tells_price word r e = grind arith
+
+pub not_at : (words : List (Bor (List ℕ))) (i : ℕ) (d : Bor (List ℕ)) → i < length words → ¬ (IsPriceText (get_or words i d).now)
+    → ¬ (All IsPriceText (map (λ (word : Bor (List ℕ)). word.now) words))
+not_at words i d inside none all =
+    none
+    (subst IsPriceText (get_or-map (λ (word : Bor (List ℕ)). word.now) words i d d.now inside)
+    (all i d.now (omega (arith, inside, length-map words (λ (word : Bor (List ℕ)). word.now)))))
+
+pub all_price_texts : (prices : List ℤ) → AreWithinReach prices → All IsPriceText (map signed_decimal prices)
+all_price_texts prices reach =
+    All-map IsPriceText signed_decimal prices
+    (All-weaker (λ price. unsigned_abs price ≤ 9999) (λ price. IsPriceText (signed_decimal price)) (λ price within. (price, within, refl)) prices reach)
+
+priced : (words : List (List ℕ)) → AllByRecursion IsPriceText words
+    → (prices : List ℤ) × (words ≡ map signed_decimal prices) × AllByRecursion (λ price. unsigned_abs price ≤ 9999) prices
+priced [] all = ([], refl, tt)
+priced (word ∷ words) (is, all) =
+    let rest = priced words all in
+    (is.0 ∷ rest.0, cc, (is.1, rest.2))
+
+-- ---- what is said of words as prices
+
+module _ (number line : ℕ) {words : List (List ℕ)} where
+  pub other_count : (prices : List ℤ) → words ≡ map signed_decimal prices → AreWithinReach prices → length prices ≢ number
+      → SaysPrices number line words (Err PriceMissing)
+  other_count prices are reach differs =
+      Found prices (are, reach) (Refused PriceMissing ((λ same count. differs count), refl) refl)
+
+  pub too_many : All IsPriceText words → number < length words → SaysPrices number line words (Err PriceMissing)
+  too_many all many =
+      let are = priced words (recursion_from_All IsPriceText words all) in
+      other_count are.0 are.1 (All-from_recursion _ are.0 are.2)
+      (λ count. omega (arith, many, count, ap length are.1, length-map are.0 signed_decimal))
+
+  pub no_prices : ¬ (All IsPriceText words) → SaysPrices number line words (Err (BadLine line))
+  no_prices none =
+      Refused (BadLine line)
+      ((λ prices are. none (subst (All IsPriceText) (sym are.0) (all_price_texts prices are.1))), refl) refl
+
+-- ---- the words of a card's lines
+
+-- ---- answers
+
+-- a step's fault is handed on
+pub stops : {F Y : Type 0} (answer : Result Y F) (fault : F) (Good : Y → Type 0) (Bad : F → Type 0)
+    → IsErrAnd answer (λ made. made ≡ fault) → Bad fault → MatchResult answer Good Bad
+stops answer fault Good Bad made bad = let is = err_from_is_err_and answer made in rw (is.1, is.2) bad
+
+-- two texts are compared
+pub same_text : {a b : List ℕ} {test : Bool} → test ≡ not (pointwise eqb a b) → test ≡ false → a ≡ b
+same_text {a} {b} is e = (slice_eq-Decides Decides-eqb a b _ refl).0 (not-false _ (sym is ∙ e))
+
+pub other_text : {a b : List ℕ} {test : Bool} → test ≡ not (pointwise eqb a b) → test ≡ true → a ≢ b
+other_text {a} {b} is e same = false≢true (sym (is ∙ ap not ((slice_eq-Decides Decides-eqb a b _ refl).1 same)) ∙ e)
+
+pub filled : {text : List ℕ} {test : Bool} → test ≡ eqb (length text) 0 → test ≡ false → text ≢ []
+filled is e none = false≢true (sym e ∙ is ∙ ap (λ t. eqb (length t) 0) none)
+
+-- no line is due where there are bytes: there is none
+pub no_line : {line : ℕ} {bytes : List ℕ} {fault : CardFault} → bytes ≢ [] → SaysLine line bytes (Err fault)
+    → ((found : List (List ℕ) × List ℕ) → ¬ (HasWords bytes found.0 found.1)) × (fault ≡ BadLine line)
+no_line some (Refused f none e) = absurd (none.0 tt some)
+no_line some (Found x is next) = next
+
+-- ---- words
+
+pub bytes_are_word : (b : ℕ) (bs : List ℕ) → AllByRecursion (λ c. 32 < c) (b ∷ bs) → IsWord (b ∷ bs)
+bytes_are_word b bs above = word_by_bytes (b ∷ bs) (λ none. cc) (All-from_recursion (λ c. 32 < c) (b ∷ bs) above)
+
+below_zero : (word : List ℕ) → IsWord word → IsWord (45 ∷ word)
+below_zero word w = record {
+  filled = λ same. cc;
+  spaceless = All-cons (λ b. b ≢ 32) 45 word (λ same. omega (arith, same)) w.spaceless;
+  unbroken = All-cons (λ b. b ≢ 10) 45 word (λ same. omega (arith, same)) w.unbroken;
+}
+
+number_word : (text : List ℕ) → IsNumberText text → IsWord text
+number_word text e = grind (arith, word_by_bytes, All-weaker, All-cons)
+
+pub numeral_word : (signed : Bool) (text : List ℕ) → IsNumeral signed text → IsWord text
+numeral_word signed text e = grind (arith, number_word, below_zero)
+
+pub signed_word : (z : ℤ) → unsigned_abs z < 2 ^ 64 → IsWord (signed_decimal z)
+signed_word (pos n) small = numbers_are_words n small
+signed_word (negsuc n) small = below_zero (decimal (suc n)) (numbers_are_words (suc n) small)
+
+version_is_word : (version : Version) → IsWord (version_text version)
+version_is_word version = grind (arith, word_by_test)
+
+pub head_is_words : (version : Version) (day : ℕ) → day ≤ 31 → All IsWord (head_words version day)
+head_is_words version day small = grind (arith, All-from_recursion, word_by_test, version_is_word, numbers_are_words)
+
+pub head_has_words : {bytes : List ℕ} (version : Version) (day : ℕ) (rest : List ℕ)
+    → BeginsWithHead bytes version day rest → HasWords bytes (head_words version day) rest
+head_has_words version day rest head =
+    line_has_words (head_words version day) rest (λ none. cc) (head_is_words version day head.of_month.last) head.text
+
+pub first_is_word : (kind : Group) → IsWord (row_word kind) × IsWord (column_word kind)
+first_is_word kind = grind (arith, word_by_test)
+
+pub prices_are_words : (word : List ℕ) (prices : List ℤ) → IsWord word → AreWithinReach prices
+    → All IsWord (price_words word prices)
+prices_are_words word prices w reach =
+    All-cons IsWord word (map signed_decimal prices) w
+    (All-map IsWord signed_decimal prices
+    (All-weaker (λ price. unsigned_abs price ≤ 9999) (λ price. IsWord (signed_decimal price))
+    (λ price within. signed_word price (omega (arith, within))) prices reach))
+
+-- ---- the keywords of numbers
+
+figures : IsNumeralModel (λ ds. (i : ℕ) → i < length ds → IsInRange 48 57 (get_or ds i 0)) (digits_value 10)
+figures = numerals_by_value (λ ds. (i : ℕ) → i < length ds → IsInRange 48 57 (get_or ds i 0)) tells_by_index
+
+number_by_parts : (text : List ℕ) → 0 < length text → ((i : ℕ) → i < length text → IsDigit (get_or text i 0)) → (get_or text 0 0 ≡ 48 → length text ≡ 1)
+    → IsNumberText text
+number_by_parts [] some digits lead = absurd (omega arith)
+number_by_parts (digit ∷ rest) some digits lead = (
+  digits 0 (omega arith),
+  All-from_get_or IsDigit rest 0 (λ i inside. digits (suc i) (omega arith)),
+  λ e. nil_from_length rest (omega (arith, lead e)),
+)
+
+no_leading_zero : (number : ℕ) → number < 2 ^ 64 → get_or (decimal number) 0 0 ≡ 48 → length (decimal number) ≡ 1
+no_leading_zero zero small e = ap length (decimal_digit 0 (omega arith))
+no_leading_zero (suc n) small e = absurd (omega (arith, first_decimal (suc n) (omega arith) small, e))
+
+pub number_text : (number : ℕ) → number < 2 ^ 64 → IsNumberText (decimal number)
+number_text number small =
+    grind (arith, number_by_parts, decimal_nonempty, small, digits_decimal, figures, no_leading_zero)
+
+not_zero : (n : ℕ) → suc n < 2 ^ 64 → decimal (suc n) ≢ codes "0"
+not_zero n small e = omega (arith, first_decimal (suc n) (omega arith) small, ap (λ t. get_or t 0 0) e)
+
+pub signed_text : (z : ℤ) → unsigned_abs z < 2 ^ 64 → IsNumeral true (signed_decimal z)
+signed_text (pos n) small = inl (number_text n small)
+signed_text (negsuc n) small = inr (decimal (suc n), refl, number_text (suc n) small, not_zero n small)
+
+-- ---- the sum of prices is small
+
+sum_bound : (a : ℤ) (prices : List ℤ) → AllByRecursion (λ price. unsigned_abs price ≤ 9999) prices
+    → unsigned_abs (fold (λ sum price. sum +ℤ price) a prices) ≤ unsigned_abs a + 9999 * length prices
+sum_bound a [] reach = omega arith
+sum_bound a (price ∷ prices) reach = grind (arith, sum_bound (a +ℤ price) prices reach.1)
+
+pub few_prices : (prices : PriceParts) → how_many prices ≤ 27
+few_prices prices = grind arith
+
+pub price_sum_is_small : (prices : PriceParts) → ArePrices prices → unsigned_abs (price_sum prices) < 2 ^ 64
+price_sum_is_small prices p =
+    grind (arith, common_steps, All-append, sum_bound, recursion_from_All, length-append, few_prices)
+
+-- ---- a name and a value
+
+module _ (signed : Bool) (name due : List ℕ) (line : ℕ) where
+  pub value_says : {bytes rest : List ℕ} → IsNumeral signed due → bytes ≡ with_line (name ∷ due ∷ []) rest
+      → SaysValue signed name due line bytes (Ok rest)
+  value_says {rest} form e = Found (due, rest) (form, e) (Found tt refl refl)
+
+  pub other_value : {bytes : List ℕ} (value rest : List ℕ) → IsNumeral signed value → bytes ≡ with_line (name ∷ value ∷ []) rest
+      → value ≢ due → SaysValue signed name due line bytes (Err CountWrong)
+  other_value value rest form e differs =
+      Found (value, rest) (form, e) (Refused CountWrong ((λ same is. differs is), refl) refl)
+
+  pub no_value : {bytes : List ℕ} → ((value rest : List ℕ) → IsNumeral signed value → bytes ≢ with_line (name ∷ value ∷ []) rest)
+      → SaysValue signed name due line bytes (Err (BadLine line))
+  no_value none = Refused (BadLine line) ((λ found is. none found.0 found.1 is.0 is.1), refl) refl
+
+  pub value_said : {bytes rest : List ℕ} → SaysValue signed name due line bytes (Ok rest)
+      → bytes ≡ with_line (name ∷ due ∷ []) rest
+  value_said says = grind (arith, passed)
+
+-- ---- a first word, and prices
+
+module _ {K : Type 0} (word : K → List ℕ) {line : ℕ} {bytes : List ℕ} where
+  pub first_found : {first : List ℕ} {words : List (List ℕ)} {rest : List ℕ} (key : K)
+      → SaysLine line bytes (Ok (first ∷ words, rest)) → first ≡ word key → SaysFirst word line bytes (Ok (key, words, rest))
+  first_found {first} {words} {rest} key says is =
+      Found (first ∷ words, rest) says (Found (key, words) (ap (λ w. w ∷ words) is) refl)
+
+  pub other_first : {first : List ℕ} {words : List (List ℕ)} {rest : List ℕ} → SaysLine line bytes (Ok (first ∷ words, rest))
+      → ((key : K) → first ≢ word key) → SaysFirst word line bytes (Err PriceMissing)
+  other_first {first} {words} {rest} says none =
+      Found (first ∷ words, rest) says
+      (Refused PriceMissing ((λ key is. none key.0 (ap (λ ws. get_or ws 0 []) is)), refl) refl)
+
+  pub first_says : (key : K) (words : List (List ℕ)) (rest : List ℕ) → HasWords bytes (word key ∷ words) rest
+      → SaysFirst word line bytes (Ok (key, words, rest))
+  first_says key words rest has = first_found key (Found tt (some_bytes has) has) refl
+
+-- what a line of prices has
+pub record HasPrices (bytes word : List ℕ) (number : ℕ) (prices : List ℤ) (rest : List ℕ) : Type 0 where
+  pub text : bytes ≡ with_line (price_words word prices) rest
+  pub reach : AreWithinReach prices
+  pub count : length prices ≡ number
+
+pub prices_said : {number line : ℕ} {words : List (List ℕ)} {prices : List ℤ} → SaysPrices number line words (Ok prices)
+    → (words ≡ map signed_decimal prices) × AreWithinReach prices × (length prices ≡ number)
+prices_said {number} {words} {prices} says = grind (arith, passed)
+
+pub line_said : {K : Type 0} (word : K → List ℕ) (number : K → ℕ) {line : ℕ} {bytes : List ℕ} (x : K × List ℤ × List ℕ)
+    → SaysPriceLine word number line bytes (Ok x) → HasPrices bytes (word x.0) (number x.0) x.1 x.2
+line_said {K} word number {bytes} x says =
+    let first = passed says in
+    let found = passed first.says in
+    let split = passed found.says in
+    let key = passed found.next in
+    let prices = passed first.next in
+    let are = prices_said prices.says in
+    let is : x ≡ (key.found.0, prices.found, found.found.1) = cc in
+    let words : found.found.0 ≡ price_words (word key.found.0) prices.found =
+    key.says ∙ ap (λ w. word key.found.0 ∷ w) (cc) in
+    subst (λ (y : K × List ℤ × List ℕ). HasPrices bytes (word y.0) (number y.0) y.1 y.2) (sym is) (record {
+      text = is_line split.next ∙ ap (λ w. with_line w found.found.1) words;
+      reach = are.1;
+      count = are.2 ∙ ap number (cc);
+    })
+
+-- ---- groups of kinds
+
+pub record HasGroup (name : Name) (number : ℕ) (bytes : List ℕ) (kinds : List PricedKind) (rest : List ℕ) : Type 0 where
+  pub lines : bytes ≡ kinds_text kinds ++ rest
+  pub group : IsGroup name number kinds
+
+pub group_said : {name : Name} {number : ℕ} (line : ℕ) {bytes : List ℕ} (x : List PricedKind × List ℕ)
+    → SaysGroup name number line bytes (Ok x) → HasGroup name number bytes x.0 x.1
+group_said {name} {number} line {bytes} x says = grind (arith, passed)

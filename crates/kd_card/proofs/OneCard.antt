@@ -1,14 +1,9 @@
 -- Bytes are one card, or have one fault.
-use Rattle.kd_card.proofs.Prelude.{Bool, true, false, codes, ◌≡◌, ◌≢◌, ℕ, ◌+◌, ◌*◌, ◌^◌, ◌<◌, ◌≤◌, List, [], ◌∷◌, ◌++◌, length, map, get_or, Result, Ok, Err, refl, sym, ap, subst, ◌∙◌, arith, ℤ, unsigned_abs, append_assoc, AllByRecursion, signed_decimal, decimal_injective, signed_decimal_injective, append-nil, recursion_from_All, Setting, IsWord, setting_words, setting_line, list_text, IsInRange, BeginsWith, BeginsWithNoLine, SettingsHaveWords, LinesTellSettings, PriceParts, Cables, Bars, CableKinds, BarKinds, Version, ByNumber, ByKind, Group, OfCables, OfBars, Name, PricedKind, Trailing, Then, Refused, Found, Only, Demands, look_rank, name_text, kind_words, kinds_text, AreKinds, AreCalled, version_of, row_kinds, column_kinds, price_sum, AreWithinReach, ArePrices, group_of, row_word, column_word, row_name, column_name, price_count, version_text, head_words, settings_words, price_words, sum_words, lines_text, price_lines, card_text, IsGroup, IsCard, with_line, SaysValue, SaysFirst, BeginsWithHead, BeginsWithSettings, SaysSettings, SaysPriceLine, SaysNumbered, BeginsWithWord, EndsGroup, AtOther, IsNextKind, HasNoNext, floor_behind, SaysGroup, SaysKinded, SaysAllPrices, SaysBehind, SaysCard, TextsTellCards, NoCardBeginsAnother, CardsHaveNoFault, OneCardFault, common_steps}
-use Rattle.kd_card.specs.declared.fault.CardFault.{CardFault}
+use Rattle.kd_card.proofs.Prelude.{Bool, true, false, codes, ◌≡◌, ◌≢◌, ℕ, ◌+◌, ◌*◌, ◌^◌, ◌<◌, ◌≤◌, List, [], ◌∷◌, ◌++◌, length, map, get_or, Result, Ok, Err, refl, sym, ap, subst, ◌∙◌, arith, ℤ, unsigned_abs, append_assoc, AllByRecursion, signed_decimal, decimal_injective, signed_decimal_injective, append-nil, recursion_from_All, Setting, IsWord, setting_line, list_text, IsInRange, BeginsWith, BeginsWithNoLine, PriceParts, Cables, Bars, CableKinds, BarKinds, Version, ByNumber, ByKind, Group, OfCables, OfBars, Name, PricedKind, Trailing, Then, Refused, Found, Only, Demands, look_rank, name_text, kinds_text, AreKinds, AreCalled, version_of, row_kinds, column_kinds, price_sum, AreWithinReach, ArePrices, group_of, row_word, column_word, row_name, column_name, price_count, version_text, settings_words, price_words, sum_words, lines_text, price_lines, card_text, IsGroup, IsCard, with_line, SaysValue, SaysFirst, BeginsWithHead, BeginsWithSettings, SaysSettings, SaysPriceLine, SaysNumbered, BeginsWithWord, EndsGroup, AtOther, IsNextKind, floor_behind, SaysGroup, SaysKinded, SaysAllPrices, SaysBehind, SaysCard, TextsTellCards, NoCardBeginsAnother, CardsHaveNoFault, OneCardFault, common_steps, line_has_no_break, lines_tell_settings, texts_tell_first_parts, word_by_test, BeginsWithKinds, CardsAreSaid, IsOnly, only_demands, only_finds, only_only, only_takes, only_then, passed, same_ok, CardFault, head_words, kind_words}
 use Rattle.kd_card.specs.CardFault.{numbered}
-use Rattle.kd_card.specs.Laws.{CardsAreSaid}
-use Rattle.kd_card.specs.Steps.{IsOnly, only_then, only_only, only_finds, only_demands, only_takes, passed, same_ok}
-use Rattle.kd_card.proofs.Lines.{Laws, line_has_words, value_line, same_words, text_of_more, two_lines, card_and_more}
-use Rattle.kd_card.proofs.PriceTexts.{small}
-use Rattle.kd_card.proofs.CardWords.{word_by_test, numeral_word, signed_word, head_is_words, row_is_word, column_is_word, prices_are_words, number_text, signed_text, price_sum_is_small, value_says, value_said, first_says, line_said, group_said}
+use Rattle.kd_card.proofs.Lines.{line_has_words, value_line, same_words, text_of_more, two_lines, card_and_more, small, numeral_word, signed_word, head_has_words, first_is_word, prices_are_words, number_text, signed_text, price_sum_is_small, value_says, value_said, first_says, HasPrices, line_said, group_said}
 use Rattle.kd_card.proofs.KindWords.{kind_is_words, kind_begins, end_has_no_next, same_kind}
-use Rattle.kd_card.proofs.KindPrices.{text_of_more_kinds, text_by_kind, both_groups, size_of, of_two_groups, same_kind_parts}
+use Rattle.kd_card.proofs.KindPrices.{text_of_more_kinds, text_by_kind, both_groups, size_of, of_two_groups, same_kind_parts, some_and_few}
 
 -- ---- what is told by its text
 
@@ -28,9 +23,6 @@ same_prices (p ∷ ps) (q ∷ qs) a b e =
     cc
 same_prices ps qs a b e = absurd (omega (arith, ap length e))
 
-some_prices : (group : Group) → 0 < price_count group
-some_prices group = grind arith
-
 -- the first and the third letter tell the line that ends the settings from those of settings
 abbrev first_and_third : List ℕ → ℕ
 first_and_third line = get_or line 0 0 * 256 + get_or line 2 0
@@ -46,15 +38,11 @@ record AreAll (by : Version) (bytes : List ℕ) (prices : PriceParts) (rest : Li
   text : bytes ≡ lines_text (price_lines prices) ++ rest
   are : ArePrices prices
 
-by_number : (group : Group) (rows columns : List ℤ) {bytes rest : List ℕ}
-    → bytes ≡ with_line (price_words (row_word group) rows) (with_line (price_words (column_word group) columns) rest)
-    → AreWithinReach rows → AreWithinReach columns → length rows ≡ price_count group → length columns ≡ price_count group
+by_number : (group : Group) (rows columns : List ℤ) {bytes middle rest : List ℕ}
+    → HasPrices bytes (row_word group) (price_count group) rows middle
+    → HasPrices middle (column_word group) (price_count group) columns rest
     → AreAll ByNumber bytes (numbered group rows columns) rest
-by_number group rows columns e d g h o = grind (arith, common_steps, two_lines)
-
-kinds_lines : (prices : PriceParts) {rows columns : List PricedKind} → version_of prices ≡ ByKind → row_kinds prices ≡ rows
-    → column_kinds prices ≡ columns → kinds_text rows ++ kinds_text columns ≡ lines_text (price_lines prices)
-kinds_lines prices by r c = rw (← r, ← c) (sym (text_by_kind prices by))
+by_number group rows columns a b = grind (arith, common_steps, two_lines)
 
 all_said : (version : Version) (line : ℕ) {bytes : List ℕ} (x : PriceParts × List ℕ) → SaysAllPrices version line bytes (Ok x)
     → AreAll version bytes x.0 x.1
@@ -64,8 +52,7 @@ all_said ByNumber line {bytes} x says =
     let a = line_said _ _ rows.found rows.says in
     let b = line_said _ _ columns.found columns.says in
     subst (λ (y : PriceParts × List ℕ). AreAll ByNumber bytes y.0 y.1) (sym (same_ok columns.next))
-    (by_number rows.found.0 rows.found.1 columns.found.1
-    (a.text ∙ ap (with_line (price_words (row_word rows.found.0) rows.found.1)) b.text) a.reach b.reach a.count b.count)
+    (by_number rows.found.0 rows.found.1 columns.found.1 a b)
 all_said ByKind line {bytes} x says =
     let first = passed says in
     let rows = passed first.next in
@@ -75,13 +62,11 @@ all_said ByKind line {bytes} x says =
     let group = first.found.0 in
     let a = group_said _ rows.found rows.says in
     let b = group_said _ columns.found columns.says in
+    let parts = append_assoc (kinds_text rows.found.0) (kinds_text columns.found.0) columns.found.1 in
+    let lines = text_by_kind both.found have.version in
     subst (λ (y : PriceParts × List ℕ). AreAll ByKind bytes y.0 y.1) (sym (same_ok both.next)) (record {
       version = have.version;
-      text =
-          a.lines ∙ ap (λ t. kinds_text rows.found.0 ++ t) b.lines
-          ∙ sym (append_assoc (kinds_text rows.found.0) (kinds_text columns.found.0) columns.found.1)
-          ∙ ap (λ t. t ++ columns.found.1)
-          (kinds_lines both.found have.version have.row_kinds have.column_kinds);
+      text = cc;
       are =
           of_two_groups group both.found have.version (ap price_count (sym have.of_group) ∙ size_of both.found)
           have.row_kinds have.column_kinds a.group b.group;
@@ -119,265 +104,265 @@ card_said {bytes} x says =
       are_prices = are.are;
     })
 
-module _ (laws : Laws) where
-  -- ---- lines of prices
+-- ---- lines of prices
 
-  only_first : {K : Type 0} (word : K → List ℕ) → ((key other : K) → word key ≡ word other → key ≡ other)
-      → (line : ℕ) (bytes : List ℕ) → IsOnly (SaysFirst word line bytes)
-  only_first word one line bytes =
-      only_then
-      (only_then (only_demands _ _)
-      (λ some filled. only_finds _ (λ x y a b. let same = same_words laws.first_parts a b in same_pair x y same.0 same.1)))
-      (λ found has. only_then (only_finds _ (λ x y a b. same_pair x y (one x.0 y.0 (cc)) (cc))) (λ first is. only_only _))
+only_first : {K : Type 0} (word : K → List ℕ) → ((key other : K) → word key ≡ word other → key ≡ other)
+    → (line : ℕ) (bytes : List ℕ) → IsOnly (SaysFirst word line bytes)
+only_first word one line bytes =
+    only_then
+    (only_then (only_demands _ _)
+    (λ some filled. only_finds _ (λ x y a b. let same = same_words a b in same_pair x y same.0 same.1)))
+    (λ found has. only_then (only_finds _ (λ x y a b. same_pair x y (one x.0 y.0 (cc)) (cc))) (λ first is. only_only _))
 
-  only_price_line : {K : Type 0} (word : K → List ℕ) (number : K → ℕ) → ((key other : K) → word key ≡ word other → key ≡ other)
-      → (line : ℕ) (bytes : List ℕ) → IsOnly (SaysPriceLine word number line bytes)
-  only_price_line word number one line bytes =
-      only_then (only_first word one line bytes)
-      (λ first says. only_then
-      (only_then
-      (only_finds _ (λ ps qs a b.
-      same_prices ps qs (recursion_from_All _ ps a.1) (recursion_from_All _ qs b.1) (sym a.0 ∙ b.0)))
-      (λ prices are. only_then (only_demands _ _) (λ all count. only_only prices))) (λ prices are. only_only _))
+only_price_line : {K : Type 0} (word : K → List ℕ) (number : K → ℕ) → ((key other : K) → word key ≡ word other → key ≡ other)
+    → (line : ℕ) (bytes : List ℕ) → IsOnly (SaysPriceLine word number line bytes)
+only_price_line word number one line bytes =
+    only_then (only_first word one line bytes)
+    (λ first says. only_then
+    (only_then
+    (only_finds _ (λ ps qs a b.
+    same_prices ps qs (recursion_from_All _ ps a.1) (recursion_from_All _ qs b.1) (sym a.0 ∙ b.0)))
+    (λ prices are. only_then (only_demands _ _) (λ all count. only_only prices))) (λ prices are. only_only _))
 
-  price_line_says : {K : Type 0} (word : K → List ℕ) (number : K → ℕ) {line : ℕ} {bytes : List ℕ} (key : K) (prices : List ℤ)
-      (rest : List ℕ) → IsWord (word key) → AreWithinReach prices → length prices ≡ number key
-      → bytes ≡ with_line (price_words (word key) prices) rest
-      → SaysPriceLine word number line bytes (Ok (key, prices, rest))
-  price_line_says word number key prices rest is_word reach count e =
-      let words = prices_are_words laws.numbers (word key) prices is_word reach in
-      Found (key, map signed_decimal prices, rest)
-      (first_says _ key (map signed_decimal prices) rest
-      (line_has_words laws (price_words (word key) prices) rest (λ none. cc) words e))
-      (Found prices (Found prices (refl, reach) (Found tt count refl)) refl)
+price_line_says : {K : Type 0} (word : K → List ℕ) (number : K → ℕ) {line : ℕ} {bytes : List ℕ} (key : K) (prices : List ℤ)
+    (rest : List ℕ) → IsWord (word key) → AreWithinReach prices → length prices ≡ number key
+    → bytes ≡ with_line (price_words (word key) prices) rest
+    → SaysPriceLine word number line bytes (Ok (key, prices, rest))
+price_line_says word number key prices rest is_word reach count e =
+    let words = prices_are_words (word key) prices is_word reach in
+    Found (key, map signed_decimal prices, rest)
+    (first_says _ key (map signed_decimal prices) rest
+    (line_has_words (price_words (word key) prices) rest (λ none. cc) words e))
+    (Found prices (Found prices (refl, reach) (Found tt count refl)) refl)
 
-  -- ---- groups of kinds
+-- ---- groups of kinds
 
-  next_kind : {name : Name} {floor : ℕ} (kind : PricedKind) (kinds : List PricedKind) (rest : List ℕ) {bytes : List ℕ}
-      → AreCalled name (kind ∷ kinds) → AreKinds floor (kind ∷ kinds) → bytes ≡ kinds_text (kind ∷ kinds) ++ rest
-      → IsNextKind name floor bytes kind (kinds_text kinds ++ rest)
-  next_kind kind kinds rest called are e = record {
-    called = called.0;
-    good = are.0;
-    above = are.1;
-    line =
-        line_has_words laws (kind_words kind) (kinds_text kinds ++ rest) (λ none. cc) (kind_is_words laws.numbers kind are.0)
-        (e ∙ text_of_more_kinds kind kinds rest);
-  }
+next_kind : {name : Name} {floor : ℕ} (kind : PricedKind) (kinds : List PricedKind) (rest : List ℕ) {bytes : List ℕ}
+    → AreCalled name (kind ∷ kinds) → AreKinds floor (kind ∷ kinds) → bytes ≡ kinds_text (kind ∷ kinds) ++ rest
+    → IsNextKind name floor bytes kind (kinds_text kinds ++ rest)
+next_kind kind kinds rest called are e = record {
+  called = called.0;
+  good = are.0;
+  above = are.1;
+  line =
+      line_has_words (kind_words kind) (kinds_text kinds ++ rest) (λ none. cc) (kind_is_words kind are.0)
+      (e ∙ text_of_more_kinds kind kinds rest);
+}
 
-  kinds_end : (name : Name) (floor : ℕ) (xs ys : List PricedKind) {bytes : List ℕ} (rest more : List ℕ) → AreCalled name xs
-      → AreCalled name ys → AreKinds floor xs → AreKinds floor ys → HasNoNext name (floor_behind floor xs) rest
-      → HasNoNext name (floor_behind floor ys) more → bytes ≡ kinds_text xs ++ rest → bytes ≡ kinds_text ys ++ more
-      → (xs ≡ ys) × (rest ≡ more)
-  kinds_end name floor [] [] rest more c d a b none nor e f = (refl, sym e ∙ f)
-  kinds_end name floor [] (y ∷ ys) rest more c d a b none nor e f =
-      absurd (none y (kinds_text ys ++ more) (next_kind y ys more d b (sym e ∙ f)))
-  kinds_end name floor (x ∷ xs) [] rest more c d a b none nor e f =
-      absurd (nor x (kinds_text xs ++ rest) (next_kind x xs rest c a (sym f ∙ e)))
-  kinds_end name floor (x ∷ xs) (y ∷ ys) rest more c d a b none nor e f =
-      let same = same_words laws.first_parts (next_kind x xs rest c a e).line (next_kind y ys more d b f).line in
-      let heads : x ≡ y = same_kind laws.first_parts x y a.0 b.0 same.0 in
-      let above : AreKinds (look_rank x.look + 1) ys = subst (λ z. AreKinds (look_rank z.look + 1) ys) (sym heads) b.2 in
-      let behind : HasNoNext name (floor_behind (look_rank x.look + 1) ys) more =
-      subst (λ z. HasNoNext name (floor_behind (look_rank z.look + 1) ys) more) (sym heads) nor in
-      let tails = kinds_end name (look_rank x.look + 1) xs ys rest more c.1 d.1 a.2 above none behind refl same.1 in
-      (cc, tails.1)
+behind : {name : Name} {floor : ℕ} {kind : PricedKind} {kinds : List PricedKind} {bytes rest : List ℕ}
+    → BeginsWithKinds name floor bytes (kind ∷ kinds) rest
+    → BeginsWithKinds name (look_rank kind.look + 1) (kinds_text kinds ++ rest) kinds rest
+behind b = record { lines = refl; called = b.called.1; in_order = b.in_order.2; none_more = b.none_more }
 
-  only_group : (name : Name) (number line : ℕ) (bytes : List ℕ) → IsOnly (SaysGroup name number line bytes)
-  only_group name number line bytes =
-      only_then
-      (only_takes (λ x y a b.
-      let same =
-      kinds_end name 0 x.0 y.0 x.1 y.1 a.begins.called b.begins.called a.begins.in_order b.begins.in_order a.none_more
-      b.none_more a.begins.lines b.begins.lines in
-      same_pair x y same.0 same.1))
-      (λ group takes. only_then (only_demands _ _) (λ end ends. only_then (only_demands _ _) (λ all count. only_only group)))
+kinds_end : (name : Name) (floor : ℕ) (xs ys : List PricedKind) {bytes : List ℕ} (rest more : List ℕ)
+    → BeginsWithKinds name floor bytes xs rest → BeginsWithKinds name floor bytes ys more → (xs ≡ ys) × (rest ≡ more)
+kinds_end name floor [] [] rest more a b = (refl, sym a.lines ∙ b.lines)
+kinds_end name floor [] (y ∷ ys) rest more a b =
+    absurd (a.none_more y (kinds_text ys ++ more) (next_kind y ys more b.called b.in_order (sym a.lines ∙ b.lines)))
+kinds_end name floor (x ∷ xs) [] rest more a b =
+    absurd (b.none_more x (kinds_text xs ++ rest) (next_kind x xs rest a.called a.in_order (sym b.lines ∙ a.lines)))
+kinds_end name floor (x ∷ xs) (y ∷ ys) rest more a b =
+    let first = next_kind x xs rest a.called a.in_order a.lines in
+    let same = same_words first.line (next_kind y ys more b.called b.in_order b.lines).line in
+    let heads : x ≡ y = same_kind x y a.in_order.0 b.in_order.0 same.0 in
+    let next = look_rank x.look + 1 in
+    let other : BeginsWithKinds name next (kinds_text xs ++ rest) ys more = rw (heads, same.1) (behind b) in
+    let tails = kinds_end name next xs ys rest more (behind a) other in
+    (cc, tails.1)
 
-  group_says : {name : Name} {number : ℕ} (line : ℕ) {bytes : List ℕ} (kinds : List PricedKind) (rest : List ℕ)
-      → IsGroup name number kinds → bytes ≡ kinds_text kinds ++ rest → EndsGroup name rest
-      → SaysGroup name number line bytes (Ok (kinds, rest))
-  group_says line kinds rest group e ends =
-      Found (kinds, rest)
-      (record {
-        begins = record { lines = e; called = group.called; in_order = group.in_order };
-        none_more = end_has_no_next laws.first_parts (floor_behind 0 kinds) ends;
-      })
-      (Found tt ends (Found tt group.count refl))
+only_group : (name : Name) (number line : ℕ) (bytes : List ℕ) → IsOnly (SaysGroup name number line bytes)
+only_group name number line bytes =
+    only_then
+    (only_takes (λ x y a b. let same = kinds_end name 0 x.0 y.0 x.1 y.1 a b in same_pair x y same.0 same.1))
+    (λ group takes. only_then (only_demands _ _) (λ end ends. only_then (only_demands _ _) (λ all count. only_only group)))
 
-  -- a group of kinds begins with their name
-  group_begins : {name : Name} {number : ℕ} {bytes : List ℕ} (kinds : List PricedKind) (rest : List ℕ) → 0 < number
-      → IsGroup name number kinds → bytes ≡ kinds_text kinds ++ rest → BeginsWithWord (name_text name) bytes
-  group_begins [] rest some group e = let count = group.count in absurd (omega arith)
-  group_begins (kind ∷ kinds) rest some group e =
-      kind_begins laws.first_parts (next_kind kind kinds rest group.called group.in_order e)
+group_says : {name : Name} {number : ℕ} (line : ℕ) {bytes : List ℕ} (kinds : List PricedKind) (rest : List ℕ)
+    → IsGroup name number kinds → bytes ≡ kinds_text kinds ++ rest → EndsGroup name rest
+    → SaysGroup name number line bytes (Ok (kinds, rest))
+group_says line kinds rest group e ends =
+    Found (kinds, rest)
+    (record {
+      lines = e;
+      called = group.called;
+      in_order = group.in_order;
+      none_more = end_has_no_next (floor_behind 0 kinds) ends;
+    })
+    (Found tt ends (Found tt group.count refl))
 
-  -- ---- the prices
+-- a group of kinds begins with their name
+group_begins : {name : Name} {number : ℕ} {bytes : List ℕ} (kinds : List PricedKind) (rest : List ℕ) → 0 < number
+    → IsGroup name number kinds → bytes ≡ kinds_text kinds ++ rest → BeginsWithWord (name_text name) bytes
+group_begins [] rest some group e = let count = group.count in absurd (omega arith)
+group_begins (kind ∷ kinds) rest some group e =
+    kind_begins (next_kind kind kinds rest group.called group.in_order e)
 
-  only_all_prices : (version : Version) (line : ℕ) (bytes : List ℕ) → IsOnly (SaysAllPrices version line bytes)
-  only_all_prices ByNumber line bytes =
-      only_then (only_price_line _ _ (λ group other e. grind arith) line bytes)
-      (λ rows says. only_then (only_price_line _ _ (λ only other e. refl) (line + 1) rows.2) (λ columns say. only_only _))
-  only_all_prices ByKind line bytes =
-      only_then (only_first _ (λ group other e. grind arith) line bytes)
-      (λ first says. only_then (only_group (row_name first.0) (price_count first.0) line bytes)
-      (λ rows say. only_then (only_group (column_name first.0) (price_count first.0) (line + length rows.0) rows.1)
-      (λ columns all. only_then (only_takes same_kind_parts) (λ prices have. only_only _))))
+-- ---- the prices
 
-  by_number_says : (group : Group) (line : ℕ) {bytes : List ℕ} (rows columns : List ℤ) (rest : List ℕ) → AreWithinReach rows
-      → AreWithinReach columns → length rows ≡ price_count group → length columns ≡ price_count group
-      → bytes ≡ with_line (price_words (row_word group) rows) (with_line (price_words (column_word group) columns) rest)
-      → SaysNumbered line bytes (Ok (numbered group rows columns, rest))
-  by_number_says group line rows columns rest a b many also e =
-      let second = with_line (price_words (column_word group) columns) rest in
-      Found (group, rows, second) (price_line_says _ _ group rows second (row_is_word group) a many e)
-      (Found (tt, columns, rest) (price_line_says _ _ tt columns rest (column_is_word group) b also refl) refl)
+only_all_prices : (version : Version) (line : ℕ) (bytes : List ℕ) → IsOnly (SaysAllPrices version line bytes)
+only_all_prices ByNumber line bytes =
+    only_then (only_price_line _ _ (λ group other e. grind arith) line bytes)
+    (λ rows says. only_then (only_price_line _ _ (λ only other e. refl) (line + 1) rows.2) (λ columns say. only_only _))
+only_all_prices ByKind line bytes =
+    only_then (only_first _ (λ group other e. grind arith) line bytes)
+    (λ first says. only_then (only_group (row_name first.0) (price_count first.0) line bytes)
+    (λ rows say. only_then (only_group (column_name first.0) (price_count first.0) (line + length rows.0) rows.1)
+    (λ columns all. only_then (only_takes same_kind_parts) (λ prices have. only_only _))))
 
-  by_kind_says : (line : ℕ) {bytes : List ℕ} (prices : PriceParts) (rest : List ℕ) → version_of prices ≡ ByKind
-      → ArePrices prices → EndsGroup (column_name (group_of prices)) rest → bytes ≡ lines_text (price_lines prices) ++ rest
-      → SaysKinded line bytes (Ok (prices, rest))
-  by_kind_says line prices rest by are ends e =
-      let group = group_of prices in
-      let rows = row_kinds prices in
-      let columns = column_kinds prices in
-      let groups = both_groups prices by are in
-      let lines =
-      e ∙ ap (λ t. t ++ rest) (text_by_kind prices by) ∙ append_assoc (kinds_text rows) (kinds_text columns) rest in
-      let first = group_begins rows (kinds_text columns ++ rest) (some_prices group) groups.0 lines in
-      let second = group_begins columns rest (some_prices group) groups.1 refl in
-      Found (group, first.behind, first.rest) (first_says _ group first.behind first.rest first.has)
-      (Found (rows, kinds_text columns ++ rest)
-      (group_says _ rows (kinds_text columns ++ rest) groups.0 lines
-      (AtOther (name_text (column_name group)) second (grind arith)))
-      (Found (columns, rest) (group_says _ columns rest groups.1 refl ends)
-      (Found prices (record { of_group = refl; version = by; row_kinds = refl; column_kinds = refl }) refl)))
+by_number_says : (group : Group) (line : ℕ) {bytes : List ℕ} (rows columns : List ℤ) (rest : List ℕ) → AreWithinReach rows
+    → AreWithinReach columns → length rows ≡ price_count group → length columns ≡ price_count group
+    → bytes ≡ with_line (price_words (row_word group) rows) (with_line (price_words (column_word group) columns) rest)
+    → SaysNumbered line bytes (Ok (numbered group rows columns, rest))
+by_number_says group line rows columns rest a b many also e =
+    let second = with_line (price_words (column_word group) columns) rest in
+    Found (group, rows, second) (price_line_says _ _ group rows second (first_is_word group).0 a many e)
+    (Found (tt, columns, rest) (price_line_says _ _ tt columns rest (first_is_word group).1 b also refl) refl)
 
-  all_say : (prices : PriceParts) (line : ℕ) {bytes : List ℕ} (rest : List ℕ) → ArePrices prices
-      → ((name : Name) → EndsGroup name rest) → bytes ≡ lines_text (price_lines prices) ++ rest
-      → SaysAllPrices (version_of prices) line bytes (Ok (prices, rest))
-  all_say (Cables row col) line rest are ends e =
-      by_number_says OfCables line row col rest are.row_reach are.column_reach are.rows are.columns
-      (e ∙ two_lines (price_words (row_word OfCables) row) (price_words (column_word OfCables) col) rest)
-  all_say (Bars row col) line rest are ends e =
-      by_number_says OfBars line row col rest are.row_reach are.column_reach are.rows are.columns
-      (e ∙ two_lines (price_words (row_word OfBars) row) (price_words (column_word OfBars) col) rest)
-  all_say (CableKinds row col) line rest are ends e = by_kind_says line (CableKinds row col) rest refl are (ends _) e
-  all_say (BarKinds row col) line rest are ends e = by_kind_says line (BarKinds row col) rest refl are (ends _) e
+by_kind_says : (line : ℕ) {bytes : List ℕ} (prices : PriceParts) (rest : List ℕ) → version_of prices ≡ ByKind
+    → ArePrices prices → EndsGroup (column_name (group_of prices)) rest → bytes ≡ lines_text (price_lines prices) ++ rest
+    → SaysKinded line bytes (Ok (prices, rest))
+by_kind_says line prices rest by are ends e =
+    let group = group_of prices in
+    let rows = row_kinds prices in
+    let columns = column_kinds prices in
+    let groups = both_groups prices by are in
+    let lines =
+    e ∙ ap (λ t. t ++ rest) (text_by_kind prices by) ∙ append_assoc (kinds_text rows) (kinds_text columns) rest in
+    let first = group_begins rows (kinds_text columns ++ rest) (some_and_few group).0 groups.0 lines in
+    let second = group_begins columns rest (some_and_few group).0 groups.1 refl in
+    Found (group, first.behind, first.rest) (first_says _ group first.behind first.rest first.has)
+    (Found (rows, kinds_text columns ++ rest)
+    (group_says _ rows (kinds_text columns ++ rest) groups.0 lines
+    (AtOther (name_text (column_name group)) second (grind arith)))
+    (Found (columns, rest) (group_says _ columns rest groups.1 refl ends)
+    (Found prices (record { of_group = refl; version = by; row_kinds = refl; column_kinds = refl }) refl)))
 
-  -- ---- the head, and a name and a value
+all_say : (prices : PriceParts) (line : ℕ) {bytes : List ℕ} (rest : List ℕ) → ArePrices prices
+    → ((name : Name) → EndsGroup name rest) → bytes ≡ lines_text (price_lines prices) ++ rest
+    → SaysAllPrices (version_of prices) line bytes (Ok (prices, rest))
+all_say (Cables row col) line rest are ends e =
+    by_number_says OfCables line row col rest are.row_reach are.column_reach are.rows are.columns
+    (e ∙ two_lines (price_words (row_word OfCables) row) (price_words (column_word OfCables) col) rest)
+all_say (Bars row col) line rest are ends e =
+    by_number_says OfBars line row col rest are.row_reach are.column_reach are.rows are.columns
+    (e ∙ two_lines (price_words (row_word OfBars) row) (price_words (column_word OfBars) col) rest)
+all_say (CableKinds row col) line rest are ends e = by_kind_says line (CableKinds row col) rest refl are (ends _) e
+all_say (BarKinds row col) line rest are ends e = by_kind_says line (BarKinds row col) rest refl are (ends _) e
 
-  one_head : (bytes : List ℕ) (head other : Version × ℕ × List ℕ) → BeginsWithHead bytes head.0 head.1 head.2
-      → BeginsWithHead bytes other.0 other.1 other.2 → head ≡ other
-  one_head bytes (version, day, rest) (by, other, more) a b =
-      grind (arith, common_steps, line_has_words, head_is_words, same_words, same_version, decimal_injective)
+-- ---- the head, and a name and a value
 
-  only_value : (signed : Bool) (name due : List ℕ) (line : ℕ) (bytes : List ℕ) → IsWord name
-      → IsOnly (SaysValue signed name due line bytes)
-  only_value signed name due line bytes named =
-      only_then
-      (only_finds _ (λ x y a b.
-      let same =
-      same_words laws.first_parts (value_line laws name x.0 x.1 named (numeral_word signed x.0 a.0) a.1) (value_line laws name y.0 y.1 named (numeral_word signed y.0 b.0) b.1) in
-      same_pair x y (ap (λ w. get_or w 1 []) same.0) same.1))
-      (λ found says. only_then (only_demands _ _) (λ due is. only_only _))
+one_head : (bytes : List ℕ) (head other : Version × ℕ × List ℕ) → BeginsWithHead bytes head.0 head.1 head.2
+    → BeginsWithHead bytes other.0 other.1 other.2 → head ≡ other
+one_head bytes (version, day, rest) (by, other, more) a b =
+    let same = same_words (head_has_words version day rest a) (head_has_words by other more b) in
+    grind (arith, common_steps, same_version, decimal_injective)
 
-  -- the line of the sum ends the kinds
-  sum_ends : (sum : ℤ) (rest : List ℕ) → unsigned_abs sum < 2 ^ 64 → (name : Name)
-      → EndsGroup name (with_line (sum_words sum) rest)
-  sum_ends sum rest near name =
-      let has = value_line laws (codes "SUM") (signed_decimal sum) rest (word_by_test _ _ refl) (signed_word laws.numbers sum near) refl in
-      AtOther (codes "SUM") (record { behind = signed_decimal sum ∷ []; rest = rest; has = has }) (grind arith)
+only_value : (signed : Bool) (name due : List ℕ) (line : ℕ) (bytes : List ℕ) → IsWord name
+    → IsOnly (SaysValue signed name due line bytes)
+only_value signed name due line bytes named =
+    only_then
+    (only_finds _ (λ x y a b.
+    let first = value_line name x.0 x.1 named (numeral_word signed x.0 a.0) a.1 in
+    let other = value_line name y.0 y.1 named (numeral_word signed y.0 b.0) b.1 in
+    let same = same_words first other in
+    same_pair x y (ap (λ w. get_or w 1 []) same.0) same.1))
+    (λ found says. only_then (only_demands _ _) (λ due is. only_only _))
 
-  -- ---- the card
+-- the line of the sum ends the kinds
+sum_ends : (sum : ℤ) (rest : List ℕ) → unsigned_abs sum < 2 ^ 64 → (name : Name)
+    → EndsGroup name (with_line (sum_words sum) rest)
+sum_ends sum rest near name =
+    let has = value_line (codes "SUM") (signed_decimal sum) rest (word_by_test _ _ refl) (signed_word sum near) refl in
+    AtOther (codes "SUM") (record { behind = signed_decimal sum ∷ []; rest = rest; has = has }) (grind arith)
 
-  abbrev EndSays : List ℕ → ℕ × List Setting × PriceParts → Result (ℕ × List Setting × PriceParts) CardFault → Type 0
-  EndSays rest card = Then (Demands (rest ≡ []) Trailing) (λ (end : Unit {0}). Only card)
+-- ---- the card
 
-  card_says : {text : List ℕ} {day : ℕ} {xs : List Setting} {prices : PriceParts} {answer : Result (ℕ × List Setting × PriceParts) CardFault}
-      (rest : List ℕ)
-      → IsCard text day xs prices
-      → EndSays rest (day, xs, prices) answer → SaysCard (text ++ rest) answer
-  card_says {day} {xs} {prices} rest card end =
-      let few = card.few in
-      let near = price_sum_is_small prices card.are_prices in
-      let sum = with_line (sum_words (price_sum prices)) rest in
-      let behind = lines_text (price_lines prices) ++ sum in
-      let number = with_line (settings_words (length xs)) behind in
-      Found (version_of prices, day, list_text xs ++ number)
-      (record { text = ap (λ t. t ++ rest) card.text ∙ card_and_more day xs prices rest; of_month = card.of_month })
-      (Found (xs, number)
-      (record {
-        lines = record { lines = refl; in_range = card.in_range };
-        few = few;
-        none_more = λ x more r e. no_setting x more (sym (ap first_and_third e));
-      })
-      (Found behind (value_says false (codes "SETTINGS") _ _ (number_text (length xs) (omega arith)) refl)
-      (Found (prices, sum) (all_say prices _ sum card.are_prices (sum_ends (price_sum prices) rest near) refl)
-      (Found rest (value_says true (codes "SUM") _ _ (signed_text (price_sum prices) near) refl) end))))
+abbrev EndSays : List ℕ → ℕ × List Setting × PriceParts → Result (ℕ × List Setting × PriceParts) CardFault → Type 0
+EndSays rest card = Then (Demands (rest ≡ []) Trailing) (λ (end : Unit {0}). Only card)
 
-  module _ (worded : SettingsHaveWords) (told : LinesTellSettings) where
-    -- where no line of a setting follows the first settings, there are no more of them, and no others
-    lists_end : (xs ys : List Setting) (rest more : List ℕ) → AllByRecursion IsInRange xs → AllByRecursion IsInRange ys
-        → BeginsWithNoLine rest → list_text xs ++ rest ≡ list_text ys ++ more
-        → (length ys ≤ length xs) × (BeginsWithNoLine more → (xs ≡ ys) × (rest ≡ more))
-    lists_end [] [] rest more a b none e = (omega arith, λ nor. (refl, e))
-    lists_end [] (y ∷ ys) rest more a b none e = absurd (none y (list_text ys ++ more) b.0 (e ∙ text_of_more y ys more))
-    lists_end (x ∷ xs) [] rest more a b none e = grind (arith, text_of_more)
-    lists_end (x ∷ xs) (y ∷ ys) rest more a b none e =
-        let parts : (setting_line x ≡ setting_line y) × (list_text xs ++ rest ≡ list_text ys ++ more) =
-        laws.first_parts 10 (setting_line x) (setting_line y) (list_text xs ++ rest) (list_text ys ++ more)
-        (laws.one_line (setting_words x) (worded x a.0)) (laws.one_line (setting_words y) (worded y b.0))
-        (sym (text_of_more x xs rest) ∙ e ∙ text_of_more y ys more) in
-        let first : x ≡ y = told x y a.0 b.0 parts.0 in
-        let others = lists_end xs ys rest more a.1 b.1 none parts.1 in
-        (omega (arith, others.0), λ nor. let tails : xs ≡ ys = (others.1 nor).0 in (cc, (others.1 nor).1))
+card_says : {text : List ℕ} {day : ℕ} {xs : List Setting} {prices : PriceParts} {answer : Result (ℕ × List Setting × PriceParts) CardFault}
+    (rest : List ℕ)
+    → IsCard text day xs prices
+    → EndSays rest (day, xs, prices) answer → SaysCard (text ++ rest) answer
+card_says {day} {xs} {prices} rest card end =
+    let few = card.few in
+    let near = price_sum_is_small prices card.are_prices in
+    let sum = with_line (sum_words (price_sum prices)) rest in
+    let behind = lines_text (price_lines prices) ++ sum in
+    let number = with_line (settings_words (length xs)) behind in
+    Found (version_of prices, day, list_text xs ++ number)
+    (record { text = ap (λ t. t ++ rest) card.text ∙ card_and_more day xs prices rest; of_month = card.of_month })
+    (Found (xs, number)
+    (record {
+      lines = record { lines = refl; in_range = card.in_range };
+      few = few;
+      none_more = λ x more r e. no_setting x more (sym (ap first_and_third e));
+    })
+    (Found behind (value_says false (codes "SETTINGS") _ _ (number_text (length xs) (omega arith)) refl)
+    (Found (prices, sum) (all_say prices _ sum card.are_prices (sum_ends (price_sum prices) rest near) refl)
+    (Found rest (value_says true (codes "SUM") _ _ (signed_text (price_sum prices) near) refl) end))))
 
-    lists_meet : {body : List ℕ} {xs ys : List Setting} {rest more : List ℕ} → BeginsWithSettings body xs rest
-        → BeginsWith body ys more → (length ys ≤ length xs) × (BeginsWithNoLine more → (xs ≡ ys) × (rest ≡ more))
-    lists_meet {xs} {ys} {rest} {more} a b = grind (arith, lists_end, recursion_from_All)
+-- where no line of a setting follows the first settings, there are no more of them, and no others
+lists_end : (xs ys : List Setting) (rest more : List ℕ) → AllByRecursion IsInRange xs → AllByRecursion IsInRange ys
+    → BeginsWithNoLine rest → list_text xs ++ rest ≡ list_text ys ++ more
+    → (length ys ≤ length xs) × (BeginsWithNoLine more → (xs ≡ ys) × (rest ≡ more))
+lists_end [] [] rest more a b none e = (omega arith, λ nor. (refl, e))
+lists_end [] (y ∷ ys) rest more a b none e = absurd (none y (list_text ys ++ more) b.0 (e ∙ text_of_more y ys more))
+lists_end (x ∷ xs) [] rest more a b none e = grind (arith, text_of_more)
+lists_end (x ∷ xs) (y ∷ ys) rest more a b none e =
+    let parts : (setting_line x ≡ setting_line y) × (list_text xs ++ rest ≡ list_text ys ++ more) =
+    texts_tell_first_parts 10 (setting_line x) (setting_line y) (list_text xs ++ rest) (list_text ys ++ more)
+    (line_has_no_break x a.0) (line_has_no_break y b.0) (sym (text_of_more x xs rest) ∙ e ∙ text_of_more y ys more) in
+    let first : x ≡ y = lines_tell_settings x y a.0 b.0 parts.0 in
+    let others = lists_end xs ys rest more a.1 b.1 none parts.1 in
+    (omega (arith, others.0), λ nor. let tails : xs ≡ ys = (others.1 nor).0 in (cc, (others.1 nor).1))
 
-    not_too_many : {body : List ℕ} {xs ys : List Setting} {rest more : List ℕ} → BeginsWithSettings body xs rest
-        → BeginsWith body ys more → length ys ≡ 193 → ⊥
-    not_too_many a b many = let few = a.few in let most = (lists_meet a b).0 in omega arith
+lists_meet : {body : List ℕ} {xs ys : List Setting} {rest more : List ℕ} → BeginsWithSettings body xs rest
+    → BeginsWith body ys more → (length ys ≤ length xs) × (BeginsWithNoLine more → (xs ≡ ys) × (rest ≡ more))
+lists_meet {xs} {ys} {rest} {more} a b = grind (arith, lists_end xs ys rest more, recursion_from_All)
 
-    only_settings : (bytes : List ℕ) → IsOnly (SaysSettings bytes)
-    only_settings bytes (Ok x) (Ok y) a b = grind (arith, lists_meet a b.lines)
-    only_settings bytes (Ok x) (Err g) a b = absurd (not_too_many a b.0.2 b.0.3)
-    only_settings bytes (Err f) (Ok y) a b = absurd (not_too_many b a.0.2 a.0.3)
-    only_settings bytes (Err f) (Err g) a b = ap Err (a.1 ∙ sym b.1)
+not_too_many : {body : List ℕ} {xs ys : List Setting} {rest more : List ℕ} → BeginsWithSettings body xs rest
+    → BeginsWith body ys more → length ys ≡ 193 → ⊥
+not_too_many a b many = let few = a.few in let most = (lists_meet a b).0 in omega arith
 
-    only_card : (bytes : List ℕ) → IsOnly (SaysCard bytes)
-    only_card bytes =
-        only_then (only_finds _ (one_head bytes))
-        (λ head found. only_then (only_settings head.2)
-        (λ list begins. only_then (only_value false (codes "SETTINGS") _ _ _ (word_by_test _ _ refl))
-        (λ rest number. only_then (only_all_prices head.0 (length list.0 + 3) rest)
-        (λ prices all. only_then (only_value true (codes "SUM") _ _ _ (word_by_test _ _ refl))
-        (λ end sum. only_then (only_demands _ _) (λ none is. only_only _))))))
+only_settings : (bytes : List ℕ) → IsOnly (SaysSettings bytes)
+only_settings bytes (Ok x) (Ok y) a b = grind (arith, lists_meet a b.lines)
+only_settings bytes (Ok x) (Err g) a b = absurd (not_too_many a b.0.2 b.0.3)
+only_settings bytes (Err f) (Ok y) a b = absurd (not_too_many b a.0.2 a.0.3)
+only_settings bytes (Err f) (Err g) a b = ap Err (a.1 ∙ sym b.1)
 
-    says_itself : {bytes : List ℕ} {day : ℕ} {xs : List Setting} {prices : PriceParts} → IsCard bytes day xs prices
-        → SaysCard bytes (Ok (day, xs, prices))
-    says_itself {bytes} {day} {xs} {prices} card =
-        let answer : Result (ℕ × List Setting × PriceParts) CardFault = Ok (day, xs, prices) in
-        subst (λ t. SaysCard t answer) (append-nil bytes) (card_says [] card (Found tt refl refl))
+only_card : (bytes : List ℕ) → IsOnly (SaysCard bytes)
+only_card bytes =
+    only_then (only_finds _ (one_head bytes))
+    (λ head found. only_then (only_settings head.2)
+    (λ list begins. only_then (only_value false (codes "SETTINGS") _ _ _ (word_by_test _ _ refl))
+    (λ rest number. only_then (only_all_prices head.0 (length list.0 + 3) rest)
+    (λ prices all. only_then (only_value true (codes "SUM") _ _ _ (word_by_test _ _ refl))
+    (λ end sum. only_then (only_demands _ _) (λ none is. only_only _))))))
 
-    -- ---- laws
+says_itself : {bytes : List ℕ} {day : ℕ} {xs : List Setting} {prices : PriceParts} → IsCard bytes day xs prices
+    → SaysCard bytes (Ok (day, xs, prices))
+says_itself {bytes} {day} {xs} {prices} card =
+    let answer : Result (ℕ × List Setting × PriceParts) CardFault = Ok (day, xs, prices) in
+    subst (λ t. SaysCard t answer) (append-nil bytes) (card_says [] card (Found tt refl refl))
 
-    pub texts_tell_cards : TextsTellCards
-    texts_tell_cards bytes day other xs ys prices others a b =
-        let same = same_ok (only_card bytes _ _ (says_itself a) (says_itself b)) in
-        (ap (λ x. x.0) same, ap (λ x. x.1) same, ap (λ x. x.2) same)
+-- ---- laws
 
-    pub cards_are_said : CardsAreSaid
-    cards_are_said bytes day xs prices = (card_said (day, xs, prices), says_itself)
+pub texts_tell_cards : TextsTellCards
+texts_tell_cards bytes day other xs ys prices others a b =
+    let same = same_ok (only_card bytes _ _ (says_itself a) (says_itself b)) in
+    (ap (λ x. x.0) same, ap (λ x. x.1) same, ap (λ x. x.2) same)
 
-    pub cards_have_no_fault : CardsHaveNoFault
-    cards_have_no_fault bytes day xs prices fault a b = let same = only_card bytes _ _ (says_itself a) b in cc
+pub cards_are_said : CardsAreSaid
+cards_are_said bytes day xs prices = (card_said (day, xs, prices), says_itself)
 
-    pub no_card_begins_another : NoCardBeginsAnother
-    no_card_begins_another text [] day other xs ys prices others a b = refl
-    no_card_begins_another text (byte ∷ rest) day other xs ys prices others a b =
-        absurd (cards_have_no_fault (text ++ byte ∷ rest) other ys others Trailing b
-        (card_says (byte ∷ rest) a (Refused Trailing ((λ none e. cc), refl) refl)))
+pub cards_have_no_fault : CardsHaveNoFault
+cards_have_no_fault bytes day xs prices fault a b = let same = only_card bytes _ _ (says_itself a) b in cc
 
-    pub one_card_fault : OneCardFault
-    one_card_fault bytes fault other a b = let same = only_card bytes _ _ a b in cc
+pub no_card_begins_another : NoCardBeginsAnother
+no_card_begins_another text [] day other xs ys prices others a b = refl
+no_card_begins_another text (byte ∷ rest) day other xs ys prices others a b =
+    absurd (cards_have_no_fault (text ++ byte ∷ rest) other ys others Trailing b
+    (card_says (byte ∷ rest) a (Refused Trailing ((λ none e. cc), refl) refl)))
+
+pub one_card_fault : OneCardFault
+one_card_fault bytes fault other a b = let same = only_card bytes _ _ a b in cc

@@ -1,14 +1,192 @@
--- No list of settings that leads to the day has fewer than there are loose things and prices in sum, and a card that proves
--- itself has as many.
-use Rattle.kd_card.proofs.Prelude.{◌≡◌, ℕ, ◌+◌, ◌<◌, ◌≤◌, Bool, cond, List, [], ◌∷◌, ◌++◌, length, get_or, map, zip, fold, Contains, Option, ℤ, pos, ◌+ℤ◌, ◌≤ℤ◌, IsPermutation, refl, sym, ap, ◌∙◌, subst, arith, None, ints, length_permutation, All-permutation, Contains-permutation, IsPermutation-sym, Model, reflectors_of, letters_plugged, Parts, Rotor, Pin, Setting, model_of, IsMachine, Leads, changed, Day, OfRotors, OfPins, day_model, IsLegalDay, ReadsAs, cable_cost, bar_cost, columns_of, cost_table, loose_count, PriceParts, Cables, Bars, ArePrices, Fits, AreTight, price_sum, is_priced, priced_count, AreOfKind, IsNeeded, AreNeeded, Same, Expanded, FittingPricesBoundLists, ProvingCardsAreAsLong, ProvingCardsAreShortest, ProvingPricesAreTight, get_or_default, get_or-map, length-zip, get_or-zip, One, AsFewAreNeeded, why_refused, sum_by, thirteen_columns}
-use Rattle.std.proofs.lemmas.List.Elements.{All-from_get_or, Contains-get_or}
-use Rattle.kd_tables.specs.declared.model.Model.TheVariants.{M209}
-use Rattle.kd_tables.specs.declared.reflector.Reflector.{Reflector}
-use Rattle.kd_card.proofs.Duality.{fold_of_both, prices_moved, pairing_cost, fitting_prices, tight_at, sum_of, prices_with, FitTogether, FitAll}
-use Rattle.kd_card.proofs.Counts.{count_by-cons, once_of_distinct}
-use Rattle.kd_card.proofs.Falling.{machines_have_all, list_keeps}
-use Rattle.kd_card.proofs.Loosening.{left, lowers, leaves, model_of-changed, nothing_loose}
-use Rattle.kd_card.proofs.Pairing.{cables_paired, bars_paired}
+-- On a machine that reads as the day cables and bars can be paired with its columns, each with one that costs nothing. So
+-- no list of settings that leads to the day has fewer than there are loose things and prices in sum, and a card that
+-- proves itself has as many.
+use Rattle.kd_card.proofs.Prelude.{◌≡◌, ◌≢◌, ℕ, zero, suc, ◌+◌, ◌-◌, ◌≤◌, nat_eq, cond, List, [], ◌∷◌, ◌++◌, length, get_or, map, zip, replicate, Contains, IsPermutation, count_by, remove, Option, Some, None, ℤ, refl, sym, ap, ◌∙◌, subst, arith, AllByRecursion, AllZip, flat_map, eq-eqb, All-contains, recursion_from_All, sum_by-cons, get_or-le-sum_by, sum_by-IsPermutation, Contains-permutation, IsPermutation-refl, IsPermutation-sym, IsPermutation-cons, IsPermutation-trans, IsPermutation-remove, Place, One, alphabet, reading_of, IsBefore, letters_plugged, cable_letters, plugged_letters, has_letter, SameLetters, IsPaired, IsJoined, AreThePairs, differ, cable_cost, bar_cost, columns_of, tests_tell_letters, thirteen_columns, rules, Contains-append_right, sum_by, Stands, Contains-tail, ◌<◌, Bool, pos, ◌+ℤ◌, ◌≤ℤ◌, ints, length_permutation, All-permutation, Model, reflectors_of, Parts, Rotor, Pin, Setting, model_of, IsMachine, Leads, changed, Day, OfRotors, OfPins, day_model, IsLegalDay, ReadsAs, cost_table, loose_count, PriceParts, Cables, Bars, ArePrices, Fits, AreTight, price_sum, is_priced, priced_count, AreOfKind, IsNeeded, AreNeeded, Same, Expanded, FittingPricesBoundLists, ProvingCardsAreAsLong, ProvingCardsAreShortest, ProvingPricesAreTight, get_or_default, get_or-map, length-zip, get_or-zip, AsFewAreNeeded, why_refused, IsTightAt, column_prices, cost_at, how_many, price_at, row_prices, All-from_get_or, Contains-get_or}
+use Rattle.kd_state.specs.Costs.{standings_as}
+use Rattle.std.proofs.lemmas.List.Edits.{length-remove}
+use Rattle.kd_card.proofs.Duality.{pairing_cost, reordered, fold_of_both, prices_moved, fitting_prices, tight_at, sum_of, prices_with, FitTogether, FitAll}
+use Rattle.kd_card.proofs.Counts.{count_by-cons, times, times-append, AreOnce, once_of_distinct}
+use Rattle.kd_card.proofs.Falling.{HasCables, HasBars, not_differing, machines_have_all, list_keeps, left, lowers, leaves, model_of-changed, nothing_loose}
+use Rattle.kd_tables.specs.declared.{model.Model.TheVariants.M209, reflector.Reflector.Reflector}
+
+-- a cable with the letters of its column costs nothing
+none_differ : (xs ys : List ℕ) → ((letter : ℕ) → has_letter xs letter ≡ has_letter ys letter) → (letters : List ℕ) → count_by (λ letter. differ (has_letter xs letter) (has_letter ys letter)) letters ≡ 0
+none_differ xs ys same [] = refl
+none_differ xs ys same (letter ∷ letters) =
+    count_by-cons (λ letter. differ (has_letter xs letter) (has_letter ys letter)) letter letters
+    ∙ rw (same letter, not_differing (has_letter ys letter), none_differ xs ys same letters) refl
+
+abbrev CostsNothing : Option ℕ × Option ℕ → Option (ℕ × ℕ) → Type 0
+CostsNothing cable column = cable_cost cable column ≡ 0
+
+-- letters that are among these are counted
+counted : (letters : List ℕ) (letter : ℕ) → Contains letters letter → 1 ≤ times letter letters
+counted letters letter there =
+    let here = ap (λ b. cond {A = ℕ} b 1 0) (eq-eqb letter (get_or letters there.0 letter) (sym there.2)) in
+    omega (arith, get_or-le-sum_by (λ other. cond (nat_eq letter other) 1 0) letters there.0 letter there.1)
+
+-- letters that lie in some things
+module _ {X : Type 0} (letters_of : X → List ℕ) where
+  times-flat_map : (letter : ℕ) (xs : List X) → times letter (flat_map letters_of xs) ≡ sum_by (λ x. times letter (letters_of x)) xs
+  times-flat_map letter [] = refl
+  times-flat_map letter (x ∷ xs) =
+      omega (arith, times-append letter (letters_of x) (flat_map letters_of xs), sum_by-cons (λ x. times letter (letters_of x)) x xs, times-flat_map letter xs)
+
+  -- none lies in two of them, in whichever order they are
+  once_moved : (xs ys : List X) → IsPermutation xs ys → AreOnce (flat_map letters_of xs)
+      → AreOnce (flat_map letters_of ys)
+  once_moved xs ys order once letter =
+      let same = sum_by-IsPermutation (λ x. times letter (letters_of x)) xs ys order in
+      omega (arith, once letter, times-flat_map letter xs, times-flat_map letter ys)
+
+  in_one : (x : X) (xs : List X) (other : X) (letter : ℕ) → AreOnce (flat_map letters_of (x ∷ xs))
+      → Contains (letters_of x) letter → Contains xs other → ¬ (Contains (letters_of other) letter)
+  in_one x xs other letter once here among there =
+      let same = ap (λ y. times letter (letters_of y)) among.2 in
+      let later = get_or-le-sum_by (λ y. times letter (letters_of y)) xs among.0 other among.1 in
+      let first = counted (letters_of x) letter here in
+      let second = counted (letters_of other) letter there in
+      omega (arith, once letter, times-append letter (letters_of x) (flat_map letters_of xs), times-flat_map letter xs)
+
+abbrev pair_letters : ℕ × ℕ → List ℕ
+pair_letters pair = pair.0 ∷ pair.1 ∷ []
+
+abbrev HasPair : Option ℕ × Option ℕ → ℕ × ℕ → Type 0
+HasPair cable pair = SameLetters (cable_letters cable) (pair_letters pair)
+
+-- each cable that isn't empty has a pair's letters, and each pair's letters lie in a cable
+pub record AreMatched (cables : List (Option ℕ × Option ℕ)) (pairs : List (ℕ × ℕ)) : Type 0 where
+  pub cables_once : AreOnce (plugged_letters cables)
+  pub pairs_once : AreOnce (letters_plugged pairs)
+  pub pair : (cable : Option ℕ × Option ℕ) → Contains cables cable → cable_letters cable ≢ [] → (pair : ℕ × ℕ) × Contains pairs pair × HasPair cable pair
+  pub cable : (pair : ℕ × ℕ) → Contains pairs pair → (cable : Option ℕ × Option ℕ) × Contains cables cable × HasPair cable pair
+
+-- the first pair and its cable are taken away
+module _ (cables rest : List (Option ℕ × Option ℕ)) (cable : Option ℕ × Option ℕ) (pair : ℕ × ℕ) (pairs : List (ℕ × ℕ)) (order : IsPermutation cables (cable ∷ rest)) (h : AreMatched cables (pair ∷ pairs)) (here : HasPair cable pair) where
+  once_in_order : AreOnce (plugged_letters (cable ∷ rest))
+  once_in_order = once_moved cable_letters cables (cable ∷ rest) order h.cables_once
+
+  pair_of_rest : (other : Option ℕ × Option ℕ) → Contains rest other → cable_letters other ≢ [] → (p : ℕ × ℕ) × Contains pairs p × HasPair other p
+  pair_of_rest other among some =
+      let back = IsPermutation-sym cables (cable ∷ rest) order in
+      let there = Contains-append_right (cable ∷ []) rest other among in
+      let found = h.pair other (Contains-permutation (cable ∷ rest) cables other back there) some in
+      let first : Contains (pair_letters pair) pair.0 = (zero, omega arith, refl) in
+      let lies = λ (same : pair ≡ found.0).
+      let also : HasPair other pair = subst (HasPair other) (sym same) found.2 in (also pair.0).1 first in
+      let apart = λ (same : pair ≡ found.0).
+      in_one cable_letters cable rest other pair.0 once_in_order ((here pair.0).1 first) among (lies same) in
+      (found.0, Contains-tail pair pairs found.0 apart found.1, found.2)
+
+  cable_of_rest : (other : ℕ × ℕ) → Contains pairs other → (c : Option ℕ × Option ℕ) × Contains rest c × HasPair c other
+  cable_of_rest other among =
+      let found = h.cable other (Contains-append_right (pair ∷ []) pairs other among) in
+      let first : Contains (pair_letters other) other.0 = (zero, omega arith, refl) in
+      let there = Contains-permutation cables (cable ∷ rest) found.0 order found.1 in
+      let lies = λ (same : cable ≡ found.0).
+      let also : HasPair cable other = subst (λ c. HasPair c other) (sym same) found.2 in (also other.0).1 first in
+      let apart = λ (same : cable ≡ found.0).
+      in_one pair_letters pair pairs other other.0 h.pairs_once ((here other.0).0 (lies same)) among first in
+      (found.0, Contains-tail cable rest found.0 apart there, found.2)
+
+  rest_matched : AreMatched rest pairs
+  rest_matched = record {
+    cables_once = λ letter. omega (arith, once_in_order letter, times-append letter (cable_letters cable) (plugged_letters rest));
+    pairs_once = λ letter. omega (arith, h.pairs_once letter, times-append letter (pair_letters pair) (letters_plugged pairs));
+    pair = pair_of_rest;
+    cable = cable_of_rest;
+  }
+
+-- without pairs all cables are empty
+empty_costs_nothing : (cable : Option ℕ × Option ℕ) → (cable_letters cable ≢ [] → ⊥) → CostsNothing cable None
+empty_costs_nothing cable e = grind (arith, none_differ)
+
+all_empty : (cables : List (Option ℕ × Option ℕ)) (number : ℕ) → length cables ≡ number → ((cable : Option ℕ × Option ℕ) → Contains cables cable → cable_letters cable ≢ [] → ⊥)
+    → AllZip CostsNothing cables (replicate number None)
+all_empty [] zero e h = tt
+all_empty (cable ∷ cables) (suc number) e h =
+    let here = empty_costs_nothing cable (h cable (zero, omega arith, refl)) in
+    let later = λ (other : Option ℕ × Option ℕ) (among : Contains cables other).
+    h other (Contains-append_right (cable ∷ []) cables other among) in
+    (here, all_empty cables number (omega arith) later)
+all_empty cables number e h = absurd (omega arith)
+
+-- the cables in an order in which each costs nothing at its column
+pub matched : (cables : List (Option ℕ × Option ℕ)) (pairs : List (ℕ × ℕ)) (nothings : ℕ) → length cables ≡ length pairs + nothings → AreMatched cables pairs
+    → (others : List (Option ℕ × Option ℕ)) × IsPermutation cables others × AllZip CostsNothing others (map Some pairs ++ replicate nothings None)
+matched cables [] nothings e h =
+    (cables, IsPermutation-refl cables, all_empty cables nothings (omega arith) (λ cable among some. let found = h.pair cable among some in omega (arith, found.1.1)))
+matched cables (pair ∷ pairs) nothings e h =
+    let found = h.cable pair (zero, omega arith, refl) in
+    let rest = remove cables found.1.0 in
+    let order = IsPermutation-remove cables found.1.0 found.0 found.1.1 (sym found.1.2) in
+    let fewer = length-remove cables found.1.0 found.1.1 in
+    let further = matched rest pairs nothings (omega arith) (rest_matched cables rest found.0 pair pairs order h found.2) in (
+      found.0 ∷ further.0,
+      IsPermutation-trans cables (found.0 ∷ rest) (found.0 ∷ further.0) order (IsPermutation-cons found.0 rest further.0 further.1),
+      (none_differ (cable_letters found.0) (pair_letters pair) ((tests_tell_letters (cable_letters found.0) (pair_letters pair)).0 found.2) alphabet, further.2),
+    )
+
+-- A pairing: the columns with their prices, each beside the row that it is paired with, and none costs anything.
+pub record FreePairing {A B : Type 0} (cost : A → B → ℕ) (rows : List A) (columns : List B) (prices : List ℤ) : Type 0 where
+  pub beside : List (B × ℤ)
+  pub order : IsPermutation (zip columns prices) beside
+  pub free : pairing_cost cost rows beside ≡ 0
+
+module _ {A B : Type 0} (cost : A → B → ℕ) where
+  free_of_all : (rows : List A) (ws : List (B × ℤ)) → AllZip (λ row w. cost row w.0 ≡ 0) rows ws → pairing_cost cost rows ws ≡ 0
+  free_of_all (row ∷ rows) (w ∷ ws) h = omega (arith, sum_by-cons (λ (pair : A × (B × ℤ)). cost pair.0 pair.1.0) (row, w) (zip rows ws), h.0, free_of_all rows ws h.1)
+  free_of_all [] ws h = refl
+  free_of_all rows ws h = absurd h
+
+with_prices : {A B : Type 0} (R : A → B → Type 0) (xs : List A) (columns : List B) (prices : List ℤ) → length columns ≡ length prices → AllZip R xs columns
+    → AllZip (λ x (w : B × ℤ). R x w.0) xs (zip columns prices)
+with_prices R [] [] prices e h = tt
+with_prices R (x ∷ xs) (column ∷ columns) (price ∷ prices) e h = (h.0, with_prices R xs columns prices (omega arith) h.1)
+with_prices R (x ∷ xs) (column ∷ columns) [] e h = absurd (omega arith)
+with_prices R xs columns prices e h = absurd h
+
+pub cables_paired : (cables : List (Option ℕ × Option ℕ)) (pairs : List (ℕ × ℕ)) (prices : List ℤ) → HasCables cables → AreOnce (letters_plugged pairs) → length pairs ≤ 13 → length prices ≡ 13
+    → AreThePairs cables pairs → FreePairing cable_cost cables (columns_of pairs) prices
+cables_paired cables pairs prices has once few count h =
+    let matching : AreMatched cables pairs = record {
+      cables_once = once_of_distinct (plugged_letters cables) has.apart;
+      pairs_once = once;
+      pair = λ cable among some. let any = (All-contains (IsPaired pairs) cables cable h.pair among).joins some in (any.1, (any.0, any.2, any.3), any.4.letters);
+      cable = λ pair among. let any = (All-contains (IsJoined cables) pairs pair h.cable among).joins in (any.1, (any.0, any.2, any.3), any.4.letters);
+    }
+    in
+    let there = matched cables pairs (13 - length pairs) (omega (arith, has.count)) matching in
+    let beside = reordered (λ cable (w : Option (ℕ × ℕ) × ℤ). CostsNothing cable w.0) there.0 cables (zip (columns_of pairs) prices) (IsPermutation-sym cables there.0 there.1)
+    (with_prices CostsNothing there.0 (columns_of pairs) prices (omega (arith, thirteen_columns pairs few)) there.2) in
+    record { beside = beside.0; order = beside.1; free = free_of_all cable_cost cables beside.0 beside.2 }
+
+-- a bar that stands costs nothing at its own row
+own_row : (left right : Place) → IsBefore left right → bar_cost (left, right) (reading_of left right) ≡ 0
+unfolding standings_as
+own_row One One before = absurd (omega arith)
+own_row left One before = absurd (omega arith)
+own_row left right before = first_of (search rules, omega arith)
+
+abbrev reading : Place × Place → ℕ × ℕ
+reading bar = reading_of bar.0 bar.1
+
+alike_rows : (rows : List (ℕ × ℕ)) → AllZip (λ row (other : ℕ × ℕ). row ≡ other) rows rows
+alike_rows [] = tt
+alike_rows (row ∷ rows) = (refl, alike_rows rows)
+
+free_rows : (bars : List (Place × Place)) (ws : List ((ℕ × ℕ) × ℤ)) → AllByRecursion Stands bars → AllZip (λ row (w : (ℕ × ℕ) × ℤ). row ≡ w.0) (map reading bars) ws
+    → AllZip (λ bar (w : (ℕ × ℕ) × ℤ). bar_cost bar w.0 ≡ 0) bars ws
+free_rows [] [] stand h = tt
+free_rows (bar ∷ bars) (w ∷ ws) stand h = (subst (λ row. bar_cost bar row ≡ 0) h.0 (own_row bar.0 bar.1 stand.0), free_rows bars ws stand.1 h.1)
+free_rows bars ws stand h = absurd h
+
+pub bars_paired : (bars : List (Place × Place)) (rows : List (ℕ × ℕ)) (prices : List ℤ) → HasBars bars → length rows ≡ length prices → IsPermutation (map (λ bar. reading_of bar.0 bar.1) bars) rows
+    → FreePairing bar_cost bars rows prices
+bars_paired bars rows prices has count h =
+    let beside = reordered (λ row (w : (ℕ × ℕ) × ℤ). row ≡ w.0) rows (map reading bars) (zip rows prices) (IsPermutation-sym (map reading bars) rows h)
+    (with_prices (λ row (other : ℕ × ℕ). row ≡ other) rows rows prices count (alike_rows rows)) in
+    record { beside = beside.0; order = beside.1; free = free_of_all bar_cost bars beside.0 (free_rows bars beside.0 (recursion_from_All Stands bars has.stand) beside.2) }
 
 -- ---- each setting does one thing at most
 
@@ -27,18 +205,6 @@ module _ (columns : List (Option (ℕ × ℕ) × ℤ)) (rows : List ((ℕ × ℕ
 
 -- ---- fitting prices, and columns beside the rows for which so many lines pay
 
-record IsTable {A B : Type 0} (cost : A → B → ℕ) (number : ℕ) (rows : List A) (row_prices : List ℤ) (columns : List B) (prices : List ℤ)
-    (loose lines : ℕ) : Type 0 where
-  rows_count : length rows ≡ number
-  row_prices_count : length row_prices ≡ number
-  columns_count : length columns ≡ number
-  prices_count : length prices ≡ number
-  fits : (i j : ℕ) → i < number → j < number
-      → (get_or row_prices i (pos 0) +ℤ get_or prices j (pos 0)) ≤ℤ pos (get_or (get_or (map (λ row. map (cost row) columns) rows) i []) j 0)
-  beside : List (B × ℤ)
-  order : IsPermutation (zip columns prices) beside
-  enough : loose + pairing_cost cost rows beside ≤ lines
-
 -- what stands in a list stands in each other order of it
 placed : {X : Type 0} (xs ys : List X) (i : ℕ) (d : X) → IsPermutation xs ys → i < length ys
     → (j : ℕ) × (j < length xs) × (get_or ys i d ≡ get_or xs j d)
@@ -46,78 +212,91 @@ placed xs ys i d order lt =
     let there = Contains-permutation ys xs (get_or ys i d) (IsPermutation-sym xs ys order) (Contains-get_or ys i d lt) in
     (there.0, there.1, sym there.2 ∙ get_or_default xs there.0 (get_or ys i d) d there.1)
 
-module _ {A B : Type 0} {cost : A → B → ℕ} {number : ℕ} {rows : List A} {row_prices : List ℤ} {columns : List B} {prices : List ℤ}
-    {loose lines : ℕ} (a : A) (b : B) (h : IsTable cost number rows row_prices columns prices loose lines) where
-  abbrev TightIn : ℕ → ℕ → Type 0
-  TightIn i j =
-      (get_or row_prices i (pos 0) +ℤ get_or prices j (pos 0)) ≡ pos (get_or (get_or (map (λ row. map (cost row) columns) rows) i []) j 0)
+-- what fitting prices tell of so many lines
+record AreBounds (costs : List (List ℕ)) (prices : PriceParts) (loose lines : ℕ) : Type 0 where
+  bound : (pos loose +ℤ price_sum prices) ≤ℤ pos lines
+  tight : pos lines ≡ (pos loose +ℤ price_sum prices) → AreTight costs prices
 
-  zipped : length (zip columns prices) ≡ number
-  zipped = omega (arith, length-zip columns prices, h.columns_count, h.prices_count)
+module _ {A B : Type 0} (a : A) (b : B) (cost : A → B → ℕ) (rows : List A) (columns : List B) (prices : PriceParts)
+    (loose lines : ℕ) (rows_count : length rows ≡ how_many prices) (columns_count : length columns ≡ how_many prices)
+    (are : ArePrices prices) (fits : Fits (map (λ row. map (cost row) columns) rows) prices) (beside : List (B × ℤ))
+    (order : IsPermutation (zip columns (column_prices prices)) beside)
+    (enough : loose + pairing_cost cost rows beside ≤ lines) where
+  abbrev costs : List (List ℕ)
+  costs = map (λ row. map (cost row) columns) rows
 
-  size : length h.beside ≡ number
-  size = length_permutation (zip columns prices) h.beside h.order ∙ zipped
+  abbrev priced : List (B × ℤ)
+  priced = zip columns (column_prices prices)
 
-  column : (j : ℕ) → j < number → get_or (zip columns prices) j (b, pos 0) ≡ (get_or columns j b, get_or prices j (pos 0))
-  column j lt = get_or-zip columns prices j (b, pos 0) (omega (arith, h.columns_count)) (omega (arith, h.prices_count))
+  zipped : length priced ≡ how_many prices
+  zipped = omega (arith, length-zip columns (column_prices prices), are.columns)
 
-  at : (i j : ℕ) → i < number → j < number
-      → get_or (get_or (map (λ row. map (cost row) columns) rows) i []) j 0 ≡ cost (get_or rows i a) (get_or columns j b)
-  at i j lt lt' = let e = h.rows_count in let d = h.columns_count in grind (arith, get_or-map)
+  size : length beside ≡ how_many prices
+  size = length_permutation priced beside order ∙ zipped
 
-  fit : FitAll cost a rows row_prices h.beside
+  column : (j : ℕ) → j < how_many prices
+      → get_or priced j (b, pos 0) ≡ (get_or columns j b, price_at (column_prices prices) j)
+  column j lt = get_or-zip columns (column_prices prices) j (b, pos 0) (omega arith) (omega (arith, are.columns))
+
+  at : (i j : ℕ) → i < how_many prices → j < how_many prices
+      → cost_at costs i j ≡ cost (get_or rows i a) (get_or columns j b)
+  at i j lt lt' = grind (arith, get_or-map)
+
+  fit : FitAll cost a rows (row_prices prices) beside
   fit i lt =
-      let fits = FitTogether cost (get_or rows i a) (get_or row_prices i (pos 0)) in
-      let inside : i < number = omega (arith, h.rows_count) in
-      All-permutation fits (zip columns prices) h.beside h.order (All-from_get_or fits (zip columns prices) (b, pos 0) (λ j lt'.
-      let within : j < number = omega (arith, zipped) in
-      rw (column j within, ← at i j inside within) (h.fits i j inside within)))
+      let fits_here = FitTogether cost (get_or rows i a) (get_or (row_prices prices) i (pos 0)) in
+      let inside : i < how_many prices = omega arith in
+      All-permutation fits_here priced beside order (All-from_get_or fits_here priced (b, pos 0) (λ j lt'.
+      let within : j < how_many prices = omega (arith, zipped) in
+      rw (column j within, ← at i j inside within) (fits i j inside within)))
 
-  sums : fold (λ sum price. sum +ℤ price) (pos 0) (row_prices ++ prices) ≡ (sum_of row_prices +ℤ prices_with h.beside)
+  sums : price_sum prices ≡ (sum_of (row_prices prices) +ℤ prices_with beside)
   sums =
-      let same = prices_moved columns prices h.beside (h.prices_count ∙ sym h.columns_count) h.order in
-      let both = fold_of_both row_prices prices in
+      let same = prices_moved columns (column_prices prices) beside (are.columns ∙ sym columns_count) order in
+      let both = fold_of_both (row_prices prices) (column_prices prices) in
       omega (arith, ints)
 
-  bound : (pos loose +ℤ fold (λ sum price. sum +ℤ price) (pos 0) (row_prices ++ prices)) ≤ℤ pos lines
-  bound =
-      let below = fitting_prices cost a rows row_prices h.beside (h.rows_count ∙ sym size) (h.rows_count ∙ sym h.row_prices_count) fit in
-      omega (arith, ints, sums, h.enough)
+  below : (pos loose +ℤ price_sum prices) ≤ℤ pos lines
+  below =
+      let many = rows_count ∙ sym are.rows in
+      let fitting = fitting_prices cost a rows (row_prices prices) beside (rows_count ∙ sym size) many fit in
+      omega (arith, ints, sums)
 
-  module _ (exact : pos lines ≡ (pos loose +ℤ fold (λ sum price. sum +ℤ price) (pos 0) (row_prices ++ prices))) where
+  module _ (exact : pos lines ≡ (pos loose +ℤ price_sum prices)) where
     -- the column at place j stands beside the row at place i
-    tight_where : (i j : ℕ) → i < number → j < number → get_or h.beside i (b, pos 0) ≡ get_or (zip columns prices) j (b, pos 0) → TightIn i j
+    tight_where : (i j : ℕ) → i < how_many prices → j < how_many prices
+        → get_or beside i (b, pos 0) ≡ get_or priced j (b, pos 0) → IsTightAt costs prices i j
     tight_where i j lt lt' e =
-        let enough : pos (pairing_cost cost rows h.beside) ≤ℤ (sum_of row_prices +ℤ prices_with h.beside) = omega (arith, ints, sums, h.enough) in
+        let all = sum_of (row_prices prices) +ℤ prices_with beside in
+        let due : pos (pairing_cost cost rows beside) ≤ℤ all = omega (arith, ints, sums) in
         let tight =
-        tight_at cost a rows row_prices h.beside i (b, pos 0) (h.rows_count ∙ sym size) (h.rows_count ∙ sym h.row_prices_count) fit enough (omega (arith, h.rows_count)) in
+        tight_at cost a rows (row_prices prices) beside i (b, pos 0) (rows_count ∙ sym size) (rows_count ∙ sym are.rows)
+        fit due (omega arith) in
         rw (at i j lt lt') (rw (e ∙ column j lt') at tight)
 
-    column_for : (i : ℕ) → i < number → (j : ℕ) × (j < number) × TightIn i j
+    column_for : (i : ℕ) → i < how_many prices → (j : ℕ) × (j < how_many prices) × IsTightAt costs prices i j
     column_for i lt =
-        let there = placed (zip columns prices) h.beside i (b, pos 0) h.order (omega (arith, size)) in
-        let inside : there.0 < number = omega (arith, there.1, zipped) in
+        let there = placed priced beside i (b, pos 0) order (omega (arith, size)) in
+        let inside : there.0 < how_many prices = omega (arith, there.1, zipped) in
         (there.0, inside, tight_where i there.0 lt inside there.2)
 
-    row_for : (j : ℕ) → j < number → (i : ℕ) × (i < number) × TightIn i j
+    row_for : (j : ℕ) → j < how_many prices → (i : ℕ) × (i < how_many prices) × IsTightAt costs prices i j
     row_for j lt =
-        let there =
-        placed h.beside (zip columns prices) j (b, pos 0) (IsPermutation-sym (zip columns prices) h.beside h.order) (omega (arith, zipped)) in
-        let inside : there.0 < number = omega (arith, there.1, size) in
+        let there = placed beside priced j (b, pos 0) (IsPermutation-sym priced beside order) (omega (arith, zipped)) in
+        let inside : there.0 < how_many prices = omega (arith, there.1, size) in
         (there.0, inside, tight_where there.0 j inside lt (sym there.2))
 
--- ---- machines and days
+  bounded : AreBounds costs prices loose lines
+  bounded = record { bound = below; tight = λ exact. record { column_of = column_for exact; row_of = row_for exact } }
 
--- what fitting prices tell of so many lines that lead to the day
-record AreBounds (m : Parts) (s : Day) (prices : PriceParts) (lines : ℕ) : Type 0 where
-  bound : (pos (loose_count m s) +ℤ price_sum prices) ≤ℤ pos lines
-  tight : pos lines ≡ (pos (loose_count m s) +ℤ price_sum prices) → AreTight (cost_table m s) prices
+-- ---- machines and days
 
 pub no_rotors : (model : Model) (reflector : Reflector) → model ≡ M209 → Contains (reflectors_of model) reflector → ⊥
 no_rotors model reflector e h = let none = subst (λ model. Contains (reflectors_of model) reflector) e h in omega (arith, none.1)
 
 bounds : (m n : Parts) (s : Day) (prices : PriceParts) (settings : List Setting) → IsMachine m → IsLegalDay s → ArePrices prices
-    → AreOfKind m prices → Fits (cost_table m s) prices → Leads m settings n → ReadsAs n s → AreBounds m s prices (length settings)
+    → AreOfKind m prices → Fits (cost_table m s) prices → Leads m settings n → ReadsAs n s
+    → AreBounds (cost_table m s) prices (loose_count m s) (length settings)
 bounds (Rotor m) (Rotor n) (OfRotors s) (Cables row column) settings machine legal are kind fits leads reads =
     let at_first = machines_have_all (Rotor m) machine.legal in
     let at_last = list_keeps (Rotor m) (Rotor n) settings leads at_first in
@@ -125,43 +304,18 @@ bounds (Rotor m) (Rotor n) (OfRotors s) (Cables row column) settings machine leg
     let pairing = cables_paired n.cables s.pairs column at_last once legal.pairs.few are.columns reads.key.cables in
     let same = sym (model_of-list (Rotor m) (Rotor n) settings leads) ∙ reads.key.model in
     let falling = list_lowers pairing.beside [] (OfRotors s) legal (Rotor m) (Rotor n) settings same leads in
-    let table : IsTable cable_cost 13 m.cables row (columns_of s.pairs) column (loose_count (Rotor m) (OfRotors s)) (length settings) =
-    record {
-      rows_count = at_first.count;
-      row_prices_count = are.rows;
-      columns_count = thirteen_columns s.pairs legal.pairs.few;
-      prices_count = are.columns;
-      fits = fits;
-      beside = pairing.beside;
-      order = pairing.order;
-      enough = omega (arith, falling, pairing.free, nothing_loose (Rotor n) (OfRotors s) reads);
-    }
-    in
-    record {
-      bound = bound (None, None) None table;
-      tight = λ exact. record { column_of = column_for (None, None) None table exact; row_of = row_for (None, None) None table exact };
-    }
+    bounded (None, None) None cable_cost m.cables (columns_of s.pairs) (Cables row column)
+    (loose_count (Rotor m) (OfRotors s)) (length settings) at_first.count (thirteen_columns s.pairs legal.pairs.few) are
+    fits pairing.beside pairing.order
+    (omega (arith, falling, pairing.free, nothing_loose (Rotor n) (OfRotors s) reads))
 bounds (Pin m) (Pin n) (OfPins s) (Bars row column) settings machine legal are kind fits leads reads =
     let at_first = machines_have_all (Pin m) machine.legal in
     let at_last = list_keeps (Pin m) (Pin n) settings leads at_first in
     let pairing = bars_paired n.bars s.rows column at_last (legal.count ∙ sym are.columns) reads.key.rows in
     let falling = list_lowers [] pairing.beside (OfPins s) legal (Pin m) (Pin n) settings refl leads in
-    let table : IsTable bar_cost 27 m.bars row s.rows column (loose_count (Pin m) (OfPins s)) (length settings) =
-    record {
-      rows_count = at_first.count;
-      row_prices_count = are.rows;
-      columns_count = legal.count;
-      prices_count = are.columns;
-      fits = fits;
-      beside = pairing.beside;
-      order = pairing.order;
-      enough = omega (arith, falling, pairing.free, nothing_loose (Pin n) (OfPins s) reads);
-    }
-    in
-    record {
-      bound = bound (One, One) (0, 0) table;
-      tight = λ exact. record { column_of = column_for (One, One) (0, 0) table exact; row_of = row_for (One, One) (0, 0) table exact };
-    }
+    bounded (One, One) (0, 0) bar_cost m.bars s.rows (Bars row column) (loose_count (Pin m) (OfPins s))
+    (length settings) at_first.count legal.count are fits pairing.beside pairing.order
+    (omega (arith, falling, pairing.free, nothing_loose (Pin n) (OfPins s) reads))
 bounds (Rotor m) (Pin n) (OfPins s) prices settings machine legal are kind fits leads reads =
     absurd (no_rotors m.model m.reflector (sym (model_of-list (Rotor m) (Pin n) settings leads)) machine.legal.reflector)
 bounds (Pin m) (Rotor n) (OfRotors s) prices settings machine legal are kind fits leads reads =

@@ -154,21 +154,19 @@ abbrev pub floor_behind : ℕ → List PricedKind → ℕ
 floor_behind floor [] = floor
 floor_behind floor (kind ∷ kinds) = floor_behind (look_rank kind.look + 1) kinds
 
--- the bytes are the lines of these kinds of that name, in order and each once, and what follows
-pub record BeginsWithKinds (name : Name) (bytes : List ℕ) (kinds : List PricedKind) (rest : List ℕ) : Type 0 where
+-- the bytes are the lines of these kinds of that name, in order from that rank on and each once, and what follows; and
+-- no more of them, in order, stand there
+pub record BeginsWithKinds (name : Name) (floor : ℕ) (bytes : List ℕ) (kinds : List PricedKind) (rest : List ℕ)
+    : Type 0 where
   pub lines : bytes ≡ kinds_text kinds ++ rest
   pub called : AreCalled name kinds
-  pub in_order : AreKinds 0 kinds
-
--- and no more of them, in order, stand there
-pub record BeginsWithAllKinds (name : Name) (bytes : List ℕ) (kinds : List PricedKind) (rest : List ℕ) : Type 0 where
-  pub begins : BeginsWithKinds name bytes kinds rest
-  pub none_more : HasNoNext name (floor_behind 0 kinds) rest
+  pub in_order : AreKinds floor kinds
+  pub none_more : HasNoNext name (floor_behind floor kinds) rest
 
 -- a group of kinds: it has to end behind its kinds, and these have to be of so many things
 abbrev pub SaysGroup : Name → ℕ → ℕ → List ℕ → Says CardFault (List PricedKind × List ℕ)
 SaysGroup name number line bytes = do
-  group ← Takes (λ (group : List PricedKind × List ℕ). BeginsWithAllKinds name bytes group.0 group.1)
+  group ← Takes (λ (group : List PricedKind × List ℕ). BeginsWithKinds name 0 bytes group.0 group.1)
   _ ← Demands (EndsGroup name group.1) (BadLine (line + length group.0))
   _ ← Demands (counted group.0 ≡ number) PriceMissing
   Only group

@@ -13,7 +13,6 @@ use super::look::{Look, Name};
 use super::price_text::{price_of_text, split_first};
 use arrayvec::{ArrayString, ArrayVec};
 use itoa::Buffer;
-use kd_state::laws::texts_tell_first_parts;
 use kd_state::{number_of_text, push_number, split_words};
 
 /// No group has more kinds in order, each once: their ranks are below this.
@@ -65,7 +64,6 @@ fn next_kind(
         (λ found. IsNextKind name floor text.now found.0 found.1.now))
         (λ fault. IsBadAt name floor text.now × (fault ≡ CardFault.BadLine line)) }
 {
-    texts_tell_first_parts();
     if text.is_empty() {
         return Ok(None);
     }
@@ -84,6 +82,7 @@ fn next_kind(
 
 /// The kinds of a group of things of that name, in lines of which the first is that of this number, and what follows
 /// them. They are in order, each once, and of so many things together.
+#[tactic(auto, using(crate::proofs::KindPrices::reads_none))]
 pub(crate) fn read_kinds<'a>(
     text: &'a [u8],
     name: Name,
@@ -135,7 +134,7 @@ pub(crate) fn push_kinds<const N: usize>(text: &mut ArrayString<N>, kinds: &[Pri
 }
 
 /// Appends the line of the kind.
-#[tactic(auto, using(crate::proofs::KindWords::line_in_pieces, crate::proofs::PriceTexts::written_price))]
+#[tactic(auto, using(crate::proofs::KindWords::line_in_pieces, crate::proofs::Lines::written_price))]
 fn push_kind<const N: usize>(text: &mut ArrayString<N>, kind: &PricedKind)
     requires room { array_string_len text.old + 24 ≤ N }
     requires kind { IsPricedKind kind.now }

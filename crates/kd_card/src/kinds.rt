@@ -208,7 +208,7 @@ pub(crate) fn kinds_of<K: AsKind>(kinds: &[K]) -> ArrayVec<PricedKind, 27>
 }
 
 /// The kinds, which are all of such things, as their own.
-#[tactic(auto, using(crate::proofs::KindLists::called_at))]
+#[tactic(auto, using(crate::proofs::KindPrices::called_at))]
 pub(crate) fn own_kinds<K: AsKind, const N: usize>(kinds: &[PricedKind]) -> ArrayVec<K, N>
     requires called { AreCalled K.name kinds.now }
     requires room { length kinds.now ≤ N }
@@ -258,7 +258,7 @@ pub(crate) fn are_kinds<K: AsKind>(kinds: &[K], floor: usize, number: usize) -> 
 }
 
 /// A price for each thing that the kinds count.
-#[tactic(auto, using(crate::proofs::KindLists::counted_within, crate::proofs::KindPrices::length_of_kinds))]
+#[tactic(auto, using(crate::proofs::KindPrices::counted_within, crate::proofs::KindPrices::length_of_kinds))]
 pub(crate) fn prices_of_kinds(kinds: &[PricedKind]) -> ArrayVec<i16, 27>
     requires { counted kinds.now ≤ 27 }
     ensures { result.items ≡ prices_of_kinds kinds.now }

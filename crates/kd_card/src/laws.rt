@@ -4,12 +4,6 @@ ghost use Rattle.kd_card.specs.Laws.{CardsAreSaid, CardsHaveNoFault, OneCardFaul
 ghost use Rattle.kd_card.specs.Laws.{AsFewAreNeeded, ProvingCardsAreAsLong, ProvingCardsAreShortest};
 ghost use Rattle.kd_card.specs.Laws.{ProvingPricesAreTight};
 
-use kd_state::laws::{
-    columns_are_the_pairs, lines_tell_words, no_two_settings_have_one_line,
-    numbers_and_letters_are_words, places_tell_wheels, settings_have_words, tests_tell_letters,
-    texts_tell_first_parts,
-};
-
 /// No two cards have one text, and no card's text is the front of another card's. A card's text has no fault, and no bytes
 /// have two. That bytes which are no card have one, `read_card` tells.
 pub fn no_two_cards_have_one_text()
@@ -18,24 +12,14 @@ pub fn no_two_cards_have_one_text()
     ensures said { CardsAreSaid }
     ensures no_fault { CardsHaveNoFault }
     ensures one_fault { OneCardFault }
-{
-    lines_tell_words();
-    texts_tell_first_parts();
-    numbers_and_letters_are_words();
-    settings_have_words();
-    no_two_settings_have_one_line();
-}
+{}
 
 /// Where prices fit, no settings whatever that lead a machine to the day are fewer than its loose things and the sum of
 /// the prices.
 #[tactic(auto, using(crate::proofs::Shortest::fitting_prices_bound_lists))]
 pub fn fitting_prices_bound_lists()
     ensures { FittingPricesBoundLists }
-{
-    places_tell_wheels();
-    tests_tell_letters();
-    columns_are_the_pairs();
-}
+{}
 
 /// Looks of one name, each in its one form, are told by their ranks.
 #[tactic(auto, using(crate::proofs::KindWords::ranks_tell_looks))]
@@ -47,9 +31,7 @@ pub fn ranks_tell_looks()
 #[tactic(auto, using(crate::proofs::Shortest::as_few_are_needed))]
 pub fn as_few_are_needed()
     ensures { AsFewAreNeeded }
-{
-    places_tell_wheels();
-}
+{}
 
 /// A card that proves itself by number has as many settings as there are loose things and prices in sum.
 #[tactic(auto, using(crate::proofs::Shortest::proving_cards_are_as_long))]
@@ -60,19 +42,11 @@ pub fn proving_cards_are_as_long()
 /// A card that proves itself is shortest.
 pub fn proving_cards_are_shortest()
     ensures { ProvingCardsAreShortest }
-{
-    places_tell_wheels();
-    tests_tell_letters();
-    columns_are_the_pairs();
-}
+{}
 
 /// In a card that proves itself by number each row's price and some column's are together the cost where they meet, and
 /// so are each column's and some row's.
 #[tactic(auto, using(crate::proofs::Shortest::proving_prices_are_tight))]
 pub fn proving_prices_are_tight()
     ensures { ProvingPricesAreTight }
-{
-    places_tell_wheels();
-    tests_tell_letters();
-    columns_are_the_pairs();
-}
+{}

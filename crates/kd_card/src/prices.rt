@@ -223,7 +223,7 @@ impl Prices {
     }
 
     /// The prices of the cables, or of the bars, one for each; those of a kind stand together.
-    #[tactic(auto, using(crate::proofs::CardWords::few_prices, crate::proofs::KindPrices::row_count, crate::proofs::KindPrices::prices_of))]
+    #[tactic(auto, using(crate::proofs::Lines::few_prices, crate::proofs::KindPrices::are_prices, crate::proofs::KindPrices::prices_of))]
     pub fn row_prices(&self) -> ArrayVec<i16, 27>
         ensures value { result.items ≡ row_prices self.now }
         ensures are_prices { ArePrices self.now }
@@ -236,7 +236,7 @@ impl Prices {
     }
 
     /// The prices of the pairs and nothings, or of the sheet's rows, one for each; those of a kind stand together.
-    #[tactic(auto, using(crate::proofs::CardWords::few_prices, crate::proofs::KindPrices::column_count, crate::proofs::KindPrices::prices_of))]
+    #[tactic(auto, using(crate::proofs::Lines::few_prices, crate::proofs::KindPrices::are_prices, crate::proofs::KindPrices::prices_of))]
     pub fn column_prices(&self) -> ArrayVec<i16, 27>
         ensures value { result.items ≡ column_prices self.now }
         ensures are_prices { ArePrices self.now }
@@ -249,7 +249,7 @@ impl Prices {
     }
 
     /// The sum of all prices.
-    #[tactic(auto, using(crate::proofs::CardWords::few_prices))]
+    #[tactic(auto, using(crate::proofs::Lines::few_prices))]
     pub fn sum(&self) -> i32
         ensures { result ≡ price_sum self.now }
     {

@@ -16,7 +16,7 @@ use super::price_text::{first_group, first_word, is_numeral, prices_behind, spli
 use super::prices::{Prices, Version};
 use arrayvec::ArrayVec;
 use itoa::Buffer;
-use kd_state::laws::{lines_tell_words, numbers_and_letters_are_words, texts_tell_first_parts};
+use kd_state::laws::texts_tell_first_parts;
 use kd_state::{Settings, number_of_text, split_setting, split_words};
 
 /// The card whose text this is, and its day.
@@ -60,14 +60,12 @@ fn split_value<'a>(text: &'a [u8], name: &[u8]) -> Option<(&'a [u8], &'a [u8])>
 }
 
 /// What the prices are by, and the day, of the card whose head is the first line; and what follows that line.
+#[tactic(auto, using(crate::proofs::Lines::is_line))]
 fn read_head(text: &[u8]) -> Option<(Version, u8, &[u8])>
     ensures { MatchOption result
         ((version : _) (day : ℕ) (rest : List ℕ) → ¬ (BeginsWithHead text.now version day rest))
         (λ found. BeginsWithHead text.now found.0 found.1 found.2.now) }
 {
-    texts_tell_first_parts();
-    lines_tell_words();
-    numbers_and_letters_are_words();
     let (behind, rest) = split_value(text, b"CARD")?;
     let (version, day) = head_behind(behind)?;
     Some((version, day, rest))
@@ -137,7 +135,7 @@ fn read_settings(text: &[u8]) -> Option<(Settings, &[u8])>
 }
 
 /// What follows the line with that number of settings.
-#[tactic(auto, using(crate::proofs::CardWords::word_by_test))]
+#[tactic(auto, using(kd_state::proofs::Lines::word_by_test))]
 fn read_count(text: &[u8], count: usize) -> Result<&[u8], CardFault>
     requires { count ≤ 192 }
     ensures { MatchResult result
@@ -150,7 +148,7 @@ fn read_count(text: &[u8], count: usize) -> Result<&[u8], CardFault>
 }
 
 /// What follows the line with that sum, which is that of this number.
-#[tactic(auto, using(crate::proofs::CardWords::word_by_test))]
+#[tactic(auto, using(kd_state::proofs::Lines::word_by_test))]
 fn read_sum(text: &[u8], sum: i32, line: usize) -> Result<&[u8], CardFault>
     ensures { MatchResult result
         (λ rest. SaysSum sum line text.now (Ok rest.now))
@@ -172,9 +170,6 @@ fn read_value<'a>(
     ensures { let says = SaysValue signed name.now due.now line text.now in
         MatchResult result (λ rest. says (Ok rest.now)) (λ fault. says (Err fault)) }
 {
-    texts_tell_first_parts();
-    lines_tell_words();
-    numbers_and_letters_are_words();
     let Some((number, rest)) = split_value(text, name) else {
         return Err(CardFault::BadLine(line));
     };

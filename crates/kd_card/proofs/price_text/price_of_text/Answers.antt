@@ -1,5 +1,5 @@
-use Rattle.kd_card.proofs.Prelude.{rules, ◌≡◌, ◌<◌, ◌≤◌, ◌∙◌, sym, ap, subst, unsigned_abs, Decides, w16, to_z, of_z, arith, signed_decimal, then_some, Decides-eqb, to_z-of_z, slice_eq-Decides}
-use Rattle.kd_card.proofs.PriceTexts.{no_text, read_price, only_price, ok_part}
+use Rattle.kd_card.proofs.Prelude.{rules, ◌≡◌, ◌<◌, ◌≤◌, ◌∙◌, sym, ap, subst, unsigned_abs, Decides, w16, to_z, of_z, arith, signed_decimal, then_some, Decides-eqb, to_z-of_z, slice_eq-Decides, ok_part}
+use Rattle.kd_card.proofs.Lines.{no_text, read_price, only_price}
 use Rattle.kd_card.proofs.price_text.price_of_text.Goals as goal
 
 pub returns-in_err-ok : goal.returns-in_err-ok

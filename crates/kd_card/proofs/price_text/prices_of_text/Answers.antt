@@ -1,5 +1,5 @@
 use Rattle.kd_card.proofs.Prelude.{◌∙◌, Bor, List, ℕ, map, ap, sym, refl, arith, Found, rules}
-use Rattle.kd_card.proofs.PriceTexts.{other_count, too_many, no_prices}
+use Rattle.kd_card.proofs.Lines.{other_count, too_many, no_prices}
 use Rattle.kd_card.proofs.price_text.prices_of_text.Goals as goal
 
 pub returns-then-are_prices : goal.returns-then-are_prices

@@ -1,5 +1,5 @@
 use Rattle.kd_card.proofs.Prelude.{◌∙◌, sym, refl, eqb-true, nil_from_length, PriceMissing, Refused, Found}
-use Rattle.kd_card.proofs.CardWords.{filled}
+use Rattle.kd_card.proofs.Lines.{filled}
 use Rattle.kd_card.proofs.price_text.split_first.Goals as goal
 
 pub returns-then-is_empty : goal.returns-then-is_empty

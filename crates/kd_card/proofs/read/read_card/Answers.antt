@@ -1,5 +1,5 @@
-use Rattle.kd_card.proofs.Prelude.{rules, ◌∙◌, sym, ap, refl, eqb, length, w32, false≢true, eqb-true, to_z-of_z, nil_from_length, BadHead, TooMany, Trailing, Refused, Found}
-use Rattle.kd_card.proofs.CardWords.{stops}
+use Rattle.kd_card.proofs.Prelude.{rules, ◌∙◌, sym, refl, w32, eqb-true, to_z-of_z, nil_from_length, BadHead, TooMany, Trailing, Refused, Found}
+use Rattle.kd_card.proofs.Lines.{filled, stops}
 use Rattle.kd_card.proofs.OneCard.{up_to_settings, card_said}
 use Rattle.kd_card.proofs.read.read_card.Goals as goal
 
@@ -34,8 +34,7 @@ returns-then-not-is_empty c =
     (Found _ c.in_ok-rest.ensures
     (Found _ c.in-Ok.ensures
     (Found c.in_ok-rest-2.rest.now (rw (sum, c.line_count.ensures.value) at c.in_ok-rest-2.ensures)
-    (Refused Trailing
-    ((λ same none. false≢true (sym c.if-not-is_empty.true ∙ c.is_empty.ensures ∙ ap (λ l. eqb (length l) 0) none)), refl) refl))))
+    (Refused Trailing ((λ same. filled c.is_empty.ensures c.if-not-is_empty.true), refl) refl))))
 
 pub returns : goal.returns
 returns c =

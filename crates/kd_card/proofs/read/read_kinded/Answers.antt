@@ -1,6 +1,6 @@
 use Rattle.kd_card.proofs.Prelude.{refl, arith, Refused, Found}
-use Rattle.kd_card.proofs.CardWords.{group_said, stops}
-use Rattle.kd_card.proofs.KindPrices.{few_kinds, few_prices_of}
+use Rattle.kd_card.proofs.Lines.{group_said, stops}
+use Rattle.kd_card.proofs.KindPrices.{few_kinds, some_and_few}
 use Rattle.kd_card.proofs.read.read_kinded.Goals as goal
 
 pub returns-in_err-group : goal.returns-in_err-group
@@ -19,7 +19,7 @@ returns-in_err-columns c =
     (Refused _ (rw (c.column_name.ensures, c.number-number.ensures, c.len.ensures.value) at c.in_err-columns.ensures) refl)))
 
 pub read_kinds-requires-2-clause-near : goal.read_kinds-requires-2-clause-near
-read_kinds-requires-2-clause-near c = grind (arith, group_said, few_kinds, few_prices_of)
+read_kinds-requires-2-clause-near c = grind (arith, group_said, few_kinds, some_and_few)
 
 pub returns : goal.returns
 returns c =

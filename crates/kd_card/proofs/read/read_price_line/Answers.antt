@@ -1,5 +1,5 @@
 use Rattle.kd_card.proofs.Prelude.{refl, PriceMissing, Refused, Found}
-use Rattle.kd_card.proofs.CardWords.{stops, same_text, other_text, first_found, other_first}
+use Rattle.kd_card.proofs.Lines.{stops, same_text, other_text, first_found, other_first}
 use Rattle.kd_card.proofs.read.read_price_line.Goals as goal
 
 pub returns-in_err-first : goal.returns-in_err-first

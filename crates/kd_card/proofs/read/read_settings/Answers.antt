@@ -1,5 +1,4 @@
-use Rattle.kd_card.proofs.Prelude.{◌∙◌, refl, sym, [], ◌∷◌, ◌++◌, arith, eqb-true, length_push}
-use Rattle.kd_card.proofs.Lines.{one_more_line}
+use Rattle.kd_card.proofs.Prelude.{◌∙◌, refl, sym, [], ◌∷◌, ◌++◌, arith, eqb-true, length_push, one_more}
 use Rattle.kd_card.proofs.read.read_settings.Goals as goal
 
 pub returns-then-is_full : goal.returns-then-is_full
@@ -9,7 +8,7 @@ returns-then-is_full c =
       (
         settings ++ c.in-Some.setting ∷ [],
         c.in-Some.after.now,
-        one_more_line c.loop-setting.invariant.begins c.in-Some.ensures,
+        one_more _ _ _ _ _ c.loop-setting.invariant.begins c.in-Some.ensures,
         omega (arith, full, length_push settings c.in-Some.setting),
       ),
       refl,

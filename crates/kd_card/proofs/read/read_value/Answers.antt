@@ -1,22 +1,19 @@
-use Rattle.kd_card.proofs.Prelude.{rules, ◌∙◌, [], ◌∷◌, sym, ap, drop, subst, false≢true, line_of, IsNumeral, with_line}
-use Rattle.kd_card.proofs.Lines.{Laws, value_line, same_words, is_line, words_of_last}
-use Rattle.kd_card.proofs.CardWords.{same_text, other_text, numeral_word, value_says, other_value, no_value}
+use Rattle.kd_card.proofs.Prelude.{◌∙◌, [], ◌∷◌, sym, ap, drop, subst, false≢true, line_of, IsNumeral, with_line, parts_make_lines}
+use Rattle.kd_card.proofs.Lines.{value_line, same_words, is_line, words_of_last, same_text, other_text, numeral_word, value_says, other_value, no_value}
 use Rattle.kd_card.proofs.read.read_value.Goals as goal
 
 pub returns-in_default : goal.returns-in_default
 returns-in_default c =
-    let laws : Laws = search rules in
     no_value c.args.signed c.args.name.now c.args.due.now c.args.line (λ value more form e.
     let word = numeral_word c.args.signed value form in
-    c.in_default.ensures value [] more (value_line laws c.args.name.now value more c.requires word e))
+    c.in_default.ensures value [] more (value_line c.args.name.now value more c.requires word e))
 
 pub returns-then-not-is_numeral : goal.returns-then-not-is_numeral
 returns-then-not-is_numeral c =
-    let laws : Laws = search rules in
     no_value c.args.signed c.args.name.now c.args.due.now c.args.line (λ value more form e.
-    let line = value_line laws c.args.name.now value more c.requires (numeral_word c.args.signed value form) e in
-    let same = ap (λ words. line_of (drop 1 words)) (same_words laws.first_parts line c.in-Some.ensures).0 in
-    let number = same ∙ c.lines_tell_words.ensures.joined c.in-Some.number.now in
+    let line = value_line c.args.name.now value more c.requires (numeral_word c.args.signed value form) e in
+    let same = ap (λ words. line_of (drop 1 words)) (same_words line c.in-Some.ensures).0 in
+    let number = same ∙ parts_make_lines c.in-Some.number.now in
     false≢true (sym c.if-not-is_numeral.true ∙ c.is_numeral.ensures.1 (subst (IsNumeral c.args.signed) number form)))
 
 pub returns-then-ne : goal.returns-then-ne

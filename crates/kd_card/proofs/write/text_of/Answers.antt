@@ -1,6 +1,6 @@
-use Rattle.kd_card.proofs.Prelude.{rules, to_z-of_z}
+use Rattle.kd_card.proofs.Prelude.{rules}
 use Rattle.kd_card.proofs.Lines.{written}
 use Rattle.kd_card.proofs.write.text_of.Goals as goal
 
 pub returns-clause-bytes : goal.returns-clause-bytes
-returns-clause-bytes c = search (rules, written, to_z-of_z)
+returns-clause-bytes c = search (rules, written)
