@@ -3,8 +3,8 @@ pub use Rattle.kd_form.proofs.Prelude.{[], ◌≡◌, ◌≢◌, ◌⊎◌, inl,
 use Rattle.kd_form.specs.declared.{part_body.PartBody.PartBody, form_reader.FormReader.FormReader}
 use Rattle.kd_form.specs.declared.{form_reader.Stage.Stage}
 pub use Rattle.kd_form.proofs.Headings.{at_most, has_byte, one_heading, begins_there, as_parts, begins, begins_more, first_ends, first_more, may_begin, one_more, single, follows, not_begun, ended_heading}
-use Rattle.kd_form.proofs.Lines.{letters_first, whole_line, head_unbroken}
-pub use Rattle.kd_form.proofs.OneOrder.{no_bad_byte, bad_behind}
+pub use Rattle.kd_form.proofs.{Lines.letters_first, Lines.whole_line, Lines.head_unbroken, OneOrder.no_bad_byte}
+pub use Rattle.kd_form.proofs.{OneOrder.bad_behind}
 use Rattle.kd_form.proofs.OneText.{read_or_refused, reads_meet, reads_then, stands_at, stays_refused}
 use Rattle.kd_form.specs.declared.form_reader.Stage.TheVariants as stages
 

@@ -1,9 +1,8 @@
 -- The text of a part, and that the form that an order becomes gives the order's letters back.
-pub use Rattle.kd_form.proofs.Prelude.{append-nil, take-append-drop, IsWithout, ◌≡◌, ℕ, zero, suc, ◌+◌, ◌<◌, ◌≤◌, List, [], ◌∷◌, ◌++◌, length, take, drop, refl, sym, ap, subst, ◌∙◌, append_assoc, length-drop, arith, map, All, IsTrue, Some, None, flat_map, cons_option, nat_tests, All-nil, All-cons, All-head, All-tail, All-append, All-take, All-drop, filter_map-append, is_text_byte, letters_text, line_of, pieces, groups_of, with_line, body_text, Part, heading_words, part_text, letter_of_byte, letters_from, Day, IsHeading, BeginsHeading, HasHeading, WithoutReturn, cut, common_steps, ◌≢◌, ◌%◌, inl, inr, length-append, Option, IfSome, cases_lt, take_all, drop_all, length-take, length-take-le, TheDayDeciphersItself, IsLegalDay, Keys, given_text, sent_letters, AreKeys, FormsGiveTheirOrders, Suits, part_size, filled, SaysBody, Ok, IsPartRead, blank_of, text_letters, parts_needed, AreMadeTexts, ReadsTo, at_first, IsComplete, IsExpected, take-append_seam}
+pub use Rattle.kd_form.proofs.Prelude.{append-nil, take-append-drop, IsWithout, ◌≡◌, ℕ, zero, suc, ◌+◌, ◌<◌, ◌≤◌, List, [], ◌∷◌, ◌++◌, length, take, drop, refl, sym, ap, subst, ◌∙◌, append_assoc, length-drop, arith, map, All, IsTrue, Some, None, flat_map, cons_option, nat_tests, All-nil, All-cons, All-head, All-tail, All-append, All-take, All-drop, filter_map-append, is_text_byte, letters_text, line_of, pieces, groups_of, with_line, body_text, Part, heading_words, part_text, letter_of_byte, letters_from, Day, IsHeading, BeginsHeading, HasHeading, WithoutReturn, cut, common_steps, ◌≢◌, ◌%◌, inl, inr, length-append, Option, IfSome, cases_lt, take_all, drop_all, length-take, length-take-le, TheDayDeciphersItself, IsLegalDay, Keys, given_text, sent_letters, AreKeys, FormsGiveTheirOrders, Suits, part_size, filled, SaysBody, Ok, IsPartRead, blank_of, text_letters, parts_needed, AreMadeTexts, ReadsTo, at_first, IsComplete, IsExpected, take-append_seam, All-more}
 use Rattle.kd_form.proofs.Headings.{allowed_one, at_cut, cut_behind, ended_heading, has_byte, plain_heading, words_begin, one_byte}
 use Rattle.kd_form.proofs.MadeParts.{pieces-next, pieces-none, more_pieces, IsPiece, GivesBack, part_gives_back, size_some}
-use Rattle.kd_form.proofs.Lines.{AreAllowed, without}
-use Rattle.kd_form.proofs.OneOrder.{all_of_the_day, one_order}
+use Rattle.kd_form.proofs.{Lines.AreAllowed, Lines.without, OneOrder.all_of_the_day, OneOrder.one_order}
 
 -- -------- the body of a part as it is written: the letters that it gives, its bytes, and its lines
 
@@ -211,9 +210,6 @@ parts_are_given_back s part parts (k ∷ keys) (piece ∷ pieces) form decipher 
     })
 parts_are_given_back s part parts _ _ form decipher legal are suited all first last few made = absurd made
 
-some_parts : (s : Day) (letters : List ℕ) (texts : List (List ℕ)) → letters ≢ [] → length texts ≡ parts_needed s (length letters) → texts ≢ []
-some_parts s letters texts e d = grind (arith, common_steps, more_pieces, size_some)
-
 pub forms_give_their_orders : TheDayDeciphersItself → FormsGiveTheirOrders
 forms_give_their_orders decipher s order form given legal is due =
     let letters : List ℕ = text_letters s is.text in
@@ -224,7 +220,7 @@ forms_give_their_orders decipher s order form given legal is due =
     parts_are_given_back s 1 (length is.keys) is.keys (pieces (part_size s) letters) form decipher legal
     (all_of_the_day _ s is.keys is.head order_is.is_head.lines) is.sendable.suited
     (are_pieces s letters (letters_within (blank_of s) is.text (grind arith))) (omega arith) (omega arith) order_is.is_head.few is.made in
-    let some : back.texts ≢ [] = some_parts s letters back.texts is.some (back.counted ∙ sym is.counted) in
+    let some : back.texts ≢ [] = grind (arith, common_steps, more_pieces, size_some, is.some, back.counted, is.counted) in
     let read = back.read None 0 tt (λ none. absurd (some none)) in
     record {
       letters = sent;

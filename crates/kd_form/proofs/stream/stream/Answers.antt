@@ -1,5 +1,4 @@
-use Rattle.std.proofs.KnownBytes.{Consumes-nil, Consumes-trans, Appends-nil}
-use Rattle.kd_form.proofs.Streaming.{SoFar-read, SoFar-ended, IsStreamed-stopped, IsStreamed-closed, well_now, [], ◌∷◌, ◌++◌, ◌∙◌, refl, arith, TooLong}
+use Rattle.kd_form.proofs.Streaming.{SoFar-read, SoFar-ended, IsStreamed-stopped, IsStreamed-closed, well_now, [], ◌∷◌, ◌++◌, ◌∙◌, refl, arith, TooLong, Consumes-nil, Consumes-trans, Appends-nil}
 use Rattle.kd_form.proofs.stream.stream.Goals as goal
 
 pub loop-read-init : goal.loop-read-init
