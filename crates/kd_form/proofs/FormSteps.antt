@@ -199,8 +199,6 @@ refused s form text fault found = record {
   written = λ more. inl (stays_refused s form more text fault found);
 }
 
--- ---- the body
-
 -- a digit stands behind the five bytes of a heading
 abbrev pub IsDigitDue : PartBody → ℕ → Type 0
 IsDigitDue b byte = (b.line.items ≡ codes "PART ") × (48 ≤ byte) × (byte ≤ 57)

@@ -123,16 +123,9 @@ part_is_first s made rest others is are follows =
 
 -- -------- the form that an order becomes gives the order's letters back
 
-found_within : (found : Option ℕ) (letters : List ℕ) → IfSome found (λ letter. letter < 26) → All (λ letter. letter < 26) letters
-    → All (λ letter. letter < 26) (cons_option found letters)
-found_within None letters less within = within
-found_within (Some letter) letters less within = All-cons (λ l. l < 26) letter letters less within
-
 letters_within : (blank : Option ℕ) (text : List ℕ) → IfSome blank (λ letter. letter < 26) → All (λ letter. letter < 26) (letters_from blank text)
 letters_within blank [] less = All-nil (λ letter. letter < 26)
-letters_within blank (byte ∷ text) less = grind (arith, found_within, letters_from, letters_within blank text less)
-
--- ---- pieces of a text
+letters_within blank (byte ∷ text) less = grind (arith, All-cons {X = ℕ}, letters_from, letters_within blank text less)
 
 -- behind whole groups the rest is filled as the whole text is
 filled_behind : (front rest : List ℕ) → length front % 5 ≡ 0 → filled front ++ filled rest ≡ filled (front ++ rest)
@@ -162,8 +155,6 @@ are_pieces s letters =
       few = omega (arith, length-take (part_size s) letters);
       within = All-take (λ letter. letter < 26) (part_size s) letters within;
     }) (rest (All-drop (λ letter. letter < 26) (part_size s) letters within)))) (length letters) letters (omega arith)
-
--- ---- part after part
 
 -- behind an LF the form is nothing but parts, which are read as the letters of the pieces
 record AreGivenBack (s : Day) (part parts count : ℕ) (pieces : List (List ℕ)) (form : List ℕ) : Type 0 where

@@ -1,5 +1,5 @@
 -- A form is cut into its parts, also as more of it comes; and the line of a heading, with which a part begins.
-pub use Rattle.kd_form.proofs.Prelude.{common_steps, ◌≡◌, ◌≢◌, ◌⊎◌, inl, inr, ℕ, ◌<◌, ◌≤◌, List, [], ◌∷◌, ◌++◌, length, get_or, take, drop, refl, sym, ap, ◌∙◌, append_assoc, length-append, length-take, arith, codes, All-head, All-tail, All-get_or, IsTrue, nat_tests, cases_Bool, cases_eq, cases_lt, false≢true, append-nil, take-append-le, take-append-drop, take-append_seam, get_or-append, get_or-append_seam, get_or-take, get_or_past, BeginsHeading, cut, parts_of, FitsAt, HasBegun, IsWithout, IsBadAt, is_text_byte, AllPass-from_list_all, All-take, All-same, take-take, take_more, rules, ◌^◌, ◌+◌, decimal, All, Option, Some, None, MatchOption, IsInRange, All-from_get_or, All-cons, All-nil, All-append, All-map, All-push, All-weaker, IsFirstPart, line_of, words_of, IsWord, texts_tell_first_parts, numbers_are_words, lines_split_into_words, parts_make_lines, fraction, indicator_words, heading_words, length-map, append_cancel_right, take_all, get_or-map, letters_text, AreFewLetters, IsFraction, IsLetterCount, IsHeading, AreHeadingWords, HasFirstLine, IsLineText, Day, OfRotors, OfPins, Heading, Indicator, HasIndicator, HasSlots, HasPins, HasHeading, drop-cons, map, IsFalse}
+pub use Rattle.kd_form.proofs.Prelude.{common_steps, ◌≡◌, ◌≢◌, ◌⊎◌, inl, inr, ℕ, ◌<◌, ◌≤◌, List, [], ◌∷◌, ◌++◌, length, get_or, take, drop, refl, sym, ap, ◌∙◌, append_assoc, length-append, length-take, arith, codes, All-head, All-tail, All-get_or, IsTrue, nat_tests, cases_Bool, cases_eq, cases_lt, false≢true, append-nil, take-append-le, take-append-drop, take-append_seam, get_or-append, get_or-append_seam, get_or-take, get_or_past, BeginsHeading, cut, parts_of, FitsAt, HasBegun, IsWithout, IsBadAt, is_text_byte, AllPass-from_list_all, All-take, All-same, take-take, take_more, rules, ◌^◌, ◌+◌, decimal, All, Option, Some, None, MatchOption, IsInRange, All-from_get_or, All-cons, All-nil, All-append, All-map, All-push, All-weaker, IsFirstPart, line_of, words_of, IsWord, texts_tell_first_parts, numbers_are_words, lines_split_into_words, parts_make_lines, fraction, indicator_words, heading_words, length-map, append_cancel_right, take_all, get_or-map, letters_text, AreFewLetters, IsFraction, IsLetterCount, IsHeading, AreHeadingWords, HasFirstLine, IsLineText, Day, OfRotors, OfPins, Heading, Indicator, HasIndicator, HasSlots, HasPins, HasHeading, drop-cons, map, IsFalse, word_by_bytes}
 use Rattle.std.proofs.lemmas.{Slice.Eq.bytes_eq-Decides, Fmt.digits_decimal, Fmt.decimal_injective}
 use Rattle.std.proofs.lemmas.{Fmt.length-decimal-le, Fmt.decimal_nonempty, Str.Parse.IsNumeralModel}
 use Rattle.std.proofs.lemmas.{Str.Parse.numerals_by_value, Str.Parse.tells_by_index}
@@ -77,8 +77,6 @@ not_begun part line byte kept off =
           ap (λ l. get_or l (length part) 0) (append_assoc part (byte ∷ []) more) ∙ get_or-append_seam part byte more 0 in
           off (rw whole (rw seam at (fits_there ((part ++ byte ∷ []) ++ more) (length part) begun))),
     )
-
--- ---- byte by byte
 
 cut_or_not : (byte : ℕ) (bytes : List ℕ) → ((byte ≡ 10) × BeginsHeading bytes) ⊎ ((byte ≡ 10) → ¬ (BeginsHeading bytes))
 cut_or_not byte bytes = grind (arith, cases_eq byte 10, cases_Bool (begins_heading bytes), false≢true)
@@ -177,8 +175,6 @@ first_ends (x ∷ front) more digit none low high =
     no_cut x (front ++ 10 ∷ (codes "PART " ++ digit ∷ more))
     (λ e begun. is.0 e (begins_more front (10 ∷ codes "PART ") (before_break front (codes "PART " ++ digit ∷ more) begun)))
     ∙ rw (first_ends front more digit is.1 low high) refl
-
--- ---- bytes that may not stand there
 
 -- fewer than six bytes of what begins a heading may stand in a body
 few_allowed : (bytes more : List ℕ) → length bytes < 6 → BeginsHeading (bytes ++ more) → AreAllowed bytes
@@ -325,15 +321,13 @@ are_small s h is = omega (arith, is.number.in_order, is.number.few, at_most s h.
 
 -- ---- the words of a heading
 
-a_word : (text : List ℕ) → 0 < length text → IsFrom 33 text → IsWord text
-a_word text some from = grind (arith, All-weaker)
-
 letters_word : (letters : List ℕ) → 1 ≤ length letters → IsWord (letters_text letters)
-letters_word letters some = grind (arith, common_steps, a_word, lower, letters_from)
+letters_word letters some = grind (arith, common_steps, word_by_bytes, lower, letters_from)
 
 fraction_word : (part parts : ℕ) → part < 2 ^ 64 → parts < 2 ^ 64 → IsWord (fraction part parts)
 fraction_word part parts small few =
-    a_word (fraction part parts) (omega (arith, length-append (decimal part ++ codes "/") (decimal parts), length-append (decimal part) (codes "/")))
+    word_by_bytes (fraction part parts)
+    (λ none. omega (arith, ap length none, length-append (decimal part ++ codes "/") (decimal parts), length-append (decimal part) (codes "/")))
     (lower 47 33 (fraction part parts) (omega arith) (fraction_from part parts small few))
 
 line_words : (s : Day) (found : Option ℕ) (h : Heading) (line : List ℕ) → MatchOption found (HasPins s) (HasSlots s)

@@ -146,8 +146,6 @@ key_line (OfRotors s) (Rotor k) are = grind (arith, common_steps, filled_word, f
 key_line (OfPins s) (Pin k) are = ap (λ t. codes "PART " ++ (k.chosen + 65) ∷ 32 ∷ t) (filled-places 6 k.external are.external.count)
 key_line _ _ are = absurd are
 
--- ---- how many letters
-
 rotor_blanks : (slots : ℕ) → blanks (rotor_pattern slots) ≡ slots + (slots + (2 + 3))
 rotor_blanks slots = grind (arith, blanks-places)
 
@@ -235,8 +233,6 @@ key_first k line more ended = grind arith
 pub text_front : (last text : List ℕ) → IsEnded (codes "TEXT") last → get_or (last ++ text) 0 0 ≡ 84
 text_front last text (inl short) = ap (λ l. get_or (l ++ text) 0 0) short
 text_front last text (inr long) = ap (λ l. get_or (l ++ text) 0 0) long
-
--- ---- line after line
 
 module _ {P : List ℕ → Type 0} (Q : List ℕ → Type 0) (s : Day) (more : List ℕ) where
   -- with more bytes the lines may be followed by other ones

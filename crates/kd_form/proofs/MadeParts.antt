@@ -239,8 +239,6 @@ pub record GivesBack (s : Day) (part parts : ℕ) (text : List ℕ) (made : Part
   pub counted : length made.body ≡ made.heading.letters
   pub read : SaysLetters s part made.heading.indicator made.body (Ok text)
 
--- ---- letters by their places
-
 rotor_places : (fillers group text : List ℕ) → length fillers ≡ 2 → length group ≡ 3
     → (group_in ((fillers ++ group) ++ text) ≡ group) × (drop 5 ((fillers ++ group) ++ text) ≡ text)
 rotor_places (a ∷ b ∷ []) (c ∷ d ∷ e ∷ []) text two three = (refl, refl)

@@ -35,8 +35,6 @@ one_internal_key letters key other a b =
     let same = same_places a.places b.places (a.first b.places other b.picked) (b.first a.places key a.picked) in
     a.picked.taken ∙ ap (map (λ place. slice_index letters place)) same ∙ sym b.picked.taken
 
--- ---- the form
-
 one_part : (s : Day) (part parts : ℕ) (k : Keys) (text : List ℕ) → IsOnly (IsMadeText s part parts k text)
 one_part s part parts (Rotor k) text one other (made, is, bytes) (again, also, written) = cc
 one_part s part parts (Pin k) text one other (made, (internal, first, is), bytes) (again, (key, best, also), written) =

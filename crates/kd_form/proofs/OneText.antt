@@ -38,8 +38,6 @@ module _ (s : Day) where
   NeverPasses A B = (p : Place) (part : List ℕ) (parts : List (List ℕ)) (count : ℕ) (one more : List ℕ) → A p (part ∷ parts) → IsPartRead s p.number count part one
       → IsExpected p.expected count → ¬ (ReadsTo s B (place_behind p count part) parts more)
 
-  -- ---- what is answered at a rest
-
   -- all parts are read, and are too few or make the text; or a part is refused
   abbrev pub AnswersAt : Result (Unit {0}) FormFault → OfRest
   AnswersAt v p [] = (count : ℕ) × (p.expected ≡ Some count) × IsJudged (p.number ≡ count + 1) (Err PartOrder) (λ w. w ≡ Ok tt) v
@@ -191,8 +189,6 @@ early_as_well s number expected start line body other fault unbroken bad (InBody
     let same : (start + (length (line ++ 10 ∷ body) - length rest)) + place + 1 ≡ (start + (length (line ++ 10 ∷ other) - length other)) + place + 1 =
     omega (arith, ap length there.1, length-append line (10 ∷ body), length-append line (10 ∷ other)) in
     InBody h other place (ended_heading s line other h unbroken has.is_heading there.0) numbered due (bad place (subst (λ x. IsBadAt x place) there.1 at)) (is ∙ ap BadByte same)
-
--- ---- with more bytes
 
 -- what refuses a part for good does so with more bytes
 stands_on : (s : Day) (fault : FormFault) (more : List ℕ) → (p : Place) (rest : List ℕ)

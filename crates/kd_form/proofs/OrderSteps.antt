@@ -121,8 +121,6 @@ module _ (s : Day) (count : ℕ) where
         cc
   ]
 
--- ---- heads
-
 -- lines of keys and the line TEXT begin with the next line
 pub head_next : (s : Day) (count : ℕ) (keys : List Keys) (bytes : List ℕ) → count + length keys ≤ 99
     → BeginsWithKeys s keys (IsEnded (codes "TEXT")) bytes

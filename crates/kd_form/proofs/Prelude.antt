@@ -37,7 +37,7 @@ pub use Rattle.kd_form.specs.declared.{fault.FormFault.FormFault, heading.Headin
 pub use Rattle.kd_form.specs.declared.{keys.Keys.Keys, keys.Keys.TheVariants.Pin, keys.Keys.TheVariants.Rotor}
 pub use Rattle.kd_form.specs.declared.{keys.PinKeys.PinKeys, pattern_line.Unread.Unread}
 pub use Rattle.kd_form.specs.declared.fault.FormFault.TheVariants.{BadByte, BadHeading, EmptyText, NotReady, PartKeys, PartOrder}
-pub use Rattle.kd_state.proofs.Lines.{lines_split_into_words, numbers_are_words, parts_make_lines, texts_tell_first_parts}
+pub use Rattle.kd_state.proofs.Lines.{lines_split_into_words, numbers_are_words, parts_make_lines, texts_tell_first_parts, word_by_bytes}
 pub use Rattle.kd_state.specs.{Laws.CipherInTurn, Laws.TheDayDeciphersItself, declared.machine.parts.Parts.Parts}
 pub use Rattle.kd_state.specs.SheetDay.{Day, IsLegalDay, OfPins, OfRotors, pin_day}
 pub use Rattle.kd_state.specs.TwoCiphers.{EngineKey, IsWindow, cipher, physical_cipher, sheet_key}
