@@ -4,8 +4,8 @@ use Rattle.std.proofs.lemmas.{Slice.Eq.bytes_eq-Decides, Fmt.digits_decimal, Fmt
 use Rattle.std.proofs.lemmas.{Fmt.length-decimal-le, Fmt.decimal_nonempty, Str.Parse.IsNumeralModel}
 use Rattle.std.proofs.lemmas.{Str.Parse.numerals_by_value, Str.Parse.tells_by_index}
 use Rattle.kd_form.specs.FormParts.{begins_heading}
-use Rattle.kd_form.proofs.OneOrder.{no_bad_byte, same_letters, same_word, bad_behind}
-use Rattle.kd_form.proofs.Lines.{AreAllowed, plain_text, whole_line, same_front, IsPlain, plain_letters, plain_more}
+pub use Rattle.kd_form.proofs.OneOrder.{no_bad_byte, same_letters, same_word, bad_behind}
+pub use Rattle.kd_form.proofs.Lines.{AreAllowed, plain_text, whole_line, same_front, IsPlain, plain_letters, plain_more}
 use Rattle.std.specs.Str.Parse.{digits_value}
 
 -- ---- where a heading begins

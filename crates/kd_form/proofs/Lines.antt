@@ -244,9 +244,5 @@ module _ {P : List ℕ → Type 0} (Q : List ℕ → Type 0) (s : Day) (more : L
       let all = lines_more keys others rest on later in
       (line, rest ++ more, are, is, all, ap (λ b. b ++ more) joined ∙ append_assoc line rest more)
 
-  pub lines_then : (keys : List Keys) (bytes : List ℕ) → ((rest : List ℕ) → P rest → Q (rest ++ more))
-      → BeginsWithKeys s keys P bytes → BeginsWithKeys s keys Q (bytes ++ more)
-  lines_then keys bytes on is = rw (append-nil keys) at (lines_more keys [] bytes on is)
-
 pub text_line : (last : List ℕ) → IsEnded (codes "TEXT") last → IsPatternLine (codes "TEXT") last
 text_line last ended = ([], record { are_letters = no_letters; ended = ended })

@@ -4,7 +4,7 @@ use Rattle.std.proofs.lemmas.{Grind.div_ceil_times, Option.slice_get_within, Opt
 use Rattle.kd_form.specs.declared.{order_reader.parts.PartWriter.PartWriter, order_reader.head.HeadReader.HeadReader}
 use Rattle.kd_form.specs.declared.{order_reader.OrderReader.OrderReader, order_reader.Stage.Stage}
 pub use Rattle.kd_form.proofs.MadeParts.{pieces-next, pieces-none, size_some}
-use Rattle.kd_form.proofs.Lines.{length-filled, as_form_line, key_first, lines_more, lines_then, same_line, text_front, text_line, IsPlain, letters_first, plain_keys, plain_text}
+use Rattle.kd_form.proofs.Lines.{length-filled, as_form_line, key_first, lines_more, same_line, text_front, text_line, IsPlain, letters_first, plain_keys, plain_text}
 pub use Rattle.kd_form.proofs.OneOrder.{Shorter, Longer, all_of_the_day, fronts, no_head_fault, no_keys_fault, nothing_stands, nothing_stands_yet, one_order, bad_longer, bad_behind, behind}
 use Rattle.kd_form.specs.declared.pattern_line.Unread.TheVariants as unread
 use Rattle.kd_form.specs.declared.order_reader.Stage.TheVariants as stages
@@ -135,7 +135,8 @@ module _ (s : Day) (keys : List Keys) (line order : List ℕ) (is : IsHeadRead s
 
   pub text_head : (more : List ℕ) → IsEnded (codes "TEXT") (line ++ more) → IsHead s keys (order ++ more)
   text_head more ended =
-      let lines = lines_then (IsEnded (codes "TEXT")) s more keys order (λ rest same. rw same ended) is.lines in
+      let lines =
+      rw (append-nil keys) at (lines_more (IsEnded (codes "TEXT")) s more keys [] order (λ rest same. rw same ended) is.lines) in
       record { lines = lines; few = is.few }
 
   -- behind one line of keys more
@@ -174,7 +175,8 @@ module _ (s : Day) (keys : List Keys) (line order : List ℕ) (is : IsHeadRead s
   pub head_open : (byte : ℕ) → BreaksOff (IsHeadLine s (length keys)) (line ++ byte ∷ []) unread.Open
       → IsHeadRead s keys (line ++ byte ∷ []) (order ++ byte ∷ [])
   head_open byte begins = record {
-    lines = lines_then (λ l. l ≡ line ++ byte ∷ []) s (byte ∷ []) keys order (λ rest same. rw same refl) is.lines;
+    lines = rw (append-nil keys) at
+        (lines_more (λ l. l ≡ line ++ byte ∷ []) s (byte ∷ []) keys [] order (λ rest same. rw same refl) is.lines);
     few = is.few;
     begins = begins;
   }
