@@ -1,4 +1,4 @@
-use Rattle.kd_form.proofs.Streaming.{fed_next, fed_whole, fed_up_to, room_less, well_now, take-append-drop, [], ◌≡◌, ℕ, ◌<◌, ◌++◌, ◌∷◌, List, suc, length, take, drop, get_or, sym, ◌∙◌, append_assoc, arith, drop-cons, take_more, up_to}
+use Rattle.kd_form.proofs.Streaming.{fed_next, fed_whole, fed_up_to, room_less, well_now, sym, ◌∙◌, arith, take_more, up_to}
 use Rattle.kd_form.proofs.stream.piece.feed_all.Goals as goal
 
 pub returns-in-Err-clause-fed : goal.returns-in-Err-clause-fed

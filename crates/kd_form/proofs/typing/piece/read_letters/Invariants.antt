@@ -1,4 +1,4 @@
-use Rattle.kd_form.proofs.Prelude.{◌≡◌, ℕ, ◌+◌, ◌<◌, length, slice_index, IsTrue}
+use Rattle.kd_form.proofs.Prelude.{◌≡◌, ℕ, ◌+◌, ◌<◌, slice_index, IsTrue}
 use Rattle.kd_form.proofs.typing.piece.read_letters.Given as goal
 
 -- unless a byte was something else, each byte so far is its letter
