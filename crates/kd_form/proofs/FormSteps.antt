@@ -1,19 +1,13 @@
 -- The reader of a form, byte by byte, and at the end.
-use Rattle.kd_form.proofs.Prelude.{[], ◌≡◌, ◌≢◌, ◌⊎◌, inl, inr, ℕ, ◌+◌, ◌-◌, ◌≤◌, List, ◌∷◌, ◌++◌, length, take, refl, sym, ap, subst, ◌∙◌, append_assoc, length-append, Ok, Err, arith, codes, All, IsTrue, Option, Some, None, MatchOption, option_to_list, take-append_seam, cases_lt, cases_eq, append-nil, take_all, take-take, take-append-le, length-take, length-take-le, filter_map-append, All-nil, All-push, ArrayVec, is_text_byte, Day, line_of, IsFirstPart, FormFault, Heading, IsLineText, heading_words, letter_of_byte, letters_from, IsHeading, BeginsHeading, Answer, SaysBody, HasHeading, IsExpected, IsEarlyFault, InHeading, InNumber, InBody, IsPartFault, HoldsBody, IsBodyGiven, HasBegun, HoldsPart, HoldsStage, HoldsForm, IsHeadingOff, Missing, Other, IsPartRead, PartOrder, given_letters, IsRefusedForGood, NoHeading, form_message, IsRefusedAtEnd, IsRefused, Closes, Held, OfRest, ReadsTo, IsReadTo, StandsAt, EndsAt, IsComplete, IsLast, AtPart, cut, parts_of, Place, at_first, place_behind, HasTail, place_of, map-append, given_byte, blank_of}
-use Rattle.kd_form.specs.declared.part_body.PartBody.{PartBody}
-use Rattle.kd_form.proofs.Headings.{at_most, has_byte, one_heading, begins_there}
-use Rattle.kd_form.specs.declared.form_reader.FormReader.{FormReader}
-use Rattle.kd_form.specs.declared.form_reader.Stage.{Stage}
+pub use Rattle.kd_form.proofs.Prelude.{[], ◌≡◌, ◌≢◌, ◌⊎◌, inl, inr, ℕ, ◌+◌, ◌-◌, ◌≤◌, List, ◌∷◌, ◌++◌, length, take, refl, sym, ap, subst, ◌∙◌, append_assoc, length-append, Ok, Err, arith, codes, All, IsTrue, Option, Some, None, MatchOption, option_to_list, take-append_seam, cases_lt, cases_eq, append-nil, take_all, take-take, take-append-le, length-take, length-take-le, filter_map-append, All-nil, All-push, ArrayVec, is_text_byte, Day, line_of, IsFirstPart, FormFault, Heading, IsLineText, heading_words, letter_of_byte, letters_from, IsHeading, BeginsHeading, Answer, SaysBody, HasHeading, IsExpected, IsEarlyFault, InHeading, InNumber, InBody, IsPartFault, HoldsBody, IsBodyGiven, HasBegun, HoldsPart, HoldsStage, HoldsForm, IsHeadingOff, Missing, Other, IsPartRead, PartOrder, given_letters, IsRefusedForGood, NoHeading, form_message, IsRefusedAtEnd, IsRefused, Closes, Held, OfRest, ReadsTo, IsReadTo, StandsAt, EndsAt, IsComplete, IsLast, AtPart, cut, parts_of, Place, at_first, place_behind, HasTail, place_of, map-append, given_byte, blank_of, BadHeading, BadByte, false≢true, All-take}
+use Rattle.kd_form.specs.declared.{part_body.PartBody.PartBody, form_reader.FormReader.FormReader}
+use Rattle.kd_form.specs.declared.{form_reader.Stage.Stage}
+pub use Rattle.kd_form.proofs.Headings.{at_most, has_byte, one_heading, begins_there, as_parts, begins, begins_more, first_ends, first_more, may_begin, one_more, single, follows, not_begun, ended_heading, whole_line, no_bad_byte, bad_behind}
+use Rattle.kd_form.proofs.Lines.{letters_first, head_unbroken}
+use Rattle.kd_form.proofs.OneText.{read_or_refused, reads_meet, reads_then, stands_at, stays_refused}
 use Rattle.kd_form.specs.declared.form_reader.Stage.TheVariants as stages
-use Rattle.kd_form.proofs.Plain.{All-front, letters_first, whole_line, head_unbroken}
-use Rattle.kd_form.proofs.Cutting.{as_parts, begins, begins_more, first_ends, first_more, may_begin, one_more, single}
-use Rattle.kd_form.proofs.OneOrder.{no_bad_byte}
-use Rattle.kd_form.proofs.OneText.{NeverPasses, read_or_refused, reads_meet, reads_then, stands_at}
-use Rattle.kd_form.proofs.Standing.{stays_refused}
 
 -- -------- the body of a part, byte by byte
-
--- ---- the letters
 
 -- kept up to a length, once more
 pub take_kept : (n : ℕ) (xs ys : List ℕ) → take n (take n xs ++ ys) ≡ take n (xs ++ ys)
@@ -117,22 +111,14 @@ module _ (s : Day) (b : PartBody) (number : ℕ) (expected : Option ℕ) (part b
       → (start : ℕ) → IsPartFault s number expected start part fault
   next_refused fault told start = grind (arith, told (letters_from None body) more refl next.kept)
 
--- what the line of a heading tells where the form ends in it, or where an LF has come
-abbrev pub IsOpenBy : Day → List ℕ → Option Heading → Type 0
-IsOpenBy s part found = MatchOption found ((h : Heading) (body : List ℕ) → ¬ (HasHeading s part h body)) (λ h. HasHeading s part h [])
-
-abbrev pub IsEndedBy : Day → List ℕ → Option Heading → Type 0
-IsEndedBy s part found =
-    MatchOption found ((h : Heading) (body : List ℕ) → ¬ (HasHeading s (part ++ 10 ∷ []) h body)) (λ h. IsHeading s h × IsLineText part (line_of (heading_words h)))
-
-pub off : (s : Day) (number : ℕ) (expected : Option ℕ) (start : ℕ) (part : List ℕ) (found : Option Heading) (fault : FormFault) → IsOpenBy s part found
+-- why the line of a heading is refused, where the form ends in it, or where an LF has come
+pub off : (s : Day) (number : ℕ) (expected : Option ℕ) (start : ℕ) (part : List ℕ) (found : Option Heading) (fault : FormFault)
+    → MatchOption found ((h : Heading) (body : List ℕ) → ¬ (HasHeading s part h body)) (λ h. HasHeading s part h [])
     → IsHeadingOff number expected found fault → IsEarlyFault s number expected start part fault
 off s number expected start part found fault told (Missing none is) = InHeading (rw none at told) is
 off s number expected start part found fault told (Other h there wrong is) = InNumber h [] (rw there at told) wrong is
 
 -- -------- the reader of a form, byte by byte
-
--- ---- nothing is refused
 
 has_begun : (s : Day) (stage : Stage) (number : ℕ) (expected : Option ℕ) (part : List ℕ) → HoldsStage s stage number expected part → HasBegun part
 has_begun s (stages.Heading line) number expected part held = held.0.begins
@@ -181,13 +167,6 @@ module _ (s : Day) (r : FormReader) (form text : List ℕ) (h : HoldsForm s r fo
       let found = rw (there, alone) at stands in
       not_refused s r.stage r.number r.expected (length h.front) h.last found.0.0 found.0.1 fault h.stage found.0.2 found.1
 
-  held_to_the_end : (fault : FormFault) → NeverPasses s IsHere (StandsAt s fault)
-  held_to_the_end fault p part parts count one more held is due rest = let none : parts ≡ [] = cc in (rw none at rest).0
-
-  refused_is_unread : (fault : FormFault) → NeverPasses s (StandsAt s fault) IsHere
-  refused_is_unread fault p part parts count one more stands is due rest =
-      read_or_refused s (stands_at s fault p (part ∷ parts) stands).1 is due
-
   unrefused : (before : List ℕ) (fault : FormFault) → ¬ (IsRefusedForGood s form before fault)
   unrefused before fault (NoHeading none empty is) = elim h.begun [
     | inl nil ↦
@@ -197,8 +176,10 @@ module _ (s : Day) (r : FormReader) (form text : List ℕ) (h : HoldsForm s r fo
   ]
   unrefused before fault (AtPart (others, stands, so)) =
       let (letters, reads, is) = ends_so IsHere [] [] (inl ((refl, refl), refl)) refl in
-      (reads_meet s IsHere (StandsAt s fault) ⊥ (held_to_the_end fault) (refused_is_unread fault) (never_refused fault)
-      at_first (parts_of form) letters others reads stands).1
+      (reads_meet s IsHere (StandsAt s fault) ⊥
+      (λ p part parts count one more held is due rest. let none : parts ≡ [] = cc in (rw none at rest).0)
+      (λ p part parts count one more stands is due rest. read_or_refused s (stands_at s fault p (part ∷ parts) stands).1 is due)
+      (never_refused fault) at_first (parts_of form) letters others reads stands).1
 
   pub held : Held (form_message s) (HoldsForm s r) form text
   held = record {
@@ -216,8 +197,6 @@ refused s form text fault found = record {
   refused = λ more. (text, inl (stays_refused s form more text fault found));
   written = λ more. inl (stays_refused s form more text fault found);
 }
-
--- ---- the body
 
 -- a digit stands behind the five bytes of a heading
 abbrev pub IsDigitDue : PartBody → ℕ → Type 0
@@ -260,7 +239,8 @@ settled s b number expected part mine begun =
         };
         numbered = mine.numbered;
         due = mine.due;
-        allowed = All-front (λ b. IsTrue (is_text_byte b)) last.settled (codes "PART ") (rw lines at holds.allowed);
+        allowed = subst (All (λ b. IsTrue (is_text_byte b))) (take-append_seam last.settled (codes "PART "))
+            (All-take (λ b. IsTrue (is_text_byte b)) (length last.settled) _ (rw lines at holds.allowed));
         kept = holds.kept ∙ ap (λ l. take 525 (letters_from None l)) lines
             ∙ ap (take 525) (filter_map-append (letter_of_byte None) last.settled (codes "PART "));
       };
@@ -365,13 +345,11 @@ module _ (s : Day) (r : FormReader) (form text : List ℕ) (h : HoldsForm s r fo
 
   -- ---- the end
 
-  ends_refused : (before : List ℕ) (fault : FormFault) → IsRefusedAtEnd s form before fault → Closes (form_message s) form before (Err fault)
-  ends_refused before fault found = ((before, inr found), inr found)
-
   pub closes_refused : (made : List ℕ) (fault : FormFault) → ((start : ℕ) → IsPartFault s r.number r.expected start h.last fault) → made ≡ []
       → Closes (form_message s) form (text ++ made) (Err fault)
   closes_refused made fault found none =
-      ends_refused (text ++ made) fault (ends_so s r form text h (EndsAt s fault) [] made (inl (found (length h.front), refl)) none)
+      let ends = ends_so s r form text h (EndsAt s fault) [] made (inl (found (length h.front), refl)) none in
+      ((text ++ made, inr ends), inr ends)
 
   module _ (b : PartBody) (stage : r.stage ≡ stages.Body b) where
     abbrev mine : HoldsPart s b r.number r.expected h.last
@@ -402,5 +380,8 @@ module _ (s : Day) (r : FormReader) (form text : List ℕ) (h : HoldsForm s r fo
           }
 
       pub closes_short : b.heading.parts ≢ r.number → Closes (form_message s) form (text ++ given) (Err PartOrder)
-      closes_short other = ends_refused (text ++ given) PartOrder (ends_read (EndsAt s PartOrder)
-          (refl, b.heading.parts, refl, omega (arith, mine.numbered, mine.holds.is_heading.number.in_order, other)))
+      closes_short other =
+          let few : r.number + 1 ≤ b.heading.parts =
+          omega (arith, mine.numbered, mine.holds.is_heading.number.in_order, other) in
+          let ends = ends_read (EndsAt s PartOrder) (refl, b.heading.parts, refl, few) in
+          ((text ++ given, inr ends), inr ends)

@@ -1,24 +1,131 @@
--- The form that an order becomes gives the order's letters back.
-use Rattle.std.proofs.lemmas.Grind.{common_steps}
-use Rattle.kd_form.proofs.Prelude.{◌≡◌, ◌≢◌, ℕ, ◌+◌, ◌%◌, ◌<◌, ◌≤◌, inl, inr, List, [], ◌∷◌, ◌++◌, length, take, drop, refl, sym, ap, subst, ◌∙◌, append_assoc, length-append, arith, All, Option, Some, None, IfSome, flat_map, cons_option, cases_lt, append-nil, take_all, drop_all, length-take, length-take-le, take-append-drop, All-nil, All-cons, All-head, All-tail, All-take, All-drop, TheDayDeciphersItself, Day, IsLegalDay, Keys, BeginsHeading, given_text, sent_letters, AreKeys, FormsGiveTheirOrders, Suits, part_size, filled, part_text, pieces, body_text, SaysBody, Ok, IsPartRead, letters_from, blank_of, text_letters, parts_needed, AreMadeTexts, cut, ReadsTo, at_first, IsComplete, IsExpected}
-use Rattle.kd_form.proofs.Cutting.{at_cut, one_byte}
-use Rattle.kd_form.proofs.PartTexts.{by_pieces, gives_body, part_has_heading, part_begins_heading, part_is_first}
-use Rattle.kd_form.proofs.MadeParts.{more_pieces, pieces-next, pieces-none, IsPiece, GivesBack, part_gives_back}
-use Rattle.kd_form.proofs.OneOrder.{all_of_the_day, one_order}
-use Rattle.kd_form.proofs.OrderSteps.{size_some}
+-- The text of a part, and that the form that an order becomes gives the order's letters back.
+pub use Rattle.kd_form.proofs.Prelude.{append-nil, take-append-drop, IsWithout, ◌≡◌, ℕ, zero, suc, ◌+◌, ◌<◌, ◌≤◌, List, [], ◌∷◌, ◌++◌, length, take, drop, refl, sym, ap, subst, ◌∙◌, append_assoc, length-drop, arith, map, All, IsTrue, Some, None, flat_map, cons_option, nat_tests, All-nil, All-cons, All-head, All-tail, All-append, All-take, All-drop, filter_map-append, is_text_byte, letters_text, line_of, pieces, groups_of, with_line, body_text, Part, heading_words, part_text, letter_of_byte, letters_from, Day, IsHeading, BeginsHeading, HasHeading, WithoutReturn, cut, common_steps, ◌≢◌, ◌%◌, inl, inr, length-append, Option, IfSome, cases_lt, take_all, drop_all, length-take, length-take-le, TheDayDeciphersItself, IsLegalDay, Keys, given_text, sent_letters, AreKeys, FormsGiveTheirOrders, Suits, part_size, filled, SaysBody, Ok, IsPartRead, blank_of, text_letters, parts_needed, AreMadeTexts, ReadsTo, at_first, IsComplete, IsExpected, take-append_seam, All-more}
+use Rattle.kd_form.proofs.Headings.{allowed_one, at_cut, cut_behind, ended_heading, has_byte, plain_heading, words_begin, one_byte}
+use Rattle.kd_form.proofs.MadeParts.{pieces-next, pieces-none, more_pieces, IsPiece, GivesBack, part_gives_back, size_some}
+use Rattle.kd_form.proofs.{Lines.AreAllowed, Lines.without, OneOrder.all_of_the_day, OneOrder.one_order}
 
--- ---- the letters of a text are letters of the alphabet
+-- -------- the body of a part as it is written: the letters that it gives, its bytes, and its lines
 
-found_within : (found : Option ℕ) (letters : List ℕ) → IfSome found (λ letter. letter < 26) → All (λ letter. letter < 26) letters
-    → All (λ letter. letter < 26) (cons_option found letters)
-found_within None letters less within = within
-found_within (Some letter) letters less within = All-cons (λ l. l < 26) letter letters less within
+abbrev pub AreOfTheAlphabet : List ℕ → Type 0
+AreOfTheAlphabet letters = All (λ letter. letter < 26) letters
+
+-- what holds of no letters, and of letters if it holds of those behind their first piece, holds of all
+by_length : (size : ℕ) (P : List ℕ → Type 0) → 0 < size → P [] → ((letters : List ℕ) → 0 < length letters → P (drop size letters) → P letters)
+    → (most : ℕ) (letters : List ℕ) → length letters ≤ most → P letters
+by_length size P large none more most [] few = none
+by_length size P large none more zero (l ∷ letters) few = absurd (omega arith)
+by_length size P large none more (suc most) (l ∷ letters) few =
+    more (l ∷ letters) (omega arith)
+    (by_length size P large none more most (drop size (l ∷ letters)) (omega (arith, length-drop size (l ∷ letters))))
+
+-- ---- the letters that a body gives, and its bytes
+
+-- the text is allowed, and gives these letters
+pub record Gives (text letters : List ℕ) : Type 0 where
+  pub allowed : AreAllowed text
+  pub gives : letters_from None text ≡ letters
+
+gives_both : (one other letters more : List ℕ) → Gives one letters → Gives other more → Gives (one ++ other) (letters ++ more)
+gives_both one other letters more a b = record {
+  allowed = All-append (λ b. IsTrue (is_text_byte b)) one other a.allowed b.allowed;
+  gives = cc (filter_map-append (letter_of_byte None) one other, a.gives, b.gives);
+}
+
+gives_none : Gives [] []
+gives_none = record { allowed = All-nil (λ b. IsTrue (is_text_byte b)); gives = refl }
+
+letter_told : (letter : ℕ) → letter < 26 → IsTrue (is_text_byte (letter + 65)) × (letter_of_byte None (letter + 65) ≡ Some letter)
+letter_told letter less = grind (arith, nat_tests)
+
+pub gives_word : (letters : List ℕ) → AreOfTheAlphabet letters → Gives (letters_text letters) letters
+gives_word [] are = gives_none
+gives_word (l ∷ letters) are =
+    let told = letter_told l (All-head (λ x. x < 26) l letters are) in
+    gives_both ((l + 65) ∷ []) (letters_text letters) (l ∷ []) letters (record {
+      allowed = All-cons (λ b. IsTrue (is_text_byte b)) (l + 65) [] told.0 (All-nil (λ b. IsTrue (is_text_byte b)));
+      gives = ap (λ found. cons_option found []) told.1;
+    }) (gives_word letters (All-tail (λ x. x < 26) l letters are))
+
+-- a byte between words or behind them
+gives_after : (byte : ℕ) (word letters rest more : List ℕ) → IsTrue (is_text_byte byte) → letters_from None (byte ∷ []) ≡ [] → Gives word letters
+    → Gives rest more → Gives (word ++ byte ∷ rest) (letters ++ more)
+gives_after byte word letters rest more allowed none a b =
+    gives_both word (byte ∷ rest) letters more a (gives_both (byte ∷ []) rest [] more
+    (record { allowed = All-cons (λ b. IsTrue (is_text_byte b)) byte [] allowed (All-nil (λ b. IsTrue (is_text_byte b))); gives = none }) b)
+
+gives_words : (word letters : List ℕ) (words : List (List ℕ)) (more : List ℕ) → Gives word letters → Gives (line_of words) more
+    → Gives (line_of (word ∷ words)) (letters ++ more)
+gives_words word letters [] more a b = subst (Gives word) (sym (append-nil letters) ∙ ap (λ ls. letters ++ ls) b.gives) a
+gives_words word letters (next ∷ words) more a b = gives_after 32 word letters (line_of (next ∷ words)) more refl refl a b
+
+-- where a piece in front of others gives its letters and theirs, all pieces give all letters
+gives_pieces : (size : ℕ) (whole : List (List ℕ) → List ℕ) → 0 < size → whole [] ≡ []
+    → ((piece : List ℕ) (others : List (List ℕ)) (more : List ℕ) → AreOfTheAlphabet piece → Gives (whole others) more
+    → Gives (whole (piece ∷ others)) (piece ++ more))
+    → (letters : List ℕ) → AreOfTheAlphabet letters → Gives (whole (pieces size letters)) letters
+gives_pieces size whole large none step letters =
+    by_length size (λ letters. AreOfTheAlphabet letters → Gives (whole (pieces size letters)) letters) large
+    (λ are. rw (pieces-none size large, none) gives_none)
+    (λ letters some rest are.
+    rw (pieces-next size letters large some) (subst (Gives (whole (take size letters ∷ pieces size (drop size letters)))) (take-append-drop size letters)
+    (step (take size letters) (pieces size (drop size letters)) (drop size letters) (All-take (λ l. l < 26) size letters are)
+    (rest (All-drop (λ l. l < 26) size letters are))))) (length letters) letters (omega arith)
+
+gives_line : (line : List ℕ) → AreOfTheAlphabet line → Gives (line_of (groups_of line)) line
+gives_line =
+    gives_pieces 5 (λ groups. line_of (map letters_text groups)) (omega arith) refl
+    (λ group groups more are rest. gives_words (letters_text group) group (map letters_text groups) more (gives_word group are) rest)
+
+pub gives_body : (letters : List ℕ) → AreOfTheAlphabet letters → Gives (body_text letters) letters
+gives_body =
+    gives_pieces 50 (flat_map (λ line. with_line (groups_of line) [])) (omega arith) refl
+    (λ line lines more are rest. rw (append_assoc (line_of (groups_of line)) (10 ∷ []) (flat_map (λ l. with_line (groups_of l) []) lines))
+    (gives_after 10 (line_of (groups_of line)) line (flat_map (λ l. with_line (groups_of l) []) lines) more refl refl (gives_line line are) rest))
+
+-- ---- the lines of a body
+
+-- behind an LF they end in LF
+lines_end : (items : List (List ℕ)) → (front : List ℕ) × (10 ∷ flat_map (λ line. with_line (groups_of line) []) items ≡ front ++ 10 ∷ [])
+lines_end [] = ([], refl)
+lines_end (item ∷ items) =
+    let line : List ℕ = line_of (groups_of item) in
+    let (front, is) = lines_end items in
+    (10 ∷ (line ++ front), ap (λ t. 10 ∷ t) (append_assoc line (10 ∷ []) _ ∙ ap (λ t. line ++ t) is ∙ sym (append_assoc line front (10 ∷ []))))
+
+-- -------- a part as it is written: its heading, and where it ends in what it begins
+
+-- a written part has its heading, and its body follows
+pub part_has_heading : (s : Day) (made : Part) → IsHeading s made.heading → HasHeading s (part_text made) made.heading (body_text made.body)
+part_has_heading s made is =
+    let plain = plain_heading s made.heading is in
+    let line : List ℕ = line_of (heading_words made.heading) in
+    ended_heading s line (body_text made.body) made.heading (without 10 line (omega arith) plain) is
+    (WithoutReturn refl (λ front same. has_byte 13 front [] (subst (IsWithout 13) same (without 13 line (omega arith) plain))))
+
+-- a written part begins a heading line
+pub part_begins_heading : (s : Day) (made : Part) (more : List ℕ) → IsHeading s made.heading → BeginsHeading (part_text made ++ more)
+part_begins_heading s made more is = grind (arith, append_assoc, words_begin)
+
+-- a written part is the first part of what it begins, behind an LF, where another one may follow
+pub part_is_first : (s : Day) (made : Part) (rest : List ℕ) (others : List (List ℕ)) → IsHeading s made.heading → All (λ letter. letter < 26) made.body
+    → cut (10 ∷ rest) ≡ (10 ∷ [], others) → cut (10 ∷ (part_text made ++ rest)) ≡ (10 ∷ [], part_text made ∷ others)
+part_is_first s made rest others is are follows =
+    let line : List ℕ = line_of (heading_words made.heading) in
+    let (front, ends) = lines_end (pieces 50 made.body) in
+    let allowed = All-cons (λ b. IsTrue (is_text_byte b)) 10 (body_text made.body) refl (gives_body made.body are).allowed in
+    let tail : cut (front ++ 10 ∷ rest) ≡ (front ++ 10 ∷ [], others) = allowed_one front rest others (subst AreAllowed ends allowed) follows in
+    let joined : part_text made ++ rest ≡ line ++ (front ++ 10 ∷ rest) =
+    append_assoc line (10 ∷ body_text made.body) rest ∙ ap (λ t. line ++ (t ++ rest)) ends ∙ ap (λ t. line ++ t) (append_assoc front (10 ∷ []) rest) in
+    let whole : cut (part_text made ++ rest) ≡ (part_text made, others) =
+    ap cut joined ∙ cut_behind line (front ++ 10 ∷ rest) (without 10 line (omega arith) (plain_heading s made.heading is))
+    ∙ ap (λ (c : List ℕ × List (List ℕ)). (line ++ c.0, c.1)) tail ∙ ap (λ t. (line ++ t, others)) (sym ends) in
+    at_cut (part_text made ++ rest) (part_begins_heading s made rest is) ∙ ap (λ (c : List ℕ × List (List ℕ)). (10 ∷ [], c.0 ∷ c.1)) whole
+
+-- -------- the form that an order becomes gives the order's letters back
 
 letters_within : (blank : Option ℕ) (text : List ℕ) → IfSome blank (λ letter. letter < 26) → All (λ letter. letter < 26) (letters_from blank text)
 letters_within blank [] less = All-nil (λ letter. letter < 26)
-letters_within blank (byte ∷ text) less = grind (arith, found_within, letters_from, letters_within blank text less)
-
--- ---- pieces of a text
+letters_within blank (byte ∷ text) less = grind (arith, All-cons {X = ℕ}, letters_from, letters_within blank text less)
 
 -- behind whole groups the rest is filled as the whole text is
 filled_behind : (front rest : List ℕ) → length front % 5 ≡ 0 → filled front ++ filled rest ≡ filled (front ++ rest)
@@ -32,23 +139,22 @@ filled_pieces letters = elim (cases_lt (length letters) 500) [
 
 -- the pieces, sent one after another, are the letters as they are sent
 sent_pieces : (s : Day) (letters : List ℕ) → flat_map (sent_letters s) (pieces (part_size s) letters) ≡ sent_letters s letters
-sent_pieces s =
-    by_pieces (part_size s) (λ letters. flat_map (sent_letters s) (pieces (part_size s) letters) ≡ sent_letters s letters) (size_some s)
+sent_pieces s letters =
+    by_length (part_size s) (λ letters. flat_map (sent_letters s) (pieces (part_size s) letters) ≡ sent_letters s letters) (size_some s)
     (rw (pieces-none (part_size s) (size_some s)) (grind arith))
     (λ letters some rest. rw (pieces-next (part_size s) letters (size_some s) some)
     (ap (λ t. sent_letters s (take (part_size s) letters) ++ t) rest ∙ grind (arith, take-append-drop {A = ℕ}, filled_pieces)))
+    (length letters) letters (omega arith)
 
 are_pieces : (s : Day) (letters : List ℕ) → All (λ letter. letter < 26) letters → All (IsPiece s) (pieces (part_size s) letters)
-are_pieces s =
-    by_pieces (part_size s) (λ letters. All (λ letter. letter < 26) letters → All (IsPiece s) (pieces (part_size s) letters)) (size_some s)
+are_pieces s letters =
+    by_length (part_size s) (λ letters. All (λ letter. letter < 26) letters → All (IsPiece s) (pieces (part_size s) letters)) (size_some s)
     (λ within. rw (pieces-none (part_size s) (size_some s)) (All-nil (IsPiece s)))
     (λ letters some rest within. rw (pieces-next (part_size s) letters (size_some s) some) (All-cons (IsPiece s) (take (part_size s) letters) _ (record {
       some = omega (arith, size_some s, length-take (part_size s) letters);
       few = omega (arith, length-take (part_size s) letters);
       within = All-take (λ letter. letter < 26) (part_size s) letters within;
-    }) (rest (All-drop (λ letter. letter < 26) (part_size s) letters within))))
-
--- ---- part after part
+    }) (rest (All-drop (λ letter. letter < 26) (part_size s) letters within)))) (length letters) letters (omega arith)
 
 -- behind an LF the form is nothing but parts, which are read as the letters of the pieces
 record AreGivenBack (s : Day) (part parts count : ℕ) (pieces : List (List ℕ)) (form : List ℕ) : Type 0 where
@@ -95,11 +201,6 @@ parts_are_given_back s part parts (k ∷ keys) (piece ∷ pieces) form decipher 
     })
 parts_are_given_back s part parts _ _ form decipher legal are suited all first last few made = absurd made
 
--- ---- the whole form
-
-some_parts : (s : Day) (letters : List ℕ) (texts : List (List ℕ)) → letters ≢ [] → length texts ≡ parts_needed s (length letters) → texts ≢ []
-some_parts s letters texts e d = grind (arith, common_steps, more_pieces, size_some)
-
 pub forms_give_their_orders : TheDayDeciphersItself → FormsGiveTheirOrders
 forms_give_their_orders decipher s order form given legal is due =
     let letters : List ℕ = text_letters s is.text in
@@ -110,7 +211,7 @@ forms_give_their_orders decipher s order form given legal is due =
     parts_are_given_back s 1 (length is.keys) is.keys (pieces (part_size s) letters) form decipher legal
     (all_of_the_day _ s is.keys is.head order_is.is_head.lines) is.sendable.suited
     (are_pieces s letters (letters_within (blank_of s) is.text (grind arith))) (omega arith) (omega arith) order_is.is_head.few is.made in
-    let some : back.texts ≢ [] = some_parts s letters back.texts is.some (back.counted ∙ sym is.counted) in
+    let some : back.texts ≢ [] = grind (arith, common_steps, more_pieces, size_some, is.some, back.counted, is.counted) in
     let read = back.read None 0 tt (λ none. absurd (some none)) in
     record {
       letters = sent;

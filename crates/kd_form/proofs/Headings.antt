@@ -1,14 +1,249 @@
--- The line of a heading: its words, its first bytes, and that a part has one.
-use Rattle.std.proofs.Common.{rules}
-use Rattle.std.proofs.lemmas.Grind.{common_steps}
-use Rattle.kd_form.proofs.Prelude.{◌≡◌, ◌≢◌, ℕ, ◌^◌, ◌<◌, List, length, get_or, sym, ◌∙◌, append_assoc, arith, ◌+◌, ◌≤◌, [], ◌∷◌, take, refl, ap, inl, inr, ◌++◌, length-append, drop, codes, decimal, All, Option, Some, None, MatchOption, IsInRange, All-from_get_or, All-get_or, All-cons, All-nil, All-append, All-map, All-push, All-weaker, IsWithout, IsFirstPart, line_of, words_of, IsWord, texts_tell_first_parts, numbers_are_words, lines_split_into_words, parts_make_lines, fraction, indicator_words, heading_words, length-map, append-nil, append_cancel_right, take_all, get_or-map, letters_text, AreFewLetters, IsFraction, IsLetterCount, IsHeading, AreHeadingWords, HasFirstLine, IsLineText, BeginsHeading, Day, OfRotors, OfPins, Heading, Indicator, HasIndicator, HasSlots, HasPins, get_or-append_seam, HasHeading}
+-- A form is cut into its parts, also as more of it comes; and the line of a heading, with which a part begins.
+pub use Rattle.kd_form.proofs.Prelude.{common_steps, ◌≡◌, ◌≢◌, ◌⊎◌, inl, inr, ℕ, ◌<◌, ◌≤◌, List, [], ◌∷◌, ◌++◌, length, get_or, take, drop, refl, sym, ap, ◌∙◌, append_assoc, length-append, length-take, arith, codes, All-head, All-tail, All-get_or, IsTrue, nat_tests, cases_Bool, cases_eq, cases_lt, false≢true, append-nil, take-append-le, take-append-drop, take-append_seam, get_or-append, get_or-append_seam, get_or-take, get_or_past, BeginsHeading, cut, parts_of, FitsAt, HasBegun, IsWithout, IsBadAt, is_text_byte, AllPass-from_list_all, All-take, All-same, take-take, take_more, rules, ◌^◌, ◌+◌, decimal, All, Option, Some, None, MatchOption, IsInRange, All-from_get_or, All-cons, All-nil, All-append, All-map, All-push, All-weaker, IsFirstPart, line_of, words_of, IsWord, texts_tell_first_parts, numbers_are_words, lines_split_into_words, parts_make_lines, fraction, indicator_words, heading_words, length-map, append_cancel_right, take_all, get_or-map, letters_text, AreFewLetters, IsFraction, IsLetterCount, IsHeading, AreHeadingWords, HasFirstLine, IsLineText, Day, OfRotors, OfPins, Heading, Indicator, HasIndicator, HasSlots, HasPins, HasHeading, drop-cons, map, IsFalse, word_by_bytes}
+use Rattle.std.proofs.lemmas.{Slice.Eq.bytes_eq-Decides, Fmt.digits_decimal, Fmt.decimal_injective}
+use Rattle.std.proofs.lemmas.{Fmt.length-decimal-le, Fmt.decimal_nonempty, Str.Parse.IsNumeralModel}
+use Rattle.std.proofs.lemmas.{Str.Parse.numerals_by_value, Str.Parse.tells_by_index}
+use Rattle.kd_form.specs.FormParts.{begins_heading}
+pub use Rattle.kd_form.proofs.OneOrder.{no_bad_byte, same_letters, same_word, bad_behind}
+pub use Rattle.kd_form.proofs.Lines.{AreAllowed, plain_text, whole_line, same_front, IsPlain, plain_letters, plain_more}
 use Rattle.std.specs.Str.Parse.{digits_value}
-use Rattle.std.proofs.lemmas.Fmt.{digits_decimal, decimal_injective, length-decimal-le, decimal_nonempty}
-use Rattle.std.proofs.lemmas.Str.Parse.{IsNumeralModel, numerals_by_value, tells_by_index}
-use Rattle.std.proofs.Math.Seq.{drop-cons}
-use Rattle.kd_form.proofs.Plain.{same_front, IsPlain, plain_text, plain_letters, plain_more, whole_line}
-use Rattle.kd_form.proofs.Cutting.{begins}
-use Rattle.kd_form.proofs.OneOrder.{same_letters, same_word}
+
+-- ---- where a heading begins
+
+pub told : (bytes : List ℕ) → BeginsHeading bytes → (take 5 bytes ≡ codes "PART ") × (48 ≤ get_or bytes 5 0) × (get_or bytes 5 0 ≤ 57)
+unfolding begins_heading
+told bytes begins = grind (arith, nat_tests, bytes_eq-Decides (take 5 bytes) (codes "PART "))
+
+pub begins : (digit : ℕ) (rest : List ℕ) → 48 ≤ digit → digit ≤ 57 → BeginsHeading (codes "PART " ++ digit ∷ rest)
+unfolding begins_heading
+begins digit rest low high = grind (arith, nat_tests)
+
+pub heading_size : (bytes : List ℕ) → BeginsHeading bytes → 6 ≤ length bytes
+heading_size bytes begun = grind (arith, told bytes begun, cases_lt 5 (length bytes), get_or_past bytes 5 0)
+
+-- its first six bytes tell
+pub begins_front : (bytes more : List ℕ) → 6 ≤ length bytes → begins_heading (bytes ++ more) ≡ begins_heading bytes
+unfolding begins_heading
+begins_front bytes more long = rw (take-append-le 5 bytes more (omega arith), get_or-append bytes more 0 5 (omega arith)) refl
+
+pub begins_more : (bytes more : List ℕ) → BeginsHeading bytes → BeginsHeading (bytes ++ more)
+begins_more bytes more begun = begins_front bytes more (heading_size bytes begun) ∙ begun
+
+heading_byte : (bytes : List ℕ) (place : ℕ) → BeginsHeading bytes → place < 6 → 32 ≤ get_or bytes place 0
+heading_byte bytes place begun inside =
+    grind (arith, cases_lt place 5, told bytes begun, get_or-take 5 bytes place 0, All-get_or (λ b. 32 ≤ b) (codes "PART ") place 0, plain_text (codes "PART ") refl)
+
+-- an LF isn't among them
+pub before_break : (front rest : List ℕ) → BeginsHeading (front ++ 10 ∷ rest) → BeginsHeading front
+before_break front rest begun =
+    grind (arith, heading_byte (front ++ 10 ∷ rest) (length front), get_or-append_seam front 10 rest 0, begins_front front (10 ∷ rest), cases_lt (length front) 6)
+
+-- ---- what may become a heading
+
+-- fewer than six bytes that begin a heading are its first ones
+few_begin : (bytes more : List ℕ) → length bytes ≤ 5 → BeginsHeading (bytes ++ more) → bytes ≡ take (length bytes) (codes "PART ")
+few_begin bytes more few begun =
+    sym (take-append_seam bytes more) ∙ sym (take-take (length bytes) 5 (bytes ++ more) few) ∙ ap (take (length bytes)) (told (bytes ++ more) begun).0
+
+pub may_begin : (bytes : List ℕ) → HasBegun bytes → (more : List ℕ) × BeginsHeading (bytes ++ more)
+may_begin bytes (inl (count, few, is)) = (
+  drop count (codes "PART 0"),
+  rw (is, ← take-append-le count (codes "PART ") (codes "0") few, take-append-drop count (codes "PART 0")) (begins 48 [] (omega arith) (omega arith)),
+)
+may_begin bytes (inr begun) = ([], rw (append-nil bytes) begun)
+
+fits_there : (bytes : List ℕ) (place : ℕ) → BeginsHeading bytes → FitsAt place (get_or bytes place 0)
+fits_there bytes place begun = (
+  (λ less. sym (get_or-take 5 bytes place 0 less) ∙ ap (λ l. get_or l place 0) (told bytes begun).0),
+  (λ same. rw same ((told bytes begun).1, (told bytes begun).2)),
+)
+
+-- a byte that fits may follow them
+pub follows : (part line : List ℕ) (byte : ℕ) → line ≡ take 64 part → HasBegun part → FitsAt (length line) byte → HasBegun (part ++ byte ∷ [])
+follows part line byte e d g = grind (arith, common_steps, begins_more, length-take, take_more, begins)
+
+-- and with one that doesn't no heading begins
+pub not_begun : (part line : List ℕ) (byte : ℕ) → line ≡ take 64 part → ¬ (FitsAt (length line) byte)
+    → (length part < 6) × ((more : List ℕ) → ¬ (BeginsHeading ((part ++ byte ∷ []) ++ more)))
+not_begun part line byte kept off =
+    let short : length line < 6 = elim (cases_lt (length line) 6) [
+      | inl less ↦ less
+      | inr long ↦ absurd (off ((λ less. absurd (omega (arith, long, less))), (λ same. absurd (omega (arith, long, same)))))
+    ] in
+    let whole : line ≡ part = whole_line 64 part line kept (omega (arith, short)) in (
+      rw whole at short,
+      λ more begun.
+          let seam : get_or ((part ++ byte ∷ []) ++ more) (length part) 0 ≡ byte =
+          ap (λ l. get_or l (length part) 0) (append_assoc part (byte ∷ []) more) ∙ get_or-append_seam part byte more 0 in
+          off (rw whole (rw seam at (fits_there ((part ++ byte ∷ []) ++ more) (length part) begun))),
+    )
+
+cut_or_not : (byte : ℕ) (bytes : List ℕ) → ((byte ≡ 10) × BeginsHeading bytes) ⊎ ((byte ≡ 10) → ¬ (BeginsHeading bytes))
+cut_or_not byte bytes = grind (arith, cases_eq byte 10, cases_Bool (begins_heading bytes), false≢true)
+
+pub at_cut : (bytes : List ℕ) → BeginsHeading bytes → cut (10 ∷ bytes) ≡ (10 ∷ [], parts_of bytes)
+at_cut bytes begun = rw begun refl
+
+pub no_cut : (byte : ℕ) (bytes : List ℕ) → ((byte ≡ 10) → ¬ (BeginsHeading bytes)) → cut (byte ∷ bytes) ≡ (byte ∷ (cut bytes).0, (cut bytes).1)
+no_cut byte bytes not = grind (arith, nat_tests, cases_eq byte 10, cases_Bool (begins_heading bytes))
+
+-- where no other part follows, the byte ends none, and no later one does
+uncut : (byte : ℕ) (bytes : List ℕ) → (cut (byte ∷ bytes)).1 ≡ []
+    → ((byte ≡ 10) → ¬ (BeginsHeading bytes)) × ((cut bytes).1 ≡ [])
+uncut byte bytes none = grind (arith, cut_or_not byte bytes, at_cut bytes, no_cut byte bytes)
+
+pub as_parts : (form part : List ℕ) (others : List (List ℕ)) → cut form ≡ (part, others) → parts_of form ≡ part ∷ others
+as_parts form part others is = ap (λ (c : List ℕ × List (List ℕ)). c.0 ∷ c.1) is
+
+pub first_there : (form : List ℕ) → (rest : List ℕ) × (form ≡ (cut form).0 ++ rest)
+first_there [] = ([], refl)
+first_there (byte ∷ bytes) = elim (cut_or_not byte bytes) [
+  | inl (is, begun) ↦ (bytes, rw (is, ap (λ c. c.0) (at_cut bytes begun)) refl)
+  | inr not ↦ let (rest, joined) = first_there bytes in (rest, rw (no_cut byte bytes not) (ap (λ l. byte ∷ l) joined))
+]
+
+pub single : (form : List ℕ) → (cut form).1 ≡ [] → (cut form).0 ≡ form
+single [] none = refl
+single (byte ∷ bytes) none = let is = uncut byte bytes none in rw (no_cut byte bytes is.0) (ap (λ l. byte ∷ l) (single bytes is.1))
+
+-- the first part is whole: more bytes only add to what follows
+pub record IsDone (form : List ℕ) : Type 0 where
+  pub rest : List ℕ
+  pub long : 6 ≤ length form
+  pub joined : form ≡ (cut form).0 ++ rest
+  pub others : (cut form).1 ≡ parts_of rest
+  pub grows : (more : List ℕ) → cut (form ++ more) ≡ ((cut form).0, parts_of (rest ++ more))
+
+pub first_done : (form : List ℕ) → (cut form).1 ≢ [] → IsDone form
+first_done [] some = absurd (some refl)
+first_done (byte ∷ bytes) some = elim (cut_or_not byte bytes) [
+  | inl (is, begun) ↦ rw is (record {
+    rest = bytes;
+    long = omega (arith, heading_size bytes begun);
+    joined = rw (ap (λ c. c.0) (at_cut bytes begun)) refl;
+    others = ap (λ c. c.1) (at_cut bytes begun);
+    grows = λ more. at_cut (bytes ++ more) (begins_more bytes more begun) ∙ cc (at_cut bytes begun);
+  })
+  | inr not ↦
+      let whole : cut (byte ∷ bytes) ≡ (byte ∷ (cut bytes).0, (cut bytes).1) = no_cut byte bytes not in
+      let done = first_done bytes (λ none. some (ap (λ c. c.1) whole ∙ none)) in
+      record {
+        rest = done.rest;
+        long = omega (arith, done.long);
+        joined = ap (λ l. byte ∷ l) done.joined ∙ ap (λ (c : List ℕ × List (List ℕ)). c.0 ++ done.rest) (sym whole);
+        others = ap (λ c. c.1) whole ∙ done.others;
+        grows = λ more. no_cut byte (bytes ++ more) (λ is begun. not is (sym (begins_front bytes more done.long) ∙ begun))
+            ∙ ap (λ (c : List ℕ × List (List ℕ)). (byte ∷ c.0, c.1)) (done.grows more) ∙ ap (λ (c : List ℕ × List (List ℕ)). (c.0, parts_of (done.rest ++ more))) (sym whole);
+      }
+]
+
+-- ---- a byte more of the last part
+
+-- behind bytes without an LF
+pub cut_behind : (line bytes : List ℕ) → IsWithout 10 line → cut (line ++ bytes) ≡ (line ++ (cut bytes).0, (cut bytes).1)
+cut_behind [] bytes unbroken = refl
+cut_behind (byte ∷ line) bytes unbroken =
+    no_cut byte (line ++ bytes) (λ is. absurd (All-head (λ b. b ≢ 10) byte line unbroken is))
+    ∙ rw (cut_behind line bytes (All-tail (λ b. b ≢ 10) byte line unbroken)) refl
+
+pub one_byte : (byte : ℕ) → cut (byte ∷ []) ≡ (byte ∷ [], [])
+one_byte byte = no_cut byte [] (λ is begun. omega (arith, heading_size [] begun))
+
+pub one_more : (line : List ℕ) (byte : ℕ) → IsWithout 10 line → cut (line ++ byte ∷ []) ≡ (line ++ byte ∷ [], [])
+one_more line byte unbroken = cut_behind line (byte ∷ []) unbroken ∙ rw (one_byte byte) refl
+
+-- five bytes and one more that begin a heading
+last_digit : (bytes : List ℕ) (byte : ℕ) → length bytes < 6 → BeginsHeading (bytes ++ byte ∷ []) → (bytes ≡ codes "PART ") × (48 ≤ byte) × (byte ≤ 57)
+last_digit bytes byte few begun =
+    grind (arith, told (bytes ++ byte ∷ []) begun, heading_size (bytes ++ byte ∷ []) begun, length-append bytes (byte ∷ []), get_or-append_seam bytes byte [] 0, take-append_seam bytes (byte ∷ []))
+
+-- no heading begins in the last line, unless a digit stands behind its five bytes
+pub first_more : (front tail : List ℕ) (byte : ℕ) → IsWithout 10 tail → (cut (front ++ 10 ∷ tail)).1 ≡ []
+    → ((tail ≡ codes "PART ") → (48 ≤ byte) → (byte ≤ 57) → ⊥) → cut (front ++ 10 ∷ (tail ++ byte ∷ [])) ≡ (front ++ 10 ∷ (tail ++ byte ∷ []), [])
+first_more [] tail byte unbroken none not = grind (arith, uncut, no_cut, last_digit, begins_front, one_more)
+first_more (x ∷ front) tail byte unbroken none not =
+    let is = uncut x (front ++ 10 ∷ tail) none in
+    no_cut x (front ++ 10 ∷ (tail ++ byte ∷ [])) (λ e begun. is.0 e (begins_more front (10 ∷ tail) (before_break front (tail ++ byte ∷ []) begun)))
+    ∙ rw (first_more front tail byte unbroken is.1 not) refl
+
+-- the digit of a heading ends the part before it
+pub first_ends : (front more : List ℕ) (digit : ℕ) → (cut (front ++ 10 ∷ codes "PART ")).1 ≡ [] → 48 ≤ digit → digit ≤ 57
+    → cut (front ++ 10 ∷ (codes "PART " ++ digit ∷ more)) ≡ (front ++ 10 ∷ [], parts_of (codes "PART " ++ digit ∷ more))
+first_ends [] more digit none low high = at_cut (codes "PART " ++ digit ∷ more) (begins digit more low high)
+first_ends (x ∷ front) more digit none low high =
+    let is = uncut x (front ++ 10 ∷ codes "PART ") none in
+    no_cut x (front ++ 10 ∷ (codes "PART " ++ digit ∷ more))
+    (λ e begun. is.0 e (begins_more front (10 ∷ codes "PART ") (before_break front (codes "PART " ++ digit ∷ more) begun)))
+    ∙ rw (first_ends front more digit is.1 low high) refl
+
+-- fewer than six bytes of what begins a heading may stand in a body
+few_allowed : (bytes more : List ℕ) → length bytes < 6 → BeginsHeading (bytes ++ more) → AreAllowed bytes
+few_allowed bytes more few begun =
+    grind (arith, common_steps, All-same, bytes, few_begin, All-take, AllPass-from_list_all)
+
+-- with more bytes the first bad one stays where it is, in the same part
+stays : (front rest more : List ℕ) (byte : ℕ) → AreAllowed front → IsFalse (is_text_byte byte)
+    → (cut (front ++ byte ∷ rest)).1 ≡ []
+    → (other : List ℕ) × ((cut ((front ++ byte ∷ rest) ++ more)).0 ≡ front ++ byte ∷ other)
+stays [] rest more byte allowed bad none =
+    let not = λ (is : byte ≡ 10) (begun : BeginsHeading (rest ++ more)). false≢true (sym bad ∙ ap is_text_byte is) in
+    ((cut (rest ++ more)).0, ap (λ c. c.0) (no_cut byte (rest ++ more) not))
+stays (b ∷ front) rest more byte allowed bad none =
+    let body : List ℕ = front ++ byte ∷ rest in
+    let is = uncut b body none in
+    let good = All-tail (λ x. IsTrue (is_text_byte x)) b front allowed in
+    elim (cut_or_not b (body ++ more)) [
+      | inl (break, begun) ↦
+          let few : length body < 6 = grind (arith, cases_lt (length body) 6, begins_front body more, is.0 break) in
+          absurd (no_bad_byte body (length front) (few_allowed body more few begun) (bad_behind front rest byte good bad))
+      | inr not ↦
+          let (other, same) = stays front rest more byte good bad is.1 in
+          (other, rw (no_cut b (body ++ more) not, same) refl)
+    ]
+
+bad_stays : (body more : List ℕ) (place : ℕ) → (cut body).1 ≡ [] → IsBadAt body place → IsBadAt ((cut (body ++ more)).0) place
+bad_stays body more place none bad =
+    let (other, is) = stays bad.before bad.rest more bad.byte bad.allowed bad.bad (rw bad.joined at none) in
+    rw (bad.joined, is, bad.size) (bad_behind bad.before other bad.byte bad.allowed bad.bad)
+
+-- a line, and a body in which the same bytes are bad
+pub record IsAlike (part line body : List ℕ) : Type 0 where
+  pub other : List ℕ
+  pub is : part ≡ line ++ 10 ∷ other
+  pub bad : (place : ℕ) → IsBadAt body place → IsBadAt other place
+
+pub alike : (line body more : List ℕ) → IsWithout 10 line → (cut (line ++ 10 ∷ body)).1 ≡ [] → IsAlike (cut ((line ++ 10 ∷ body) ++ more)).0 line body
+alike line body more unbroken none =
+    let is = uncut 10 body (sym (ap (λ c. c.1) (cut_behind line (10 ∷ body) unbroken)) ∙ none) in
+    let part : (cut ((line ++ 10 ∷ body) ++ more)).0 ≡ line ++ (cut (10 ∷ (body ++ more))).0 =
+    ap (λ l. (cut l).0) (append_assoc line (10 ∷ body) more) ∙ ap (λ c. c.0) (cut_behind line (10 ∷ (body ++ more)) unbroken) in
+    elim (cut_or_not 10 (body ++ more)) [
+      | inl (break, begun) ↦
+          let few : length body < 6 = grind (arith, cases_lt (length body) 6, begins_front body more, is.0 refl) in
+          record {
+            other = [];
+            is = part ∙ ap (λ (c : List ℕ × List (List ℕ)). line ++ c.0) (at_cut (body ++ more) begun);
+            bad = λ place at. absurd (no_bad_byte body place (few_allowed body more few begun) at);
+          }
+      | inr not ↦ record {
+        other = (cut (body ++ more)).0;
+        is = part ∙ ap (λ (c : List ℕ × List (List ℕ)). line ++ c.0) (no_cut 10 (body ++ more) not);
+        bad = λ place. bad_stays body more place is.1;
+      }
+    ]
+
+-- what is allowed, and ends in LF, has no other part
+pub allowed_one : (front rest : List ℕ) (others : List (List ℕ)) → AreAllowed (front ++ 10 ∷ []) → cut (10 ∷ rest) ≡ (10 ∷ [], others)
+    → cut (front ++ 10 ∷ rest) ≡ (front ++ 10 ∷ [], others)
+allowed_one [] rest others allowed is = is
+allowed_one (byte ∷ front) rest others allowed is =
+    let good = All-tail (λ b. IsTrue (is_text_byte b)) byte (front ++ 10 ∷ []) allowed in
+    no_cut byte (front ++ 10 ∷ rest) (λ e begun. no_digit front good (before_break front rest begun))
+    ∙ rw (allowed_one front rest others good is) refl
+  where
+    no_digit : (bytes : List ℕ) → AreAllowed (bytes ++ 10 ∷ []) → ¬ (BeginsHeading bytes)
+    no_digit bytes good begun =
+        grind (arith, nat_tests, heading_size bytes begun, told bytes begun, get_or-append bytes (10 ∷ []) 0 5, length-append bytes (10 ∷ []), All-get_or (λ b. IsTrue (is_text_byte b)) (bytes ++ 10 ∷ []) 5 0)
 
 -- -------- which part of how many, as it is written
 
@@ -56,6 +291,7 @@ same_fraction word one other part parts found last number small few first read a
 pub record AreSpelled (word : List ℕ) (index : ℕ) (letters : List ℕ) : Type 0 where
   pub size : length letters ≡ index
   pub spelled : letters_text letters ≡ take index word
+  pub within : All (λ letter. letter < 26) letters
 
 pub capital_at : (word others : List ℕ) (index : ℕ) → index < length word → AreFewLetters others → letters_text others ≡ word
     → (65 ≤ get_or word index 0) × (get_or word index 0 ≤ 90)
@@ -65,6 +301,8 @@ capital_at word others index inside are same =
     omega (arith, All-get_or (λ l. l < 26) others index 0 within are.within, ap (λ w. get_or w index 0) same, byte)
 
 -- -------- the line of a heading, and its words
+
+pub ruleset spelling = (capital_at, All-push)
 
 pub at_most : (s : Day) (count : ℕ) → IsLetterCount s count → count ≤ 520
 at_most s count e = grind arith
@@ -83,15 +321,13 @@ are_small s h is = omega (arith, is.number.in_order, is.number.few, at_most s h.
 
 -- ---- the words of a heading
 
-a_word : (text : List ℕ) → 0 < length text → IsFrom 33 text → IsWord text
-a_word text some from = grind (arith, All-weaker)
-
 letters_word : (letters : List ℕ) → 1 ≤ length letters → IsWord (letters_text letters)
-letters_word letters some = grind (arith, common_steps, a_word, lower, letters_from)
+letters_word letters some = grind (arith, common_steps, word_by_bytes, lower, letters_from)
 
 fraction_word : (part parts : ℕ) → part < 2 ^ 64 → parts < 2 ^ 64 → IsWord (fraction part parts)
 fraction_word part parts small few =
-    a_word (fraction part parts) (omega (arith, length-append (decimal part ++ codes "/") (decimal parts), length-append (decimal part) (codes "/")))
+    word_by_bytes (fraction part parts)
+    (λ none. omega (arith, ap length none, length-append (decimal part ++ codes "/") (decimal parts), length-append (decimal part) (codes "/")))
     (lower 47 33 (fraction part parts) (omega arith) (fraction_from part parts small few))
 
 line_words : (s : Day) (found : Option ℕ) (h : Heading) (line : List ℕ) → MatchOption found (HasPins s) (HasSlots s)
@@ -114,8 +350,6 @@ heading_told s found line words shown None has are same told =
     λ h is line_is. told h is (sym (line_words s found h line has is line_is) ∙ sym are ∙ sym same)
 heading_told s found line words shown (Some h) has are same told =
     (told.0, ap line_of (told.1 ∙ same ∙ are) ∙ parts_make_lines line)
-
--- -------- the heading in the first line of a part
 
 -- ---- no byte of a heading's line is below the space
 
@@ -197,8 +431,6 @@ ended_told s found part line text (Some h) has cut told unbroken kept =
     (told.0, rw (whole, ← told.1) at cut)
 
 -- -------- a part has one heading, and one body
-
--- ---- the words of the line
 
 -- the count of letters, and the indicator behind it
 one_end : (s : Day) (count found : ℕ) (i j : Option Indicator) → count < 2 ^ 64 → found < 2 ^ 64 → HasIndicator s i → HasIndicator s j

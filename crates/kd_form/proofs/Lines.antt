@@ -1,9 +1,63 @@
--- The lines of an order up to its text.
-use Rattle.kd_form.proofs.Prelude.{common_steps, ◌≡◌, ℕ, zero, suc, ◌+◌, ◌<◌, ◌≤◌, inl, inr, true, false, List, [], ◌∷◌, ◌++◌, length, get_or, take, drop, replicate, refl, sym, ap, subst, ◌∙◌, append_assoc, length-append, length-drop, arith, ◌==◌, codes, AllWithin, nat_tests, cases_Bool, get_or-take, take-append-drop, length-replicate, length-take-le, append-nil, drop_more, All-append, All-cons, All-nil, All-replicate, All-take, All-drop, Unread, IsEnded, IsKeyLine, filled_in, blanks, fits, letters_at, IsFilledLine, IsPatternLine, AreAppended, BreaksOff, Result, Ok, Err, MatchResult, letters_text, line_of, Day, OfRotors, OfPins, Keys, Rotor, Pin, key_words, AreKeys, places_for, rotor_pattern, key_pattern, key_letters, IsAnyKeyLine, FormFault, Suits, IsKeysFault, IsFirstKeysFault, BeginsWithKeys, nil_from_length, false≢true}
+-- Fronts of a list that are told by what they have, text that is plain, and the lines of an order up to its text.
+use Rattle.std.specs.Cmp.Lexicographic.{pointwise_decides}
+pub use Rattle.kd_form.proofs.Prelude.{◌≡◌, ◌≢◌, ℕ, ◌+◌, ◌≤◌, ◌<◌, true, List, [], ◌∷◌, ◌++◌, refl, subst, length-append, arith, take, ap, ◌∙◌, length, sym, codes, All, nat_le, IsTrue, is_text_byte, list_all, nat_tests, get_or_append_left, take_all, length-take, AllPass-from_list_all, All-append, All-cons, All-map, All-weaker, All-head, All-tail, letters_text, line_of, IsWithout, Option, option_to_list, letter_of_byte, letters_from, Keys, Rotor, Pin, key_words, common_steps, zero, suc, inl, inr, false, get_or, drop, replicate, append_assoc, length-drop, ◌==◌, AllWithin, cases_Bool, get_or-take, take-append-drop, length-replicate, length-take-le, append-nil, drop_more, All-nil, All-replicate, All-take, All-drop, Unread, IsEnded, IsKeyLine, filled_in, blanks, fits, letters_at, IsFilledLine, IsPatternLine, AreAppended, BreaksOff, Result, Ok, Err, MatchResult, Day, OfRotors, OfPins, AreKeys, places_for, rotor_pattern, key_pattern, key_letters, IsAnyKeyLine, FormFault, Suits, IsKeysFault, IsFirstKeysFault, BeginsWithKeys, nil_from_length, false≢true}
 use Rattle.kd_state.specs.Machine.{AreLetters}
 use Rattle.kd_form.specs.declared.pattern_line.Unread.TheVariants.{Open, Off}
-use Rattle.kd_form.proofs.Ciphers.{letter_read}
-use Rattle.kd_form.proofs.Plain.{IsPlain, same_front}
+
+-- the list begins with nothing that has the property
+abbrev pub IsOff : {X : Type 0} → (X → Type 0) → List X → Type 0
+IsOff P [] = Unit {0}
+IsOff P (x ∷ xs) = ¬ (P x)
+
+-- two fronts of one list whose items have a property, up to one that hasn't, are the same
+pub same_front : {X : Type 0} (P : X → Type 0) (front other rest more : List X) → All P front → All P other → IsOff P rest → IsOff P more
+    → front ++ rest ≡ other ++ more → (front ≡ other) × (rest ≡ more)
+same_front P [] [] rest more all alls off none same = (refl, same)
+same_front P [] (y ∷ other) rest more all alls off none same = absurd (subst (IsOff P) same off (All-head P y other alls))
+same_front P (x ∷ front) [] rest more all alls off none same = absurd (subst (IsOff P) (sym same) none (All-head P x front all))
+same_front P (x ∷ front) (y ∷ other) rest more all alls off none same =
+    let both = same_front P front other rest more (All-tail P x front all) (All-tail P y other alls) off none (cc) in
+    (cc, both.1)
+
+abbrev pub IsPlain : List ℕ → Type 0
+IsPlain text = All (λ byte. 32 ≤ byte) text
+
+-- of a text that is written out, by a test
+pub plain_text : (text : List ℕ) → list_all (λ b. nat_le 32 b) text ≡ true → IsPlain text
+plain_text text passes = All-weaker (λ b. IsTrue (nat_le 32 b)) (λ b. 32 ≤ b) (λ b told. grind (arith, nat_tests)) text (AllPass-from_list_all (λ b. nat_le 32 b) text passes)
+
+pub plain_letters : (letters : List ℕ) → IsPlain (letters_text letters)
+plain_letters letters = All-map (λ b. 32 ≤ b) (λ l. l + 65) letters (λ k d inside. omega arith)
+
+pub plain_more : (word text : List ℕ) → IsPlain word → IsPlain text → IsPlain (word ++ 32 ∷ text)
+plain_more word text one other = All-append (λ b. 32 ≤ b) word (32 ∷ text) one (All-cons (λ b. 32 ≤ b) 32 text (omega arith) other)
+
+pub plain_keys : (k : Keys) → IsPlain (line_of (key_words k))
+plain_keys (Rotor k) =
+    plain_more (codes "PART") _ (plain_text (codes "PART") refl) (plain_more (letters_text k.start) _ (plain_letters k.start)
+    (plain_more (letters_text k.key) _ (plain_letters k.key) (plain_more (letters_text k.fillers) _ (plain_letters k.fillers) (plain_letters k.group))))
+plain_keys (Pin k) = grind (arith, plain_more, plain_text, plain_letters)
+
+pub without : (byte : ℕ) (text : List ℕ) → byte < 32 → IsPlain text → IsWithout byte text
+without byte text low plain = All-weaker (λ b. 32 ≤ b) (λ b. b ≢ byte) (λ b above same. omega (arith, above, same)) text plain
+
+pub head_unbroken : IsWithout 10 (codes "PART ")
+head_unbroken = without 10 (codes "PART ") (omega arith) (plain_text (codes "PART ") refl)
+
+-- a line of which less was kept than could be is whole
+pub whole_line : (n : ℕ) (part line : List ℕ) → line ≡ take n part → length line < n → line ≡ part
+whole_line n part line kept short = kept ∙ take_all n part (omega (arith, ap length kept, length-take n part))
+
+-- the letters of a text, one byte more
+pub letters_first : (blank : Option ℕ) (byte : ℕ) (text : List ℕ) → letters_from blank (byte ∷ text) ≡ option_to_list (letter_of_byte blank byte) ++ letters_from blank text
+letters_first blank byte text = grind arith
+
+-- bytes that may stand in a text
+abbrev pub AreAllowed : List ℕ → Type 0
+AreAllowed bytes = All (λ b. IsTrue (is_text_byte b)) bytes
+
+-- lists are compared item by item
+pub ruleset comparing = (pointwise_decides)
 
 -- -------- lines of a pattern, mark by mark
 
@@ -74,16 +128,9 @@ end_off bytes more long ended = grind (arith, length-append {A = ℕ})
 
 -- -------- lines of keys, as forms with letters
 
--- ---- words of letters
-
 blanks-places : (n : ℕ) (other : List ℕ) → blanks (places_for n ++ other) ≡ n + blanks other
 blanks-places zero other = omega arith
 blanks-places (suc n) other = ap (λ m. m + 1) (blanks-places n other) ∙ omega arith
-
-filled-places : (n : ℕ) (letters : List ℕ) → length letters ≡ n → filled_in (places_for n) letters ≡ letters_text letters
-filled-places zero [] count = refl
-filled-places (suc n) (l ∷ letters) count = ap (λ text. (l + 65) ∷ text) (filled-places n letters (omega arith))
-filled-places _ _ count = absurd (omega arith)
 
 filled_word : (n : ℕ) (letters other more : List ℕ) → length letters ≡ n
     → filled_in (places_for n ++ other) (letters ++ more) ≡ letters_text letters ++ filled_in other more
@@ -91,12 +138,13 @@ filled_word zero [] other more count = refl
 filled_word (suc n) (l ∷ letters) other more count = ap (λ text. (l + 65) ∷ text) (filled_word n letters other more (omega arith))
 filled_word _ _ other more count = absurd (omega arith)
 
+filled-places : (n : ℕ) (letters : List ℕ) → length letters ≡ n → filled_in (places_for n) letters ≡ letters_text letters
+filled-places n letters count = simp append-nil at (filled_word n letters [] [] count)
+
 pub key_line : (s : Day) (k : Keys) → AreKeys s k → filled_in (key_pattern s) (key_letters k) ≡ line_of (key_words k)
 key_line (OfRotors s) (Rotor k) are = grind (arith, common_steps, filled_word, filled-places)
 key_line (OfPins s) (Pin k) are = ap (λ t. codes "PART " ++ (k.chosen + 65) ∷ 32 ∷ t) (filled-places 6 k.external are.external.count)
 key_line _ _ are = absurd are
-
--- ---- how many letters
 
 rotor_blanks : (slots : ℕ) → blanks (rotor_pattern slots) ≡ slots + (slots + (2 + 3))
 rotor_blanks slots = grind (arith, blanks-places)
@@ -123,7 +171,7 @@ keys_exist (OfRotors s) letters are =
 keys_exist (OfPins s) [] are = absurd (omega (arith, are.count))
 keys_exist (OfPins s) (l ∷ letters) are =
     let (one, external) = letters_cut 1 6 (l ∷ letters) are in
-    let chosen = letter_read (l ∷ letters) 0 are.within in
+    let chosen = All-head (λ x. x < 26) l letters are.within in
     (Pin (record { chosen = l; external = letters }), record { chosen = chosen; external = external }, refl)
 
 pub as_key_line : (s : Day) (line : List ℕ) → IsPatternLine (key_pattern s) line → IsAnyKeyLine s line
@@ -149,8 +197,6 @@ pub keys_read : (s : Day) (bytes letters : List ℕ) (k : Keys) → IsFilledLine
     → AreKeys s k × IsKeyLine k bytes
 keys_read s bytes letters k filled told are = grind (arith, key_line)
 
--- -------- keys that suit the day, and those that don't
-
 pub unsuited : (s : Day) (keys : List Keys) (index : ℕ) (k : Keys) (fault : FormFault) → index < length keys
     → get_or keys index k ≡ k → AllWithin (Suits s) keys 0 index → IsKeysFault s (index + 1) k fault
     → IsFirstKeysFault s keys fault
@@ -167,8 +213,6 @@ unsuited s keys index k fault inside is before found =
     }
 
 -- -------- lines of keys, and what follows them
-
--- ---- one line
 
 ended_tail : (text line : List ℕ) → IsEnded text line → (tail : List ℕ) × IsEnded [] tail × (line ≡ text ++ tail)
 ended_tail text line ended = grind arith
@@ -187,12 +231,8 @@ pub key_first : (k : Keys) (line more : List ℕ) → IsKeyLine k line → get_o
 key_first k line more ended = grind arith
 
 pub text_front : (last text : List ℕ) → IsEnded (codes "TEXT") last → get_or (last ++ text) 0 0 ≡ 84
-text_front last text ended = elim ended [
-  | inl short ↦ ap (λ l. get_or (l ++ text) 0 0) short
-  | inr long ↦ ap (λ l. get_or (l ++ text) 0 0) long
-]
-
--- ---- line after line
+text_front last text (inl short) = ap (λ l. get_or (l ++ text) 0 0) short
+text_front last text (inr long) = ap (λ l. get_or (l ++ text) 0 0) long
 
 module _ {P : List ℕ → Type 0} (Q : List ℕ → Type 0) (s : Day) (more : List ℕ) where
   -- with more bytes the lines may be followed by other ones
@@ -203,10 +243,6 @@ module _ {P : List ℕ → Type 0} (Q : List ℕ → Type 0) (s : Day) (more : L
   lines_more (k ∷ keys) others bytes on (line, rest, are, is, later, joined) =
       let all = lines_more keys others rest on later in
       (line, rest ++ more, are, is, all, ap (λ b. b ++ more) joined ∙ append_assoc line rest more)
-
-  pub lines_then : (keys : List Keys) (bytes : List ℕ) → ((rest : List ℕ) → P rest → Q (rest ++ more))
-      → BeginsWithKeys s keys P bytes → BeginsWithKeys s keys Q (bytes ++ more)
-  lines_then keys bytes on is = rw (append-nil keys) at (lines_more keys [] bytes on is)
 
 pub text_line : (last : List ℕ) → IsEnded (codes "TEXT") last → IsPatternLine (codes "TEXT") last
 text_line last ended = ([], record { are_letters = no_letters; ended = ended })

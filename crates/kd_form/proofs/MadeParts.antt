@@ -1,11 +1,181 @@
--- How a part of a form is made.
-use Rattle.kd_form.proofs.Prelude.{[], inr, ◌≡◌, ℕ, ◌+◌, ◌-◌, ◌%◌, ◌<◌, List, ◌∷◌, ◌++◌, length, take, drop, refl, sym, ap, ◌∙◌, append_assoc, length-drop, add-one, arith, min, subst, ◌≤◌, replicate, length-append, codes, decimal, Option, Some, MatchOption, IsSome, All, option_map, div_ceil, join_with_byte, div-eq_of_lt, mod-eq_of_lt, append-nil, take_min, drop_min, length-map, length-replicate, Heading, fraction, indicator_words, heading_words, pieces, behind_spaces, with_line, Part, Day, OfRotors, OfPins, pin_day, IsLegalDay, Keys, Rotor, Pin, PinKeys, Indicator, IsInternalKey, HaveRunOut, Suits, indicator_of, rotor_letters, enciphered_choice, pin_letters, list_letters, IsMade, cipher_from, part_size, pin_indicators, filled, sheet_key, IsWindow, take-append_seam, drop-append_seam, HasIndicator, message_key, HasIndicatorsAround, group_in, keys_in, list_in, text_in, SaysLetters, Ok, All-append, All-cons, All-replicate, TheDayDeciphersItself, IsFraction, IsHeading, sent_letters, AreKeys}
-use Rattle.kd_form.proofs.Ciphers.{enciphered_length, enciphered_letters}
+-- How a part of a form is made: ciphers and their letters, the internal key, and the letters in groups.
+pub use Rattle.kd_form.proofs.Prelude.{◌≡◌, ◌∙◌, ℕ, ◌<◌, List, [], ◌∷◌, length, get_or, arith, All, slice_index, enumerate_from, get_or-eq_default, cases_lt, length-map, All-get_or, All-from_get_or, All-map, Day, OfRotors, OfPins, cipher_from, ◌≢◌, suc, ◌+◌, ◌≤◌, inl, inr, ◌++◌, map, refl, ap, subst, append_assoc, length-append, slice_get, Some, Contains, cases_eq, append-nil, map_push, ComesFirst, ArePicked, IsInternalKey, HaveRunOut, IsTakenInTurn, OnWheel, OffWheel, ◌-◌, ◌%◌, take, drop, sym, length-drop, add-one, min, replicate, codes, decimal, Option, MatchOption, IsSome, option_map, div_ceil, join_with_byte, div-eq_of_lt, mod-eq_of_lt, take_min, drop_min, length-replicate, Heading, fraction, indicator_words, heading_words, pieces, behind_spaces, with_line, Part, pin_day, IsLegalDay, Keys, Rotor, Pin, PinKeys, Indicator, Suits, indicator_of, rotor_letters, enciphered_choice, pin_letters, list_letters, IsMade, part_size, pin_indicators, filled, sheet_key, IsWindow, take-append_seam, drop-append_seam, HasIndicator, message_key, HasIndicatorsAround, group_in, keys_in, list_in, text_in, SaysLetters, Ok, All-append, All-cons, All-replicate, TheDayDeciphersItself, IsFraction, IsHeading, sent_letters, AreKeys, nat_tests, nil_from_length, AreRising}
+use Rattle.std.proofs.lemmas.List.FromFn.{length-enumerate_from, length-range_with_len, get_or-range_with_len}
+use Rattle.kd_tables.specs.{Permutation.alphabet, Permutation.followed_by, Rings.ring_of}
+use Rattle.kd_enigma.specs.Cipher.{RotorKey, product, path}
+
+pub enciphered_length : (s : Day) (window text : List ℕ) → length (cipher_from s window text) ≡ length text
+enciphered_length (OfRotors s) window text = length-map (enumerate_from 1 text) _ ∙ length-enumerate_from 1 text
+enciphered_length (OfPins s) window text = length-map (enumerate_from 0 text) _ ∙ length-enumerate_from 0 text
+
+-- a table of letters has a letter at each place, since what stands past its end is read as the first
+pub letter_read : (table : List ℕ) (place : ℕ) → All (λ letter. letter < 26) table → slice_index table place < 26
+letter_read table place letters = grind (arith, cases_lt, All-get_or {X = ℕ}, get_or-eq_default {A = ℕ})
+
+-- products end in the alphabet
+product_letters : (ps : List (List ℕ)) → All (λ letter. letter < 26) (product ps)
+unfolding product followed_by
+product_letters [] =
+    All-from_get_or (λ letter. letter < 26) alphabet 0
+    (λ i inside. let below : i < 26 = omega (arith, length-range_with_len 0 26) in omega (arith, get_or-range_with_len 0 26 i 0 below))
+product_letters (p ∷ ps) =
+    All-map (λ letter. letter < 26) (λ y. slice_index (product ps) y) p
+    (λ k d inside. letter_read (product ps) (get_or p k d) (product_letters ps))
+
+path_letters : (key : RotorKey) (window : List ℕ) → All (λ letter. letter < 26) (path key window)
+unfolding path
+path_letters key window = grind (arith, product_letters)
+
+pub enciphered_letters : (s : Day) (window text : List ℕ) → All (λ letter. letter < 26) (cipher_from s window text)
+enciphered_letters (OfRotors s) window text =
+    All-map (λ letter. letter < 26) _ (enumerate_from 1 text) (λ k d inside. letter_read _ _ (path_letters _ _))
+enciphered_letters (OfPins s) window text =
+    All-map (λ letter. letter < 26) _ (enumerate_from 0 text) (λ k d inside. omega arith)
+
+-- -------- the first of all rising places is found by striking out: letter by letter, and wheel by wheel
+
+-- rising places from this one on, of letters on the wheels from this one to the sixth
+abbrev pub Picks : List ℕ → ℕ → ℕ → List ℕ → Type 0
+Picks letters wheel start [] = wheel ≡ 7
+Picks letters wheel start (place ∷ places) =
+    (start ≤ place) × (place < length letters) × Contains (ring_of wheel) (slice_index letters place) × Picks letters (wheel + 1) (place + 1) places
+
+pub record IsFirstPick (letters : List ℕ) (wheel start : ℕ) (places : List ℕ) : Type 0 where
+  pub picks : Picks letters wheel start places
+  pub first : (others : List ℕ) → Picks letters wheel start others → ComesFirst places others
+
+abbrev pub HasNoPick : List ℕ → ℕ → ℕ → Type 0
+HasNoPick letters wheel start = (places : List ℕ) → ¬ (Picks letters wheel start places)
+
+earlier : (letters : List ℕ) (wheel start other : ℕ) (places : List ℕ) → other ≤ start → Picks letters wheel start places → Picks letters wheel other places
+earlier letters wheel start other [] less picks = picks
+earlier letters wheel start other (place ∷ places) less (after, inside, on, more) = (omega arith, inside, on, more)
+
+module _ (letters : List ℕ) (wheel start : ℕ) (inside : start < length letters) where
+  -- it is on the wheel: a pick begins there or later, and goes on behind that
+  first_on : (places : List ℕ) → wheel < 7 → Contains (ring_of wheel) (slice_index letters start) → IsFirstPick letters (wheel + 1) (start + 1) places
+      → IsFirstPick letters wheel start (start ∷ places)
+  first_on places less on first = record { picks = (omega arith, inside, on, first.picks); first = first_there } where
+    first_there : (others : List ℕ) → Picks letters wheel start others → ComesFirst (start ∷ places) others
+    first_there [] picks = omega arith
+    first_there (other ∷ others) picks = grind (arith, cases_eq, first.first)
+
+  none_on : wheel < 7 → HasNoPick letters (wheel + 1) (start + 1) → HasNoPick letters wheel start
+  none_on less none [] picks = omega arith
+  none_on less none (other ∷ others) (after, within, on, more) = none others (earlier letters (wheel + 1) (other + 1) (start + 1) others (omega arith) more)
+
+  -- it isn't: a pick begins later
+  later : (places : List ℕ) → ¬ (Contains (ring_of wheel) (slice_index letters start)) → Picks letters wheel start places → Picks letters wheel (start + 1) places
+  later [] off picks = picks
+  later (place ∷ places) off (after, within, on, more) = elim (cases_eq place start) [
+    | inl same ↦ absurd (off (rw same at on))
+    | inr apart ↦ (omega (arith, after, apart), within, on, more)
+  ]
+
+-- So far these letters are picked, and the next place is this one or a later one. What is the first pick for the wheels that
+-- are left makes the first pick for all, and where there is none, there is none for all.
+pub record IsPicking (letters : List ℕ) (start : ℕ) (done : List ℕ) : Type 0 where
+  pub places : List ℕ
+  pub few : length done ≤ 6
+  pub taken : done ≡ map (λ place. slice_index letters place) places
+  pub made : (more : List ℕ) → IsFirstPick letters (length done + 1) start more → IsFirstPick letters 1 0 (places ++ more)
+  pub spent : HasNoPick letters (length done + 1) start → HasNoPick letters 1 0
+
+pub picking_none : (letters : List ℕ) → IsPicking letters 0 []
+picking_none letters = record { places = []; few = omega arith; taken = refl; made = λ more first. first; spent = λ none. none }
+
+no_seventh : (letter : ℕ) → ¬ (Contains (ring_of 7) letter)
+unfolding ring_of
+no_seventh letter on = grind arith
+
+pub picking_more : (letters : List ℕ) (start letter : ℕ) (done next : List ℕ) → IsPicking letters start done → start < length letters
+    → letter ≡ slice_index letters start → IsTakenInTurn done letter next → IsPicking letters (start + 1) next
+picking_more letters start letter done next picking inside is (OnWheel on taken) =
+    let less : length done < 6 = elim (cases_lt (length done) 6) [
+      | inl few ↦ few
+      | inr six ↦ absurd (no_seventh letter (subst (λ w. Contains (ring_of w) letter) (omega (arith, six, picking.few)) on))
+    ] in
+    let wheel : length next ≡ length done + 1 = ap length taken ∙ length-append done (letter ∷ []) in
+    record {
+      places = picking.places ++ start ∷ [];
+      few = omega (arith, wheel, less);
+      taken = grind (arith, map_push, picking.taken);
+      made = λ more first. rw (append_assoc picking.places (start ∷ []) more) (picking.made (start ∷ more)
+          (first_on letters (length done + 1) start inside more (omega (arith, less)) (rw is at on) (rw wheel at first)));
+      spent = λ none. picking.spent (none_on letters (length done + 1) start inside (omega (arith, less)) (rw wheel at none));
+    }
+picking_more letters start letter done next picking inside is (OffWheel off same) = rw same (record {
+  places = picking.places;
+  few = picking.few;
+  taken = picking.taken;
+  made = λ more first. picking.made more (record {
+    picks = earlier letters _ (start + 1) start more (omega arith) first.picks;
+    first = λ others picks. first.first others (later letters _ start inside others (rw is at off) picks);
+  });
+  spent = λ none. picking.spent (λ others picks. none others (later letters _ start inside others (rw is at off) picks));
+})
+
+-- ---- all rising places, said in one
+
+on_wheels : (letters : List ℕ) (wheel start : ℕ) (places : List ℕ) → Picks letters wheel start places
+    → AreRising start (length letters) places × (length places + wheel ≡ 7)
+    × ((i letter : ℕ) → slice_get (map (λ p. slice_index letters p) places) i ≡ Some letter → Contains (ring_of (wheel + i)) letter)
+on_wheels letters wheel start [] picks = (tt, omega arith, λ i letter is. absurd (cc))
+on_wheels letters wheel start (place ∷ places) (after, inside, on, more) =
+    grind (arith, on_wheels letters (wheel + 1) (place + 1) places more)
+
+picks_of : (letters : List ℕ) (wheel start : ℕ) (places : List ℕ) → AreRising start (length letters) places → length places + wheel ≡ 7
+    → ((i letter : ℕ) → slice_get (map (λ p. slice_index letters p) places) i ≡ Some letter → Contains (ring_of (wheel + i)) letter)
+    → Picks letters wheel start places
+picks_of letters wheel start [] rising count each = omega arith
+picks_of letters wheel start (place ∷ places) (after, inside, rising) count each =
+    let on = subst (λ w. Contains (ring_of w) (slice_index letters place)) (omega arith) (each 0 (slice_index letters place) refl) in (
+      after,
+      inside,
+      on,
+      picks_of letters (wheel + 1) (place + 1) places rising (omega arith)
+          (λ i letter is. subst (λ w. Contains (ring_of w) letter) (omega arith) (each (suc i) letter is)),
+    )
+
+picks_from_picked : (letters places picked : List ℕ) → ArePicked letters places picked → Picks letters 1 0 places
+picks_from_picked letters places picked are =
+    picks_of letters 1 0 places are.rising (omega (arith, length-map places (λ p. slice_index letters p), ap length are.taken, are.on_wheels.count))
+    (λ i letter is. subst (λ w. Contains (ring_of w) letter) (omega arith) (are.on_wheels.each (suc i) letter (ap (λ xs. slice_get xs i) are.taken ∙ is)))
+
+pub key_picked : (letters done : List ℕ) (start : ℕ) → IsPicking letters start done → length done ≡ 6 → IsInternalKey letters done
+key_picked letters done start picking six =
+    let best = picking.made [] (record { picks = omega (arith, six); first = λ others picks. tt }) in
+    let picks : Picks letters 1 0 picking.places = rw (append-nil picking.places) at best.picks in
+    let all = on_wheels letters 1 0 picking.places picks in
+    record {
+      places = picking.places;
+      picked = record {
+        rising = all.0;
+        taken = picking.taken;
+        on_wheels = rw picking.taken (record {
+          count = omega (arith, length-map picking.places (λ p. slice_index letters p), all.1);
+          each = grind arith;
+        });
+      };
+      first = λ others other are. rw (append-nil picking.places) at (best.first others (picks_from_picked letters others other are));
+    }
+
+none_left : (letters : List ℕ) (wheel : ℕ) → wheel < 7 → HasNoPick letters wheel (length letters)
+none_left letters wheel less [] picks = omega arith
+none_left letters wheel less (place ∷ places) (after, inside, on, more) = omega arith
+
+pub run_out : (letters done : List ℕ) (start : ℕ) → IsPicking letters start done → length letters ≤ start → length done ≢ 6 → HaveRunOut letters
+run_out letters done start picking end less places picked are =
+    picking.spent (λ others picks. none_left letters _ (omega (arith, less, picking.few)) others (earlier letters _ start (length letters) others end picks))
+    places (picks_from_picked letters places picked are)
 
 -- -------- letters in groups and lines, piece by piece
 
 pub more_pieces : (size n : ℕ) → 0 < size → 0 < n → div_ceil n size ≡ div_ceil (n - size) size + 1
 more_pieces size n large some = grind arith
+
+pub size_some : (s : Day) → 0 < part_size s
+size_some s = grind arith
 
 pub pieces-next : (size : ℕ) (letters : List ℕ) → 0 < size → 0 < length letters
     → pieces size letters ≡ take size letters ∷ pieces size (drop size letters)
@@ -19,6 +189,8 @@ pub line_of_groups : (group : List ℕ) (groups : List (List ℕ))
 line_of_groups group [] = sym (append-nil group)
 line_of_groups group (next ∷ groups) = ap (λ text. group ++ 32 ∷ text) (line_of_groups next groups)
 
+pub ruleset in_groups = (append_assoc, append-nil, line_of_groups)
+
 pub first_pieces : (size n : ℕ) (letters front rest : List ℕ) → 0 < size → 0 < length letters
     → n ≡ min (length letters) size → front ≡ take n letters → rest ≡ drop n letters
     → pieces size letters ≡ front ∷ pieces size rest
@@ -26,16 +198,13 @@ first_pieces size n letters front rest large some is one other =
     let same : n ≡ min size (length letters) = omega arith in
     cc (pieces-next size letters large some, same, take_min size letters, drop_min size letters)
 
--- ---- the line of a heading
-
 pub heading_line : (front whole : List ℕ) (h : Heading)
     → whole ≡ (((((((front ++ codes "PART ") ++ decimal h.part) ++ codes "/") ++ decimal h.parts) ++ codes " ") ++ decimal h.letters)
     ++ behind_spaces (indicator_words h.indicator)) ++ codes "\n"
     → whole ≡ front ++ with_line (heading_words h) []
 heading_line front whole h written = grind (arith, append_assoc {A = ℕ}, line_of_groups)
 
--- ---- the internal key is there where the keys suit the day
-
+-- the internal key is there where the keys suit the day
 pub has_internal : (s : Day) (k : PinKeys) → Suits s (Pin k)
     → (internal : List ℕ) × IsInternalKey (enciphered_choice s k) internal
 has_internal s k suits = grind arith
@@ -45,14 +214,10 @@ pub not_spent : {X : Type 0} (found : Option X) (items : X → List ℕ) (letter
     → (internal : List ℕ) × IsInternalKey letters internal → IsSome found
 not_spent found items letters told internal = grind arith
 
--- -------- the letters of a part's body, taken apart
-
 -- the deciphered message key is a window
 pub key_is_window : (s : Day) (i : Indicator) (key : List ℕ) → HasIndicator s (Some i) → key ≡ message_key s i → All (λ l. l < 26) key
     → IsWindow (sheet_key s) key
 key_is_window s i key has is within = grind (arith, enciphered_length, length-map)
-
--- ---- what the reads tell
 
 pub list_told : (s : Day) (found : Option (List ℕ)) (due : List ℕ) → found ≡ option_map (λ d. d.list) (pin_day s) → found ≡ Some due → due ≡ list_letters s
 list_told s found due told is = grind arith
@@ -73,8 +238,6 @@ pub record GivesBack (s : Day) (part parts : ℕ) (text : List ℕ) (made : Part
   pub within : All (λ letter. letter < 26) made.body
   pub counted : length made.body ≡ made.heading.letters
   pub read : SaysLetters s part made.heading.indicator made.body (Ok text)
-
--- ---- letters by their places
 
 rotor_places : (fillers group text : List ℕ) → length fillers ≡ 2 → length group ≡ 3
     → (group_in ((fillers ++ group) ++ text) ≡ group) × (drop 5 ((fillers ++ group) ++ text) ≡ text)
@@ -100,8 +263,6 @@ pin_places k (a ∷ b ∷ c ∷ d ∷ e ∷ f ∷ []) (x ∷ y ∷ []) text is s
       text_is = sym (ap (λ n. take n (text ++ first)) less ∙ take-append_seam text first);
     })
 pin_places k _ _ text is six two = absurd (omega arith)
-
--- ---- the whole part
 
 pub part_gives_back : (s : Day) (part parts : ℕ) (k : Keys) (piece : List ℕ) (made : Part) → TheDayDeciphersItself
     → IsLegalDay s → AreKeys s k → Suits s k → IsFraction part parts → IsPiece s piece

@@ -1,9 +1,6 @@
 -- An order is read in one way, and becomes one form, or has one fault.
-use Rattle.kd_form.proofs.Prelude.{common_steps, ◌≡◌, ◌≢◌, ℕ, ◌+◌, inl, inr, List, [], ◌∷◌, ◌++◌, length, map, refl, sym, ap, subst, ◌∙◌, append_assoc, arith, Err, Ok, drop, ◌≤◌, ◌⊎◌, codes, All, slice_index, IsTrue, IsFalse, append_cancel_right, append-nil, All-cons, All-nil, All-map, letters_text, is_text_byte, line_of, Day, OfRotors, OfPins, Keys, Rotor, Pin, ComesFirst, IsInternalKey, key_words, AreKeys, IsEnded, BeginsWithKeys, IsOrder, IsHead, IsHeadFault, IsMadeText, enciphered_choice, part_size, Suits, pieces, AreMadeTexts, text_letters, parts_needed, IsBadAt, IsKeysFault, IsFirstKeysFault, StandsInOrder, InHead, InKeys, InText, Cut, NoLetter, InParts, IsSendFault, IsSendable, IsFormOf, Answer, IsCaught, IsFound, IsJudged, false≢true, FormFault, BadByte, EmptyText, PartKeys}
-use Rattle.kd_form.proofs.Plain.{same_front, plain_keys, text_plain, nothing_more}
-use Rattle.kd_form.proofs.Lines.{key_first, text_front, same_line}
-
--- -------- answers
+pub use Rattle.kd_form.proofs.Prelude.{common_steps, ◌≡◌, ◌≢◌, ℕ, ◌+◌, inl, inr, List, [], ◌∷◌, ◌++◌, length, map, refl, sym, ap, subst, ◌∙◌, append_assoc, arith, Err, Ok, drop, ◌≤◌, ◌⊎◌, codes, All, slice_index, IsTrue, IsFalse, append_cancel_right, append-nil, All-cons, All-nil, All-map, letters_text, is_text_byte, line_of, Day, OfRotors, OfPins, Keys, Rotor, Pin, ComesFirst, IsInternalKey, key_words, AreKeys, IsEnded, BeginsWithKeys, IsOrder, IsHead, IsHeadFault, IsMadeText, enciphered_choice, part_size, Suits, pieces, AreMadeTexts, text_letters, parts_needed, IsBadAt, IsKeysFault, IsFirstKeysFault, StandsInOrder, InHead, InKeys, InText, Cut, NoLetter, InParts, IsSendFault, IsSendable, IsFormOf, Answer, IsCaught, IsFound, IsJudged, false≢true, FormFault, BadByte, EmptyText, PartKeys, nil_from_length, length-append}
+use Rattle.kd_form.proofs.Lines.{same_front, plain_keys, key_first, text_front, same_line, plain_text}
 
 -- there is one answer at most
 abbrev pub IsOnly : {V : Type 0} → (V → Type 0) → Type 0
@@ -28,8 +25,6 @@ only_caught one apart laters = grind (arith, only_either, only_found, only_this)
 
 -- -------- an order is read in one way
 
--- ---- the internal key
-
 same_places : (places others : List ℕ) → ComesFirst places others → ComesFirst others places → places ≡ others
 same_places [] [] one other = refl
 same_places (x ∷ places) (y ∷ others) one other = grind (arith, same_places places others)
@@ -39,8 +34,6 @@ pub one_internal_key : (letters : List ℕ) → IsOnly (IsInternalKey letters)
 one_internal_key letters key other a b =
     let same = same_places a.places b.places (a.first b.places other b.picked) (b.first a.places key a.picked) in
     a.picked.taken ∙ ap (map (λ place. slice_index letters place)) same ∙ sym b.picked.taken
-
--- ---- the form
 
 one_part : (s : Day) (part parts : ℕ) (k : Keys) (text : List ℕ) → IsOnly (IsMadeText s part parts k text)
 one_part s part parts (Rotor k) text one other (made, is, bytes) (again, also, written) = cc
@@ -104,7 +97,8 @@ behind s (k ∷ keys) (j ∷ others) bytes head text more (line, rest, are, is, 
 only_text : (s : Day) (keys : List Keys) (line last text more : List ℕ) → IsEnded (codes "TEXT") line
     → BeginsWithKeys s keys (IsEnded (codes "TEXT")) last → line ++ text ≡ last ++ more → (keys ≡ []) × (text ≡ more)
 only_text s [] line last text more ended end same =
-    (refl, (same_line (codes "TEXT") (codes "TEXT") line last text more text_plain text_plain ended end same).2)
+    let plain = plain_text (codes "TEXT") refl in
+    (refl, (same_line (codes "TEXT") (codes "TEXT") line last text more plain plain ended end same).2)
 only_text s (k ∷ keys) line last text more ended (first, rest, are, is, later, joined) same =
     absurd (grind (arith, text_front, key_first, append_assoc))
 
@@ -118,8 +112,6 @@ one_order s order keys others head other text more a b =
     (cc (none, are, append-nil keys), append_cancel_right head other text (cc (a.joined, b.joined, texts)), texts)
 
 -- -------- an order has a form, or one fault
-
--- ---- two fronts of one list
 
 pub data AreFronts (xs ys zs ws : List ℕ) : Type 0 where
   Shorter : (more : List ℕ) → zs ≡ xs ++ more → ys ≡ more ++ ws → AreFronts xs ys zs ws
@@ -145,7 +137,7 @@ no_head_fault s order keys head text position is fault =
           let same = one_order s whole keys all head whole (more ++ ahead) []
           (record { joined = cc (longer, append_assoc head more ahead); is_head = is.is_head })
           (record { joined = sym (append-nil whole); is_head = begun }) in
-          some (nothing_more more ahead same.2)
+          some (nil_from_length ahead (omega (arith, ap length same.2, length-append more ahead)))
       | Longer byte more longer rest ↦
           fault.stops byte (more ++ text) more rest (keys, subst (IsHead s keys) longer is.is_head)
     ]
@@ -183,13 +175,10 @@ no_keys_fault s keys fault all is = grind (arith, same_front (Suits s) keys is.b
 
 -- ---- faults in the text
 
-off : (byte : ℕ) → IsFalse (is_text_byte byte) → ¬ (IsTrue (is_text_byte byte))
-off byte bad stands = false≢true (sym bad ∙ stands)
-
 pub one_bad_byte : (text : List ℕ) → IsOnly (IsBadAt text)
 one_bad_byte text place other a b =
-    let same = same_front (λ x. IsTrue (is_text_byte x)) a.before b.before (a.byte ∷ a.rest) (b.byte ∷ b.rest) a.allowed b.allowed (off a.byte a.bad)
-    (off b.byte b.bad) (sym a.joined ∙ b.joined) in
+    let same = same_front (λ x. IsTrue (is_text_byte x)) a.before b.before (a.byte ∷ a.rest) (b.byte ∷ b.rest) a.allowed b.allowed (λ is. false≢true (sym a.bad ∙ is))
+    (λ is. false≢true (sym b.bad ∙ is)) (sym a.joined ∙ b.joined) in
     a.size ∙ ap length same.0 ∙ sym b.size
 
 -- behind bytes that are allowed
@@ -203,7 +192,7 @@ bad_longer text more place bad = grind (arith, append_assoc {A = ℕ})
 
 pub no_bad_byte : (text : List ℕ) (place : ℕ) → All (λ x. IsTrue (is_text_byte x)) text → ¬ (IsBadAt text place)
 no_bad_byte text place all is =
-    let same = same_front (λ x. IsTrue (is_text_byte x)) text is.before [] (is.byte ∷ is.rest) all is.allowed tt (off is.byte is.bad)
+    let same = same_front (λ x. IsTrue (is_text_byte x)) text is.before [] (is.byte ∷ is.rest) all is.allowed tt (λ good. false≢true (sym is.bad ∙ good))
     (append-nil text ∙ is.joined) in cc (same.1)
 
 -- ---- one answer
@@ -251,9 +240,7 @@ fault_answer s order fault (inr (Cut is e)) = inl (length order + 1, is, ap Err 
 fault_answer s order fault (inr (NoLetter ks hd t is none e)) = inr ((ks, hd, t), is.is_order, grind arith)
 fault_answer s order fault (inr (InParts ks hd t is some differ e)) = inr ((ks, hd, t), is.is_order, grind arith)
 
--- ---- nothing stands
-
--- in an order whose keys suit and whose text is allowed so far
+-- nothing stands in an order whose keys suit and whose text is allowed so far
 pub nothing_stands : (s : Day) (order : List ℕ) (keys : List Keys) (head text : List ℕ) (fault : FormFault)
     → IsSendable s order keys head text → ¬ (StandsInOrder s order fault)
 nothing_stands s order keys head text fault is (InHead p h few e) = no_head_fault s order keys head text p is.is_order h

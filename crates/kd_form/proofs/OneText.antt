@@ -1,17 +1,13 @@
--- A form becomes one text, or has one fault.
-use Rattle.std.proofs.Common.{append-nil}
-use Rattle.kd_form.proofs.Prelude.{◌≡◌, ℕ, ◌+◌, ◌-◌, inl, inr, List, [], ◌∷◌, ◌++◌, length, Result, Ok, Err, refl, sym, ap, subst, ◌∙◌, append_assoc, arith, All, IsTrue, Option, Some, None, is_text_byte, Day, FormFault, BadByte, BadHeading, PartOrder, Heading, Indicator, enciphered_choice, letters_from, IsBadAt, keys_in, Answer, IsCaught, IsJudged, IsSought, SaysBody, SaysLetters, HasHeading, IsExpected, IsPartRead, IsPartFault, InHeading, InNumber, InBody, BeginsHeading, IsAt, OfRest, Place, at_first, place_behind, ReadsTo, IsComplete, StandsAt, EndsAt, AtPart, cut, parts_of, IsTextOf, NoHeading, IsReceiveFault}
+-- A form becomes one text, or has one fault; and what refuses it for good.
+pub use Rattle.kd_form.proofs.Prelude.{append-nil, ◌≡◌, ℕ, ◌+◌, ◌-◌, inl, inr, List, [], ◌∷◌, ◌++◌, length, Result, Ok, Err, refl, sym, ap, subst, ◌∙◌, append_assoc, arith, All, IsTrue, Option, Some, None, is_text_byte, Day, FormFault, BadByte, BadHeading, PartOrder, Heading, Indicator, enciphered_choice, letters_from, IsBadAt, keys_in, Answer, IsCaught, IsJudged, IsSought, SaysBody, SaysLetters, HasHeading, IsExpected, IsPartRead, IsPartFault, InHeading, InNumber, InBody, BeginsHeading, IsAt, OfRest, Place, at_first, place_behind, ReadsTo, IsComplete, StandsAt, EndsAt, AtPart, cut, parts_of, IsTextOf, NoHeading, IsReceiveFault, false, ◌⊎◌, length-append, Port, Fail, Parts, IsEarlyFault, form_message, IsKeyFault, orders, Answers, AreWell, is_device, is_off_key, texts, IsWithout, FormsStayRefused, Message, given_text, false≢true, Off, OffKey}
 use Rattle.kd_form.proofs.OneOrder.{only_this, only_either, only_found, only_judged, only_caught, one_internal_key, one_bad_byte, no_bad_byte, IsOnly}
-use Rattle.kd_form.proofs.Headings.{one_heading, begins_there}
-use Rattle.kd_form.proofs.Cutting.{begins_more, first_there}
+use Rattle.kd_form.proofs.Headings.{one_heading, begins_there, begins_more, first_there, ended_heading, heading_there, IsAlike, alike, as_parts, first_done, single}
 
 -- -------- a part of a form has one text, or one fault
 
 only_sought : {X V : Type 0} {Has : X → Type 0} {none : Type 0} {refusal : V} {Later : X → V → Type 0} → ((x y : X) → Has x → Has y → x ≡ y)
     → (none → (x : X) → ¬ (Has x)) → ((x : X) → IsOnly (Later x)) → IsOnly (IsSought Has none refusal Later)
 only_sought one apart laters = only_either (λ v w a b. a.1 ∙ sym b.1) (only_found one laters) (λ v w a b. apart a.0 b.0 b.1)
-
--- ---- the letters of a part
 
 only_letters : (s : Day) (part : ℕ) (i : Option Indicator) (letters : List ℕ) → IsOnly (SaysLetters s part i letters)
 only_letters s part (Some i) letters = only_judged only_this
@@ -41,8 +37,6 @@ module _ (s : Day) where
   abbrev pub NeverPasses : OfRest → OfRest → Type 0
   NeverPasses A B = (p : Place) (part : List ℕ) (parts : List (List ℕ)) (count : ℕ) (one more : List ℕ) → A p (part ∷ parts) → IsPartRead s p.number count part one
       → IsExpected p.expected count → ¬ (ReadsTo s B (place_behind p count part) parts more)
-
-  -- ---- what is answered at a rest
 
   -- all parts are read, and are too few or make the text; or a part is refused
   abbrev pub AnswersAt : Result (Unit {0}) FormFault → OfRest
@@ -97,8 +91,6 @@ module _ (s : Day) where
 
   -- -------- a form becomes one text, or has one fault
 
-  -- ---- parts that are read
-
   -- so parts that are read up to the one and up to the other are read up to the same rest
   pub reads_meet : (A B : OfRest) (R : Type 0) → NeverPasses s A B → NeverPasses s B A → ((p : Place) (parts : List (List ℕ)) → A p parts → B p parts → R)
       → (p : Place) (parts : List (List ℕ)) (letters more : List ℕ) → ReadsTo s A p parts letters → ReadsTo s B p parts more → (letters ≡ more) × R
@@ -151,3 +143,92 @@ module _ (s : Day) where
         (letters, reads_as s (StandsAt s fault) (AnswersAt s (Err fault)) (stands_at s fault) at_first (parts_of form) letters reads)
     fault_answer fault (text, inr (letters, reads, is)) =
         (letters, reads_as s (EndsAt s fault) (AnswersAt s (Err fault)) (ends_at s fault) at_first (parts_of form) letters reads)
+
+-- -------- of which answers a device is the reason, or the machine
+
+-- a device failed exactly where the answer says so, and the machine isn't the reason
+abbrev pub IsToldOf : Port → Port → Result (Unit {0}) FormFault → Type 0
+IsToldOf source sink answer = Fail source sink (is_device answer) × (is_off_key answer ≡ false)
+
+pub order_told : (s : Day) (source sink : Port) (read text : List ℕ) (answer : Result (Unit {0}) FormFault) → Answers (orders s) source sink read text answer
+    → IsToldOf source sink answer
+order_told s source sink read text answer answers = grind arith
+
+abbrev IsOfForms : FormFault → Type 0
+IsOfForms fault = (is_device (Err fault) ≡ false) × (is_off_key (Err fault) ≡ false)
+
+refused_told : (s : Day) (form : List ℕ) (fault : FormFault) → IsReceiveFault s form fault → IsOfForms fault
+refused_told s form fault found =
+    let (letters, reads) = fault_answer s form fault found in
+    (reads_meet s (AnswersAt s (Err fault)) (AnswersAt s (Err fault)) (IsOfForms fault) (never_passes s (Err fault) (Err fault))
+    (never_passes s (Err fault) (Err fault)) (λ p parts at also. grind arith) at_first (parts_of form) letters letters reads reads).1
+
+pub form_told : (s : Day) (source sink : Port) (read text : List ℕ) (answer : Result (Unit {0}) FormFault) → Answers (form_message s) source sink read text answer
+    → IsToldOf source sink answer
+form_told s source sink read text answer answers = grind (arith, refused_told s read)
+
+pub text_told : (enciphers : List ℕ → List ℕ) (source sink : Port) (read text : List ℕ) (answer : Result (Unit {0}) FormFault)
+    → Answers (texts enciphers) source sink read text answer → IsToldOf source sink answer
+text_told enciphers source sink read text answer answers = grind arith
+
+pub off_key : (m : Parts) (s : Day) (source sink : Port) (fault : FormFault) → IsKeyFault m s fault → AreWell source sink → Fail source sink (is_device (Err fault))
+off_key m s source sink fault off well = grind arith
+
+-- -------- what refuses a form for good
+
+-- what shows early rests on the heading's line, and on a bad byte of the body
+early_as_well : (s : Day) (number : ℕ) (expected : Option ℕ) (start : ℕ) (line body other : List ℕ) (fault : FormFault) → IsWithout 10 line
+    → ((place : ℕ) → IsBadAt body place → IsBadAt other place) → IsEarlyFault s number expected start (line ++ 10 ∷ body) fault
+    → IsEarlyFault s number expected start (line ++ 10 ∷ other) fault
+early_as_well s number expected start line body other fault unbroken bad (InHeading none is) = InHeading (λ h rest has.
+    none h body (ended_heading s line body h unbroken has.is_heading (heading_there s line other h rest unbroken has).0)) is
+early_as_well s number expected start line body other fault unbroken bad (InNumber h rest has wrong is) =
+    InNumber h other (ended_heading s line other h unbroken has.is_heading (heading_there s line body h rest unbroken has).0) wrong is
+early_as_well s number expected start line body other fault unbroken bad (InBody h rest place has numbered due at is) =
+    let there = heading_there s line body h rest unbroken has in
+    let same : (start + (length (line ++ 10 ∷ body) - length rest)) + place + 1 ≡ (start + (length (line ++ 10 ∷ other) - length other)) + place + 1 =
+    omega (arith, ap length there.1, length-append line (10 ∷ body), length-append line (10 ∷ other)) in
+    InBody h other place (ended_heading s line other h unbroken has.is_heading there.0) numbered due (bad place (subst (λ x. IsBadAt x place) there.1 at)) (is ∙ ap BadByte same)
+
+-- what refuses a part for good does so with more bytes
+stands_on : (s : Day) (fault : FormFault) (more : List ℕ) → (p : Place) (rest : List ℕ)
+    → StandsAt s fault p (parts_of rest) → StandsAt s fault p (parts_of (rest ++ more))
+stands_on s fault more p rest stands = split (cut rest).1 refl stands where
+  first_stands : (first line other : List ℕ) (others : List (List ℕ)) → first ≡ line ++ 10 ∷ other → IsWithout 10 line
+      → IsEarlyFault s p.number p.expected p.start first fault → StandsAt s fault p (first ∷ others)
+  first_stands first line other [] is without early = ((line, other, record { joined = is; without = without }), early)
+  first_stands first line other (next ∷ others) is without early = inl early
+
+  split : (others : List (List ℕ)) → (cut rest).1 ≡ others → StandsAt s fault p ((cut rest).0 ∷ others)
+      → StandsAt s fault p (parts_of (rest ++ more))
+  split [] none ((line, body, broken), early) =
+      let whole : rest ≡ line ++ 10 ∷ body = sym (single rest none) ∙ broken.joined in
+      let like : IsAlike (cut (rest ++ more)).0 line body =
+      rw whole (alike line body more broken.without (rw whole at none)) in
+      first_stands (cut (rest ++ more)).0 line like.other (cut (rest ++ more)).1 like.is broken.without
+      (rw like.is (early_as_well s p.number p.expected p.start line body like.other fault broken.without like.bad (rw broken.joined at early)))
+  split (next ∷ others) some refused =
+      let done = first_done rest (λ none. cc) in
+      subst (λ (c : List ℕ × List (List ℕ)). StandsAt s fault p (c.0 ∷ c.1)) (sym (done.grows more)) refused
+
+-- and so it does behind the parts that are read
+reads_on : (s : Day) (fault : FormFault) (more : List ℕ) (p : Place) (parts : List (List ℕ)) (form letters : List ℕ)
+    → parts_of form ≡ parts → ReadsTo s (StandsAt s fault) p parts letters
+    → ReadsTo s (StandsAt s fault) p (parts_of (form ++ more)) letters
+reads_on s fault more p [] form letters same reads = absurd reads.0
+reads_on s fault more p (part ∷ parts) form letters same (inl (stands, nil)) =
+    inl (stands_on s fault more p form (subst (StandsAt s fault p) (sym same) stands), nil)
+reads_on s fault more p (part ∷ []) form letters same (inr (count, one, left, is, due, reads, joined)) = absurd reads.0
+reads_on s fault more p (part ∷ next ∷ parts) form letters same (inr (count, one, left, is, due, reads, joined)) =
+    let others : (cut form).1 ≡ next ∷ parts = cc in
+    let done = first_done form (λ nil. cc) in
+    let rest = reads_on s fault more (place_behind p count part) (next ∷ parts) done.rest left (sym done.others ∙ others) reads in
+    let first : (cut form).0 ≡ part = cc in
+    let same : parts_of (form ++ more) ≡ part ∷ parts_of (done.rest ++ more) =
+    as_parts (form ++ more) _ _ (done.grows more) ∙ ap (λ one. one ∷ parts_of (done.rest ++ more)) first in
+    subst (λ ps. ReadsTo s (StandsAt s fault) p ps letters) (sym same) (inr (count, one, left, is, due, rest, joined))
+
+pub stays_refused : FormsStayRefused
+stays_refused s form more text fault (NoHeading none empty is) = grind (arith, NoHeading, append_assoc, none, empty)
+stays_refused s form more text fault (AtPart (letters, reads, is)) =
+    AtPart (letters, reads_on s fault more at_first (parts_of form) form letters refl reads, is)

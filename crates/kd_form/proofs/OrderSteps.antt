@@ -1,25 +1,16 @@
 -- The reader of an order, byte by byte, and at the end.
-use Rattle.kd_form.proofs.Prelude.{append-nil, length-take, [], ◌≡◌, ◌≢◌, ℕ, zero, suc, ◌+◌, ◌*◌, ◌<◌, ◌≤◌, inl, inr, List, ◌∷◌, ◌++◌, Some, length, take, drop, refl, sym, ap, ◌∙◌, append_assoc, length-append, length-drop, arith, get_or, Option, Result, Ok, Err, IsTrue, slice_get, codes, All, MatchResult, div_ceil, take_all, drop_all, drop-take, drop-drop, take-take, take_more, length-take-le, Day, Keys, pieces, IsMadeText, part_size, Suits, parts_needed, AreMadeTexts, letters_from, text_letters, IsFirstKeysFault, StandsInOrder, InHead, InKeys, InText, NoLetter, InParts, CanBeWritten, IsSendable, IsSentBefore, orders, AreSuitedKeys, AreTaken, IsHeadRead, IsHeadLine, IsTextRead, IsLastTaken, IsFresh, IsOpen, IsOrderRead, IsStageRead, All-nil, Unread, AreKeys, IsPatternLine, BreaksOff, key_pattern, key_words, line_of, IsEnded, IsKeyLine, BeginsWithKeys, IsAnyHead, IsHead, IsOrder, IsHeadFault, is_text_byte, FormFault, IsRefused, Closes, Held, IsAnyKeyLine}
-use Rattle.std.proofs.lemmas.Grind.{div_ceil_times, common_steps}
-use Rattle.std.proofs.lemmas.Option.{slice_get_within, get_or_from_slice_get}
-use Rattle.kd_form.specs.declared.order_reader.parts.PartWriter.{PartWriter}
-use Rattle.kd_form.proofs.MadeParts.{pieces-next, pieces-none}
-use Rattle.kd_form.specs.declared.order_reader.head.HeadReader.{HeadReader}
+pub use Rattle.kd_form.proofs.Prelude.{append-nil, length-take, [], ◌≡◌, ◌≢◌, ℕ, zero, suc, ◌+◌, ◌*◌, ◌<◌, ◌≤◌, inl, inr, List, ◌∷◌, ◌++◌, Some, length, take, drop, refl, sym, ap, ◌∙◌, append_assoc, length-append, length-drop, arith, get_or, Option, Result, Ok, Err, IsTrue, slice_get, codes, All, MatchResult, div_ceil, take_all, drop_all, drop-take, drop-drop, take-take, take_more, length-take-le, Day, Keys, pieces, IsMadeText, part_size, Suits, parts_needed, AreMadeTexts, letters_from, text_letters, IsFirstKeysFault, StandsInOrder, InHead, InKeys, InText, NoLetter, InParts, CanBeWritten, IsSendable, IsSentBefore, orders, AreSuitedKeys, AreTaken, IsHeadRead, IsHeadLine, IsTextRead, IsLastTaken, IsFresh, IsOpen, IsOrderRead, IsStageRead, All-nil, Unread, AreKeys, IsPatternLine, BreaksOff, key_pattern, key_words, line_of, IsEnded, IsKeyLine, BeginsWithKeys, IsAnyHead, IsHead, IsOrder, IsHeadFault, is_text_byte, FormFault, IsRefused, Closes, Held, IsAnyKeyLine, common_steps, BadByte, Cut, blank_of, All-push, filter_map-append, ◌-◌, cases_lt, drop_at, le_of_mul-le-mul_left, take_at}
+use Rattle.std.proofs.lemmas.{Grind.div_ceil_times, Option.slice_get_within, Option.get_or_from_slice_get}
+use Rattle.kd_form.specs.declared.{order_reader.parts.PartWriter.PartWriter, order_reader.head.HeadReader.HeadReader}
+use Rattle.kd_form.specs.declared.{order_reader.OrderReader.OrderReader, order_reader.Stage.Stage}
+pub use Rattle.kd_form.proofs.MadeParts.{pieces-next, pieces-none, size_some}
+use Rattle.kd_form.proofs.Lines.{length-filled, as_form_line, key_first, lines_more, same_line, text_front, text_line, IsPlain, letters_first, plain_keys, plain_text}
+pub use Rattle.kd_form.proofs.OneOrder.{Shorter, Longer, all_of_the_day, fronts, no_head_fault, no_keys_fault, nothing_stands, nothing_stands_yet, one_order, bad_longer, bad_behind, behind}
 use Rattle.kd_form.specs.declared.pattern_line.Unread.TheVariants as unread
-use Rattle.kd_form.proofs.Lines.{length-filled, as_form_line, key_first, lines_more, lines_then, same_line, text_front, text_line}
-use Rattle.kd_form.proofs.Plain.{IsPlain, letters_first, plain_keys, text_plain}
-use Rattle.kd_form.proofs.OneOrder.{Shorter, Longer, all_of_the_day, fronts, no_head_fault, no_keys_fault, nothing_stands, nothing_stands_yet, one_order, bad_longer}
-use Rattle.kd_form.specs.declared.order_reader.OrderReader.{OrderReader}
-use Rattle.kd_form.specs.declared.order_reader.Stage.{Stage}
 use Rattle.kd_form.specs.declared.order_reader.Stage.TheVariants as stages
 use Rattle.kd_form.specs.SendStream as stream
 
 -- -------- the parts of an order, letter by letter
-
-pub size_some : (s : Day) → 0 < part_size s
-size_some s = grind arith
-
--- ---- one part more
 
 -- the pieces of letters that have a last piece behind so many whole ones
 pieces_more : (size k : ℕ) (letters : List ℕ) → 0 < size → size * k < length letters → length letters ≤ size * k + size
@@ -83,8 +74,6 @@ module _ (s : Day) (keys : List Keys) (w : PartWriter) (k : Keys) (letters sent 
 
 -- -------- an order up to its text, byte by byte
 
--- ---- the next line
-
 pub short_line : (s : Day) → length (key_pattern s) ≤ 21 → (line : List ℕ) → IsAnyKeyLine s line → length line ≤ 23
 short_line s few line is = grind (arith, common_steps, as_form_line, length-filled, length-append {A = ℕ})
 
@@ -110,7 +99,7 @@ module _ (s : Day) (count : ℕ) where
 
   next_plain : (line : List ℕ) → IsHeadLine s count line → (text : List ℕ) × IsPlain text × IsEnded text line
   next_plain line (inl key) = (line_of (key_words key.0.keys), plain_keys key.0.keys, key.0.keyed)
-  next_plain line (inr text) = (codes "TEXT", text_plain, text)
+  next_plain line (inr text) = (codes "TEXT", plain_text (codes "TEXT") refl, text)
 
   -- no such line begins another one
   next_whole : (line more : List ℕ) → IsHeadLine s count line → IsHeadLine s count (line ++ more) → more ≡ []
@@ -132,8 +121,6 @@ module _ (s : Day) (count : ℕ) where
         cc
   ]
 
--- ---- heads
-
 -- lines of keys and the line TEXT begin with the next line
 pub head_next : (s : Day) (count : ℕ) (keys : List Keys) (bytes : List ℕ) → count + length keys ≤ 99
     → BeginsWithKeys s keys (IsEnded (codes "TEXT")) bytes
@@ -148,7 +135,8 @@ module _ (s : Day) (keys : List Keys) (line order : List ℕ) (is : IsHeadRead s
 
   pub text_head : (more : List ℕ) → IsEnded (codes "TEXT") (line ++ more) → IsHead s keys (order ++ more)
   text_head more ended =
-      let lines = lines_then (IsEnded (codes "TEXT")) s more keys order (λ rest same. rw same ended) is.lines in
+      let lines =
+      rw (append-nil keys) at (lines_more (IsEnded (codes "TEXT")) s more keys [] order (λ rest same. rw same ended) is.lines) in
       record { lines = lines; few = is.few }
 
   -- behind one line of keys more
@@ -187,7 +175,8 @@ module _ (s : Day) (keys : List Keys) (line order : List ℕ) (is : IsHeadRead s
   pub head_open : (byte : ℕ) → BreaksOff (IsHeadLine s (length keys)) (line ++ byte ∷ []) unread.Open
       → IsHeadRead s keys (line ++ byte ∷ []) (order ++ byte ∷ [])
   head_open byte begins = record {
-    lines = lines_then (λ l. l ≡ line ++ byte ∷ []) s (byte ∷ []) keys order (λ rest same. rw same refl) is.lines;
+    lines = rw (append-nil keys) at
+        (lines_more (λ l. l ≡ line ++ byte ∷ []) s (byte ∷ []) keys [] order (λ rest same. rw same refl) is.lines);
     few = is.few;
     begins = begins;
   }
@@ -199,8 +188,6 @@ letters_few blank [] = omega arith
 letters_few blank (byte ∷ text) = grind (arith, letters_first, letters_few blank text, length-append)
 
 module _ (s : Day) where
-  -- ---- with any bytes behind it
-
   pub is_longer : {order head text : List ℕ} {keys : List Keys} (more : List ℕ) → IsOrder s order keys head text
       → IsOrder s (order ++ more) keys head (text ++ more)
   is_longer more is = grind (arith, append_assoc {A = ℕ})
@@ -278,6 +265,8 @@ module _ (s : Day) where
           text = [];
           sendable = record { is_order = is; suited = suited; allowed = All-nil (λ b. IsTrue (is_text_byte b)) };
           taken = record {
+            suited =
+                record { of_the_day = all_of_the_day _ s _ order is.is_head.lines; suited = suited; few = is.is_head.few };
             counted = fresh.none;
             written = rw fresh.unwritten (record { due = inl refl; most = λ n inside begun. omega (arith, begun) });
             kept = grind (arith, drop_all {X = ℕ}, take_all {A = ℕ});
@@ -304,21 +293,10 @@ module _ (s : Day) where
       counted = counted;
       made = is;
     }
-    text_ends made (Err fault) (nothing, why) = (
-      elim why [
-        | inl (none, is) ↦ inr (NoLetter keys text.head text.text text.sendable none is)
-        | inr (some, other, is) ↦ inr (InParts keys text.head text.text text.sendable some other is)
-      ],
-      rw (nothing, append-nil sent) (text_sent keys w order sent text),
-    )
-
-pub suited_keys : (s : Day) (order : List ℕ) (keys : List Keys) (head text : List ℕ) → IsSendable s order keys head text
-    → AreSuitedKeys s keys
-suited_keys s order keys head text is = record {
-  of_the_day = all_of_the_day (IsEnded (codes "TEXT")) s keys head is.is_order.is_head.lines;
-  suited = is.suited;
-  few = is.is_order.is_head.few;
-}
+    text_ends made (Err fault) (nothing, inl (none, is)) =
+        (inr (NoLetter _ _ _ text.sendable none is), rw (nothing, append-nil sent) (text_sent _ _ _ _ text))
+    text_ends made (Err fault) (nothing, inr (some, other, is)) =
+        (inr (InParts _ _ _ text.sendable some other is), rw (nothing, append-nil sent) (text_sent _ _ _ _ text))
 
 pub counted_on : {read : ℕ} (order : List ℕ) (byte : ℕ) → read ≡ length order → read + 1 ≡ length (order ++ byte ∷ [])
 counted_on order byte is = ap (λ n. n + 1) is ∙ sym (length-append order (byte ∷ []))

@@ -1,11 +1,11 @@
--- Bytes that are fed one after another, and reads that follow one another.
-use Rattle.std.proofs.Common.{append-nil, take-append-drop}
+-- Bytes that are fed one after another, reads that follow one another, and texts that are typed so.
+pub use Rattle.kd_form.proofs.Prelude.{append-nil, take-append-drop, AtSource, InFeeding, IsStopped, [], ◌≡◌, ℕ, ◌+◌, ◌-◌, ◌≤◌, ◌<◌, Bool, true, false, ◌||◌, List, ◌++◌, Option, Some, Result, Ok, Err, length, take, drop, IsTrue, refl, sym, ap, subst, ◌∙◌, append_assoc, length-append, length-drop, arith, Appends, Consumes, Keeps, IsAtEnd, starts_with_of_append, read_limit, Port, IsWell, Ends, TakesFront, FormFault, Message, ByThen, ByTheEnd, Answers, Whole, Stands, AtEnd, SourceFails, SinkFails, IsStreamed, FallsShort, ClosesAt, Held, HasRoom, FedTo, IsFed, FeedsAll, EndsIn, ClosesAs, IsRead, ReadsNext, fault_of, answer_to, stops_at_device, length-take-le, ◌∷◌, IsFalse, get_or, suc, drop-cons, map-append, take_all, All-append, filter_map-append, is_text_byte, Parts, CipherInTurn, EngineKey, cipher, physical_cipher, BadByte, IsRefused, cipher_text, texts, IsTextFault, Lights, IsAllowedTo, IsTypedTo, take_more, rules, TooLong, port, All-nil, letters_text, typed_letters, false≢true, NotReady, Off}
 use Rattle.std.specs.Io.{StartsWith}
-use Rattle.kd_form.proofs.Prelude.{AtSource, InFeeding, IsStopped, [], ◌≡◌, ℕ, ◌+◌, ◌-◌, ◌≤◌, ◌<◌, Bool, true, false, ◌||◌, List, ◌++◌, Option, Some, Result, Ok, Err, length, take, drop, IsTrue, refl, sym, ap, subst, ◌∙◌, append_assoc, length-append, length-drop, arith, Appends, Consumes, Keeps, IsAtEnd, starts_with_of_append, read_limit, Port, IsWell, Ends, TakesFront, FormFault, Message, ByThen, ByTheEnd, Answers, Whole, Stands, AtEnd, SourceFails, SinkFails, IsStreamed, FallsShort, ClosesAt, Held, HasRoom, FedTo, IsFed, FeedsAll, EndsIn, ClosesAs, IsRead, ReadsNext, fault_of, answer_to, stops_at_device}
-use Rattle.std.proofs.KnownBytes.{Consumes-nil, Consumes-kept, Consumes-trans, Appends-nil, Appends-trans, starts_with_rest}
-use Rattle.kd_form.specs.declared.stream.stop.Stop.{Stop}
-use Rattle.kd_form.specs.declared.stream.stop.Stop.TheVariants as stops
+pub use Rattle.std.proofs.KnownBytes.{Consumes-nil, Consumes-kept, Consumes-trans, Appends-nil, Appends-trans, starts_with_rest}
+use Rattle.kd_form.specs.declared.{stream.stop.Stop.Stop, typing.Typist.Typist}
 use Rattle.kd_form.specs.StreamSteps.{Ends as MessageEnds}
+use Rattle.kd_form.proofs.OneOrder.{bad_behind, no_bad_byte}
+use Rattle.kd_form.specs.declared.stream.stop.Stop.TheVariants as stops
 
 -- what is known of a port, in its order
 abbrev pub over : Option (List ℕ) → Option (List ℕ) → Bool → Bool → Port
@@ -64,6 +64,11 @@ room_for m holds room less few has = record { bytes = has.bytes; text = has.text
 pub room_less : (m : Message) (old new : List ℕ → List ℕ → Type 0) (more : List ℕ) (sink : Port) (room less : ℕ) → length more + less ≤ room → HasRoom m old room
     → FeedsAll m old new more sink (Ok tt) → HasRoom m new less
 room_less m old new more sink room less few has fed = grind (arith, length-append {A = ℕ})
+
+-- the bytes before a place, the one there, and those behind it
+pub up_to : (bytes : List ℕ) (place : ℕ) → place < length bytes
+    → take place bytes ++ get_or bytes place 0 ∷ [] ++ drop (suc place) bytes ≡ bytes
+up_to bytes place inside = grind (arith, append_assoc, drop-cons, take-append-drop)
 
 -- the same of bytes that are the same
 pub fed_whole : (m : Message) (old new : List ℕ → List ℕ → Type 0) (front whole : List ℕ) (sink : Port) (answer : Result (Unit {0}) Stop) → front ≡ whole
@@ -167,9 +172,9 @@ closed m holds read text made source took taken wrote d e f (Err stops.Device) h
     SinkFails ends.0 few (ByTheEnd ends.1 ended ends.2) ends.3 (record { failed = failed_now e f up; well = well }) refl
 
 pub IsStreamed-closed : (m : Message) (holds : List ℕ → List ℕ → Type 0) (source : Port) (took taken wrote : Option (List ℕ)) (d e f : Bool) (count : ℕ)
-    (answer : Result (Unit {0}) FormFault) → SoFar m holds source (over took taken d e) count → IsAtEnd source.has
+    (answer : Result (Unit {0}) FormFault) → SoFar m holds source (over took taken d e) count × IsAtEnd source.has
     → ClosesAs m holds (over taken wrote e f) answer → IsStreamed m source (over took wrote d f) answer
-IsStreamed-closed m holds source took taken wrote d e f count answer before ended closes =
+IsStreamed-closed m holds source took taken wrote d e f count answer (before, ended) closes =
     let one = closes.ended before.read before.text before.held in
     let few : length before.read ≤ read_limit = omega (arith, before.counted, before.within) in
     record {
@@ -186,3 +191,82 @@ pub SoFar-ended : (m : Message) (holds : List ℕ → List ℕ → Type 0) (had 
     → SoFar m holds (over had has a b) sink count → (end : Bool) → end ≡ true → Ends has next (Ok end) → c ≡ (b || false)
     → SoFar m holds (over had next a c) sink count × IsAtEnd next
 SoFar-ended m holds had has next sink a b c count before end is ends well = grind arith
+
+-- -------- what a piece of a text lights up, and what was typed so far
+
+-- no letters light no lamp
+cipher_text-nil : (key : EngineKey) → cipher_text (cipher key) [] ≡ []
+cipher_text-nil key = grind arith
+
+module _ (m : Parts) where
+  text_is : (t : Typist) (bytes text : List ℕ) → IsTypedTo m t bytes text → text ≡ cipher_text (physical_cipher m) bytes
+  text_is t bytes text typed = grind (arith, append-nil text, cipher_text-nil t.engine, append-nil bytes, bytes)
+
+  pub typed_held : (t : Typist) (bytes text : List ℕ) → IsTypedTo m t bytes text
+      → Held (texts (physical_cipher m)) (IsTypedTo m t) bytes text
+  typed_held t bytes text typed = record {
+    is = typed;
+    open_yet = record {
+      unrefused = λ fault found. no_bad_byte bytes found.0 typed.allowed found.1;
+      written = (bytes, grind (arith, append-nil {A = ℕ}), text_is t bytes text typed);
+    };
+  }
+
+  -- the bytes behind the first bad one make no difference
+  refused_there : (t : Typist) (front rest text : List ℕ) (byte : ℕ) → IsTypedTo m t front text
+      → IsFalse (is_text_byte byte)
+      → IsRefused (texts (physical_cipher m)) (front ++ byte ∷ rest) text (BadByte (length front + 1))
+  refused_there t front rest text byte typed bad =
+      let longer : (more : List ℕ) → (front ++ byte ∷ rest) ++ more ≡ front ++ byte ∷ (rest ++ more) = λ more. append_assoc front (byte ∷ rest) more in
+      let fault = BadByte (length front + 1) in
+      let stands : (more : List ℕ) → IsTextFault ((front ++ byte ∷ rest) ++ more) fault = λ more.
+      subst (λ l. IsTextFault l fault) (sym (longer more))
+      (length front, bad_behind front (rest ++ more) byte typed.allowed bad, refl) in
+      record {
+        stands = stands;
+        refused = stands;
+        written = λ more. (front, rw (longer more) (grind arith), text_is t front text typed);
+      }
+
+  -- ---- a piece more
+
+  module _ (in_turn : CipherInTurn) (old new : Typist) (more lamps : List ℕ) (n : ℕ) (front : IsAllowedTo more n)
+      (lights : Lights old.engine new.engine (take n more) lamps) (counted : new.read ≡ old.read + n) where
+    typed_on : (bytes text : List ℕ) → IsTypedTo m old bytes text
+        → IsTypedTo m new (bytes ++ take n more) (text ++ lamps)
+    typed_on bytes text typed = record {
+      counted = omega (arith, counted, typed.counted, length-append bytes (take n more), length-take-le n more front.within);
+      allowed = All-append (λ b. IsTrue (is_text_byte b)) bytes (take n more) typed.allowed front.allowed;
+      behind = grind (arith, append_assoc, typed.behind, in_turn, filter_map-append, map-append);
+    }
+
+    pub read_whole : (took wrote : Option (List ℕ)) (d f : Bool) → Appends took wrote lamps → length more ≤ n
+        → FeedsAll (texts (physical_cipher m)) (IsTypedTo m old) (IsTypedTo m new) more (over took wrote d f) (Ok tt)
+    read_whole took wrote d f wrote_all all bytes text held = record {
+      made = lamps;
+      written = wrote_all;
+      fed = typed_held new (bytes ++ more) (text ++ lamps) (subst (λ l. IsTypedTo m new (bytes ++ l) (text ++ lamps)) (take_all n more all) (typed_on bytes text held.is));
+    }
+
+    pub read_refused : (took wrote : Option (List ℕ)) (d f : Bool) → Appends took wrote lamps → n < length more
+        → FeedsAll (texts (physical_cipher m)) (IsTypedTo m old) (IsTypedTo m new) more (over took wrote d f) (Err (stops.Refused (BadByte (new.read + 1))))
+    read_refused took wrote d f wrote_all inside bytes text held =
+        let typed = typed_on bytes text held.is in
+        let rest = drop (suc n) more in
+        let byte = get_or more n 0 in
+        let joined : (bytes ++ take n more) ++ byte ∷ rest ≡ bytes ++ more =
+        append_assoc bytes (take n more) (byte ∷ rest) ∙ ap (λ l. bytes ++ l) (sym (append_assoc (take n more) (byte ∷ []) rest) ∙ up_to more n inside) in
+        record {
+          made = lamps;
+          written = wrote_all;
+          fed = rw (typed.counted, ← joined) (refused_there new (bytes ++ take n more) rest (text ++ lamps) byte typed (front.next inside));
+        }
+
+    pub read_in_part : (took wrote : Option (List ℕ)) (d f : Bool) → TakesFront took wrote lamps
+        → FeedsAll (texts (physical_cipher m)) (IsTypedTo m old) (IsTypedTo m new) more (over took wrote d f) (Err stops.Device)
+    read_in_part took wrote d f part =
+        fed_whole _ _ _ _ _ _ _ (take-append-drop n more) (fed_up_to _ _ _ (take n more) (drop n more) _ stops.Device (λ bytes text held.
+        fed_in_part _ _ _ text lamps took wrote d f (typed_held new (bytes ++ take n more) (text ++ lamps) (typed_on bytes text held.is)) part))
+
+pub typed_ends : (m : Parts) (t : Typist) → MessageEnds (texts (physical_cipher m)) (IsTypedTo m t) (10 ∷ []) (Ok tt)
+typed_ends m t bytes text held = (held.is.allowed, ap (λ l. l ++ 10 ∷ []) (text_is m t bytes text held.is))

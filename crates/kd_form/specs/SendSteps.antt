@@ -43,6 +43,7 @@ pub record AreSuitedKeys (s : Day) (keys : List Keys) : Type 0 where
 
 -- Of these letters the parts that can be written were made, and the next letters are kept, as far as a part has room.
 pub record AreTaken (s : Day) (keys : List Keys) (w : PartWriter) (letters sent : List ℕ) : Type 0 where
+  pub suited : AreSuitedKeys s keys
   pub counted : w.count ≡ length letters
   pub written : CanBeWritten (part_size s) (length keys) (length letters) w.written
   pub kept : w.letters.items ≡ take (part_size s) (drop (part_size s * w.written) letters)

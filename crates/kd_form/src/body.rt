@@ -2,7 +2,7 @@
 ghost use Rattle.std.specs.Prelude.{◌≡◌, ◌+◌, ◌*◌, ◌≤◌, [], ◌∷◌, ◌++◌, length};
 ghost use Rattle.arrayvec.specs.ArrayString.{array_string_len};
 ghost use Rattle.kd_tables.specs.Text.{letters_text};
-ghost use Rattle.kd_form.specs.Part.{body_text, groups_of, pieces, with_line};
+ghost use Rattle.kd_form.specs.Part.{behind_spaces, body_text, groups_of, pieces, with_line};
 
 use arrayvec::ArrayString;
 use kd_state::push_letter;
@@ -14,30 +14,41 @@ pub(crate) fn push_body<const N: usize>(text: &mut ArrayString<N>, letters: &[Le
     ensures bytes { text.new.bytes ≡ text.old.bytes ++ body_text letters.now }
     ensures len { array_string_len text.new ≤ array_string_len text.old + 2 * length letters.now }
 {
-    let mut rest = letters;
-    while !rest.is_empty() {
-        let (line, after) = first_piece(rest, 50);
-        push_line(text, line);
-        rest = after;
+    if letters.is_empty() {
+        return;
     }
+    let (line, rest) = first_piece(letters, 50);
+    push_line(text, line);
+    push_body(text, rest);
 }
 
 /// Appends a line of groups.
+#[tactic(auto, using(crate::proofs::MadeParts::in_groups))]
 fn push_line<const N: usize>(text: &mut ArrayString<N>, letters: &[Letter])
     requires some { 1 ≤ length letters.now }
     requires room { array_string_len text.old + 2 * length letters.now ≤ N }
     ensures bytes { text.new.bytes ≡ text.old.bytes ++ with_line (groups_of letters.now) [] }
     ensures len { array_string_len text.new ≤ array_string_len text.old + 2 * length letters.now }
 {
-    let (group, mut rest) = first_piece(letters, 5);
+    let (group, rest) = first_piece(letters, 5);
     push_letters(text, group);
-    while !rest.is_empty() {
-        let (group, after) = first_piece(rest, 5);
-        text.push_str(" ");
-        push_letters(text, group);
-        rest = after;
-    }
+    push_groups(text, rest);
     text.push_str("\n");
+}
+
+/// Appends groups, each behind a space.
+fn push_groups<const N: usize>(text: &mut ArrayString<N>, letters: &[Letter])
+    requires { array_string_len text.old + 2 * length letters.now ≤ N }
+    ensures bytes { text.new.bytes ≡ text.old.bytes ++ behind_spaces (groups_of letters.now) }
+    ensures len { array_string_len text.new ≤ array_string_len text.old + 2 * length letters.now }
+{
+    if letters.is_empty() {
+        return;
+    }
+    let (group, rest) = first_piece(letters, 5);
+    text.push_str(" ");
+    push_letters(text, group);
+    push_groups(text, rest);
 }
 
 /// The first so many letters, or all if there are fewer, and the others.
@@ -59,7 +70,9 @@ pub(crate) fn push_letters<const N: usize>(text: &mut ArrayString<N>, letters: &
     ensures bytes { text.new.bytes ≡ text.old.bytes ++ letters_text letters.now }
     ensures len { array_string_len text.new ≡ array_string_len text.old + length letters.now }
 {
-    for letter in letters {
-        push_letter(text, *letter);
-    }
+    let [letter, rest @ ..] = letters else {
+        return;
+    };
+    push_letter(text, *letter);
+    push_letters(text, rest);
 }

@@ -48,7 +48,7 @@ pub(crate) fn enciphered<const N: usize>(
 }
 
 /// Letters are letters of the alphabet.
-pub(crate) fn are_letters(letters: &[Letter])
+fn are_letters(letters: &[Letter])
     ensures { All (λ letter. letter < 26) letters.now }
 {
     for letter in letters {

@@ -1,6 +1,6 @@
 //! The line of a heading, read.
 ghost use Rattle.std.specs.Prelude.{◌≡◌, ◌≢◌, ◌⊎◌, ◌↔◌, ℕ, ◌^◌, ◌<◌, List, [], ◌∷◌, ◌++◌, codes};
-ghost use Rattle.std.specs.Prelude.{decimal, map, take, IsTrue, MatchOption};
+ghost use Rattle.std.specs.Prelude.{All, decimal, map, take, IsTrue, MatchOption};
 ghost use Rattle.kd_tables.specs.Text.{letters_text};
 ghost use Rattle.kd_state.specs.Machine.{AreLetters};
 ghost use Rattle.kd_state.specs.Words.{line_of, IsWithout};
@@ -11,7 +11,6 @@ ghost use Rattle.kd_form.specs.FormParts.{AreHeadingWords, IsLineText};
 ghost use Rattle.kd_form.specs.Reading.{HasIndicator};
 ghost use Rattle.kd_form.specs.Receiving.{HasHeading};
 
-use super::cipher::are_letters;
 use super::heading::{Heading, Indicator};
 use super::key_line::slots_of;
 use arrayvec::ArrayVec;
@@ -48,11 +47,12 @@ fn read_count(day: &SheetDay, word: &[u8]) -> Option<u16>
 }
 
 /// The letters of the word, at most four.
-#[tactic(auto, using(crate::proofs::Headings::capital_at))]
+#[tactic(auto, using(crate::proofs::Headings::spelling))]
 fn read_letters(word: &[u8]) -> Option<ArrayVec<Letter, 4>>
     ensures { MatchOption result
         ((letters : List ℕ) → AreFewLetters letters → letters_text letters ≢ word.now)
-        (λ letters. letters_text letters.items ≡ word.now) }
+        (λ letters. All (λ letter. letter < 26) letters.items
+        × (letters_text letters.items ≡ word.now)) }
 {
     let mut letters = ArrayVec::new();
     for byte in word {
@@ -78,7 +78,6 @@ fn read_slots(slots: usize, word: &[u8]) -> Option<PerSlot<Letter>>
     if letters.len() != slots {
         return None;
     }
-    are_letters(letters.as_slice());
     PerSlot::new(letters.as_slice())
 }
 

@@ -24,7 +24,7 @@ pub(crate) fn internal_key_of(day: &SheetDay, keys: &PinKeys) -> Option<ArrayVec
 
 /// The letters for the six wheels, taken in order from these: one that isn't on the wheel in turn is struck out. None where
 /// the letters run out.
-#[tactic(auto, using(crate::proofs::Picking::picking_none, crate::proofs::Picking::picking_more))]
+#[tactic(auto, using(crate::proofs::MadeParts::picking_none, crate::proofs::MadeParts::picking_more))]
 fn internal_key(letters: &[Letter]) -> Option<ArrayVec<Letter, 6>>
     ensures { MatchOption result
         (HaveRunOut letters.now)

@@ -68,7 +68,7 @@ fn text_of(
 }
 
 /// The ground, and the message key, enciphered from there.
-#[tactic(auto, using(crate::proofs::Ciphers::enciphered_length))]
+#[tactic(auto, using(crate::proofs::MadeParts::enciphered_length))]
 fn indicator_of(day: &SheetDay, keys: &RotorKeys) -> Indicator
     requires { AreKeys day.now (Keys.Rotor keys.now) }
     ensures { result ≡ indicator_of day.now keys.now }

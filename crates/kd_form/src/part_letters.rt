@@ -42,7 +42,7 @@ fn read_rotor_letters(
 }
 
 /// Whether these are the same letters in the same order.
-#[tactic(auto, using(crate::proofs::Plain::comparing))]
+#[tactic(auto, using(crate::proofs::Lines::comparing))]
 fn are_the_same(letters: &[Letter], others: &[Letter]) -> bool
     ensures { IsTrue result ↔ (letters.now ≡ others.now) }
 {

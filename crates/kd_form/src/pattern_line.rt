@@ -28,10 +28,8 @@ pub(crate) fn read_pattern(pattern: &[u8], bytes: &[u8]) -> Result<ArrayVec<Lett
         (BreaksOff (IsPatternLine pattern.now) bytes.now) }
 {
     let mut letters = ArrayVec::new();
-    match read_letters(pattern, bytes, &mut letters) {
-        Ok(()) => Ok(letters),
-        Err(why) => Err(why),
-    }
+    read_letters(pattern, bytes, &mut letters)?;
+    Ok(letters)
 }
 
 /// Appends the letters of the line of that pattern, with its end.

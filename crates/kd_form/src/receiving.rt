@@ -44,7 +44,7 @@ pub fn receive(
 /// `ReadTooLong`, and before `Device` where it is the source that fails; what refuses it at its end is told there. The texts
 /// of the parts before are written by then. `ReadTooLong` is told where more than `READ_LIMIT` bytes come, and `Device` where
 /// a get or a put fails.
-#[tactic(auto, using(crate::proofs::Standing::off_key, crate::proofs::Standing::form_told))]
+#[tactic(auto, using(crate::proofs::OneText::off_key, crate::proofs::OneText::form_told))]
 pub fn receive_stream<R: Source, W: Sink>(
     machine: &Machine,
     day: &SheetDay,

@@ -21,7 +21,7 @@ use piece::type_piece;
 /// `NotReady` comes first, and then nothing is read or written. The first byte that is not allowed is refused behind
 /// the lamps of the letters before it, whatever follows; that comes before `ReadTooLong`, and before `Device` where it
 /// is the source that fails. At most 1,048,576 bytes are read, and one more to see that there are more.
-#[tactic(auto, using(crate::proofs::Standing::text_told))]
+#[tactic(auto, using(crate::proofs::OneText::text_told))]
 pub fn type_stream<R: Source, W: Sink>(
     machine: &Machine,
     source: &mut R,
@@ -57,7 +57,7 @@ impl PieceReader<Machine> for Typist {
 
     ghost holds = { IsTypedTo };
 
-    #[tactic(auto, using(crate::proofs::TypedTexts::read_whole))]
+    #[tactic(auto, using(crate::proofs::Streaming::read_whole))]
     fn read<W: Sink>(&mut self, _on: &Machine, bytes: &[u8], sink: &mut W) -> Result<(), Stop> {
         laws::pieces_are_enciphered_in_turn();
         let mut lamps = ArrayVec::from([0; PIECE]);

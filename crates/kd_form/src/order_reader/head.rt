@@ -84,15 +84,11 @@ fn read_line(day: &SheetDay, count: usize, line: &[u8]) -> Result<Option<Keys>, 
         (BreaksOff (IsHeadLine day.now count) line.now) }
 {
     if count < 99 && is_key_line(line) {
-        match read_keys(day, line) {
-            Ok((keys,)) => Ok(Some(keys)),
-            Err(why) => Err(why),
-        }
+        let (keys,) = read_keys(day, line)?;
+        Ok(Some(keys))
     } else {
-        match read_pattern(b"TEXT", line) {
-            Ok(_) => Ok(None),
-            Err(why) => Err(why),
-        }
+        read_pattern(b"TEXT", line)?;
+        Ok(None)
     }
 }
 

@@ -41,7 +41,6 @@ impl PartWriter {
 
     /// Takes the next byte of the text, and the letter that it gives, if it gives one.
     pub(crate) fn take(&mut self, day: &SheetDay, keys: &[Keys], byte: u8, made: &mut Made)
-        requires keys { AreSuitedKeys day.now keys.now }
         requires taken { (letters sent : List ℕ) × AreTaken day.now keys.now self.old letters sent
             × (length letters < 2 ^ 63) }
         requires empty { made.old.items ≡ [] }
@@ -55,7 +54,6 @@ impl PartWriter {
 
     /// Takes the next letter. Where it shows that a part is full and another one follows, that part is made.
     fn take_letter(&mut self, day: &SheetDay, keys: &[Keys], letter: Letter, made: &mut Made)
-        requires keys { AreSuitedKeys day.now keys.now }
         requires taken { (letters sent : List ℕ) × AreTaken day.now keys.now self.old letters sent
             × (length letters < 2 ^ 63) }
         requires empty { made.old.items ≡ [] }
@@ -79,7 +77,6 @@ impl PartWriter {
         keys: &[Keys],
         made: &mut Made,
     ) -> Result<(), FormFault>
-        requires keys { AreSuitedKeys day.now keys.now }
         requires taken { (letters sent : List ℕ) × AreTaken day.now keys.now self.old letters sent }
         requires empty { made.old.items ≡ [] }
         ensures { (letters sent : List ℕ) → AreTaken day.now keys.now self.old letters sent

@@ -98,10 +98,8 @@ pub(crate) fn close<On, M: PieceReader<On>, W: Sink>(
     ensures { ClosesAs (M.message on.now) (M.holds on.now reader.old)
         (port W.taken W.has_failed sink.old sink.new) result }
 {
-    match reader.finish(on, sink) {
-        Ok(()) => Ok(()),
-        Err(stop) => Err(FormFault::from(stop)),
-    }
+    reader.finish(on, sink)?;
+    Ok(())
 }
 
 /// Reads the next bytes, as many as there is room for at most, and writes what is made of them. There are none at the

@@ -44,10 +44,8 @@ pub(crate) fn judge<M: MessageReader + Drop>(
         (λ _. HasText (M.message day.now) message.now)
         ((M.message day.now).refused message.now) }
 {
-    match write_whole::<M, Nowhere>(day, message, &mut Nowhere) {
-        Ok(()) => Ok(()),
-        Err(stop) => Err(FormFault::from(stop)),
-    }
+    write_whole::<M, Nowhere>(day, message, &mut Nowhere)?;
+    Ok(())
 }
 
 /// Writes what the message becomes.

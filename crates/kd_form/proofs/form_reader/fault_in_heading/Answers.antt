@@ -1,5 +1,4 @@
-use Rattle.kd_form.proofs.Prelude.{[], inl, inr, refl, ◌∙◌, arith, IsTrue, All-nil, is_text_byte}
-use Rattle.kd_form.proofs.FormSteps.{off}
+use Rattle.kd_form.proofs.FormSteps.{off, [], inl, inr, refl, ◌∙◌, arith, IsTrue, All-nil, is_text_byte}
 use Rattle.kd_form.proofs.form_reader.fault_in_heading.Goals as goal
 
 pub returns-in-Ok : goal.returns-in-Ok

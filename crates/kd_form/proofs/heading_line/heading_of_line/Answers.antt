@@ -1,5 +1,4 @@
-use Rattle.kd_form.proofs.Prelude.{ap, map}
-use Rattle.kd_form.proofs.Headings.{heading_told}
+use Rattle.kd_form.proofs.Headings.{heading_told, ap, map}
 use Rattle.kd_form.proofs.heading_line.heading_of_line.Goals as goal
 
 pub returns : goal.returns

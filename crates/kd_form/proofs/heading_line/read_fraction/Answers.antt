@@ -1,7 +1,6 @@
-use Rattle.kd_form.proofs.Prelude.{rules, arith}
-use Rattle.kd_form.proofs.Headings.{fraction_parts, same_fraction}
-use Rattle.kd_form.proofs.heading_line.read_fraction.Goals as goal
+use Rattle.kd_form.proofs.Headings.{fraction_parts, same_fraction, rules, arith}
 use Rattle.kd_form.proofs.heading_line.read_fraction.Goals.{then-part-lt1-via-then-part-lt1, then-part-lt1-via-else-part-lt1+then-part-parts, then-part-lt1-via-else-part-lt1+else-part-parts+then-parts-gt99}
+use Rattle.kd_form.proofs.heading_line.read_fraction.Goals as goal
 
 pub returns-in_err-part-2 : goal.returns-in_err-part-2
 returns-in_err-part-2 c =

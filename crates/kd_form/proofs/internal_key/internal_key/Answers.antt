@@ -1,5 +1,4 @@
-use Rattle.kd_form.proofs.Prelude.{arith, nat_tests}
-use Rattle.kd_form.proofs.Picking.{key_picked, run_out}
+use Rattle.kd_form.proofs.MadeParts.{key_picked, run_out, arith, nat_tests}
 use Rattle.kd_form.proofs.internal_key.internal_key.Goals as goal
 
 pub returns-then-is_full : goal.returns-then-is_full

@@ -1,4 +1,4 @@
-use Rattle.kd_form.proofs.Picking.{IsPicking}
+use Rattle.kd_form.proofs.MadeParts.{IsPicking}
 use Rattle.kd_form.proofs.internal_key.internal_key.Given as goal
 
 abbrev pub invariant-loop-letter : goal.invariant-loop-letter

@@ -1,5 +1,4 @@
-use Rattle.kd_form.proofs.Prelude.{◌∙◌}
-use Rattle.kd_form.proofs.Lines.{keys_broken, keys_read}
+use Rattle.kd_form.proofs.Lines.{keys_broken, keys_read, ◌∙◌}
 use Rattle.kd_form.proofs.key_line.read_keys.Goals as goal
 
 pub returns-in-Ok : goal.returns-in-Ok

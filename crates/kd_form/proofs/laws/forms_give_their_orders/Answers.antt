@@ -1,5 +1,4 @@
-use Rattle.kd_form.proofs.Prelude.{refl, given_text, sent_letters, text_letters}
-use Rattle.kd_form.proofs.GivenBack.{forms_give_their_orders}
+use Rattle.kd_form.proofs.GivenBack.{forms_give_their_orders, refl, given_text, sent_letters, text_letters}
 use Rattle.kd_form.proofs.laws.forms_give_their_orders.Goals as goal
 
 pub returns-clause-letters : goal.returns-clause-letters

@@ -1,5 +1,4 @@
-use Rattle.kd_form.proofs.Prelude.{Ok, Err, sym, ap, ◌∙◌, given_text}
-use Rattle.kd_form.proofs.OneText.{fault_answer, only_form, text_answer}
+use Rattle.kd_form.proofs.OneText.{fault_answer, only_form, text_answer, Ok, Err, sym, ap, ◌∙◌, given_text}
 use Rattle.kd_form.proofs.laws.forms_have_one_answer.Goals as goal
 
 pub returns-clause-text : goal.returns-clause-text

@@ -1,5 +1,4 @@
-use Rattle.kd_form.proofs.Prelude.{Ok, Err}
-use Rattle.kd_form.proofs.OneOrder.{fault_answer, form_answer, only_order}
+use Rattle.kd_form.proofs.OneOrder.{fault_answer, form_answer, only_order, Ok, Err}
 use Rattle.kd_form.proofs.laws.orders_have_one_answer.Goals as goal
 
 pub returns-clause-form : goal.returns-clause-form

@@ -1,5 +1,4 @@
-use Rattle.kd_form.proofs.Prelude.{inl}
-use Rattle.kd_form.proofs.OrderSteps.{stands_longer}
+use Rattle.kd_form.proofs.OrderSteps.{stands_longer, inl}
 use Rattle.kd_form.proofs.laws.orders_stay_refused.Goals as goal
 
 pub returns : goal.returns

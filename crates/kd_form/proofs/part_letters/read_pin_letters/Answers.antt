@@ -1,5 +1,4 @@
-use Rattle.kd_form.proofs.Prelude.{inr, ◌∙◌, ap, subst, Ok, sheet_key, IsWindow, PinKeys, IsInternalKey, cipher_from, enciphered_choice, text_in}
-use Rattle.kd_form.proofs.MadeParts.{list_told}
+use Rattle.kd_form.proofs.MadeParts.{list_told, inr, ◌∙◌, ap, subst, Ok, sheet_key, IsWindow, PinKeys, IsInternalKey, cipher_from, enciphered_choice, text_in}
 use Rattle.kd_form.proofs.part_letters.read_pin_letters.Goals as goal
 
 pub returns-in-Some : goal.returns-in-Some

@@ -1,5 +1,4 @@
-use Rattle.kd_form.proofs.Prelude.{sym, ◌∙◌}
-use Rattle.kd_form.proofs.Lines.{line_on}
+use Rattle.kd_form.proofs.Lines.{line_on, sym, ◌∙◌}
 use Rattle.kd_form.proofs.pattern_line.+read_letters.Goals as goal
 
 pub returns : goal.returns

@@ -1,5 +1,4 @@
-use Rattle.kd_form.proofs.Standing.{form_told}
-use Rattle.kd_form.proofs.Prelude.{sym, ◌∙◌, false≢true, refl, Off}
+use Rattle.kd_form.proofs.OneText.{form_told, sym, ◌∙◌, false≢true, refl, Off}
 use Rattle.kd_form.proofs.receiving.receive_stream.Goals as goal
 
 pub returns-in-Err-clause-streamed : goal.returns-in-Err-clause-streamed

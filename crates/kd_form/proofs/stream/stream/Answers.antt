@@ -1,6 +1,4 @@
-use Rattle.std.proofs.KnownBytes.{Consumes-nil, Consumes-trans, Appends-nil}
-use Rattle.kd_form.proofs.Prelude.{[], ◌∷◌, ◌++◌, ◌∙◌, refl, arith, TooLong}
-use Rattle.kd_form.proofs.Streaming.{SoFar-read, SoFar-ended, IsStreamed-stopped, IsStreamed-closed, well_now}
+use Rattle.kd_form.proofs.Streaming.{SoFar-read, SoFar-ended, IsStreamed-stopped, IsStreamed-closed, well_now, [], ◌∷◌, ◌++◌, ◌∙◌, refl, arith, TooLong, Consumes-nil, Consumes-trans, Appends-nil}
 use Rattle.kd_form.proofs.stream.stream.Goals as goal
 
 pub loop-read-init : goal.loop-read-init
@@ -13,8 +11,8 @@ close-requires g c =
 
 pub returns-in-Ok-eq0 : goal.returns-in-Ok-eq0
 returns-in-Ok-eq0 g c =
-    IsStreamed-closed _ _ _ _ _ _ _ _ _ _ _ (SoFar-read _ _ _ _ _ _ _ _ _ _ _ _ _ _ _ _ _ c.loop-read.invariant refl _ c.in-Ok-eq0.ensures).0
-    ((SoFar-read _ _ _ _ _ _ _ _ _ _ _ _ _ _ _ _ _ c.loop-read.invariant refl _ c.in-Ok-eq0.ensures).1 c.in-Ok-eq0.field-0-test) c.close.ensures
+    let (before, ended) = SoFar-read _ _ _ _ _ _ _ _ _ _ _ _ _ _ _ _ _ c.loop-read.invariant refl _ c.in-Ok-eq0.ensures in
+    IsStreamed-closed _ _ _ _ _ _ _ _ _ _ _ (before, ended c.in-Ok-eq0.field-0-test) c.close.ensures
 
 pub loop-read-preserved : goal.loop-read-preserved
 loop-read-preserved g c = (SoFar-read _ _ _ _ _ _ _ _ _ _ _ _ _ _ _ _ _ c.loop-read.invariant refl c.in-Ok.count c.in-Ok.ensures).0
@@ -25,8 +23,7 @@ returns-in-Err g c = IsStreamed-stopped _ _ _ _ _ _ _ _ _ _ _ _ _ _ _ _ _ c.loop
 pub returns-in-Ok-true : goal.returns-in-Ok-true
 returns-in-Ok-true g c =
     IsStreamed-closed _ _ _ _ _ _ _ _ _ _ _
-    (SoFar-ended _ _ _ _ _ _ _ _ _ _ c.loop-read.invariant _ c.in-Ok-true.field-0-test c.in-Ok-true.ensures.ends c.in-Ok-true.ensures.failed).0
-    (SoFar-ended _ _ _ _ _ _ _ _ _ _ c.loop-read.invariant _ c.in-Ok-true.field-0-test c.in-Ok-true.ensures.ends c.in-Ok-true.ensures.failed).1
+    (SoFar-ended _ _ _ _ _ _ _ _ _ _ c.loop-read.invariant _ c.in-Ok-true.field-0-test c.in-Ok-true.ensures.ends c.in-Ok-true.ensures.failed)
     c.close-in-Ok-true.ensures
 
 pub returns-in-Ok-false : goal.returns-in-Ok-false

@@ -1,5 +1,4 @@
-use Rattle.kd_form.proofs.Prelude.{◌-◌, read_limit, port}
-use Rattle.kd_form.proofs.Streaming.{SoFar}
+use Rattle.kd_form.proofs.Streaming.{SoFar, ◌-◌, read_limit, port}
 use Rattle.kd_form.proofs.stream.stream.Given as goal
 
 -- what was read so far is held, and nothing failed

@@ -1,5 +1,4 @@
-use Rattle.kd_form.proofs.Prelude.{[], refl, sym, ap, ◌∙◌, All-nil, IsTrue, is_text_byte, letters_text, typed_letters, cipher, false≢true, NotReady, Off}
-use Rattle.kd_form.proofs.TypedTexts.{typed_held}
+use Rattle.kd_form.proofs.Streaming.{typed_held, [], refl, sym, ap, ◌∙◌, All-nil, IsTrue, is_text_byte, letters_text, typed_letters, cipher, false≢true, NotReady, Off}
 use Rattle.kd_form.proofs.typing.type_stream.Goals as goal
 
 pub stream-requires : goal.stream-requires

@@ -1,5 +1,4 @@
-use Rattle.kd_form.proofs.Prelude.{[], ℕ, ap, ArrayVec, ◌∙◌}
-use Rattle.kd_form.proofs.FormSteps.{next_last, next_refused, closes, closes_refused, closes_short, in_stage}
+use Rattle.kd_form.proofs.FormSteps.{next_last, next_refused, closes, closes_refused, closes_short, in_stage, [], ℕ, ap, ArrayVec, ◌∙◌}
 use Rattle.kd_form.proofs.form_reader.FormReaderMessageReader.end.Goals as goal
 
 pub give-requires-clause-heading : goal.give-requires-clause-heading

@@ -1,5 +1,4 @@
-use Rattle.kd_form.proofs.Prelude.{[], ◌≢◌, refl, inl, arith, All-nil}
-use Rattle.kd_form.proofs.FormSteps.{held}
+use Rattle.kd_form.proofs.FormSteps.{held, [], ◌≢◌, refl, inl, arith, All-nil}
 use Rattle.kd_form.proofs.form_reader.FormReaderMessageReader.start.Goals as goal
 
 pub returns : goal.returns

@@ -1,11 +1,5 @@
-use Rattle.kd_form.proofs.Prelude.{◌+◌, ap, append-nil, inr, BadByte, Cut, text_letters}
-use Rattle.kd_form.proofs.OrderSteps.{head_cut, suited_keys, text_ends}
+use Rattle.kd_form.proofs.OrderSteps.{head_cut, text_ends, ◌+◌, ap, append-nil, inr, BadByte, Cut, text_letters}
 use Rattle.kd_form.proofs.order_reader.OrderReaderMessageReader.end.Goals as goal
-
-pub end-requires-clause-keys : goal.end-requires-clause-keys
-end-requires-clause-keys c =
-    let here = rw c.in-Text.is at c.requires.room.held.is.stage in
-    rw c.keys.ensures (suited_keys _ _ _ _ _ here.sendable)
 
 pub end-requires-clause-taken : goal.end-requires-clause-taken
 end-requires-clause-taken c =

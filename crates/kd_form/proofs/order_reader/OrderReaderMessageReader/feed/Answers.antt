@@ -1,8 +1,6 @@
+use Rattle.kd_form.proofs.OrderSteps.{counted_on, fault_longer, is_longer, letters_few, order_held, order_refused, text_begins, blank_of, ◌≡◌, length, length-append, append_assoc, arith, All-push, IsTrue, is_text_byte, filter_map-append, InHead, InText, BadByte, [], ◌∷◌, ◌++◌, ◌+◌, ap, refl, sym, text_letters, ◌∙◌, all_of_the_day, bad_behind, no_head_fault}
 use Rattle.kd_form.specs.declared.order_reader.Stage.TheVariants as stages
 use Rattle.kd_form.specs.SendStream as stream
-use Rattle.kd_form.proofs.Prelude.{blank_of, ◌≡◌, length, length-append, append_assoc, arith, All-push, IsTrue, is_text_byte, filter_map-append, InHead, InText, BadByte, [], ◌∷◌, ◌++◌, ◌+◌, ap, refl, sym, text_letters, ◌∙◌}
-use Rattle.kd_form.proofs.OneOrder.{all_of_the_day, bad_behind, no_head_fault}
-use Rattle.kd_form.proofs.OrderSteps.{counted_on, fault_longer, is_longer, letters_few, order_held, order_refused, suited_keys, text_begins}
 use Rattle.kd_form.proofs.order_reader.OrderReaderMessageReader.feed.Goals as goal
 
 pub check_keys-requires-clause-keys : goal.check_keys-requires-clause-keys
@@ -23,11 +21,6 @@ returns-then-not-is_text_byte c bytes text held =
     (rw (append_assoc bytes (c.args.byte ∷ []) more) (is_longer _ (c.args.byte ∷ more) so_far.is_order)) so_far.suited
     (record { rest = c.args.byte ∷ more; joined = refl; allowed = so_far.allowed; ends = λ other after same. grind arith })
     here.taken.written here.taken.made)
-
-pub take-requires-in-Text-clause-keys : goal.take-requires-in-Text-clause-keys
-take-requires-in-Text-clause-keys c =
-    let here = rw c.in-Text.is at c.requires.room.held.is.stage in
-    rw c.keys-in-Text.ensures (suited_keys _ _ _ _ _ here.sendable)
 
 pub take-requires-in-Text-clause-taken : goal.take-requires-in-Text-clause-taken
 take-requires-in-Text-clause-taken c =

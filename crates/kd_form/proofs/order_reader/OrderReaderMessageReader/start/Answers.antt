@@ -1,5 +1,4 @@
-use Rattle.kd_form.proofs.Prelude.{[], refl, inl, inr, arith, codes}
-use Rattle.kd_form.proofs.OrderSteps.{order_held}
+use Rattle.kd_form.proofs.OrderSteps.{order_held, [], refl, inl, inr, arith, codes}
 use Rattle.kd_form.proofs.order_reader.OrderReaderMessageReader.start.Goals as goal
 
 pub returns : goal.returns

@@ -1,6 +1,5 @@
-use Rattle.kd_form.proofs.FormSteps.{body_more}
+use Rattle.kd_form.proofs.FormSteps.{body_more, refl}
 use Rattle.kd_form.proofs.part_body.PartBody.push.Goals as goal
-use Rattle.kd_form.proofs.Prelude.{refl}
 
 pub returns-clause-body : goal.returns-clause-body
 returns-clause-body c = λ s part body holds.

@@ -1,10 +1,5 @@
-use Rattle.std.proofs.Common.{take-append-drop}
-use Rattle.kd_form.proofs.Prelude.{[], ◌≡◌, ℕ, ◌<◌, ◌++◌, ◌∷◌, List, suc, length, take, drop, get_or, sym, ◌∙◌, append_assoc, arith, drop-cons, take_more}
-use Rattle.kd_form.proofs.Streaming.{fed_next, fed_whole, fed_up_to, room_less, well_now}
+use Rattle.kd_form.proofs.Streaming.{fed_next, fed_whole, fed_up_to, room_less, well_now, sym, ◌∙◌, arith, take_more, up_to}
 use Rattle.kd_form.proofs.stream.piece.feed_all.Goals as goal
-
-up_to : (bytes : List ℕ) (place : ℕ) → place < length bytes → take place bytes ++ get_or bytes place 0 ∷ [] ++ drop (suc place) bytes ≡ bytes
-up_to bytes place inside = grind (arith, append_assoc, drop-cons, take-append-drop)
 
 pub returns-in-Err-clause-fed : goal.returns-in-Err-clause-fed
 returns-in-Err-clause-fed g c =

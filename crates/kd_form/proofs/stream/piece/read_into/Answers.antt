@@ -1,5 +1,4 @@
-use Rattle.kd_form.proofs.Prelude.{rules}
-use Rattle.kd_form.proofs.Streaming.{read_stopped}
+use Rattle.kd_form.proofs.Streaming.{read_stopped, rules}
 use Rattle.kd_form.proofs.stream.piece.read_into.Goals as goal
 
 pub returns-in-Err : goal.returns-in-Err

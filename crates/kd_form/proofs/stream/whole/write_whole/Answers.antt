@@ -1,5 +1,4 @@
-use Rattle.kd_form.proofs.Prelude.{[], ℕ, append-nil, length, arith}
-use Rattle.kd_form.proofs.Streaming.{room_less}
+use Rattle.kd_form.proofs.Streaming.{room_less, [], ℕ, append-nil, length, arith}
 use Rattle.kd_form.proofs.stream.whole.write_whole.Goals as goal
 
 pub finish-requires : goal.finish-requires

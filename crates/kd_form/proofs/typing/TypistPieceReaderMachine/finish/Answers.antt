@@ -1,6 +1,4 @@
-use Rattle.kd_form.proofs.Prelude.{Ok}
-use Rattle.kd_form.proofs.Streaming.{closed_in_part}
-use Rattle.kd_form.proofs.TypedTexts.{typed_ends}
+use Rattle.kd_form.proofs.Streaming.{closed_in_part, typed_ends, Ok}
 use Rattle.kd_form.proofs.typing.TypistPieceReaderMachine.finish.Goals as goal
 
 pub returns-in-Ok-clause-ended : goal.returns-in-Ok-clause-ended

@@ -1,5 +1,4 @@
-use Rattle.kd_form.proofs.Prelude.{refl, subst, Appends, TakesFront}
-use Rattle.kd_form.proofs.TypedTexts.{read_refused, read_in_part}
+use Rattle.kd_form.proofs.Streaming.{read_refused, read_in_part, refl, subst, Appends, TakesFront}
 use Rattle.kd_form.proofs.typing.TypistPieceReaderMachine.read.Goals as goal
 
 pub returns-in-Err-clause-fed : goal.returns-in-Err-clause-fed

@@ -1,6 +1,4 @@
-use Rattle.std.proofs.lemmas.List.Elements.{All-more}
-use Rattle.kd_form.proofs.Prelude.{common_steps, filter_map-append, ℕ, IsTrue, All, sym, subst, length, ◌∙◌, arith, take_all, take-append_seam, is_text_byte}
-use Rattle.kd_form.proofs.PartTexts.{gives_word}
+use Rattle.kd_form.proofs.GivenBack.{gives_word, common_steps, filter_map-append, ℕ, IsTrue, All, sym, subst, length, ◌∙◌, arith, take_all, take-append_seam, is_text_byte, All-more}
 use Rattle.kd_form.proofs.typing.piece.letters_among.Goals as goal
 
 pub loop-place-preserved : goal.loop-place-preserved

@@ -1,10 +1,9 @@
-use Rattle.kd_form.proofs.Prelude.{◌≡◌, ℕ, ◌+◌, ◌<◌, length, slice_index, IsTrue}
+use Rattle.kd_form.proofs.Prelude.{◌≡◌, ℕ, ◌+◌, ◌<◌, slice_index, IsTrue}
 use Rattle.kd_form.proofs.typing.piece.read_letters.Given as goal
 
 -- unless a byte was something else, each byte so far is its letter
 abbrev pub invariant-loop-place : goal.invariant-loop-place
 invariant-loop-place l = record {
-  size : length l.letters ≡ length l.bytes;
   within : (k : ℕ) → k < l.place → slice_index l.letters k < 26;
   read : IsTrue l.all → (k : ℕ) → k < l.place → slice_index l.letters k + 65 ≡ slice_index l.bytes k;
 }

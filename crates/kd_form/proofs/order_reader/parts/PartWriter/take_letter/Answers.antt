@@ -1,5 +1,4 @@
-use Rattle.kd_form.proofs.Prelude.{[], ◌≡◌, ◌≤◌, ◌<◌, ◌-◌, ◌*◌, ◌+◌, ◌++◌, ◌∷◌, ℕ, inl, inr, ap, ◌∙◌, arith, cases_lt, drop, drop_at, length, length-append, length-drop, length-take, le_of_mul-le-mul_left, part_size, take_all, take_at}
-use Rattle.kd_form.proofs.OrderSteps.{part_more, size_some}
+use Rattle.kd_form.proofs.OrderSteps.{part_more, size_some, [], ◌≡◌, ◌≤◌, ◌<◌, ◌-◌, ◌*◌, ◌+◌, ◌++◌, ◌∷◌, ℕ, inl, inr, ap, ◌∙◌, arith, cases_lt, drop, drop_at, length, length-append, length-drop, length-take, le_of_mul-le-mul_left, part_size, take_all, take_at}
 use Rattle.kd_form.proofs.order_reader.parts.PartWriter.take_letter.Goals as goal
 
 -- a letter more shows that the part is full
@@ -25,6 +24,7 @@ returns-then-from-keys c letters sent is =
     let up_to : length letters ≡ size * (w.written + 1) = omega (arith, whole) in
     let longer : length (letters ++ letter ∷ []) ≡ length letters + 1 = length-append letters (letter ∷ []) in
     record {
+      suited = is.suited;
       counted = omega (arith, c.write.ensures.count, is.counted, longer);
       written = grind (arith, le_of_mul-le-mul_left, number, whole, longer, another);
       kept = rw number (c.push-then-from-keys.ensures.items ∙ ap (λ l. l ++ letter ∷ []) c.write.ensures.letters

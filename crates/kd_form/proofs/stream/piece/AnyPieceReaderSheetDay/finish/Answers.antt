@@ -1,5 +1,4 @@
-use Rattle.kd_form.proofs.Prelude.{subst, TakesFront}
-use Rattle.kd_form.proofs.Streaming.{closed_in_part}
+use Rattle.kd_form.proofs.Streaming.{closed_in_part, subst, TakesFront}
 use Rattle.kd_form.proofs.stream.piece.AnyPieceReaderSheetDay.finish.Goals as goal
 
 pub returns-in-Err-default-clause-ended : goal.returns-in-Err-default-clause-ended
