@@ -1,11 +1,10 @@
 -- A tree that gains a column, and an assignment that gains a row.
 use Rattle.std.proofs.Common.{◌≡◌, ◌≢◌, ℕ, ◌+◌, ◌<◌, ◌≤◌, List, [], length, get_or, set, All, Bool, true, false, Option, Some, None, is_some, ◌⊎◌, inl, inr, ℤ, pos, ◌-ℤ◌, ◌≤ℤ◌, refl, sym, ◌∙◌, arith}
-use Rattle.std.specs.Int.{int_min}
+use Rattle.{kd_assign.proofs.Whole.cost_at_most, std.specs.Int.int_min}
 use Rattle.kd_assign.proofs.Prelude.{cases_Bool, cases_eq, clamps, false≢true, get_or-set_other, get_or-set_same, ints}
 use Rattle.kd_assign.proofs.Prelude.{length-set, none-some, same_Some, CostsAtMost, Has, IsCheapest, IsFree, IsGrown}
 use Rattle.kd_assign.proofs.Prelude.{AreCompared, IsNearest, IsPlan, IsSeated, IsSolvedTo, cost_at, has_column, price_at, room_at}
 use Rattle.kd_assign.proofs.Places.{count-set, count_at_most, free_column, within, written}
-use Rattle.kd_assign.proofs.Whole.{cost_at_most}
 
 module _ {n root : ℕ} {cost : List (List ℕ)} {prices ceilings : List ℤ} {holders : List (Option ℕ)} {reached : List Bool}
     {near : List ℕ} {plans : List (List (Option ℕ))} (solved : IsSolvedTo n cost prices holders root)

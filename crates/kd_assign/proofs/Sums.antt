@@ -1,14 +1,11 @@
 -- Sums of prices over one-to-one assignments.
 use Rattle.std.proofs.Common.{◌≡◌, ◌≢◌, ℕ, zero, suc, ◌+◌, ◌<◌, List, [], ◌∷◌, length, get_or, set, map, All, AllPairs, ℤ, eqb, false, pos, ◌+ℤ◌, ◌≤ℤ◌, refl, sym, arith}
+use Rattle.{kd_assign.specs.Cheapest.FittingPricesBoundCosts, std.proofs.lemmas.Bool.Decides.Decides-eqb}
+use Rattle.std.proofs.lemmas.List.{Folds.Any-from_list_any, Folds.list_any_at, Kept.AllPairs-cons}
+use Rattle.std.proofs.lemmas.Map.{Made.IsDistinct-from_AllPairs, Steps.length-le_from_distinct_below}
 use Rattle.std.specs.List.{list_any}
-use Rattle.std.proofs.lemmas.Bool.Decides.{Decides-eqb}
-use Rattle.std.proofs.lemmas.List.Folds.{Any-from_list_any, list_any_at}
-use Rattle.std.proofs.lemmas.List.Kept.{AllPairs-cons}
-use Rattle.std.proofs.lemmas.Map.Made.{IsDistinct-from_AllPairs}
-use Rattle.std.proofs.lemmas.Map.Steps.{length-le_from_distinct_below}
 use Rattle.kd_assign.proofs.Prelude.{cases_eq, eq-eqb, eqb-true, ints, get_or-set_other, get_or-set_same}
 use Rattle.kd_assign.proofs.Prelude.{get_or_past, length-set, cost_at, price_at, sum_of, IsOneToOne, assignment_cost}
-use Rattle.kd_assign.specs.Cheapest.{FittingPricesBoundCosts}
 
 -- one price less
 sum_of-set : (xs : List ℤ) (j : ℕ) → j < length xs → (price_at xs j +ℤ sum_of (set xs j (pos 0))) ≡ sum_of xs

@@ -1,13 +1,10 @@
 -- An assignment of all rows.
 use Rattle.std.proofs.Common.{◌≡◌, ℕ, ◌*◌, ◌<◌, ◌≤◌, List, length, get_or, All, Option, ℤ, pos, ◌-ℤ◌, arith, refl}
-use Rattle.std.specs.Int.RustNames.{unsigned_abs}
-use Rattle.std.proofs.lemmas.List.Elements.{All-from_get_or}
+use Rattle.kd_assign.proofs.{Counting.scans_of_trees-most, Places.within, Sums.by_sums}
+use Rattle.kd_assign.{proofs.Sums.fitting_prices_bound_costs, specs.Cheapest.IsLeastCost}
+use Rattle.std.{proofs.lemmas.List.Elements.All-from_get_or, specs.Int.RustNames.unsigned_abs}
 use Rattle.kd_assign.proofs.Prelude.{ints, get_or_default, get_or_past, CostsAtMost, Fits, Has, IsOneToOne, IsSolvedTo}
 use Rattle.kd_assign.proofs.Prelude.{assignment_cost, cost_at, price_at, price_sum}
-use Rattle.kd_assign.proofs.Places.{within}
-use Rattle.kd_assign.specs.Cheapest.{IsLeastCost}
-use Rattle.kd_assign.proofs.Counting.{scans_of_trees-most}
-use Rattle.kd_assign.proofs.Sums.{by_sums, fitting_prices_bound_costs}
 
 -- no two rows have the same column
 pub one_to_one : (holders : List (Option ℕ)) (to : List ℕ) → length to ≡ length holders →

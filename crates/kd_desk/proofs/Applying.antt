@@ -1,9 +1,8 @@
 -- What becomes of settings that were read, and of a machine that was.
 use Rattle.kd_desk.proofs.Prelude.{◌≡◌, ◌⊎◌, ℕ, List, Result, Ok, Err, IfOk, IsErrAnd, IsFalse, MatchResult, inl, subst}
 use Rattle.kd_desk.proofs.Prelude.{sym, Parts, Setting, DeskFault, begins_as_card, AreSettings, OfList, IsSettingsFault}
-use Rattle.kd_desk.proofs.Prelude.{InList}
+use Rattle.{kd_desk.proofs.Prelude.InList, kd_state.specs.Line.IsList, kd_state.specs.Line.IsListFault}
 use Rattle.kd_state.specs.declared.setting.list.ListFault.{ListFault}
-use Rattle.kd_state.specs.Line.{IsList, IsListFault}
 use Rattle.kd_desk.specs.declared.fault.DeskFault.TheVariants as faults
 
 -- what holds of the machine that was read holds of the one that is meant

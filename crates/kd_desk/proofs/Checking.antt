@@ -1,8 +1,6 @@
 -- What is told of a card.
-use Rattle.kd_desk.specs.Ports.{WritesText}
+use Rattle.{kd_card.specs.Laws.ProvingCardsAreShortest, kd_card.specs.Proving.Proves, kd_desk.specs.Ports.WritesText}
 use Rattle.kd_desk.proofs.Prelude.{◌≡◌, ℕ, List, length, Result, Parts, Setting, IsMachine, Day, IsLegalDay, PriceParts, IsCard, DeskFault, Port, Checks, Shortest, verdict_text}
-use Rattle.kd_card.specs.Laws.{ProvingCardsAreShortest}
-use Rattle.kd_card.specs.Proving.{Proves}
 
 -- a card that proves itself
 pub told : ProvingCardsAreShortest → (m : Parts) (s : Day) (number : ℕ) (bytes : List ℕ)

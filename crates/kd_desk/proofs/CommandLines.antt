@@ -1,14 +1,10 @@
 -- Commands and the values of their words.
 use Rattle.kd_desk.proofs.Prelude.{◌≡◌, ◌≢◌, ℕ, List, Option, Some, None, Bor, decimal, option_map, sym, ap, ◌∙◌, Result, Ok, IfSome, IfOk, true, [], refl, subst, App, FailsBy, HasKind, HasMatchesOf, Row, fault_of, first_of, first_value, is_simple, is_simple_and_free, kind_of, rows_of, subcommand_of, subcommand_rows_of, same_Some, IsDayNumber, Stop, Usage, Named, IsOf, Says, arith}
+use Rattle.clap.proofs.{OnLiterals.clap_on_literals, WalkLemmas.first_value-rows}
+use Rattle.clap.specs.declared.error.{Error.Error, kind.ErrorKind.TheVariants.OutOfMemory}
+use Rattle.clap.specs.declared.parser.matches.{ArgMatches.ArgMatches, Found.Found}
+use Rattle.kd_desk.specs.{CommandLine.desk_grammar, declared.command.Command.Command}
 use Rattle.std.proofs.Common.{ok_or}
-use Rattle.clap.specs.declared.parser.matches.ArgMatches.{ArgMatches}
-use Rattle.clap.specs.declared.error.Error.{Error}
-use Rattle.clap.specs.declared.error.kind.ErrorKind.TheVariants.{OutOfMemory}
-use Rattle.clap.proofs.OnLiterals.{clap_on_literals}
-use Rattle.clap.specs.declared.parser.matches.Found.{Found}
-use Rattle.clap.proofs.WalkLemmas.{first_value-rows}
-use Rattle.kd_desk.specs.declared.command.Command.{Command}
-use Rattle.kd_desk.specs.CommandLine.{desk_grammar}
 
 -- a command with its files' names as they were lent
 abbrev Lent : Type 0

@@ -1,12 +1,9 @@
 -- The machine and the day that files say, and what is answered to them.
 use Rattle.kd_desk.proofs.Prelude.{◌≡◌, ◌⊎◌, ℕ, List, Option, Result, Ok, Err, IsErrAnd, inl, inr, refl, sym, ap, ◌∙◌, ok_or, Parts, Day, machine_of, DeskFault, FindsDay, LackedMemory, NoMachine, NoSheet, NoDay, Found, OnDay, arith}
-use Rattle.kd_sheet.specs.declared.fault.SheetFault.{SheetFault}
+use Rattle.{kd_desk.proofs.Failing.answered, kd_sheet.specs.Document.Answers, kd_sheet.specs.Sheet.day_of}
+use Rattle.kd_sheet.specs.{SheetFile.sheet_of, declared.fault.SheetFault.SheetFault}
 use Rattle.kd_sheet.specs.declared.fault.SheetFault.TheVariants as files
-use Rattle.kd_sheet.specs.Document.{Answers}
-use Rattle.kd_sheet.specs.Sheet.{day_of}
-use Rattle.kd_sheet.specs.SheetFile.{sheet_of}
 use Rattle.kd_desk.specs.declared.fault.DeskFault.TheVariants as faults
-use Rattle.kd_desk.proofs.Failing.{answered}
 
 -- a fault that is answered is the one that is meant, or want of memory
 is_meant : {A : Type 0} (fault : SheetFault) (meant : Result A SheetFault) → Answers (Err fault) meant → (fault ≡ files.NoMemory) ⊎ (meant ≡ Err fault)

@@ -1,8 +1,7 @@
 -- What a failed call leaves of its ports.
 use Rattle.kd_desk.proofs.Prelude.{arith, ◌≡◌, ℕ, Bool, true, false, ◌||◌, List, Option, Result, Ok, Err, IsErrAnd}
 use Rattle.kd_desk.proofs.Prelude.{IsTrue, inr, sym, subst, Port, IsWell, Fail, Appends, TakesFront, DeskFault}
-use Rattle.kd_desk.specs.declared.fault.DeskFault.TheVariants.{Device}
-use Rattle.kd_desk.specs.Ports.{WritesText}
+use Rattle.kd_desk.specs.{Ports.WritesText, declared.fault.DeskFault.TheVariants.Device}
 
 -- what is known of a port, in its order
 abbrev pub over : Option (List ℕ) → Option (List ℕ) → Bool → Bool → Port

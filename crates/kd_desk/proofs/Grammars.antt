@@ -1,13 +1,10 @@
 -- A grammar as it grows: no help, and a word or a command more.
 use Rattle.kd_desk.proofs.Prelude.{arith, ◌≡◌, ◌∙◌, [], ◌∷◌, ◌++◌, ℕ, List, true, false, ap, ap₂, sym, subst, App}
 use Rattle.kd_desk.proofs.Prelude.{app_of, rule_of, new_rule, app_of_fields, Arg, Bor}
-use Rattle.std.proofs.lemmas.List.{map-append}
-use Rattle.clap.specs.Simple.{Shape, new_app, with_subcommand}
+use Rattle.clap.specs.{Built.AddsArg, Built.AddsSubcommand, Simple.Shape, Simple.new_app, Simple.with_subcommand}
+use Rattle.clap.specs.declared.builder.command.Command.{Command, TheOpen.Command-F, TheViews.out-Command}
 use Rattle.kd_desk.specs.CommandLine.{IsMadeOf, shape_with}
-use Rattle.clap.specs.Built.{AddsArg, AddsSubcommand}
-use Rattle.clap.specs.declared.builder.command.Command.{Command}
-use Rattle.clap.specs.declared.builder.command.Command.TheViews.{out-Command}
-use Rattle.clap.specs.declared.builder.command.Command.TheOpen.{Command-F}
+use Rattle.std.proofs.lemmas.List.{map-append}
 
 abbrev pub without_help : App → App
 without_help a = record a { top = record a.top { disable_help_flag = true } }

@@ -1,28 +1,17 @@
 -- The cards and the files of a month.
-use Rattle.kd_desk.proofs.Failing.{in_whole}
+use Rattle.kd_desk.proofs.{Applying.of_read, Days.on_day, Failing.in_whole, Printing.printed}
+use Rattle.kd_desk.specs.{Laws.MonthsSetTheMachine, Laws.TextsTellSettings, Ports.WritesText, RunCard.Prints}
+use Rattle.{kd_desk.specs.RunCard.WritesCard, kd_plan.specs.Planned.Plans, kd_prices.specs.KindCards.IsByKind}
+use Rattle.kd_sheet.specs.{Laws.WrittenFilesAreReadBack, MachineText.machine_text, Sheet.day_of, SheetFile.sheet_of}
+use Rattle.{kd_sheet.specs.declared.fault.SheetFault.SheetFault, kd_tables.specs.declared.model.Model.Model}
+use Rattle.std.proofs.{Common.All, lemmas.List.Elements.All-tail}
 use Rattle.kd_desk.proofs.Prelude.{◌≡◌, ◌⊎◌, ℕ, List, [], ◌∷◌, Option, Some, Result, Ok, Err, IfOk, MatchResult, IsTrue}
 use Rattle.kd_desk.proofs.Prelude.{inl, inr, refl, sym, ap, ◌∙◌, subst, arith, Port, Parts, Setting, IsMachine, Leads}
 use Rattle.kd_desk.proofs.Prelude.{Day, IsLegalDay, day_number, PriceParts, IsCard, machine_of, DeskFault, FindsDay}
 use Rattle.kd_desk.proofs.Prelude.{Found, Applies, Carried, LacksMemory, begins_as_card, AreSettings, OfCard}
-use Rattle.std.proofs.Common.{All}
-use Rattle.std.proofs.lemmas.List.Elements.{All-tail}
-use Rattle.kd_tables.specs.declared.model.Model.{Model}
 use Rattle.kd_state.specs.Laws.{LeadsToOne, ListsKeepMachines, ReadingIsReady, ReadingIsItsCipher, EquallySetDecipher}
 use Rattle.kd_card.specs.declared.card.Card as declared
-use Rattle.kd_plan.specs.Planned.{Plans}
-use Rattle.kd_prices.specs.KindCards.{IsByKind}
-use Rattle.kd_sheet.specs.declared.fault.SheetFault.{SheetFault}
-use Rattle.kd_sheet.specs.Laws.{WrittenFilesAreReadBack}
-use Rattle.kd_sheet.specs.MachineText.{machine_text}
-use Rattle.kd_sheet.specs.Sheet.{day_of}
-use Rattle.kd_sheet.specs.SheetFile.{sheet_of}
-use Rattle.kd_desk.specs.Laws.{TextsTellSettings, MonthsSetTheMachine}
 use Rattle.kd_desk.specs.Month.{Papers, taken, well, AreWritten, SetTheMachine, HasDayOf, HasPapers, HasPapersInTurn}
-use Rattle.kd_desk.specs.Ports.{WritesText}
-use Rattle.kd_desk.specs.RunCard.{WritesCard, Prints}
-use Rattle.kd_desk.proofs.Applying.{of_read}
-use Rattle.kd_desk.proofs.Days.{on_day}
-use Rattle.kd_desk.proofs.Printing.{printed}
 
 -- ---- whatever is written sets the machine
 

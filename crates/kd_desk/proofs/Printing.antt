@@ -3,11 +3,9 @@ use Rattle.kd_desk.proofs.Prelude.{◌≡◌, ℕ, List, Result, sym, subst, ari
 use Rattle.kd_desk.proofs.Prelude.{day_number, PriceParts, IsCard, DeskFault, Port}
 use Rattle.kd_state.specs.Laws.{ListsKeepMachines, ReadingIsReady, ReadingIsItsCipher, EquallySetDecipher}
 use Rattle.kd_card.specs.declared.card.Card as declared
-use Rattle.kd_plan.specs.Planned.{Plans}
-use Rattle.kd_prices.specs.KindCards.{IsByKind}
+use Rattle.kd_desk.specs.{Ports.WritesText, RunCard.Card, RunCard.Prints}
+use Rattle.{kd_plan.specs.Planned.Plans, kd_prices.specs.KindCards.IsByKind}
 use Rattle.kd_desk.specs.Headline as headline
-use Rattle.kd_desk.specs.Ports.{WritesText}
-use Rattle.kd_desk.specs.RunCard.{Prints, Card}
 
 module _ (keep : ListsKeepMachines) (ready : ReadingIsReady) (cipher : ReadingIsItsCipher) (equal : EquallySetDecipher)
     (m : Parts) (s : Day) (is_machine : IsMachine m) (legal : IsLegalDay s) where

@@ -1,7 +1,6 @@
 -- What forms tell of orders, by the laws on both.
 use Rattle.kd_desk.proofs.Prelude.{List, ℕ, ◌++◌, inl, Day, IsLegalDay, FormFault, TellOfOrders}
-use Rattle.kd_form.specs.FormText.{IsReceiveFault}
-use Rattle.kd_form.specs.Sending.{IsFormOf}
+use Rattle.kd_form.specs.{FormText.IsReceiveFault, Sending.IsFormOf}
 use Rattle.kd_form.specs.Laws.{FormsBecomeOneText, FormsStayRefused, ReceivedFormsHaveNoFault, OrdersGiveLetters, FormsGiveTheirOrders}
 
 pub tell_of_orders : (s : Day) → IsLegalDay s → FormsBecomeOneText → ReceivedFormsHaveNoFault → FormsStayRefused

@@ -1,10 +1,7 @@
 -- Files that are read one after another, and what the program answers to a command.
-use Rattle.std.proofs.Common.{arith}
-use Rattle.kd_desk.proofs.Failing.{err_is}
+use Rattle.kd_desk.{proofs.Failing.err_is, proofs.SaidCommands.same_command, specs.CommandLine.desk_grammar}
+use Rattle.{kd_desk.specs.declared.files.fault.FileFault.FileFault, std.proofs.Common.arith}
 use Rattle.kd_desk.proofs.Prelude.{◌≡◌, ℕ, suc, Bool, true, false, List, [], ◌∷◌, ◌++◌, take, Option, Some, None, IfSome, IsSomeAnd, Result, Ok, Err, IsErr, IsErrAnd, is_ok, refl, sym, ap, ◌∙◌, subst, inl, inr, append_assoc, Row, subcommand_of, Stop, Unread, Named, IsOf, Says, KnownCommand, command_over, AskFor, CarriesOut, IsDone, has_read, Gives, Opened, Port}
-use Rattle.kd_desk.specs.declared.files.fault.FileFault.{FileFault}
-use Rattle.kd_desk.specs.CommandLine.{desk_grammar}
-use Rattle.kd_desk.proofs.SaidCommands.{same_command}
 
 -- what is known of files
 abbrev Known : Type 0

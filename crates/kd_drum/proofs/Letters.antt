@@ -1,7 +1,6 @@
 -- Six letters that are read one by one, and the wheels that have them.
 use Rattle.std.proofs.Common.{◌≡◌, ◌↔◌, ℕ, ◌<◌, List, Contains, length, get_or, slice_index, Result, IsOk, IsErr, arith}
-use Rattle.std.proofs.lemmas.List.{get_or_default}
-use Rattle.kd_drum.specs.Converter.{OnWheels}
+use Rattle.{kd_drum.specs.Converter.OnWheels, std.proofs.lemmas.List.get_or_default}
 
 -- a letter that was read from the list is on a wheel with these letters
 pub on_wheel : (ring letters there : List ℕ) (place d : ℕ) → ring ≡ letters → place < length there → Contains ring (get_or there place d) → Contains letters (slice_index there place)

@@ -1,9 +1,7 @@
 -- Sets of wheels, made of what each wheel does.
+use Rattle.{kd_drum.proofs.Starts.each_wheel, kd_drum.specs.Counts.is_in, std.proofs.lemmas.Bool.Decides.nat_tests}
 use Rattle.std.specs.Int.{from_bool}
 use Rattle.std.proofs.Common.{◌≡◌, ℕ, ◌+◌, ◌*◌, ◌-◌, ◌/◌, ◌%◌, ◌^◌, ◌≤◌, Bool, ◌&&◌, eqb, leb, ◌∙◌, arith}
-use Rattle.std.proofs.lemmas.Bool.Decides.{nat_tests}
-use Rattle.kd_drum.specs.Counts.{is_in}
-use Rattle.kd_drum.proofs.Starts.{each_wheel}
 
 -- the set of the wheels that do
 abbrev pub set_of : Bool → Bool → Bool → Bool → Bool → Bool → ℕ

@@ -1,17 +1,13 @@
 -- Where the wheels stand after so many letters.
 use Rattle.std.proofs.Common.{◌≡◌, ℕ, ◌+◌, ◌-◌, ◌%◌, ◌<◌, ◌≤◌, Bool, ◌&&◌, ◌||◌, Option, unwrap_or, List, [], ◌∷◌}
 use Rattle.std.proofs.Common.{length, map, slice_index, count_by, refl, sym, ap, ◌∙◌, arith, leb}
-use Rattle.std.proofs.lemmas.Bool.Decides.{nat_tests}
-use Rattle.std.proofs.lemmas.List.{ext_get_or}
-use Rattle.std.proofs.lemmas.List.FromFn.{get_or-map-range_with_len}
-use Rattle.std.proofs.lemmas.List.Sums.{sum_by-le-sum_by}
-use Rattle.std.proofs.Math.Nat.{mod-add-mod, mod-lt}
-use Rattle.kd_tables.specs.Rings.{ring_of, place_on}
+use Rattle.kd_drum.specs.{Sound.RingsAreSound, Standing.AllStand, Standing.StandsAs, Standing.key_of}
+use Rattle.{kd_tables.specs.Rings.place_on, kd_tables.specs.Rings.ring_of, std.proofs.Math.Nat.mod-add-mod}
+use Rattle.std.proofs.{Math.Nat.mod-lt, lemmas.Bool.Decides.nat_tests, lemmas.List.FromFn.get_or-map-range_with_len}
+use Rattle.std.proofs.lemmas.List.{Sums.sum_by-le-sum_by, ext_get_or}
 use Rattle.kd_pins.specs.PinWheel.{TurnedWheel, is_effective, letter_shown, pin_acting, turned_to}
 use Rattle.kd_pins.specs.PinWheels.{pin_wheels, pins_on, offset_of, size_of}
 use Rattle.kd_drum.specs.Converter.{PinKey, pin_key_turned, start_on, acts_after, bars_met, letter_after, pin_key_after}
-use Rattle.kd_drum.specs.Sound.{RingsAreSound}
-use Rattle.kd_drum.specs.Standing.{StandsAs, AllStand, key_of}
 
 -- what holds of each of the six wheels holds of a wheel
 pub each_wheel : (P : ℕ → Type 0) → P 1 → P 2 → P 3 → P 4 → P 5 → P 6 → (wheel : ℕ) → 1 ≤ wheel → wheel ≤ 6 → P wheel

@@ -1,21 +1,19 @@
 -- What cables do to the letters, pair by pair.
 use Rattle.std.proofs.Common.{◌≡◌, ◌≢◌, ◌⊎◌, ◌↔◌, inl, inr, ℕ, zero, suc, ◌+◌, ◌<◌, Bool, true, false, cond, List, []}
 use Rattle.std.proofs.Common.{◌∷◌, ◌++◌, All, Contains, eqb, length, get_or, set, take, drop, slice_index, refl, sym}
-use Rattle.std.proofs.Common.{ap}
+use Rattle.kd_enigma.{proofs.Ways.each_letter, specs.Cipher.IsPlugboard, specs.Laws.PairsExchange}
+use Rattle.kd_enigma.specs.Laws.{PairsMakeAPlugboard, SamePairsExchangeAlike}
+use Rattle.kd_tables.specs.Permutation.{alphabet, exchange, exchanged}
+use Rattle.std.proofs.{Common.ap, lemmas.Bool.Decides.nat_tests, lemmas.Grind.common_steps}
+use Rattle.std.proofs.lemmas.{Grind.flat_map-append, List.Elements.All-append, List.Elements.All-cons}
+use Rattle.std.proofs.lemmas.List.{Elements.All-nil, Folds.Any-from_list_any, Folds.list_any-append}
+use Rattle.std.{proofs.lemmas.List.Folds.list_any_at, specs.List.AllByRecursion, specs.List.IsDistinct}
+use Rattle.std.specs.List.{list_any}
 use Rattle.std.proofs.Common.{◌∙◌, subst, arith, rules, ◌≤◌}
-use Rattle.std.specs.List.{AllByRecursion, IsDistinct, list_any}
 use Rattle.std.proofs.lemmas.Bool.{cases_Bool, cases_eq, eq-eqb, eqb-true, ne_eqb, false_from_ne_true, false≢true}
-use Rattle.std.proofs.lemmas.Bool.Decides.{nat_tests}
-use Rattle.std.proofs.lemmas.Grind.{common_steps, flat_map-append}
-use Rattle.std.proofs.lemmas.List.Elements.{All-append, All-nil, All-cons}
-use Rattle.std.proofs.lemmas.List.Folds.{Any-from_list_any, list_any_at, list_any-append}
 use Rattle.std.proofs.lemmas.List.{drop_more, length-set, map-id, take-append-drop, take_all, take_more}
 use Rattle.std.proofs.lemmas.List.FromFn.{fill_by_all, get_or-map-range_with_len, length-map-range_with_len}
-use Rattle.kd_tables.specs.Permutation.{alphabet, exchanged, exchange}
-use Rattle.kd_enigma.specs.Cipher.{IsPlugboard}
-use Rattle.kd_enigma.specs.Laws.{PairsMakeAPlugboard, PairsExchange, SamePairsExchangeAlike}
 use Rattle.kd_enigma.specs.Plugs.{IsLeft, letters_plugged, NoLetterTwice, Joins}
-use Rattle.kd_enigma.proofs.Ways.{each_letter}
 
 -- ---- the letters of pairs
 

@@ -1,7 +1,6 @@
 -- Arrays that a closure makes, element by element.
 use Rattle.std.proofs.Common.{◌≡◌, ℕ, zero, suc, ◌+◌, ◌<◌, ◌≤◌, List, get_or, inl, inr, refl, sym, subst, arith}
-use Rattle.std.specs.Array.{IsFromFnResult, IsFromFnResultFrom}
-use Rattle.std.proofs.lemmas.Bool.{cases_eq}
+use Rattle.std.{proofs.lemmas.Bool.cases_eq, specs.Array.IsFromFnResult, specs.Array.IsFromFnResultFrom}
 use denote.Param.Members.{Mut, Called}
 
 -- each element is what a call at its place gives, where no call changes the closure

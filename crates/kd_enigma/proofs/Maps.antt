@@ -1,13 +1,11 @@
 -- Maps as they lie in 32 lanes.
 use Rattle.std.proofs.Common.{◌≡◌, ℕ, ◌-◌, ◌<◌, ◌≤◌, List, ◌++◌, length, take, map, get_or, slice_index, w8, inl, inr}
 use Rattle.std.proofs.Common.{refl, sym, ap, ◌∙◌, arith, length-append, rules}
-use Rattle.std.proofs.lemmas.Bool.{cases_lt}
-use Rattle.std.proofs.lemmas.List.{ext_get_or, get_or-take, get_or_append_left, get_or-append_right, length-take-le}
-use Rattle.std.proofs.lemmas.List.FromFn.{get_or-range_with_len, get_or-map-range_with_len}
-use Rattle.std.proofs.lemmas.Simd.{swz_l, SwzOk, SwzOk-from_below, Each1-from_get_or, length-swz_l, get_or-swz_l_below}
+use Rattle.kd_enigma.{proofs.Ways.product-at, proofs.Ways.product-size, specs.Map.AreLanes, specs.Map.spare}
 use Rattle.kd_tables.specs.Permutation.{alphabet, followed_by}
-use Rattle.kd_enigma.specs.Map.{AreLanes, spare}
-use Rattle.kd_enigma.proofs.Ways.{product-at, product-size}
+use Rattle.std.proofs.lemmas.{Bool.cases_lt, List.FromFn.get_or-map-range_with_len, List.FromFn.get_or-range_with_len}
+use Rattle.std.proofs.lemmas.List.{ext_get_or, get_or-take, get_or_append_left, get_or-append_right, length-take-le}
+use Rattle.std.proofs.lemmas.Simd.{swz_l, SwzOk, SwzOk-from_below, Each1-from_get_or, length-swz_l, get_or-swz_l_below}
 
 -- the lanes behind the letters
 spare_at : (lanes : List ℕ) → length lanes ≡ 32 → (k : ℕ) → 26 ≤ k → k < 32 → get_or (take 26 lanes ++ spare) k 0 ≡ k

@@ -1,16 +1,11 @@
 -- The way around through the wheels as they sit, slot by slot, and the path that it makes.
 use Rattle.std.proofs.Common.{◌≡◌, ℕ, zero, suc, ◌+◌, ◌-◌, ◌<◌, if◌then◌else◌, ltb, List, [], ◌∷◌, length, take, get_or}
 use Rattle.std.proofs.Common.{refl, ap, ◌∙◌, arith, rules}
-use Rattle.std.proofs.lemmas.List.{take_all}
-use Rattle.std.proofs.lemmas.Bool.Decides.{nat_tests}
+use Rattle.kd_enigma.specs.{Around.SeatedWheel, Around.around, Around.boarded, Cipher.IsPlugboard, Cipher.RotorKey}
+use Rattle.kd_enigma.specs.{Cipher.rotors, Rotor.rotor, Sound.TablesAreSound, Wired.IsWired, Wired.seats, Wired.slow}
+use Rattle.kd_tables.specs.{Tables.reflector_of, declared.wheel.Wheel.Wheel}
+use Rattle.std.proofs.lemmas.{Bool.Decides.nat_tests, List.take_all}
 use Rattle.kd_tables.specs.Permutation.{alphabet, followed_by, shift, IsPermutation26}
-use Rattle.kd_tables.specs.Tables.{reflector_of}
-use Rattle.kd_tables.specs.declared.wheel.Wheel.{Wheel}
-use Rattle.kd_enigma.specs.Around.{SeatedWheel, around, boarded}
-use Rattle.kd_enigma.specs.Cipher.{RotorKey, IsPlugboard, rotors}
-use Rattle.kd_enigma.specs.Rotor.{rotor}
-use Rattle.kd_enigma.specs.Sound.{TablesAreSound}
-use Rattle.kd_enigma.specs.Wired.{IsWired, seats, slow}
 use Rattle.kd_enigma.proofs.Ways.{Exchanges, enclosed, nested, grouped, product-size, nothing_before, nothing_after}
 use Rattle.kd_enigma.proofs.Ways.{rotor_permutes, reflectors_exchange, wheel_exchanges, path_is}
 

@@ -1,17 +1,13 @@
 -- The way in through wheels, through what lies behind them, and back.
 use Rattle.std.proofs.Common.{◌≡◌, ◌≢◌, ℕ, ◌<◌, List, [], ◌∷◌, ◌++◌, map, reverse, slice_index, All, length, refl, sym}
 use Rattle.std.proofs.Common.{ap, ◌∙◌, subst, arith, rules, append_assoc}
-use Rattle.std.specs.List.{AllByRecursion}
+use Rattle.kd_enigma.specs.{Laws.PathsLeadBack, Laws.PathsMoveEachLetter, Rotor.rotor, Rotor.turned}
+use Rattle.kd_enigma.specs.Sound.{PermutationLaws, TablesAreSound}
+use Rattle.kd_tables.specs.{Tables.reflector_of, declared.reflector.Reflector.Reflector, declared.wheel.Wheel.Wheel}
+use Rattle.std.{proofs.lemmas.List.FromFn.get_or-range_with_len, specs.List.AllByRecursion}
 use Rattle.std.proofs.lemmas.List.{ext_get_or, get_or-map, length-map, reverse-append}
-use Rattle.std.proofs.lemmas.List.FromFn.{get_or-range_with_len}
 use Rattle.kd_tables.specs.Permutation.{alphabet, followed_by, inverse, shift, IsPermutation26}
-use Rattle.kd_tables.specs.Tables.{reflector_of}
-use Rattle.kd_tables.specs.declared.wheel.Wheel.{Wheel}
-use Rattle.kd_tables.specs.declared.reflector.Reflector.{Reflector}
-use Rattle.kd_enigma.specs.Rotor.{turned, rotor}
 use Rattle.kd_enigma.specs.Cipher.{RotorKey, IsPlugboard, rotors, product, path}
-use Rattle.kd_enigma.specs.Laws.{PathsLeadBack, PathsMoveEachLetter}
-use Rattle.kd_enigma.specs.Sound.{TablesAreSound, PermutationLaws}
 
 -- ---- letters
 

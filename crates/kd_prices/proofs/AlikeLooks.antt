@@ -1,11 +1,8 @@
 -- Things that stand or read alike have looks of one rank, and looks of one rank are of such things.
-use Rattle.std.specs.List.{IsDistinct}
-use Rattle.kd_state.specs.Setting.{has_letter}
+use Rattle.kd_prices.proofs.{AlikePrices.nothing_at, AlikePrices.same_at, Grouping.alike_priced, Meaning.kind_is}
+use Rattle.{kd_state.specs.Setting.has_letter, std.specs.List.IsDistinct}
 use Rattle.kd_prices.proofs.Prelude.{size_of, TestsTellLetters, nat_tests, unwrap_or, ◌≡◌, ◌⊎◌, ℕ, zero, suc, ◌<◌, ◌≤◌, false, eqb, inl, inr, List, [], ◌∷◌, length, get_or, Option, Some, None, MatchOption, slice_get, refl, sym, ap, ◌∙◌, subst, arith, ℤ, All, AllByRecursion, eqb-false, get_or-map, length-map, All-get_or, slice_get-get_or, One, in_order, letters_plugged, NoLetterTwice, Parts, Rotor, Pin, cable_letters, IsMachine, Day, OfRotors, OfPins, IsLegalDay, SameLetters, columns_of, ThirteenColumns, ColumnsAreThePairs, Look, Cable, Pair, Bar, Row, look_name, look_rank, AreEnds, IsInForm, PriceParts, ByNumber, version_of, row_kinds, column_kinds, row_prices, column_prices, how_many, price_at, ArePrices, group_of, price_count, row_name, column_name, row_looks, column_looks, pair_in_order, look_at, Expanded, RanksTellLooks, StandAlike, ReadAlike, AreOfOneModel, CanBeByKind, AreByKind, AreAlikePriced, AreThings, AreOfGroup, ◌↔◌, map}
-use Rattle.kd_prices.proofs.Grouping.{alike_priced}
-use Rattle.kd_prices.proofs.Meaning.{kind_is}
 use Rattle.kd_prices.proofs.Things.{pair_look, rows_are_things, groups_meet, columns_are_things}
-use Rattle.kd_prices.proofs.AlikePrices.{same_at, nothing_at}
 
 -- ---- cables with the same letters
 

@@ -6,8 +6,7 @@ use Rattle.kd_sheet.proofs.Prelude.{take, true, zero, ℕ, ◌++◌, ◌+◌, �
 use Rattle.kd_sheet.proofs.Prelude.{common_steps, append-nil, drop_more, drop_all, length-map, gets, none-some}
 use Rattle.kd_sheet.proofs.Prelude.{same_Some, slice_get_within, option_map_or, demand, each_at, in_turn, items_at}
 use Rattle.kd_sheet.proofs.Prelude.{items_in, up_to, ◌>>=◌, ◌>>◌, holds, SheetFault, Key, Data, Members, string, view}
-use Rattle.kd_sheet.proofs.Prelude.{Value}
-use Rattle.kd_sheet.proofs.Documents.{viewed_at}
+use Rattle.kd_sheet.proofs.{Documents.viewed_at, Prelude.Value}
 
 -- ---- on the way of a reading
 

@@ -14,11 +14,10 @@ use Rattle.kd_sheet.proofs.Prelude.{IsBefore, IsReading, in_order, place_rank, s
 use Rattle.kd_sheet.proofs.Prelude.{box_of, reflectors_of, slots_of, Model, M209, Place, Data, Members}
 use Rattle.kd_sheet.specs.declared.key.Key.TheVariants as keys
 use Rattle.kd_sheet.proofs.Bounds.{day_number_within, capitals_are_letters, rings_in_letters, letters_at_are}
-use Rattle.kd_sheet.proofs.CableLetters.{are_cables, are_pairs}
+use Rattle.kd_sheet.proofs.{CableLetters.are_cables, CableLetters.are_pairs, PinLetters.on_wheels}
+use Rattle.kd_sheet.proofs.Seating.{seats-sheet_wheels, seats_in_fill, wheels_have_letters}
 use Rattle.kd_sheet.proofs.InTurn.{Gives, after, after_any, done, given, tested, there_was, some_if, then_read, nothing}
 use Rattle.kd_sheet.proofs.InTurn.{as_many, read_at, each_is, each_read, some_read}
-use Rattle.kd_sheet.proofs.PinLetters.{on_wheels}
-use Rattle.kd_sheet.proofs.Seating.{seats_in_fill, seats-sheet_wheels, wheels_have_letters}
 
 -- ---- reflectors
 

@@ -17,15 +17,12 @@ use Rattle.kd_sheet.proofs.Prelude.{has_valid_dates, integer, items_depth, items
 use Rattle.kd_sheet.proofs.Prelude.{string, parse_document, skip_bom, along_dots, along_header, at_key, define}
 use Rattle.kd_sheet.proofs.Prelude.{Expression, close, key_value, no_nodes, IsItemsText, IsLinesText, IsValueText}
 use Rattle.kd_sheet.proofs.Prelude.{breaks_lines, items_of, encoding_of, escaped, key_text, needs_escape, quotes_after}
-use Rattle.kd_sheet.proofs.Prelude.{string_text}
+use Rattle.kd_sheet.proofs.{CableLetters.all_parts, Documents.document_parsed, InTurn.held, InTurn.passing}
+use Rattle.kd_sheet.proofs.{InTurn.then_read, Namings.model_by_name-text, PinLetters.letters_below}
+use Rattle.kd_sheet.proofs.{PinLetters.rings_below, Prelude.string_text}
 use Rattle.kd_sheet.specs.declared.key.Key.TheVariants as keys
-use Rattle.kd_sheet.proofs.CableLetters.{all_parts}
-use Rattle.kd_sheet.proofs.Documents.{document_parsed}
-use Rattle.kd_sheet.proofs.InTurn.{then_read, passing, held}
-use Rattle.kd_sheet.proofs.Namings.{model_by_name-text}
 use Rattle.kd_sheet.proofs.PartsBack.{texts, each_at_again, capitals_again, window_again, reflector_again, MayStand}
 use Rattle.kd_sheet.proofs.PartsBack.{seats_in_again, single_first, cables_again, pins_in_again, standing_again}
-use Rattle.kd_sheet.proofs.PinLetters.{rings_below, letters_below}
 
 -- ---- texts in double quotes
 

@@ -20,13 +20,11 @@ use Rattle.kd_sheet.proofs.Prelude.{letters_of, model_text, reflector_text, refl
 use Rattle.kd_sheet.proofs.Prelude.{wheels_for, is_capital, letters_text, Model, M209, Place, Reflector, Wheel, Data}
 use Rattle.kd_sheet.proofs.Prelude.{Members, array, integer, member, no_members, string, items_of}
 use Rattle.kd_sheet.specs.declared.key.Key.TheVariants as keys
-use Rattle.kd_sheet.proofs.CableLetters.{IsFree, AreFree, free_at}
-use Rattle.kd_sheet.proofs.Documents.{list_of-items_of}
+use Rattle.kd_sheet.proofs.CableLetters.{AreFree, IsFree, free_at}
+use Rattle.kd_sheet.proofs.{Documents.list_of-items_of, Legal.day_again, Namings.model_by_name-text}
+use Rattle.kd_sheet.proofs.{Namings.wheel_by_name-text, PinLetters.are_own, PinLetters.letters_below}
+use Rattle.kd_sheet.proofs.{PinLetters.pins_back, Seating.is_seated-Decides}
 use Rattle.kd_sheet.proofs.InTurn.{then_read, passing, again, held}
-use Rattle.kd_sheet.proofs.Legal.{day_again}
-use Rattle.kd_sheet.proofs.Namings.{model_by_name-text, wheel_by_name-text}
-use Rattle.kd_sheet.proofs.PinLetters.{are_own, letters_below, pins_back}
-use Rattle.kd_sheet.proofs.Seating.{is_seated-Decides}
 
 -- ---- arrays of texts
 

@@ -11,8 +11,7 @@ use Rattle.kd_state.proofs.Prelude.{All, AllByRecursion, is_none, option_map_or,
 use Rattle.kd_state.proofs.Prelude.{ap, arith, drop, false, filter_map, get_or, inl, inr, length, map, nat_eq, not}
 use Rattle.kd_state.proofs.Prelude.{refl, rules, set, slice_get, subst, suc, sym, true, zero, ℕ, ◌++◌, ◌+◌, ◌<◌, ◌↔◌}
 use Rattle.kd_state.proofs.Prelude.{◌∙◌, ◌∷◌, ◌≡◌, ◌≢◌, ◌⊎◌, IsDistinct, IsPermutation, ◌&&◌}
-use Rattle.std.proofs.Common.{Any}
-use Rattle.kd_state.proofs.CostTable.{tests_tell_letters}
+use Rattle.{kd_state.proofs.CostTable.tests_tell_letters, std.proofs.Common.Any}
 use Rattle.kd_enigma.specs.Plugs as plugs
 
 pub eqb_flips : (x y : ℕ) → nat_eq x y ≡ nat_eq y x

@@ -18,12 +18,11 @@ use Rattle.kd_state.proofs.Prelude.{option_and_then, option_map, option_map_or, 
 use Rattle.kd_state.proofs.Prelude.{ring_of, Bool, Contains, List, None, Option, Some, [], ap, arith, false, find, inl}
 use Rattle.kd_state.proofs.Prelude.{inr, length, map, nat_eq, refl, rules, set, slice_get, subst, suc, sym, true, zero}
 use Rattle.kd_state.proofs.Prelude.{ℕ, ◌+◌, ◌-◌, ◌<◌, ◌↔◌, ◌∙◌, ◌∷◌, ◌≡◌, ◌≢◌, ◌≤◌, ◌⊎◌, common_steps, IsDistinct}
-use Rattle.kd_state.proofs.Prelude.{IsPermutation}
+use Rattle.kd_state.proofs.{Prelude.IsPermutation, Slots.numbered_here, Slots.numbered_other, Slots.seated_in_box}
 use Rattle.std.proofs.lemmas.Map.Keys.{IsDistinct-IsPermutation, IsDistinct-head, IsDistinct-tail, IsDistinct-cons}
 use Rattle.kd_state.proofs.Cables.{all_ordered, all_ordered_move, all_ordered_again, ordered_again, without_ordered}
 use Rattle.kd_state.proofs.Cables.{without_moves, with_moves, set_moves, eqb_flips, free_tells, of_one}
 use Rattle.kd_state.proofs.Slots.{has_letter-Decides, place_there, only_place, stands, set_here, set_other}
-use Rattle.kd_state.proofs.Slots.{numbered_here, numbered_other, seated_in_box}
 use Rattle.kd_state.proofs.Wheels.{places_tell_wheels, has_wheel-Decides, has_reflector-Decides, same_wheel-Decides, same_wheel_self, same_wheel_differs, placed, place_within, place_nowhere}
 
 -- ---- reasons, and machines that differ in one thing

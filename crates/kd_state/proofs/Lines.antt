@@ -11,25 +11,18 @@ use Rattle.kd_state.proofs.Prelude.{recursion_from_All, AllPass-from_list_all, D
 use Rattle.kd_state.proofs.Prelude.{list_all, slice_split, Bool, List, MatchOption, None, Option, Some, [], ap, arith}
 use Rattle.kd_state.proofs.Prelude.{false, get_or, length, map, refl, rules, sym, true, ℕ, ◌++◌, ◌+◌, ◌<◌, ◌∙◌, ◌∷◌}
 use Rattle.kd_state.proofs.Prelude.{◌≡◌, ◌≢◌, ◌≤◌, common_steps, ParsesUnsigned}
-use Rattle.std.proofs.Common.{◌^◌, eqb, ltb}
+use Rattle.kd_state.specs.{Words.LettersAreWords, Words.letter_text, declared.setting.keyword.Keyword.Keyword}
+use Rattle.kd_state.specs.declared.setting.list.ListFault.TheVariants.{BadLine, TooMany}
+use Rattle.{kd_tables.specs.declared.reflector.Reflector.TheVariants.A, std.proofs.Common.eqb, std.proofs.Common.ltb}
+use Rattle.std.proofs.{Common.◌*◌, Common.◌^◌, lemmas.List.Concat.flat_map-append, lemmas.Str.IsUtf8-from_ascii}
+use Rattle.std.proofs.lemmas.Str.Parse.{IsNumeralModel, numerals_by_value, tells_by_index}
+use Rattle.std.specs.{Fmt.decimal, Result.result_ok, Str.IsUtf8, Str.Parse.digits_value}
 use Rattle.std.proofs.Common.{Bor, Result, Ok, MatchResult}
-use Rattle.std.proofs.Common.{◌*◌}
-use Rattle.std.specs.Result.{result_ok}
-use Rattle.std.specs.Str.{IsUtf8}
-use Rattle.std.specs.Str.Parse.{digits_value}
-use Rattle.std.proofs.lemmas.Str.{IsUtf8-from_ascii}
-use Rattle.std.specs.Fmt.{decimal}
 use Rattle.std.specs.Int.{IsInRange as IsFigure}
 use Rattle.std.proofs.lemmas.List.Splits.{length-slice_split, slice_split_none, slice_split_at, join_with_byte-slice_split}
-use Rattle.std.proofs.lemmas.Str.Parse.{IsNumeralModel, numerals_by_value, tells_by_index}
 use Rattle.kd_state.specs.Words.{words_of, line_of, IsWithout, IsWord, IsFirstPart, LinesTellWords, LinesSplitIntoWords}
 use Rattle.kd_state.specs.Words.{PartsMakeLines, WordsMakeOneLine, TextsTellFirstParts, NumbersAreWords}
-use Rattle.kd_state.specs.Words.{LettersAreWords, letter_text}
-use Rattle.kd_tables.specs.declared.reflector.Reflector.TheVariants.{A}
-use Rattle.kd_state.specs.declared.setting.keyword.Keyword.{Keyword}
 use Rattle.kd_state.proofs.Wheels.{named, told, one_wheel, one_reflector}
-use Rattle.std.proofs.lemmas.List.Concat.{flat_map-append}
-use Rattle.kd_state.specs.declared.setting.list.ListFault.TheVariants.{BadLine, TooMany}
 use Rattle.kd_state.specs.declared.setting.keyword.Keyword.TheVariants as keywords
 
 -- ---- the part before a byte

@@ -1,12 +1,10 @@
 -- Products, inverses and shifts of permutations, letter by letter.
 use Rattle.std.proofs.Common.{◌≡◌, ◌↔◌, ℕ, ◌+◌, ◌-◌, ◌<◌, ◌≤◌, ◌%◌, ◌==◌, List, length, slice_index, refl, sym, ap, ◌∙◌, arith}
+use Rattle.{kd_tables.proofs.Wirings.at_place, kd_tables.proofs.Wirings.place_within, std.proofs.lemmas.Bool.eq-eqb}
+use Rattle.std.proofs.lemmas.{Bool.ne_eqb, List.Sums.position_or_len_is, List.get_or-map, List.length-map}
 use Rattle.std.specs.List.{position_or_len}
-use Rattle.std.proofs.lemmas.List.{get_or-map, length-map}
-use Rattle.std.proofs.lemmas.Bool.{eq-eqb, ne_eqb}
-use Rattle.std.proofs.lemmas.List.Sums.{position_or_len_is}
 use Rattle.std.proofs.lemmas.List.FromFn.{fill_by_all, get_or-map-range_with_len, length-map-range_with_len}
 use Rattle.kd_tables.specs.Permutation.{alphabet, followed_by, inverse, shift, IsPermutation26}
-use Rattle.kd_tables.proofs.Wirings.{place_within, at_place}
 
 -- what stands at a letter of a product, of an inverse and of a shift
 pub followed_by-at : (p q : List ℕ) (x : ℕ) → x < length p → slice_index (followed_by p q) x ≡ slice_index q (slice_index p x)

@@ -1,9 +1,7 @@
 -- Texts that are taken one part after another.
 use Rattle.std.proofs.Common.{◌≡◌, ℕ, ◌+◌, ◌-◌, Bool, false, ◌||◌, List, length, take, drop, Option, arith}
+use Rattle.std.proofs.{KnownBytes.Appends-trans, Math.Seq.take-add, lemmas.List.take_rest}
 use Rattle.std.specs.Io.KnownBytes.{Appends}
-use Rattle.std.proofs.KnownBytes.{Appends-trans}
-use Rattle.std.proofs.Math.Seq.{take-add}
-use Rattle.std.proofs.lemmas.List.{take_rest}
 
 -- a put that succeeds leaves whether one has failed
 pub still_failed : (now before first : Bool) → now ≡ (before || false) → before ≡ first → now ≡ first

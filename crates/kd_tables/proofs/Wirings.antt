@@ -2,21 +2,15 @@
 use Rattle.std.proofs.Common.{◌≡◌, ◌≢◌, ℕ, ◌<◌, ◌≤◌, ◌==◌, nat_eq, true, false, not, ◌&&◌, ◌⊎◌, inl, inr, List, ◌∷◌, length, slice_index, get_or, eqb, All, refl, sym, subst, ◌∙◌, arith}
 use Rattle.std.specs.List.{position_or_len, IsDistinct, Any, list_any}
 use Rattle.std.proofs.lemmas.Bool.{and_parts, not-true, ltb-true, eqb-true, eqb-false, ne_eqb, cases_lt, cases_order}
-use Rattle.std.proofs.lemmas.Cmp.{nat_eq_equiv}
-use Rattle.std.proofs.lemmas.Map.Made.{IsDistinct-from_count}
-use Rattle.std.proofs.lemmas.Map.Keys.{apart_from_distinct, IsDistinct-from_apart, IsDistinct-cons}
-use Rattle.std.proofs.lemmas.Map.Steps.{length-le_from_distinct_below}
-use Rattle.std.proofs.lemmas.List.Sums.{AllPass-from_list_all, fails_before_first, passes_at_first}
-use Rattle.std.proofs.lemmas.List.Folds.{Any-from_list_any}
-use Rattle.std.proofs.lemmas.List.{get_or_default}
+use Rattle.kd_tables.specs.{Rings.IsRing, Tables.letters_of, Tables.reflector_of, Tables.wiring_of}
+use Rattle.kd_tables.specs.declared.{reflector.Reflector.Reflector, wheel.Wheel.TheVariants.I, wheel.Wheel.Wheel}
+use Rattle.std.proofs.lemmas.{Cmp.nat_eq_equiv, List.Folds.Any-from_list_any, List.Sums.AllPass-from_list_all}
+use Rattle.std.proofs.lemmas.List.{Sums.fails_before_first, Sums.passes_at_first, get_or_default}
+use Rattle.std.proofs.lemmas.Map.Keys.{IsDistinct-cons, IsDistinct-from_apart, apart_from_distinct}
+use Rattle.std.proofs.lemmas.Map.{Made.IsDistinct-from_count, Steps.length-le_from_distinct_below}
 use Rattle.std.proofs.lemmas.List.Elements.{All-weaker, All-get_or, All-cons, All-from_get_or, recursion_from_All}
 use Rattle.kd_tables.specs.Permutation.{alphabet, IsPermutation26, IsOwnInverse, MovesEachLetter}
-use Rattle.kd_tables.specs.Tables.{letters_of, wiring_of, reflector_of}
-use Rattle.kd_tables.specs.Rings.{IsRing}
 use Rattle.kd_tables.specs.WiringText.{are_capitals, are_distinct_letters, is_permutation, is_wiring_text, is_ring_text, is_reflection}
-use Rattle.kd_tables.specs.declared.wheel.Wheel.{Wheel}
-use Rattle.kd_tables.specs.declared.wheel.Wheel.TheVariants.{I}
-use Rattle.kd_tables.specs.declared.reflector.Reflector.{Reflector}
 use Rattle.kd_tables.specs.declared.reflector.Reflector.TheVariants as reflectors
 
 by_order : (p : List ℕ) (j k : ℕ) → IsDistinct nat_eq p → j < length p → k < length p → slice_index p j ≡ slice_index p k

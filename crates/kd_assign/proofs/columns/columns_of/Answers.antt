@@ -1,6 +1,4 @@
-use Rattle.std.proofs.Common.{arith}
-use Rattle.kd_assign.proofs.Whole.{one_to_one}
-use Rattle.kd_assign.proofs.Places.{within}
+use Rattle.{kd_assign.proofs.Places.within, kd_assign.proofs.Whole.one_to_one, std.proofs.Common.arith}
 use Rattle.kd_assign.proofs.columns.columns_of.Goals as goal
 
 pub returns-clause-columns : goal.returns-clause-columns

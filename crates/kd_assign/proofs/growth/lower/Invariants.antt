@@ -1,6 +1,5 @@
 use Rattle.std.proofs.Common.{◌≡◌, ℕ, ◌<◌, ◌≤◌, length, ◌-ℤ◌}
-use Rattle.std.specs.Int.{int_min}
-use Rattle.kd_assign.proofs.Prelude.{price_at}
+use Rattle.{kd_assign.proofs.Prelude.price_at, std.specs.Int.int_min}
 use Rattle.kd_assign.proofs.growth.lower.Given as goal
 
 abbrev pub invariant-loop-column : goal.invariant-loop-column

@@ -1,5 +1,4 @@
-use Rattle.std.proofs.Common.{arith}
-use Rattle.kd_assign.proofs.Counting.{scans_of_all}
+use Rattle.{kd_assign.proofs.Counting.scans_of_all, std.proofs.Common.arith}
 use Rattle.kd_assign.proofs.Whole.{columns_at_most, fits, is_least, rows_at_most}
 use Rattle.kd_assign.proofs.solution.assign.Goals as goal
 

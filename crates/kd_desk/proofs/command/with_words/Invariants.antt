@@ -1,5 +1,4 @@
-use Rattle.kd_desk.proofs.Prelude.{take}
-use Rattle.kd_desk.specs.CommandLine.{IsMadeOf}
+use Rattle.kd_desk.{proofs.Prelude.take, specs.CommandLine.IsMadeOf}
 use Rattle.kd_desk.proofs.command.with_words.Given as goal
 
 abbrev pub invariant-loop-word_name : goal.invariant-loop-word_name

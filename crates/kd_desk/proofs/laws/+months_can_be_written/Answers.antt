@@ -1,7 +1,5 @@
-use Rattle.kd_desk.proofs.Prelude.{subst, sym, arith}
-use Rattle.kd_state.specs.Machine.{model_of}
-use Rattle.kd_desk.specs.Month.{HasPapersInTurn}
-use Rattle.kd_desk.proofs.Months.{papers_on, days_on}
+use Rattle.kd_desk.proofs.{Months.days_on, Months.papers_on, Prelude.arith, Prelude.subst, Prelude.sym}
+use Rattle.{kd_desk.specs.Month.HasPapersInTurn, kd_state.specs.Machine.model_of}
 use Rattle.kd_desk.proofs.laws.+months_can_be_written.Goals as goal
 
 pub months_can_be_written-requires : goal.months_can_be_written-requires

@@ -1,6 +1,4 @@
-use Rattle.kd_desk.proofs.Prelude.{refl}
-use Rattle.kd_desk.proofs.Failing.{sink_fails}
-use Rattle.kd_desk.proofs.Runs.{nothing_left}
+use Rattle.kd_desk.proofs.{Failing.sink_fails, Prelude.refl, Runs.nothing_left}
 use Rattle.kd_desk.proofs.program.carry_out.Goals as goal
 
 pub returns-in-Type-clause-does : goal.returns-in-Type-clause-does

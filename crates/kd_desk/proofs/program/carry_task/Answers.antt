@@ -1,5 +1,4 @@
-use Rattle.kd_desk.proofs.Prelude.{opened}
-use Rattle.kd_desk.proofs.Runs.{nothing_left}
+use Rattle.kd_desk.proofs.{Prelude.opened, Runs.nothing_left}
 use Rattle.kd_desk.proofs.program.carry_task.Goals as goal
 
 pub returns-in-Card-clause-does : goal.returns-in-Card-clause-does

@@ -1,5 +1,4 @@
-use Rattle.kd_desk.proofs.Prelude.{arith}
-use Rattle.kd_desk.proofs.Runs.{asks_on, asks_no_more}
+use Rattle.kd_desk.proofs.{Prelude.arith, Runs.asks_no_more, Runs.asks_on}
 use Rattle.kd_desk.proofs.program.read_files.Goals as goal
 
 pub returns-in_err-action-clause-asked : goal.returns-in_err-action-clause-asked

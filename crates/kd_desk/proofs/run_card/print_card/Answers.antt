@@ -1,6 +1,4 @@
-use Rattle.kd_desk.proofs.Failing.{in_part, in_whole}
-use Rattle.kd_desk.proofs.Prelude.{rules}
-use Rattle.kd_desk.proofs.Printing.{printed}
+use Rattle.kd_desk.proofs.{Failing.in_part, Failing.in_whole, Prelude.rules, Printing.printed}
 use Rattle.kd_desk.proofs.run_card.print_card.Goals as goal
 
 pub returns-in_err-write_card-clause-prints : goal.returns-in_err-write_card-clause-prints

@@ -1,6 +1,5 @@
 use Rattle.kd_desk.proofs.Prelude.{refl, rules, NoCard, Other, Doubtful, ◌≡◌}
-use Rattle.kd_desk.proofs.Checking.{told}
-use Rattle.kd_desk.proofs.Failing.{err_is, in_part, in_whole}
+use Rattle.kd_desk.proofs.{Checking.told, Failing.err_is, Failing.in_part, Failing.in_whole}
 use Rattle.kd_desk.proofs.run_check.check_card.Goals as goal
 
 pub returns-in_err-dated-clause-checks : goal.returns-in_err-dated-clause-checks

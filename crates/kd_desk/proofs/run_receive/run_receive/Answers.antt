@@ -1,6 +1,4 @@
-use Rattle.kd_desk.proofs.Days.{not_found, on_day}
-use Rattle.kd_desk.proofs.Receiving.{tell_of_orders}
-use Rattle.kd_desk.proofs.Streaming.{off_key, fails}
+use Rattle.kd_desk.proofs.{Days.not_found, Days.on_day, Receiving.tell_of_orders, Streaming.fails, Streaming.off_key}
 use Rattle.kd_desk.proofs.run_receive.run_receive.Goals as goal
 
 pub returns-in_err-machine-clause-receives : goal.returns-in_err-machine-clause-receives

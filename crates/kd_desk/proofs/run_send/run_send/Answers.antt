@@ -1,5 +1,4 @@
-use Rattle.kd_desk.proofs.Days.{not_found, on_day}
-use Rattle.kd_desk.proofs.Streaming.{off_key, fails}
+use Rattle.kd_desk.proofs.{Days.not_found, Days.on_day, Streaming.fails, Streaming.off_key}
 use Rattle.kd_desk.proofs.run_send.run_send.Goals as goal
 
 pub returns-in_err-machine-clause-sends : goal.returns-in_err-machine-clause-sends

@@ -1,6 +1,4 @@
-use Rattle.std.proofs.Common.{arith, rules}
-use Rattle.std.proofs.lemmas.Bool.{cases_eq}
-use Rattle.std.proofs.lemmas.Grind.{common_steps}
+use Rattle.std.proofs.{Common.arith, Common.rules, lemmas.Bool.cases_eq, lemmas.Grind.common_steps}
 use Rattle.kd_drum.proofs.counts.counts.Goals as goal
 
 pub loop-wheels-preserved : goal.loop-wheels-preserved

@@ -1,5 +1,4 @@
-use Rattle.std.proofs.Common.{◌≡◌, take}
-use Rattle.kd_drum.specs.Counts.{met_by}
+use Rattle.{kd_drum.specs.Counts.met_by, std.proofs.Common.take, std.proofs.Common.◌≡◌}
 use Rattle.kd_drum.proofs.counts.met_by.Given as goal
 
 abbrev pub invariant-loop-row : goal.invariant-loop-row

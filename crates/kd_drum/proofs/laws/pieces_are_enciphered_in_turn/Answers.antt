@@ -1,5 +1,4 @@
-use Rattle.kd_drum.proofs.Ciphers.{cipher-append}
-use Rattle.kd_drum.proofs.Starts.{key_after_sum}
+use Rattle.kd_drum.proofs.{Ciphers.cipher-append, Starts.key_after_sum}
 use Rattle.kd_drum.proofs.laws.pieces_are_enciphered_in_turn.Goals as goal
 
 pub returns-clause-cipher : goal.returns-clause-cipher

@@ -1,5 +1,4 @@
-use Rattle.std.proofs.Common.{◌≡◌, take}
-use Rattle.kd_enigma.specs.Around.{around}
+use Rattle.{kd_enigma.specs.Around.around, std.proofs.Common.take, std.proofs.Common.◌≡◌}
 use Rattle.kd_enigma.proofs.enigma.around_slow.Given as goal
 
 abbrev pub invariant-loop-slot : goal.invariant-loop-slot

@@ -1,5 +1,4 @@
-use Rattle.std.proofs.Common.{arith}
-use Rattle.std.proofs.lemmas.List.FromFn.{fill_by_all}
+use Rattle.std.proofs.{Common.arith, lemmas.List.FromFn.fill_by_all}
 use Rattle.kd_enigma.proofs.plugs.unplugged.Goals as goal
 
 pub returns : goal.returns

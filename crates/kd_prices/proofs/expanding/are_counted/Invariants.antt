@@ -1,5 +1,4 @@
-use Rattle.std.specs.List.{AllWithin}
-use Rattle.kd_prices.proofs.Prelude.{HasCount}
+use Rattle.{kd_prices.proofs.Prelude.HasCount, std.specs.List.AllWithin}
 use Rattle.kd_prices.proofs.expanding.are_counted.Given as goal
 
 abbrev pub invariant-loop-kind : goal.invariant-loop-kind

@@ -1,6 +1,5 @@
 use Rattle.kd_prices.proofs.Prelude.{◌≡◌, sym, subst, ArePrices, Expands, group_of}
-use Rattle.kd_card.specs.CardFault.{numbered}
-use Rattle.kd_prices.proofs.Meaning.{expands_kinds}
+use Rattle.{kd_card.specs.CardFault.numbered, kd_prices.proofs.Meaning.expands_kinds}
 use Rattle.kd_prices.proofs.expanding.expanded_kinds.Goals as goal
 
 pub returns : goal.returns

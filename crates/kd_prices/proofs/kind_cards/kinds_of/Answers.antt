@@ -1,6 +1,5 @@
 use Rattle.kd_prices.proofs.Prelude.{◌∙◌, sym, subst, false≢true, Decides-int_eq, AreExpanded, arith}
-use Rattle.std.proofs.lemmas.Slice.Eq.{slice_eq-Decides}
-use Rattle.kd_prices.proofs.Meaning.{same_expansion}
+use Rattle.{kd_prices.proofs.Meaning.same_expansion, std.proofs.lemmas.Slice.Eq.slice_eq-Decides}
 use Rattle.kd_prices.proofs.kind_cards.kinds_of.Goals as goal
 
 pub returns-then-eq : goal.returns-then-eq

@@ -1,5 +1,4 @@
-use Rattle.kd_prices.proofs.Prelude.{sym, ◌∙◌}
-use Rattle.kd_prices.proofs.AlikeLooks.{by_kind_told}
+use Rattle.kd_prices.proofs.{AlikeLooks.by_kind_told, Prelude.sym, Prelude.◌∙◌}
 use Rattle.kd_prices.proofs.kind_cards.prices_by_kind.Goals as goal
 
 pub returns-in-ByNumber : goal.returns-in-ByNumber

@@ -1,5 +1,4 @@
-use Rattle.kd_prices.proofs.Prelude.{sym, arith}
-use Rattle.kd_prices.proofs.Leading.{walks_on}
+use Rattle.kd_prices.proofs.{Leading.walks_on, Prelude.arith, Prelude.sym}
 use Rattle.kd_prices.proofs.walking.walked.Goals as goal
 
 pub loop-place-preserved : goal.loop-place-preserved

@@ -1,5 +1,4 @@
-use Rattle.kd_sheet.proofs.Prelude.{rules, same_from_decides}
-use Rattle.kd_sheet.proofs.Seating.{is_seated-Decides}
+use Rattle.kd_sheet.proofs.{Prelude.rules, Prelude.same_from_decides, Seating.is_seated-Decides}
 use Rattle.kd_sheet.proofs.seats.is_seated.Goals as goal
 
 pub returns : goal.returns

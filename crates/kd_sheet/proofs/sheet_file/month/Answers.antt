@@ -1,5 +1,4 @@
-use Rattle.kd_sheet.proofs.Prelude.{rules, ◌∙◌, day_for}
-use Rattle.kd_sheet.proofs.InTurn.{read_stops}
+use Rattle.kd_sheet.proofs.{InTurn.read_stops, Prelude.day_for, Prelude.rules, Prelude.◌∙◌}
 use Rattle.kd_sheet.proofs.sheet_file.month.Goals as goal
 
 pub returns-in_err-day : goal.returns-in_err-day

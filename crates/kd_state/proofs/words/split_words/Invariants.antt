@@ -1,5 +1,4 @@
-use Rattle.kd_state.proofs.Prelude.{length, map}
-use Rattle.kd_state.proofs.Lines.{AreTaken}
+use Rattle.kd_state.proofs.{Lines.AreTaken, Prelude.length, Prelude.map}
 use Rattle.kd_state.proofs.words.split_words.Given as goal
 
 abbrev pub invariant-loop-word : goal.invariant-loop-word

@@ -1,6 +1,5 @@
+use Rattle.kd_step.{proofs.Steps.chain_ends, proofs.Steps.chain_leads, specs.Stepper.LeadsInSteps}
 use Rattle.std.proofs.Common.{subst, sym}
-use Rattle.kd_step.specs.Stepper.{LeadsInSteps}
-use Rattle.kd_step.proofs.Steps.{chain_ends, chain_leads}
 use Rattle.kd_step.proofs.laws.chains_end_in_window_after.Goals as goal
 
 pub returns : goal.returns

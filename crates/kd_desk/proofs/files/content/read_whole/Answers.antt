@@ -1,6 +1,5 @@
+use Rattle.kd_desk.proofs.{Failing.answered, Failing.well_now, Prelude.IsReadWhole, Prelude.port}
 use Rattle.std.proofs.KnownBytes.{Consumes-trans}
-use Rattle.kd_desk.proofs.Prelude.{port, IsReadWhole}
-use Rattle.kd_desk.proofs.Failing.{answered, well_now}
 use Rattle.kd_desk.proofs.files.content.read_whole.Goals as goal
 
 pub returns-in_err-extend_from_slice-in-Ok : goal.returns-in_err-extend_from_slice-in-Ok

@@ -1,11 +1,7 @@
 use Rattle.std.proofs.Common.{◌≡◌, ◌+◌, ◌%◌, ℕ, subst, ◌∙◌, refl}
-use Rattle.kd_pins.specs.PinWheel.{is_effective}
-use Rattle.kd_pins.specs.PinWheels.{pins_on, offset_of, size_of}
-use Rattle.kd_drum.specs.Converter.{PinKey, acts_after, start_on}
-use Rattle.kd_drum.specs.Counts.{is_in}
-use Rattle.kd_drum.specs.Standing.{key_of}
-use Rattle.kd_drum.proofs.Sets.{set_of, in_set_of}
-use Rattle.kd_drum.proofs.Starts.{acts_now}
+use Rattle.kd_drum.{proofs.Sets.in_set_of, proofs.Sets.set_of, proofs.Starts.acts_now, specs.Converter.PinKey}
+use Rattle.kd_drum.specs.{Converter.acts_after, Converter.start_on, Counts.is_in, Standing.key_of}
+use Rattle.kd_pins.specs.{PinWheel.is_effective, PinWheels.offset_of, PinWheels.pins_on, PinWheels.size_of}
 use Rattle.kd_drum.proofs.converter.Converter.acting.Goals as goal
 
 pub returns-clause-each : goal.returns-clause-each

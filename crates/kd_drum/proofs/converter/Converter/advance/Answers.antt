@@ -1,6 +1,5 @@
-use Rattle.std.proofs.Common.{refl, ap, ◌∙◌}
-use Rattle.kd_drum.specs.Converter.{PinKey, pin_key_after}
-use Rattle.kd_drum.proofs.Starts.{key_moved}
+use Rattle.kd_drum.{proofs.Starts.key_moved, specs.Converter.PinKey, specs.Converter.pin_key_after}
+use Rattle.std.proofs.Common.{ap, refl, ◌∙◌}
 use Rattle.kd_drum.proofs.converter.Converter.advance.Goals as goal
 
 pub returns : goal.returns

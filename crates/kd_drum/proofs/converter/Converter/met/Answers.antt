@@ -1,7 +1,5 @@
-use Rattle.std.proofs.Common.{arith}
+use Rattle.{kd_drum.proofs.Starts.count_alike, kd_drum.specs.Counts.met_by, std.proofs.Common.arith}
 use Rattle.std.proofs.lemmas.List.Sums.{count_by-le-length}
-use Rattle.kd_drum.specs.Counts.{met_by}
-use Rattle.kd_drum.proofs.Starts.{count_alike}
 use Rattle.kd_drum.proofs.converter.Converter.met.Goals as goal
 
 pub returns-clause-value : goal.returns-clause-value

@@ -1,6 +1,5 @@
-use Rattle.std.proofs.Common.{◌≡◌, sym, subst}
-use Rattle.kd_drum.specs.Converter.{PinKey, pin_key_after}
-use Rattle.kd_drum.proofs.Starts.{key_stands}
+use Rattle.kd_drum.{proofs.Starts.key_stands, specs.Converter.PinKey, specs.Converter.pin_key_after}
+use Rattle.std.proofs.Common.{subst, sym, ◌≡◌}
 use Rattle.kd_drum.proofs.converter.Converter.stands.Goals as goal
 
 pub returns-clause-now : goal.returns-clause-now

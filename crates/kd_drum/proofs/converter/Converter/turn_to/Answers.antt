@@ -1,7 +1,6 @@
 use Rattle.std.proofs.Common.{◌-◌, Contains, slice_index, refl, arith, rules}
+use Rattle.kd_drum.proofs.{Letters.on_wheel, Letters.read_on_wheel, Letters.refused, Starts.each_wheel}
 use Rattle.kd_tables.specs.Rings.{ring_of}
-use Rattle.kd_drum.proofs.Letters.{on_wheel, read_on_wheel, refused}
-use Rattle.kd_drum.proofs.Starts.{each_wheel}
 use Rattle.kd_drum.proofs.converter.Converter.turn_to.Goals as goal
 
 pub returns-in_err-w4-clause-ok : goal.returns-in_err-w4-clause-ok

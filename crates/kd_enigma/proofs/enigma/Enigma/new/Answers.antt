@@ -1,8 +1,5 @@
-use Rattle.std.proofs.Common.{refl, rules, arith}
-use Rattle.kd_enigma.specs.Wired.{key_in}
-use Rattle.kd_enigma.proofs.Made.{each_made}
-use Rattle.kd_enigma.proofs.Seats.{SitsAt, are_seats, wired}
-use Rattle.kd_enigma.proofs.Ways.{no_shift}
+use Rattle.kd_enigma.proofs.{Made.each_made, Seats.SitsAt, Seats.are_seats, Seats.wired, Ways.no_shift}
+use Rattle.{kd_enigma.specs.Wired.key_in, std.proofs.Common.arith, std.proofs.Common.refl, std.proofs.Common.rules}
 use Rattle.kd_enigma.proofs.enigma.Enigma.new.Goals as goal
 
 pub invariant_of-result : goal.invariant_of-result

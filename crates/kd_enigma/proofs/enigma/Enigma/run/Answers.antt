@@ -1,6 +1,5 @@
-use Rattle.std.proofs.Common.{◌∙◌, ap, arith}
-use Rattle.kd_enigma.specs.Cipher.{key_after}
-use Rattle.kd_enigma.proofs.Ciphers.{key_in_turn, one_more}
+use Rattle.kd_enigma.{proofs.Ciphers.key_in_turn, proofs.Ciphers.one_more, specs.Cipher.key_after}
+use Rattle.std.proofs.Common.{ap, arith, ◌∙◌}
 use Rattle.kd_enigma.proofs.enigma.Enigma.run.Goals as goal
 
 pub loop-letter-preserved : goal.loop-letter-preserved

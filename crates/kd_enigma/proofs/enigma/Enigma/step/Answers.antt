@@ -1,9 +1,7 @@
-use Rattle.std.proofs.Common.{◌≡◌, arith, rules}
-use Rattle.kd_enigma.specs.Around.{around}
-use Rattle.kd_enigma.specs.Wired.{key_in, slow}
-use Rattle.kd_enigma.proofs.Seats.{wired}
+use Rattle.kd_enigma.proofs.{Seats.wired, enigma.Enigma.step.Goals.else-stands-stood}
+use Rattle.kd_enigma.{proofs.enigma.Enigma.step.Goals.then-stands-stood, specs.Around.around, specs.Wired.key_in}
+use Rattle.{kd_enigma.specs.Wired.slow, std.proofs.Common.arith, std.proofs.Common.rules, std.proofs.Common.◌≡◌}
 use Rattle.kd_enigma.proofs.enigma.Enigma.step.Goals as goal
-use Rattle.kd_enigma.proofs.enigma.Enigma.step.Goals.{then-stands-stood, else-stands-stood}
 
 pub invariant_of-self : goal.invariant_of-self
 invariant_of-self g c =

@@ -1,6 +1,5 @@
-use Rattle.std.proofs.Common.{rules, arith}
-use Rattle.kd_enigma.specs.Wired.{key_in}
-use Rattle.kd_enigma.proofs.Seats.{wired}
+use Rattle.{kd_enigma.proofs.Seats.wired, kd_enigma.specs.Wired.key_in, std.proofs.Common.arith}
+use Rattle.std.proofs.Common.{rules}
 use Rattle.kd_enigma.proofs.enigma.Enigma.turn_to.Goals as goal
 
 pub invariant_of-self : goal.invariant_of-self

@@ -1,9 +1,6 @@
-use Rattle.std.proofs.Common.{◌≡◌, refl}
-use Rattle.std.proofs.lemmas.Bool.{false≢true}
-use Rattle.std.proofs.lemmas.Result.{err_from_is_err_and}
-use Rattle.kd_tables.specs.Permutation.{exchange}
-use Rattle.kd_enigma.specs.Cipher.{IsPlugboard}
-use Rattle.kd_enigma.specs.Plugs.{NoLetterTwice}
+use Rattle.kd_enigma.specs.{Cipher.IsPlugboard, Plugs.NoLetterTwice}
+use Rattle.{kd_tables.specs.Permutation.exchange, std.proofs.Common.refl, std.proofs.Common.◌≡◌}
+use Rattle.std.proofs.lemmas.{Bool.false≢true, Result.err_from_is_err_and}
 use Rattle.kd_enigma.proofs.Cables.{is_plugged_none, plugged_more, can_plug, plugged_all}
 use Rattle.kd_enigma.proofs.plugs.Plugs.from_pairs.Goals as goal
 

@@ -1,5 +1,4 @@
-use Rattle.std.proofs.Common.{take}
-use Rattle.kd_enigma.proofs.Cables.{IsPlugged}
+use Rattle.{kd_enigma.proofs.Cables.IsPlugged, std.proofs.Common.take}
 use Rattle.kd_enigma.proofs.plugs.Plugs.from_pairs.Given as goal
 
 abbrev pub invariant-loop-one : goal.invariant-loop-one

@@ -1,7 +1,5 @@
-use Rattle.std.proofs.Common.{arith}
-use Rattle.kd_tables.specs.Permutation.{followed_by, inverse}
-use Rattle.kd_enigma.specs.Rotor.{rotor}
-use Rattle.kd_enigma.proofs.Maps.{read_at}
+use Rattle.{kd_enigma.proofs.Maps.read_at, kd_enigma.specs.Rotor.rotor, kd_tables.specs.Permutation.followed_by}
+use Rattle.{kd_tables.specs.Permutation.inverse, std.proofs.Common.arith}
 use Rattle.kd_enigma.proofs.rotor.Rotor.enclosing.Goals as goal
 
 pub returns : goal.returns

@@ -1,6 +1,5 @@
 use Rattle.kd_state.proofs.Prelude.{drop, ◌++◌, ◌≡◌, ◌≤◌}
-use Rattle.arrayvec.specs.ArrayVec.{array_vec_len}
-use Rattle.kd_state.proofs.Cables.{pairs_of}
+use Rattle.{arrayvec.specs.ArrayVec.array_vec_len, kd_state.proofs.Cables.pairs_of}
 use Rattle.kd_state.proofs.engine.ready.plugged_pairs.Given as goal
 
 -- the pairs so far, and those of the other cables

@@ -1,5 +1,4 @@
-use Rattle.kd_state.proofs.Prelude.{refl, sym}
-use Rattle.kd_state.proofs.Seating.{of_seated}
+use Rattle.kd_state.proofs.{Prelude.refl, Prelude.sym, Seating.of_seated}
 use Rattle.kd_state.proofs.engine.ready.rotor_engine.Goals as goal
 
 pub returns-clause-ready : goal.returns-clause-ready

@@ -1,7 +1,6 @@
 use Rattle.kd_state.proofs.Prelude.{Decides-and, Decides-like, ranks_by, Decides, nat_cmp_total, on_total, then_total}
 use Rattle.kd_state.proofs.Prelude.{Bool, arith, false, nat_eq, ℕ, ◌≡◌, is_lt, nat_cmp, ◌&&◌}
-use Rattle.std.specs.Ordering.{ordering_then}
-use Rattle.kd_state.proofs.SortedAlike.{sorted_tell}
+use Rattle.{kd_state.proofs.SortedAlike.sorted_tell, std.specs.Ordering.ordering_then}
 use Rattle.kd_state.proofs.machine.on_key.are_the_same.Goals as goal
 
 -- a reading comes before another in the order of readings

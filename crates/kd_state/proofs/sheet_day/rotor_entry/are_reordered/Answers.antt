@@ -1,6 +1,5 @@
 use Rattle.kd_state.proofs.Prelude.{Decides-eqb, nat_tests, ranks_by, nat_cmp_total, Bool, arith, false, nat_eq, ℕ, ◌≡◌}
-use Rattle.kd_state.proofs.Prelude.{is_lt, nat_cmp}
-use Rattle.kd_state.proofs.SortedAlike.{sorted_tell}
+use Rattle.kd_state.proofs.{Prelude.is_lt, Prelude.nat_cmp, SortedAlike.sorted_tell}
 use Rattle.kd_state.proofs.sheet_day.rotor_entry.are_reordered.Goals as goal
 
 -- a letter comes before another in the alphabet
