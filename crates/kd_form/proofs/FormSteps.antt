@@ -178,7 +178,8 @@ module _ (s : Day) (r : FormReader) (form text : List ℕ) (h : HoldsForm s r fo
       let (letters, reads, is) = ends_so IsHere [] [] (inl ((refl, refl), refl)) refl in
       (reads_meet s IsHere (StandsAt s fault) ⊥
       (λ p part parts count one more held is due rest. let none : parts ≡ [] = cc in (rw none at rest).0)
-      (λ p part parts count one more stands is due rest. read_or_refused s (stands_at s fault p (part ∷ parts) stands).1 is due)
+      (λ p part parts count one more stands is due rest.
+      read_or_refused s (stands_at s fault p (part ∷ parts) stands).1 is due)
       (never_refused fault) at_first (parts_of form) letters others reads stands).1
 
   pub held : Held (form_message s) (HoldsForm s r) form text

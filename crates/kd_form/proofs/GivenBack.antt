@@ -211,7 +211,8 @@ forms_give_their_orders decipher s order form given legal is due =
     parts_are_given_back s 1 (length is.keys) is.keys (pieces (part_size s) letters) form decipher legal
     (all_of_the_day _ s is.keys is.head order_is.is_head.lines) is.sendable.suited
     (are_pieces s letters (letters_within (blank_of s) is.text (grind arith))) (omega arith) (omega arith) order_is.is_head.few is.made in
-    let some : back.texts ≢ [] = grind (arith, common_steps, more_pieces, size_some, is.some, back.counted, is.counted) in
+    let some : back.texts ≢ [] =
+    grind (arith, common_steps, more_pieces, size_some, is.some, back.counted, is.counted) in
     let read = back.read None 0 tt (λ none. absurd (some none)) in
     record {
       letters = sent;

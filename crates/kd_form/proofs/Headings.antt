@@ -195,7 +195,7 @@ stays (b ∷ front) rest more byte allowed bad none =
     elim (cut_or_not b (body ++ more)) [
       | inl (break, begun) ↦
           let few : length body < 6 = grind (arith, cases_lt (length body) 6, begins_front body more, is.0 break) in
-          absurd (no_bad_byte body (length front) (few_allowed body more few begun) (bad_behind front rest byte good bad))
+          absurd (no_bad_byte body _ (few_allowed body more few begun) (bad_behind front rest byte good bad))
       | inr not ↦
           let (other, same) = stays front rest more byte good bad is.1 in
           (other, rw (no_cut b (body ++ more) not, same) refl)
@@ -327,7 +327,12 @@ letters_word letters some = grind (arith, common_steps, word_by_bytes, lower, le
 fraction_word : (part parts : ℕ) → part < 2 ^ 64 → parts < 2 ^ 64 → IsWord (fraction part parts)
 fraction_word part parts small few =
     word_by_bytes (fraction part parts)
-    (λ none. omega (arith, ap length none, length-append (decimal part ++ codes "/") (decimal parts), length-append (decimal part) (codes "/")))
+    (λ none. omega (
+      arith,
+      ap length none,
+      length-append (decimal part ++ codes "/") (decimal parts),
+      length-append (decimal part) (codes "/"),
+    ))
     (lower 47 33 (fraction part parts) (omega arith) (fraction_from part parts small few))
 
 line_words : (s : Day) (found : Option ℕ) (h : Heading) (line : List ℕ) → MatchOption found (HasPins s) (HasSlots s)

@@ -136,7 +136,8 @@ module _ (s : Day) (keys : List Keys) (line order : List ℕ) (is : IsHeadRead s
   pub text_head : (more : List ℕ) → IsEnded (codes "TEXT") (line ++ more) → IsHead s keys (order ++ more)
   text_head more ended =
       let lines =
-      rw (append-nil keys) at (lines_more (IsEnded (codes "TEXT")) s more keys [] order (λ rest same. rw same ended) is.lines) in
+      rw (append-nil keys) at
+      (lines_more (IsEnded (codes "TEXT")) s more keys [] order (λ rest same. rw same ended) is.lines) in
       record { lines = lines; few = is.few }
 
   -- behind one line of keys more
@@ -266,7 +267,7 @@ module _ (s : Day) where
           sendable = record { is_order = is; suited = suited; allowed = All-nil (λ b. IsTrue (is_text_byte b)) };
           taken = record {
             suited =
-                record { of_the_day = all_of_the_day _ s _ order is.is_head.lines; suited = suited; few = is.is_head.few };
+                record { of_the_day = all_of_the_day _ _ _ _ is.is_head.lines; suited = suited; few = is.is_head.few };
             counted = fresh.none;
             written = rw fresh.unwritten (record { due = inl refl; most = λ n inside begun. omega (arith, begun) });
             kept = grind (arith, drop_all {X = ℕ}, take_all {A = ℕ});

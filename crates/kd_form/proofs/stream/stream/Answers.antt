@@ -11,7 +11,8 @@ close-requires g c =
 
 pub returns-in-Ok-eq0 : goal.returns-in-Ok-eq0
 returns-in-Ok-eq0 g c =
-    let (before, ended) = SoFar-read _ _ _ _ _ _ _ _ _ _ _ _ _ _ _ _ _ c.loop-read.invariant refl _ c.in-Ok-eq0.ensures in
+    let (before, ended) =
+    SoFar-read _ _ _ _ _ _ _ _ _ _ _ _ _ _ _ _ _ c.loop-read.invariant refl _ c.in-Ok-eq0.ensures in
     IsStreamed-closed _ _ _ _ _ _ _ _ _ _ _ (before, ended c.in-Ok-eq0.field-0-test) c.close.ensures
 
 pub loop-read-preserved : goal.loop-read-preserved
