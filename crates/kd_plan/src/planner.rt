@@ -121,7 +121,6 @@ fn rotor_settings(
 }
 
 /// What differs from the day on a Converter M-209, line by line, the bars being made to read as the rows of these places.
-#[tactic(auto, using(std::proofs::lemmas::List::Elements::recursion_from_All))]
 fn pin_settings(parts: &PinParts, entry: &PinEntry, to: &[u8; 27]) -> Settings
     requires legal { IsLegalDay (OfPins (pin_values entry.now)) }
     requires within { All (λ j. j < 27) to.now }

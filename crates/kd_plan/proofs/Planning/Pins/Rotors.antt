@@ -1,5 +1,5 @@
--- Settings carried out one after another; SEAT, REFLECTOR, RING, TURN, PULL and PUT; and that all lines of a rotor machine
--- lead to the day.
+-- Settings carried out one after another; SEAT, REFLECTOR, RING, TURN, PULL and PUT; and that all lines of a rotor
+-- machine lead to the day.
 pub use Rattle.kd_assign.specs.Assignment.{assignment_cost, IsOneToOne}
 pub use Rattle.kd_card.proofs.{Counts.once_of_distinct, Counts.times, Duality.fold_of_both, Duality.sum_of as card_sum}
 pub use Rattle.kd_card.proofs.{Falling.unless_same_at_most, Shortest.as_few_are_needed, Shortest.no_rotors}
@@ -26,11 +26,12 @@ pub use Rattle.kd_tables.specs.{Rings.place_on, Tables.box_of, Tables.IsAllowed,
 pub use Rattle.kd_tables.specs.declared.{lug.Lug.Lug, lug.Lug.TheVariants.Left, lug.Lug.TheVariants.Right}
 pub use Rattle.kd_tables.specs.declared.{model.Model.Model, place.Place.Place, place.Place.TheVariants.One}
 pub use Rattle.kd_tables.specs.declared.{reflector.Reflector.Reflector, wheel.Wheel.Wheel}
-pub use Rattle.std.proofs.Common.{[], All, AllPairs, ap, append_assoc, arith, Bool, cond, Contains, eqb-true, false, filter, find}
-pub use Rattle.std.proofs.Common.{fold, get_or, inl, inr, is_some, IsPermutation, length, length-append, List, ltb-false, ltb-true, map}
-pub use Rattle.std.proofs.Common.{max, min, nat_eq, nat_le, nat_lt, None, not, Option, pos, refl, remove, replicate, rules, set}
-pub use Rattle.std.proofs.Common.{slice_get, Some, subst, suc, sym, true, unsigned_abs, unwrap_or, zero, zip, ℕ, ℤ}
-pub use Rattle.std.proofs.Common.{◌&&◌, ◌++◌, ◌+ℤ◌, ◌+◌, ◌-◌, ◌<◌, ◌||◌, ◌∙◌, ◌∷◌, ◌≡◌, ◌≢◌, ◌≤ℤ◌, ◌≤◌}
+pub use Rattle.std.proofs.Common.{[], All, AllPairs, ap, append_assoc, arith, Bool, cond, Contains, count_by, eqb-true}
+pub use Rattle.std.proofs.Common.{false, filter, find, flat_map, fold, get_or, inl, inr, is_some, IsPermutation, length}
+pub use Rattle.std.proofs.Common.{length-append, List, ltb-false, ltb-true, map, max, min, nat_eq, nat_le, nat_lt, None}
+pub use Rattle.std.proofs.Common.{not, Option, option_and_then, option_to_list, pos, refl, remove, replicate, rules}
+pub use Rattle.std.proofs.Common.{set, slice_get, Some, subst, suc, sum_by, sym, true, unsigned_abs, unwrap_or, zero}
+pub use Rattle.std.proofs.Common.{zip, ℕ, ℤ, ◌&&◌, ◌++◌, ◌+ℤ◌, ◌+◌, ◌-◌, ◌<◌, ◌||◌, ◌∙◌, ◌∷◌, ◌≡◌, ◌≢◌, ◌≤ℤ◌, ◌≤◌}
 pub use Rattle.std.proofs.lemmas.Bool.{and_parts, cases_eq, cond_both, false_from_ne_true, some_since}
 pub use Rattle.std.proofs.lemmas.{Bool.Decides.nat_tests, Grind.common_steps, Grind.flat_map-append}
 use Rattle.std.proofs.lemmas.List.Edits.{length-remove}
@@ -42,8 +43,7 @@ pub use Rattle.std.proofs.lemmas.List.Sums.{AllPass-from_list_all, count_by-le-l
 pub use Rattle.std.proofs.lemmas.List.{get_or-map, get_or-replicate, get_or_default, length-map, length-set, map-append, set-get_or, set_at}
 pub use Rattle.std.proofs.lemmas.Option.{get_or_from_slice_get, slice_get-get_or, slice_get-map, slice_get_within}
 pub use Rattle.std.proofs.lemmas.Slice.Zip.{firsts-zip, get_or-zip, length-zip, seconds-zip}
-pub use Rattle.std.specs.List.{AllByRecursion, count_by, flat_map, range_with_len, sum_by}
-pub use Rattle.std.specs.Option.{option_and_then, option_map_or, option_to_list}
+pub use Rattle.std.specs.{List.AllByRecursion, List.range_with_len, Option.option_map_or}
 unfoldable pub use Rattle.{kd_state.specs.Costs.standings_as, kd_tables.specs.Rings.ring_of, std.specs.List.IsDistinct}
 use Rattle.kd_enigma.specs.Plugs.{letters_plugged}
 use Rattle.kd_state.specs.OnKey.{AreThePairs, IsPaired, Joins, OnKey}
@@ -272,8 +272,8 @@ module _ (m : RotorParts) where
 
     put : (z : Beside) → IsPluggable z → ((x : ℕ) → wants z.1 x ≡ true → IsFree x) → Led (with_cable (once_pulled z)) (puts_of number z) (with_cable (once_put z))
     put z h free =
-        in_turn (takes (wants z.1)) cable_with (λ x. Put number x) (λ x c e. one_put (wants z.1) x c e (free x)) (once_pulled z) _
-        (is_put z h).0
+        in_turn (takes (wants z.1)) cable_with (λ x. Put number x) (λ x c e. one_put (wants z.1) x c e (free x))
+        (once_pulled z) _ (is_put z h).0
 
   -- the letters of one column lie in no other cable
   none_has : (f : Beside → Cable) (y : ℕ) → ((v : Beside) → IsPluggable v → wants v.1 y ≡ false → holds (f v) y ≡ false) → (vs : List Beside) → AllByRecursion IsPluggable vs
