@@ -9,11 +9,8 @@ ghost use Rattle.kd_state.specs.Costs.{column_letters};
 ghost use Rattle.kd_plan.specs.Planned.{unless_so, besides, letters_apart, lines_from, pulls_of, puts_of};
 
 use super::lines::push_line;
-use kd_state::{Setting, Settings, column_at};
+use kd_state::{Cable, Setting, Settings, column_at, lies_in};
 use kd_tables::Letter;
-
-/// The letters in a cable: none, one or two.
-pub(crate) type Cable = (Option<Letter>, Option<Letter>);
 
 /// The pair that a cable becomes, or nothing.
 pub(crate) type Column = Option<(Letter, Letter)>;
@@ -109,7 +106,7 @@ fn put_line(number: u8, cable: Cable, letter: Letter) -> Option<Setting>
     ensures { let so = has_letter (cable_letters cable) letter in
         result ≡ unless_so so (Setting.Put number letter) }
 {
-    if lies_in(cable, letter) {
+    if lies_in(&cable, letter) {
         None
     } else {
         let cable = number;
@@ -125,17 +122,6 @@ fn ordered(one: Letter, other: Letter) -> (Letter, Letter)
         (one, other)
     } else {
         (other, one)
-    }
-}
-
-/// Whether the letter lies in the cable.
-fn lies_in(cable: Cable, letter: Letter) -> bool
-    ensures { result ≡ has_letter (cable_letters cable) letter }
-{
-    match cable {
-        (None, None) => false,
-        (Some(only), None) | (None, Some(only)) => only == letter,
-        (Some(one), Some(other)) => one == letter || other == letter,
     }
 }
 
