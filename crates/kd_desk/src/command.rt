@@ -1,7 +1,6 @@
-ghost use Rattle.std.specs.Prelude.{◌≡◌, ◌≢◌, [], ◌∷◌, ℕ, List, false, codes, decimal, map, Err, IfSome, IfOk, IfErr};
+ghost use Rattle.std.specs.Prelude.{◌≡◌, ◌≢◌, [], ◌∷◌, ℕ, List, false, codes, map, Err, IfSome, IfOk, IfErr};
 ghost use Rattle.clap.specs.Simple.{with_subcommand};
 ghost use Rattle.clap.specs.Words.{app_of, found_of, kind_of, rows_of};
-ghost use Rattle.kd_state.specs.SheetDay.{IsDayNumber};
 ghost use Rattle.kd_desk.specs.CommandLine.{IsMadeOf, way_name, way_word, desk_grammar, shape_with};
 ghost use Rattle.kd_desk.specs.CommandLine.{named, action_named, HaveDay, IsActionOf, IsOf, IsOfNone, Says, SaysNothing};
 
@@ -9,8 +8,8 @@ use crate::fault::DeskFault;
 use crate::stop::Stop;
 use clap::error::ErrorKind;
 use clap::{Arg, ArgMatches, Command as Grammar, Error};
-use itoa::Buffer;
 use kd_sheet::SheetFault;
+use kd_state::day_of_text;
 use std::alloc::{AllocError, Global};
 use std::convert::AsStr;
 
@@ -185,21 +184,8 @@ fn day_of<'a>(words: &ArgMatches<'a>) -> Option<(&'a str, u8)>
         → ¬ (HaveDay (rows_of (found_of words.now)) sheet day) }
 {
     let sheet = words.get_str("SHEET")?;
-    let day = day_number(words.get_str("DAY")?)?;
+    let day = day_of_text(words.get_str("DAY")?.as_bytes())?;
     Some((sheet, day))
-}
-
-/// The day that a word names: a decimal number from 1 to 31, without sign or leading zero.
-fn day_number(word: &str) -> Option<u8>
-    ensures day { IfSome result (λ day. (word.now ≡ decimal day) × IsDayNumber day) }
-    ensures none { result ≡ None → (day : ℕ) → IsDayNumber day → word.now ≢ decimal day }
-{
-    for day in 1..=31 {
-        if Buffer::new().format(day) == word {
-            return Some(day);
-        }
-    }
-    None
 }
 
 /// What may stand on the command line: no options and no help.

@@ -10,7 +10,7 @@ ghost use Rattle.kd_desk.specs.RunSteps.{is_refused_before, is_device};
 
 use crate::fault::DeskFault;
 use crate::machine_and_day::find_day;
-use kd_card::{Card, write_card};
+use kd_card::{Card, Version, write_card};
 use kd_plan::plan;
 use kd_prices::by_kind;
 use kd_prices::laws::alike_prices_are_equal;
@@ -62,7 +62,7 @@ pub(crate) fn in_kinds(machine: &Machine, day: &SheetDay, card: &Card) -> Card
     requires proves { ProvesByNumber machine.now day.now card.now.settings.items card.now.prices }
     ensures { IsByKind machine.now day.now card.now result }
 {
-    let _prices = card.prices.parts();
+    prove!(matches!(card.prices.version(), Version::ByNumber));
     alike_prices_are_equal();
     by_kind(machine, day, card).unwrap()
 }

@@ -29,11 +29,3 @@ key_of w1 w2 w3 w4 w5 w6 rows = record {
   letters = letter_shown w1 ∷ letter_shown w2 ∷ letter_shown w3 ∷ letter_shown w4 ∷ letter_shown w5 ∷ letter_shown w6 ∷ [];
   rows = rows;
 }
-
--- the wheel has these letters and pins, and shows the letter
-pub record IsSetTo (size : ℕ) (ring : List ℕ) (offset : ℕ) (pins : List Bool) (letter : ℕ) (wheel : TurnedWheel) : Type 0 where
-  pub same_ring : wheel.ring ≡ ring
-  pub same_offset : wheel.offset ≡ offset
-  pub same_pins : wheel.pins ≡ pins
-  pub shows : letter_shown wheel ≡ letter
-  pub turned : IsWheel size wheel

@@ -1,10 +1,9 @@
-ghost use Rattle.std.specs.Prelude.{◌≡◌, ◌↔◌, ◌<◌, ◌≤◌, ◌+◌, ◌-◌, ◌%◌, ◌||◌, [], ◌∷◌, length, Contains, IsOk, IfOk, OnOk, OnErr};
+ghost use Rattle.std.specs.Prelude.{◌≡◌, ◌↔◌, ◌<◌, ◌≤◌, ◌+◌, ◌-◌, ◌%◌, ◌||◌, [], ◌∷◌, length, Contains, IsOk, IsTrue, IfOk, OnOk, OnErr};
 ghost use Rattle.kd_pins.specs.PinWheel.{TurnedWheel, IsWheel, letter_shown};
 ghost use Rattle.kd_pins.specs.PinWheels.{pins_of};
 ghost use Rattle.kd_drum.specs.Converter.{OnWheels, acts_after, bars_met, converter_cipher, pin_key_after, pin_key_turned};
 ghost use Rattle.kd_drum.specs.Counts.{is_in};
 ghost use Rattle.kd_drum.specs.Sound.{RingsAreSound};
-ghost use Rattle.kd_drum.specs.Standing.{IsSetTo};
 
 use super::counts::counts;
 use super::laws::rings_are_sound;
@@ -71,24 +70,33 @@ impl Converter {
         ensures turned { OnOk result (self.new ≡ pin_key_turned self.old letters) }
         ensures unchanged { OnErr result (self.new ≡ self.old) }
     {
+        if !self.can_show(&letters) {
+            return Err(NotOnWheel);
+        }
         let [l1, l2, l3, l4, l5, l6] = letters;
-        let w1 = showing(self.w1, l1)?;
-        let w2 = showing(self.w2, l2)?;
-        let w3 = showing(self.w3, l3)?;
-        let w4 = showing(self.w4, l4)?;
-        let w5 = showing(self.w5, l5)?;
-        let w6 = showing(self.w6, l6)?;
-        *self = Converter {
-            w1,
-            w2,
-            w3,
-            w4,
-            w5,
-            w6,
-            rows: self.rows,
-            counts: self.counts,
-        };
+        self.w1.show(l1);
+        self.w2.show(l2);
+        self.w3.show(l3);
+        self.w4.show(l4);
+        self.w5.show(l5);
+        self.w6.show(l6);
         Ok(())
+    }
+
+    /// Whether each of the letters is on its wheel.
+    fn can_show(&self, letters: &[Letter; 6]) -> bool
+        ensures { IsTrue result ↔ OnWheels letters.now }
+    {
+        let [l1, l2, l3, l4, l5, l6] = *letters;
+        let have = [
+            self.w1.has(l1),
+            self.w2.has(l2),
+            self.w3.has(l3),
+            self.w4.has(l4),
+            self.w5.has(l5),
+            self.w6.has(l6),
+        ];
+        !have.contains(&false)
     }
 
     /// Enciphers a letter, or deciphers it: each of the wheels turns by one place then.
@@ -166,16 +174,6 @@ impl Converter {
         self.w5.advance();
         self.w6.advance();
     }
-}
-
-/// The wheel, turned until it shows the letter.
-fn showing<const N: usize>(wheel: PinWheel<N>, letter: Letter) -> Result<PinWheel<N>, NotOnWheel>
-    ensures ok { IsOk result ↔ Contains wheel.entry.ring letter }
-    ensures value { IfOk result (IsSetTo N wheel.entry.ring wheel.entry.offset wheel.entry.pins letter) }
-{
-    let mut turned = wheel;
-    turned.set(letter)?;
-    Ok(turned)
 }
 
 /// The letter of the reversed alphabet, moved on by the number of bars met.

@@ -7,12 +7,12 @@ pub(crate) fn rings_are_sound()
     ensures { RingsAreSound }
 {
     kd_tables::laws::letters_and_places_undo();
-    let _w1 = kd_tables::ring1().letters();
-    let _w2 = kd_tables::ring2().letters();
-    let _w3 = kd_tables::ring3().letters();
-    let _w4 = kd_tables::ring4().letters();
-    let _w5 = kd_tables::ring5().letters();
-    let _w6 = kd_tables::ring6().letters();
+    prove!(kd_tables::ring1().letters().len() == 26);
+    prove!(kd_tables::ring2().letters().len() == 25);
+    prove!(kd_tables::ring3().letters().len() == 23);
+    prove!(kd_tables::ring4().letters().len() == 21);
+    prove!(kd_tables::ring5().letters().len() == 19);
+    prove!(kd_tables::ring6().letters().len() == 17);
 }
 
 /// Enciphering twice on the same key gives the text back.

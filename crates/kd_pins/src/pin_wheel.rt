@@ -1,4 +1,4 @@
-ghost use Rattle.std.specs.Prelude.{◌≡◌, ◌↔◌, ◌<◌, ◌≤◌, ◌+◌, ◌%◌, IsOk, OnOk, Contains};
+ghost use Rattle.std.specs.Prelude.{◌≡◌, ◌↔◌, ◌<◌, ◌≤◌, ◌+◌, ◌%◌, IsOk, IsTrue, OnOk, Contains};
 ghost use Rattle.kd_tables.specs.Rings.{IsRing};
 ghost use Rattle.kd_pins.specs.PinWheel.{IsWheel, letter_shown, pin_acting, place_past, turned_to, with_shown};
 
@@ -78,6 +78,25 @@ impl<const N: usize> PinWheel<N> {
         self.place = (self.place + 1) % N;
     }
 
+    /// Whether the letter is on the wheel.
+    pub fn has(&self, letter: Letter) -> bool
+        ensures { IsTrue result ↔ Contains self.now.ring letter }
+    {
+        let PinWheel { ring, .. } = self;
+        ring.place_of(letter).is_some()
+    }
+
+    /// Turns the wheel until it shows the letter. It isn't turned where the letter isn't on it.
+    pub fn show(&mut self, letter: Letter)
+        ensures turned { self.new ≡ with_shown self.old letter }
+        ensures shows { Contains self.old.ring letter → letter_shown self.new ≡ letter }
+        ensures wheel { IsWheel N self.new }
+    {
+        if let Some(place) = self.ring.place_of(letter) {
+            self.place = place;
+        }
+    }
+
     /// Turns the wheel until it shows the letter. Refused, and then not turned, where the letter isn't on the wheel.
     pub fn set(&mut self, letter: Letter) -> Result<(), NotOnWheel>
         ensures ok { IsOk result ↔ Contains self.old.ring letter }
@@ -108,5 +127,5 @@ fn at_most_all_letters<const N: usize>(ring: &Ring<N>)
     ensures size { N ≤ 26 }
     ensures ring { IsRing N ring.now }
 {
-    let _letters = ring.letters();
+    prove!(ring.letters().len() == N);
 }

@@ -17,7 +17,7 @@ pub(crate) fn are_letters(letters: &[Letter])
     ensures { All (λ letter. letter < 26) letters.now }
 {
     for letter in letters {
-        let _place = letter.index();
+        prove!(letter.index() < 26);
     }
 }
 
@@ -26,7 +26,7 @@ pub(crate) fn are_pair_letters(pairs: &[(Letter, Letter)])
     ensures { All (λ letter. letter < 26) (letters_plugged pairs.now) }
 {
     for (one, other) in pairs {
-        let _indices = (one.index(), other.index());
+        prove!(one.index() < 26 && other.index() < 26);
     }
 }
 
@@ -35,7 +35,7 @@ pub(crate) fn have_letters(wheels: &[SheetWheel])
     ensures { All HasLetters wheels.now }
 {
     for wheel in wheels {
-        let _indices = (wheel.ring.index(), wheel.letter.index());
+        prove!(wheel.ring.index() < 26 && wheel.letter.index() < 26);
     }
 }
 
@@ -53,7 +53,7 @@ pub(crate) fn are_readings(rows: &[Reading])
     ensures { All IsReading rows.now }
 {
     for row in rows {
-        let _numbers = row.numbers();
+        prove!(row.numbers().1 <= 6);
     }
 }
 
@@ -63,7 +63,7 @@ pub(crate) fn are_standings(bars: &[Standing; 27])
     ensures each { All (λ bar. IsBefore bar.0 bar.1) bars.now }
 {
     for bar in bars {
-        let _right = bar.right();
+        prove!(bar.left() < bar.right());
     }
 }
 
@@ -117,5 +117,5 @@ pub(crate) fn is_in_range(setting: &Setting)
 fn are_in_range(number: u8, letter: Letter)
     ensures { (number < 2 ^ 8) × (letter < 26) }
 {
-    let _place = letter.index();
+    prove!(letter.index() < 26);
 }

@@ -1,8 +1,10 @@
 //! The words of a line, and the numbers and letters among them.
 ghost use Rattle.std.specs.Prelude.{◌≡◌, ◌≢◌, ℕ, ◌+◌, ◌^◌, ◌<◌, ◌≤◌, ◌++◌, length, map, decimal, MatchOption};
 ghost use Rattle.arrayvec.specs.ArrayString.{array_string_len};
+ghost use Rattle.kd_state.specs.SheetDay.{IsDayNumber};
 ghost use Rattle.kd_state.specs.Words.{words_of, letter_text, IsWithout, IsFirstPart};
 
+use crate::sheet_day::entry::is_day_number;
 use arrayvec::{ArrayString, ArrayVec};
 use itoa::Buffer;
 use kd_tables::Letter;
@@ -64,6 +66,17 @@ pub fn number_of_text(text: &[u8]) -> Option<u8>
         return None;
     }
     Some(number as u8)
+}
+
+/// The day of a month that is written so.
+#[tactic(auto, using(std::proofs::lemmas::Fmt::decimal_injective))]
+pub fn day_of_text(text: &[u8]) -> Option<u8>
+    ensures { MatchOption result
+        ((day : ℕ) → IsDayNumber day → decimal day ≢ text.now)
+        (λ day. (decimal day ≡ text.now) × IsDayNumber day) }
+{
+    let day = number_of_text(text)?;
+    is_day_number(day).then_some(day)
 }
 
 /// The letter that is written so: as one capital letter.

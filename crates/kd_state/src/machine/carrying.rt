@@ -15,12 +15,8 @@ impl Machine {
         ensures unchanged { OnErr result (self.new ≡ self.old) }
     {
         is_in_range(&setting);
-        let mut parts = self.parts;
-        match parts.carry(setting) {
-            Ok(()) => {
-                self.parts = parts;
-                Ok(())
-            }
+        match self.parts.carry(setting) {
+            Ok(()) => Ok(()),
             Err(why) => Err(Illegal { why }),
         }
     }

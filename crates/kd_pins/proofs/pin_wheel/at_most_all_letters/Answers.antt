@@ -15,5 +15,5 @@ among (letter ∷ letters) q h e = at (or_cases (eqb q letter) (list_any (eqb q)
 
 pub returns-clause-size : goal.returns-clause-size
 returns-clause-size g c =
-    let ring = c.letters-letters.ensures.ring in
-    omega (arith, ring.full, length-le_from_distinct_below c.letters-letters.result 26 ring.differ (λ q. among c.letters-letters.result q ring.within))
+    let ring = c.letters.ensures.ring in
+    omega (arith, ring.full, length-le_from_distinct_below c.letters.result 26 ring.differ (λ q. among c.letters.result q ring.within))

@@ -1,27 +1,22 @@
-use Rattle.std.proofs.Common.{◌-◌, Contains, slice_index, refl, arith, rules}
-use Rattle.kd_drum.proofs.{Letters.on_wheel, Letters.read_on_wheel, Letters.refused, Starts.each_wheel}
-use Rattle.kd_tables.specs.Rings.{ring_of}
+use Rattle.std.proofs.Common.{ap, ◌≡◌, ◌∙◌, ◌∷◌, [], arith, rules}
+use Rattle.kd_drum.{proofs.Letters.shows_letter, proofs.Letters.six_letters, specs.Converter.OnWheels, specs.Converter.pin_key_turned}
 use Rattle.kd_drum.proofs.converter.Converter.turn_to.Goals as goal
 
-pub returns-in_err-w4-clause-ok : goal.returns-in_err-w4-clause-ok
-returns-in_err-w4-clause-ok c = grind (arith, refused, c.in_err-w4.ensures.ok.1, read_on_wheel)
-
-pub returns-in_err-w5-clause-ok : goal.returns-in_err-w5-clause-ok
-returns-in_err-w5-clause-ok c = grind (arith, refused, c.in_err-w5.ensures.ok.1, read_on_wheel)
-
-pub returns-in_err-w6-clause-ok : goal.returns-in_err-w6-clause-ok
-returns-in_err-w6-clause-ok c = grind (arith, refused, c.in_err-w6.ensures.ok.1, read_on_wheel)
-
-pub returns-clause-ok : goal.returns-clause-ok
-returns-clause-ok c =
+pub returns-clause-turned : goal.returns-clause-turned
+returns-clause-turned c =
     let there = c.args.letters in
-    let stands = c.self.invariant.0 in (
-      λ _. each_wheel (λ wheel. Contains (ring_of wheel) (slice_index there (wheel - 1)))
-          (on_wheel _ _ there 0 _ stands.first.ring (search rules) (c.in_ok-w1.ensures.ok.0 refl))
-          (on_wheel _ _ there 1 _ stands.second.ring (search rules) (c.in_ok-w2.ensures.ok.0 refl))
-          (on_wheel _ _ there 2 _ stands.third.ring (search rules) (c.in_ok-w3.ensures.ok.0 refl))
-          (on_wheel _ _ there 3 _ stands.fourth.ring (search rules) (c.in_ok-w4.ensures.ok.0 refl))
-          (on_wheel _ _ there 4 _ stands.fifth.ring (search rules) (c.in_ok-w5.ensures.ok.0 refl))
-          (on_wheel _ _ there 5 _ stands.sixth.ring (search rules) (c.in_ok-w6.ensures.ok.0 refl)),
-      λ _. refl,
-    )
+    let on : OnWheels there = c.can_show.ensures.0 (search rules) in
+    let stands = c.self.invariant.0 in
+    let l1 = shows_letter _ _ there 0 _ _ stands.first.ring (search rules) (on 1 (omega arith) (omega arith)) c.show.ensures.shows in
+    let l2 = shows_letter _ _ there 1 _ _ stands.second.ring (search rules) (on 2 (omega arith) (omega arith)) c.show-2.ensures.shows in
+    let l3 = shows_letter _ _ there 2 _ _ stands.third.ring (search rules) (on 3 (omega arith) (omega arith)) c.show-3.ensures.shows in
+    let l4 = shows_letter _ _ there 3 _ _ stands.fourth.ring (search rules) (on 4 (omega arith) (omega arith)) c.show-4.ensures.shows in
+    let l5 = shows_letter _ _ there 4 _ _ stands.fifth.ring (search rules) (on 5 (omega arith) (omega arith)) c.show-5.ensures.shows in
+    let l6 = shows_letter _ _ there 5 _ _ stands.sixth.ring (search rules) (on 6 (omega arith) (omega arith)) c.show-6.ensures.shows in
+    let letters = (λ i. l1 i ∷ l2 i ∷ l3 i ∷ l4 i ∷ l5 i ∷ l6 i ∷ []) ∙ six_letters there (search rules) in
+    (λ i. record {
+      pins = ap (λ w. w.pins) c.show.ensures.turned i ∷ ap (λ w. w.pins) c.show-2.ensures.turned i ∷ ap (λ w. w.pins) c.show-3.ensures.turned i
+          ∷ ap (λ w. w.pins) c.show-4.ensures.turned i ∷ ap (λ w. w.pins) c.show-5.ensures.turned i ∷ ap (λ w. w.pins) c.show-6.ensures.turned i ∷ [];
+      letters = letters i;
+      rows = c.self.inside.rows;
+    }) ∙ ap (λ key. pin_key_turned key there) c.self.view_is
