@@ -4,7 +4,7 @@ use Rattle.kd_state.proofs.Prelude.{letter_at, ring_at, seats, IsRotorReady, OfW
 use Rattle.kd_state.proofs.Prelude.{seated_wheels, Pin, Rotor, RotorParts, SheetWheel, exchange, box_of, Model, Wheel}
 use Rattle.kd_state.proofs.Prelude.{false≢true, get_or-map, length-map, All-map, recursion_from_All, none-some}
 use Rattle.kd_state.proofs.Prelude.{slice_get-get_or, All, AllByRecursion, cons_option, IsSome, Contains, List}
-use Rattle.kd_state.proofs.Prelude.{MatchOption, None, Option, Some, [], ap, arith, filter_map, get_or, length, map}
+use Rattle.kd_state.proofs.Prelude.{None, Option, Some, [], ap, arith, filter_map, get_or, length, map}
 use Rattle.kd_state.proofs.Prelude.{refl, set, slice_get, subst, suc, sym, zero, ℕ, ◌+◌, ◌<◌, ◌∙◌, ◌∷◌, ◌≡◌, ◌≢◌}
 use Rattle.kd_state.proofs.{Changing.letters_set, Changing.with_letters, Slots.set_here, Slots.set_other}
 use Rattle.kd_state.proofs.Wheels.{place_within, placed, places_tell_wheels}
@@ -62,19 +62,11 @@ pub key_of_seats : (m : RotorParts) (wheels : List SheetWheel) → AreSeats m m.
 key_of_seats m wheels h = grind (arith, wheels_of_slots, filter_map, read_all)
 
 -- an engine of the wheels has the machine's key, and no slot is empty
-pub of_seated : (m : RotorParts) (slots : List (Option Wheel)) (wheels : List SheetWheel) → slots ≡ m.slots → map Some wheels ≡ map (seated_wheel m) slots
+pub of_seated : (m : RotorParts) (wheels : List SheetWheel) → map Some wheels ≡ map (seated_wheel m) m.slots
     → (physical_key (Rotor m) ≡ OfWheels (key_of_wheels wheels m.reflector (exchange (plugged_pairs m)))) × All (λ seated. IsSome seated) m.slots
-of_seated m slots wheels e d =
-    let seats = are_seats m m.slots wheels (rw e at d) in
+of_seated m wheels e =
+    let seats = are_seats m m.slots wheels e in
     (key_of_seats m wheels seats, all_seated m.slots wheels seats.slots)
-
--- a seat without its wheel
-pub none_seated : (m : RotorParts) (slots : List (Option Wheel)) (found : Option (List SheetWheel)) (k : ℕ) (d : Option Wheel) → found ≡ None → k < length slots
-    → None ≡ seated_wheel m (get_or slots k d)
-    → MatchOption found (Contains (map (seated_wheel m) slots) None) (λ wheels. map Some wheels ≡ map (seated_wheel m) slots)
-none_seated m slots found k d e within h =
-    subst (λ (r : Option (List SheetWheel)). MatchOption r (Contains (map (seated_wheel m) slots) None) (λ wheels. map Some wheels ≡ map (seated_wheel m) slots)) (sym e)
-    (k, omega (arith, length-map slots (seated_wheel m)), get_or-map (seated_wheel m) slots k d None within ∙ sym h)
 
 -- a wheel of a legal machine has its ring and its letter
 filled_seat : (m : RotorParts) → IsLegalRotor m → (place : ℕ) (seat : Option Wheel) → slice_get m.slots place ≡ Some seat → IsSome seat → seated_wheel m seat ≢ None

@@ -12,7 +12,6 @@ use super::Engine;
 use crate::machine::Machine;
 use crate::machine::cable::Cable;
 use crate::machine::parts::Parts;
-use crate::machine::per_slot::PerSlot;
 use crate::machine::pin_parts::readings_of;
 use crate::machine::readers::of_wheel;
 use crate::machine::rotor_parts::RotorParts;
@@ -66,34 +65,23 @@ fn rotor_engine(parts: &RotorParts) -> Option<Engine>
     ensures ready { IsSome result ↔ IsRotorReady parts.now }
     ensures key { IfSome result (λ engine. engine ≡ physical_key (Parts.Rotor parts.now)) }
 {
-    let wheels = seated_wheels(parts, parts.slots.as_slice())?;
+    let wheels = seated_wheels(parts)?;
     let plugs = plugs_of(&parts.cables)?;
     Some(Engine::of_wheels(wheels.as_slice(), parts.reflector, plugs))
 }
 
 /// The wheels in the slots, if there is one in each.
-#[tactic(auto, using(crate::proofs::Seating::none_seated))]
-fn seated_wheels(parts: &RotorParts, slots: &[Option<Wheel>]) -> Option<PerSlot<SheetWheel>>
-    requires rings { length parts.now.rings ≡ length (box_of parts.now.model) }
-    requires letters { length parts.now.letters ≡ length (box_of parts.now.model) }
-    requires slots { (length slots.now ≡ 3) ⊎ (length slots.now ≡ 4) }
-    ensures { MatchOption result (Contains (map (seated_wheel parts.now) slots.now) None)
-        (λ wheels. map Some wheels ≡ map (seated_wheel parts.now) slots.now) }
+fn seated_wheels(parts: &RotorParts) -> Option<ArrayVec<SheetWheel, 4>>
+    requires { IsLegalRotor parts.now }
+    ensures { MatchOption result (Contains (map (seated_wheel parts.now) parts.now.slots) None)
+        (λ wheels. map Some wheels.items ≡ map (seated_wheel parts.now) parts.now.slots) }
 {
-    match slots {
-        [left, middle, right] => PerSlot::new(&[
-            seated_wheel(parts, *left)?,
-            seated_wheel(parts, *middle)?,
-            seated_wheel(parts, *right)?,
-        ]),
-        [first, left, middle, right] => PerSlot::new(&[
-            seated_wheel(parts, *first)?,
-            seated_wheel(parts, *left)?,
-            seated_wheel(parts, *middle)?,
-            seated_wheel(parts, *right)?,
-        ]),
-        _ => unreachable!(),
+    let mut wheels = ArrayVec::new();
+    let slots = parts.slots.as_slice();
+    for seated in slots {
+        wheels.push(seated_wheel(parts, *seated)?);
     }
+    Some(wheels)
 }
 
 /// The wheel that is seated, with its ring and its window letter.

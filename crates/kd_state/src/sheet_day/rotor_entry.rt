@@ -18,6 +18,17 @@ pub struct SheetWheel {
     pub letter: Letter,
 }
 
+impl Default for SheetWheel {
+    /// The first wheel, at A. Lists of wheels are filled with it.
+    fn default() -> Self {
+        SheetWheel {
+            wheel: Wheel::I,
+            ring: Letter::A,
+            letter: Letter::A,
+        }
+    }
+}
+
 /// A day of a rotor model.
 #[derive(Drop)]
 pub struct RotorEntry {

@@ -3,10 +3,10 @@ use Rattle.kd_state.proofs.engine.ready.rotor_engine.Goals as goal
 
 pub returns-clause-ready : goal.returns-clause-ready
 returns-clause-ready c =
-    let seated = of_seated c.args.parts.now c.as_slice.result.now c.in_ok-wheels.wheels c.as_slice.ensures.value c.in_ok-wheels.ensures in
+    let seated = of_seated c.args.parts.now c.in_ok-wheels.wheels.items c.in_ok-wheels.ensures in
     (λ _. record { slots = seated.1; cables = c.in_ok-plugs.ensures.ready.0 refl }, λ _. refl)
 
 pub returns-clause-key : goal.returns-clause-key
 returns-clause-key c =
-    let seated = of_seated c.args.parts.now c.as_slice.result.now c.in_ok-wheels.wheels c.as_slice.ensures.value c.in_ok-wheels.ensures in
-    rw (c.of_wheels.ensures, c.as_slice-2.ensures.value, c.in_ok-plugs.ensures.plugs) (sym seated.0)
+    let seated = of_seated c.args.parts.now c.in_ok-wheels.wheels.items c.in_ok-wheels.ensures in
+    rw (c.of_wheels.ensures, c.as_slice.ensures.value, c.in_ok-plugs.ensures.plugs) (sym seated.0)
