@@ -34,7 +34,7 @@ pub struct PairKind {
 }
 
 /// Bars that stand alike.
-#[derive(Clone, Copy)]
+#[derive(Clone, Copy, Default)]
 pub struct BarKind {
     pub standing: Standing,
     /// How many there are, from 1.
@@ -44,7 +44,7 @@ pub struct BarKind {
 }
 
 /// Rows of a sheet that read alike.
-#[derive(Clone, Copy)]
+#[derive(Clone, Copy, Default)]
 pub struct RowKind {
     pub reading: Reading,
     /// How many there are, from 1.
@@ -59,31 +59,6 @@ pub struct PricedKind {
     pub look: Look,
     pub count: u8,
     pub price: i16,
-}
-
-/// What stands in the unused places of a list of kinds. It may be anything: no contract says which value it is.
-impl Default for BarKind {
-    ghost is_default = { λ _. Unit {0} };
-
-    fn default() -> Self {
-        BarKind {
-            standing: Standing::all()[0],
-            count: 0,
-            price: 0,
-        }
-    }
-}
-
-impl Default for RowKind {
-    ghost is_default = { λ _. Unit {0} };
-
-    fn default() -> Self {
-        RowKind {
-            reading: Standing::all()[0].reading(),
-            count: 0,
-            price: 0,
-        }
-    }
 }
 
 /// Kinds of cables, pairs, bars or rows.

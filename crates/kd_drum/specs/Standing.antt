@@ -1,5 +1,5 @@
 -- The wheels as they stand in the Converter, and the key that they make.
-use Rattle.std.specs.Prelude.{◌≡◌, ℕ, Bool, List, [], ◌∷◌}
+use Rattle.std.specs.Prelude.{◌≡◌, ℕ, List, [], ◌∷◌}
 use Rattle.kd_tables.specs.Rings.{ring_of}
 use Rattle.kd_pins.specs.PinWheel.{TurnedWheel, IsWheel, letter_shown}
 use Rattle.kd_pins.specs.PinWheels.{offset_of}

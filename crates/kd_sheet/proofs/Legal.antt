@@ -1,16 +1,16 @@
 -- The machine and the day that a table describes are legal.
-use Rattle.kd_sheet.proofs.Prelude.{All, Bool, Contains, IsSome, List, Ok, Some, [], arith, bytes_eq, false, find}
-use Rattle.kd_sheet.proofs.Prelude.{get_or, inl, inr, length, nat_lt, not, refl, subst, suc, sym, true, ℕ, ◌+◌, ◌-◌}
-use Rattle.kd_sheet.proofs.Prelude.{◌<◌, ◌==◌, ◌∙◌, ◌∷◌, ◌≡◌, ◌≤◌, cases_Bool, leb-true, ltb-true, not-true, nat_tests}
-use Rattle.kd_sheet.proofs.Prelude.{common_steps, length-take-le, All-contains, All-from_recursion, All-nil}
-use Rattle.kd_sheet.proofs.Prelude.{recursion_from_All, AllPass-from_list_all, none-some, same_Some, list_any, in_turn}
+use Rattle.kd_sheet.proofs.Prelude.{All, Bool, Contains, IsSome, List, Ok, [], arith, false}
+use Rattle.kd_sheet.proofs.Prelude.{get_or, length, refl, subst, sym, true, ℕ, ◌+◌, ◌-◌}
+use Rattle.kd_sheet.proofs.Prelude.{◌<◌, ◌==◌, ◌∙◌, ◌≡◌, ◌≤◌, leb-true, not-true, nat_tests}
+use Rattle.kd_sheet.proofs.Prelude.{common_steps, length-take-le, All-from_recursion, All-nil}
+use Rattle.kd_sheet.proofs.Prelude.{recursion_from_All, none-some, list_any, in_turn}
 use Rattle.kd_sheet.proofs.Prelude.{bars_in, row_of_text, rows_in, is_figure, may_read, row_for, standing_for, model_in}
-use Rattle.kd_sheet.proofs.Prelude.{pin_parts_in, reflector_in, rotor_parts_in, reflector_by_name, standing_by_text}
+use Rattle.kd_sheet.proofs.Prelude.{pin_parts_in, reflector_in, rotor_parts_in, reflector_by_name}
 use Rattle.kd_sheet.proofs.Prelude.{letters_on_wheels, pins_in, pins_of_item, pins_of_text, shown_in, pins_behind}
 use Rattle.kd_sheet.proofs.Prelude.{day_in, group_of_item, groups_in, model_day_in, new_number_in, number_in}
 use Rattle.kd_sheet.proofs.Prelude.{pin_day_in, rotor_day_in, group_for, Key, AreLetters, AreOnWheels, HasAllPins}
 use Rattle.kd_sheet.proofs.Prelude.{IsLegalPin, IsLegalRotor, pin_set, Day, IsDayNumber, IsLegalDay, day_number}
-use Rattle.kd_sheet.proofs.Prelude.{IsBefore, IsReading, in_order, place_rank, standing_text, standings, ring_of}
+use Rattle.kd_sheet.proofs.Prelude.{IsBefore, IsReading, in_order, ring_of}
 use Rattle.kd_sheet.proofs.Prelude.{box_of, reflectors_of, slots_of, Model, M209, Place, Data, Members}
 use Rattle.kd_sheet.specs.declared.key.Key.TheVariants as keys
 use Rattle.kd_sheet.proofs.Bounds.{day_number_within, capitals_are_letters, rings_in_letters, letters_at_are}
@@ -18,15 +18,9 @@ use Rattle.kd_sheet.proofs.{CableLetters.are_cables, CableLetters.are_pairs, Pin
 use Rattle.kd_sheet.proofs.Seating.{seats-sheet_wheels, seats_in_fill, wheels_have_letters}
 use Rattle.kd_sheet.proofs.InTurn.{Gives, after, after_any, done, given, tested, there_was, some_if, then_read, nothing}
 use Rattle.kd_sheet.proofs.InTurn.{as_many, read_at, each_is, each_read, some_read}
+use Rattle.kd_sheet.proofs.Namings.{found_there, standing_read}
 
 -- ---- reflectors
-
-pub found_there : {X : Type 0} (p : X → Bool) (xs : List X) (x : X) → find p xs ≡ Some x → Contains xs x
-found_there p [] x e = absurd (none-some x e)
-found_there p (y ∷ xs) x e = elim (cases_Bool (p y)) [
-  | inl is ↦ (0, omega arith, same_Some y x (rw is at e))
-  | inr not ↦ let later = found_there p xs x (rw not at e) in (suc later.0, omega (arith, later.1), later.2)
-]
 
 reflector_there : (model : Model) (table : Members) → Gives (reflector_in model table) (Contains (reflectors_of model))
 unfolding reflector_in reflector_by_name
@@ -64,12 +58,6 @@ rows_in_rows table = each_read row_for (All IsReading) (each_is row_for IsReadin
 
 abbrev IsStanding : Place × Place → Type 0
 IsStanding bar = IsBefore bar.0 bar.1
-
-standing_read : (text : List ℕ) (bar : Place × Place) → standing_by_text text ≡ Some bar → IsStanding bar
-unfolding standing_by_text
-standing_read text bar e =
-    ltb-true _ _ (All-contains (λ bar. nat_lt (place_rank bar.0) (place_rank bar.1) ≡ true) standings bar
-    (AllPass-from_list_all (λ bar. nat_lt (place_rank bar.0) (place_rank bar.1)) standings refl) (found_there (λ standing. bytes_eq (standing_text standing) text) standings bar e))
 
 text_bar : (earlier : List (Place × Place)) (item : Data) (bar : Place × Place)
     → standing_for earlier item ≡ Ok bar → IsStanding bar

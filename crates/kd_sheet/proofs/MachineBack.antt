@@ -22,7 +22,8 @@ use Rattle.kd_sheet.proofs.{InTurn.then_read, Namings.model_by_name-text, PinLet
 use Rattle.kd_sheet.proofs.{PinLetters.rings_below, Prelude.string_text}
 use Rattle.kd_sheet.specs.declared.key.Key.TheVariants as keys
 use Rattle.kd_sheet.proofs.PartsBack.{texts, each_at_again, capitals_again, window_again, reflector_again, MayStand}
-use Rattle.kd_sheet.proofs.PartsBack.{seats_in_again, single_first, cables_again, pins_in_again, standing_again}
+use Rattle.kd_sheet.proofs.PartsBack.{seats_in_again, single_first, cables_again, pins_in_again}
+use Rattle.kd_sheet.proofs.Namings.{standing_again}
 
 -- ---- texts in double quotes
 

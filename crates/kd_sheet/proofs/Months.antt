@@ -12,7 +12,8 @@ use Rattle.kd_sheet.proofs.Prelude.{IsDayNumber, OfPins, OfRotors, day_number, d
 use Rattle.kd_sheet.proofs.Prelude.{table, view, Value}
 use Rattle.kd_sheet.specs.declared.key.Key.TheVariants as keys
 use Rattle.kd_sheet.proofs.InTurn.{same_found, given, there_was, nothing, on, on_none, read_more, as_many, read_at}
-use Rattle.kd_sheet.proofs.Legal.{Tells, described, found_there}
+use Rattle.kd_sheet.proofs.Legal.{Tells, described}
+use Rattle.kd_sheet.proofs.Namings.{found_there, passes}
 
 -- the day has the number
 abbrev has : ℕ → Day → Bool
@@ -131,10 +132,6 @@ IsTold items number day = (entry : Members) × Contains items (table entry) × (
     × (day_number day ≡ number)
 
 -- what is found passes; and what passes is found, where nothing before it does
-passes : {X : Type 0} (p : X → Bool) (xs : List X) (x : X) → find p xs ≡ Some x → p x ≡ true
-passes p [] x e = absurd (none-some x e)
-passes p (y ∷ xs) x e = grind (arith, cases_Bool, same_Some, passes p xs x)
-
 first_found : {X : Type 0} (p : X → Bool) (xs : List X) (k : ℕ) (d : X) → k < length xs → p (get_or xs k d) ≡ true
     → list_any p (take k xs) ≡ false → find p xs ≡ Some (get_or xs k d)
 first_found p [] k d within here none = absurd (omega arith)

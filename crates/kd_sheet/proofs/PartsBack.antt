@@ -7,7 +7,7 @@ use Rattle.kd_sheet.proofs.Prelude.{recursion_from_All, gets, slice_get_within, 
 use Rattle.kd_sheet.proofs.Prelude.{cable_for, letters_in_cable, pair_for, pairs_in, cable_of, pair_letters, each_at}
 use Rattle.kd_sheet.proofs.Prelude.{items_at, items_in, up_to, value_at, row_of_text, rows_in, may_read, row_for}
 use Rattle.kd_sheet.proofs.Prelude.{key_name, capital_letters, letters_at, model_in, reflector_in, cable_text}
-use Rattle.kd_sheet.proofs.Prelude.{pin_texts, seat_text, reflector_by_name, standing_by_text, number_to}
+use Rattle.kd_sheet.proofs.Prelude.{pin_texts, seat_text, reflector_by_name, number_to}
 use Rattle.kd_sheet.proofs.Prelude.{letters_on_wheels, pins_in, pins_of_item, shown_in, is_seated, seat_for}
 use Rattle.kd_sheet.proofs.Prelude.{seat_of_item, seats_in, wheel_for, may_be_empty, day_in, group_of_item, groups_in}
 use Rattle.kd_sheet.proofs.Prelude.{model_day_in, number_in, pin_day_in, rings_in, rotor_day_in, group_for}
@@ -15,9 +15,9 @@ use Rattle.kd_sheet.proofs.Prelude.{sheet_wheels, SheetFault, UnknownModel, Key,
 use Rattle.kd_sheet.proofs.Prelude.{has_wheel-Decides, has_reflector, AreAllowed, AreApart, AreCables, AreLetters}
 use Rattle.kd_sheet.proofs.Prelude.{AreOnWheels, HasAllPins, cable_letters, plugged_letters, AreSeated, Day, HasLetters}
 use Rattle.kd_sheet.proofs.Prelude.{IsDayNumber, IsLegalDay, IsLegalPinDay, IsLegalRotorDay, OfPins, OfRotors, PinDay}
-use Rattle.kd_sheet.proofs.Prelude.{RotorDay, seats, SheetWheel, IsBefore, IsReading, reading_text, standing_text}
+use Rattle.kd_sheet.proofs.Prelude.{RotorDay, seats, SheetWheel, IsReading, reading_text}
 use Rattle.kd_sheet.proofs.Prelude.{letters_of, model_text, reflector_text, reflectors_of, slots_of, wheel_text}
-use Rattle.kd_sheet.proofs.Prelude.{wheels_for, is_capital, letters_text, Model, M209, Place, Reflector, Wheel, Data}
+use Rattle.kd_sheet.proofs.Prelude.{wheels_for, is_capital, letters_text, Model, M209, Reflector, Wheel, Data}
 use Rattle.kd_sheet.proofs.Prelude.{Members, array, integer, member, no_members, string, items_of}
 use Rattle.kd_sheet.specs.declared.key.Key.TheVariants as keys
 use Rattle.kd_sheet.proofs.CableLetters.{AreFree, IsFree, free_at}
@@ -167,10 +167,6 @@ pub pins_in_again : (table : Members) (pins : PinSet)
     → HasAllPins pins → pins_in table ≡ Ok pins
 unfolding pins_in pins_of_item
 pins_in_again table pins there fit = grind (arith, pins_back, fit, then_read, items_at, texts_read)
-
-pub standing_again : (bar : Place × Place) → IsBefore bar.0 bar.1 → standing_by_text (standing_text bar) ≡ Some bar
-unfolding standing_by_text
-standing_again bar before = grind arith
 
 -- ---- wheels
 

@@ -34,7 +34,7 @@ impl ItemReader<Standing> for BarReader {
 pub fn bars_in(table: &Table) -> Result<[Standing; BARS], SheetFault>
     ensures { result ≡ bars_in (table_view table.now) }
 {
-    read_each(table, Key::Bars, &BarReader, Standing::all()[0])
+    read_each(table, Key::Bars, &BarReader, Standing::default())
 }
 
 /// The number of a figure from 0 to 6.

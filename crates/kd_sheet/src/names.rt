@@ -31,12 +31,8 @@ pub fn wheel_by_name(name: &str) -> Option<Wheel>
 }
 
 /// The standing of that text.
-#[tactic(auto, unfolding(crate::specs::Names::standing_by_text))]
 pub fn standing_by_text(text: &str) -> Option<Standing>
     ensures { result ≡ standing_by_text text.now }
 {
-    Standing::all()
-        .iter()
-        .copied()
-        .find(|standing| standing.text().as_str() == text)
+    Standing::from_text(text.as_bytes())
 }

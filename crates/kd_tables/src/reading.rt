@@ -6,7 +6,7 @@ use std::marker::Model;
 
 /// What a bar of the Converter M-209 reads as: the numbers of its lugs' places, the smaller first. The two numbers differ,
 /// or both are 0. Readings are in the order of the smaller number, and then of the larger one.
-#[derive(Clone, Copy, PartialEq, Eq, PartialOrd, Ord)]
+#[derive(Clone, Copy, Default, PartialEq, Eq, PartialOrd, Ord)]
 pub struct Reading {
     smaller: u8,
     larger: u8,

@@ -1,6 +1,6 @@
 ghost use Rattle.std.specs.Prelude.{◌≡◌, ◌≢◌, ◌↔◌, ◌==◌, MatchOption, IsSome, IfSome};
 ghost use Rattle.std.specs.List.{position};
-ghost use Rattle.kd_tables.specs.Places.{IsBefore, reading_of, standing_text, standings, AreNames};
+ghost use Rattle.kd_tables.specs.Places.{IsBefore, reading_of, standing_text, AreNames};
 
 use super::place::Place;
 use super::reading::Reading;
@@ -27,29 +27,17 @@ impl Model for Standing {
     ghost inverse = { λ places. record { left = places.0; right = places.1 } };
 }
 
-/// The standings of each left place, beside the right places that come after it.
-macro_rules! standings {
-    ($($left:ident: $($right:ident)*;)*) => {
-        [$($(Standing { left: Place::$left, right: Place::$right },)*)*]
-    };
+/// With both lugs as far to the left as they go.
+impl Default for Standing {
+    fn default() -> Self {
+        Standing {
+            left: Place::One,
+            right: Place::ZeroLeft,
+        }
+    }
 }
 
 impl Standing {
-    /// Every standing, in the order of the left place, and then of the right one.
-    pub fn all() -> [Standing; 28]
-        ensures { result ≡ standings }
-    {
-        standings! {
-            One: ZeroLeft Two Three Four Five ZeroRight Six;
-            ZeroLeft: Two Three Four Five ZeroRight Six;
-            Two: Three Four Five ZeroRight Six;
-            Three: Four Five ZeroRight Six;
-            Four: Five ZeroRight Six;
-            Five: ZeroRight Six;
-            ZeroRight: Six;
-        }
-    }
-
     /// The standing with the lugs at these places, if the left one's comes before the right one's.
     pub fn new(left: Place, right: Place) -> Option<Self>
         ensures exists { IsSome result ↔ IsBefore left right }
@@ -97,9 +85,10 @@ impl Standing {
 
     /// The standing of that text.
     pub fn from_text(text: &[u8]) -> Option<Self>
-        ensures { MatchOption result
+        ensures value { MatchOption result
             ((places : _) → IsBefore places.0 places.1 → standing_text places ≢ text.now)
             (λ standing. standing_text standing ≡ text.now) }
+        ensures before { IfSome result (λ standing. IsBefore standing.0 standing.1) }
     {
         let dash = dash_in(text)?;
         Standing::from_names(&text[..dash], &text[dash + 1..])

@@ -146,10 +146,17 @@ fn is_standing(rt: &impl Abort, standing: Standing, (text, reading): &(&str, &st
 }
 
 #[test]
-fn bars_have_28_standings(rt: HostRuntime) {
-    for (standing, told) in Standing::all().iter().zip(&STANDINGS) {
-        is_standing(&rt, *standing, told);
+fn bars_have_28_standings(rt: HostRuntime) -> Result<(), Fail> {
+    let mut told = STANDINGS.iter();
+    for left in Place::all() {
+        for right in Place::all() {
+            if let Some(standing) = Standing::new(left, right) {
+                is_standing(&rt, standing, told.next().ok_or("more than 28")?);
+            }
+        }
     }
+    assert!(rt; told.next().is_none());
+    Ok(())
 }
 
 /// Each reading in their order.

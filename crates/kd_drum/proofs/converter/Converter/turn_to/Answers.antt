@@ -1,4 +1,4 @@
-use Rattle.std.proofs.Common.{ap, ◌≡◌, ◌∙◌, ◌∷◌, [], arith, rules}
+use Rattle.std.proofs.Common.{ap, ◌∙◌, ◌∷◌, [], arith, rules}
 use Rattle.kd_drum.{proofs.Letters.shows_letter, proofs.Letters.six_letters, specs.Converter.OnWheels, specs.Converter.pin_key_turned}
 use Rattle.kd_drum.proofs.converter.Converter.turn_to.Goals as goal
 
