@@ -138,8 +138,8 @@ module _ (m : RotorParts) (s : RotorDay) (to : List ℕ) where
       let seats = counted_each seat_of _ (λ z. 0) (λ n z. counted_loose _ _ refl) (zip m.slots s.wheels) 1 in
       let reflector = counted_loose (same_reflector m.reflector s.reflector) (SeatReflector s.reflector) refl in
       let turns = counted_each (turn_of m) _ (λ z. 0) (λ n w. counted_loose _ _ refl) s.wheels 1 in
-      let pulled = counted_each pulls_of (λ z. 0) pulled_letters (λ n z. counted_map (λ letter. Pull n letter) (λ x. refl) (letters_apart (cable_letters z.0) (column_letters z.1))) cables 1 in
-      let put = counted_each puts_of (λ z. 0) put_letters (λ n z. counted_map (λ letter. Put n letter) (λ x. refl) (letters_apart (letters_due z.1) (cable_letters z.0))) cables 1 in
+      let pulled = counted_each (moves_of Out) (λ z. 0) pulled_letters (λ n z. counted_map (λ letter. Pull n letter) (λ x. refl) (letters_apart (cable_letters z.0) (column_letters z.1))) cables 1 in
+      let put = counted_each (moves_of In) (λ z. 0) put_letters (λ n z. counted_map (λ letter. Put n letter) (λ x. refl) (letters_apart (letters_due z.1) (cable_letters z.0))) cables 1 in
       let all = simp sum_none at (counted-append _ _ (counted-append _ _ (counted-append _ _ (counted-append _ _ (counted-append _ _ seats reflector) counted_rings) turns) pulled) put) in
       let sums = cable_sums cables pluggable in
       record { few = grind (arith, all.few, sums); priced = omega (arith, all.priced, sums) }

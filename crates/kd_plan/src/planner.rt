@@ -5,7 +5,7 @@ ghost use Rattle.kd_state.specs.Entry.{rotor_values, pin_values};
 ghost use Rattle.kd_plan.specs.Planned.{planned_lines, IsPlanned, Plans};
 
 use super::bar_lines::push_lugs;
-use super::cable_lines::{push_pulls, push_puts};
+use super::cable_lines::{Direction, push_moves};
 use super::card_prices::prices_due;
 use super::other_model::OtherModel;
 use super::pin_lines::{push_pin_turns, push_pins};
@@ -115,8 +115,8 @@ fn rotor_settings(
     push_reflector(&mut settings, parts.reflector, entry.reflector);
     push_rings(&mut settings, machine, parts, parts.model.wheels(), wheels);
     push_turns(&mut settings, machine, parts, 1, wheels);
-    push_pulls(&mut settings, 1, &parts.cables, pairs, to);
-    push_puts(&mut settings, 1, &parts.cables, pairs, to);
+    push_moves(&mut settings, Direction::Out, 1, &parts.cables, pairs, to);
+    push_moves(&mut settings, Direction::In, 1, &parts.cables, pairs, to);
     settings
 }
 

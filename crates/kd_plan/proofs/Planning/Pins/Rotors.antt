@@ -7,7 +7,8 @@ pub use Rattle.kd_card.proofs.{Shortest.proving_cards_are_shortest}
 pub use Rattle.kd_card.specs.Prices.{ArePrices, column_kinds, column_prices, how_many, row_kinds, row_prices, version_of}
 pub use Rattle.kd_card.specs.Proving.{AreOfKind, is_priced, LeadsToTheDay, priced_count, Proves, Same}
 pub use Rattle.kd_pins.specs.{PinWheels.pins_of, declared.pin_set.PinSet.PinSet}
-pub use Rattle.kd_plan.specs.Planned.{bars_beside, besides, IsPlanned, letters_apart, letters_due, lines_from, lugs_of, lugs_to, pin_lines, pin_of, pin_turn_lines, pin_turn_of, planned_lines, Plans, pulls_of, puts_of, reflector_lines, ring_lines, ring_of_wheel, seat_lines, seat_of, table_size, target_of, turn_lines, turn_of, unless_so, wheel_pin_lines}
+pub use Rattle.kd_plan.specs.Planned.{bars_beside, besides, IsPlanned, letters_apart, letters_due, lines_from, lugs_of, lugs_to, pin_lines, pin_of, moves_of, pin_turn_lines, pin_turn_of, planned_lines, Plans, reflector_lines, ring_lines, ring_of_wheel, seat_lines, seat_of, table_size, target_of, turn_lines, turn_of, unless_so, wheel_pin_lines}
+pub use Rattle.kd_plan.specs.declared.cable_lines.{Direction.TheVariants.In, Direction.TheVariants.Out}
 pub use Rattle.kd_state.proofs.CostTable.{at_most_four, columns_are_the_pairs, no_zero, one_zero, tests_tell_letters, thirteen_columns, zeros}
 pub use Rattle.kd_state.proofs.Cables.{free_tells}
 pub use Rattle.kd_state.proofs.Slots.{has_letter-Decides, is_some-place_on, numbered_at, set_here, set_other}
@@ -267,10 +268,10 @@ module _ (m : RotorParts) where
         let parts = and_parts (may x cable) (may_all may step (step x cable) letters) h in
         led_append (line x ∷ []) (map line letters) (one x cable parts.0) (in_turn may step line one (step x cable) letters parts.1)
 
-    pulled : (z : Beside) → Led (with_cable z.0) (pulls_of number z) (with_cable (once_pulled z))
+    pulled : (z : Beside) → Led (with_cable z.0) (moves_of Out number z) (with_cable (once_pulled z))
     pulled z = in_turn (λ x c. holds c x) cable_without (λ x. Pull number x) one_pulled z.0 _ (all_held (wants z.1) z.0)
 
-    put : (z : Beside) → IsPluggable z → ((x : ℕ) → wants z.1 x ≡ true → IsFree x) → Led (with_cable (once_pulled z)) (puts_of number z) (with_cable (once_put z))
+    put : (z : Beside) → IsPluggable z → ((x : ℕ) → wants z.1 x ≡ true → IsFree x) → Led (with_cable (once_pulled z)) (moves_of In number z) (with_cable (once_put z))
     put z h free =
         in_turn (takes (wants z.1)) cable_with (λ x. Put number x) (λ x c e. one_put (wants z.1) x c e (free x))
         (once_pulled z) _ (is_put z h).0
@@ -283,15 +284,15 @@ module _ (m : RotorParts) where
       grind (arith, list_any-append, sum_by-cons (λ (v : Beside). cond {A = ℕ} (wants v.1 y) 1 0) v vs, h v all.0, none_has f y h vs all.1)
 
   module _ (zs : List Beside) (pluggable : AllByRecursion IsPluggable zs) where
-    pub all_pulled : Led (with_cables (map (λ (z : Beside). z.0) zs)) (lines_from pulls_of 1 zs) (with_cables (map once_pulled zs))
+    pub all_pulled : Led (with_cables (map (λ (z : Beside). z.0) zs)) (lines_from (moves_of Out) 1 zs) (with_cables (map once_pulled zs))
     all_pulled =
-        cells_led with_cables (λ (z : Beside). z.0) once_pulled pulls_of zs (λ front back z e.
+        cells_led with_cables (λ (z : Beside). z.0) once_pulled (moves_of Out) zs (λ front back z e.
         rw length-map at (pulled (map once_pulled front) (map (λ (z : Beside). z.0) back) z))
 
     pub all_put : ((y : ℕ) → count_by (λ (v : Beside). wants v.1 y) zs ≤ 1)
-        → Led (with_cables (map once_pulled zs)) (lines_from puts_of 1 zs) (with_cables (map once_put zs))
+        → Led (with_cables (map once_pulled zs)) (lines_from (moves_of In) 1 zs) (with_cables (map once_put zs))
     all_put once =
-        cells_led with_cables once_pulled once_put puts_of zs (λ front back z e.
+        cells_led with_cables once_pulled once_put (moves_of In) zs (λ front back z e.
         let parts = all_parts IsPluggable zs front back z e pluggable in
         rw length-map at (put (map once_put front) (map once_pulled back) z parts.1 (λ y wanted.
         let counts = sum_by-append (λ (v : Beside). cond (wants v.1 y) 1 0) front (z ∷ back) in
