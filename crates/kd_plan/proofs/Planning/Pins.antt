@@ -1,8 +1,6 @@
 -- PIN, TURN and LUG, and that all lines of a Converter M-209 lead to the day.
 pub mod Rotors
 unfoldable pub use Rotors.*
-use Rattle.kd_state.specs.Pins.{pin_set, wheel_pins, with_pin}
-use Rattle.kd_tables.specs.Places.{IsBefore, IsReading, place_rank, places, reading_of, standings}
 
 -- ---- PIN: wheel after wheel, and on each wheel letter after letter, each of which stands at its own place
 letters_have_places : (number : ℕ) → map (place_on (ring_of number)) (ring_of number) ≡ map Some (range_with_len 0 (length (ring_of number)))
@@ -21,10 +19,9 @@ has_place number k letter e =
 pins_of_set : (lists : List (List Bool)) → length lists ≡ 6 → pins_of (pin_set lists) ≡ lists
 pins_of_set lists e = grind (arith, common_steps)
 
-second_map : {A B C : Type 0} (f : B → C) (xs : List A) (ys : List B) → length ys ≡ length xs → map (λ (z : A × B). f z.1) (zip xs ys) ≡ map f ys
-second_map f [] [] e = refl
-second_map f (x ∷ xs) (y ∷ ys) e = ap (λ zs. f y ∷ zs) (second_map f xs ys (omega arith))
-second_map f _ _ e = absurd (omega arith)
+second_map : {A B C : Type 0} (f : B → C) (xs : List A) (ys : List B) → length ys ≡ length xs
+    → map (λ (z : A × B). f z.1) (zip xs ys) ≡ map f ys
+second_map f xs ys e = sym (map-map f (λ z. z.1) (zip xs ys)) ∙ ap (map f) (seconds-zip xs ys e)
 
 -- a letter of a wheel, with its pin and the day's, and a wheel's pins beside the day's
 abbrev Cell : Type 0
@@ -67,8 +64,8 @@ module _ (m : PinParts) where
         let size : length (zip now day) ≡ length ring = omega (arith, length-zip now day) in
         let led =
         cells_led with_wheel (λ (w : Cell). w.1.0) (λ w. w.1.1) (λ n w. pin_of number w) cells (λ fs bs w is.
-        one_pin (map (λ (w : Cell). w.1.1) fs) (map (λ (w : Cell). w.1.0) bs) w
-        (rw length-map (has_place number (length fs) w.0 (rw (firsts-zip ring (zip now day) size) at (seam_map (λ (w : Cell). w.0) cells fs bs w is))))) in
+        let at = rw (firsts-zip ring (zip now day) size) at (seam_map (λ (w : Cell). w.0) cells fs bs w is) in
+        one_pin _ _ w (rw length-map (has_place number (length fs) w.0 at))) in
         let before = second_map (λ (pin : Bool × Bool). pin.0) ring (zip now day) size ∙ firsts-zip now day (d ∙ sym e) in
         let after = second_map (λ (pin : Bool × Bool). pin.1) ring (zip now day) size ∙ seconds-zip now day (d ∙ sym e) in
         rw (lines_of_each (pin_of number) cells 1) (rw (before, after) at led)
@@ -77,12 +74,11 @@ module _ (m : PinParts) where
   pins_lead day has due =
       let wheels = zip (pins_of m.pins) (pins_of day) in
       cells_led with_pins (λ (z : TwoPins). z.0) (λ z. z.1) (λ n z. wheel_pin_lines n (ring_of n) z.0 z.1) wheels (λ fs bs z e.
+      let now = ap (λ found. unwrap_or found []) (seam_map (λ (z : TwoPins). z.0) wheels fs bs z e) in
+      let wanted = ap (λ found. unwrap_or found []) (seam_map (λ (z : TwoPins). z.1) wheels fs bs z e) in
       let six : length fs + length bs ≡ 5 = omega (arith, ap length e, length-append fs (z ∷ bs)) in
-      let now : wheel_pins m.pins (suc (length fs)) ≡ z.0 = ap (λ found. unwrap_or found []) (seam_map (λ (z : TwoPins). z.0) wheels fs bs z e) in
-      let wanted : wheel_pins day (suc (length fs)) ≡ z.1 = ap (λ found. unwrap_or found []) (seam_map (λ (z : TwoPins). z.1) wheels fs bs z e) in
-      rw length-map at
-      (wheel_led (map (λ (z : TwoPins). z.1) fs) (map (λ (z : TwoPins). z.0) bs) (omega (arith, length-map fs (λ (z : TwoPins). z.1), length-map bs (λ (z : TwoPins). z.0))) z.0 z.1
-      (rw length-map (rw now at (has (suc (length fs))))) (rw length-map (rw wanted at (due (suc (length fs)))))))
+      wheel_led (map (λ (z : TwoPins). z.1) fs) (map (λ (z : TwoPins). z.0) bs) (simp length-map six) z.0 z.1
+      (rw (length-map, ← now) (has (suc (length fs)))) (rw (length-map, ← wanted) (due (suc (length fs)))))
 
   -- TURN
   abbrev with_shown : List ℕ → Parts
@@ -98,8 +94,8 @@ module _ (m : PinParts) where
       let due = seconds-zip m.letters window (on.count ∙ sym size) in
       let led =
       cells_led with_shown (λ (z : ℕ × ℕ). z.0) (λ z. z.1) pin_turn_of zs (λ fs bs z e.
-      rw length-map at (turn_led (map (λ (z : ℕ × ℕ). z.1) fs) (map (λ (z : ℕ × ℕ). z.0) bs) z
-      (rw length-map (on.each (suc (length fs)) z.1 (rw due at (seam_map (λ (z : ℕ × ℕ). z.1) zs fs bs z e)))))) in
+      let at = rw due at (seam_map (λ (z : ℕ × ℕ). z.1) zs fs bs z e) in
+      turn_led _ _ z (rw length-map (on.each (suc (length fs)) z.1 at))) in
       rw (firsts-zip m.letters window (on.count ∙ sym size), due) at led
 
 -- ---- LUG: where a bar is to stand, a standing that reads as the row with no more lugs moved than must be; and that its two
@@ -194,7 +190,7 @@ module _ (m : PinParts) where
   lugs_lead zs h =
       cells_led with_bars (λ (z : BarRow). z.0) to_stand lugs_of zs (λ front back z e.
       let movable = (all_parts IsMovable zs front back z e h).1 in
-      rw length-map at (lugs_led (map to_stand front) (map (λ (z : BarRow). z.0) back) z.0 (to_stand z) movable.stands (is_target z.0 z.1 movable.reading).0.0))
+      lugs_led _ _ z.0 (to_stand z) movable.stands (is_target z.0 z.1 movable.reading).0.0)
 
 -- the rows that the bars read as in the end
 rows_read : (zs : List BarRow) → AllByRecursion IsMovable zs → map (λ (bar : Place × Place). reading_of bar.0 bar.1) (map to_stand zs) ≡ map (λ (z : BarRow). z.1) zs
