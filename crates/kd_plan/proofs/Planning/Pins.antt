@@ -189,7 +189,7 @@ module _ (m : PinParts) where
   lugs_lead : (zs : List BarRow) → AllByRecursion IsMovable zs → Led (with_bars (map (λ (z : BarRow). z.0) zs)) (lines_from lugs_of 1 zs) (with_bars (map to_stand zs))
   lugs_lead zs h =
       cells_led with_bars (λ (z : BarRow). z.0) to_stand lugs_of zs (λ front back z e.
-      let movable = (all_parts IsMovable zs front back z e h).1 in
+      let movable = (all_parts IsMovable front z back (subst (AllByRecursion IsMovable) e h)).1 in
       lugs_led _ _ z.0 (to_stand z) movable.stands (is_target z.0 z.1 movable.reading).0.0)
 
 -- the rows that the bars read as in the end

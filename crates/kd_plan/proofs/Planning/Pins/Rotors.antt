@@ -24,7 +24,7 @@ pub use Rattle.kd_state.proofs.Wheels.{same_wheel_differs, same_wheel_self}
 pub use Rattle.kd_state.specs.Costs.{bar_cost, cable_cost, column_letters, columns_of, cost_table, differ, loose_count}
 pub use Rattle.kd_state.specs.Costs.{loose_rings, lugs_moved, reads_as_row, unless_same}
 pub use Rattle.kd_state.specs.{Entry.pin_values, Entry.rotor_values, Machine.AreOnWheels}
-pub use Rattle.kd_state.specs.Machine.{HasAllPins, IsMachine, cable_letters, model_of, plugged_letters, ring_at}
+pub use Rattle.kd_state.specs.Machine.{StandsAt, HasAllPins, IsMachine, cable_letters, model_of, plugged_letters, ring_at}
 pub use Rattle.kd_state.specs.{OnKey.AreThePairs, OnKey.IsPaired, OnKey.Joins, OnKey.OnKey, Pins.pin_set, Pins.with_pin}
 pub use Rattle.kd_state.specs.Setting.{Leads, cable_with, cable_without, changed, has_letter, is_at, is_plugged}
 pub use Rattle.kd_state.specs.Setting.{lug_place, why_refused, with_lug, without}
@@ -105,14 +105,10 @@ module _ {X : Type 0} where
   seam_set front x back new = ap (λ place. set (front ++ x ∷ back) place new) (omega arith) ∙ set_at front x back new (length front) refl
 
   -- what holds of each element
-  parted : (P : X → Type 0) (front : List X) (x : X) (back : List X) → AllByRecursion P (front ++ x ∷ back)
+  pub all_parts : (P : X → Type 0) (front : List X) (x : X) (back : List X) → AllByRecursion P (front ++ x ∷ back)
       → AllByRecursion P front × P x × AllByRecursion P back
-  parted P [] x back h = (tt, h.0, h.1)
-  parted P (y ∷ front) x back h = let rest = parted P front x back h.1 in ((h.0, rest.0), rest.1, rest.2)
-
-  pub all_parts : (P : X → Type 0) (xs front back : List X) (x : X) → xs ≡ front ++ x ∷ back → AllByRecursion P xs
-      → AllByRecursion P front × P x × AllByRecursion P back
-  all_parts P xs front back x e h = parted P front x back (subst (AllByRecursion P) e h)
+  all_parts P [] x back h = (tt, h.0, h.1)
+  all_parts P (y ∷ front) x back h = let rest = all_parts P front x back h.1 in ((h.0, rest.0), rest.1, rest.2)
 
 -- things of which no two are alike in something: one of them, and those in front of it and behind it
 apart_at : {X Y : Type 0} (f : X → Y) (front : List X) (x : X) (back : List X)
@@ -155,16 +151,6 @@ led_unless so m n x same made allowed = grind (arith, led_none, led_cons)
 pub lines_of_each : {X : Type 0} (f : X → List Setting) (xs : List X) (number : ℕ) → flat_map f xs ≡ lines_from (λ n x. f x) number xs
 lines_of_each f [] number = refl
 lines_of_each f (x ∷ xs) number = ap (λ lines. f x ++ lines) (lines_of_each f xs (number + 1))
-
--- what holds of things by their numbers
-abbrev pub AllFrom : {X : Type 0} → (ℕ → X → Type 0) → ℕ → List X → Type 0
-AllFrom P number [] = Unit {0}
-AllFrom P number (x ∷ xs) = P number x × AllFrom P (number + 1) xs
-
-pub all_from : {X : Type 0} (P : ℕ → X → Type 0) (number : ℕ) (xs : List X) → ((k n : ℕ) (d : X) → n ≡ k + number → k < length xs → P n (get_or xs k d)) → AllFrom P number xs
-all_from P number [] h = tt
-all_from P number (x ∷ xs) h =
-    (h zero number x (omega arith) (omega arith), all_from P (number + 1) xs (λ k n d e lt. h (suc k) n d (omega arith) (omega arith)))
 
 -- Things one after another, each with lines of its own: the machine is told by the things that are done and those that aren't.
 module _ {Z : Type 0} (state : List Z → List Z → Parts) (lines : ℕ → Z → List Setting) where
@@ -335,7 +321,7 @@ module _ (m : RotorParts) where
       → Led (with_cables (map once_pulled zs)) (lines_from (moves_of In) 1 zs) (with_cables (map once_put zs))
   all_put pairs zs pluggable once =
       cells_led with_cables once_pulled once_put (moves_of In) zs (λ front back z e.
-      let parts = all_parts (IsPluggable pairs) zs front back z e pluggable in
+      let parts = all_parts (IsPluggable pairs) front z back (subst (AllByRecursion (IsPluggable pairs)) e pluggable) in
       put _ _ z parts.1 (λ y wanted.
       let counts = sum_by-append (λ (v : Beside). cond (wants v.1 y) 1 0) front (z ∷ back) in
       let here = sum_by-cons (λ (v : Beside). cond (wants v.1 y) 1 0) z back in
@@ -415,16 +401,14 @@ kept_seat : (wheel other : Wheel) (seated : Option Wheel) → wheel ≢ other
     → option_map_or (same_wheel other) (without wheel seated) false ≡ option_map_or (same_wheel other) seated false
 kept_seat wheel other seated e = grind (arith, cond_both, same_wheel-Decides)
 
-kept_seats : (wheel : Wheel) (slots : List (Option Wheel)) (wheels : List SheetWheel) (number : ℕ) → AllByRecursion (λ w. wheel ≢ w.wheel) wheels
-    → lines_from seat_of number (zip (map (without wheel) slots) wheels) ≡ lines_from seat_of number (zip slots wheels)
-kept_seats wheel [] wheels number h = refl
-kept_seats wheel slots [] number h = grind arith
-kept_seats wheel (now ∷ slots) (w ∷ wheels) number h =
-    rw (kept_seat wheel w.wheel now h.0, kept_seats wheel slots wheels (number + 1) h.1) refl
-
-kept_unless : (so : Bool) (wheel : Wheel) (slots : List (Option Wheel)) (wheels : List SheetWheel) (number : ℕ) → AllByRecursion (λ w. wheel ≢ w.wheel) wheels
+kept_seats : (so : Bool) (wheel : Wheel) (slots : List (Option Wheel)) (wheels : List SheetWheel) (number : ℕ)
+    → AllByRecursion (λ w. wheel ≢ w.wheel) wheels
     → lines_from seat_of number (zip (cond so slots (map (without wheel) slots)) wheels) ≡ lines_from seat_of number (zip slots wheels)
-kept_unless so wheel slots wheels number h = grind (arith, kept_seats wheel slots wheels number h)
+kept_seats true wheel slots wheels number h = refl
+kept_seats false wheel [] wheels number h = refl
+kept_seats false wheel slots [] number h = grind arith
+kept_seats false wheel (now ∷ slots) (w ∷ wheels) number h =
+    rw (kept_seat wheel w.wheel now h.0, kept_seats false wheel slots wheels (number + 1) h.1) refl
 
 module _ (m : RotorParts) where
   abbrev pub with_slots : List (Option Wheel) → Parts
@@ -442,18 +426,24 @@ module _ (m : RotorParts) where
       → Led (with_slots (front ++ now ∷ slots)) (seat_of number (now, w)) (with_slots (front ++ Some w.wheel ∷ behind now w slots))
   seat_led front slots now w number e allowed absent = grind (arith, common_steps, false, led_unless, set_at, allowed)
 
-  seats_led : (front slots : List (Option Wheel)) (wheels : List SheetWheel) (number : ℕ) → number ≡ suc (length front) → length slots ≡ length wheels
-      → AllFrom (λ slot (w : SheetWheel). IsAllowed m.model slot w.wheel) number wheels → All (IsAbsent front) wheels → AllPairs (λ (w v : SheetWheel). w.wheel ≢ v.wheel) wheels
+  seats_led : (front slots : List (Option Wheel)) (wheels : List SheetWheel) (number : ℕ) → number ≡ suc (length front)
+      → length slots ≡ length wheels
+      → ((k n : ℕ) (wheel : Wheel) → n ≡ k + number → StandsAt (seats wheels) k wheel → IsAllowed m.model n wheel)
+      → All (IsAbsent front) wheels → AllPairs (λ (w v : SheetWheel). w.wheel ≢ v.wheel) wheels
       → Led (with_slots (front ++ slots)) (lines_from seat_of number (zip slots wheels)) (with_slots (front ++ seats wheels))
   seats_led front [] [] number e size allowed absent apart = led_none refl
   seats_led front (now ∷ slots) (w ∷ wheels) number e size allowed absent apart =
-      let others = recursion_from_All (λ (v : SheetWheel). w.wheel ≢ v.wheel) wheels (λ k d lt. apart zero (suc k) d (omega arith) (omega arith)) in
+      let others = recursion_from_All (λ (v : SheetWheel). w.wheel ≢ v.wheel) wheels
+      (λ k d lt. apart zero (suc k) d (omega arith) (omega arith)) in
       let rest =
-      seats_led (front ++ Some w.wheel ∷ []) (behind now w slots) wheels (number + 1) (omega (arith, length-append front (Some w.wheel ∷ []))) (grind (arith, length-map)) allowed.1
+      seats_led (front ++ Some w.wheel ∷ []) (behind now w slots) wheels (number + 1)
+      (omega (arith, length-append front (Some w.wheel ∷ []))) (grind (arith, length-map))
+      (λ k n wheel e at. allowed (suc k) n wheel (omega arith) at)
       (λ k d lt. grind (arith, map-append, absent (suc k) d (omega arith), apart zero (suc k) d (omega arith) (omega arith), same_wheel-Decides))
-      (λ i j d before lt. apart (suc i) (suc j) d (omega arith) (omega arith)) in
-      led_append (seat_of number (now, w)) (lines_from seat_of (number + 1) (zip slots wheels)) (seat_led front slots now w number e allowed.0 (absent zero w (omega arith)))
-      (rw (kept_unless (option_map_or (same_wheel w.wheel) now false) w.wheel slots wheels (number + 1) others) at (simp append_assoc at rest))
+      (all_pairs_remove (λ (w v : SheetWheel). w.wheel ≢ v.wheel) (w ∷ wheels) zero (omega arith) apart) in
+      let here = seat_led front slots now w number e (allowed zero number w.wheel (omega arith) refl) (absent zero w (omega arith)) in
+      led_append (seat_of number (now, w)) (lines_from seat_of (number + 1) (zip slots wheels)) here
+      (rw (kept_seats (option_map_or (same_wheel w.wheel) now false) w.wheel slots wheels (number + 1) others) at (simp append_assoc at rest))
   seats_led front _ _ number e size allowed absent apart = absurd (omega arith)
 
   -- REFLECTOR
@@ -465,9 +455,10 @@ set_same : (xs : List ℕ) (p v : ℕ) → slice_get xs p ≡ Some v → set xs 
 set_same xs p v e = rw (get_or_from_slice_get xs p v 0 e) at (set-get_or xs p 0)
 
 -- ---- the planned lines of a rotor machine lead to the day.
-found : {X : Type 0} (p : X → Bool) (xs : List X) (x : X) → find p xs ≡ Some x → p x ≡ true
-found p [] x e = absurd cc
-found p (y ∷ xs) x e = grind (arith, found p xs x)
+is_the_one : (wheel : Wheel) (wheels : List SheetWheel) (w : SheetWheel)
+    → find (λ (v : SheetWheel). same_wheel wheel v.wheel) wheels ≡ Some w → wheel ≡ w.wheel
+is_the_one wheel [] w e = absurd cc
+is_the_one wheel (v ∷ wheels) w e = grind (arith, same_wheel-Decides, is_the_one wheel wheels w)
 
 module _ (m : RotorParts) (s : RotorDay) (machine : IsMachine (Rotor m)) (legal : IsLegalRotorDay s) (same : m.model ≡ s.model) (to : List ℕ) (count : length to ≡ 13) (one_to_one : IsOneToOne to) where
   are_seated : AreSeated m.model (seats s.wheels)
@@ -476,19 +467,18 @@ module _ (m : RotorParts) (s : RotorDay) (machine : IsMachine (Rotor m)) (legal 
   abbrev place : SheetWheel → ℕ
   place w = place_in_box m.model w.wheel
 
-  allowed : (k n : ℕ) (d : SheetWheel) → n ≡ k + 1 → k < length s.wheels → IsAllowed m.model n (get_or s.wheels k d).wheel
-  allowed k n d e lt = rw e (are_seated.allowed k (get_or s.wheels k d).wheel (seated s.wheels k d lt))
-
   boxed : (k : ℕ) (d : SheetWheel) → k < length s.wheels → Contains (box_of m.model) (get_or s.wheels k d).wheel
-  boxed k d lt = allowed_in_box m.model (k + 1) (get_or s.wheels k d).wheel (allowed k (k + 1) d refl lt)
+  boxed k d lt =
+      let wheel = (get_or s.wheels k d).wheel in
+      allowed_in_box m.model (k + 1) wheel (are_seated.allowed k wheel (seated s.wheels k d lt))
 
   places_differ : AllPairs (λ (w v : SheetWheel). place w ≢ place v) s.wheels
   places_differ = days_wheels_have_their_places m.model s.wheels are_seated
 
   seats_lead : Led (Rotor m) (seat_lines m s.wheels) (with_slots m (seats s.wheels))
   seats_lead =
-      seats_led m [] m.slots s.wheels 1 refl (grind (arith, length-map)) (all_from (λ slot (w : SheetWheel). IsAllowed m.model slot w.wheel) 1 s.wheels allowed) (λ k d lt. refl)
-      (λ i j d before lt same. places_differ i j d before lt (ap (place_in_box m.model) same))
+      seats_led m [] m.slots s.wheels 1 refl (grind (arith, length-map)) (λ k n wheel e at. rw e (are_seated.allowed k wheel at))
+      (λ k d lt. refl) (λ i j d before lt same. places_differ i j d before lt (ap (place_in_box m.model) same))
 
   apart : (front back : List SheetWheel) (w : SheetWheel) → s.wheels ≡ front ++ w ∷ back
       → AllByRecursion (λ v. place w ≢ place v) front × AllByRecursion (λ v. place w ≢ place v) back
@@ -497,10 +487,6 @@ module _ (m : RotorParts) (s : RotorDay) (machine : IsMachine (Rotor m)) (legal 
   -- RING: the day's wheel that is one of the box, if there is one, and the rings by the wheels of the box
   abbrev the_one : Wheel → Option SheetWheel
   the_one wheel = find (λ (w : SheetWheel). same_wheel wheel w.wheel) s.wheels
-
-  is_the_one : (wheel : Wheel) (w : SheetWheel) → the_one wheel ≡ Some w → wheel ≡ w.wheel
-  is_the_one wheel w e =
-      (same_wheel-Decides wheel w.wheel).0 (found (λ (w : SheetWheel). same_wheel wheel w.wheel) s.wheels w e)
 
   one_is : (k : ℕ) (d : SheetWheel) → k < length s.wheels → the_one (get_or s.wheels k d).wheel ≡ Some (get_or s.wheels k d)
   one_is k d lt =
@@ -530,7 +516,7 @@ module _ (m : RotorParts) (s : RotorDay) (machine : IsMachine (Rotor m)) (legal 
   ring_led front back wheel (Some w) e here =
       let lt = slice_get_within (box_of m.model) (length front) wheel here in
       let is = get_or_from_slice_get (box_of m.model) (length front) wheel wheel here in
-      let same = is_the_one wheel w e in
+      let same = is_the_one wheel s.wheels w e in
       let placed = rw (is, same) at (place_is m.model (length front) wheel lt) in
       let at = slice_get-get_or m.rings (length front) 0 (omega (arith, machine.legal.rings.count)) in
       let has : has_wheel (box_of m.model) w.wheel ≡ true = (has_wheel-Decides (box_of m.model) w.wheel).1 (rw (← same) (length front, lt, is)) in
