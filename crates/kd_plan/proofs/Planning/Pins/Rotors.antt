@@ -213,15 +213,6 @@ pub record IsPluggable (pairs : List (ℕ × ℕ)) (z : Beside) : Type 0 where
   pub due : AreProper (column_letters z.1)
   pub known : (pair : ℕ × ℕ) → z.1 ≡ Some pair → Contains pairs pair
 
--- letters can be pulled or put one after another, each where it may be
-abbrev may_all : (ℕ → Cable → Bool) → (ℕ → Cable → Cable) → Cable → List ℕ → Bool
-may_all may step cable [] = true
-may_all may step cable (x ∷ letters) = may x cable && may_all may step (step x cable) letters
-
--- a letter can be put that is due and not in the cable, if it has a loose end
-abbrev takes : (ℕ → Bool) → ℕ → Cable → Bool
-takes due x cable = due x && (not (holds cable x) && not (is_plugged cable))
-
 -- the cable with those of its letters that are due, and then with those letters that it hadn't
 abbrev left_in : (ℕ → Bool) → Cable → Cable
 left_in due cable = fold (λ c x. cable_without x c) cable (filter (λ x. not (due x)) (cable_letters cable))
@@ -236,34 +227,25 @@ once_pulled z = left_in (wants z.1) z.0
 abbrev pub once_put : Beside → Cable
 once_put z = put_in (wants z.1) z.0 (letters_due z.1)
 
-all_held : (due : ℕ → Bool) (cable : Cable) → may_all (λ x c. holds c x) cable_without cable (filter (λ x. not (due x)) (cable_letters cable)) ≡ true
-all_held due cable = grind (arith, nat_tests)
-
 left_is : (due : ℕ → Bool) (cable : Cable) (y : ℕ) → holds (left_in due cable) y ≡ (holds cable y && due y)
 left_is due cable y = grind (arith, nat_tests)
 
--- the letters can be put, and in the end the cable has those that are due
-abbrev IsPut : (ℕ → Bool) → Cable → List ℕ → Type 0
-IsPut due cable letters =
-    (may_all (takes due) cable_with (left_in due cable) (letters_apart letters (cable_letters cable)) ≡ true)
-    × ((y : ℕ) → holds (put_in due cable letters) y ≡ due y)
-
+-- two letters that are due are put, and a pair's in order are its letters
 two_put : (a b : ℕ) (due : ℕ → Bool) (cable : Cable) → nat_eq a b ≡ false → ((y : ℕ) → due y ≡ has_letter (a ∷ b ∷ []) y)
-    → IsDistinct nat_eq (cable_letters cable) → IsPut due cable (a ∷ b ∷ [])
+    → IsDistinct nat_eq (cable_letters cable) → (y : ℕ) → holds (put_in due cable (a ∷ b ∷ [])) y ≡ due y
 unfolding IsDistinct
-two_put a b due cable apart both once = (grind (arith, nat_tests, both), λ y. grind (arith, nat_tests, both))
+two_put a b due cable apart both once y = grind (arith, nat_tests, both)
 
--- a pair's letters in order
 in_their_order : (a b : ℕ) → nat_eq a b ≡ false
     → (nat_eq (min a b) (max a b) ≡ false) × ((y : ℕ) → has_letter (a ∷ b ∷ []) y ≡ has_letter (min a b ∷ max a b ∷ []) y)
 in_their_order a b e = (grind (arith, nat_tests), λ y. grind (arith, nat_tests))
 
-pub is_put : {pairs : List (ℕ × ℕ)} (z : Beside) → IsPluggable pairs z → IsPut (wants z.1) z.0 (letters_due z.1)
+pub is_put : {pairs : List (ℕ × ℕ)} (z : Beside) → IsPluggable pairs z → (y : ℕ) → holds (once_put z) y ≡ wants z.1 y
 unfolding IsDistinct
-is_put (cable, None) h = (refl, λ y. grind (arith, left_is))
-is_put (cable, Some pair) h =
+is_put (cable, None) h y = grind (arith, left_is)
+is_put (cable, Some pair) h y =
     let order = in_their_order pair.0 pair.1 h.due.apart.0.0 in
-    two_put (min pair.0 pair.1) (max pair.0 pair.1) (wants (Some pair)) cable order.0 order.1 h.held.apart
+    two_put (min pair.0 pair.1) (max pair.0 pair.1) (wants (Some pair)) cable order.0 order.1 h.held.apart y
 
 -- One cable among others.
 module _ (m : RotorParts) where
@@ -277,33 +259,28 @@ module _ (m : RotorParts) where
     abbrev number : ℕ
     number = suc (length front)
 
-    one_pulled : (x : ℕ) (cable : Cable) → holds cable x ≡ true → Led (with_cable cable) (Pull number x ∷ []) (with_cable (cable_without x cable))
-    one_pulled x cable e = grind (arith, led_cons, led_none, seam_get, seam_set)
+    pulled : (z : Beside) → Led (with_cable z.0) (moves_of Out number z) (with_cable (once_pulled z))
+    pulled z = grind (arith, nat_tests, led_cons, led_none, seam_get, seam_set)
 
     -- the letter lies in none of the others
     abbrev IsFree : ℕ → Type 0
     IsFree x = (has_letter (plugged_letters front) x ≡ false) × (has_letter (plugged_letters back) x ≡ false)
 
-    one_put : (due : ℕ → Bool) (x : ℕ) (cable : Cable) → takes due x cable ≡ true → (due x ≡ true → IsFree x)
-        → Led (with_cable cable) (Put number x ∷ []) (with_cable (cable_with x cable))
-    one_put due x cable e free = grind (arith, false, led_cons, led_none, flat_map-append, list_any-append, seam_get, seam_set)
+    two_led : (a b : ℕ) (due : ℕ → Bool) (cable : Cable) → nat_eq a b ≡ false → ((y : ℕ) → due y ≡ has_letter (a ∷ b ∷ []) y)
+        → IsDistinct nat_eq (cable_letters cable) → ((x : ℕ) → due x ≡ true → IsFree x)
+        → Led (with_cable (left_in due cable)) (map (λ x. Put number x) (letters_apart (a ∷ b ∷ []) (cable_letters cable)))
+        (with_cable (put_in due cable (a ∷ b ∷ [])))
+    unfolding IsDistinct
+    two_led a b due cable apart both once free =
+        grind (arith, nat_tests, both, free a, free b, false, led_cons, led_none, flat_map-append, list_any-append, seam_get, seam_set)
 
-    in_turn : (may : ℕ → Cable → Bool) (step : ℕ → Cable → Cable) (line : ℕ → Setting)
-        → ((x : ℕ) (cable : Cable) → may x cable ≡ true → Led (with_cable cable) (line x ∷ []) (with_cable (step x cable)))
-        → (cable : Cable) (letters : List ℕ) → may_all may step cable letters ≡ true
-        → Led (with_cable cable) (map line letters) (with_cable (fold (λ c x. step x c) cable letters))
-    in_turn may step line one cable [] h = led_none refl
-    in_turn may step line one cable (x ∷ letters) h =
-        let parts = and_parts (may x cable) (may_all may step (step x cable) letters) h in
-        led_append (line x ∷ []) (map line letters) (one x cable parts.0) (in_turn may step line one (step x cable) letters parts.1)
-
-    pulled : (z : Beside) → Led (with_cable z.0) (moves_of Out number z) (with_cable (once_pulled z))
-    pulled z = in_turn (λ x c. holds c x) cable_without (λ x. Pull number x) one_pulled z.0 _ (all_held (wants z.1) z.0)
-
-    put : {pairs : List (ℕ × ℕ)} (z : Beside) → IsPluggable pairs z → ((x : ℕ) → wants z.1 x ≡ true → IsFree x) → Led (with_cable (once_pulled z)) (moves_of In number z) (with_cable (once_put z))
-    put z h free =
-        in_turn (takes (wants z.1)) cable_with (λ x. Put number x) (λ x c e. one_put (wants z.1) x c e (free x))
-        (once_pulled z) _ (is_put z h).0
+    put : {pairs : List (ℕ × ℕ)} (z : Beside) → IsPluggable pairs z → ((x : ℕ) → wants z.1 x ≡ true → IsFree x)
+        → Led (with_cable (once_pulled z)) (moves_of In number z) (with_cable (once_put z))
+    unfolding IsDistinct
+    put (cable, None) h free = led_none refl
+    put (cable, Some pair) h free =
+        let order = in_their_order pair.0 pair.1 h.due.apart.0.0 in
+        two_led (min pair.0 pair.1) (max pair.0 pair.1) (wants (Some pair)) cable order.0 order.1 h.held.apart free
 
   -- the letters of one column lie in no other cable
   none_has : {pairs : List (ℕ × ℕ)} (f : Beside → Cable) (y : ℕ)
@@ -327,7 +304,7 @@ module _ (m : RotorParts) where
       let here = sum_by-cons (λ (v : Beside). cond (wants v.1 y) 1 0) z back in
       let one : cond {A = ℕ} (wants z.1 y) 1 0 ≡ 1 = ap (λ b. cond b 1 0) wanted in
       let all = ap (count_by (λ (v : Beside). wants v.1 y)) e in (
-        none_has once_put y (λ v h d. (is_put v h).1 y ∙ d) front parts.0 (omega (arith, once y, counts, here, one, all)),
+        none_has once_put y (λ v h d. is_put v h y ∙ d) front parts.0 (omega (arith, once y, counts, here, one, all)),
         none_has once_pulled y (λ v h d. grind (arith, left_is (wants v.1) v.0 y)) back parts.2 (omega (arith, once y, counts, here, one, all)),
       )))
 
@@ -372,10 +349,10 @@ no_letters (x ∷ xs) h = absurd (grind (arith, nat_tests, h x))
 
 joins : {pairs : List (ℕ × ℕ)} (z : Beside) (pair : ℕ × ℕ) → IsPluggable pairs z → z.1 ≡ Some pair → Joins (once_put z) pair
 joins z pair h e =
-    record { letters = (tests_tell_letters (cable_letters (once_put z)) (pair.0 ∷ pair.1 ∷ [])).1 (λ y. (is_put z h).1 y ∙ ap (λ column. wants column y) e) }
+    record { letters = (tests_tell_letters (cable_letters (once_put z)) (pair.0 ∷ pair.1 ∷ [])).1 (λ y. is_put z h y ∙ ap (λ column. wants column y) e) }
 
 is_paired : (pairs : List (ℕ × ℕ)) (z : Beside) (column : Column) → z.1 ≡ column → IsPluggable pairs z → IsPaired pairs (once_put z)
-is_paired pairs z None e h = grind (arith, joins, no_letters, (is_put z h).1)
+is_paired pairs z None e h = grind (arith, joins, no_letters, is_put z h)
 is_paired pairs z (Some pair) e h = grind (arith, h.known pair e, joins z pair h e)
 
 are_joined : (pairs : List (ℕ × ℕ)) (zs : List Beside) (pair : ℕ × ℕ) → AllByRecursion (IsPluggable pairs) zs
