@@ -10,14 +10,10 @@ pub record AreCounted (lines : List Setting) (loose cost : ℕ) : Type 0 where
 pub counted-append : {a b p q : ℕ} (xs ys : List Setting) → AreCounted xs a p → AreCounted ys b q → AreCounted (xs ++ ys) (a + b) (p + q)
 counted-append xs ys h k = grind (arith, length-append, sum_by-append)
 
--- a line that is left out where things are so: of other things, and of cables and bars
+-- a line of another thing that is left out where it is so
 counted_loose : (so : Bool) (x : Setting) → is_priced x ≡ false
     → AreCounted (option_to_list (unless_so so x)) (cond (not so) 1 0) 0
 counted_loose so x e = grind arith
-
-counted_priced : (so : Bool) (x : Setting) → is_priced x ≡ true
-    → AreCounted (option_to_list (unless_so so x)) 0 (unless_same so)
-counted_priced so x e = grind arith
 
 -- lines of things by their numbers
 counted_each : {Z : Type 0} (lines : ℕ → Z → List Setting) (f g : Z → ℕ)
@@ -30,10 +26,6 @@ counted_each lines f g h (z ∷ zs) number =
 sum_none : {Z : Type 0} (zs : List Z) → sum_by (λ z. 0) zs ≡ 0
 sum_none [] = refl
 sum_none (z ∷ zs) = simp sum_by-cons (omega (arith, sum_none zs))
-
-counted_map : (line : ℕ → Setting) → ((x : ℕ) → is_priced (line x) ≡ true) → (xs : List ℕ) → AreCounted (map line xs) 0 (length xs)
-counted_map line h [] = record { few = omega arith; priced = refl }
-counted_map line h (x ∷ xs) = grind (arith, counted_map line h xs, sum_by-cons (λ x. cond {A = ℕ} (is_priced x) 1 0) (line x) (map line xs), h)
 
 -- a cable's letters are pulled and put as many as its column costs, and 4 at most
 one_letter : (p q : Bool) → cond {A = ℕ} (p && not q) 1 0 + cond (q && not p) 1 0 ≡ cond (differ p q) 1 0
@@ -84,16 +76,18 @@ cable_sums pairs (z ∷ zs) h =
     let here = sum_by-cons (λ (z : Beside). cable_cost z.0 z.1) z zs in
     omega (arith, sum_by-cons pulled_letters z zs, sum_by-cons put_letters z zs, here, cable_lines z h.0, cable_sums pairs zs h.1)
 
--- a bar's lines are as many as lugs are moved
-counted_lugs : (number : ℕ) (bar target : Place × Place) → AreCounted (lugs_to number bar target) 0 (lugs_moved bar target)
-counted_lugs number bar target = grind (arith, common_steps, counted_priced, cond_both, counted-append)
+-- a bar's lines are as many as lugs are moved, in either order
+counted_both : (first a b : Bool) (x y : Setting) → is_priced x ≡ true → is_priced y ≡ true
+    → let one = option_to_list (unless_so a x) in
+    let other = option_to_list (unless_so b y) in AreCounted (cond first (one ++ other) (other ++ one)) 0 (unless_same a + unless_same b)
+counted_both first a b x y e d = grind arith
 
 counted_lines : (zs : List BarRow) (number : ℕ) → AllByRecursion IsMovable zs
     → AreCounted (lines_from lugs_of number zs) 0 (sum_by (λ z. bar_cost z.0 z.1) zs)
 counted_lines [] number h = record { few = omega arith; priced = refl }
 counted_lines (z ∷ zs) number h =
     rw sum_by-cons (counted-append _ _ (subst (AreCounted (lugs_of number z) 0) (is_target z.0 z.1 h.0.reading).1
-    (counted_lugs number z.0 (to_stand z))) (counted_lines zs (number + 1) h.1))
+    (counted_both _ _ _ _ _ refl refl)) (counted_lines zs (number + 1) h.1))
 
 least_at_most : (n : ℕ) (xs : List ℕ) → fold min n xs ≤ n
 least_at_most n [] = omega arith
@@ -125,7 +119,7 @@ finds_first test w wheels b = grind arith
 
 found_at_most : (test : SheetWheel → Bool) (model : Model) (wheels : List SheetWheel)
     → count_by (finds test wheels) (box_of model) ≤ count_by test wheels
-found_at_most test model [] = omega (arith, sum_none (box_of model))
+found_at_most test model [] = grind arith
 found_at_most test model (w ∷ wheels) =
     grind (arith, common_steps, sum_by-le-sum_by, finds_first, sums_add, once_in_box, sum_by-cons, found_at_most test model wheels)
 
@@ -147,10 +141,8 @@ module _ (m : RotorParts) (s : RotorDay) (to : List ℕ) where
       let seats = counted_each seat_of _ (λ z. 0) (λ n z. counted_loose _ _ refl) (zip m.slots s.wheels) 1 in
       let reflector = counted_loose (same_reflector m.reflector s.reflector) (SeatReflector s.reflector) refl in
       let turns = counted_each (turn_of m) _ (λ z. 0) (λ n w. counted_loose _ _ refl) s.wheels 1 in
-      let pulled = counted_each (moves_of Out) (λ z. 0) pulled_letters
-      (λ n z. counted_map (λ letter. Pull n letter) (λ x. refl) _) cables 1 in
-      let put = counted_each (moves_of In) (λ z. 0) put_letters
-      (λ n z. counted_map (λ letter. Put n letter) (λ x. refl) _) cables 1 in
+      let pulled = counted_each (moves_of Out) (λ z. 0) pulled_letters (λ n z. grind arith) cables 1 in
+      let put = counted_each (moves_of In) (λ z. 0) put_letters (λ n z. grind arith) cables 1 in
       let all = simp sum_none at (counted-append _ _ (counted-append _ _ (counted-append _ _ (counted-append _ _
       (counted-append _ _ seats reflector) counted_rings) turns) pulled) put) in
       let sums = cable_sums s.pairs cables pluggable in

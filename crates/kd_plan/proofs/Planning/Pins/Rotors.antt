@@ -23,11 +23,11 @@ pub use Rattle.kd_state.proofs.Wheels.{has_wheel-Decides, place_within, same_ref
 pub use Rattle.kd_state.proofs.Wheels.{same_wheel_differs, same_wheel_self}
 pub use Rattle.kd_state.specs.Costs.{bar_cost, cable_cost, column_letters, columns_of, cost_table, differ, loose_count}
 pub use Rattle.kd_state.specs.Costs.{loose_rings, lugs_moved, reads_as_row, unless_same}
-pub use Rattle.kd_state.specs.{Entry.pin_values, Entry.rotor_values, Machine.AreOnWheels}
-pub use Rattle.kd_state.specs.Machine.{StandsAt, HasAllPins, IsMachine, cable_letters, model_of, plugged_letters, ring_at}
-pub use Rattle.kd_state.specs.{OnKey.AreThePairs, OnKey.IsPaired, OnKey.Joins, OnKey.OnKey, Pins.pin_set, Pins.with_pin}
-pub use Rattle.kd_state.specs.Setting.{Leads, cable_with, cable_without, changed, has_letter, is_at, is_plugged}
-pub use Rattle.kd_state.specs.Setting.{lug_place, why_refused, with_lug, without}
+pub use Rattle.kd_state.specs.{Entry.pin_values, Entry.rotor_values, Machine.AreOnWheels, Machine.HasAllPins}
+pub use Rattle.kd_state.specs.Machine.{IsMachine, StandsAt, cable_letters, model_of, plugged_letters, ring_at}
+pub use Rattle.kd_state.specs.OnKey.{AreThePairs, IsPaired, Joins, OnKey}
+pub use Rattle.kd_state.specs.{Pins.pin_set, Pins.with_pin, Setting.Leads, Setting.cable_with, Setting.cable_without}
+pub use Rattle.kd_state.specs.Setting.{changed, has_letter, is_at, lug_place, why_refused, with_lug, without}
 pub use Rattle.kd_state.specs.SheetDay.{AreSeated, Day, IsLegalDay, IsLegalPinDay, IsLegalRotorDay, OfPins, OfRotors}
 pub use Rattle.kd_state.specs.SheetDay.{PinDay, RotorDay, day_model, seats}
 pub use Rattle.kd_state.specs.ToldApart.{has_wheel, numbered, place_in_box, same_reflector, same_wheel}
@@ -49,9 +49,9 @@ pub use Rattle.std.proofs.Common.{map, max, min, nat_eq, nat_le}
 pub use Rattle.std.proofs.Common.{nat_lt, not, option_and_then, option_to_list, pos, refl, remove, replicate, rules}
 pub use Rattle.std.proofs.Common.{set, slice_get, subst, suc, sum_by, sym, take, true, unsigned_abs, unwrap_or}
 pub use Rattle.std.proofs.Common.{zero, zip, ℕ, ℤ, ◌&&◌, ◌++◌, ◌+ℤ◌, ◌+◌, ◌-◌, ◌<◌, ◌||◌, ◌∙◌, ◌∷◌, ◌≡◌, ◌≢◌, ◌≤ℤ◌, ◌≤◌}
-pub use Rattle.std.proofs.lemmas.Bool.{and_parts, cases_eq, cond_both, some_since, Decides.nat_tests}
-pub use Rattle.std.proofs.lemmas.{Grind.common_steps, Grind.flat_map-append, Int.ints}
-pub use Rattle.std.proofs.lemmas.List.{append-nil, get_or-map, get_or-replicate, get_or_default, length-map, length-set}
+pub use Rattle.std.proofs.lemmas.Bool.{cases_eq, cond_both, some_since, Decides.nat_tests}
+pub use Rattle.std.proofs.lemmas.{Grind.common_steps, Grind.flat_map-append, Int.ints, List.append-nil}
+pub use Rattle.std.proofs.lemmas.List.{get_or-map, get_or-replicate, get_or_at, get_or_default, length-map, length-set}
 pub use Rattle.std.proofs.lemmas.List.{map-append, set-get_or, set_at, take-append-drop, Edits.length-remove}
 pub use Rattle.std.proofs.lemmas.List.Elements.{All-append, All-filter, All-from_recursion, All-map}
 pub use Rattle.std.proofs.lemmas.List.Elements.{All-replicate, Contains-append_left, filter_passes, recursion_from_All}
@@ -101,9 +101,6 @@ module _ {X : Type 0} where
   seam_get [] x back = refl
   seam_get (y ∷ front) x back = seam_get front x back
 
-  pub seam_set : (front : List X) (x : X) (back : List X) (new : X) → set (front ++ x ∷ back) (suc (length front) - 1) new ≡ front ++ new ∷ back
-  seam_set front x back new = ap (λ place. set (front ++ x ∷ back) place new) (omega arith) ∙ set_at front x back new (length front) refl
-
   -- what holds of each element
   pub all_parts : (P : X → Type 0) (front : List X) (x : X) (back : List X) → AllByRecursion P (front ++ x ∷ back)
       → AllByRecursion P front × P x × AllByRecursion P back
@@ -116,14 +113,10 @@ apart_at : {X Y : Type 0} (f : X → Y) (front : List X) (x : X) (back : List X)
 apart_at f [] x back apart =
     (tt, recursion_from_All (λ v. f x ≢ f v) back (λ k d lt. apart zero (suc k) d (omega arith) (omega arith)))
 apart_at f (y ∷ front) x back apart =
-    let rest = apart_at f front x back (all_pairs_remove (λ w v. f w ≢ f v) (y ∷ front ++ x ∷ back) zero (omega arith) apart) in (
-      (
-        λ same. apart zero (suc (length front)) x (omega arith) (omega (arith, length-append front (x ∷ back)))
-            (sym same ∙ sym (ap f (get_or_from_slice_get (front ++ x ∷ back) (length front) x x (seam_get front x back)))),
-        rest.0,
-      ),
-      rest.1,
-    )
+    let rest = apart_at f front x back (all_pairs_remove (λ w v. f w ≢ f v) (y ∷ front ++ x ∷ back) zero (omega arith) apart) in
+    let differ = apart zero (suc (length front)) x (omega arith) (omega (arith, length-append front (x ∷ back))) in
+    let here = get_or_at front x back x (length front) refl in
+    ((λ same. rw here at differ (sym same), rest.0), rest.1)
 
 pub seam_map : {X Y : Type 0} (f : X → Y) (xs front back : List X) (x : X) → xs ≡ front ++ x ∷ back → slice_get (map f xs) (length front) ≡ Some (f x)
 seam_map f xs front back x e = rw (e, map-append) (rw length-map at (seam_get (map f front) (f x) (map f back)))
@@ -175,12 +168,12 @@ module _ {Z A : Type 0} (put : List A → Parts) (before after : Z → A) (lines
   abbrev pub LeadsAt : List A → Z → List A → Type 0
   LeadsAt front z back = Led (put (front ++ before z ∷ back)) (lines (suc (length front)) z) (put (front ++ after z ∷ back))
 
-  pub cells_led : (zs : List Z)
+  pub cells_led : (zs : List Z) {first last : List A} → map before zs ≡ first → map after zs ≡ last
       → ((front back : List Z) (z : Z) → zs ≡ front ++ z ∷ back → LeadsAt (map after front) z (map before back))
-      → Led (put (map before zs)) (lines_from lines 1 zs) (put (map after zs))
-  cells_led zs each =
-      simp append-nil at (things_led (λ front back. put (map after front ++ map before back)) lines zs
-      (λ front back z e. simp (map-append, append_assoc) (rw length-map at (each front back z e))))
+      → Led (put first) (lines_from lines 1 zs) (put last)
+  cells_led zs begins ends each =
+      rw (← begins, ← ends) (simp append-nil at (things_led (λ front back. put (map after front ++ map before back)) lines zs
+      (λ front back z e. simp (map-append, append_assoc) (rw length-map at (each front back z e)))))
 
 -- ---- PULL and PUT: each cable loses the letters that its column hasn't, and then takes those that it lacks.
 abbrev pub Cable : Type 0
@@ -260,7 +253,7 @@ module _ (m : RotorParts) where
     number = suc (length front)
 
     pulled : (z : Beside) → Led (with_cable z.0) (moves_of Out number z) (with_cable (once_pulled z))
-    pulled z = grind (arith, nat_tests, led_cons, led_none, seam_get, seam_set)
+    pulled z = grind (arith, nat_tests, led_cons, led_none, seam_get, set_at)
 
     -- the letter lies in none of the others
     abbrev IsFree : ℕ → Type 0
@@ -272,7 +265,7 @@ module _ (m : RotorParts) where
         (with_cable (put_in due cable (a ∷ b ∷ [])))
     unfolding IsDistinct
     two_led a b due cable apart both once free =
-        grind (arith, nat_tests, both, free a, free b, false, led_cons, led_none, flat_map-append, list_any-append, seam_get, seam_set)
+        grind (arith, nat_tests, both, free a, free b, false, led_cons, led_none, flat_map-append, list_any-append, seam_get, set_at)
 
     put : {pairs : List (ℕ × ℕ)} (z : Beside) → IsPluggable pairs z → ((x : ℕ) → wants z.1 x ≡ true → IsFree x)
         → Led (with_cable (once_pulled z)) (moves_of In number z) (with_cable (once_put z))
@@ -291,13 +284,15 @@ module _ (m : RotorParts) where
   none_has f y h (v ∷ vs) all none =
       grind (arith, list_any-append, sum_by-cons (λ (v : Beside). cond {A = ℕ} (wants v.1 y) 1 0) v vs, h v all.0, none_has f y h vs all.1)
 
-  pub all_pulled : (zs : List Beside) → Led (with_cables (map (λ (z : Beside). z.0) zs)) (lines_from (moves_of Out) 1 zs) (with_cables (map once_pulled zs))
-  all_pulled zs = cells_led with_cables (λ (z : Beside). z.0) once_pulled (moves_of Out) zs (λ front back z e. pulled _ _ z)
+  pub all_pulled : (zs : List Beside) {cables : List Cable} → map (λ (z : Beside). z.0) zs ≡ cables
+      → Led (with_cables cables) (lines_from (moves_of Out) 1 zs) (with_cables (map once_pulled zs))
+  all_pulled zs begins =
+      cells_led with_cables (λ (z : Beside). z.0) once_pulled (moves_of Out) zs begins refl (λ front back z e. pulled _ _ z)
 
   pub all_put : (pairs : List (ℕ × ℕ)) (zs : List Beside) → AllByRecursion (IsPluggable pairs) zs → ((y : ℕ) → count_by (λ (v : Beside). wants v.1 y) zs ≤ 1)
       → Led (with_cables (map once_pulled zs)) (lines_from (moves_of In) 1 zs) (with_cables (map once_put zs))
   all_put pairs zs pluggable once =
-      cells_led with_cables once_pulled once_put (moves_of In) zs (λ front back z e.
+      cells_led with_cables once_pulled once_put (moves_of In) zs refl refl (λ front back z e.
       let parts = all_parts (IsPluggable pairs) front z back (subst (AllByRecursion (IsPluggable pairs)) e pluggable) in
       put _ _ z parts.1 (λ y wanted.
       let counts = sum_by-append (λ (v : Beside). cond (wants v.1 y) 1 0) front (z ∷ back) in
@@ -444,11 +439,6 @@ module _ (m : RotorParts) (s : RotorDay) (machine : IsMachine (Rotor m)) (legal 
   abbrev place : SheetWheel → ℕ
   place w = place_in_box m.model w.wheel
 
-  boxed : (k : ℕ) (d : SheetWheel) → k < length s.wheels → Contains (box_of m.model) (get_or s.wheels k d).wheel
-  boxed k d lt =
-      let wheel = (get_or s.wheels k d).wheel in
-      allowed_in_box m.model (k + 1) wheel (are_seated.allowed k wheel (seated s.wheels k d lt))
-
   places_differ : AllPairs (λ (w v : SheetWheel). place w ≢ place v) s.wheels
   places_differ = days_wheels_have_their_places m.model s.wheels are_seated
 
@@ -501,8 +491,9 @@ module _ (m : RotorParts) (s : RotorDay) (machine : IsMachine (Rotor m)) (legal 
 
   rings_lead : Led (with_rings m.rings) (ring_lines m s.wheels) (with_rings (map ring_then (box_of m.model)))
   rings_lead =
-      rw (lines_of_each (ring_of_wheel m s.wheels) (box_of m.model) 1) (rw rings_now at (cells_led with_rings ring_now ring_then
-      (λ n wheel. ring_of_wheel m s.wheels wheel) (box_of m.model) (λ fs bs wheel e. ring_led _ _ wheel (the_one wheel) refl (rw (length-map, e) (seam_get fs wheel bs)))))
+      rw (lines_of_each (ring_of_wheel m s.wheels) (box_of m.model) 1)
+      (cells_led with_rings ring_now ring_then (λ n wheel. ring_of_wheel m s.wheels wheel) (box_of m.model) rings_now refl
+      (λ fs bs wheel e. ring_led _ _ wheel (the_one wheel) refl (rw (length-map, e) (seam_get fs wheel bs))))
 
   -- TURN
   abbrev turned : List ℕ → RotorParts
@@ -521,7 +512,10 @@ module _ (m : RotorParts) (s : RotorDay) (machine : IsMachine (Rotor m)) (legal 
   is_set letters [] back w apart within = kept (turn letters w) back (place w) apart ∙ set_here letters (place w) w.letter within
   is_set letters (v ∷ front) back w apart within = is_set (turn letters v) front back w apart (rw length-set within)
 
-  turns_lead : Led (Rotor (turned m.letters)) (turn_lines m s.wheels) (Rotor (turned (fold turn m.letters s.wheels)))
+  abbrev turned_all : RotorParts
+  turned_all = turned (fold turn m.letters s.wheels)
+
+  turns_lead : Led (Rotor (turned m.letters)) (turn_lines m s.wheels) (Rotor turned_all)
   turns_lead =
       things_led (λ front back. Rotor (turned (fold turn m.letters front))) (turn_of m) s.wheels (λ front back w e.
       let here = seam_map (λ (v : SheetWheel). Some v.wheel) s.wheels front back w e in
@@ -553,41 +547,39 @@ module _ (m : RotorParts) (s : RotorDay) (machine : IsMachine (Rotor m)) (legal 
       let once = once_of_distinct (letters_plugged s.pairs) legal.pairs.apart y in
       omega (arith, beside_each wanted m.cables columns, once_wanted y s.pairs (13 - length s.pairs))
 
-  among_columns : (k : ℕ) (d : ℕ × ℕ) → k < length s.pairs → Contains columns (Some (get_or s.pairs k d))
-  among_columns k d lt =
-      let pair = get_or s.pairs k d in
-      Contains-permutation (columns_of s.pairs) columns (Some pair) order
-      (Contains-append_left (map Some s.pairs) _ (Some pair) (k, rw length-map lt, get_or-map Some s.pairs k d (Some pair) lt))
-
   pub are_the_pairs : AreThePairs (map once_put zs) s.pairs
   are_the_pairs = record {
     pair = All-map (IsPaired s.pairs) once_put zs (λ k d lt.
         is_paired s.pairs _ _ refl (All-from_recursion (IsPluggable s.pairs) zs are_pluggable k d lt));
-    cable = λ k d lt. record { joins = are_joined s.pairs zs _ are_pluggable (rw (seconds-zip m.cables columns sizes) (among_columns k d lt)) };
+    cable = λ k d lt.
+        let pair = get_or s.pairs k d in
+        let there : Contains (map Some s.pairs) (Some pair) = (k, rw length-map lt, get_or-map Some s.pairs k d (Some pair) lt) in
+        let among = Contains-permutation (columns_of s.pairs) columns (Some pair) order (Contains-append_left (map Some s.pairs) _ _ there) in
+        record { joins = are_joined s.pairs zs pair are_pluggable (rw (seconds-zip m.cables columns sizes) among) };
   }
 
   abbrev after_cables : Parts
-  after_cables = with_cables (turned (fold turn m.letters s.wheels)) (map once_put zs)
+  after_cables = with_cables turned_all (map once_put zs)
 
-  all_led : Led (Rotor m) (planned_lines (Rotor m) (OfRotors s) to) (after_cables)
+  all_led : Led (Rotor m) (planned_lines (Rotor m) (OfRotors s) to) after_cables
   all_led =
       let reflector = reflector_led m (seats s.wheels) s.reflector (subst (λ model. Contains (reflectors_of model) s.reflector) (sym same) legal.reflector) in
-      let pulled = rw (firsts-zip m.cables columns sizes) at (all_pulled (turned (fold turn m.letters s.wheels)) zs) in
-      let put = all_put (turned (fold turn m.letters s.wheels)) s.pairs zs are_pluggable wanted_once in
+      let pulled = all_pulled turned_all zs (firsts-zip m.cables columns sizes) in
+      let put = all_put turned_all s.pairs zs are_pluggable wanted_once in
       led_append _ _ (led_append _ _ (led_append _ _ (led_append _ _ (led_append _ _ seats_lead reflector) rings_lead) turns_lead) pulled) put
 
   pub rotors_lead : LeadsToTheDay (Rotor m) (OfRotors s) (planned_lines (Rotor m) (OfRotors s) to)
   rotors_lead =
-      let rings = λ (k : ℕ) (d : SheetWheel) (lt : k < length s.wheels).
-      let there = boxed k d lt in
+      let shown = λ (k : ℕ) (d : SheetWheel) (lt : k < length s.wheels).
       let w = get_or s.wheels k d in
-      let at : slice_get (map ring_then (box_of m.model)) (place w) ≡ Some w.ring = grind (arith, slice_get-map, slice_get-get_or, place_is, one_is k d lt, there) in at in
-      let window = λ (k : ℕ) (d : SheetWheel) (lt : k < length s.wheels).
-      let w = get_or s.wheels k d in
-      let split : s.wheels ≡ take k s.wheels ++ w ∷ drop (suc k) s.wheels = sym (take-append-drop k s.wheels) ∙ ap (λ rest. take k s.wheels ++ rest) (drop-cons s.wheels k d lt) in
-      let within = place_within m.model w.wheel (boxed k d lt) in
-      let at = is_set m.letters (take k s.wheels) (drop (suc k) s.wheels) w (apart _ _ w split).1 (omega (arith, within, machine.legal.letters.count)) in
-      rw (sym split) at at in
-      let key : OnKey (after_cables) (OfRotors s) =
-      record { model = same; slots = refl; rings = rings; reflector = refl; cables = are_the_pairs } in
-      (after_cables, all_led.leads, record { key = key; window = window })
+      let there = allowed_in_box m.model (k + 1) w.wheel (are_seated.allowed k w.wheel (seated s.wheels k d lt)) in
+      let within = place_within m.model w.wheel there in
+      let front = take k s.wheels in
+      let back = drop (suc k) s.wheels in
+      let split : s.wheels ≡ front ++ w ∷ back = rw (← drop-cons s.wheels k d lt) (sym (take-append-drop k s.wheels)) in
+      let letter = is_set m.letters front back w (apart front back w split).1 (omega (arith, within, machine.legal.letters.count)) in
+      let both : (ring_at turned_all w.wheel ≡ Some w.ring) × (slice_get turned_all.letters (place w) ≡ Some w.letter) =
+      (grind (arith, slice_get-map, slice_get-get_or, place_is, one_is k d lt, there), rw (sym split) at letter) in both in
+      let key : OnKey after_cables (OfRotors s) =
+      record { model = same; slots = refl; rings = λ k d lt. (shown k d lt).0; reflector = refl; cables = are_the_pairs } in
+      (after_cables, all_led.leads, record { key = key; window = λ k d lt. (shown k d lt).1 })
