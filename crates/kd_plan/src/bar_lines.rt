@@ -4,7 +4,7 @@ ghost use Rattle.arrayvec.specs.ArrayVec.{array_vec_len};
 ghost use Rattle.kd_state.specs.Setting.{is_at};
 ghost use Rattle.kd_plan.specs.Planned.{unless_so, lines_from, lugs_to, lugs_of, bars_beside, target_of};
 
-use super::lines::push_line;
+use super::lines::push_two;
 use kd_state::{Setting, Settings, nearest_standing};
 use kd_tables::{Lug, Place, Reading, Standing};
 
@@ -53,11 +53,9 @@ fn push_lugs_of(settings: &mut Settings, number: u8, bar: Standing, target: Stan
     let left = lug_line(number, Lug::Left, bar.left(), target.left());
     let right = lug_line(number, Lug::Right, bar.right(), target.right());
     if target.left() < bar.right() {
-        push_line(settings, left);
-        push_line(settings, right);
+        push_two(settings, left, right);
     } else {
-        push_line(settings, right);
-        push_line(settings, left);
+        push_two(settings, right, left);
     }
 }
 
