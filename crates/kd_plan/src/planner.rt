@@ -12,7 +12,7 @@ use super::pin_lines::{push_pin_turns, push_pins};
 use super::rotor_lines::{push_reflector, push_rings, push_seats, push_turns};
 use arrayvec::ArrayVec;
 use kd_assign::{Solution, assign};
-use kd_card::{Card, Prices};
+use kd_card::{Card, Prices, Version};
 use kd_state::{
     Machine, OneModel, Parts, PinEntry, PinParts, RotorEntry, RotorParts, Settings, SheetDay,
     bar_costs, cable_costs,
@@ -29,8 +29,7 @@ pub fn plan(machine: &Machine, day: &SheetDay) -> Result<Card, OtherModel>
     let Some(card) = planned_card(machine, day) else {
         return Err(OtherModel);
     };
-    // What the type says of the prices.
-    let _prices = card.prices.parts();
+    prove!(matches!(&card.prices.version(), Version::ByNumber));
     Ok(card)
 }
 
