@@ -1,4 +1,5 @@
-ghost use Rattle.std.specs.Prelude.{◌≡◌, ◌≢◌, ◌<◌, ◌≤◌, All, IfOk, IsErr, MatchOption, ◌↔◌, length};
+ghost use Rattle.std.specs.Prelude.{◌≡◌, ◌≢◌, ◌<◌, ◌≤◌, IfOk, IsErr, MatchOption, ◌↔◌, length};
+ghost use Rattle.std.specs.List.{AllByRecursion};
 ghost use Rattle.kd_state.specs.Machine.{IsMachine, model_of};
 ghost use Rattle.kd_state.specs.SheetDay.{OfRotors, OfPins, IsLegalDay, day_model};
 ghost use Rattle.kd_state.specs.Entry.{rotor_values, pin_values};
@@ -122,7 +123,7 @@ fn rotor_settings(
 /// What differs from the day on a Converter M-209, line by line, the bars being made to read as the rows of these places.
 fn pin_settings(parts: &PinParts, entry: &PinEntry, to: &[u8; 27]) -> Settings
     requires legal { IsLegalDay (OfPins (pin_values entry.now)) }
-    requires within { All (λ j. j < 27) to.now }
+    requires within { AllByRecursion (λ j. j < 27) to.now }
     requires room { length (planned_lines (Parts.Pin parts.now)
         (OfPins (pin_values entry.now)) to.now) ≤ 192 }
     ensures { result.items
