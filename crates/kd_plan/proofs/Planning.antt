@@ -1,10 +1,6 @@
 -- How many lines there are, and how many of them the prices speak of: as many as the pairing costs.
 pub mod Pins
 unfoldable pub use Pins.*
-use Rattle.kd_assign.specs.Prices.{cost_at, CostsAtMost, Fits, price_at, price_sum, sum_of}
-use Rattle.kd_card.specs.declared.prices.{PriceParts.PriceParts, Version.TheVariants.ByNumber}
-use Rattle.kd_plan.specs.{Due.prices_due, Laws.PlannedCardsProve, Laws.PlannedLinesLead}
-use Rattle.{kd_tables.specs.Permutation.alphabet, std.proofs.lemmas.Int.ints}
 
 -- so many lines at most beside those of cables and bars, and so many of these
 pub record AreCounted (lines : List Setting) (loose cost : ℕ) : Type 0 where
@@ -14,29 +10,22 @@ pub record AreCounted (lines : List Setting) (loose cost : ℕ) : Type 0 where
 pub counted-append : {a b p q : ℕ} (xs ys : List Setting) → AreCounted xs a p → AreCounted ys b q → AreCounted (xs ++ ys) (a + b) (p + q)
 counted-append xs ys h k = grind (arith, length-append, sum_by-append)
 
--- a line that is left out where things are so: of other things, and of cables and bars
+-- a line of another thing that is left out where it is so
 counted_loose : (so : Bool) (x : Setting) → is_priced x ≡ false
     → AreCounted (option_to_list (unless_so so x)) (cond (not so) 1 0) 0
 counted_loose so x e = grind arith
 
-counted_priced : (so : Bool) (x : Setting) → is_priced x ≡ true
-    → AreCounted (option_to_list (unless_so so x)) 0 (unless_same so)
-counted_priced so x e = grind arith
-
 -- lines of things by their numbers
-counted_each : {Z : Type 0} (lines : ℕ → Z → List Setting) (f g : Z → ℕ) → ((number : ℕ) (z : Z) → AreCounted (lines number z) (f z) (g z))
+counted_each : {Z : Type 0} (lines : ℕ → Z → List Setting) (f g : Z → ℕ)
+    → ((number : ℕ) (z : Z) → AreCounted (lines number z) (f z) (g z))
     → (zs : List Z) (number : ℕ) → AreCounted (lines_from lines number zs) (sum_by f zs) (sum_by g zs)
 counted_each lines f g h [] number = record { few = omega arith; priced = refl }
 counted_each lines f g h (z ∷ zs) number =
-    rw (sum_by-cons, sum_by-cons) (counted-append (lines number z) (lines_from lines (number + 1) zs) (h number z) (counted_each lines f g h zs (number + 1)))
+    rw (sum_by-cons f, sum_by-cons g) (counted-append _ _ (h number z) (counted_each lines f g h zs (number + 1)))
 
 sum_none : {Z : Type 0} (zs : List Z) → sum_by (λ z. 0) zs ≡ 0
 sum_none [] = refl
 sum_none (z ∷ zs) = simp sum_by-cons (omega (arith, sum_none zs))
-
-counted_map : (line : ℕ → Setting) → ((x : ℕ) → is_priced (line x) ≡ true) → (xs : List ℕ) → AreCounted (map line xs) 0 (length xs)
-counted_map line h [] = record { few = omega arith; priced = refl }
-counted_map line h (x ∷ xs) = grind (arith, counted_map line h xs, sum_by-cons (λ x. cond {A = ℕ} (is_priced x) 1 0) (line x) (map line xs), h)
 
 -- a cable's letters are pulled and put as many as its column costs, and 4 at most
 one_letter : (p q : Bool) → cond {A = ℕ} (p && not q) 1 0 + cond (q && not p) 1 0 ≡ cond (differ p q) 1 0
@@ -70,7 +59,7 @@ pulled_letters z = length (letters_apart (cable_letters z.0) (column_letters z.1
 abbrev put_letters : Beside → ℕ
 put_letters z = length (letters_apart (letters_due z.1) (cable_letters z.0))
 
-cable_lines : (z : Beside) → IsPluggable z → pulled_letters z + put_letters z ≡ cable_cost z.0 z.1
+cable_lines : {pairs : List (ℕ × ℕ)} (z : Beside) → IsPluggable pairs z → pulled_letters z + put_letters z ≡ cable_cost z.0 z.1
 cable_lines z h =
     let held = has_letter (cable_letters z.0) in
     let due = has_letter (column_letters z.1) in
@@ -80,20 +69,31 @@ cable_lines z h =
     let into = counted_among (λ l. not (held l)) (column_letters z.1) h.due in
     omega (arith, sums_add _ _ _ (λ l. one_letter (held l) (due l)) alphabet)
 
-cable_sums : (zs : List Beside) → AllByRecursion IsPluggable zs
+cable_sums : (pairs : List (ℕ × ℕ)) (zs : List Beside) → AllByRecursion (IsPluggable pairs) zs
     → sum_by pulled_letters zs + sum_by put_letters zs ≡ sum_by (λ z. cable_cost z.0 z.1) zs
-cable_sums [] h = refl
-cable_sums (z ∷ zs) h = grind (arith, common_steps, sum_by-cons, cable_lines, cable_sums zs h.1)
+cable_sums pairs [] h = refl
+cable_sums pairs (z ∷ zs) h =
+    let here = sum_by-cons (λ (z : Beside). cable_cost z.0 z.1) z zs in
+    omega (arith, sum_by-cons pulled_letters z zs, sum_by-cons put_letters z zs, here, cable_lines z h.0, cable_sums pairs zs h.1)
 
--- a bar's lines are as many as lugs are moved
-counted_lugs : (number : ℕ) (bar target : Place × Place) → AreCounted (lugs_to number bar target) 0 (lugs_moved bar target)
-counted_lugs number bar target = grind (arith, common_steps, counted_priced, cond_both, counted-append)
+-- a bar's lines are as many as lugs are moved, in either order
+counted_both : (first a b : Bool) (x y : Setting) → is_priced x ≡ true → is_priced y ≡ true
+    → let one = option_to_list (unless_so a x) in
+    let other = option_to_list (unless_so b y) in AreCounted (cond first (one ++ other) (other ++ one)) 0 (unless_same a + unless_same b)
+counted_both first a b x y e d = grind arith
+
+counted_lines : (zs : List BarRow) (number : ℕ) → AllByRecursion IsMovable zs
+    → AreCounted (lines_from lugs_of number zs) 0 (sum_by (λ z. bar_cost z.0 z.1) zs)
+counted_lines [] number h = record { few = omega arith; priced = refl }
+counted_lines (z ∷ zs) number h =
+    rw sum_by-cons (counted-append _ _ (subst (AreCounted (lugs_of number z) 0) (is_target z.0 z.1 h.0.reading).1
+    (counted_both _ _ _ _ _ refl refl)) (counted_lines zs (number + 1) h.1))
 
 least_at_most : (n : ℕ) (xs : List ℕ) → fold min n xs ≤ n
 least_at_most n [] = omega arith
 least_at_most n (x ∷ xs) = omega (arith, least_at_most (min n x) xs)
 
-pub bar_cost_at_most : (bar : Place × Place) (row : ℕ × ℕ) → bar_cost bar row ≤ 4
+pub bar_cost_at_most : (bar : Place × Place) (row : ℕ × ℕ) → bar_cost bar row ≤ 2
 bar_cost_at_most bar row = omega (arith, least_at_most 2 (map (lugs_moved bar) (standings_as row)))
 
 -- what a pairing costs, by the table
@@ -119,7 +119,7 @@ finds_first test w wheels b = grind arith
 
 found_at_most : (test : SheetWheel → Bool) (model : Model) (wheels : List SheetWheel)
     → count_by (finds test wheels) (box_of model) ≤ count_by test wheels
-found_at_most test model [] = omega (arith, sum_none (box_of model))
+found_at_most test model [] = grind arith
 found_at_most test model (w ∷ wheels) =
     grind (arith, common_steps, sum_by-le-sum_by, finds_first, sums_add, once_in_box, sum_by-cons, found_at_most test model wheels)
 
@@ -128,20 +128,24 @@ module _ (m : RotorParts) (s : RotorDay) (to : List ℕ) where
   counted_rings : AreCounted (ring_lines m s.wheels) (loose_rings m s) 0
   counted_rings =
       let wrong = λ (w : SheetWheel). not (option_map_or (nat_eq w.ring) (ring_at m w.wheel) false) in
-      let all = rw sum_none at (counted_each (λ n wheel. ring_of_wheel m s.wheels wheel) (λ wheel. cond (finds wrong s.wheels wheel) 1 0) (λ z. 0) (λ n wheel. grind (arith, counted_loose)) (box_of m.model) 1) in
-      rw (lines_of_each (ring_of_wheel m s.wheels) (box_of m.model) 1) (record { few = omega (arith, all.few, found_at_most wrong m.model s.wheels); priced = all.priced })
+      let all = rw sum_none at (counted_each (λ n wheel. ring_of_wheel m s.wheels wheel)
+      (λ wheel. cond (finds wrong s.wheels wheel) 1 0) (λ z. 0) (λ n wheel. grind (arith, counted_loose)) (box_of m.model) 1) in
+      rw (lines_of_each (ring_of_wheel m s.wheels) (box_of m.model) 1)
+      (record { few = omega (arith, all.few, found_at_most wrong m.model s.wheels); priced = all.priced })
 
-  pub rotor_counted : AllByRecursion IsPluggable (besides m.cables s.pairs to)
-      → AreCounted (planned_lines (Rotor m) (OfRotors s) to) (loose_count (Rotor m) (OfRotors s)) (sum_by (λ z. cable_cost z.0 z.1) (besides m.cables s.pairs to))
+  pub rotor_counted : AllByRecursion (IsPluggable s.pairs) (besides m.cables s.pairs to)
+      → AreCounted (planned_lines (Rotor m) (OfRotors s) to) (loose_count (Rotor m) (OfRotors s))
+      (sum_by (λ z. cable_cost z.0 z.1) (besides m.cables s.pairs to))
   rotor_counted pluggable =
       let cables = besides m.cables s.pairs to in
       let seats = counted_each seat_of _ (λ z. 0) (λ n z. counted_loose _ _ refl) (zip m.slots s.wheels) 1 in
       let reflector = counted_loose (same_reflector m.reflector s.reflector) (SeatReflector s.reflector) refl in
       let turns = counted_each (turn_of m) _ (λ z. 0) (λ n w. counted_loose _ _ refl) s.wheels 1 in
-      let pulled = counted_each pulls_of (λ z. 0) pulled_letters (λ n z. counted_map (λ letter. Pull n letter) (λ x. refl) (letters_apart (cable_letters z.0) (column_letters z.1))) cables 1 in
-      let put = counted_each puts_of (λ z. 0) put_letters (λ n z. counted_map (λ letter. Put n letter) (λ x. refl) (letters_apart (letters_due z.1) (cable_letters z.0))) cables 1 in
-      let all = simp sum_none at (counted-append _ _ (counted-append _ _ (counted-append _ _ (counted-append _ _ (counted-append _ _ seats reflector) counted_rings) turns) pulled) put) in
-      let sums = cable_sums cables pluggable in
+      let pulled = counted_each (moves_of Out) (λ z. 0) pulled_letters (λ n z. grind arith) cables 1 in
+      let put = counted_each (moves_of In) (λ z. 0) put_letters (λ n z. grind arith) cables 1 in
+      let all = simp sum_none at (counted-append _ _ (counted-append _ _ (counted-append _ _ (counted-append _ _
+      (counted-append _ _ seats reflector) counted_rings) turns) pulled) put) in
+      let sums = cable_sums s.pairs cables pluggable in
       record { few = grind (arith, all.few, sums); priced = omega (arith, all.priced, sums) }
 
 -- And of a Converter M-209.
@@ -149,29 +153,27 @@ module _ (m : PinParts) (s : PinDay) (to : List ℕ) where
   abbrev bars : List BarRow
   bars = bars_beside m.bars s.rows to
 
-  counted_wheel : (number : ℕ) (z : List Bool × List Bool)
-      → AreCounted (wheel_pin_lines number (ring_of number) z.0 z.1) (count_by (λ (pin : Bool × Bool). differ pin.0 pin.1) (zip z.0 z.1)) 0
+  counted_wheel : (number : ℕ) (z : List Bool × List Bool) → AreCounted (wheel_pin_lines number (ring_of number) z.0 z.1)
+      (count_by (λ (pin : Bool × Bool). differ pin.0 pin.1) (zip z.0 z.1)) 0
   counted_wheel number z =
       let cells = zip (ring_of number) (zip z.0 z.1) in
-      let all = rw sum_none at (counted_each (λ n cell. pin_of number cell) (λ cell. cond (differ cell.1.0 cell.1.1) 1 0) (λ z. 0) (λ n cell. grind (arith, counted_loose)) cells 1) in
+      let all = rw sum_none at (counted_each (λ n cell. pin_of number cell) (λ cell. cond (differ cell.1.0 cell.1.1) 1 0)
+      (λ z. 0) (λ n cell. grind (arith, counted_loose)) cells 1) in
       grind (arith, lines_of_each (pin_of number) cells 1, all, beside_each (λ (pin : Bool × Bool). cond {A = ℕ} (differ pin.0 pin.1) 1 0) (ring_of number) (zip z.0 z.1))
 
-  pub pin_counted : AreCounted (planned_lines (Pin m) (OfPins s) to) (loose_count (Pin m) (OfPins s)) (sum_by (λ z. lugs_moved z.0 (to_stand z)) bars)
-  pin_counted =
-      let pins = counted_each (λ number z. wheel_pin_lines number (ring_of number) z.0 z.1) _ (λ z. 0) counted_wheel (zip (pins_of m.pins) (pins_of s.pins)) 1 in
+  pub pin_counted : AllByRecursion IsMovable bars → AreCounted (planned_lines (Pin m) (OfPins s) to)
+      (loose_count (Pin m) (OfPins s)) (sum_by (λ z. bar_cost z.0 z.1) bars)
+  pin_counted movable =
+      let wheels = zip (pins_of m.pins) (pins_of s.pins) in
+      let pins = counted_each (λ number z. wheel_pin_lines number (ring_of number) z.0 z.1) _ (λ z. 0) counted_wheel wheels 1 in
       let turns = counted_each pin_turn_of _ (λ z. 0) (λ n z. counted_loose _ _ refl) (zip m.letters s.window) 1 in
-      let lugs = counted_each lugs_of (λ z. 0) (λ z. lugs_moved z.0 (to_stand z)) (λ n z. counted_lugs n z.0 (to_stand z)) bars 1 in
+      let lugs = counted_lines bars 1 movable in
       let all = simp sum_none at (counted-append _ _ (counted-append (pin_lines m.pins s.pins) _ pins turns) lugs) in
       let differing = λ (z : List Bool × List Bool). count_by (λ (pin : Bool × Bool). differ pin.0 pin.1) (zip z.0 z.1) in
-      let same = sum-map differing (zip (pins_of m.pins) (pins_of s.pins)) in
+      let same = sum-map differing wheels in
       record { few = omega (arith, all.few); priced = omega (arith, all.priced) }
 
 -- ---- the planned lines of any pairing lead to the day, and a planned card proves itself.
--- the bars are moved by as many lugs as their rows cost
-least_moved : (zs : List BarRow) → AllByRecursion IsMovable zs → sum_by (λ z. lugs_moved z.0 (to_stand z)) zs ≡ sum_by (λ z. bar_cost z.0 z.1) zs
-least_moved [] h = refl
-least_moved (z ∷ zs) h = grind (arith, common_steps, sum_by-cons, is_target, least_moved zs h.1)
-
 -- What the lines lead to, and how many of them there are.
 good : (m : Parts) (s : Day) (to : List ℕ) → IsMachine m → IsLegalDay s → model_of m ≡ day_model s → length to ≡ table_size m → IsOneToOne to
     → LeadsToTheDay m s (planned_lines m s to) × AreCounted (planned_lines m s to) (loose_count m s) (assignment_cost (cost_table m s) to)
@@ -183,8 +185,8 @@ good (Rotor m) (OfRotors s) to machine legal same count one_to_one =
 good (Pin m) (OfPins s) to machine legal same count one_to_one =
     let within = recursion_from_All (λ j. j < length s.rows) to (λ k d lt. omega (arith, one_to_one.in_range k d lt, count, legal.count)) in
     let cost = table_cost bar_cost s.rows (0, 0) m.bars to (machine.legal.bars ∙ sym count) within in
-    let least = least_moved _ (are_movable m s to machine legal count one_to_one) in
-    (pin_machine_leads m s to machine legal count one_to_one, rw (cost, ← least) (pin_counted m s to))
+    let counted = pin_counted m s to (are_movable m s to machine legal count one_to_one) in
+    (pin_machine_leads m s to machine legal count one_to_one, rw cost counted)
 good (Rotor m) (OfPins s) to machine legal same count one_to_one = absurd (no_rotors m.model m.reflector same machine.legal.reflector)
 good (Pin m) (OfRotors s) to machine legal same count one_to_one = absurd (no_rotors s.model s.reflector (sym same) legal.reflector)
 
@@ -232,10 +234,11 @@ due_are free costs total rows columns number e d g h o =
     grind (arith, common_steps, get_or-replicate, none_due, eqb-true, All-append, All-replicate)
 
 -- no cost is above the greatest
-pub table_at_most : {A B : Type 0} (cost : A → B → ℕ) (most : ℕ) → ((x : A) (y : B) → cost x y ≤ most) → (costs : List (List ℕ)) (xs : List A) (ys : List B)
-    → costs ≡ map (λ x. map (cost x) ys) xs → CostsAtMost most costs
-table_at_most cost most h costs xs ys e =
-    rw e (All-map (All (λ c. c ≤ most)) (λ x. map (cost x) ys) xs (λ k d lt. All-map (λ c. c ≤ most) (cost _) ys (λ j e lt'. h _ _)))
+pub table_at_most : {A B : Type 0} (cost : A → B → ℕ) (most : ℕ) → most ≤ 4 → ((x : A) (y : B) → cost x y ≤ most)
+    → (costs : List (List ℕ)) (xs : List A) (ys : List B) → costs ≡ map (λ x. map (cost x) ys) xs → CostsAtMost 4 costs
+table_at_most cost most few h costs xs ys e =
+    rw e (All-map (All (λ c. c ≤ 4)) (λ x. map (cost x) ys) xs
+    (λ k d lt. All-map (λ c. c ≤ 4) (cost _) ys (λ j e lt'. omega (arith, few, h (get_or xs k d) (get_or ys j e)))))
 
 -- there is room for all lines
 few_slots : (model : Model) → slots_of model ≤ 4
@@ -254,13 +257,15 @@ pins_at_most : (now wanted : PinSet) → HasAllPins now
 unfolding ring_of
 pins_at_most now wanted has = grind (arith, length-zip, has 1, has 2, has 3, has 4, has 5, has 6)
 
-pub pin_room : (m : PinParts) (s : PinDay) (to : List ℕ) → IsMachine (Pin m) → length (planned_lines (Pin m) (OfPins s) to) ≤ 192
-pin_room m s to machine =
+pub pin_room : (m : PinParts) (s : PinDay) (to : List ℕ) → IsMachine (Pin m) → IsLegalPinDay s → length to ≡ 27 → IsOneToOne to
+    → length (planned_lines (Pin m) (OfPins s) to) ≤ 192
+pin_room m s to machine legal count one_to_one =
     let wheels = zip (pins_of m.pins) (pins_of s.pins) in
     let differing = λ (z : List Bool × List Bool). count_by (λ (pin : Bool × Bool). differ pin.0 pin.1) (zip z.0 z.1) in
     let pins = sum_by-le-sum_by differing (λ z. length (zip z.0 z.1)) wheels (λ z. count_by-le-length (λ (pin : Bool × Bool). differ pin.0 pin.1) (zip z.0 z.1)) in
-    let bars = sum_by-le (λ (z : BarRow). lugs_moved z.0 (to_stand z)) 2 (bars_beside m.bars s.rows to) (λ k d lt. at_most_two _ _) in
-    grind (arith, (pin_counted m s to).few, sum-map differing wheels, pins_at_most, length-map, count_by-le-length, length-zip)
+    let bars = sum_by-le (λ (z : BarRow). bar_cost z.0 z.1) 2 (bars_beside m.bars s.rows to) (λ k d lt. bar_cost_at_most _ _) in
+    let counted = pin_counted m s to (are_movable m s to machine legal count one_to_one) in
+    grind (arith, counted.few, sum-map differing wheels, pins_at_most, length-map, count_by-le-length, length-zip)
 
 -- the card
 pub planned : (m : Parts) (s : Day) (costs : List (List ℕ)) (to : List ℕ) (settings : List Setting) (prices : PriceParts) (total : ℕ) (rows columns : List ℤ)

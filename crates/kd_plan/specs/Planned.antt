@@ -26,6 +26,8 @@ use Rattle.kd_card.specs.declared.prices.PriceParts.{PriceParts}
 use Rattle.kd_card.specs.Prices.{row_prices, column_prices, Fits, price_sum}
 use Rattle.kd_card.specs.Proving.{AreOfKind, LeadsToTheDay, ProvesByNumber, IsShortest}
 use Rattle.kd_assign.specs.Assignment.{IsOneToOne, assignment_cost}
+use Rattle.kd_plan.specs.declared.cable_lines.Direction.{Direction}
+use Rattle.kd_plan.specs.declared.cable_lines.Direction.TheVariants.{Out, In}
 
 -- the setting, where it is not so already
 abbrev pub unless_so : Bool → Setting → Option Setting
@@ -77,18 +79,13 @@ besides cables pairs to = zip cables (map (λ j. slice_index_or (columns_of pair
 
 -- PULL, of the letters of a cable that its column hasn't, which lie in a machine's cable in alphabetical order; and PUT, of
 -- those of its column that it hasn't
-abbrev pub pulls_of : ℕ → (Option ℕ × Option ℕ) × Option (ℕ × ℕ) → List Setting
-pulls_of cable z = map (λ letter. Pull cable letter) (letters_apart (cable_letters z.0) (column_letters z.1))
+abbrev pub moves_of : Direction → ℕ → (Option ℕ × Option ℕ) × Option (ℕ × ℕ) → List Setting
+moves_of Out cable z = map (λ letter. Pull cable letter) (letters_apart (cable_letters z.0) (column_letters z.1))
+moves_of In cable z = map (λ letter. Put cable letter) (letters_apart (letters_due z.1) (cable_letters z.0))
 
-abbrev pub puts_of : ℕ → (Option ℕ × Option ℕ) × Option (ℕ × ℕ) → List Setting
-puts_of cable z = map (λ letter. Put cable letter) (letters_apart (letters_due z.1) (cable_letters z.0))
-
--- PULL and PUT, by cable
-abbrev pub pull_lines : List (Option ℕ × Option ℕ) → List (ℕ × ℕ) → List ℕ → List Setting
-pull_lines cables pairs to = lines_from pulls_of 1 (besides cables pairs to)
-
-abbrev pub put_lines : List (Option ℕ × Option ℕ) → List (ℕ × ℕ) → List ℕ → List Setting
-put_lines cables pairs to = lines_from puts_of 1 (besides cables pairs to)
+-- PULL, or PUT, by cable
+abbrev pub move_lines : Direction → List (Option ℕ × Option ℕ) → List (ℕ × ℕ) → List ℕ → List Setting
+move_lines direction cables pairs to = lines_from (moves_of direction) 1 (besides cables pairs to)
 
 -- PIN, of one letter of a wheel, with its pin and the day's; of one wheel, by its own order; and by wheel
 abbrev pub pin_of : ℕ → ℕ × (Bool × Bool) → List Setting
@@ -132,7 +129,7 @@ lug_lines bars rows to = lines_from lugs_of 1 (bars_beside bars rows to)
 -- all lines, in the order in which they are carried out
 abbrev pub planned_lines : Parts → Day → List ℕ → List Setting
 planned_lines (Rotor m) (OfRotors s) to =
-    seat_lines m s.wheels ++ reflector_lines m.reflector s.reflector ++ ring_lines m s.wheels ++ turn_lines m s.wheels ++ pull_lines m.cables s.pairs to ++ put_lines m.cables s.pairs to
+    seat_lines m s.wheels ++ reflector_lines m.reflector s.reflector ++ ring_lines m s.wheels ++ turn_lines m s.wheels ++ move_lines Out m.cables s.pairs to ++ move_lines In m.cables s.pairs to
 planned_lines (Pin m) (OfPins s) to = pin_lines m.pins s.pins ++ pin_turn_lines m.letters s.window ++ lug_lines m.bars s.rows to
 planned_lines _ _ _ = []
 

@@ -1,10 +1,11 @@
 //! The lines of bars: the lugs that move, first the one that isn't in the other's way.
-ghost use Rattle.std.specs.Prelude.{◌≡◌, ◌+◌, ◌<◌, ◌≤◌, ◌++◌, All, length, slice_index_or};
+ghost use Rattle.std.specs.Prelude.{◌≡◌, ◌+◌, ◌<◌, ◌≤◌, ◌++◌, length, slice_index_or};
+ghost use Rattle.std.specs.List.{AllByRecursion};
 ghost use Rattle.arrayvec.specs.ArrayVec.{array_vec_len};
 ghost use Rattle.kd_state.specs.Setting.{is_at};
 ghost use Rattle.kd_plan.specs.Planned.{unless_so, lines_from, lugs_to, lugs_of, bars_beside, target_of};
 
-use super::lines::push_line;
+use super::lines::push_two;
 use kd_state::{Setting, Settings, nearest_standing};
 use kd_tables::{Lug, Place, Reading, Standing};
 
@@ -18,7 +19,7 @@ pub(crate) fn push_lugs(
     to: &[u8],
 )
     requires few { number + length bars.now < 256 }
-    requires within { All (λ j. j < 27) to.now }
+    requires within { AllByRecursion (λ j. j < 27) to.now }
     requires room { let lines = lines_from lugs_of number (bars_beside bars.now rows.now to.now) in
         array_vec_len settings.old + length lines ≤ 192 }
     ensures { let lines = lines_from lugs_of number (bars_beside bars.now rows.now to.now) in
@@ -53,11 +54,9 @@ fn push_lugs_of(settings: &mut Settings, number: u8, bar: Standing, target: Stan
     let left = lug_line(number, Lug::Left, bar.left(), target.left());
     let right = lug_line(number, Lug::Right, bar.right(), target.right());
     if target.left() < bar.right() {
-        push_line(settings, left);
-        push_line(settings, right);
+        push_two(settings, left, right);
     } else {
-        push_line(settings, right);
-        push_line(settings, left);
+        push_two(settings, right, left);
     }
 }
 

@@ -6,7 +6,7 @@ ghost use Rattle.kd_tables.specs.Places.{in_order};
 ghost use Rattle.kd_state.specs.Machine.{cable_letters};
 ghost use Rattle.kd_state.specs.Setting.{has_letter};
 ghost use Rattle.kd_state.specs.Costs.{column_letters};
-ghost use Rattle.kd_plan.specs.Planned.{unless_so, besides, letters_apart, lines_from, pulls_of, puts_of};
+ghost use Rattle.kd_plan.specs.Planned.{unless_so, besides, letters_apart, lines_from, moves_of};
 
 use super::lines::push_line;
 use kd_state::{Cable, Setting, Settings, column_at, lies_in};
@@ -15,18 +15,27 @@ use kd_tables::Letter;
 /// The pair that a cable becomes, or nothing.
 pub(crate) type Column = Option<(Letter, Letter)>;
 
-/// Appends PULL for each letter that each cable has beside the pair that it becomes, from this cable's number on.
-pub(crate) fn push_pulls(
+/// Which letters of a cable are moved: those that its pair hasn't come out, and those that it lacks go in.
+#[derive(Clone, Copy)]
+pub(crate) enum Direction {
+    Out,
+    In,
+}
+
+/// Appends PULL, or PUT, for each letter that each cable has beside the pair that it becomes, or lacks of it, from this cable's
+/// number on.
+pub(crate) fn push_moves(
     settings: &mut Settings,
+    direction: Direction,
     number: u8,
     cables: &[Cable],
     pairs: &[(Letter, Letter)],
     to: &[u8],
 )
     requires few { number + length cables.now < 256 }
-    requires room { let lines = lines_from pulls_of number (besides cables.now pairs.now to.now) in
+    requires room { let lines = lines_from (moves_of direction) number (besides cables.now pairs.now to.now) in
         array_vec_len settings.old + length lines ≤ 192 }
-    ensures { let lines = lines_from pulls_of number (besides cables.now pairs.now to.now) in
+    ensures { let lines = lines_from (moves_of direction) number (besides cables.now pairs.now to.now) in
         settings.new.items ≡ settings.old.items ++ lines }
 {
     let [cable, cables @ ..] = cables else {
@@ -36,55 +45,34 @@ pub(crate) fn push_pulls(
         return;
     };
     let column = column_at(pairs, usize::from(*place));
-    push_pulls_of(settings, number, cable, &column);
-    push_pulls(settings, number + 1, cables, pairs, to);
+    push_moves_of(settings, direction, number, cable, &column);
+    push_moves(settings, direction, number + 1, cables, pairs, to);
 }
 
-/// Appends PUT for each letter that each cable lacks of the pair that it becomes, from this cable's number on.
-pub(crate) fn push_puts(
+/// Appends the moves of one cable: PULL for each of its letters, or PUT for each of the pair's in alphabetical order.
+fn push_moves_of(
     settings: &mut Settings,
+    direction: Direction,
     number: u8,
-    cables: &[Cable],
-    pairs: &[(Letter, Letter)],
-    to: &[u8],
+    cable: &Cable,
+    column: &Column,
 )
-    requires few { number + length cables.now < 256 }
-    requires room { let lines = lines_from puts_of number (besides cables.now pairs.now to.now) in
+    requires { let lines = moves_of direction number (cable.now, column.now) in
         array_vec_len settings.old + length lines ≤ 192 }
-    ensures { let lines = lines_from puts_of number (besides cables.now pairs.now to.now) in
-        settings.new.items ≡ settings.old.items ++ lines }
+    ensures { settings.new.items ≡ settings.old.items ++ moves_of direction number (cable.now, column.now) }
 {
-    let [cable, cables @ ..] = cables else {
-        return;
-    };
-    let [place, to @ ..] = to else {
-        return;
-    };
-    let column = column_at(pairs, usize::from(*place));
-    push_puts_of(settings, number, cable, &column);
-    push_puts(settings, number + 1, cables, pairs, to);
-}
-
-/// Appends PULL for each letter of a cable that isn't one of the pair.
-fn push_pulls_of(settings: &mut Settings, number: u8, cable: &Cable, column: &Column)
-    requires { let lines = pulls_of number (cable.now, column.now) in
-        array_vec_len settings.old + length lines ≤ 192 }
-    ensures { settings.new.items ≡ settings.old.items ++ pulls_of number (cable.now, column.now) }
-{
-    push_line(settings, pull_line(number, cable.0, *column));
-    push_line(settings, pull_line(number, cable.1, *column));
-}
-
-/// Appends PUT for each letter of the pair that isn't in the cable, in alphabetical order.
-fn push_puts_of(settings: &mut Settings, number: u8, cable: &Cable, column: &Column)
-    requires { let lines = puts_of number (cable.now, column.now) in
-        array_vec_len settings.old + length lines ≤ 192 }
-    ensures { settings.new.items ≡ settings.old.items ++ puts_of number (cable.now, column.now) }
-{
-    if let Some((one, other)) = *column {
-        let (first, second) = ordered(one, other);
-        push_line(settings, put_line(number, *cable, first));
-        push_line(settings, put_line(number, *cable, second));
+    match direction {
+        Direction::Out => {
+            push_line(settings, pull_line(number, cable.0, *column));
+            push_line(settings, pull_line(number, cable.1, *column));
+        }
+        Direction::In => {
+            if let Some((one, other)) = *column {
+                let (first, second) = ordered(one, other);
+                push_line(settings, put_line(number, *cable, first));
+                push_line(settings, put_line(number, *cable, second));
+            }
+        }
     }
 }
 

@@ -14,3 +14,12 @@ pub(crate) fn push_line(settings: &mut Settings, line: Option<Setting>)
         settings.push(line);
     }
 }
+
+/// Appends one line and then another one, so far as there are.
+pub(crate) fn push_two(settings: &mut Settings, one: Option<Setting>, other: Option<Setting>)
+    requires { array_vec_len settings.old + length (option_to_list one ++ option_to_list other) ≤ 192 }
+    ensures { settings.new.items ≡ settings.old.items ++ (option_to_list one ++ option_to_list other) }
+{
+    push_line(settings, one);
+    push_line(settings, other);
+}

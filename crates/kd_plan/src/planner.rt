@@ -1,18 +1,19 @@
-ghost use Rattle.std.specs.Prelude.{◌≡◌, ◌≢◌, ◌<◌, ◌≤◌, All, IfOk, IsErr, MatchOption, ◌↔◌, length};
+ghost use Rattle.std.specs.Prelude.{◌≡◌, ◌≢◌, ◌<◌, ◌≤◌, IfOk, IsErr, MatchOption, ◌↔◌, length};
+ghost use Rattle.std.specs.List.{AllByRecursion};
 ghost use Rattle.kd_state.specs.Machine.{IsMachine, model_of};
 ghost use Rattle.kd_state.specs.SheetDay.{OfRotors, OfPins, IsLegalDay, day_model};
 ghost use Rattle.kd_state.specs.Entry.{rotor_values, pin_values};
 ghost use Rattle.kd_plan.specs.Planned.{planned_lines, IsPlanned, Plans};
 
 use super::bar_lines::push_lugs;
-use super::cable_lines::{push_pulls, push_puts};
+use super::cable_lines::{Direction, push_moves};
 use super::card_prices::prices_due;
 use super::other_model::OtherModel;
 use super::pin_lines::{push_pin_turns, push_pins};
 use super::rotor_lines::{push_reflector, push_rings, push_seats, push_turns};
 use arrayvec::ArrayVec;
 use kd_assign::{Solution, assign};
-use kd_card::{Card, Prices};
+use kd_card::{Card, Prices, Version};
 use kd_state::{
     Machine, OneModel, Parts, PinEntry, PinParts, RotorEntry, RotorParts, Settings, SheetDay,
     bar_costs, cable_costs,
@@ -29,8 +30,7 @@ pub fn plan(machine: &Machine, day: &SheetDay) -> Result<Card, OtherModel>
     let Some(card) = planned_card(machine, day) else {
         return Err(OtherModel);
     };
-    // What the type says of the prices.
-    let _prices = card.prices.parts();
+    prove!(matches!(&card.prices.version(), Version::ByNumber));
     Ok(card)
 }
 
@@ -115,15 +115,15 @@ fn rotor_settings(
     push_reflector(&mut settings, parts.reflector, entry.reflector);
     push_rings(&mut settings, machine, parts, parts.model.wheels(), wheels);
     push_turns(&mut settings, machine, parts, 1, wheels);
-    push_pulls(&mut settings, 1, &parts.cables, pairs, to);
-    push_puts(&mut settings, 1, &parts.cables, pairs, to);
+    push_moves(&mut settings, Direction::Out, 1, &parts.cables, pairs, to);
+    push_moves(&mut settings, Direction::In, 1, &parts.cables, pairs, to);
     settings
 }
 
 /// What differs from the day on a Converter M-209, line by line, the bars being made to read as the rows of these places.
 fn pin_settings(parts: &PinParts, entry: &PinEntry, to: &[u8; 27]) -> Settings
     requires legal { IsLegalDay (OfPins (pin_values entry.now)) }
-    requires within { All (λ j. j < 27) to.now }
+    requires within { AllByRecursion (λ j. j < 27) to.now }
     requires room { length (planned_lines (Parts.Pin parts.now)
         (OfPins (pin_values entry.now)) to.now) ≤ 192 }
     ensures { result.items

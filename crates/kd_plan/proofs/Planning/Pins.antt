@@ -1,8 +1,6 @@
 -- PIN, TURN and LUG, and that all lines of a Converter M-209 lead to the day.
 pub mod Rotors
 unfoldable pub use Rotors.*
-use Rattle.kd_state.specs.Pins.{pin_set, wheel_pins, with_pin}
-use Rattle.kd_tables.specs.Places.{IsBefore, IsReading, place_rank, places, reading_of, standings}
 
 -- ---- PIN: wheel after wheel, and on each wheel letter after letter, each of which stands at its own place
 letters_have_places : (number : ℕ) → map (place_on (ring_of number)) (ring_of number) ≡ map Some (range_with_len 0 (length (ring_of number)))
@@ -12,19 +10,18 @@ letters_have_places number = refl
 
 has_place : (number k letter : ℕ) → slice_get (ring_of number) k ≡ Some letter → place_on (ring_of number) letter ≡ Some k
 has_place number k letter e =
-    let ring = ring_of number in
-    let lt = slice_get_within ring k letter e in
-    let at = ap (λ (xs : List (Option ℕ)). get_or xs k None) (letters_have_places number) in
-    ap (place_on ring) (sym (get_or_from_slice_get ring k letter 0 e)) ∙ sym (get_or-map (place_on ring) ring k 0 None lt) ∙ at
-    ∙ get_or-map Some (range_with_len 0 (length ring)) k 0 None (omega (arith, length-range_with_len 0 (length ring))) ∙ ap Some (get_or-range_with_len 0 (length ring) k 0 lt ∙ omega arith)
+    let many = length (ring_of number) in
+    let lt = slice_get_within (ring_of number) k letter e in
+    let is = slice_get-get_or (range_with_len 0 many) k 0 (omega (arith, length-range_with_len 0 many)) in
+    let at = ap (λ (xs : List (Option ℕ)). slice_get xs k) (letters_have_places number) in
+    grind (arith, slice_get-map, get_or-range_with_len, is, at)
 
 pins_of_set : (lists : List (List Bool)) → length lists ≡ 6 → pins_of (pin_set lists) ≡ lists
 pins_of_set lists e = grind (arith, common_steps)
 
-second_map : {A B C : Type 0} (f : B → C) (xs : List A) (ys : List B) → length ys ≡ length xs → map (λ (z : A × B). f z.1) (zip xs ys) ≡ map f ys
-second_map f [] [] e = refl
-second_map f (x ∷ xs) (y ∷ ys) e = ap (λ zs. f y ∷ zs) (second_map f xs ys (omega arith))
-second_map f _ _ e = absurd (omega arith)
+second_map : {A B C : Type 0} (f : B → C) (xs : List A) (ys : List B) → length ys ≡ length xs
+    → map (λ (z : A × B). f z.1) (zip xs ys) ≡ map f ys
+second_map f xs ys e = sym (map-map f (λ z. z.1) (zip xs ys)) ∙ ap (map f) (seconds-zip xs ys e)
 
 -- a letter of a wheel, with its pin and the day's, and a wheel's pins beside the day's
 abbrev Cell : Type 0
@@ -44,14 +41,12 @@ module _ (m : PinParts) where
     abbrev number : ℕ
     number = suc (length front)
 
-    set_is : (pins : List Bool) → pins_of (pin_set (front ++ pins ∷ back)) ≡ front ++ pins ∷ back
-    set_is pins = pins_of_set (front ++ pins ∷ back) (omega (arith, length-append front (pins ∷ back)))
-
     pin_made : (done rest : List Bool) (now effective : Bool) (letter : ℕ) → place_on (ring_of number) letter ≡ Some (length done)
         → with_pin (pin_set (front ++ (done ++ now ∷ rest) ∷ back)) number letter effective ≡ pin_set (front ++ (done ++ effective ∷ rest) ∷ back)
     pin_made done rest now effective letter placed =
-        rw (set_is (done ++ now ∷ rest), seam_get front (done ++ now ∷ rest) back, placed, set_at done now rest effective (length done) refl)
-        (ap pin_set (seam_set front (done ++ now ∷ rest) back (done ++ effective ∷ rest)))
+        let pins = done ++ now ∷ rest in
+        rw (pins_of_set (front ++ pins ∷ back) (omega (arith, length-append front (pins ∷ back))), seam_get front pins back, placed, set_at done now rest effective (length done) refl)
+        (ap pin_set (set_at front pins back (done ++ effective ∷ rest) _ (omega arith)))
 
     one_pin : (done rest : List Bool) (w : Cell) → place_on (ring_of number) w.0 ≡ Some (length done)
         → Led (with_wheel (done ++ w.1.0 ∷ rest)) (pin_of number w) (with_wheel (done ++ w.1.1 ∷ rest))
@@ -65,24 +60,22 @@ module _ (m : PinParts) where
         let ring = ring_of number in
         let cells = zip ring (zip now day) in
         let size : length (zip now day) ≡ length ring = omega (arith, length-zip now day) in
-        let led =
-        cells_led with_wheel (λ (w : Cell). w.1.0) (λ w. w.1.1) (λ n w. pin_of number w) cells (λ fs bs w is.
-        one_pin (map (λ (w : Cell). w.1.1) fs) (map (λ (w : Cell). w.1.0) bs) w
-        (rw length-map (has_place number (length fs) w.0 (rw (firsts-zip ring (zip now day) size) at (seam_map (λ (w : Cell). w.0) cells fs bs w is))))) in
         let before = second_map (λ (pin : Bool × Bool). pin.0) ring (zip now day) size ∙ firsts-zip now day (d ∙ sym e) in
         let after = second_map (λ (pin : Bool × Bool). pin.1) ring (zip now day) size ∙ seconds-zip now day (d ∙ sym e) in
-        rw (lines_of_each (pin_of number) cells 1) (rw (before, after) at led)
+        rw (lines_of_each (pin_of number) cells 1)
+        (cells_led with_wheel (λ (w : Cell). w.1.0) (λ w. w.1.1) (λ n w. pin_of number w) cells before after (λ fs bs w is.
+        let at = rw (firsts-zip ring (zip now day) size) at (seam_map (λ (w : Cell). w.0) cells fs bs w is) in
+        one_pin _ _ w (rw length-map (has_place number (length fs) w.0 at))))
 
   pins_lead : (day : PinSet) → HasAllPins m.pins → HasAllPins day → Led (Pin m) (pin_lines m.pins day) (Pin (record m { pins = day }))
   pins_lead day has due =
       let wheels = zip (pins_of m.pins) (pins_of day) in
-      cells_led with_pins (λ (z : TwoPins). z.0) (λ z. z.1) (λ n z. wheel_pin_lines n (ring_of n) z.0 z.1) wheels (λ fs bs z e.
+      cells_led with_pins (λ (z : TwoPins). z.0) (λ z. z.1) (λ n z. wheel_pin_lines n (ring_of n) z.0 z.1) wheels refl refl (λ fs bs z e.
+      let now = ap (λ found. unwrap_or found []) (seam_map (λ (z : TwoPins). z.0) wheels fs bs z e) in
+      let wanted = ap (λ found. unwrap_or found []) (seam_map (λ (z : TwoPins). z.1) wheels fs bs z e) in
       let six : length fs + length bs ≡ 5 = omega (arith, ap length e, length-append fs (z ∷ bs)) in
-      let now : wheel_pins m.pins (suc (length fs)) ≡ z.0 = ap (λ found. unwrap_or found []) (seam_map (λ (z : TwoPins). z.0) wheels fs bs z e) in
-      let wanted : wheel_pins day (suc (length fs)) ≡ z.1 = ap (λ found. unwrap_or found []) (seam_map (λ (z : TwoPins). z.1) wheels fs bs z e) in
-      rw length-map at
-      (wheel_led (map (λ (z : TwoPins). z.1) fs) (map (λ (z : TwoPins). z.0) bs) (omega (arith, length-map fs (λ (z : TwoPins). z.1), length-map bs (λ (z : TwoPins). z.0))) z.0 z.1
-      (rw length-map (rw now at (has (suc (length fs))))) (rw length-map (rw wanted at (due (suc (length fs)))))))
+      wheel_led (map (λ (z : TwoPins). z.1) fs) (map (λ (z : TwoPins). z.0) bs) (simp length-map six) z.0 z.1
+      (rw (length-map, ← now) (has (suc (length fs)))) (rw (length-map, ← wanted) (due (suc (length fs)))))
 
   -- TURN
   abbrev with_shown : List ℕ → Parts
@@ -90,17 +83,16 @@ module _ (m : PinParts) where
 
   turn_led : (front back : List ℕ) (z : ℕ × ℕ) → Contains (ring_of (suc (length front))) z.1
       → Led (with_shown (front ++ z.0 ∷ back)) (pin_turn_of (suc (length front)) z) (with_shown (front ++ z.1 ∷ back))
-  turn_led front back z on = grind (arith, eqb-true, has_letter-Decides, led_unless, seam_get, seam_set)
+  turn_led front back z on = grind (arith, eqb-true, has_letter-Decides, led_unless, seam_get, set_at)
 
   turns_lead : (window : List ℕ) → length m.letters ≡ 6 → AreOnWheels window → Led (with_shown m.letters) (pin_turn_lines m.letters window) (with_shown window)
   turns_lead window size on =
       let zs = zip m.letters window in
       let due = seconds-zip m.letters window (on.count ∙ sym size) in
-      let led =
-      cells_led with_shown (λ (z : ℕ × ℕ). z.0) (λ z. z.1) pin_turn_of zs (λ fs bs z e.
-      rw length-map at (turn_led (map (λ (z : ℕ × ℕ). z.1) fs) (map (λ (z : ℕ × ℕ). z.0) bs) z
-      (rw length-map (on.each (suc (length fs)) z.1 (rw due at (seam_map (λ (z : ℕ × ℕ). z.1) zs fs bs z e)))))) in
-      rw (firsts-zip m.letters window (on.count ∙ sym size), due) at led
+      let now = firsts-zip m.letters window (on.count ∙ sym size) in
+      cells_led with_shown (λ (z : ℕ × ℕ). z.0) (λ z. z.1) pin_turn_of zs now due (λ fs bs z e.
+      let at = rw due at (seam_map (λ (z : ℕ × ℕ). z.1) zs fs bs z e) in
+      turn_led _ _ z (rw length-map (on.each (suc (length fs)) z.1 at)))
 
 -- ---- LUG: where a bar is to stand, a standing that reads as the row with no more lugs moved than must be; and that its two
 -- lugs are moved there, first the one that isn't in the other's way.
@@ -121,9 +113,8 @@ of_row : (row : ℕ × ℕ) → All (IsOfRow row) (standings_as row)
 unfolding standings_as
 of_row row k d lt =
     let before = λ (x : Place × Place). nat_lt (place_rank x.0) (place_rank x.1) in
-    let x = get_or (standings_as row) k d in
-    let stands = All-filter (reads_as_row row) (λ x. before x ≡ true) standings (AllPass-from_list_all before standings refl) k d lt in
-    (ltb-true (place_rank x.0) (place_rank x.1) stands, filter_passes (reads_as_row row) standings k d lt)
+    let all = AllPass-from_list_all before standings refl in
+    (ltb-true _ _ (All-filter (reads_as_row row) (λ x. before x ≡ true) standings all k d lt), filter_passes (reads_as_row row) standings k d lt)
 
 -- a row has one standing, or two
 nearest : (bar x : Place × Place) (more : Option (Place × Place)) (xs : List (Place × Place)) (P : Place × Place → Type 0) → xs ≡ x ∷ option_to_list more → AllByRecursion P xs
@@ -172,29 +163,31 @@ module _ (m : PinParts) where
     abbrev bar_number : ℕ
     bar_number = suc (length front)
 
-    lug_allowed : (bar : Place × Place) (lug : Lug) (place : Place) → IsClear lug place bar → why_refused (with_bar bar) (LugTo bar_number lug place) ≡ None
+    lug_allowed : (bar : Place × Place) (lug : Lug) (place : Place) → IsClear lug place bar
+        → why_refused (with_bar bar) (LugTo bar_number lug place) ≡ None
     lug_allowed bar lug place e = grind (arith, false, seam_get)
 
     one_lug : (bar : Place × Place) (lug : Lug) (place : Place) → IsClear lug place bar
         → Led (with_bar bar) (option_to_list (unless_so (is_at (lug_place lug bar) place) (LugTo bar_number lug place))) (with_bar (with_lug lug place bar))
-    one_lug bar lug place h = grind (arith, led_unless, place_of_same, seam_get, seam_set, lug_allowed)
+    one_lug bar lug place h = grind (arith, led_unless, place_of_same, seam_get, set_at, lug_allowed)
 
     lugs_led : (bar target : Place × Place) → IsBefore bar.0 bar.1 → IsBefore target.0 target.1
         → Led (with_bar bar) (lugs_to bar_number bar target) (with_bar target)
     lugs_led bar target stands wanted =
         let left = option_to_list (unless_so (is_at bar.0 target.0) (LugTo bar_number Left target.0)) in
         let right = option_to_list (unless_so (is_at bar.1 target.1) (LugTo bar_number Right target.1)) in
-        cond_both (nat_lt (place_rank target.0) (place_rank bar.1)) (left ++ right) (right ++ left) (λ lines. Led (with_bar bar) lines (with_bar target))
-        (λ e. led_append left right (one_lug bar Left target.0 (ltb-true (place_rank target.0) (place_rank bar.1) e)) (one_lug (target.0, bar.1) Right target.1 wanted))
-        (λ e.
-        let clear : place_rank bar.0 < place_rank target.1 = omega (arith, stands, wanted, ltb-false (place_rank target.0) (place_rank bar.1) e) in
-        led_append right left (one_lug bar Right target.1 clear) (one_lug (bar.0, target.1) Left target.0 wanted))
+        cond_both (nat_lt (place_rank target.0) (place_rank bar.1)) (left ++ right) (right ++ left)
+        (λ lines. Led (with_bar bar) lines (with_bar target))
+        (λ e. led_append left right (one_lug bar Left target.0 (ltb-true _ _ e)) (one_lug (target.0, bar.1) Right target.1 wanted))
+        (λ e. led_append right left (one_lug bar Right target.1 (omega (arith, stands, wanted, ltb-false (place_rank target.0) (place_rank bar.1) e)))
+        (one_lug (bar.0, target.1) Left target.0 wanted))
 
-  lugs_lead : (zs : List BarRow) → AllByRecursion IsMovable zs → Led (with_bars (map (λ (z : BarRow). z.0) zs)) (lines_from lugs_of 1 zs) (with_bars (map to_stand zs))
-  lugs_lead zs h =
-      cells_led with_bars (λ (z : BarRow). z.0) to_stand lugs_of zs (λ front back z e.
-      let movable = (all_parts IsMovable zs front back z e h).1 in
-      rw length-map at (lugs_led (map to_stand front) (map (λ (z : BarRow). z.0) back) z.0 (to_stand z) movable.stands (is_target z.0 z.1 movable.reading).0.0))
+  lugs_lead : (zs : List BarRow) {bars : List (Place × Place)} → map (λ (z : BarRow). z.0) zs ≡ bars → AllByRecursion IsMovable zs
+      → Led (with_bars bars) (lines_from lugs_of 1 zs) (with_bars (map to_stand zs))
+  lugs_lead zs begins h =
+      cells_led with_bars (λ (z : BarRow). z.0) to_stand lugs_of zs begins refl (λ front back z e.
+      let movable = (all_parts IsMovable front z back (subst (AllByRecursion IsMovable) e h)).1 in
+      lugs_led _ _ z.0 (to_stand z) movable.stands (is_target z.0 z.1 movable.reading).0.0)
 
 -- the rows that the bars read as in the end
 rows_read : (zs : List BarRow) → AllByRecursion IsMovable zs → map (λ (bar : Place × Place). reading_of bar.0 bar.1) (map to_stand zs) ≡ map (λ (z : BarRow). z.1) zs
@@ -236,5 +229,5 @@ module _ (m : PinParts) (s : PinDay) (to : List ℕ) (machine : IsMachine (Pin m
   pin_machine_leads =
       let pins = pins_lead m s.pins machine.legal.pins legal.pins in
       let turns = turns_lead (record m { pins = s.pins }) s.window machine.legal.letters.count legal.window in
-      let lugs = rw (firsts-zip m.bars chosen sizes) at (lugs_lead after_turns zs are_movable) in
+      let lugs = lugs_lead after_turns zs (firsts-zip m.bars chosen sizes) are_movable in
       (with_bars after_turns (map to_stand zs), (led_append _ _ (led_append _ _ pins turns) lugs).leads, record { key = record { pins = refl; rows = rows_are }; window = refl })
