@@ -73,7 +73,7 @@ fn indicator_of(day: &SheetDay, keys: &RotorKeys) -> Indicator
     requires { AreKeys day.now (Keys.Rotor keys.now) }
     ensures { result ≡ indicator_of day.now keys.now }
 {
-    let _slots = keys.key.len();
+    prove!(keys.key.len() <= 4);
     let key = enciphered::<4>(day, keys.start.as_slice(), keys.key.as_slice());
     Indicator {
         start: keys.start,
