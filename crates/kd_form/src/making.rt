@@ -97,7 +97,6 @@ fn rotor_letters(day: &SheetDay, keys: &RotorKeys, text: &[Letter]) -> ArrayVec<
 }
 
 /// The letters of a part on the Converter M-209.
-#[tactic(auto, using(crate::proofs::MadeParts::has_internal, crate::proofs::MadeParts::not_spent))]
 fn pin_letters(day: &SheetDay, keys: &PinKeys, text: &[Letter]) -> ArrayVec<Letter, 520>
     requires keys { AreKeys day.now (Keys.Pin keys.now) }
     requires suits { Suits day.now (Keys.Pin keys.now) }
