@@ -68,7 +68,6 @@ fn keys_in(letters: &[Letter]) -> PinKeys
 }
 
 /// The letters of the text of a part on the Converter M-209.
-#[tactic(auto, using(crate::proofs::MadeParts::list_told))]
 fn read_pin_letters(
     day: &SheetDay,
     part: u8,
