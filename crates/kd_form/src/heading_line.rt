@@ -59,10 +59,7 @@ fn read_letters(word: &[u8]) -> Option<ArrayVec<Letter, 4>>
         if letters.is_full() {
             return None;
         }
-        let Some(letter) = Letter::from_byte(*byte) else {
-            return None;
-        };
-        letters.push(letter);
+        letters.push(Letter::from_byte(*byte)?);
     }
     Some(letters)
 }
