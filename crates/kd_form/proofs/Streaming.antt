@@ -117,7 +117,8 @@ pub record SoFar (m : Message) (holds : List ℕ → List ℕ → Type 0) (sourc
   pub held : Held m holds read text
   pub well : IsWell source × IsWell sink
 
-pub SoFar-room : (m : Message) (holds : List ℕ → List ℕ → Type 0) (source sink : Port) (count room : ℕ) → SoFar m holds source sink count
+pub SoFar-room : (m : Message) (holds : List ℕ → List ℕ → Type 0) (source sink : Port) (count room : ℕ) → SoFar m holds
+    source sink count
     → room ≤ read_limit → HasRoom m holds room
 SoFar-room m holds source sink count room before few = record {
   bytes = before.read;

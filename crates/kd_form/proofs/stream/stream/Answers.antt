@@ -6,7 +6,8 @@ loop-read-init g c = grind (arith, Consumes-nil, Appends-nil)
 
 pub close-requires : goal.close-requires
 close-requires g c =
-    SoFar-room _ _ _ _ _ 0 (SoFar-read _ _ _ _ _ _ _ _ _ _ _ _ _ _ _ _ _ c.loop-read.invariant refl _ c.in-Ok-eq0.ensures).0 (omega arith)
+    SoFar-room _ _ _ _ _ 0 (SoFar-read _ _ _ _ _ _ _ _ _ _ _ _ _ _ _ _ _ c.loop-read.invariant refl _
+    c.in-Ok-eq0.ensures).0 (omega arith)
 
 pub returns-in-Ok-eq0 : goal.returns-in-Ok-eq0
 returns-in-Ok-eq0 g c =

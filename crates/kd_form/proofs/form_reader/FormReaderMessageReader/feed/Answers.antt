@@ -111,18 +111,23 @@ returns-in_err-heading-in-Heading c = λ form text so_far.
     let there = in_stage _ r form text h _ c.in-Heading.is in
     let ended = c.heading_of_ended-heading.ensures h.last there.0.unbroken (c.as_slice-in-Heading.ensures.value ∙ there.0.kept) in
     let (fault, is, same) = err_from_is_err_and c.from_residual.result c.from_residual.ensures.1 in
-    rw (is, same, c.if-byte-ne10.false) (refused_at _ r form text h _ (10 ∷ []) (h.last ++ 10 ∷ []) [] (one_more h.last 10 there.0.unbroken) (
+    rw (is, same, c.if-byte-ne10.false) (refused_at _ r form text h _ (10 ∷ []) (h.last ++ 10 ∷ []) []
+    (one_more h.last 10 there.0.unbroken) (
       (h.last, [], record { joined = refl; without = there.0.unbroken }),
-      off _ r.number r.expected (length h.front) (h.last ++ 10 ∷ []) _ _ (grind (arith, ended_heading, ended, there.0.unbroken)) c.in_err-heading-in-Heading.ensures,
+      off _ r.number r.expected (length h.front) (h.last ++ 10 ∷ []) _ _
+          (grind (arith, ended_heading, ended, there.0.unbroken)) c.in_err-heading-in-Heading.ensures,
     ))
 
 pub returns-in_ok-give-in-Body : goal.returns-in_ok-give-in-Body
 returns-in_ok-give-in-Body c = λ form text so_far.
     held c.args.day.now _ _ _
-    (part_read _ c.args.self.now form text so_far.is _ _ c.in-Body.is (c.ends_before.ensures.0 c.if-not-ends_before.false) _ _ c.in_ok-give-in-Body.ensures.given c.heading_from.ensures)
+    (part_read _ c.args.self.now form text so_far.is _ _ c.in-Body.is
+    (c.ends_before.ensures.0 c.if-not-ends_before.false) _ _ c.in_ok-give-in-Body.ensures.given c.heading_from.ensures)
 
 pub returns-in_err-give-in-Body : goal.returns-in_err-give-in-Body
 returns-in_err-give-in-Body c = λ form text so_far.
-    let (fault, is, same) = err_from_is_err_and c.from_residual-in_err-give-in-Body.result c.from_residual-in_err-give-in-Body.ensures.1 in
-    rw (is, same) (part_refused _ c.args.self.now form text so_far.is _ _ c.in-Body.is (c.ends_before.ensures.0 c.if-not-ends_before.false) _
+    let (fault, is, same) = err_from_is_err_and c.from_residual-in_err-give-in-Body.result
+    c.from_residual-in_err-give-in-Body.ensures.1 in
+    rw (is, same) (part_refused _ c.args.self.now form text so_far.is _ _ c.in-Body.is
+    (c.ends_before.ensures.0 c.if-not-ends_before.false) _
     c.in_err-give-in-Body.ensures.given)

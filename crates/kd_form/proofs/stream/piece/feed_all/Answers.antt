@@ -28,7 +28,8 @@ feed_one-requires-clause-room g c = room_for _ _ _ 1 (omega (arith, c.loop-byte-
 
 pub returns-clause-fed : goal.returns-clause-fed
 returns-clause-fed g c =
-    fed_whole _ _ _ _ _ _ _ (take_all c.loop-byte.byte-index c.args.bytes.now (omega (arith, c.loop-byte-test.false))) c.loop-byte.invariant.fed
+    fed_whole _ _ _ _ _ _ _ (take_all c.loop-byte.byte-index c.args.bytes.now (omega (arith, c.loop-byte-test.false)))
+    c.loop-byte.invariant.fed
 
 pub returns-clause-failed : goal.returns-clause-failed
 returns-clause-failed g c = still_well _ _ c.loop-byte.invariant.well

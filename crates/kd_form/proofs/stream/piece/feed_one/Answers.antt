@@ -7,8 +7,14 @@ returns-in-Err-clause-fed g c bytes text held =
 
 pub returns-in-Ok-put_all-clause-fed : goal.returns-in-Ok-put_all-clause-fed
 returns-in-Ok-put_all-clause-fed g c bytes text held =
-    record { made = _; written = c.in-Ok-put_all.ensures.text.whole; fed = rw c.as_slice.ensures.value (c.in-Ok.ensures bytes text held) }
+    record {
+      made = _;
+      written = c.in-Ok-put_all.ensures.text.whole;
+      fed = rw c.as_slice.ensures.value
+          (c.in-Ok.ensures bytes text held);
+    }
 
 pub returns-in-Err-put_all-clause-fed : goal.returns-in-Err-put_all-clause-fed
 returns-in-Err-put_all-clause-fed g c bytes text held =
-    fed_in_part _ _ _ text _ _ _ _ _ (c.in-Ok.ensures bytes text held) (subst (TakesFront _ _) c.as_slice.ensures.value c.in-Err-put_all.ensures.text.front)
+    fed_in_part _ _ _ text _ _ _ _ _ (c.in-Ok.ensures bytes text held)
+    (subst (TakesFront _ _) c.as_slice.ensures.value c.in-Err-put_all.ensures.text.front)
