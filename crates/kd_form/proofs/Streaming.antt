@@ -117,6 +117,16 @@ pub record SoFar (m : Message) (holds : List ℕ → List ℕ → Type 0) (sourc
   pub held : Held m holds read text
   pub well : IsWell source × IsWell sink
 
+pub SoFar-room : (m : Message) (holds : List ℕ → List ℕ → Type 0) (source sink : Port) (count room : ℕ) → SoFar m holds
+    source sink count
+    → room ≤ read_limit → HasRoom m holds room
+SoFar-room m holds source sink count room before few = record {
+  bytes = before.read;
+  text = before.text;
+  held = before.held;
+  within = omega (arith, before.counted, before.within, few);
+}
+
 -- the answer where a read stops, by the ports since an earlier time, since which they didn't fail
 stopped : (m : Message) (new : List ℕ → List ℕ → Type 0) (read text : List ℕ) (had has next took taken wrote : Option (List ℕ)) (a b c d e f : Bool) (stop : Stop)
     → b ≡ a → e ≡ d → length read ≤ read_limit → IsStopped m new (over has next b c) (over taken wrote e f) read text stop

@@ -41,7 +41,8 @@ pub record AreSuitedKeys (s : Day) (keys : List Keys) : Type 0 where
   pub suited : All (Suits s) keys
   pub few : length keys ≤ 99
 
--- Of these letters the parts that can be written were made, and the next letters are kept, as far as a part has room.
+-- Of these letters, with keys that suit the day, the parts that can be written were made, and the next letters are kept,
+-- as far as a part has room.
 pub record AreTaken (s : Day) (keys : List Keys) (w : PartWriter) (letters sent : List ℕ) : Type 0 where
   pub suited : AreSuitedKeys s keys
   pub counted : w.count ≡ length letters

@@ -70,9 +70,7 @@ pub(crate) fn push_letters<const N: usize>(text: &mut ArrayString<N>, letters: &
     ensures bytes { text.new.bytes ≡ text.old.bytes ++ letters_text letters.now }
     ensures len { array_string_len text.new ≡ array_string_len text.old + length letters.now }
 {
-    let [letter, rest @ ..] = letters else {
-        return;
-    };
-    push_letter(text, *letter);
-    push_letters(text, rest);
+    for letter in letters {
+        push_letter(text, *letter);
+    }
 }

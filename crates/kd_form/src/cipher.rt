@@ -52,7 +52,7 @@ fn are_letters(letters: &[Letter])
     ensures { All (λ letter. letter < 26) letters.now }
 {
     for letter in letters {
-        let _place = letter.index();
+        prove!(letter.index() < 26);
     }
 }
 

@@ -67,13 +67,9 @@ impl MessageReader for FormReader {
                     return Ok(());
                 }
                 let heading = heading_of_ended(day, line.as_slice());
-                match check_heading(self.number, &self.expected, heading) {
-                    Ok(heading) => {
-                        self.stage = Stage::Body(PartBody::new(heading));
-                        Ok(())
-                    }
-                    Err(fault) => Err(fault),
-                }
+                let heading = check_heading(self.number, &self.expected, heading)?;
+                self.stage = Stage::Body(PartBody::new(heading));
+                Ok(())
             }
             Stage::Body(body) => {
                 if !body.ends_before(byte) {
@@ -83,15 +79,11 @@ impl MessageReader for FormReader {
                     body.push(byte);
                     return Ok(());
                 }
-                match body.give(day, 4, made) {
-                    Ok(()) => {
-                        self.expected = Some(body.heading.parts);
-                        self.number += 1;
-                        self.stage = Stage::Heading(heading_from(byte));
-                        Ok(())
-                    }
-                    Err(fault) => Err(fault),
-                }
+                body.give(day, 4, made)?;
+                self.expected = Some(body.heading.parts);
+                self.number += 1;
+                self.stage = Stage::Heading(heading_from(byte));
+                Ok(())
             }
         }
     }
@@ -99,16 +91,14 @@ impl MessageReader for FormReader {
     fn end(&mut self, day: &SheetDay, made: &mut Made) -> Result<(), FormFault> {
         match &self.stage {
             Stage::Heading(line) => Err(fault_in_heading(day, self.number, &self.expected, line)),
-            Stage::Body(body) => match body.give(day, 0, made) {
-                Ok(()) => {
-                    if body.heading.parts != self.number {
-                        return Err(FormFault::PartOrder);
-                    }
-                    made.push(b'\n');
-                    Ok(())
+            Stage::Body(body) => {
+                body.give(day, 0, made)?;
+                if body.heading.parts != self.number {
+                    return Err(FormFault::PartOrder);
                 }
-                Err(fault) => Err(fault),
-            },
+                made.push(b'\n');
+                Ok(())
+            }
         }
     }
 }

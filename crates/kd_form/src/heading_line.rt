@@ -59,10 +59,7 @@ fn read_letters(word: &[u8]) -> Option<ArrayVec<Letter, 4>>
         if letters.is_full() {
             return None;
         }
-        let Some(letter) = Letter::from_byte(*byte) else {
-            return None;
-        };
-        letters.push(letter);
+        letters.push(Letter::from_byte(*byte)?);
     }
     Some(letters)
 }
@@ -146,7 +143,7 @@ fn heading_of_line(day: &SheetDay, line: &[u8]) -> Option<Heading>
         ((h : _) → IsHeading day.now h → line_of (heading_words h) ≢ line.now)
         (λ h. IsHeading day.now h × (line_of (heading_words h) ≡ line.now)) }
 {
-    let _slots = slots_of(day);
+    prove!(slots_of(day) != Some(0));
     let words = split_words::<5>(line)?;
     heading_of_words(day, words.as_slice())
 }
@@ -157,7 +154,7 @@ pub(crate) fn heading_of_open(day: &SheetDay, line: &[u8]) -> Option<Heading>
         ((h : Heading) (body : List ℕ) → ¬ HasHeading day.now part h body)
         (λ h. HasHeading day.now part h []) }
 {
-    let _slots = slots_of(day);
+    prove!(slots_of(day) != Some(0));
     heading_of_line(day, line)
 }
 
@@ -167,7 +164,7 @@ pub(crate) fn heading_of_ended(day: &SheetDay, line: &[u8]) -> Option<Heading>
         ((h : Heading) (body : List ℕ) → ¬ HasHeading day.now (part ++ 10 ∷ []) h body)
         (λ h. IsHeading day.now h × IsLineText part (line_of (heading_words h))) }
 {
-    let _slots = slots_of(day);
+    prove!(slots_of(day) != Some(0));
     heading_of_line(day, without_return(line))
 }
 

@@ -11,7 +11,7 @@ ghost use Rattle.kd_form.specs.KeyPatterns.{HasPins};
 
 use super::keys::{Keys, PinKeys, RotorKeys};
 use super::pattern_line::{Unread, read_pattern};
-use kd_state::{PerSlot, SheetDay};
+use kd_state::{Entry, PerSlot, SheetDay};
 use kd_tables::Letter;
 
 /// The keys in the line, with its end. They come in a tuple, as the prover can't carry them alone.
@@ -44,7 +44,7 @@ fn key_pattern(day: &SheetDay) -> &'static [u8]
 pub(crate) fn key_lines_are_short(day: &SheetDay)
     ensures { (line : List ℕ) → IsAnyKeyLine day.now line → length line ≤ 23 }
 {
-    let _pattern = key_pattern(day);
+    prove!(key_pattern(day).len() <= 21);
 }
 
 /// How many slots the day's machine has; none on the Converter M-209.
@@ -53,9 +53,10 @@ pub(crate) fn slots_of(day: &SheetDay) -> Option<usize>
         (HasPins day.now)
         (HasSlots day.now) }
 {
-    let _model = day.model();
-    let wheels = day.wheels()?;
-    Some(wheels.len())
+    match day.entry() {
+        Entry::Rotor(entry) => Some(entry.wheels.len()),
+        Entry::Pin(_) => None,
+    }
 }
 
 /// The keys with these letters.

@@ -73,7 +73,7 @@ fn indicator_of(day: &SheetDay, keys: &RotorKeys) -> Indicator
     requires { AreKeys day.now (Keys.Rotor keys.now) }
     ensures { result ≡ indicator_of day.now keys.now }
 {
-    let _slots = keys.key.len();
+    prove!(keys.key.len() <= 4);
     let key = enciphered::<4>(day, keys.start.as_slice(), keys.key.as_slice());
     Indicator {
         start: keys.start,
@@ -97,7 +97,6 @@ fn rotor_letters(day: &SheetDay, keys: &RotorKeys, text: &[Letter]) -> ArrayVec<
 }
 
 /// The letters of a part on the Converter M-209.
-#[tactic(auto, using(crate::proofs::MadeParts::has_internal, crate::proofs::MadeParts::not_spent))]
 fn pin_letters(day: &SheetDay, keys: &PinKeys, text: &[Letter]) -> ArrayVec<Letter, 520>
     requires keys { AreKeys day.now (Keys.Pin keys.now) }
     requires suits { Suits day.now (Keys.Pin keys.now) }

@@ -76,7 +76,6 @@ impl PartBody {
     /// Tells the letters of the part's text as they are given. The last ones of the body, so many, are left out: those of the
     /// next heading. It stands apart, as the bytes before the last one have no room to be made for them.
     #[inline(never)]
-    #[tactic(auto, using(crate::proofs::FormSteps::body_told))]
     pub(crate) fn give(
         &self,
         day: &SheetDay,

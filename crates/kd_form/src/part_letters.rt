@@ -32,7 +32,7 @@ fn read_rotor_letters(
         (λ text. SaysRotor day.now part indicator.now letters.now (Ok text.items))
         (λ fault. SaysRotor day.now part indicator.now letters.now (Err fault)) }
 {
-    let _slots = indicator.key.len();
+    prove!(indicator.key.len() <= 4);
     let group = <[Letter; 3]>::try_from(&letters[2..5]).unwrap();
     if !day.has_group(group) {
         return Err(FormFault::WrongGroup(part));
@@ -68,7 +68,6 @@ fn keys_in(letters: &[Letter]) -> PinKeys
 }
 
 /// The letters of the text of a part on the Converter M-209.
-#[tactic(auto, using(crate::proofs::MadeParts::list_told))]
 fn read_pin_letters(
     day: &SheetDay,
     part: u8,
@@ -112,7 +111,7 @@ fn read_letters(
         (λ text. SaysLetters day.now part indicator.now letters.now (Ok text.items))
         (λ fault. SaysLetters day.now part indicator.now letters.now (Err fault)) }
 {
-    let _slots = slots_of(day);
+    prove!(slots_of(day) != Some(0));
     match indicator {
         Some(indicator) => read_rotor_letters(day, part, indicator, letters),
         None => read_pin_letters(day, part, letters),

@@ -54,7 +54,7 @@ impl HeadReader {
 
     /// Takes the next byte. It stands apart, as a byte of the text would make room for what this one keeps.
     #[inline(never)]
-    #[tactic(auto, using(crate::proofs::OrderSteps::line_short, crate::proofs::OrderSteps::head_open))]
+    #[tactic(auto, using(crate::proofs::OrderSteps::line_short))]
     pub(crate) fn take(&mut self, day: &SheetDay, byte: u8) -> HeadStep
         requires { (order : List ℕ) × IsHeadRead day.now self.old.keys.items self.old.line.items order }
         ensures { (order : List ℕ) → IsHeadRead day.now self.old.keys.items self.old.line.items order

@@ -70,7 +70,6 @@ impl PartWriter {
     }
 
     /// Makes the last part, at the end of the text.
-    #[tactic(auto, using(crate::proofs::OrderSteps::last_written))]
     pub(crate) fn end(
         &mut self,
         day: &SheetDay,

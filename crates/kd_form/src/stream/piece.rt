@@ -12,7 +12,6 @@ use kd_state::SheetDay;
 use kd_tables::{Sink, Source, put_all};
 
 /// Feeds the bytes to the reader, and writes what is made of them.
-#[tactic(auto, using(crate::proofs::Streaming::fed_none, crate::proofs::Streaming::room_for, crate::proofs::Streaming::fed_whole, crate::proofs::Streaming::still_well))]
 pub(crate) fn feed_all<M: MessageReader, W: Sink>(
     reader: &mut M,
     day: &SheetDay,
@@ -36,7 +35,6 @@ pub(crate) fn feed_all<M: MessageReader, W: Sink>(
 }
 
 /// Feeds one byte to the reader, and writes what is made of it.
-#[tactic(auto, using(crate::proofs::Streaming::fed_in_part))]
 fn feed_one<M: MessageReader, W: Sink>(
     reader: &mut M,
     day: &SheetDay,
@@ -123,7 +121,6 @@ pub(crate) fn read_next<On, M: PieceReader<On>, R: Source, W: Sink>(
 }
 
 /// The same, through a buffer that has the room.
-#[tactic(auto, using(crate::proofs::Streaming::read_failed))]
 fn read_into<On, M: PieceReader<On>, R: Source, W: Sink>(
     reader: &mut M,
     on: &On,

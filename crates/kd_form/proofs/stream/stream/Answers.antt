@@ -1,4 +1,4 @@
-use Rattle.kd_form.proofs.Streaming.{SoFar-read, SoFar-ended, IsStreamed-stopped, IsStreamed-closed, well_now, [], ◌∷◌, ◌++◌, ◌∙◌, refl, arith, TooLong, Consumes-nil, Consumes-trans, Appends-nil}
+use Rattle.kd_form.proofs.Streaming.{SoFar-room, SoFar-read, SoFar-ended, IsStreamed-stopped, IsStreamed-closed, well_now, [], ◌∷◌, ◌++◌, ◌∙◌, refl, arith, TooLong, Consumes-nil, Consumes-trans, Appends-nil}
 use Rattle.kd_form.proofs.stream.stream.Goals as goal
 
 pub loop-read-init : goal.loop-read-init
@@ -6,8 +6,8 @@ loop-read-init g c = grind (arith, Consumes-nil, Appends-nil)
 
 pub close-requires : goal.close-requires
 close-requires g c =
-    let before = (SoFar-read _ _ _ _ _ _ _ _ _ _ _ _ _ _ _ _ _ c.loop-read.invariant refl _ c.in-Ok-eq0.ensures).0 in
-    record { bytes = _; text = _; held = before.held; within = omega (arith, before.counted, before.within) }
+    SoFar-room _ _ _ _ _ 0 (SoFar-read _ _ _ _ _ _ _ _ _ _ _ _ _ _ _ _ _ c.loop-read.invariant refl _
+    c.in-Ok-eq0.ensures).0 (omega arith)
 
 pub returns-in-Ok-eq0 : goal.returns-in-Ok-eq0
 returns-in-Ok-eq0 g c =
@@ -39,3 +39,9 @@ returns-in-Ok-false g c =
       answers = TooLong before.read ends.0 refl (omega (arith, before.counted, before.within, c.loop-read-test.false)) before.held.open_yet
           (well_now _ _ c.in-Ok-false.ensures.failed ∙ before.well.0, before.well.1) refl;
     }
+
+pub read_next-requires-clause-room : goal.read_next-requires-clause-room
+read_next-requires-clause-room g c = SoFar-room _ _ _ _ _ _ c.loop-read.invariant (omega arith)
+
+pub close-requires-in-Ok-true : goal.close-requires-in-Ok-true
+close-requires-in-Ok-true g c = SoFar-room _ _ _ _ _ 0 c.loop-read.invariant (omega arith)

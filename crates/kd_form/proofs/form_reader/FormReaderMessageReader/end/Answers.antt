@@ -1,3 +1,4 @@
+use Rattle.std.proofs.lemmas.Result.{err_from_is_err_and}
 use Rattle.kd_form.proofs.FormSteps.{next_last, next_refused, closes, closes_refused, closes_short, in_stage, [], ℕ, ap, ArrayVec, ◌∙◌}
 use Rattle.kd_form.proofs.form_reader.FormReaderMessageReader.end.Goals as goal
 
@@ -11,14 +12,18 @@ returns-in-Heading c = λ form text so_far.
 
 pub returns-then-body-self : goal.returns-then-body-self
 returns-then-body-self c = λ form text so_far.
-    closes_short _ c.args.self.now form text so_far.is _ c.in-Body.is _ c.in-Ok.ensures.given c.if-body-self.true
+    closes_short _ c.args.self.now form text so_far.is _ c.in-Body.is _ c.in_ok-give-in-Body.ensures.given
+    c.if-body-self.true
 
 pub returns-else-body-self : goal.returns-else-body-self
 returns-else-body-self c = λ form text so_far.
-    closes _ c.args.self.now form text so_far.is _ c.in-Body.is _ c.in-Ok.ensures.given _ c.if-body-self.false c.push.ensures.items
+    closes _ c.args.self.now form text so_far.is _ c.in-Body.is _ c.in_ok-give-in-Body.ensures.given _
+    c.if-body-self.false c.push.ensures.items
 
-pub returns-in-Err : goal.returns-in-Err
-returns-in-Err c = λ form text so_far.
-    closes_refused _ c.args.self.now form text so_far.is _ c.in-Err.fault
-    (next_refused _ _ _ _ _ _ [] (next_last _ c.args.self.now form text so_far.is _ c.in-Body.is) _ c.in-Err.ensures.given)
-    (ap (λ (v : ArrayVec ℕ). v.items) c.in-Err.ensures.unchanged ∙ c.requires.empty)
+pub returns-in_err-give-in-Body : goal.returns-in_err-give-in-Body
+returns-in_err-give-in-Body c = λ form text so_far.
+    let (fault, is, same) = err_from_is_err_and c.from_residual.result c.from_residual.ensures.1 in
+    rw is (closes_refused _ c.args.self.now form text so_far.is _ fault
+    (next_refused _ _ _ _ _ _ [] (next_last _ c.args.self.now form text so_far.is _ c.in-Body.is) _
+    (rw same c.in_err-give-in-Body.ensures.given))
+    (ap (λ (v : ArrayVec ℕ). v.items) c.in_err-give-in-Body.ensures.unchanged ∙ c.requires.empty))

@@ -1,3 +1,4 @@
+use Rattle.std.proofs.lemmas.Result.{err_from_is_err_and}
 use Rattle.kd_form.proofs.FormSteps.{first_longer, goes_on, held, grows, in_stage, take_kept, off, refused, refused_at, four_letters, part_refused, part_read, follows, not_begun, one_more, ended_heading, bad_behind, ◌≢◌, take, All-push, All-nil, IsTrue, is_text_byte, IsLineText, line_of, heading_words, [], ◌∷◌, ◌++◌, ◌+◌, ◌-◌, ◌≡◌, ℕ, List, length, length-append, refl, inl, ap, subst, given_letters, BeginsHeading, NoHeading, BadHeading, BadByte, InBody, arith, sym, ◌∙◌, false≢true}
 use Rattle.kd_form.specs.declared.form_reader.Stage.TheVariants as stages
 use Rattle.kd_form.proofs.form_reader.FormReaderMessageReader.feed.Goals as goal
@@ -61,8 +62,8 @@ returns-then-not-ends_before c = λ form text so_far.
 pub overflow_add-self : goal.overflow_add-self
 overflow_add-self c = omega (arith, c.requires.room.held.is.counted, c.requires.room.within)
 
-pub overflow_add-self-in-Ok-give : goal.overflow_add-self-in-Ok-give
-overflow_add-self-in-Ok-give c = grind (arith, in_stage)
+pub overflow_add-self-in-Body : goal.overflow_add-self-in-Body
+overflow_add-self-in-Body c = grind (arith, in_stage)
 
 pub give-requires-clause-heading : goal.give-requires-clause-heading
 give-requires-clause-heading c = (in_stage _ c.args.self.now c.requires.room.bytes _ c.requires.room.held.is _ c.in-Body.is).holds.is_heading
@@ -71,11 +72,11 @@ pub give-requires-clause-some : goal.give-requires-clause-some
 give-requires-clause-some c =
     four_letters _ c.args.self.now c.requires.room.bytes _ c.requires.room.held.is c.in-Body.body _ c.in-Body.is (c.ends_before.ensures.0 c.if-not-ends_before.false)
 
-pub returns-in-Ok : goal.returns-in-Ok
-returns-in-Ok c = λ form text so_far.
+pub returns-in_ok-heading-in-Heading : goal.returns-in_ok-heading-in-Heading
+returns-in_ok-heading-in-Heading c = λ form text so_far.
     let h = so_far.is in
     let there = in_stage _ c.args.self.now form text h _ c.in-Heading.is in
-    let due = c.in-Ok.ensures in
+    let due = c.in_ok-heading-in-Heading.ensures in
     let told = c.heading_of_ended-heading.ensures h.last there.0.unbroken (c.as_slice-in-Heading.ensures.value ∙ there.0.kept) in
     let (is_heading, text_is) = rw due.is at told in
     let heads = c.new.ensures.heading in
@@ -103,22 +104,30 @@ returns-in-Ok c = λ form text so_far.
       due = rw heads due.due;
     })))
 
-pub returns-in-Err : goal.returns-in-Err
-returns-in-Err c = λ form text so_far.
+pub returns-in_err-heading-in-Heading : goal.returns-in_err-heading-in-Heading
+returns-in_err-heading-in-Heading c = λ form text so_far.
     let h = so_far.is in
     let r = c.args.self.now in
     let there = in_stage _ r form text h _ c.in-Heading.is in
     let ended = c.heading_of_ended-heading.ensures h.last there.0.unbroken (c.as_slice-in-Heading.ensures.value ∙ there.0.kept) in
-    rw c.if-byte-ne10.false (refused_at _ r form text h _ (10 ∷ []) (h.last ++ 10 ∷ []) [] (one_more h.last 10 there.0.unbroken) (
+    let (fault, is, same) = err_from_is_err_and c.from_residual.result c.from_residual.ensures.1 in
+    rw (is, same, c.if-byte-ne10.false) (refused_at _ r form text h _ (10 ∷ []) (h.last ++ 10 ∷ []) []
+    (one_more h.last 10 there.0.unbroken) (
       (h.last, [], record { joined = refl; without = there.0.unbroken }),
-      off _ r.number r.expected (length h.front) (h.last ++ 10 ∷ []) _ _ (grind (arith, ended_heading, ended, there.0.unbroken)) c.in-Err.ensures,
+      off _ r.number r.expected (length h.front) (h.last ++ 10 ∷ []) _ _
+          (grind (arith, ended_heading, ended, there.0.unbroken)) c.in_err-heading-in-Heading.ensures,
     ))
 
-pub returns-in-Ok-give : goal.returns-in-Ok-give
-returns-in-Ok-give c = λ form text so_far.
+pub returns-in_ok-give-in-Body : goal.returns-in_ok-give-in-Body
+returns-in_ok-give-in-Body c = λ form text so_far.
     held c.args.day.now _ _ _
-    (part_read _ c.args.self.now form text so_far.is _ _ c.in-Body.is (c.ends_before.ensures.0 c.if-not-ends_before.false) _ _ c.in-Ok-give.ensures.given c.heading_from.ensures)
+    (part_read _ c.args.self.now form text so_far.is _ _ c.in-Body.is
+    (c.ends_before.ensures.0 c.if-not-ends_before.false) _ _ c.in_ok-give-in-Body.ensures.given c.heading_from.ensures)
 
-pub returns-in-Err-give : goal.returns-in-Err-give
-returns-in-Err-give c = λ form text so_far.
-    part_refused _ c.args.self.now form text so_far.is _ _ c.in-Body.is (c.ends_before.ensures.0 c.if-not-ends_before.false) _ c.in-Err-give.ensures.given
+pub returns-in_err-give-in-Body : goal.returns-in_err-give-in-Body
+returns-in_err-give-in-Body c = λ form text so_far.
+    let (fault, is, same) = err_from_is_err_and c.from_residual-in_err-give-in-Body.result
+    c.from_residual-in_err-give-in-Body.ensures.1 in
+    rw (is, same) (part_refused _ c.args.self.now form text so_far.is _ _ c.in-Body.is
+    (c.ends_before.ensures.0 c.if-not-ends_before.false) _
+    c.in_err-give-in-Body.ensures.given)

@@ -1,4 +1,4 @@
-use Rattle.kd_form.proofs.Streaming.{fed_next, fed_whole, fed_up_to, room_less, well_now, sym, ◌∙◌, arith, take_more, up_to}
+use Rattle.kd_form.proofs.Streaming.{fed_none, room_for, still_well, take_all, refl, fed_next, fed_whole, fed_up_to, room_less, well_now, sym, ◌∙◌, arith, take_more, up_to}
 use Rattle.kd_form.proofs.stream.piece.feed_all.Goals as goal
 
 pub returns-in-Err-clause-fed : goal.returns-in-Err-clause-fed
@@ -14,3 +14,22 @@ loop-byte-preserved g c = record {
   empty = c.in-Ok.ensures.emptied;
   well = well_now _ _ c.in-Ok.ensures.failed ∙ c.loop-byte.invariant.well;
 }
+
+pub loop-byte-init : goal.loop-byte-init
+loop-byte-init g c = record {
+  room = room_for _ _ _ _ (omega arith) c.requires;
+  fed = fed_none _ _ _ _;
+  empty = c.new-made.ensures;
+  well = refl;
+}
+
+pub feed_one-requires-clause-room : goal.feed_one-requires-clause-room
+feed_one-requires-clause-room g c = room_for _ _ _ 1 (omega (arith, c.loop-byte-test.true)) c.loop-byte.invariant.room
+
+pub returns-clause-fed : goal.returns-clause-fed
+returns-clause-fed g c =
+    fed_whole _ _ _ _ _ _ _ (take_all c.loop-byte.byte-index c.args.bytes.now (omega (arith, c.loop-byte-test.false)))
+    c.loop-byte.invariant.fed
+
+pub returns-clause-failed : goal.returns-clause-failed
+returns-clause-failed g c = still_well _ _ c.loop-byte.invariant.well

@@ -1,4 +1,4 @@
-use Rattle.kd_form.proofs.OrderSteps.{goes_on, head_next, no_next, one_more, text_head, ◌≡◌, ℕ, List, [], ◌∷◌, ◌++◌, ◌+◌, ◌≤◌, refl, inr, inl, ap, sym, append-nil, length, length-append, arith, codes, behind}
+use Rattle.kd_form.proofs.OrderSteps.{goes_on, head_open, head_next, no_next, one_more, text_head, ◌≡◌, ℕ, List, [], ◌∷◌, ◌++◌, ◌+◌, ◌≤◌, refl, inr, inl, ap, sym, append-nil, length, length-append, arith, codes, behind}
 use Rattle.kd_form.proofs.order_reader.head.HeadReader.take.Goals as goal
 
 -- the line of keys is whole
@@ -37,3 +37,9 @@ returns-in-Err-Off c order is =
           let (one, left, next, split) = head_next _ (length keys) after last few ended in
           no_next _ _ _ other one left c.args.byte is.begins (rw c.in-Err-Off.field-0-is at off) next (cc (mine, alike, split, append-nil last));
     }
+
+-- more has to follow
+pub returns-in-Err-Open : goal.returns-in-Err-Open
+returns-in-Err-Open c order is =
+    let begins = rw (c.len.ensures.value, c.as_slice.ensures.value, c.push.ensures.items) at c.in-Err-Open.ensures in
+    rw c.push.ensures.items (head_open _ _ _ order is c.args.byte (rw c.in-Err-Open.field-0-is at begins))
