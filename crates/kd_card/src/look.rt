@@ -155,7 +155,7 @@ fn is_a_reading(reading: Reading) -> bool
     ensures answer { IsTrue result }
     ensures reading { places.IsReading reading }
 {
-    let _numbers = reading.numbers();
+    prove!(reading.numbers().1 <= 6);
     true
 }
 
@@ -245,7 +245,7 @@ fn standing_of_text(text: &[u8]) -> Option<Standing>
         (λ standing. HasLook Name.Bar text.now (Look.Bar standing)) }
 {
     let standing = Standing::from_text(text)?;
-    let _after = standing.right();
+    prove!(standing.left() < standing.right());
     Some(standing)
 }
 
@@ -256,6 +256,6 @@ fn reading_of_text(text: &[u8]) -> Option<Reading>
         (λ reading. HasLook Name.Row text.now (Look.Row reading)) }
 {
     let reading = Reading::from_text(text)?;
-    let _numbers = reading.numbers();
+    prove!(reading.numbers().1 <= 6);
     Some(reading)
 }
