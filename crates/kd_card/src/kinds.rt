@@ -242,8 +242,9 @@ impl PricedKind {
 
 /// Whether the kinds are in their order from that rank on, each once, and count so many things together.
 pub(crate) fn are_kinds<K: AsKind>(kinds: &[K], floor: usize, number: usize) -> bool
-    ensures { let all = map K.kind kinds.now in
+    ensures value { let all = map K.kind kinds.now in
         IsTrue result ↔ (AreKinds floor all × (counted all ≡ number)) }
+    ensures few { IsTrue result → length kinds.now ≤ number }
 {
     match kinds {
         [] => number == 0,

@@ -289,7 +289,6 @@ fn array_of<const N: usize>(prices: &[i16]) -> [i16; N]
 }
 
 /// The kinds, if they are in order, each once, and of so many things as there is room for kinds.
-#[tactic(auto, using(crate::proofs::KindPrices::short))]
 fn in_order<K: AsKind, const N: usize>(kinds: &[K]) -> Option<ArrayVec<K, N>>
     ensures { let all = map K.kind kinds.now in
         MatchOption result

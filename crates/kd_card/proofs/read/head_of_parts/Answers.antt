@@ -1,5 +1,4 @@
-use Rattle.kd_card.proofs.Prelude.{arith, decimal_injective}
-use Rattle.kd_card.proofs.Lines.{same_text, other_text}
+use Rattle.kd_card.proofs.{Prelude.{arith, decimal_injective}, Lines.{same_text, other_text}}
 use Rattle.kd_card.proofs.read.head_of_parts.Goals as goal
 use Rattle.kd_card.proofs.read.head_of_parts.Goals.{then-day-lt1-via-then-day-lt1, then-day-lt1-via-else-day-lt1+then-day-gt31}
 
