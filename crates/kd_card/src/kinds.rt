@@ -208,7 +208,6 @@ pub(crate) fn kinds_of<K: AsKind>(kinds: &[K]) -> ArrayVec<PricedKind, 27>
 }
 
 /// The kinds, which are all of such things, as their own.
-#[tactic(auto, using(crate::proofs::KindPrices::called_at))]
 pub(crate) fn own_kinds<K: AsKind, const N: usize>(kinds: &[PricedKind]) -> ArrayVec<K, N>
     requires called { AreCalled K.name kinds.now }
     requires room { length kinds.now ≤ N }
