@@ -5,8 +5,7 @@ ghost use Rattle.kd_card.specs.Prices.{row_prices, column_prices};
 ghost use Rattle.kd_card.specs.Kinds.{counted, AreKinds};
 ghost use Rattle.kd_card.specs.CardFault.{numbered};
 ghost use Rattle.kd_card.specs.Prices.{AreWithinReach, ArePrices};
-ghost use Rattle.kd_card.specs.CardText.{row_name, column_name, price_count, price_lines, group_of, IsGroup};
-ghost use Rattle.kd_card.specs.CardText.{HaveKinds};
+ghost use Rattle.kd_card.specs.CardText.{row_name, column_name, price_count, price_lines, group_of, IsGroup, HaveKinds};
 
 use super::group::Group;
 use super::kinds::{

@@ -1,13 +1,10 @@
 //! Cards, read off their text.
-ghost use Rattle.std.specs.Prelude.{codes, ◌≡◌, ◌≢◌, ℕ, ◌<◌, ◌≤◌, [], ◌∷◌, List, MatchOption};
-ghost use Rattle.std.specs.Prelude.{MatchResult, Ok, Err};
+ghost use Rattle.std.specs.Prelude.{codes, ◌≡◌, ◌≢◌, ℕ, ◌<◌, ◌≤◌, [], ◌∷◌, List, MatchOption, MatchResult, Ok, Err};
 ghost use Rattle.kd_state.specs.Words.{IsWord, words_of};
 ghost use Rattle.kd_state.specs.SheetDay.{IsDayNumber};
 ghost use Rattle.kd_card.specs.CardText.{IsCard, head_words, version_text};
-ghost use Rattle.kd_card.specs.CardFault.{HasWords, BeginsWithHead, SaysSettings, SaysValue, SaysNumber};
-ghost use Rattle.kd_card.specs.CardFault.{SaysPriceLine};
-ghost use Rattle.kd_card.specs.CardFault.{SaysNumbered, SaysKinded, SaysAllPrices, SaysSum};
-ghost use Rattle.kd_card.specs.CardFault.{IsCardFault};
+ghost use Rattle.kd_card.specs.CardFault.{HasWords, BeginsWithHead, SaysSettings, SaysValue, SaysNumber, SaysPriceLine};
+ghost use Rattle.kd_card.specs.CardFault.{SaysNumbered, SaysKinded, SaysAllPrices, SaysSum, IsCardFault};
 
 use super::card::Card;
 use super::fault::CardFault;
@@ -219,7 +216,7 @@ fn read_kinded(text: &[u8], line: usize) -> Result<(Prices, &[u8]), CardFault>
         (λ found. SaysKinded line text.now (Ok (found.0, found.1.now)))
         (λ fault. SaysKinded line text.now (Err fault)) }
 {
-    let (group, _, _) = first_group(text, Version::ByKind, line)?;
+    let group = first_group(text, Version::ByKind, line)?.0;
     let number = group.number();
     let (rows, rest) = read_kinds(text, group.row_name(), number, line)?;
     let (columns, rest) = read_kinds(rest, group.column_name(), number, line + rows.len())?;

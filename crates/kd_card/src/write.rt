@@ -1,6 +1,5 @@
 //! The text of a card, written to a sink.
-ghost use Rattle.std.specs.Prelude.{◌≡◌, ◌+◌, ◌*◌, ◌≤◌, ◌||◌, [], ◌∷◌, ◌++◌, length, is_err};
-ghost use Rattle.std.specs.Prelude.{unsigned_abs, All};
+ghost use Rattle.std.specs.Prelude.{◌≡◌, ◌+◌, ◌*◌, ◌≤◌, ◌||◌, [], ◌∷◌, ◌++◌, length, is_err, unsigned_abs, All};
 ghost use Rattle.std.specs.Fmt.{signed_decimal};
 ghost use Rattle.arrayvec.specs.ArrayString.{array_string_len};
 ghost use Rattle.kd_tables.specs.Writing.{Writes};
