@@ -31,11 +31,10 @@ use Rattle.kd_sheet.proofs.Prelude.{AllPrinted, read_lines, run, Items, depth, h
 use Rattle.kd_sheet.proofs.Prelude.{items_have_valid_dates, parse_document, skip_bom, along_dots, along_header, at_key}
 use Rattle.kd_sheet.proofs.Prelude.{define, Expression, close, key_value, no_nodes, IsItemsText, IsLinesText}
 use Rattle.kd_sheet.proofs.Prelude.{IsValueText, breaks_lines, encoding_of, escaped, key_text, needs_escape}
-use Rattle.kd_sheet.proofs.Prelude.{quotes_after, string_text}
-use Rattle.kd_sheet.proofs.{CableLetters.{AreFree, IsFree, free_at, all_parts}}
+use Rattle.kd_sheet.proofs.{Prelude.{quotes_after, string_text}, CableLetters.{AreFree, IsFree, free_at, all_parts}}
 use Rattle.kd_sheet.proofs.{Documents.{list_of-items_of, document_parsed}, InTurn.{then_read, passing, again, held}}
-use Rattle.kd_sheet.proofs.{Legal.day_again, Namings.{model_by_name-text, wheel_by_name-text}}
-use Rattle.kd_sheet.proofs.{PinLetters.{are_own, letters_below, pins_back, rings_below}, Seating.is_seated-Decides}
+use Rattle.kd_sheet.proofs.{Legal.day_again, Namings.{model_by_name-text, wheel_by_name-text}, PinLetters.are_own}
+use Rattle.kd_sheet.proofs.{PinLetters.{letters_below, pins_back, rings_below}, Seating.is_seated-Decides}
 use Rattle.kd_sheet.specs.declared.key.Key.TheVariants as keys
 
 -- ---- arrays of texts
