@@ -4,8 +4,7 @@ use Rattle.kd_card.proofs.Prelude.{◌≡◌, ℕ, suc, ◌+◌, ◌-◌, ◌≤
 use Rattle.kd_state.specs.{Costs.standings_as, declared.sheet_day.rotor_entry.SheetWheel.SheetWheel, Pins.pin_set}
 use Rattle.kd_state.specs.{Pins.wheel_pins, Pins.with_pin}
 use Rattle.kd_tables.specs.{declared.lug.Lug.Lug, declared.wheel.Wheel.Wheel, Rings.ring_of, Rings.place_on}
-use Rattle.kd_card.proofs.Counts.{count_by-cons, zip_set, at_most_one, once_in_alphabet}
-use Rattle.kd_card.proofs.Duality.{pairing_cost}
+use Rattle.kd_card.proofs.{Counts.{count_by-cons, zip_set, at_most_one, once_in_alphabet}, Duality.pairing_cost}
 use Rattle.kd_pins.specs.{declared.pin_set.PinSet.PinSet, PinWheels.pins_of}
 
 pub not_differing : (b : Bool) → differ b b ≡ false

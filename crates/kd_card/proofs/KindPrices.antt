@@ -23,10 +23,6 @@ few_kinds floor [] are = omega arith
 few_kinds floor (kind ∷ kinds) are =
     omega (arith, few_kinds (look_rank kind.look + 1) kinds are.2)
 
-pub short : {K : Type 0} (priced : K → PricedKind) (kinds : List K) {number : ℕ} → AreKinds 0 (map priced kinds)
-    → counted (map priced kinds) ≡ number → length kinds ≤ number
-short priced kinds are count = omega (arith, few_kinds 0 (map priced kinds) are, length-map kinds priced)
-
 -- prices by kind that may stand on a card
 pub prices_of : (parts : PriceParts) → version_of parts ≡ ByKind
     → (row_prices parts ≡ prices_of_kinds (row_kinds parts)) × (column_prices parts ≡ prices_of_kinds (column_kinds parts))

@@ -1,6 +1,5 @@
 //! Kinds: things that are alike, how many there are of them, and the price that each of them has.
-ghost use Rattle.std.specs.Prelude.{◌≡◌, ◌≢◌, ◌↔◌, ◌+◌, ◌<◌, ◌≤◌, ◌++◌, length, map, replicate};
-ghost use Rattle.std.specs.Prelude.{IsTrue, MatchOption};
+ghost use Rattle.std.specs.Prelude.{◌≡◌, ◌≢◌, ◌↔◌, ◌+◌, ◌<◌, ◌≤◌, ◌++◌, length, map, replicate, IsTrue, MatchOption};
 ghost use Rattle.arrayvec.specs.ArrayVec.{array_vec_len};
 ghost use Rattle.kd_card.specs.declared.look.Name.{Name};
 ghost use Rattle.kd_card.specs.declared.kinds.PricedKind.{PricedKind};
@@ -183,7 +182,6 @@ pub(crate) fn kinds_of<K: AsKind>(kinds: &[K]) -> ArrayVec<PricedKind, 27>
 }
 
 /// The kinds, which are all of such things, as their own.
-#[tactic(auto, using(crate::proofs::KindPrices::called_at))]
 pub(crate) fn own_kinds<K: AsKind, const N: usize>(kinds: &[PricedKind]) -> ArrayVec<K, N>
     requires called { AreCalled K.name kinds.now }
     requires room { length kinds.now ≤ N }
@@ -217,8 +215,9 @@ impl PricedKind {
 
 /// Whether the kinds are in their order from that rank on, each once, and count so many things together.
 pub(crate) fn are_kinds<K: AsKind>(kinds: &[K], floor: usize, number: usize) -> bool
-    ensures { let all = map K.kind kinds.now in
+    ensures value { let all = map K.kind kinds.now in
         IsTrue result ↔ (AreKinds floor all × (counted all ≡ number)) }
+    ensures few { IsTrue result → length kinds.now ≤ number }
 {
     match kinds {
         [] => number == 0,

@@ -1,8 +1,7 @@
 //! What holds of cards.
-ghost use Rattle.kd_card.specs.Laws.{RanksTellLooks, TextsTellCards, NoCardBeginsAnother};
-ghost use Rattle.kd_card.specs.Laws.{CardsAreSaid, CardsHaveNoFault, OneCardFault, FittingPricesBoundLists};
-ghost use Rattle.kd_card.specs.Laws.{AsFewAreNeeded, ProvingCardsAreAsLong, ProvingCardsAreShortest};
-ghost use Rattle.kd_card.specs.Laws.{ProvingPricesAreTight};
+ghost use Rattle.kd_card.specs.Laws.{RanksTellLooks, TextsTellCards, NoCardBeginsAnother, CardsAreSaid};
+ghost use Rattle.kd_card.specs.Laws.{CardsHaveNoFault, OneCardFault, FittingPricesBoundLists, AsFewAreNeeded};
+ghost use Rattle.kd_card.specs.Laws.{ProvingCardsAreAsLong, ProvingCardsAreShortest, ProvingPricesAreTight};
 
 /// No two cards have one text, and no card's text is the front of another card's. A card's text has no fault, and no bytes
 /// have two. That bytes which are no card have one, `read_card` tells.

@@ -2,9 +2,8 @@
 ghost use Rattle.std.specs.Prelude.{◌≡◌, ◌≢◌, ◌↔◌, ℕ, ◌+◌, ◌<◌, [], ◌∷◌, IsTrue, MatchOption, Some};
 ghost use Rattle.kd_state.specs.Machine.{cable_letters};
 ghost use Rattle.kd_tables.specs.Places as places;
-ghost use Rattle.kd_card.specs.Kinds.{name_text, look_name, look_text, look_rank, letters_text};
-ghost use Rattle.kd_card.specs.Kinds.{standing_rank, reading_rank, AreEnds, IsPairInOrder};
-ghost use Rattle.kd_card.specs.Kinds.{IsInForm, HasLook};
+ghost use Rattle.kd_card.specs.Kinds.{name_text, look_name, look_text, look_rank, letters_text, standing_rank};
+ghost use Rattle.kd_card.specs.Kinds.{reading_rank, AreEnds, IsPairInOrder, IsInForm, HasLook};
 
 use arrayvec::ArrayString;
 use kd_tables::{Letter, Place, Reading, Standing};
@@ -85,7 +84,7 @@ impl Look {
                 Some((one, other)) => is_before(one, other),
             },
             Look::Bar(standing) => place_rank(standing.left()) < place_rank(standing.right()),
-            Look::Row(reading) => is_a_reading(reading),
+            Look::Row(reading) => reading.numbers().1 <= 6,
         }
     }
 
@@ -137,8 +136,16 @@ impl Look {
         match name {
             Name::Cable => Some(Look::Cable(ends_of_text(text)?)),
             Name::Pair => Some(Look::Pair(pair_of_text(text)?)),
-            Name::Bar => Some(Look::Bar(standing_of_text(text)?)),
-            Name::Row => Some(Look::Row(reading_of_text(text)?)),
+            Name::Bar => {
+                let standing = Standing::from_text(text)?;
+                prove!(standing.left() < standing.right());
+                Some(Look::Bar(standing))
+            }
+            Name::Row => {
+                let reading = Reading::from_text(text)?;
+                prove!(reading.numbers().1 <= 6);
+                Some(Look::Row(reading))
+            }
         }
     }
 }
@@ -148,15 +155,6 @@ fn is_before(one: Letter, other: Letter) -> bool
     ensures { IsTrue result ↔ ((one < other) × (other < 26)) }
 {
     one.index() < other.index()
-}
-
-/// Each reading has two numbers that differ, or are both 0.
-fn is_a_reading(reading: Reading) -> bool
-    ensures answer { IsTrue result }
-    ensures reading { places.IsReading reading }
-{
-    let _numbers = reading.numbers();
-    true
 }
 
 /// How many places of a bar lie to the left of this one.
@@ -236,26 +234,4 @@ fn two_letters(text: &[u8]) -> Option<(Letter, Letter)>
         }
         _ => None,
     }
-}
-
-/// The standing of that text.
-fn standing_of_text(text: &[u8]) -> Option<Standing>
-    ensures { MatchOption result
-        ((standing : _) → ¬ (HasLook Name.Bar text.now (Look.Bar standing)))
-        (λ standing. HasLook Name.Bar text.now (Look.Bar standing)) }
-{
-    let standing = Standing::from_text(text)?;
-    let _after = standing.right();
-    Some(standing)
-}
-
-/// The reading of that text.
-fn reading_of_text(text: &[u8]) -> Option<Reading>
-    ensures { MatchOption result
-        ((reading : _) → ¬ (HasLook Name.Row text.now (Look.Row reading)))
-        (λ reading. HasLook Name.Row text.now (Look.Row reading)) }
-{
-    let reading = Reading::from_text(text)?;
-    let _numbers = reading.numbers();
-    Some(reading)
 }

@@ -5,8 +5,7 @@ ghost use Rattle.kd_card.specs.Prices.{row_prices, column_prices};
 ghost use Rattle.kd_card.specs.Kinds.{counted, AreKinds};
 ghost use Rattle.kd_card.specs.CardFault.{numbered};
 ghost use Rattle.kd_card.specs.Prices.{AreWithinReach, ArePrices};
-ghost use Rattle.kd_card.specs.CardText.{row_name, column_name, price_count, price_lines, group_of, IsGroup};
-ghost use Rattle.kd_card.specs.CardText.{HaveKinds};
+ghost use Rattle.kd_card.specs.CardText.{row_name, column_name, price_count, price_lines, group_of, IsGroup, HaveKinds};
 
 use super::group::Group;
 use super::kinds::{
@@ -289,7 +288,6 @@ fn array_of<const N: usize>(prices: &[i16]) -> [i16; N]
 }
 
 /// The kinds, if they are in order, each once, and of so many things as there is room for kinds.
-#[tactic(auto, using(crate::proofs::KindPrices::short))]
 fn in_order<K: AsKind, const N: usize>(kinds: &[K]) -> Option<ArrayVec<K, N>>
     ensures { let all = map K.kind kinds.now in
         MatchOption result

@@ -1,13 +1,10 @@
 //! Cards, read off their text.
-ghost use Rattle.std.specs.Prelude.{codes, ◌≡◌, ◌≢◌, ℕ, ◌<◌, ◌≤◌, [], ◌∷◌, List, MatchOption};
-ghost use Rattle.std.specs.Prelude.{MatchResult, Ok, Err};
+ghost use Rattle.std.specs.Prelude.{codes, ◌≡◌, ◌≢◌, ℕ, ◌<◌, ◌≤◌, [], ◌∷◌, List, MatchOption, MatchResult, Ok, Err};
 ghost use Rattle.kd_state.specs.Words.{IsWord, words_of};
 ghost use Rattle.kd_state.specs.SheetDay.{IsDayNumber};
 ghost use Rattle.kd_card.specs.CardText.{IsCard, head_words, version_text};
-ghost use Rattle.kd_card.specs.CardFault.{HasWords, BeginsWithHead, SaysSettings, SaysValue, SaysNumber};
-ghost use Rattle.kd_card.specs.CardFault.{SaysPriceLine};
-ghost use Rattle.kd_card.specs.CardFault.{SaysNumbered, SaysKinded, SaysAllPrices, SaysSum};
-ghost use Rattle.kd_card.specs.CardFault.{IsCardFault};
+ghost use Rattle.kd_card.specs.CardFault.{HasWords, BeginsWithHead, SaysSettings, SaysValue, SaysNumber, SaysPriceLine};
+ghost use Rattle.kd_card.specs.CardFault.{SaysNumbered, SaysKinded, SaysAllPrices, SaysSum, IsCardFault};
 
 use super::card::Card;
 use super::fault::CardFault;
@@ -17,7 +14,7 @@ use super::prices::{Prices, Version};
 use arrayvec::ArrayVec;
 use itoa::Buffer;
 use kd_state::laws::texts_tell_first_parts;
-use kd_state::{Settings, number_of_text, split_setting, split_words};
+use kd_state::{Settings, day_of_text, split_setting, split_words};
 
 /// The card whose text this is, and its day.
 pub fn read_card(text: &[u8]) -> Result<(u8, Card), CardFault>
@@ -95,12 +92,7 @@ fn head_of_parts(version: &[u8], name: &[u8], day: &[u8]) -> Option<(Version, u8
     if name != b"DAY".as_slice() {
         return None;
     }
-    let version = version_of_text(version)?;
-    let day = number_of_text(day)?;
-    if day < 1 || day > 31 {
-        return None;
-    }
-    Some((version, day))
+    Some((version_of_text(version)?, day_of_text(day)?))
 }
 
 /// What the prices are by, by the number of the card's version.
@@ -219,7 +211,7 @@ fn read_kinded(text: &[u8], line: usize) -> Result<(Prices, &[u8]), CardFault>
         (λ found. SaysKinded line text.now (Ok (found.0, found.1.now)))
         (λ fault. SaysKinded line text.now (Err fault)) }
 {
-    let (group, _, _) = first_group(text, Version::ByKind, line)?;
+    let group = first_group(text, Version::ByKind, line)?.0;
     let number = group.number();
     let (rows, rest) = read_kinds(text, group.row_name(), number, line)?;
     let (columns, rest) = read_kinds(rest, group.column_name(), number, line + rows.len())?;

@@ -1,6 +1,5 @@
 //! The text of a card, written to a sink.
-ghost use Rattle.std.specs.Prelude.{◌≡◌, ◌+◌, ◌*◌, ◌≤◌, ◌||◌, [], ◌∷◌, ◌++◌, length, is_err};
-ghost use Rattle.std.specs.Prelude.{unsigned_abs, All};
+ghost use Rattle.std.specs.Prelude.{◌≡◌, ◌+◌, ◌*◌, ◌≤◌, ◌||◌, [], ◌∷◌, ◌++◌, length, is_err, unsigned_abs, All};
 ghost use Rattle.std.specs.Fmt.{signed_decimal};
 ghost use Rattle.arrayvec.specs.ArrayString.{array_string_len};
 ghost use Rattle.kd_tables.specs.Writing.{Writes};
@@ -123,7 +122,6 @@ fn push_prices<const N: usize>(text: &mut ArrayString<N>, prices: &Prices)
 }
 
 /// Appends the line of a word and prices.
-#[tactic(auto, using(crate::proofs::Lines::prices_written))]
 fn push_price_line<const N: usize>(text: &mut ArrayString<N>, word: &str, prices: &[i16])
     requires room { array_string_len text.old + length word.now + 6 * length prices.now + 1 ≤ N }
     requires reach { AreWithinReach prices.now }

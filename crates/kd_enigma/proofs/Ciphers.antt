@@ -1,12 +1,11 @@
 -- The cipher, letter by letter.
 use Rattle.std.proofs.Common.{zero, ◌≡◌, ℕ, suc, ◌+◌, ◌<◌, List, [], ◌∷◌, ◌++◌, length, map, get_or, set, take, drop}
 use Rattle.std.proofs.Common.{slice_index, All, refl, sym, ap, ◌∙◌, arith, add-zero, add-one, add-suc, rules}
-use Rattle.kd_enigma.{proofs.Ways.path_exchanges, specs.Laws.CipherInTurn, specs.Laws.KeyInTurn}
-use Rattle.kd_enigma.specs.{Laws.TwiceGivesBack, Sound.TablesAreSound}
-use Rattle.kd_step.specs.Stepper.{next_window, window_after}
-use Rattle.{kd_tables.specs.declared.wheel.Wheel.Wheel, std.proofs.lemmas.List.Elements.All-head}
-use Rattle.std.{proofs.lemmas.List.Elements.All-tail, specs.List.enumerate_from}
+use Rattle.{kd_enigma.specs.Laws.{CipherInTurn, KeyInTurn, TwiceGivesBack}, kd_enigma.specs.Sound.TablesAreSound}
+use Rattle.{kd_step.specs.Stepper.{next_window, window_after}, kd_tables.specs.declared.wheel.Wheel.Wheel}
+use Rattle.{std.proofs.lemmas.List.Elements.{All-head, All-tail}, std.specs.List.enumerate_from}
 use Rattle.kd_enigma.specs.Cipher.{RotorKey, IsPlugboard, key_turned, key_after, path, enigma_cipher}
+use Rattle.kd_enigma.proofs.Ways.{path_exchanges}
 
 -- what lights up for a letter after so many steps, and the cipher of a text that begins so many steps after the key
 abbrev lit : RotorKey → ℕ → ℕ → ℕ

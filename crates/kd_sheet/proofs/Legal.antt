@@ -1,24 +1,21 @@
 -- The machine and the day that a table describes are legal.
-use Rattle.kd_sheet.proofs.Prelude.{All, Bool, Contains, IsSome, List, Ok, [], arith, false}
-use Rattle.kd_sheet.proofs.Prelude.{get_or, length, refl, subst, sym, true, ℕ, ◌+◌, ◌-◌}
-use Rattle.kd_sheet.proofs.Prelude.{◌<◌, ◌==◌, ◌∙◌, ◌≡◌, ◌≤◌, leb-true, not-true, nat_tests}
-use Rattle.kd_sheet.proofs.Prelude.{common_steps, length-take-le, All-from_recursion, All-nil}
-use Rattle.kd_sheet.proofs.Prelude.{recursion_from_All, none-some, list_any, in_turn}
-use Rattle.kd_sheet.proofs.Prelude.{bars_in, row_of_text, rows_in, is_figure, may_read, row_for, standing_for, model_in}
-use Rattle.kd_sheet.proofs.Prelude.{pin_parts_in, reflector_in, rotor_parts_in, reflector_by_name}
-use Rattle.kd_sheet.proofs.Prelude.{letters_on_wheels, pins_in, pins_of_item, pins_of_text, shown_in, pins_behind}
-use Rattle.kd_sheet.proofs.Prelude.{day_in, group_of_item, groups_in, model_day_in, new_number_in, number_in}
-use Rattle.kd_sheet.proofs.Prelude.{pin_day_in, rotor_day_in, group_for, Key, AreLetters, AreOnWheels, HasAllPins}
-use Rattle.kd_sheet.proofs.Prelude.{IsLegalPin, IsLegalRotor, pin_set, Day, IsDayNumber, IsLegalDay, day_number}
-use Rattle.kd_sheet.proofs.Prelude.{IsBefore, IsReading, in_order, ring_of}
-use Rattle.kd_sheet.proofs.Prelude.{box_of, reflectors_of, slots_of, Model, M209, Place, Data, Members}
-use Rattle.kd_sheet.specs.declared.key.Key.TheVariants as keys
+use Rattle.kd_sheet.proofs.Prelude.{All, Bool, Contains, IsSome, List, Ok, [], arith, false, get_or, length, refl}
+use Rattle.kd_sheet.proofs.Prelude.{subst, sym, true, ℕ, ◌+◌, ◌-◌, ◌<◌, ◌==◌, ◌∙◌, ◌≡◌, ◌≤◌, leb-true, not-true}
+use Rattle.kd_sheet.proofs.Prelude.{nat_tests, common_steps, length-take-le, All-from_recursion, All-nil}
+use Rattle.kd_sheet.proofs.Prelude.{recursion_from_All, none-some, list_any, in_turn, bars_in, row_of_text, rows_in}
+use Rattle.kd_sheet.proofs.Prelude.{is_figure, may_read, row_for, standing_for, model_in, pin_parts_in, reflector_in}
+use Rattle.kd_sheet.proofs.Prelude.{rotor_parts_in, reflector_by_name, letters_on_wheels, pins_in, pins_of_item}
+use Rattle.kd_sheet.proofs.Prelude.{pins_of_text, shown_in, pins_behind, day_in, group_of_item, groups_in, model_day_in}
+use Rattle.kd_sheet.proofs.Prelude.{new_number_in, number_in, pin_day_in, rotor_day_in, group_for, Key, AreLetters}
+use Rattle.kd_sheet.proofs.Prelude.{AreOnWheels, HasAllPins, IsLegalPin, IsLegalRotor, pin_set, Day, IsDayNumber}
+use Rattle.kd_sheet.proofs.Prelude.{IsLegalDay, day_number, IsBefore, IsReading, in_order, ring_of, box_of}
+use Rattle.kd_sheet.proofs.Prelude.{reflectors_of, slots_of, Model, M209, Place, Data, Members}
 use Rattle.kd_sheet.proofs.Bounds.{day_number_within, capitals_are_letters, rings_in_letters, letters_at_are}
-use Rattle.kd_sheet.proofs.{CableLetters.are_cables, CableLetters.are_pairs, PinLetters.on_wheels}
-use Rattle.kd_sheet.proofs.Seating.{seats-sheet_wheels, seats_in_fill, wheels_have_letters}
-use Rattle.kd_sheet.proofs.InTurn.{Gives, after, after_any, done, given, tested, there_was, some_if, then_read, nothing}
-use Rattle.kd_sheet.proofs.InTurn.{as_many, read_at, each_is, each_read, some_read}
-use Rattle.kd_sheet.proofs.Namings.{found_there, standing_read}
+use Rattle.kd_sheet.proofs.{CableLetters.{are_cables, are_pairs}, PinLetters.on_wheels, Seating.seats-sheet_wheels}
+use Rattle.kd_sheet.proofs.{Seating.{seats_in_fill, wheels_have_letters}, InTurn.{Gives, after, after_any, done, given}}
+use Rattle.kd_sheet.proofs.InTurn.{tested, there_was, some_if, then_read, nothing, as_many, read_at, each_is, each_read}
+use Rattle.kd_sheet.proofs.{InTurn.some_read, Namings.{found_there, standing_read}}
+use Rattle.kd_sheet.specs.declared.key.Key.TheVariants as keys
 
 -- ---- reflectors
 

@@ -8,5 +8,4 @@ pub mod Seating
 pub mod PinLetters
 pub mod Legal
 pub mod Months
-mod PartsBack
-pub mod MachineBack
+pub mod ReadBack

@@ -9,10 +9,9 @@ use Rattle.kd_sheet.proofs.Prelude.{slice_get-get_or, slice_get_cases, AllOfLen,
 use Rattle.kd_sheet.proofs.Prelude.{option_copied, in_turn, items_at, DaysAreTheEntries, IsMonth, day_of, month_of}
 use Rattle.kd_sheet.proofs.Prelude.{day_for, day_in, sheet_in, BadValue, numbered_here, numbered_other, Day}
 use Rattle.kd_sheet.proofs.Prelude.{IsDayNumber, OfPins, OfRotors, day_number, data_of_table, Data, Members, as_table}
-use Rattle.kd_sheet.proofs.Prelude.{table, view, Value}
+use Rattle.kd_sheet.proofs.{Prelude.{table, view, Value}, InTurn.{same_found, given, there_was, nothing, on, on_none}}
+use Rattle.kd_sheet.proofs.{InTurn.{read_more, as_many, read_at}, Legal.{Tells, described}}
 use Rattle.kd_sheet.specs.declared.key.Key.TheVariants as keys
-use Rattle.kd_sheet.proofs.InTurn.{same_found, given, there_was, nothing, on, on_none, read_more, as_many, read_at}
-use Rattle.kd_sheet.proofs.Legal.{Tells, described}
 use Rattle.kd_sheet.proofs.Namings.{found_there, passes}
 
 -- the day has the number

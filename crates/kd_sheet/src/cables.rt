@@ -9,7 +9,7 @@ use super::document::find_at;
 use super::fault::SheetFault;
 use super::items::{ItemReader, read_up_to};
 use super::key::Key;
-use super::letters::capital_letter;
+use super::letters::capital_letters;
 use arrayvec::ArrayVec;
 use kd_state::{Cable, is_new};
 use toml::{Table, Value};
@@ -24,15 +24,14 @@ fn cable_of_text(text: &[u8]) -> Option<Cable>
     ensures letters { IfSome result
         (λ cable. letters_in_cable text.now ≡ Some (cable_letters cable)) }
 {
-    match text {
-        [] => Some((None, None)),
-        [one] => {
-            let one = capital_letter(*one)?;
+    match text.len() {
+        0 => Some((None, None)),
+        1 => {
+            let [one] = capital_letters::<1>(text)?;
             Some((Some(one), None))
         }
-        [one, other] => {
-            let one = capital_letter(*one)?;
-            let other = capital_letter(*other)?;
+        2 => {
+            let [one, other] = capital_letters::<2>(text)?;
             Some((Some(one), Some(other)))
         }
         _ => None,

@@ -1,8 +1,8 @@
 //! The groups of a day's messages.
 ghost use Rattle.std.specs.Prelude.{◌≡◌};
-ghost use Rattle.toml.specs.View.{view, table_view};
+ghost use Rattle.toml.specs.View.{table_view};
 ghost use Rattle.kd_sheet.specs.Document.{result_map};
-ghost use Rattle.kd_sheet.specs.SheetFile.{group_of_item, group_for, groups_in};
+ghost use Rattle.kd_sheet.specs.SheetFile.{group_for, groups_in};
 
 use super::document::find_at;
 use super::fault::SheetFault;
@@ -16,14 +16,6 @@ use toml::{Table, Value};
 /// The groups of a day's messages: at most four.
 pub type Groups = ArrayVec<[Letter; 3], 4>;
 
-/// The letters of an item that is a text of three capital letters.
-#[tactic(auto, unfolding(crate::specs::SheetFile::group_of_item))]
-fn group_of_item(item: &Value) -> Option<[Letter; 3]>
-    ensures { result ≡ group_of_item (view item.now) }
-{
-    capital_letters(item.as_str()?.as_bytes())
-}
-
 /// Reads the groups.
 #[derive(Clone, Copy)]
 struct GroupReader;
@@ -33,8 +25,10 @@ impl ItemReader<[Letter; 3]> for GroupReader {
 
     ghost reading = { λ _. group_for };
 
+    #[tactic(auto, unfolding(crate::specs::SheetFile::group_of_item))]
     fn read(&self, _before: &[[Letter; 3]], item: &Value) -> Result<[Letter; 3], SheetFault> {
-        group_of_item(item).ok_or(SheetFault::BadValue(Key::Groups))
+        let text = item.as_str().ok_or(SheetFault::BadValue(Key::Groups))?;
+        capital_letters(text.as_bytes()).ok_or(SheetFault::BadValue(Key::Groups))
     }
 }
 

@@ -4,7 +4,7 @@ ghost use Rattle.kd_sheet.specs.Laws.{LegalDaysAreDescribed, DaysAreTheEntries};
 
 /// The file that is written of a machine is read as just that machine, and the file of legal parts as the machine of these
 /// parts, with the letters of each cable in order.
-#[tactic(auto, using(crate::proofs::MachineBack::parts_are_read_back))]
+#[tactic(auto, using(crate::proofs::ReadBack::parts_are_read_back))]
 pub fn written_files_are_read_back()
     ensures machines { WrittenFilesAreReadBack }
     ensures parts { LegalPartsAreReadBack }

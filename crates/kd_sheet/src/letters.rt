@@ -1,18 +1,10 @@
 //! Texts of capital letters.
-ghost use Rattle.std.specs.Prelude.{◌≡◌, ◌-◌, ◌<◌, length, None, Some, IfSome, if◌then◌else◌};
+ghost use Rattle.std.specs.Prelude.{◌≡◌, ◌<◌, length, IfSome};
 ghost use Rattle.kd_tables.specs.Tables.{box_of, slots_of};
-ghost use Rattle.kd_tables.specs.Text.{is_capital};
 ghost use Rattle.kd_sheet.specs.Letters.{capital_letters};
 
 use kd_state::{PerSlot, PerWheel};
 use kd_tables::{Letter, Model};
-
-/// The letter of a capital letter.
-pub fn capital_letter(byte: u8) -> Option<Letter>
-    ensures { result ≡ (if is_capital byte then Some (byte - 65) else None) }
-{
-    Letter::from_byte(byte)
-}
 
 /// The letters of a text of exactly `N` capital letters.
 pub fn capital_letters<const N: usize>(text: &[u8]) -> Option<[Letter; N]>

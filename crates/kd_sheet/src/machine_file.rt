@@ -4,7 +4,7 @@ ghost use Rattle.toml.specs.View.{table_view};
 ghost use Rattle.kd_tables.specs.Tables.{box_of, slots_of};
 ghost use Rattle.kd_sheet.specs.Document.{Answers};
 ghost use Rattle.kd_sheet.specs.Letters.{letters_at};
-ghost use Rattle.kd_sheet.specs.MachineFile.{version_in, model_in, knows, known_model_in, reflector_in, rotor_parts_in, pin_parts_in, parts_in, machine_in, machine_of};
+ghost use Rattle.kd_sheet.specs.MachineFile.{version_in, model_in, known_model_in, reflector_in, rotor_parts_in, pin_parts_in, parts_in, machine_in, machine_of};
 
 use super::cables::cables_in;
 use super::document::{document, text_at, value_at};
@@ -40,26 +40,15 @@ pub fn model_in(table: &Table) -> Result<Model, SheetFault>
     model_by_name(text_at(table, Key::Model)?).ok_or(SheetFault::UnknownModel)
 }
 
-/// Whether files of the version know the model: the M4 came with version 2.
-fn knows(version: u8, model: Model) -> bool
-    ensures { result ≡ knows version model }
-{
-    match model {
-        Model::M4 => version == 2,
-        _ => true,
-    }
-}
-
-/// The model of a machine file of that version.
+/// The model of a machine file of that version: the M4 came with version 2.
 #[tactic(auto, unfolding(crate::specs::MachineFile::known_model_in))]
 fn known_model_in(version: u8, table: &Table) -> Result<Model, SheetFault>
     ensures { result ≡ known_model_in version (table_view table.now) }
 {
     let model = model_in(table)?;
-    if knows(version, model) {
-        Ok(model)
-    } else {
-        Err(SheetFault::UnknownModel)
+    match model {
+        Model::M4 if version != 2 => Err(SheetFault::UnknownModel),
+        _ => Ok(model),
     }
 }
 

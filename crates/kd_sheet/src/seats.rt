@@ -3,7 +3,7 @@ ghost use Rattle.std.specs.Prelude.{◌≡◌, ◌+◌, ◌<◌, length};
 ghost use Rattle.toml.specs.View.{table_view};
 ghost use Rattle.kd_tables.specs.Tables.{slots_of, wheels_for};
 ghost use Rattle.kd_state.specs.ToldApart.{has_wheel};
-ghost use Rattle.kd_sheet.specs.Seats.{may_be_empty, is_seated, wheel_for, seat_for, seat_of_item, seats_in};
+ghost use Rattle.kd_sheet.specs.Seats.{is_seated, wheel_for, seat_for, seat_of_item, seats_in};
 
 use super::fault::SheetFault;
 use super::items::{ItemReader, read_each};
@@ -12,13 +12,6 @@ use super::names::wheel_by_name;
 use kd_state::PerSlot;
 use kd_tables::{Model, Wheel, allowed};
 use toml::{Table, Value};
-
-/// Whether the key's texts may be empty.
-fn may_be_empty(key: Key) -> bool
-    ensures { result ≡ may_be_empty key }
-{
-    matches!(key, Key::Slots)
-}
 
 /// Whether the wheel may be seated in the slot behind these.
 fn is_allowed_behind(model: Model, slots: &[Option<Wheel>], wheel: Wheel) -> bool
@@ -67,7 +60,7 @@ fn seat_for(
     requires { length slots.now < slots_of model }
     ensures { result ≡ seat_for key model slots.now name.now }
 {
-    if may_be_empty(key) && name.is_empty() {
+    if matches!(key, Key::Slots) && name.is_empty() {
         Ok(None)
     } else {
         Ok(Some(wheel_for(key, model, slots, name)?))

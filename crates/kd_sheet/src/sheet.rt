@@ -71,10 +71,7 @@ impl Sheet {
         ensures month { IsMonth self.now }
     {
         let days = &self.days;
-        if number == 0 {
-            return None;
-        }
-        days.get(usize::from(number) - 1)?.as_ref()
+        days.get(usize::from(number).checked_sub(1)?)?.as_ref()
     }
 
     /// Puts the day at its number.

@@ -10,14 +10,13 @@ use Rattle.kd_state.proofs.Prelude.{Parts, Pin, Rotor, PinParts, RotorParts, She
 use Rattle.kd_state.proofs.Prelude.{Place, recursion_from_All, sum_by-IsPermutation, sum_by-cons, count_by}
 use Rattle.kd_state.proofs.Prelude.{enumerate_from, pins_of, Bool, List, Some, [], ap, arith, filter_map, map, refl}
 use Rattle.kd_state.proofs.Prelude.{subst, sym, ℕ, ◌+◌, ◌-◌, ◌||◌, ◌∙◌, ◌∷◌, ◌≡◌, common_steps, IsPermutation}
-use Rattle.kd_enigma.specs.Laws.{PairsMakeAPlugboard, SamePairsExchangeAlike}
-use Rattle.kd_state.proofs.{Cables.no_letter_twice, Cables.pairs_joined, Cables.whole_cables, Seating.all_seated}
-use Rattle.kd_state.{proofs.Seating.read_all, proofs.Seating.wheels_of_slots, specs.Lugs.bars_moved}
-use Rattle.{kd_state.specs.Lugs.lug_is_met, std.proofs.Common.max, std.proofs.Common.min, std.proofs.Common.◌%◌}
-use Rattle.std.proofs.Math.Bool.{or_comm}
+use Rattle.kd_state.proofs.{Cables.{no_letter_twice, pairs_joined, whole_cables}, Seating.{all_seated, read_all}}
+use Rattle.kd_state.proofs.Seating.{wheels_of_slots}
+use Rattle.{kd_enigma.specs.Laws.{PairsMakeAPlugboard, SamePairsExchangeAlike}, kd_state.specs.Lugs.bars_moved}
+use Rattle.{kd_state.specs.Lugs.lug_is_met, std.proofs.Common.{max, min, ◌%◌}, std.proofs.Math.Bool.or_comm}
+use Rattle.std.proofs.Math.Nat.{min-eq_left, min-eq_right, max-eq_left, max-eq_right}
 use Rattle.kd_enigma.specs.Laws as enigma
 use Rattle.kd_drum.specs.Laws as drum
-use Rattle.std.proofs.Math.Nat.{min-eq_left, min-eq_right, max-eq_left, max-eq_right}
 
 -- ---- the bars that a Converter's wheels meet are as many as its readings say
 

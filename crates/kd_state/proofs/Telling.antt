@@ -10,11 +10,10 @@ use Rattle.kd_state.proofs.Prelude.{cases_eq, leb-true, nat_tests, get_or-map, n
 use Rattle.kd_state.proofs.Prelude.{slice_get_past, range_with_len, is_none, option_and_then, option_map, option_map_or}
 use Rattle.kd_state.proofs.Prelude.{ring_of, M209, Contains, List, None, Option, Some, [], ap, arith, get_or, inl, inr}
 use Rattle.kd_state.proofs.Prelude.{length, map, nat_eq, refl, slice_get, subst, suc, sym, true, zero, ℕ, ◌↔◌, ◌∙◌, ◌∷◌}
-use Rattle.kd_state.proofs.Prelude.{◌≡◌, ◌≢◌, ◌≤◌, ◌⊎◌, common_steps, IsDistinct}
-use Rattle.kd_state.proofs.{Cables.all_ordered, Cables.new_tells, Changing.in_their_order, Changing.settings_are_told}
-use Rattle.kd_state.proofs.{Changing.settings_keep_machines, CostTable.tests_tell_letters, Refusing.refusals_are_told}
-use Rattle.{kd_state.proofs.Wheels.same_wheel-Decides, std.proofs.Common.IfSome}
-use Rattle.std.proofs.lemmas.List.FromFn.{get_or-map-range_with_len}
+use Rattle.kd_state.proofs.{Prelude.{◌≡◌, ◌≢◌, ◌≤◌, ◌⊎◌, common_steps, IsDistinct}, Cables.{all_ordered, new_tells}}
+use Rattle.kd_state.proofs.Changing.{in_their_order, settings_are_told, settings_keep_machines}
+use Rattle.kd_state.proofs.{CostTable.tests_tell_letters, Refusing.refusals_are_told, Wheels.same_wheel-Decides}
+use Rattle.{std.proofs.Common.IfSome, std.proofs.lemmas.List.FromFn.get_or-map-range_with_len}
 
 -- ---- lists, by what stands at their places and by what has a place in them
 

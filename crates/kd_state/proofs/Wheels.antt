@@ -10,10 +10,9 @@ use Rattle.kd_state.proofs.Prelude.{Contains-append_right, Contains-get_or, pass
 use Rattle.kd_state.proofs.Prelude.{is_member-Decides, same_Some, slice_get-get_or, slice_get-map, Decides}
 use Rattle.kd_state.proofs.Prelude.{pointwise_decides, All, list_any, position_or_len, option_eq, option_map, unwrap_or}
 use Rattle.kd_state.proofs.Prelude.{M209, Bool, Contains, List, Option, Some, [], ap, arith, false, find, get_or}
-use Rattle.kd_state.proofs.Prelude.{length, refl, rules, sym, true, ℕ, ◌<◌, ◌↔◌, ◌∙◌, ◌∷◌, ◌≡◌, ◌≢◌, ◌≤◌}
-use Rattle.{kd_state.proofs.Prelude.pointwise, kd_tables.specs.contracts.wheel.Wheel.the_type}
-use Rattle.{kd_tables.specs.declared.model.Model.TheVariants.M4, std.proofs.Common.cond, std.proofs.Common.◌==◌}
-use Rattle.std.{proofs.lemmas.Slice.Eq.bytes_eq-Decides, specs.Str.bytes_eq}
+use Rattle.kd_state.proofs.Prelude.{length, refl, rules, sym, true, ℕ, ◌<◌, ◌↔◌, ◌∙◌, ◌∷◌, ◌≡◌, ◌≢◌, ◌≤◌, pointwise}
+use Rattle.{kd_tables.specs.contracts.wheel.Wheel.the_type, kd_tables.specs.declared.model.Model.TheVariants.M4}
+use Rattle.{std.proofs.Common.{cond, ◌==◌}, std.proofs.lemmas.Slice.Eq.bytes_eq-Decides, std.specs.Str.bytes_eq}
 use denote.Enum.Bare.{sameb, same_true, same_false}
 use Rattle.kd_tables.specs.declared.reflector.Reflector.TheVariants as reflectors
 

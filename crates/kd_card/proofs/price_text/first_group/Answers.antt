@@ -1,5 +1,4 @@
-use Rattle.kd_card.proofs.Prelude.{refl, Refused}
-use Rattle.kd_card.proofs.Lines.{stops, first_found, other_first}
+use Rattle.kd_card.proofs.{Prelude.{refl, Refused}, Lines.{stops, first_found, other_first}}
 use Rattle.kd_card.proofs.price_text.first_group.Goals as goal
 
 pub returns-in_err-first : goal.returns-in_err-first

@@ -1,5 +1,4 @@
-use Rattle.kd_card.proofs.Prelude.{[], refl, arith, unsigned_abs, ◌≤◌, All-nil}
-use Rattle.kd_card.proofs.Lines.{other_count}
+use Rattle.kd_card.proofs.{Prelude.{[], refl, arith, unsigned_abs, ◌≤◌, All-nil}, Lines.other_count}
 use Rattle.kd_card.proofs.price_text.prices_behind.Goals as goal
 
 pub returns-in-Some : goal.returns-in-Some

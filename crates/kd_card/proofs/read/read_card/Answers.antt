@@ -1,6 +1,5 @@
 use Rattle.kd_card.proofs.Prelude.{rules, ◌∙◌, sym, refl, w32, eqb-true, to_z-of_z, nil_from_length, BadHead, TooMany, Trailing, Refused, Found}
-use Rattle.kd_card.proofs.Lines.{filled, stops}
-use Rattle.kd_card.proofs.OneCard.{up_to_settings, card_said}
+use Rattle.kd_card.proofs.{Lines.{filled, stops}, OneCard.{up_to_settings, card_said}}
 use Rattle.kd_card.proofs.read.read_card.Goals as goal
 
 pub returns-in_default : goal.returns-in_default

@@ -1,5 +1,4 @@
-use Rattle.kd_card.proofs.Prelude.{refl, arith, Refused, Found}
-use Rattle.kd_card.proofs.Lines.{group_said, stops}
+use Rattle.kd_card.proofs.{Prelude.{refl, arith, Refused, Found}, Lines.{group_said, stops}}
 use Rattle.kd_card.proofs.KindPrices.{few_kinds, some_and_few}
 use Rattle.kd_card.proofs.read.read_kinded.Goals as goal
 

@@ -1,5 +1,4 @@
-use Rattle.kd_card.proofs.Prelude.{refl, Refused, Found}
-use Rattle.kd_card.proofs.Lines.{stops}
+use Rattle.kd_card.proofs.{Prelude.{refl, Refused, Found}, Lines.stops}
 use Rattle.kd_card.proofs.read.read_numbered.Goals as goal
 
 pub returns-in_err-group : goal.returns-in_err-group

@@ -1,5 +1,4 @@
-use Rattle.kd_card.proofs.Prelude.{arith}
-use Rattle.kd_card.proofs.Lines.{short_text}
+use Rattle.kd_card.proofs.{Prelude.arith, Lines.short_text}
 use Rattle.kd_card.proofs.write.push_price.Goals as goal
 
 pub push_str-requires-2 : goal.push_str-requires-2

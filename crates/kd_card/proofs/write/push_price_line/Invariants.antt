@@ -1,5 +1,4 @@
-use Rattle.kd_card.proofs.Prelude.{◌≡◌, ◌+◌, ◌*◌, ◌≤◌, ◌++◌, length, take, array_string_len}
-use Rattle.kd_card.proofs.Lines.{behind_spaces}
+use Rattle.kd_card.proofs.{Prelude.{◌≡◌, ◌+◌, ◌*◌, ◌≤◌, ◌++◌, length, take, array_string_len}, Lines.behind_spaces}
 use Rattle.kd_card.proofs.write.push_price_line.Given as goal
 
 abbrev pub invariant-loop-price : goal.invariant-loop-price

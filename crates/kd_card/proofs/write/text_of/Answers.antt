@@ -1,5 +1,4 @@
-use Rattle.kd_card.proofs.Prelude.{rules}
-use Rattle.kd_card.proofs.Lines.{written}
+use Rattle.kd_card.proofs.{Prelude.rules, Lines.written}
 use Rattle.kd_card.proofs.write.text_of.Goals as goal
 
 pub returns-clause-bytes : goal.returns-clause-bytes

@@ -1,5 +1,4 @@
-use Rattle.kd_desk.proofs.Prelude.{arith, codes, found_of, refl, rules}
-use Rattle.kd_desk.proofs.CommandLines.{read_none, read_some}
+use Rattle.kd_desk.proofs.{Prelude.{arith, codes, found_of, refl, rules}, CommandLines.{read_none, read_some}}
 use Rattle.kd_desk.proofs.command.check_of.Goals as goal
 
 pub returns-in_err-sheet-clause-none : goal.returns-in_err-sheet-clause-none

@@ -1,8 +1,7 @@
 use Rattle.kd_desk.proofs.Prelude.{true, ap, codes, ◌≡◌, ◌∙◌, App, app_of, new_app, app_of_fields}
-use Rattle.std.proofs.lemmas.Result.{IfOk-weaker}
-use Rattle.kd_desk.specs.declared.command.Way.TheVariants.{Send, Receive}
-use Rattle.kd_desk.specs.CommandLine.{desk_grammar, type_shape, apply_shape, card_shape, check_shape, way_shape}
 use Rattle.kd_desk.proofs.Grammars.{without_help, grown}
+use Rattle.{std.proofs.lemmas.Result.IfOk-weaker, kd_desk.specs.declared.command.Way.TheVariants.{Send, Receive}}
+use Rattle.kd_desk.specs.CommandLine.{desk_grammar, type_shape, apply_shape, card_shape, check_shape, way_shape}
 use Rattle.kd_desk.proofs.command.grammar.Goals as goal
 
 abbrev without_help_command : App → App

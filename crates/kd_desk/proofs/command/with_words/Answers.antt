@@ -1,6 +1,5 @@
-use Rattle.kd_desk.proofs.Prelude.{ℕ, Bor, List, []}
+use Rattle.kd_desk.proofs.{Prelude.{ℕ, Bor, List, []}, Grammars.{first_word, one_word_more}}
 use Rattle.std.proofs.lemmas.List.{take_more, take_all}
-use Rattle.kd_desk.proofs.Grammars.{first_word, one_word_more}
 use Rattle.kd_desk.proofs.command.with_words.Goals as goal
 
 pub loop-word_name-init : goal.loop-word_name-init

@@ -1,5 +1,4 @@
-use Rattle.kd_desk.proofs.Prelude.{sym, refl, ◌∙◌, OfCard, InCard}
-use Rattle.kd_desk.proofs.Applying.{list_read}
+use Rattle.kd_desk.proofs.{Prelude.{sym, refl, ◌∙◌, OfCard, InCard}, Applying.list_read}
 use Rattle.kd_desk.proofs.list_or_card.read_settings.Goals as goal
 
 pub returns-in-Ok : goal.returns-in-Ok

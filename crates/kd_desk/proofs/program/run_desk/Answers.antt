@@ -1,5 +1,4 @@
-use Rattle.kd_desk.proofs.Prelude.{arith, named}
-use Rattle.kd_desk.proofs.Runs.{asked_all, asked_yet, said_command, done, unread}
+use Rattle.kd_desk.proofs.{Prelude.{arith, named}, Runs.{asked_all, asked_yet, said_command, done, unread}}
 use Rattle.kd_desk.proofs.program.run_desk.Goals as goal
 
 pub returns-in_err-command-2-clause-carried : goal.returns-in_err-command-2-clause-carried

@@ -1,5 +1,4 @@
-use Rattle.kd_desk.proofs.Prelude.{NoSettings, RefusedLine, Carried}
-use Rattle.kd_desk.proofs.Failing.{err_is, in_part, in_whole}
+use Rattle.kd_desk.proofs.{Prelude.{NoSettings, RefusedLine, Carried}, Failing.{err_is, in_part, in_whole}}
 use Rattle.kd_desk.proofs.run_apply.apply.Goals as goal
 
 pub returns-in_err-settings-clause-applied : goal.returns-in_err-settings-clause-applied

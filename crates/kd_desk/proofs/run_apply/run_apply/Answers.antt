@@ -1,5 +1,4 @@
-use Rattle.kd_desk.proofs.Prelude.{machine_of, port, Applies, LacksMemory}
-use Rattle.kd_desk.proofs.Applying.{of_read}
+use Rattle.kd_desk.proofs.{Prelude.{machine_of, port, Applies, LacksMemory}, Applying.of_read}
 use Rattle.kd_desk.proofs.run_apply.run_apply.Goals as goal
 
 pub returns-clause-applied : goal.returns-clause-applied

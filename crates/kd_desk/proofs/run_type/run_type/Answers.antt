@@ -1,5 +1,4 @@
-use Rattle.kd_desk.proofs.Prelude.{machine_of, port, Types, LacksMemory}
-use Rattle.kd_desk.proofs.{Applying.of_read, Streaming.fails, Streaming.off_key}
+use Rattle.kd_desk.proofs.{Prelude.{machine_of, port, Types, LacksMemory}, Applying.of_read, Streaming.{fails, off_key}}
 use Rattle.kd_desk.proofs.run_type.run_type.Goals as goal
 
 pub returns-clause-typed : goal.returns-clause-typed

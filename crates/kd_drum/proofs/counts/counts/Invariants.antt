@@ -1,5 +1,4 @@
-use Rattle.std.proofs.Common.{◌≡◌, ℕ, ◌<◌, length, slice_index}
-use Rattle.kd_drum.specs.Counts.{met_by}
+use Rattle.{std.proofs.Common.{◌≡◌, ℕ, ◌<◌, length, slice_index}, kd_drum.specs.Counts.met_by}
 use Rattle.kd_drum.proofs.counts.counts.Given as goal
 
 abbrev pub invariant-loop-wheels : goal.invariant-loop-wheels

@@ -1,5 +1,4 @@
-use Rattle.kd_sheet.proofs.Prelude.{drop, map, take, ◌≡◌, in_turn, view}
-use Rattle.kd_sheet.proofs.InTurn.{on}
+use Rattle.kd_sheet.proofs.{Prelude.{drop, map, take, ◌≡◌, in_turn, view}, InTurn.on}
 use Rattle.kd_sheet.proofs.items.read_items.Given as goal
 
 -- what is read of all items is read on behind the values so far

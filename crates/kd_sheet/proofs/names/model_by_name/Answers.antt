@@ -1,5 +1,4 @@
-use Rattle.kd_sheet.proofs.Prelude.{model_by_name, every_model, model_text}
-use Rattle.kd_sheet.proofs.Namings.{find_named, model_by_name-text}
+use Rattle.kd_sheet.proofs.{Prelude.{model_by_name, every_model, model_text}, Namings.{find_named, model_by_name-text}}
 use Rattle.kd_sheet.proofs.names.model_by_name.Goals as goal
 
 pub returns : goal.returns

@@ -1,5 +1,4 @@
-use Rattle.kd_sheet.proofs.Prelude.{arith, common_steps, pin_day_in, OfPins, table_view}
-use Rattle.kd_sheet.proofs.Legal.{pin_day}
+use Rattle.kd_sheet.proofs.{Prelude.{arith, common_steps, pin_day_in, OfPins, table_view}, Legal.pin_day}
 use Rattle.kd_sheet.proofs.sheet_day.pin_day_in.Goals as goal
 
 pub unwrap-requires : goal.unwrap-requires

@@ -1,5 +1,4 @@
-use Rattle.kd_state.proofs.Prelude.{OnWheels, subst, sym, ◌∙◌}
-use Rattle.kd_state.proofs.Slots.{are_on_wheels, stand_on_wheels}
+use Rattle.kd_state.proofs.{Prelude.{OnWheels, subst, sym, ◌∙◌}, Slots.{are_on_wheels, stand_on_wheels}}
 use Rattle.kd_state.proofs.engine.turn_drum.Goals as goal
 
 pub returns-in-Ok-clause-window : goal.returns-in-Ok-clause-window

@@ -1,5 +1,4 @@
-use Rattle.kd_card.proofs.Prelude.{rules}
-use Rattle.kd_card.proofs.KindPrices.{cables_are_prices}
+use Rattle.kd_card.proofs.{Prelude.rules, KindPrices.cables_are_prices}
 use Rattle.kd_card.proofs.prices.Prices.cable_kinds.Goals as goal
 
 pub of_parts-requires : goal.of_parts-requires

@@ -1,5 +1,4 @@
-use Rattle.kd_card.proofs.Prelude.{ap, refl, price_count}
-use Rattle.kd_card.proofs.KindPrices.{of_two_groups}
+use Rattle.kd_card.proofs.{Prelude.{ap, refl, price_count}, KindPrices.of_two_groups}
 use Rattle.kd_card.proofs.prices.Prices.of_groups.Goals as goal
 
 pub of_parts-requires : goal.of_parts-requires

@@ -1,6 +1,5 @@
-use Rattle.kd_drum.{proofs.Ciphers.one_more, proofs.Starts.key_after_sum, specs.Converter.PinKey}
-use Rattle.{kd_drum.specs.Converter.pin_key_after, std.proofs.Common.ap, std.proofs.Common.arith}
-use Rattle.std.proofs.Common.{◌∙◌}
+use Rattle.kd_drum.proofs.{Ciphers.one_more, Starts.key_after_sum}
+use Rattle.{kd_drum.specs.Converter.{PinKey, pin_key_after}, std.proofs.Common.{ap, arith, ◌∙◌}}
 use Rattle.kd_drum.proofs.converter.Converter.run.Goals as goal
 
 pub loop-letter-preserved : goal.loop-letter-preserved

@@ -1,5 +1,4 @@
-use Rattle.std.proofs.Common.{◌≡◌, ◌++◌, drop, take}
-use Rattle.kd_drum.specs.Converter.{converter_cipher, pin_key_after}
+use Rattle.{std.proofs.Common.{◌≡◌, ◌++◌, drop, take}, kd_drum.specs.Converter.{converter_cipher, pin_key_after}}
 use Rattle.kd_drum.proofs.converter.Converter.run.Given as goal
 
 abbrev pub invariant-loop-letter : goal.invariant-loop-letter

@@ -1,5 +1,4 @@
-use Rattle.std.proofs.Common.{◌≡◌, ◌++◌, drop, take}
-use Rattle.kd_enigma.specs.Cipher.{enigma_cipher, key_after}
+use Rattle.{std.proofs.Common.{◌≡◌, ◌++◌, drop, take}, kd_enigma.specs.Cipher.{enigma_cipher, key_after}}
 use Rattle.kd_enigma.proofs.enigma.Enigma.run.Given as goal
 
 abbrev pub invariant-loop-letter : goal.invariant-loop-letter

@@ -1,6 +1,5 @@
-use Rattle.kd_enigma.proofs.{Seats.wired, enigma.Enigma.step.Goals.else-stands-stood}
-use Rattle.kd_enigma.{proofs.enigma.Enigma.step.Goals.then-stands-stood, specs.Around.around, specs.Wired.key_in}
-use Rattle.{kd_enigma.specs.Wired.slow, std.proofs.Common.arith, std.proofs.Common.rules, std.proofs.Common.◌≡◌}
+use Rattle.kd_enigma.proofs.{Seats.wired, enigma.Enigma.step.Goals.{else-stands-stood, then-stands-stood}}
+use Rattle.{kd_enigma.specs.Around.around, kd_enigma.specs.Wired.{key_in, slow}, std.proofs.Common.{arith, rules, ◌≡◌}}
 use Rattle.kd_enigma.proofs.enigma.Enigma.step.Goals as goal
 
 pub invariant_of-self : goal.invariant_of-self

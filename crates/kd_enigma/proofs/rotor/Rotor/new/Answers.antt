@@ -1,8 +1,7 @@
-use Rattle.std.proofs.Common.{◌≡◌, ℕ, ◌∙◌, [], sym, ap, arith, rules}
-use Rattle.kd_enigma.{proofs.Made.each_made, proofs.Ways.turned_undone, specs.Rotor.offset, specs.Rotor.rotor}
-use Rattle.{kd_enigma.specs.Rotor.turned, kd_tables.specs.Permutation.followed_by}
-use Rattle.kd_tables.specs.{Permutation.inverse, Tables.wiring_of}
+use Rattle.{std.proofs.Common.{◌≡◌, ℕ, ◌∙◌, [], sym, ap, arith, rules}, kd_enigma.specs.Rotor.{offset, rotor, turned}}
+use Rattle.{kd_tables.specs.Permutation.{followed_by, inverse}, kd_tables.specs.Tables.wiring_of}
 use Rattle.std.proofs.lemmas.List.FromFn.{fill_by_all}
+use Rattle.kd_enigma.proofs.{Made.each_made, Ways.turned_undone}
 use Rattle.kd_enigma.proofs.rotor.Rotor.new.Goals as goal
 
 pub invariant_of-result : goal.invariant_of-result

@@ -1,5 +1,4 @@
-use Rattle.kd_form.proofs.Prelude.{length-take, arith, ℕ}
-use Rattle.kd_form.proofs.Streaming.{room_for}
+use Rattle.kd_form.proofs.{Prelude.{length-take, arith, ℕ}, Streaming.room_for}
 use Rattle.kd_form.proofs.stream.piece.read_next.Goals as goal
 
 pub read_into-requires-clause-room : goal.read_into-requires-clause-room

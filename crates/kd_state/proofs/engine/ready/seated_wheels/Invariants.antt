@@ -1,6 +1,5 @@
 use Rattle.kd_state.proofs.Prelude.{Some, ◌≡◌, map, take}
-use Rattle.arrayvec.specs.ArrayVec.{array_vec_len}
-use Rattle.kd_state.specs.Seated.{seated_wheel}
+use Rattle.{arrayvec.specs.ArrayVec.array_vec_len, kd_state.specs.Seated.seated_wheel}
 use Rattle.kd_state.proofs.engine.ready.seated_wheels.Given as goal
 
 abbrev pub invariant-loop-seated : goal.invariant-loop-seated

@@ -1,6 +1,5 @@
-use Rattle.kd_state.proofs.Prelude.{pointwise_decides, ap, arith, sym, ◌∙◌}
+use Rattle.kd_state.proofs.{Prelude.{pointwise_decides, ap, arith, sym, ◌∙◌}, Wheels.{letters_show, pin_letters_show}}
 use Rattle.kd_state.specs.Entry.{rotor_values, values_of}
-use Rattle.kd_state.proofs.Wheels.{letters_show, pin_letters_show}
 use Rattle.kd_state.proofs.machine.Machine.shows_window.Goals as goal
 
 pub returns-in-Rotor-Rotor : goal.returns-in-Rotor-Rotor

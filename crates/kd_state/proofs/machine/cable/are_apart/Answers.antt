@@ -1,5 +1,4 @@
-use Rattle.kd_state.proofs.Prelude.{both_ways, drop_all, arith, false}
-use Rattle.kd_state.proofs.Cables.{distinct_from, no_letters}
+use Rattle.kd_state.proofs.{Prelude.{both_ways, drop_all, arith, false}, Cables.{distinct_from, no_letters}}
 use Rattle.kd_state.proofs.machine.cable.are_apart.Goals as goal
 
 pub loop-place-preserved : goal.loop-place-preserved

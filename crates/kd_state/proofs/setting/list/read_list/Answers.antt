@@ -1,5 +1,4 @@
-use Rattle.kd_state.proofs.Prelude.{eqb-true, length_push, [], arith, sym, ◌++◌, ◌∙◌, ◌∷◌}
-use Rattle.kd_state.proofs.Lines.{one_more}
+use Rattle.kd_state.proofs.{Prelude.{eqb-true, length_push, [], arith, sym, ◌++◌, ◌∙◌, ◌∷◌}, Lines.one_more}
 use Rattle.kd_state.proofs.setting.list.read_list.Goals as goal
 
 pub returns-then-is_full : goal.returns-then-is_full

@@ -1,5 +1,4 @@
-use Rattle.kd_state.proofs.Prelude.{numbered, IsSome, SomeIff, Option, Some, ap, arith, sym, ◌∙◌}
-use Rattle.kd_state.proofs.Slots.{seated_in_box}
+use Rattle.kd_state.proofs.{Prelude.{numbered, IsSome, SomeIff, Option, Some, ap, arith, sym, ◌∙◌}, Slots.seated_in_box}
 use Rattle.kd_state.proofs.machine.rotor_parts.RotorParts.turn.Goals as goal
 
 is_there : {X : Type 0} (found : Option X) (P : Type 0) (x : X) → SomeIff found P x → P → IsSome found

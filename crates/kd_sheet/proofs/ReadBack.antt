@@ -1,0 +1,586 @@
+-- What is written of the parts of a machine, or of a day, is read as just these, and so is the file of a machine, line by
+-- line; and each legal day is described by a table.
+use Rattle.kd_sheet.proofs.Prelude.{All, List, None, Ok, Option, Result, Some, [], ap, arith, false, get_or, length}
+use Rattle.kd_sheet.proofs.Prelude.{map, ok_or, pos, refl, rules, slice_get, sym, take, true, ℕ, ◌+◌, ◌<◌, ◌==◌, ◌∙◌}
+use Rattle.kd_sheet.proofs.Prelude.{◌∷◌, ◌≡◌, ◌≤◌, and-false, or-true, cases_eq, eq-eqb, false_from_ne_true, le-leb}
+use Rattle.kd_sheet.proofs.Prelude.{ne_eqb, common_steps, length-map, length-take-le, All-map, All-weaker}
+use Rattle.kd_sheet.proofs.Prelude.{recursion_from_All, gets, slice_get_within, AllByRecursion, list_all, PinSet}
+use Rattle.kd_sheet.proofs.Prelude.{cable_for, letters_in_cable, pair_for, pairs_in, cable_of, pair_letters, each_at}
+use Rattle.kd_sheet.proofs.Prelude.{items_at, items_in, up_to, value_at, row_of_text, rows_in, may_read, row_for}
+use Rattle.kd_sheet.proofs.Prelude.{key_name, capital_letters, letters_at, model_in, reflector_in, cable_text}
+use Rattle.kd_sheet.proofs.Prelude.{pin_texts, seat_text, reflector_by_name, number_to, letters_on_wheels, pins_in}
+use Rattle.kd_sheet.proofs.Prelude.{pins_of_item, shown_in, is_seated, seat_for, seat_of_item, seats_in, wheel_for}
+use Rattle.kd_sheet.proofs.Prelude.{may_be_empty, day_in, group_of_item, groups_in, model_day_in, number_in, pin_day_in}
+use Rattle.kd_sheet.proofs.Prelude.{rings_in, rotor_day_in, group_for, sheet_wheels, SheetFault, UnknownModel, Key}
+use Rattle.kd_sheet.proofs.Prelude.{has_reflector-Decides, has_wheel-Decides, has_reflector, AreAllowed, AreApart}
+use Rattle.kd_sheet.proofs.Prelude.{AreCables, AreLetters, AreOnWheels, HasAllPins, cable_letters, plugged_letters}
+use Rattle.kd_sheet.proofs.Prelude.{AreSeated, Day, HasLetters, IsDayNumber, IsLegalDay, IsLegalPinDay, IsLegalRotorDay}
+use Rattle.kd_sheet.proofs.Prelude.{OfPins, OfRotors, PinDay, RotorDay, seats, SheetWheel, IsBefore, IsReading}
+use Rattle.kd_sheet.proofs.Prelude.{reading_text, standing_text, letters_of, model_text, reflector_text, reflectors_of}
+use Rattle.kd_sheet.proofs.Prelude.{slots_of, wheel_text, wheels_for, is_capital, letters_text, Model, M209, Place}
+use Rattle.kd_sheet.proofs.Prelude.{Reflector, Wheel, Data, Members, array, integer, member, no_members, string}
+use Rattle.kd_sheet.proofs.Prelude.{items_of, Bool, append_assoc, codes, nat_le, nat_lt, not, option_map, suc, ◌&&◌}
+use Rattle.kd_sheet.proofs.Prelude.{◌++◌, ◌||◌, ltb-true, nat_tests, append-nil, list_all-append, AllPass-from_list_all}
+use Rattle.kd_sheet.proofs.Prelude.{IsUtf8-from_ascii, IsAscii-from_all, digits, concat, flat_map, list_any, cables_in}
+use Rattle.kd_sheet.proofs.Prelude.{thirteen, document_of, bars_in, standing_for, LegalPartsAreReadBack, known_model_in}
+use Rattle.kd_sheet.proofs.Prelude.{machine_in, parts_in, pin_parts_in, rotor_parts_in, version_in, machine_text}
+use Rattle.kd_sheet.proofs.Prelude.{key_line, listed, pins_text, quoted, version_of, IsLegalPin, IsLegalRotor}
+use Rattle.kd_sheet.proofs.Prelude.{cables_ordered, ordered, Parts, Pin, Rotor, PinParts, RotorParts, figure}
+use Rattle.kd_sheet.proofs.Prelude.{AllPrinted, read_lines, run, Items, depth, has_valid_dates, items_depth}
+use Rattle.kd_sheet.proofs.Prelude.{items_have_valid_dates, parse_document, skip_bom, along_dots, along_header, at_key}
+use Rattle.kd_sheet.proofs.Prelude.{define, Expression, close, key_value, no_nodes, IsItemsText, IsLinesText}
+use Rattle.kd_sheet.proofs.Prelude.{IsValueText, breaks_lines, encoding_of, escaped, key_text, needs_escape}
+use Rattle.kd_sheet.proofs.{Prelude.{quotes_after, string_text}, CableLetters.{AreFree, IsFree, free_at, all_parts}}
+use Rattle.kd_sheet.proofs.{Documents.{list_of-items_of, document_parsed}, InTurn.{then_read, passing, again, held}}
+use Rattle.kd_sheet.proofs.{Legal.day_again, Namings.{model_by_name-text, wheel_by_name-text, standing_again}}
+use Rattle.kd_sheet.proofs.{PinLetters.{are_own, letters_below, pins_back, rings_below}, Seating.is_seated-Decides}
+use Rattle.kd_sheet.specs.declared.key.Key.TheVariants as keys
+
+-- ---- arrays of texts
+
+-- an array of texts
+abbrev pub texts : List (List ℕ) → Data
+texts ts = array (items_of (map string ts))
+
+pub texts_read : (key : Key) (ts : List (List ℕ)) → items_in key (texts ts) ≡ Ok (map string ts)
+texts_read key ts = ap Ok (list_of-items_of (map string ts))
+
+texts_at : (key : Key) (table : Members) (ts : List (List ℕ)) → value_at key table ≡ Ok (texts ts)
+    → items_at key table ≡ Ok (map string ts)
+texts_at key table ts there = search (rules, then_read, value_at, texts_read)
+
+-- an array of so many texts, and one of so many at most, of which each is read as what it was
+module _ {X : Type 0} (key : Key) (count : ℕ) (text_of : X → List ℕ) (things : List X)
+    (reading : List X → Data → Result X SheetFault)
+    (each : (k : ℕ) (x : X) → slice_get things k ≡ Some x → reading (take k things) (string (text_of x)) ≡ Ok x) where
+  pub each_at_again : (table : Members) → value_at key table ≡ Ok (texts (map text_of things)) → length things ≡ count
+      → each_at key count reading table ≡ Ok things
+  each_at_again table there counted =
+      let read = again reading text_of things each in
+      grind (arith, common_steps, eq-eqb, then_read, items_at, texts_at, passing)
+
+  pub up_to_again : length things ≤ count → up_to key count reading (texts (map text_of things)) ≡ Ok things
+  up_to_again few =
+      let read = again reading text_of things each in
+      let items = map string (map text_of things) in
+      let fits : length items ≤ count = omega (
+        arith,
+        few,
+        length-map
+            (map text_of things) string,
+        length-map things text_of,
+      ) in
+      rw (list_of-items_of items, le-leb (length items) count fits) read
+
+-- ---- letters
+
+letters_spelled : (letters : List ℕ) → AllByRecursion (λ letter. letter < 26) letters
+    → (list_all is_capital (letters_text letters) ≡ true) × (letters_of (letters_text letters) ≡ letters)
+letters_spelled [] within = (refl, refl)
+letters_spelled (letter ∷ letters) within = grind (arith, letters_spelled letters within.1, le-leb)
+
+pub capitals_again : (count : ℕ) (letters : List ℕ) → AreLetters count letters
+    → capital_letters count (letters_text letters) ≡ Some letters
+capitals_again count letters are =
+    grind (arith, common_steps, letters_spelled, recursion_from_All, eq-eqb)
+
+pub window_again : (window : List ℕ) → AreOnWheels window → letters_on_wheels (letters_text window) ≡ Some window
+unfolding letters_on_wheels
+window_again window are =
+    rw (capitals_again 6 window (record { count = are.count; within = letters_below window are }), are_own window are) refl
+
+-- ---- reflector and wheels
+
+pub reflector_again : (model : Model) (reflector : Reflector) → has_reflector (reflectors_of model) reflector ≡ true
+    → reflector_by_name model (reflector_text reflector) ≡ Some reflector
+unfolding reflector_by_name
+reflector_again model reflector e = grind arith
+
+-- the seat may stand in an array at the key
+abbrev pub MayStand : Key → Option Wheel → Type 0
+MayStand key None = may_be_empty key ≡ true
+MayStand key (Some wheel) = Unit {0}
+
+has_name : (wheel : Wheel) → (length (wheel_text wheel) == 0) ≡ false
+has_name wheel = grind arith
+
+seat_again : (key : Key) (model : Model) (slots : List (Option Wheel)) (seat : Option Wheel) → MayStand key seat
+    → AreAllowed model slots → AreApart slots → (k : ℕ) → slice_get slots k ≡ Some seat
+    → seat_of_item key model (take k slots) (string (seat_text seat)) ≡ Ok seat
+unfolding seat_of_item seat_for wheel_for
+seat_again key model slots None may allowed apart k at = rw may refl
+seat_again key model slots (Some wheel) may allowed apart k at =
+    let within = slice_get_within slots k (Some wheel) at in
+    let before : length (take k slots) ≡ k = length-take-le k slots (omega arith) in
+    let among_them = (has_wheel-Decides (wheels_for model (length (take k slots) + 1)) wheel).1 (rw before
+    (allowed k wheel at)) in
+    let free : is_seated (take k slots) wheel ≡ false = false_from_ne_true _ (λ seated.
+    let among = (is_seated-Decides (take k slots) wheel).0 seated in
+    let stands : slice_get slots among.0 ≡ Some (Some wheel) = grind (arith, common_steps, gets) in
+    omega (arith, apart among.0 k wheel stands at, among.1)) in
+    rw (has_name wheel, and-false, wheel_by_name-text wheel, among_them, free) refl
+
+pub seats_in_again : (key : Key) (model : Model) (table : Members) (slots : List (Option Wheel))
+    → value_at key table ≡ Ok (texts (map seat_text slots)) → All (MayStand key) slots → AreSeated model slots
+    → seats_in key model table ≡ Ok slots
+unfolding seats_in
+seats_in_again key model table slots there may seated =
+    each_at_again key (slots_of model) seat_text slots (seat_of_item key model) (λ k seat at.
+    seat_again key model slots seat (held (MayStand key) slots k seat may at) seated.allowed seated.apart k at)
+    table there seated.count
+
+-- ---- cables and pairs
+
+-- the cable as its text tells it, with a single letter first
+abbrev pub single_first : Option ℕ × Option ℕ → Option ℕ × Option ℕ
+single_first cable = cable_of (cable_letters cable)
+
+-- it has the same letters, and the same text
+pub same_cables : (cables : List (Option ℕ × Option ℕ))
+    → (plugged_letters (map single_first cables) ≡ plugged_letters cables)
+    × (map cable_text (map single_first cables) ≡ map cable_text cables)
+same_cables [] = (refl, refl)
+same_cables (cable ∷ cables) = grind (arith, same_cables cables)
+
+abbrev IsTold : Option ℕ × Option ℕ → Type 0
+IsTold cable = single_first cable ≡ cable
+
+told_once : (cable : Option ℕ × Option ℕ) → IsTold (single_first cable)
+told_once cable = grind arith
+
+cable_again : (before : List (Option ℕ × Option ℕ)) (cable : Option ℕ × Option ℕ) → IsTold cable
+    → IsFree cable_letters before cable → cable_for before (string (cable_text cable)) ≡ Ok cable
+unfolding cable_for letters_in_cable
+cable_again before cable is free = grind (arith, letters_spelled, recursion_from_All, free)
+
+pub cables_again : (cables : List (Option ℕ × Option ℕ)) → AreCables cables
+    → up_to keys.Cables 13 cable_for (texts (map cable_text cables)) ≡ Ok (map single_first cables)
+cables_again cables are =
+    let told = map single_first cables in
+    let same = (same_cables cables).0 in
+    let free : AreFree cable_letters told = record { within = rw same are.within; apart = rw same are.apart } in
+    let all : All IsTold told = All-map IsTold single_first cables (λ k d within. told_once (get_or cables k d)) in
+    ap (λ ts. up_to keys.Cables 13 cable_for (texts ts)) (sym (same_cables cables).1)
+    ∙ up_to_again keys.Cables 13 cable_text told cable_for (λ k cable at.
+    cable_again (take k told) cable (held IsTold told k cable all at) (free_at cable_letters told k cable free at))
+    (omega (arith, are.count, length-map cables single_first))
+
+pair_again : (before : List (ℕ × ℕ)) (pair : ℕ × ℕ) → IsFree pair_letters before pair
+    → pair_for before (string (letters_text (pair_letters pair))) ≡ Ok pair
+unfolding pair_for
+pair_again before pair free = grind (arith, letters_spelled, recursion_from_All, free)
+
+-- ---- pins and bars
+
+pub pins_in_again : (table : Members) (pins : PinSet)
+    → value_at keys.Pins table ≡ Ok (texts (pin_texts pins))
+    → HasAllPins pins → pins_in table ≡ Ok pins
+unfolding pins_in pins_of_item
+pins_in_again table pins there fit = grind (arith, pins_back, fit, then_read, items_at, texts_read)
+
+-- ---- wheels
+
+wheels_again : (wheels : List SheetWheel)
+    → sheet_wheels (seats wheels) (map (λ w. w.ring) wheels) (map (λ w. w.letter) wheels) ≡ wheels
+wheels_again [] = refl
+wheels_again (w ∷ wheels) = ap (λ rest. w ∷ rest) (wheels_again wheels)
+
+-- ---- rows
+
+may_read_again : (row : ℕ × ℕ) → IsReading row → may_read (row.0 + 48) (row.1 + 48) ≡ true
+may_read_again row is = grind (arith, cases_eq, eq-eqb, is.equal, or-true, ne_eqb)
+
+row_again : (row : ℕ × ℕ) → IsReading row → row_of_text (reading_text row) ≡ Some row
+unfolding row_of_text
+row_again row is = grind (arith, le-leb, may_read_again)
+
+-- ---- the tables
+
+abbrev rotor_day_table : RotorDay → Members
+rotor_day_table s =
+    member (key_name keys.Day) (integer (pos s.day))
+    (member (key_name keys.Groups) (texts (map letters_text s.groups))
+    (member (key_name keys.Model) (string (model_text s.model))
+    (member (key_name keys.Plugs) (texts (map (λ pair. letters_text (pair_letters pair)) s.pairs))
+    (member (key_name keys.Reflector) (string (reflector_text s.reflector))
+    (member (key_name keys.Rings) (string (letters_text (map (λ w. w.ring) s.wheels)))
+    (member (key_name keys.Wheels) (texts (map seat_text (seats s.wheels)))
+    (member (key_name keys.Window) (string (letters_text (map (λ w. w.letter) s.wheels))) no_members)))))))
+
+abbrev pin_day_table : PinDay → Members
+pin_day_table s =
+    member (key_name keys.Day) (integer (pos s.day))
+    (member (key_name keys.List) (string (letters_text s.list))
+    (member (key_name keys.Model) (string (model_text M209))
+    (member (key_name keys.Pins) (texts (pin_texts s.pins))
+    (member (key_name keys.Rows) (texts (map reading_text s.rows))
+    (member (key_name keys.Window) (string (letters_text s.window)) no_members)))))
+
+number_again : (number : ℕ) → IsDayNumber number → number_to 31 (integer (pos number)) ≡ Some number
+number_again number is = rw (le-leb 1 number is.first, le-leb number 31 is.last) refl
+
+day_by_model : (number : ℕ) (model : Model) (reflector : Reflector) (table : Members) (day : Day)
+    → has_reflector (reflectors_of model) reflector ≡ true
+    → rotor_day_in number model table ≡ Ok day → model_day_in number model table ≡ Ok day
+unfolding model_day_in
+day_by_model number model reflector table day e d = grind arith
+
+pairs_in_again : (s : RotorDay) → IsLegalRotorDay s → pairs_in (rotor_day_table s) ≡ Ok s.pairs
+unfolding pairs_in
+pairs_in_again s legal =
+    let free : AreFree pair_letters s.pairs = record { within = legal.pairs.within; apart = legal.pairs.apart } in
+    up_to_again keys.Plugs 13 (λ pair. letters_text (pair_letters pair)) s.pairs pair_for
+    (λ k pair at. pair_again (take k s.pairs) pair (free_at pair_letters s.pairs k pair free at)) legal.pairs.few
+
+group_again : (earlier : List (List ℕ)) (group : List ℕ) → AreLetters 3 group
+    → group_for earlier (string (letters_text group)) ≡ Ok group
+unfolding group_of_item
+group_again earlier group are = rw (capitals_again 3 group are) refl
+
+groups_in_again : (s : RotorDay) → IsLegalRotorDay s → groups_in (rotor_day_table s) ≡ Ok s.groups
+unfolding groups_in
+groups_in_again s legal =
+    up_to_again keys.Groups 4 letters_text s.groups group_for
+    (λ k group at. group_again (take k s.groups) group (held
+    (AreLetters 3) s.groups k group legal.groups at)) legal.few_groups
+
+-- what each wheel has, the ring or the letter in the window
+parts_are : (s : RotorDay) → IsLegalRotorDay s → (part : SheetWheel → ℕ)
+    → ((w : SheetWheel) → HasLetters w → part w < 26)
+    → AreLetters (slots_of s.model) (map part s.wheels)
+parts_are s legal part low = record {
+  count = length-map s.wheels _ ∙ sym (length-map s.wheels _) ∙ legal.wheels.count;
+  within = All-map (λ letter. letter < 26) _ s.wheels (All-weaker HasLetters _ low s.wheels legal.letters);
+}
+
+rotor_again : (s : RotorDay) → IsLegalRotorDay s → rotor_day_in s.day s.model (rotor_day_table s) ≡ Ok (OfRotors s)
+unfolding rotor_day_in reflector_in rings_in letters_at
+rotor_again s legal =
+    let has = (has_reflector-Decides (reflectors_of s.model) s.reflector).1 legal.reflector in
+    let wheels = seats_in_again keys.Wheels s.model (rotor_day_table s) (seats s.wheels) refl
+    (All-map (MayStand keys.Wheels) _ s.wheels (λ k d within. tt)) legal.wheels in
+    let rings = capitals_again _ _ (parts_are s legal (λ w. w.ring) (λ w has. has.ring)) in
+    let letters = capitals_again _ _ (parts_are s legal (λ w. w.letter) (λ w has. has.letter)) in
+    grind (arith, then_read, reflector_again, pairs_in_again, groups_in_again, wheels_again)
+
+rows_in_again : (s : PinDay) → IsLegalPinDay s → rows_in (pin_day_table s) ≡ Ok s.rows
+unfolding rows_in
+rows_in_again s legal =
+    each_at_again keys.Rows 27 reading_text s.rows row_for
+    (λ k row at. rw (row_again row (held IsReading s.rows k row legal.rows at)) refl) (pin_day_table s) refl legal.count
+
+pin_again : (s : PinDay) → IsLegalPinDay s → pin_day_in s.day (pin_day_table s) ≡ Ok (OfPins s)
+unfolding pin_day_in shown_in letters_at
+pin_again s legal = grind (arith, then_read, rows_in_again, pins_in_again, window_again, capitals_again)
+
+pub legal_is_described : (day : Day) → IsLegalDay day → (table : Members) × (day_in [] table ≡ Ok day)
+unfolding number_in model_in model_day_in
+legal_is_described (OfRotors s) legal =
+    let has = (has_reflector-Decides (reflectors_of s.model) s.reflector).1 legal.reflector in (
+      rotor_day_table s,
+      day_again s.day s.model (rotor_day_table s) (OfRotors s) (rw (number_again s.day legal.day) refl)
+          (rw (model_by_name-text s.model) refl)
+          (day_by_model s.day s.model s.reflector (rotor_day_table s) (OfRotors s) has (rotor_again s legal)),
+    )
+legal_is_described (OfPins s) legal =
+    let model = ap (λ found. ok_or found UnknownModel) (model_by_name-text M209) in (
+      pin_day_table s,
+      day_again s.day M209 (pin_day_table s) (OfPins s) (rw (number_again s.day legal.day) refl) model
+          (pin_again s legal),
+    )
+
+-- ---- texts in double quotes
+
+-- a byte that a text in double quotes has as it is
+abbrev pub is_plain : ℕ → Bool
+is_plain byte = (nat_le 32 byte && nat_le byte 126) && not (byte == 34 || byte == 92)
+
+abbrev pub IsPlain : List ℕ → Type 0
+IsPlain text = list_all is_plain text ≡ true
+
+none_of : (test : ℕ → Bool) → ((byte : ℕ) → is_plain byte ≡ true → test byte ≡ false) → (text : List ℕ) → IsPlain text
+    → list_any test text ≡ false
+none_of test none [] plain = refl
+none_of test none (byte ∷ text) plain = grind (arith, nat_tests, none, none_of test none text)
+
+is_other : (byte other : ℕ) → is_plain byte ≡ true → is_plain other ≡ false → (byte == other) ≡ false
+is_other byte other plain none = grind (arith, ne_eqb)
+
+escaped_plain : (text : List ℕ) → IsPlain text → escaped false 0 text ≡ text
+unfolding escaped quotes_after needs_escape
+escaped_plain [] plain = refl
+escaped_plain (byte ∷ text) plain = grind (arith, nat_tests, is_other, escaped_plain text)
+
+quoted_is : (text : List ℕ) → IsPlain text → quoted text ≡ string_text text
+unfolding string_text encoding_of
+quoted_is text plain = grind (arith, nat_tests, none_of, is_other, escaped_plain)
+
+-- ---- the lines
+
+-- a byte of one figure of UTF-8
+abbrev is_low : ℕ → Bool
+is_low byte = nat_lt byte 128
+
+plain_low : (text : List ℕ) → IsPlain text → list_all is_low text ≡ true
+plain_low [] plain = refl
+plain_low (byte ∷ text) plain = grind (arith, nat_tests, plain_low text)
+
+-- what stands in a line of a file: the key, its value, and the text that writes the value
+abbrev pub Entry : Type 0
+Entry = Key × Data × List ℕ
+
+abbrev pub text_entry : Key → List ℕ → Entry
+text_entry key text = (key, string text, quoted text)
+
+abbrev pub texts_entry : Key → List (List ℕ) → Entry
+texts_entry key ts = (key, texts ts, listed ts)
+
+-- the text writes the value, and the reader takes it
+pub record IsWritten (entry : Entry) : Type 0 where
+  pub writes : IsValueText false entry.1 entry.2
+  pub shallow : depth entry.1 ≤ 80
+  pub dated : has_valid_dates entry.1 ≡ true
+  pub low : list_all is_low entry.2 ≡ true
+
+pub text_written : (key : Key) (text : List ℕ) → IsPlain text → IsWritten (text_entry key text)
+text_written key text plain = grind (arith, quoted_is, list_all-append, plain_low)
+
+-- what stands behind the first text of an array
+abbrev behind : List (List ℕ) → List ℕ
+behind ts = flat_map (λ text. codes ", " ++ quoted text) ts
+
+record AreWritten (ts : List (List ℕ)) : Type 0 where
+  writes : IsItemsText false false false (items_of (map string ts)) (behind ts ++ codes "]")
+  shallow : items_depth (items_of (map string ts)) ≡ 0
+  dated : items_have_valid_dates (items_of (map string ts)) ≡ true
+  low : list_all is_low (behind ts) ≡ true
+
+are_written : (ts : List (List ℕ)) → AllByRecursion IsPlain ts → AreWritten ts
+are_written [] plain = record { writes = refl; shallow = refl; dated = refl; low = refl }
+are_written (text ∷ ts) plain =
+    grind (arith, common_steps, append_assoc, quoted_is, list_all-append, plain_low, are_written ts plain.1)
+
+one_line : (ds : Items) → breaks_lines false ds ≡ false
+one_line ds = grind arith
+
+pub texts_written : (key : Key) (ts : List (List ℕ)) → AllByRecursion IsPlain ts → IsWritten (texts_entry key ts)
+texts_written key [] plain = grind arith
+texts_written key (text ∷ ts) plain =
+    let rest = are_written ts plain.1 in
+    let writes : IsItemsText false false true (items_of (map string (text ∷ ts))) (quoted text ++
+    (behind ts ++ codes "]")) =
+    (quoted text, behind ts ++ codes "]", refl, quoted_is text plain.0, rest.writes) in
+    record {
+      writes = grind (arith, append_assoc, quoted, one_line);
+      shallow = rw rest.shallow (omega arith);
+      dated = rest.dated;
+      low = simp (list_all-append, plain_low text plain.0, rest.low);
+    }
+
+-- ---- the file
+
+abbrev pub line_of : Entry → List ℕ
+line_of entry = key_line entry.0 entry.2
+
+abbrev pub expression_of : Entry → Expression
+expression_of entry = (([], key_name entry.0), key_value entry.1)
+
+key_bare : (key : Key) → key_text (key_name key) ≡ key_name key
+unfolding key_text
+key_bare key = grind arith
+
+key_low : (key : Key) → list_all is_low (key_name key) ≡ true
+key_low key = grind arith
+
+lines_text : (started : Bool) (entries : List Entry) → AllByRecursion IsWritten entries
+    → IsLinesText false started (map expression_of entries) (concat (map line_of entries))
+lines_text started [] all = refl
+lines_text started (entry ∷ entries) all = grind (arith, key_bare, append_assoc, lines_text true entries all.1)
+
+all_printed : (entries : List Entry) → AllByRecursion IsWritten entries → AllPrinted (map expression_of entries)
+all_printed [] all = tt
+all_printed (entry ∷ entries) all = ((refl, all.0.shallow, all.0.dated), all_printed entries all.1)
+
+file_low : (entries : List Entry) → AllByRecursion IsWritten entries
+    → list_all is_low (concat (map line_of entries)) ≡ true
+file_low [] all = refl
+file_low (entry ∷ entries) all = grind (arith, list_all-append, key_low, file_low entries all.1)
+
+no_mark : (text : List ℕ) → list_all is_low text ≡ true → skip_bom text ≡ text
+unfolding skip_bom
+no_mark text e = grind (arith, ltb-true, ne_eqb)
+
+pub file_read : (entries : List Entry) (table : Members) → AllByRecursion IsWritten entries
+    → option_map (λ doc. close doc.0) (run (no_nodes, []) (map expression_of entries)) ≡ Some table
+    → document_of (concat (map line_of entries)) ≡ Ok table
+unfolding parse_document
+file_read entries table all is =
+    let text = concat (map line_of entries) in
+    let low = file_low entries all in
+    let read = read_lines false false (map expression_of entries) text text (no_nodes, []) (suc (length text))
+    (lines_text false entries all) (all_printed entries all) refl (omega arith) in
+    document_parsed text table
+    (IsUtf8-from_ascii text (IsAscii-from_all text (λ place d within. ltb-true _ _ (AllPass-from_list_all is_low text low place d within))))
+    (rw (no_mark text low, read) is)
+
+-- ---- what is written is plain text
+
+letter_plain : (letter : ℕ) → letter < 26 → is_plain (letter + 65) ≡ true
+letter_plain letter within = grind (arith, nat_tests)
+
+letters_plain : (letters : List ℕ) → AllByRecursion (λ letter. letter < 26) letters → IsPlain (letters_text letters)
+letters_plain [] within = refl
+letters_plain (letter ∷ letters) within = rw (letter_plain letter within.0, letters_plain letters within.1) refl
+
+model_plain : (model : Model) → IsPlain (model_text model)
+model_plain model = grind arith
+
+reflector_plain : (reflector : Reflector) → IsPlain (reflector_text reflector)
+reflector_plain reflector = grind arith
+
+seats_plain : (slots : List (Option Wheel)) → AllByRecursion IsPlain (map seat_text slots)
+seats_plain [] = tt
+seats_plain (seat ∷ slots) = grind (arith, seats_plain slots)
+
+cables_plain : (cables : List (Option ℕ × Option ℕ)) → AllByRecursion (λ letter. letter < 26) (plugged_letters cables)
+    → AllByRecursion IsPlain (map cable_text cables)
+cables_plain [] within = tt
+cables_plain (cable ∷ cables) within = grind (arith, all_parts, letters_plain, cables_plain cables)
+
+pins_plain : (ring : List ℕ) (pins : List Bool) → AllByRecursion (λ letter. letter < 26) ring
+    → IsPlain (pins_text ring pins)
+pins_plain [] pins within = refl
+pins_plain (letter ∷ ring) [] within = refl
+pins_plain (letter ∷ ring) (pin ∷ pins) within = grind (arith, letter_plain, pins_plain ring pins within.1)
+
+bars_plain : (bars : List (Place × Place)) → AllByRecursion IsPlain (map standing_text bars)
+bars_plain [] = tt
+bars_plain (bar ∷ bars) = grind (arith, list_all-append, bars_plain bars)
+
+-- ---- version and model
+
+abbrev version_entry : Model → Entry
+version_entry model = (keys.Version, integer (pos (version_of model)), figure (version_of model))
+
+version_written : (model : Model) → IsWritten (version_entry model)
+unfolding digits
+version_written model = grind arith
+
+version_again : (model : Model) → number_to 2 (integer (pos (version_of model))) ≡ Some (version_of model)
+version_again model = grind arith
+
+ruleset are_plain = (version_written, text_written, texts_written, model_plain, reflector_plain, seats_plain, letters_plain, cables_plain, bars_plain, recursion_from_All)
+
+-- a table with version and model that tells these parts
+told : (model : Model) (table : Members) (m : Parts) → version_in table ≡ Ok (version_of model)
+    → model_in table ≡ Ok model → parts_in model table ≡ Ok m → machine_in table ≡ Ok m
+unfolding machine_in known_model_in
+told model table m version is parts = grind (arith, then_read, passing)
+
+-- ---- a rotor machine
+
+-- with a single letter first a cable holds the same letters
+same_order : (cables : List (Option ℕ × Option ℕ))
+    → map (λ cable. ordered cable.0 cable.1) (map single_first cables) ≡ map (λ cable. ordered cable.0 cable.1) cables
+same_order [] = refl
+same_order (cable ∷ cables) = grind (arith, same_order cables)
+
+may_stand : (seat : Option Wheel) → MayStand keys.Slots seat
+may_stand seat = grind arith
+
+abbrev rotor_entries : RotorParts → List Entry
+rotor_entries m =
+    version_entry m.model ∷ text_entry keys.Model (model_text m.model)
+    ∷ text_entry keys.Reflector (reflector_text m.reflector) ∷ texts_entry keys.Slots (map seat_text m.slots)
+    ∷ text_entry keys.Rings (letters_text m.rings) ∷ text_entry keys.Letters (letters_text m.letters)
+    ∷ texts_entry keys.Cables (map cable_text m.cables) ∷ []
+
+abbrev rotor_table : RotorParts → Members
+rotor_table m =
+    member (key_name keys.Cables) (texts (map cable_text m.cables))
+    (member (key_name keys.Letters) (string (letters_text m.letters))
+    (member (key_name keys.Model) (string (model_text m.model))
+    (member (key_name keys.Reflector) (string (reflector_text m.reflector))
+    (member (key_name keys.Rings) (string (letters_text m.rings))
+    (member (key_name keys.Slots) (texts (map seat_text m.slots))
+    (member (key_name keys.Version) (integer (pos (version_of m.model))) no_members))))))
+
+rotor_read : (m : RotorParts) → IsLegalRotor m → document_of (machine_text (Rotor m)) ≡ Ok (rotor_table m)
+unfolding machine_text define along_header along_dots at_key
+rotor_read m legal =
+    let all : AllByRecursion IsWritten (rotor_entries m) =
+    search (rules, are_plain, legal.rings.within, legal.letters.within, legal.cables.within) in
+    file_read (rotor_entries m) (rotor_table m) all refl
+
+-- with empty cables behind 13 they are the same
+thirteen_again : (cables : List (Option ℕ × Option ℕ)) → length cables ≡ 13 → thirteen cables ≡ cables
+thirteen_again cables all = rw all (append-nil cables)
+
+cables_in_again : (m : RotorParts) → IsLegalRotor m → cables_in (rotor_table m) ≡ Ok (map single_first m.cables)
+unfolding cables_in
+cables_in_again m legal = grind (arith, common_steps, cables_again, thirteen_again)
+
+rotor_parts_again : (m : RotorParts) → IsLegalRotor m
+    → rotor_parts_in m.model (rotor_table m) ≡ Ok (record m { cables = map single_first m.cables })
+unfolding rotor_parts_in reflector_in letters_at
+rotor_parts_again m legal =
+    let has = (has_reflector-Decides (reflectors_of m.model) m.reflector).1 legal.reflector in
+    let seated = seats_in_again keys.Slots m.model (rotor_table m) m.slots refl (λ k d within. may_stand
+    (get_or m.slots k d))
+    (record { count = legal.slots; allowed = legal.allowed; apart = legal.apart }) in
+    grind (arith, then_read, reflector_again, capitals_again, cables_in_again)
+
+by_model : (model : Model) (reflector : Reflector) (table : Members) (m : RotorParts)
+    → has_reflector (reflectors_of model) reflector ≡ true → rotor_parts_in model table ≡ Ok m
+    → parts_in model table ≡ Ok (cables_ordered (Rotor m))
+unfolding parts_in
+by_model model reflector table m e d = grind arith
+
+-- ---- a Converter
+
+abbrev pin_entries : PinParts → List Entry
+pin_entries m =
+    version_entry M209 ∷ text_entry keys.Model (model_text M209) ∷ text_entry keys.Letters (letters_text m.letters)
+    ∷ texts_entry keys.Pins (pin_texts m.pins) ∷ texts_entry keys.Bars (map standing_text m.bars) ∷ []
+
+abbrev pin_table : PinParts → Members
+pin_table m =
+    member (key_name keys.Bars) (texts (map standing_text m.bars))
+    (member (key_name keys.Letters) (string (letters_text m.letters))
+    (member (key_name keys.Model) (string (model_text M209))
+    (member (key_name keys.Pins) (texts (pin_texts m.pins))
+    (member (key_name keys.Version) (integer (pos (version_of M209))) no_members))))
+
+pin_read : (m : PinParts) → IsLegalPin m → document_of (machine_text (Pin m)) ≡ Ok (pin_table m)
+unfolding machine_text define along_header along_dots at_key
+pin_read m legal =
+    let all_pins : AllByRecursion IsPlain (pin_texts m.pins) = grind (arith, pins_plain, rings_below) in
+    let all : AllByRecursion IsWritten (pin_entries m) =
+    search (rules, are_plain, all_pins, letters_below, legal.letters) in
+    file_read (pin_entries m) (pin_table m) all refl
+
+bars_again : (m : PinParts) → IsLegalPin m → bars_in (pin_table m) ≡ Ok m.bars
+unfolding bars_in
+bars_again m legal =
+    each_at_again keys.Bars 27 standing_text m.bars standing_for (λ k bar at.
+    rw (standing_again bar (held (λ bar. IsBefore bar.0 bar.1) m.bars k bar legal.apart at)) refl)
+    (pin_table m) refl legal.bars
+
+pin_parts_again : (m : PinParts) → IsLegalPin m → pin_parts_in (pin_table m) ≡ Ok m
+unfolding pin_parts_in shown_in
+pin_parts_again m legal = grind (arith, then_read, window_again, pins_in_again, bars_again)
+
+-- ---- each machine
+
+pub parts_are_read_back : LegalPartsAreReadBack
+unfolding version_in model_in parts_in
+parts_are_read_back (Rotor m) legal =
+    let has = (has_reflector-Decides (reflectors_of m.model) m.reflector).1 legal.reflector in
+    let read = told m.model (rotor_table m) _ (rw (version_again m.model) refl) (rw (model_by_name-text m.model) refl)
+    (by_model m.model m.reflector (rotor_table m) _ has (rotor_parts_again m legal)) in
+    then_read (document_of (machine_text (Rotor m))) machine_in (rotor_table m) _ (rotor_read m legal) read
+    ∙ ap (λ cables. Ok (Rotor (record m { cables = cables }))) (same_order m.cables)
+parts_are_read_back (Pin m) legal =
+    let read = told M209 (pin_table m) _ refl (ap (λ found. ok_or found UnknownModel) (model_by_name-text M209))
+    (rw (pin_parts_again m legal) refl) in
+    then_read (document_of (machine_text (Pin m))) machine_in (pin_table m) _ (pin_read m legal) read
