@@ -58,6 +58,7 @@ fn set_to(machine: &Machine, day: &SheetDay) -> Machine
     ensures model { model_of result ≡ model_of machine.now }
     ensures written { HasPapers machine.now day.now result }
 {
+    // Getters tell that both are legal.
     let _legal_day = day.model();
     let _legal_machine = machine.parts();
     settings_lead_or_are_refused();
