@@ -136,11 +136,7 @@ impl Look {
         match name {
             Name::Cable => Some(Look::Cable(ends_of_text(text)?)),
             Name::Pair => Some(Look::Pair(pair_of_text(text)?)),
-            Name::Bar => {
-                let standing = Standing::from_text(text)?;
-                prove!(standing.left() < standing.right());
-                Some(Look::Bar(standing))
-            }
+            Name::Bar => Some(Look::Bar(Standing::from_text(text)?)),
             Name::Row => {
                 let reading = Reading::from_text(text)?;
                 prove!(reading.numbers().1 <= 6);
