@@ -26,8 +26,8 @@ unfoldable pub use Rattle.kd_sheet.specs.Cables.{cable_for, cables_in, letters_i
 pub use Rattle.kd_sheet.specs.Cables.{cable_of, pair_letters, thirteen}
 unfoldable pub use Rattle.kd_sheet.specs.Document.{document_of}
 pub use Rattle.kd_sheet.specs.Document.{demand, each_at, in_turn, items_at, items_in, list_of, result_map, up_to, value_at, ◌>>=◌, ◌>>◌}
-unfoldable pub use Rattle.kd_sheet.specs.Drum.{bars_in, row_of_text, rows_in}
-pub use Rattle.kd_sheet.specs.Drum.{is_figure, may_read, row_for, standing_for}
+unfoldable pub use Rattle.kd_sheet.specs.Bars.{bars_in, row_of_text, rows_in}
+pub use Rattle.kd_sheet.specs.Bars.{is_figure, may_read, row_for, standing_for}
 pub use Rattle.kd_sheet.specs.Key.{key_name}
 pub use Rattle.kd_sheet.specs.Laws.{DaysAreTheEntries, LegalPartsAreReadBack}
 pub use Rattle.kd_sheet.specs.Letters.{capital_letters}

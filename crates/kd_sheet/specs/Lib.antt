@@ -6,7 +6,7 @@ pub mod Numbers
 pub mod Seats
 pub mod Cables
 pub mod PinWheels
-pub mod Drum
+pub mod Bars
 pub mod MachineFile
 pub mod Sheet
 pub mod SheetFile

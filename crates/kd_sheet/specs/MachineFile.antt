@@ -12,7 +12,7 @@ use Rattle.kd_state.specs.declared.machine.parts.Parts.{Parts}
 use Rattle.kd_state.specs.declared.machine.parts.Parts.TheVariants.{Rotor, Pin}
 use Rattle.kd_sheet.specs.Cables.{cables_in}
 use Rattle.kd_sheet.specs.Document.{◌>>=◌, ◌>>◌, demand, document_of, value_at, text_at}
-use Rattle.kd_sheet.specs.Drum.{bars_in}
+use Rattle.kd_sheet.specs.Bars.{bars_in}
 use Rattle.kd_sheet.specs.Letters.{letters_at}
 use Rattle.kd_sheet.specs.Names.{model_by_name, reflector_by_name}
 use Rattle.kd_sheet.specs.Numbers.{number_to}

@@ -11,7 +11,7 @@ use Rattle.kd_state.specs.SheetDay.{Day, OfRotors, OfPins, day_number}
 use Rattle.kd_state.specs.declared.sheet_day.rotor_entry.SheetWheel.{SheetWheel}
 use Rattle.kd_sheet.specs.Cables.{pairs_in}
 use Rattle.kd_sheet.specs.Document.{◌>>=◌, ◌>>◌, demand, document_of, in_turn, value_at, list_of, items_at, up_to}
-use Rattle.kd_sheet.specs.Drum.{rows_in}
+use Rattle.kd_sheet.specs.Bars.{rows_in}
 use Rattle.kd_sheet.specs.Key.{key_name}
 use Rattle.kd_sheet.specs.Letters.{capital_letters, letters_at}
 use Rattle.kd_sheet.specs.MachineFile.{model_in, reflector_in}

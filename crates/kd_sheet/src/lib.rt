@@ -1,9 +1,10 @@
 //! Machine files and key sheets: reading them, and writing the file of a machine.
 #![tactic(auto)]
 
+mod bars;
 mod cables;
+mod day_table;
 mod document;
-mod drum;
 mod fault;
 mod groups;
 mod item_text;
@@ -19,7 +20,6 @@ mod pin_wheels;
 mod plugs;
 mod seats;
 mod sheet;
-mod sheet_day;
 mod sheet_file;
 mod write;
 

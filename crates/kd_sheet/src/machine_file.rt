@@ -6,9 +6,9 @@ ghost use Rattle.kd_sheet.specs.Document.{Answers};
 ghost use Rattle.kd_sheet.specs.Letters.{letters_at};
 ghost use Rattle.kd_sheet.specs.MachineFile.{version_in, model_in, known_model_in, reflector_in, rotor_parts_in, pin_parts_in, parts_in, machine_in, machine_of};
 
+use super::bars::bars_in;
 use super::cables::cables_in;
 use super::document::{document, text_at, value_at};
-use super::drum::bars_in;
 use super::fault::SheetFault;
 use super::key::Key;
 use super::letters::box_letters;

@@ -6,7 +6,7 @@ use kd_state::SheetDay;
 use std::marker::Model;
 
 /// How many days the longest month has.
-const DAYS: usize = 31;
+pub(crate) const DAYS: usize = 31;
 
 /// A key sheet: a month with a day here and there. It takes no memory of its own.
 #[derive(Drop)]

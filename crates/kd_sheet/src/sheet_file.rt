@@ -6,19 +6,16 @@ ghost use Rattle.kd_sheet.specs.Document.{Answers, in_turn, result_map};
 ghost use Rattle.kd_sheet.specs.Sheet.{month_of};
 ghost use Rattle.kd_sheet.specs.SheetFile.{number_in, new_number_in, day_in, day_for, sheet_in, sheet_of};
 
+use super::day_table::model_day_in;
 use super::document::{document, items_at, value_at};
 use super::fault::SheetFault;
 use super::key::Key;
 use super::machine_file::model_in;
 use super::numbers::number_to;
-use super::sheet::Sheet;
-use super::sheet_day::model_day_in;
+use super::sheet::{DAYS, Sheet};
 use kd_state::SheetDay;
 use std::alloc::Global;
 use toml::{Table, Value};
-
-/// How many days the longest month has.
-const DAYS: u8 = 31;
 
 /// The day's number.
 #[tactic(auto, unfolding(crate::specs::SheetFile::number_in))]
@@ -26,7 +23,7 @@ fn number_in(table: &Table) -> Result<u8, SheetFault>
     ensures value { result ≡ number_in (table_view table.now) }
     ensures within { IfOk result IsDayNumber }
 {
-    number_to(value_at(table, Key::Day)?, DAYS).ok_or(SheetFault::BadValue(Key::Day))
+    number_to(value_at(table, Key::Day)?, DAYS as u8).ok_or(SheetFault::BadValue(Key::Day))
 }
 
 /// The day's number, which no day of the sheet has.

@@ -1,5 +1,5 @@
 use Rattle.kd_sheet.proofs.Prelude.{drop, length, take, ◌++◌, ◌≡◌, sheet_wheels}
-use Rattle.kd_sheet.proofs.sheet_day.sheet_wheels.Given as goal
+use Rattle.kd_sheet.proofs.day_table.sheet_wheels.Given as goal
 
 -- the wheels so far, and those of the other slots
 abbrev pub invariant-loop-place : goal.invariant-loop-place

@@ -1,5 +1,5 @@
 use Rattle.kd_sheet.proofs.{Prelude.{arith, common_steps, pin_day_in, OfPins, table_view}, Legal.pin_day}
-use Rattle.kd_sheet.proofs.sheet_day.pin_day_in.Goals as goal
+use Rattle.kd_sheet.proofs.day_table.pin_day_in.Goals as goal
 
 pub unwrap-requires : goal.unwrap-requires
 unfolding pin_day_in

@@ -1,4 +1,4 @@
-//! A day of a key sheet, key by key.
+//! A day of a key sheet, which its table says key by key.
 ghost use Rattle.std.specs.Prelude.{◌≡◌, ◌≤◌, ◌<◌, ◌⊎◌, length, All, IsSome};
 ghost use Rattle.toml.specs.View.{view, table_view};
 ghost use Rattle.kd_tables.specs.Tables.{slots_of};
@@ -7,8 +7,8 @@ ghost use Rattle.kd_sheet.specs.Letters.{letters_at};
 ghost use Rattle.kd_sheet.specs.declared.key.Key.TheVariants as keys;
 ghost use Rattle.kd_sheet.specs.SheetFile.{rings_of, rings_in, sheet_wheels, rotor_day_in, pin_day_in, model_day_in};
 
+use super::bars::rows_in;
 use super::document::{text_at, value_at};
-use super::drum::rows_in;
 use super::fault::SheetFault;
 use super::groups::groups_in;
 use super::key::Key;

@@ -1,7 +1,7 @@
 //! How the bars of the Converter's drum stand, and what a sheet wants them to read as.
 ghost use Rattle.std.specs.Prelude.{◌≡◌, ◌+◌, is_some, IfSome};
 ghost use Rattle.toml.specs.View.{table_view};
-ghost use Rattle.kd_sheet.specs.Drum.{standing_for, bars_in, is_figure, may_read, row_of_text, row_for, rows_in};
+ghost use Rattle.kd_sheet.specs.Bars.{standing_for, bars_in, is_figure, may_read, row_of_text, row_for, rows_in};
 
 use super::fault::SheetFault;
 use super::items::{ItemReader, read_each};
@@ -30,7 +30,7 @@ impl ItemReader<Standing> for BarReader {
 }
 
 /// How the 27 bars stand.
-#[tactic(auto, unfolding(crate::specs::Drum::bars_in))]
+#[tactic(auto, unfolding(crate::specs::Bars::bars_in))]
 pub fn bars_in(table: &Table) -> Result<[Standing; BARS], SheetFault>
     ensures { result ≡ bars_in (table_view table.now) }
 {
@@ -49,7 +49,7 @@ fn figure(byte: u8) -> Option<u8>
 }
 
 /// The numbers of a text of two figures with `-` between them, in either order.
-#[tactic(auto, unfolding(crate::specs::Drum::row_of_text))]
+#[tactic(auto, unfolding(crate::specs::Bars::row_of_text))]
 fn row_of_text(text: &[u8]) -> Option<Reading>
     ensures { result ≡ row_of_text text.now }
 {
@@ -79,7 +79,7 @@ impl ItemReader<Reading> for RowReader {
 }
 
 /// What the 27 bars are to read as.
-#[tactic(auto, unfolding(crate::specs::Drum::rows_in))]
+#[tactic(auto, unfolding(crate::specs::Bars::rows_in))]
 pub fn rows_in(table: &Table) -> Result<[Reading; BARS], SheetFault>
     ensures { result ≡ rows_in (table_view table.now) }
 {

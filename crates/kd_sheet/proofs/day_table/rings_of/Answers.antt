@@ -1,7 +1,7 @@
 use Rattle.kd_sheet.proofs.Prelude.{List, Some, arith, map, rules, sym, ℕ, ◌∙◌, ◌≡◌, none-some, same_Some}
 use Rattle.kd_sheet.proofs.Prelude.{numbered_letters, rings_of, Data, as_array, items_of, view, the_lemmas}
 use Rattle.kd_sheet.proofs.Documents.{list_of-items_of}
-use Rattle.kd_sheet.proofs.sheet_day.rings_of.Goals as goal
+use Rattle.kd_sheet.proofs.day_table.rings_of.Goals as goal
 
 -- the rings of an array are its numbers
 rings_of_array : (count : ℕ) (value : Data) (items : List Data) → Some (items_of items) ≡ as_array value

@@ -1,5 +1,5 @@
 use Rattle.kd_sheet.proofs.{Prelude.{arith, common_steps, rotor_day_in, OfRotors, table_view}, Legal.rotor_day}
-use Rattle.kd_sheet.proofs.sheet_day.rotor_day_in.Goals as goal
+use Rattle.kd_sheet.proofs.day_table.rotor_day_in.Goals as goal
 
 pub unwrap-requires : goal.unwrap-requires
 unfolding rotor_day_in
