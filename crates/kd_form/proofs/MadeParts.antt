@@ -40,9 +40,10 @@ pub own_at_first : (s : Day) (key : EngineKey) → key ≡ sheet_key s → IsTur
 own_at_first (OfRotors s) key is = (_, is)
 own_at_first (OfPins s) key is = (_, is)
 
-pub own_when_turned : (s : Day) (key : EngineKey) (window : List ℕ) → IsTurnedFrom s key → key_with_window key window ≡ key_with_window (sheet_key s) window
-own_when_turned (OfRotors s) key window (shown, is) = ap (λ k. key_with_window k window) is
-own_when_turned (OfPins s) key window (shown, is) = ap (λ k. key_with_window k window) is
+pub own_when_turned : (s : Day) (key : EngineKey) (window : List ℕ) → IsTurnedFrom s key
+    → (key_with_window key window ≡ key_with_window (sheet_key s) window) × (IsWindow key window ≡ IsWindow (sheet_key s) window)
+own_when_turned (OfRotors s) key window (shown, is) = (ap (λ k. key_with_window k window) is, ap (λ k. IsWindow k window) is)
+own_when_turned (OfPins s) key window (shown, is) = (ap (λ k. key_with_window k window) is, ap (λ k. IsWindow k window) is)
 
 pub own_when_left : (s : Day) (key left : EngineKey) (window : List ℕ) (count : ℕ) → IsTurnedFrom s key → left ≡ key_left (key_with_window key window) count
     → IsTurnedFrom s left
@@ -54,10 +55,6 @@ pub keys_spent : (s : Day) (part : ℕ) (k : PinKeys) → AreKeys s (Pin k) → 
     → IsKeysFault s part (Pin k) (IndicatorSpent part)
 keys_spent (OfRotors s) part k are shown spent = are
 keys_spent (OfPins s) part k are shown spent = inr (shown, spent, refl)
-
-pub own_windows : (s : Day) (key : EngineKey) (window : List ℕ) → IsTurnedFrom s key → IsWindow key window ≡ IsWindow (sheet_key s) window
-own_windows (OfRotors s) key window (shown, is) = ap (λ k. IsWindow k window) is
-own_windows (OfPins s) key window (shown, is) = ap (λ k. IsWindow k window) is
 
 -- -------- the first of all rising places is found by striking out: letter by letter, and wheel by wheel
 

@@ -40,7 +40,7 @@ impl<'day> OwnMachine<'day> {
 
     /// Enciphers or deciphers a text in its place on the machine, which shows these letters first. False where there isn't
     /// one for each slot or wheel, or one isn't on its wheel.
-    #[tactic(auto, using(crate::proofs::MadeParts::own_when_turned, crate::proofs::MadeParts::own_windows))]
+    #[tactic(auto, using(crate::proofs::MadeParts::own_when_turned))]
     pub(crate) fn encipher(&mut self, window: &[Letter], text: &mut [Letter]) -> bool
         ensures day { self.new ≡ self.old }
         ensures window { IsTrue result ↔ IsWindow (sheet_key self.old) window.now }
