@@ -3,6 +3,8 @@ pub use Rattle.kd_form.proofs.Prelude.{◌≡◌, ◌∙◌, ℕ, ◌<◌, List,
 use Rattle.std.proofs.lemmas.List.FromFn.{length-enumerate_from, length-range_with_len, get_or-range_with_len}
 use Rattle.kd_tables.specs.{Permutation.alphabet, Permutation.followed_by, Rings.ring_of}
 use Rattle.kd_enigma.specs.Cipher.{RotorKey, product, path}
+use Rattle.kd_state.specs.TwoCiphers.{EngineKey, key_left, key_with_window}
+use Rattle.kd_form.specs.{Making.IsTurnedFrom, Sending.IsKeysFault, declared.fault.FormFault.TheVariants.IndicatorSpent}
 
 pub enciphered_length : (s : Day) (window text : List ℕ) → length (cipher_from s window text) ≡ length text
 enciphered_length (OfRotors s) window text = length-map (enumerate_from 1 text) _ ∙ length-enumerate_from 1 text
@@ -31,6 +33,28 @@ enciphered_letters (OfRotors s) window text =
     All-map (λ letter. letter < 26) _ (enumerate_from 1 text) (λ k d inside. letter_read _ _ (path_letters _ _))
 enciphered_letters (OfPins s) window text =
     All-map (λ letter. letter < 26) _ (enumerate_from 0 text) (λ k d inside. omega arith)
+
+-- ---- the day's own machine stays it, whatever is enciphered on it
+
+pub own_at_first : (s : Day) (key : EngineKey) → key ≡ sheet_key s → IsTurnedFrom s key
+own_at_first (OfRotors s) key is = (_, is)
+own_at_first (OfPins s) key is = (_, is)
+
+pub own_when_turned : (s : Day) (key : EngineKey) (window : List ℕ) → IsTurnedFrom s key
+    → (key_with_window key window ≡ key_with_window (sheet_key s) window) × (IsWindow key window ≡ IsWindow (sheet_key s) window)
+own_when_turned (OfRotors s) key window (shown, is) = (ap (λ k. key_with_window k window) is, ap (λ k. IsWindow k window) is)
+own_when_turned (OfPins s) key window (shown, is) = (ap (λ k. key_with_window k window) is, ap (λ k. IsWindow k window) is)
+
+pub own_when_left : (s : Day) (key left : EngineKey) (window : List ℕ) (count : ℕ) → IsTurnedFrom s key → left ≡ key_left (key_with_window key window) count
+    → IsTurnedFrom s left
+own_when_left (OfRotors s) key left window count (shown, is) left_is = (_, left_is ∙ ap (λ k. key_left (key_with_window k window) count) is)
+own_when_left (OfPins s) key left window count (shown, is) left_is = (_, left_is ∙ ap (λ k. key_left (key_with_window k window) count) is)
+
+-- a chosen letter that leads to no internal key is a fault of its keys
+pub keys_spent : (s : Day) (part : ℕ) (k : PinKeys) → AreKeys s (Pin k) → IsWindow (sheet_key s) k.external → HaveRunOut (enciphered_choice s k)
+    → IsKeysFault s part (Pin k) (IndicatorSpent part)
+keys_spent (OfRotors s) part k are shown spent = are
+keys_spent (OfPins s) part k are shown spent = inr (shown, spent, refl)
 
 -- -------- the first of all rising places is found by striking out: letter by letter, and wheel by wheel
 

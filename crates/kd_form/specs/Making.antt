@@ -2,7 +2,7 @@
 use Rattle.std.specs.Prelude.{◌≡◌, ℕ, ◌-◌, ◌%◌, List, [], ◌∷◌, ◌++◌, length, Option, Some, None, replicate}
 use Rattle.kd_state.specs.Machine.{AreOnWheels}
 use Rattle.kd_state.specs.SheetDay.{Day, OfRotors, OfPins, AreOfAGroup}
-use Rattle.kd_state.specs.TwoCiphers.{cipher, key_with_window, sheet_key}
+use Rattle.kd_state.specs.TwoCiphers.{EngineKey, cipher, key_with_window, sheet_key}
 use Rattle.kd_form.specs.declared.keys.Keys.{Keys}
 use Rattle.kd_form.specs.declared.keys.Keys.TheVariants.{Rotor, Pin}
 use Rattle.kd_form.specs.declared.keys.RotorKeys.{RotorKeys}
@@ -14,6 +14,10 @@ use Rattle.kd_form.specs.Part.{Part, part_text}
 -- what the day's own machine makes of a text, if it shows these letters first
 abbrev pub cipher_from : Day → List ℕ → List ℕ → List ℕ
 cipher_from s window text = cipher (key_with_window (sheet_key s) window) text
+
+-- the key of the day's own machine, whatever letters show
+abbrev pub IsTurnedFrom : Day → EngineKey → Type 0
+IsTurnedFrom s key = (window : List ℕ) × (key ≡ key_with_window (sheet_key s) window)
 
 -- the two letters of the sheet's list, which the Converter M-209 has
 abbrev pub list_letters : Day → List ℕ

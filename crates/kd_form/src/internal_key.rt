@@ -4,21 +4,21 @@ ghost use Rattle.kd_state.specs.TwoCiphers.{sheet_key, IsWindow};
 ghost use Rattle.kd_form.specs.InternalKey.{IsInternalKey, HaveRunOut, IsTakenInTurn};
 ghost use Rattle.kd_form.specs.Making.{enciphered_choice};
 
-use super::cipher::encipher;
 use super::keys::PinKeys;
+use super::own_machine::OwnMachine;
 use arrayvec::ArrayVec;
-use kd_state::SheetDay;
 use kd_tables::{Letter, place_on_wheel};
 
 /// The internal key to which the external letters lead, if the letters don't run out.
-pub(crate) fn internal_key_of(day: &SheetDay, keys: &PinKeys) -> Option<ArrayVec<Letter, 6>>
-    requires { IsWindow (sheet_key day.now) keys.now.external }
-    ensures { MatchOption result
-        (HaveRunOut (enciphered_choice day.now keys.now))
-        (λ internal. IsInternalKey (enciphered_choice day.now keys.now) internal.items) }
+pub(crate) fn internal_key_of(own: &mut OwnMachine, keys: &PinKeys) -> Option<ArrayVec<Letter, 6>>
+    requires { IsWindow (sheet_key own.old) keys.now.external }
+    ensures day { own.new ≡ own.old }
+    ensures key { MatchOption result
+        (HaveRunOut (enciphered_choice own.old keys.now))
+        (λ internal. IsInternalKey (enciphered_choice own.old keys.now) internal.items) }
 {
     let mut letters = [keys.chosen; 12];
-    encipher(day, &keys.external, &mut letters);
+    own.encipher(&keys.external, &mut letters);
     internal_key(&letters)
 }
 

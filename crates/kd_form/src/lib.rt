@@ -2,7 +2,6 @@
 #![tactic(auto)]
 
 mod body;
-mod cipher;
 mod fault;
 mod form_reader;
 mod given;
@@ -15,6 +14,7 @@ mod keys;
 pub mod laws;
 mod making;
 mod order_reader;
+mod own_machine;
 mod part_body;
 mod part_letters;
 mod pattern_line;

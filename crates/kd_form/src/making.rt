@@ -8,10 +8,10 @@ ghost use Rattle.kd_form.specs.Making.{indicator_of, rotor_letters, enciphered_c
 ghost use Rattle.kd_form.specs.Making.{pin_indicators, pin_letters, filled};
 
 use super::body::push_body;
-use super::cipher::{enciphered, push_letters};
 use super::heading::{Heading, Indicator, push_heading};
 use super::internal_key::internal_key_of;
 use super::keys::{Keys, PinKeys, RotorKeys};
+use super::own_machine::{OwnMachine, push_letters};
 use arrayvec::{ArrayString, ArrayVec};
 use kd_state::{PerSlot, SheetDay};
 use kd_tables::Letter;
@@ -32,14 +32,15 @@ pub(crate) fn make_part(
     requires few { length text.now ≤ part_size day.now }
     ensures { IsMadeText day.now part parts keys.now text.now result.bytes }
 {
+    let mut own = OwnMachine::new(day);
     match keys {
         Keys::Rotor(keys) => {
-            let indicator = indicator_of(day, keys);
-            let letters = rotor_letters(day, keys, text);
+            let indicator = indicator_of(&mut own, keys);
+            let letters = rotor_letters(&mut own, keys, text);
             text_of(part, parts, Some(indicator), letters.as_slice())
         }
         Keys::Pin(keys) => {
-            let letters = pin_letters(day, keys, text);
+            let letters = pin_letters(&mut own, keys, text);
             text_of(part, parts, None, letters.as_slice())
         }
     }
@@ -69,12 +70,13 @@ fn text_of(
 
 /// The ground, and the message key, enciphered from there.
 #[tactic(auto, using(crate::proofs::MadeParts::enciphered_length))]
-fn indicator_of(day: &SheetDay, keys: &RotorKeys) -> Indicator
-    requires { AreKeys day.now (Keys.Rotor keys.now) }
-    ensures { result ≡ indicator_of day.now keys.now }
+fn indicator_of(own: &mut OwnMachine, keys: &RotorKeys) -> Indicator
+    requires { AreKeys own.old (Keys.Rotor keys.now) }
+    ensures day { own.new ≡ own.old }
+    ensures value { result ≡ indicator_of own.old keys.now }
 {
     prove!(keys.key.len() <= 4);
-    let key = enciphered::<4>(day, keys.start.as_slice(), keys.key.as_slice());
+    let key = own.enciphered::<4>(keys.start.as_slice(), keys.key.as_slice());
     Indicator {
         start: keys.start,
         key: PerSlot::new(key.as_slice()).unwrap(),
@@ -82,13 +84,13 @@ fn indicator_of(day: &SheetDay, keys: &RotorKeys) -> Indicator
 }
 
 /// The letters of a rotor machine's part.
-fn rotor_letters(day: &SheetDay, keys: &RotorKeys, text: &[Letter]) -> ArrayVec<Letter, 520>
-    requires keys { AreKeys day.now (Keys.Rotor keys.now) }
+fn rotor_letters(own: &mut OwnMachine, keys: &RotorKeys, text: &[Letter]) -> ArrayVec<Letter, 520>
+    requires keys { AreKeys own.old (Keys.Rotor keys.now) }
     requires few { length text.now ≤ 245 }
-    ensures value { result.items ≡ rotor_letters day.now keys.now text.now }
+    ensures value { result.items ≡ rotor_letters own.old keys.now text.now }
     ensures few { length result.items ≤ 520 }
 {
-    let enciphered = enciphered::<245>(day, keys.key.as_slice(), text);
+    let enciphered = own.enciphered::<245>(keys.key.as_slice(), text);
     let mut letters = ArrayVec::new();
     push_letters(&mut letters, &keys.fillers);
     push_letters(&mut letters, &keys.group);
@@ -97,19 +99,19 @@ fn rotor_letters(day: &SheetDay, keys: &RotorKeys, text: &[Letter]) -> ArrayVec<
 }
 
 /// The letters of a part on the Converter M-209.
-fn pin_letters(day: &SheetDay, keys: &PinKeys, text: &[Letter]) -> ArrayVec<Letter, 520>
-    requires keys { AreKeys day.now (Keys.Pin keys.now) }
-    requires suits { Suits day.now (Keys.Pin keys.now) }
+fn pin_letters(own: &mut OwnMachine, keys: &PinKeys, text: &[Letter]) -> ArrayVec<Letter, 520>
+    requires keys { AreKeys own.old (Keys.Pin keys.now) }
+    requires suits { Suits own.old (Keys.Pin keys.now) }
     requires few { length text.now ≤ 500 }
     ensures value { (internal : List ℕ)
-        × IsInternalKey (enciphered_choice day.now keys.now) internal
-        × (result.items ≡ pin_letters day.now keys.now internal text.now) }
+        × IsInternalKey (enciphered_choice own.old keys.now) internal
+        × (result.items ≡ pin_letters own.old keys.now internal text.now) }
     ensures few { length result.items ≤ 520 }
 {
-    let internal = internal_key_of(day, keys).unwrap();
+    let internal = internal_key_of(own, keys).unwrap();
     let text = filled(text);
-    let enciphered = enciphered::<500>(day, internal.as_slice(), text.as_slice());
-    let indicators = indicators_of(day, keys);
+    let enciphered = own.enciphered::<500>(internal.as_slice(), text.as_slice());
+    let indicators = indicators_of(own.day, keys);
     let mut letters = ArrayVec::new();
     push_letters(&mut letters, indicators.as_slice());
     push_letters(&mut letters, enciphered.as_slice());

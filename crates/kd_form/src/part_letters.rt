@@ -7,12 +7,12 @@ ghost use Rattle.kd_form.specs.KeyPatterns.{HasPins};
 ghost use Rattle.kd_form.specs.FormParts.{IsHeading, IsLetterCount};
 ghost use Rattle.kd_form.specs.Receiving.{SaysBody};
 
-use super::cipher::{enciphered, is_window};
 use super::fault::FormFault;
 use super::heading::{Heading, Indicator};
 use super::internal_key::internal_key_of;
 use super::key_line::slots_of;
 use super::keys::PinKeys;
+use super::own_machine::OwnMachine;
 use arrayvec::ArrayVec;
 use kd_state::SheetDay;
 use kd_tables::Letter;
@@ -37,8 +37,9 @@ fn read_rotor_letters(
     if !day.has_group(group) {
         return Err(FormFault::WrongGroup(part));
     }
-    let key = enciphered::<4>(day, indicator.start.as_slice(), indicator.key.as_slice());
-    Ok(enciphered(day, key.as_slice(), &letters[5..]))
+    let mut own = OwnMachine::new(day);
+    let key = own.enciphered::<4>(indicator.start.as_slice(), indicator.key.as_slice());
+    Ok(own.enciphered(key.as_slice(), &letters[5..]))
 }
 
 /// Whether these are the same letters in the same order.
@@ -84,7 +85,8 @@ fn read_pin_letters(
         return Err(FormFault::IndicatorsDiffer(part));
     }
     let keys = keys_in(letters);
-    if !is_window(day, &keys.external) {
+    let mut own = OwnMachine::new(day);
+    if !own.can_show(&keys.external) {
         return Err(FormFault::KeyNotOnWheel);
     }
     let due = day.list().unwrap();
@@ -92,8 +94,8 @@ fn read_pin_letters(
         return Err(FormFault::WrongGroup(part));
     }
     let text = &letters[10..letters.len() - 10];
-    match internal_key_of(day, &keys) {
-        Some(internal) => Ok(enciphered(day, internal.as_slice(), text)),
+    match internal_key_of(&mut own, &keys) {
+        Some(internal) => Ok(own.enciphered(internal.as_slice(), text)),
         None => Err(FormFault::IndicatorSpent(part)),
     }
 }

@@ -4,10 +4,10 @@ ghost use Rattle.kd_form.specs.Keys.{AreKeys};
 ghost use Rattle.kd_form.specs.Making.{Suits};
 ghost use Rattle.kd_form.specs.Sending.{IsKeysFault, IsFirstKeysFault};
 
-use super::cipher::is_window;
 use super::fault::FormFault;
 use super::internal_key::internal_key_of;
 use super::keys::{Keys, PinKeys};
+use super::own_machine::OwnMachine;
 use kd_state::SheetDay;
 
 /// Refuses the first keys that don't suit the day. It stands apart, as each byte of an order would make room for what it keeps.
@@ -51,10 +51,11 @@ fn check_pin_keys(day: &SheetDay, part: u8, keys: &PinKeys) -> Result<(), FormFa
         (λ _. Suits day.now (Keys.Pin keys.now))
         (IsKeysFault day.now part (Keys.Pin keys.now)) }
 {
-    if !is_window(day, &keys.external) {
+    let mut own = OwnMachine::new(day);
+    if !own.can_show(&keys.external) {
         return Err(FormFault::KeyNotOnWheel);
     }
-    match internal_key_of(day, keys) {
+    match internal_key_of(&mut own, keys) {
         Some(_) => Ok(()),
         None => Err(FormFault::IndicatorSpent(part)),
     }

@@ -4,9 +4,10 @@ use Rattle.kd_form.proofs.making.make_part.Goals as goal
 pub returns-in-Rotor : goal.returns-in-Rotor
 returns-in-Rotor c =
     let shown = c.as_slice.ensures.value ∙ c.rotor_letters-letters.ensures.value in
-    rw c.in-Rotor.is (_, refl, rw (c.indicator_of-indicator.ensures, shown) at c.text_of.ensures)
+    let own = c.indicator_of-indicator.ensures.day ∙ c.new-own.ensures in
+    rw c.in-Rotor.is (_, refl, rw (c.indicator_of-indicator.ensures.value, shown, own, c.new-own.ensures) at c.text_of.ensures)
 
 pub returns-in-Pin : goal.returns-in-Pin
 returns-in-Pin c =
-    let (internal, first, made) = c.pin_letters-letters.ensures.value in
+    let (internal, first, made) = rw c.new-own.ensures at c.pin_letters-letters.ensures.value in
     rw c.in-Pin.is (_, (internal, first, refl), rw (c.as_slice-in-Pin.ensures.value, made) at c.text_of-in-Pin.ensures)

@@ -2,4 +2,4 @@ use Rattle.kd_form.proofs.MadeParts.{has_internal, not_spent}
 use Rattle.kd_form.proofs.making.pin_letters.Goals as goal
 
 pub unwrap-internal-requires : goal.unwrap-internal-requires
-unwrap-internal-requires c = not_spent _ _ _ c.internal_key_of.ensures (has_internal _ _ c.requires.suits)
+unwrap-internal-requires c = not_spent _ _ _ c.internal_key_of.ensures.key (has_internal _ _ c.requires.suits)

@@ -1,13 +1,22 @@
-use Rattle.kd_form.proofs.MadeParts.{list_told, inr, ◌∙◌, ap, subst, Ok, sheet_key, IsWindow, PinKeys, IsInternalKey, cipher_from, enciphered_choice, text_in}
+use Rattle.kd_form.proofs.MadeParts.{list_told, inl, inr, refl, ◌∙◌, ap, Ok}
 use Rattle.kd_form.proofs.part_letters.read_pin_letters.Goals as goal
 
 pub returns-in-Some : goal.returns-in-Some
 returns-in-Some c =
-    let day = c.args.day.now in
     let keys = c.keys_in-keys.ensures in
     let around = c.has_indicators_around.ensures.0 c.if-not-has_indicators_around.false in
-    let on_wheels = subst (λ (k : PinKeys). IsWindow (sheet_key day) k.external) keys (c.is_window.ensures.0 c.if-not-is_window.false) in
+    let on_wheels = rw (c.new-own.ensures, keys) at (c.can_show.ensures.window.0 c.if-not-can_show.false) in
     let listed = c.are_the_same.ensures.0 c.if-not-are_the_same.false ∙ list_told _ _ _ c.list.ensures c.unwrap-due.ensures in
-    let first = subst (λ (k : PinKeys). IsInternalKey (enciphered_choice day k) c.in-Some.internal.items) keys c.in-Some.ensures in
-    let is = c.enciphered.ensures.text ∙ ap (λ window. cipher_from day window (text_in c.args.letters.now)) c.as_slice.ensures.value in
+    let own = c.can_show.ensures.day ∙ c.new-own.ensures in
+    let first = rw (own, keys) at c.in-Some.ensures.key in
+    let is = rw (c.internal_key_of.ensures.day ∙ own, c.as_slice.ensures.value) at c.enciphered.ensures.text in
     inr (around, inr (on_wheels, inr (listed, inr (c.in-Some.internal.items, first, ap Ok is))))
+
+pub returns-in-None : goal.returns-in-None
+returns-in-None c =
+    let keys = c.keys_in-keys.ensures in
+    let around = c.has_indicators_around.ensures.0 c.if-not-has_indicators_around.false in
+    let on_wheels = rw (c.new-own.ensures, keys) at (c.can_show.ensures.window.0 c.if-not-can_show.false) in
+    let listed = c.are_the_same.ensures.0 c.if-not-are_the_same.false ∙ list_told _ _ _ c.list.ensures c.unwrap-due.ensures in
+    let spent = rw (c.can_show.ensures.day ∙ c.new-own.ensures, keys) at c.in-None.ensures.key in
+    inr (around, inr (on_wheels, inr (listed, inl (spent, refl))))
