@@ -4,7 +4,7 @@ use Rattle.std.proofs.lemmas.List.FromFn.{length-enumerate_from, length-range_wi
 use Rattle.kd_tables.specs.{Permutation.alphabet, Permutation.followed_by, Rings.ring_of}
 use Rattle.kd_enigma.specs.Cipher.{RotorKey, product, path}
 use Rattle.kd_state.specs.TwoCiphers.{EngineKey, key_left, key_with_window}
-use Rattle.kd_form.specs.{Making.IsTurnedFrom, Sending.IsKeysFault, declared.fault.FormFault.TheVariants.IndicatorSpent}
+use Rattle.kd_form.specs.Making.{IsTurnedFrom}
 
 pub enciphered_length : (s : Day) (window text : List ℕ) → length (cipher_from s window text) ≡ length text
 enciphered_length (OfRotors s) window text = length-map (enumerate_from 1 text) _ ∙ length-enumerate_from 1 text
@@ -49,12 +49,6 @@ pub own_when_left : (s : Day) (key left : EngineKey) (window : List ℕ) (count 
     → IsTurnedFrom s left
 own_when_left (OfRotors s) key left window count (shown, is) left_is = (_, left_is ∙ ap (λ k. key_left (key_with_window k window) count) is)
 own_when_left (OfPins s) key left window count (shown, is) left_is = (_, left_is ∙ ap (λ k. key_left (key_with_window k window) count) is)
-
--- a chosen letter that leads to no internal key is a fault of its keys
-pub keys_spent : (s : Day) (part : ℕ) (k : PinKeys) → AreKeys s (Pin k) → IsWindow (sheet_key s) k.external → HaveRunOut (enciphered_choice s k)
-    → IsKeysFault s part (Pin k) (IndicatorSpent part)
-keys_spent (OfRotors s) part k are shown spent = are
-keys_spent (OfPins s) part k are shown spent = inr (shown, spent, refl)
 
 -- -------- the first of all rising places is found by striking out: letter by letter, and wheel by wheel
 

@@ -40,22 +40,21 @@ fn check_part(day: &SheetDay, part: u8, keys: &Keys) -> Result<(), FormFault>
                 Err(FormFault::WrongGroup(part))
             }
         }
-        Keys::Pin(keys) => check_pin_keys(day, part, keys),
+        Keys::Pin(keys) => check_pin_keys(&mut OwnMachine::new(day), part, keys),
     }
 }
 
 /// Refuses the keys of a part on the Converter M-209 if they don't suit the day.
-fn check_pin_keys(day: &SheetDay, part: u8, keys: &PinKeys) -> Result<(), FormFault>
-    requires { AreKeys day.now (Keys.Pin keys.now) }
+fn check_pin_keys(own: &mut OwnMachine, part: u8, keys: &PinKeys) -> Result<(), FormFault>
+    requires { AreKeys own.old (Keys.Pin keys.now) }
     ensures { MatchResult result
-        (λ _. Suits day.now (Keys.Pin keys.now))
-        (IsKeysFault day.now part (Keys.Pin keys.now)) }
+        (λ _. Suits own.old (Keys.Pin keys.now))
+        (IsKeysFault own.old part (Keys.Pin keys.now)) }
 {
-    let mut own = OwnMachine::new(day);
     if !own.can_show(&keys.external) {
         return Err(FormFault::KeyNotOnWheel);
     }
-    match internal_key_of(&mut own, keys) {
+    match internal_key_of(own, keys) {
         Some(_) => Ok(()),
         None => Err(FormFault::IndicatorSpent(part)),
     }

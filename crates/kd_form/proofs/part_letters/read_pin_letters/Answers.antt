@@ -14,9 +14,8 @@ returns-in-Some c =
 
 pub returns-in-None : goal.returns-in-None
 returns-in-None c =
-    let keys = c.keys_in-keys.ensures in
     let around = c.has_indicators_around.ensures.0 c.if-not-has_indicators_around.false in
-    let on_wheels = rw (c.new-own.ensures, keys) at (c.can_show.ensures.window.0 c.if-not-can_show.false) in
+    let on_wheels = rw (c.new-own.ensures, c.keys_in-keys.ensures) at (c.can_show.ensures.window.0 c.if-not-can_show.false) in
     let listed = c.are_the_same.ensures.0 c.if-not-are_the_same.false ∙ list_told _ _ _ c.list.ensures c.unwrap-due.ensures in
-    let spent = rw (c.can_show.ensures.day ∙ c.new-own.ensures, keys) at c.in-None.ensures.key in
+    let spent = rw (c.can_show.ensures.day ∙ c.new-own.ensures, c.keys_in-keys.ensures) at c.in-None.ensures.key in
     inr (around, inr (on_wheels, inr (listed, inl (spent, refl))))
