@@ -9,7 +9,7 @@ use crate::growth::assign_row;
 use crate::scans::Scans;
 
 /// A cheapest one-to-one assignment of rows to columns. Rows and columns are counted from 0.
-#[derive(Clone, Copy, Debug, PartialEq, Eq)]
+#[derive(Clone, Copy)]
 pub struct Solution<const N: usize> {
     /// The column of each row.
     pub to: [u8; N],
