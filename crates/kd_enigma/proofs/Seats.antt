@@ -3,7 +3,7 @@ use Rattle.std.proofs.Common.{◌≡◌, ℕ, zero, suc, ◌+◌, ◌-◌, ◌<�
 use Rattle.std.proofs.Common.{refl, ap, ◌∙◌, arith, rules}
 use Rattle.kd_enigma.specs.{Around.SeatedWheel, Around.around, Around.boarded, Cipher.IsPlugboard, Cipher.RotorKey}
 use Rattle.kd_enigma.specs.{Cipher.rotors, Rotor.rotor, Wired.IsWired, Wired.seats, Wired.slow}
-use Rattle.kd_tables.proofs.Products.{shift_permutes}
+use Rattle.kd_tables.proofs.Products.{inverse_permutes, product_permutes, shift_permutes}
 use Rattle.kd_tables.specs.{Tables.reflector_of, declared.wheel.Wheel.Wheel}
 use Rattle.std.proofs.lemmas.{Bool.Decides.nat_tests, List.take_all}
 use Rattle.kd_tables.specs.Permutation.{alphabet, followed_by, shift, IsPermutation26}
@@ -41,7 +41,7 @@ are_seats plugs seated wheels rings long slots each = absurd (omega arith)
 -- the board encloses what the wheel encloses
 board_last : (board core : List ℕ) (wheel : Wheel) (ring letter : ℕ) → IsPermutation26 board → Exchanges core
     → boarded board core (rotor wheel ring letter) ≡ followed_by board (followed_by (enclosed core (rotor wheel ring letter)) board)
-board_last board core wheel ring letter h k = grind (arith, rotor_permutes, grouped, board, product-size)
+board_last board core wheel ring letter h k = grind (arith, rotor_permutes, grouped, board, product-size, product_permutes, inverse_permutes)
 
 no_board : (core : List ℕ) (wheel : Wheel) (ring letter : ℕ) → Exchanges core
     → boarded alphabet core (rotor wheel ring letter) ≡ enclosed core (rotor wheel ring letter)

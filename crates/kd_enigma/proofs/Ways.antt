@@ -80,7 +80,7 @@ record Undo (there back : List ℕ) : Type 0 where
   into : (x : ℕ) → x < 26 → slice_index there (slice_index back x) ≡ x
 
 wheels_undo : (w : List ℕ) → IsPermutation26 w → Undo w (inverse w)
-wheels_undo w h = grind (arith, inverse_permutes, inverse_by_letter, h.each_once.within)
+wheels_undo w h = let back = inverse_permutes w h in grind (arith, inverse_by_letter, h.each_once.within, back.each_once.within)
 
 boards_undo : (plugs : List ℕ) → IsPlugboard plugs → Undo plugs plugs
 boards_undo plugs board =
@@ -114,7 +114,7 @@ nested core (w ∷ ws) = nested (enclosed core w) ws
 
 pub rotor_permutes : (wheel : Wheel) (ring letter : ℕ) → IsPermutation26 (rotor wheel ring letter)
 unfolding turned
-rotor_permutes wheel ring letter = grind (arith, product_permutes, shift_permutes, wiring_permutes)
+rotor_permutes wheel ring letter = product_permutes _ _ (product_permutes _ _ (shift_permutes _) (wiring_permutes wheel)) (shift_permutes _)
 
 rotors_permute : (wheels : List Wheel) (rings window : List ℕ)
     → AllByRecursion IsPermutation26 (rotors wheels rings window)

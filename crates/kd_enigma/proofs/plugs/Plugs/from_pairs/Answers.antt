@@ -13,12 +13,12 @@ loop-one-preserved c =
     plugged_more c.args.pairs.now c.loop-one.one-index c.loop-one.table c.loop-one.invariant c.loop-one-item.result
     c.loop-one-test.true c.loop-one-item.is c.plug.new.table (says.can.0 (search rules)) says.letters (says.after (search rules))
 
-pub returns-then-plug-clause-ok : goal.returns-then-plug-clause-ok
-returns-then-plug-clause-ok c =
+pub returns-then-not-plug-clause-ok : goal.returns-then-not-plug-clause-ok
+returns-then-not-plug-clause-ok c =
     let says = c.plug.ensures in (
       λ ok. absurd (false≢true ok),
-      λ once. absurd (false≢true (says.can.1 (can_plug c.args.pairs.now c.loop-one.one-index c.loop-one.table
-          c.loop-one.invariant c.loop-one-item.result c.loop-one-test.true c.loop-one-item.is once says.letters))),
+      λ once. let can = says.can.1 (can_plug c.args.pairs.now c.loop-one.one-index c.loop-one.table
+          c.loop-one.invariant c.loop-one-item.result c.loop-one-test.true c.loop-one-item.is once says.letters) in cc,
     )
 
 whole : (c : goal.After-loop-one)
