@@ -1,4 +1,4 @@
-use Rattle.{std.proofs.Common.{◌≡◌, ℕ, [], sym, arith, rules}, kd_enigma.specs.Rotor.{offset, rotor, turned}}
+use Rattle.{std.proofs.Common.{◌≡◌, ℕ, [], arith, rules}, kd_enigma.specs.Rotor.{offset, rotor}}
 use Rattle.{kd_tables.specs.Permutation.{followed_by, inverse}, kd_tables.specs.Tables.wiring_of}
 use Rattle.kd_tables.proofs.Wirings.{wiring_permutes}
 use Rattle.std.proofs.lemmas.List.FromFn.{fill_by_all}
