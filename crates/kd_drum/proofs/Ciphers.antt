@@ -1,7 +1,7 @@
 -- The Converter's cipher, letter by letter.
 use Rattle.std.proofs.Common.{zero, suc, add-one, ◌≡◌, ℕ, ◌+◌, ◌-◌, ◌%◌, ◌<◌, List, [], ◌∷◌, ◌++◌, length, map, get_or}
 use Rattle.std.proofs.Common.{set, take, drop, All, refl, sym, ap, ◌∙◌, arith, add-zero}
-use Rattle.kd_drum.{proofs.Starts.bars_met_sum, specs.Laws.CipherInTurn}
+use Rattle.kd_drum.{proofs.Starts.bars_met_sum, specs.Laws.{CipherInTurn, TwiceGivesBack}}
 use Rattle.std.{proofs.lemmas.List.Elements.All-head, proofs.lemmas.List.Elements.All-tail, specs.List.enumerate_from}
 use Rattle.kd_drum.specs.Converter.{PinKey, bars_met, converter_cipher, pin_key_after}
 
@@ -17,11 +17,14 @@ cipher_from key start text = map (λ numbered. reversed_by (bars_met key numbere
 reversed_twice : (met letter : ℕ) → letter < 26 → reversed_by met (reversed_by met letter) ≡ letter
 reversed_twice met letter lt = omega arith
 
-pub twice_from : (key : PinKey) (start : ℕ) (text : List ℕ) → All (λ letter. letter < 26) text → cipher_from key start (cipher_from key start text) ≡ text
+twice_from : (key : PinKey) (start : ℕ) (text : List ℕ) → All (λ letter. letter < 26) text → cipher_from key start (cipher_from key start text) ≡ text
 twice_from key start [] h = refl
 twice_from key start (letter ∷ text) h =
     ap (λ l. l ∷ cipher_from key (start + 1) (cipher_from key (start + 1) text)) (reversed_twice (bars_met key start) letter (All-head (λ l. l < 26) letter text h))
     ∙ ap (λ ls. letter ∷ ls) (twice_from key (start + 1) text (All-tail (λ l. l < 26) letter text h))
+
+pub twice_gives_back : TwiceGivesBack
+twice_gives_back key text = twice_from key 0 text
 
 -- what is enciphered later is enciphered on the key of that time
 later : (key : PinKey) (m start : ℕ) (text : List ℕ) → cipher_from key (m + start) text ≡ cipher_from (pin_key_after key m) start text

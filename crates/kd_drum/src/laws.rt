@@ -2,6 +2,7 @@
 ghost use Rattle.kd_drum.specs.Laws.{TwiceGivesBack, CipherInTurn, KeyInTurn};
 
 /// Enciphering twice on the same key gives the text back.
+#[tactic(auto, using(crate::proofs::Ciphers::twice_gives_back))]
 pub fn enciphering_twice_gives_back()
     ensures { TwiceGivesBack }
 {}
