@@ -20,13 +20,12 @@ unfolding ring_of
 has_places = each_wheel (λ wheel. 0 < size_of wheel) (omega arith) (omega arith) (omega arith) (omega arith) (omega arith) (omega arith)
 
 -- and as many different letters
-text_is_ring : (wheel : ℕ) → is_ring_text (slice_index_or ring_texts wheel []) ≡ true → IsRing (size_of wheel) (ring_of wheel)
-unfolding ring_of
-text_is_ring wheel h = text_makes_ring (size_of wheel) (slice_index_or ring_texts wheel []) refl h
-
 is_ring : (wheel : ℕ) → 1 ≤ wheel → wheel ≤ 6 → IsRing (size_of wheel) (ring_of wheel)
-is_ring = each_wheel (λ wheel. IsRing (size_of wheel) (ring_of wheel)) (text_is_ring 1 refl) (text_is_ring 2 refl)
-    (text_is_ring 3 refl) (text_is_ring 4 refl) (text_is_ring 5 refl) (text_is_ring 6 refl)
+unfolding ring_of
+is_ring =
+    let text = λ (wheel : ℕ). slice_index_or ring_texts wheel [] in
+    let is = λ (wheel : ℕ) (h : is_ring_text (text wheel) ≡ true). text_makes_ring (size_of wheel) (text wheel) refl h in
+    each_wheel (λ wheel. IsRing (size_of wheel) (ring_of wheel)) (is 1 refl) (is 2 refl) (is 3 refl) (is 4 refl) (is 5 refl) (is 6 refl)
 
 start_after : (key : PinKey) (count wheel : ℕ) → 1 ≤ wheel → wheel ≤ 6
     → start_on (pin_key_after key count) wheel ≡ (start_on key wheel + count) % size_of wheel
