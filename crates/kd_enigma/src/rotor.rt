@@ -55,8 +55,8 @@ impl Rotor {
     pub(crate) fn enclosing(&self, core: Map, window: Letter) -> Map
         ensures { result ≡ boarded self.now.board core (rotor self.now.wheel self.now.ring window) }
     {
-        let (inward, outward) = self.ways[window.index()];
-        inward.then(core).then(outward)
+        let (inward, outward) = &self.ways[window.index()];
+        inward.then(core).then(*outward)
     }
 }
 
