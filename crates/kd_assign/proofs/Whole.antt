@@ -1,6 +1,6 @@
 -- An assignment of all rows.
 use Rattle.std.proofs.Common.{◌≡◌, ℕ, ◌*◌, ◌<◌, ◌≤◌, List, length, get_or, All, Option, ℤ, pos, ◌-ℤ◌, arith, refl}
-use Rattle.kd_assign.proofs.{Counting.scans_of_trees-most, Places.within, Sums.by_sums}
+use Rattle.kd_assign.proofs.{Places.within, Sums.by_sums}
 use Rattle.kd_assign.{proofs.Sums.fitting_prices_bound_costs, specs.Cheapest.IsLeastCost}
 use Rattle.std.{proofs.lemmas.List.Elements.All-from_get_or, specs.Int.RustNames.unsigned_abs}
 use Rattle.kd_assign.proofs.Prelude.{ints, get_or_default, get_or_past, CostsAtMost, Fits, Has, IsOneToOne, IsSolvedTo}
@@ -53,6 +53,3 @@ module _ {n next : ℕ} {cost : List (List ℕ)} {prices : List ℤ} {holders : 
   is_least once is other same one =
       let bound = fitting_prices_bound_costs cost row prices other (omega arith) (omega arith) (omega arith) fits one in
       grind (arith, price_sum_is once)
-
--- what the solution is
-pub ruleset whole = (scans_of_trees-most, price_sum_is)

@@ -137,12 +137,14 @@ impl<const N: usize> Nearest<N> {
         if reached[second] {
             return first;
         }
-        let taken = holders[second].is_some();
-        let room = self.room(prices, second);
-        match first {
-            Some(column) if self.room(prices, column) < room => first,
-            Some(column) if taken && self.room(prices, column) == room => first,
-            _ => Some(second),
+        let Some(column) = first else {
+            return Some(second);
+        };
+        let (held, room) = (self.room(prices, column), self.room(prices, second));
+        if held < room || (held == room && holders[second].is_some()) {
+            first
+        } else {
+            Some(second)
         }
     }
 }

@@ -5,7 +5,7 @@ use std::marker::Model;
 
 /// How many slacks have been compared. The field is private to this module, so that a formula in
 /// the place of the count doesn't compile elsewhere.
-#[derive(Clone, Copy, Debug, PartialEq, Eq)]
+#[derive(Clone, Copy)]
 pub struct Scans {
     count: u32,
 }

@@ -9,7 +9,7 @@ use crate::growth::assign_row;
 use crate::scans::Scans;
 
 /// A cheapest one-to-one assignment of rows to columns. Rows and columns are counted from 0.
-#[derive(Clone, Copy, Debug, PartialEq, Eq)]
+#[derive(Clone, Copy)]
 pub struct Solution<const N: usize> {
     /// The column of each row.
     pub to: [u8; N],
@@ -26,7 +26,6 @@ pub struct Solution<const N: usize> {
 /// Finds a cheapest one-to-one assignment by the Hungarian method of Kuhn and Munkres, in the form
 /// that grows a tree of tight edges from each row. An edge is tight where the two prices add up to
 /// its cost. Which of several cheapest assignments is answered is not promised.
-#[tactic(auto, using(crate::proofs::Whole::whole))]
 pub fn assign<const N: usize>(cost: &[[u8; N]; N]) -> Solution<N>
     requires some { 1 ≤ N }
     requires few { N ≤ 32 }

@@ -1,8 +1,9 @@
 -- Where the wheels stand after so many letters.
 use Rattle.std.proofs.Common.{◌≡◌, ℕ, ◌+◌, ◌-◌, ◌%◌, ◌<◌, ◌≤◌, Bool, ◌&&◌, ◌||◌, Option, unwrap_or, List, [], ◌∷◌}
-use Rattle.std.proofs.Common.{length, map, slice_index, count_by, refl, sym, ap, ◌∙◌, arith, leb}
-use Rattle.kd_drum.specs.{Sound.RingsAreSound, Standing.AllStand, Standing.StandsAs, Standing.key_of}
-use Rattle.{kd_tables.specs.Rings.place_on, kd_tables.specs.Rings.ring_of, std.proofs.Math.Nat.mod-add-mod}
+use Rattle.std.proofs.Common.{length, map, slice_index, slice_index_or, true, count_by, refl, sym, ap, ◌∙◌, arith, leb}
+use Rattle.kd_drum.specs.{Laws.KeyInTurn, Standing.AllStand, Standing.StandsAs, Standing.key_of}
+use Rattle.{kd_tables.specs.Rings.{IsRing, place_on, ring_of, ring_texts}, std.proofs.Math.Nat.mod-add-mod}
+use Rattle.kd_tables.{proofs.Rings.letter_leads_to_place, proofs.Wirings.text_makes_ring, specs.WiringText.is_ring_text}
 use Rattle.std.proofs.{Math.Nat.mod-lt, lemmas.Bool.Decides.nat_tests, lemmas.List.FromFn.get_or-map-range_with_len}
 use Rattle.std.proofs.lemmas.List.{Sums.sum_by-le-sum_by, ext_get_or}
 use Rattle.kd_pins.specs.PinWheel.{TurnedWheel, is_effective, letter_shown, pin_acting, turned_to}
@@ -18,27 +19,35 @@ pub has_places : (wheel : ℕ) → 1 ≤ wheel → wheel ≤ 6 → 0 < size_of w
 unfolding ring_of
 has_places = each_wheel (λ wheel. 0 < size_of wheel) (omega arith) (omega arith) (omega arith) (omega arith) (omega arith) (omega arith)
 
-pub start_after : RingsAreSound → (key : PinKey) (count wheel : ℕ) → 1 ≤ wheel → wheel ≤ 6
+-- and as many different letters
+is_ring : (wheel : ℕ) → 1 ≤ wheel → wheel ≤ 6 → IsRing (size_of wheel) (ring_of wheel)
+unfolding ring_of
+is_ring =
+    let text = λ (wheel : ℕ). slice_index_or ring_texts wheel [] in
+    let is = λ (wheel : ℕ) (h : is_ring_text (text wheel) ≡ true). text_makes_ring (size_of wheel) (text wheel) refl h in
+    each_wheel (λ wheel. IsRing (size_of wheel) (ring_of wheel)) (is 1 refl) (is 2 refl) (is 3 refl) (is 4 refl) (is 5 refl) (is 6 refl)
+
+start_after : (key : PinKey) (count wheel : ℕ) → 1 ≤ wheel → wheel ≤ 6
     → start_on (pin_key_after key count) wheel ≡ (start_on key wheel + count) % size_of wheel
-start_after sound key count wheel low high =
+start_after key count wheel low high =
     let place = (start_on key wheel + count) % size_of wheel in
     let within : place < size_of wheel = mod-lt (start_on key wheel + count) (has_places wheel low high) in
     ap (λ letter. unwrap_or (place_on (ring_of wheel) letter) 0) (get_or-map-range_with_len (letter_after key count) 1 6 (wheel - 1) wheel 0 (omega arith) (omega arith))
-    ∙ ap (λ (found : Option ℕ). unwrap_or found 0) (sound.places (size_of wheel) (ring_of wheel) (sound.rings wheel low high) place within)
+    ∙ ap (λ (found : Option ℕ). unwrap_or found 0) (letter_leads_to_place (size_of wheel) (ring_of wheel) (is_ring wheel low high) place within)
 
 -- so many places on, and so many more
 three_on : (s m i o n : ℕ) → ((s + m) % n + i + o) % n ≡ (s + (m + i) + o) % n
 three_on s m i o n = grind (arith, mod-add-mod (s + m) n (i + o))
 
-pub letter_after_sum : RingsAreSound → (key : PinKey) (m n wheel : ℕ) → 1 ≤ wheel → wheel ≤ 6 → letter_after (pin_key_after key m) n wheel ≡ letter_after key (m + n) wheel
-letter_after_sum sound key m n wheel low high = grind (arith, start_after, mod-add-mod (start_on key wheel + m) (size_of wheel) n)
+letter_after_sum : (key : PinKey) (m n wheel : ℕ) → 1 ≤ wheel → wheel ≤ 6 → letter_after (pin_key_after key m) n wheel ≡ letter_after key (m + n) wheel
+letter_after_sum key m n wheel low high = grind (arith, start_after, mod-add-mod (start_on key wheel + m) (size_of wheel) n)
 
-pub key_after_sum : RingsAreSound → (key : PinKey) (m n : ℕ) → pin_key_after (pin_key_after key m) n ≡ pin_key_after key (m + n)
-key_after_sum sound key m n =
+pub key_in_turn : KeyInTurn
+key_in_turn key m n =
     let once = letter_after (pin_key_after key m) n in
     let whole = letter_after key (m + n) in
     ap (pin_key_turned key) (ext_get_or 0 (map once pin_wheels) (map whole pin_wheels) refl
-    (λ i lt. get_or-map-range_with_len once 1 6 i (1 + i) 0 lt refl ∙ letter_after_sum sound key m n (1 + i) (omega arith) (omega arith)
+    (λ i lt. get_or-map-range_with_len once 1 6 i (1 + i) 0 lt refl ∙ letter_after_sum key m n (1 + i) (omega arith) (omega arith)
     ∙ sym (get_or-map-range_with_len whole 1 6 i (1 + i) 0 lt refl)))
 
 -- tests of the six wheels are alike where they are of each of the six
@@ -46,37 +55,37 @@ alike_on_wheels : (wheel : ℕ) (x y : Bool) → (1 ≤ wheel → wheel ≤ 6 �
     → ((leb 1 wheel && leb wheel 6) && x) ≡ ((leb 1 wheel && leb wheel 6) && y)
 alike_on_wheels wheel x y same = grind (arith, nat_tests, same)
 
-pub acts_after_sum : RingsAreSound → (key : PinKey) (m i wheel : ℕ) → acts_after (pin_key_after key m) i wheel ≡ acts_after key (m + i) wheel
-acts_after_sum sound key m i wheel = alike_on_wheels wheel _ _ (λ low high.
-    ap (λ start. is_effective (pins_on key.pins wheel) ((start + i + offset_of wheel) % size_of wheel)) (start_after sound key m wheel low high)
+acts_after_sum : (key : PinKey) (m i wheel : ℕ) → acts_after (pin_key_after key m) i wheel ≡ acts_after key (m + i) wheel
+acts_after_sum key m i wheel = alike_on_wheels wheel _ _ (λ low high.
+    ap (λ start. is_effective (pins_on key.pins wheel) ((start + i + offset_of wheel) % size_of wheel)) (start_after key m wheel low high)
     ∙ ap (is_effective (pins_on key.pins wheel)) (three_on (start_on key wheel) m i (offset_of wheel) (size_of wheel)))
 
 -- a count by tests that answer alike
 pub count_alike : {X : Type 0} (p q : X → Bool) (xs : List X) → ((x : X) → p x ≡ q x) → count_by p xs ≡ count_by q xs
 count_alike p q xs same = grind (arith, sum_by-le-sum_by, p, q, same)
 
-pub bars_met_sum : RingsAreSound → (key : PinKey) (m n : ℕ) → bars_met (pin_key_after key m) n ≡ bars_met key (m + n)
-bars_met_sum sound key m n = λ i. count_by (λ row. acts_after_sum sound key m n row.0 i || acts_after_sum sound key m n row.1 i) key.rows
+pub bars_met_sum : (key : PinKey) (m n : ℕ) → bars_met (pin_key_after key m) n ≡ bars_met key (m + n)
+bars_met_sum key m n = λ i. count_by (λ row. acts_after_sum key m n row.0 i || acts_after_sum key m n row.1 i) key.rows
 
 -- ---- the wheels as they stand
 
 -- the letter that shows leads to the place that shows it
-start_place : RingsAreSound → (number size : ℕ) (wheel : TurnedWheel) → StandsAs number size wheel → unwrap_or (place_on (ring_of number) (letter_shown wheel)) 0 ≡ wheel.place
-start_place sound number size wheel h = grind (arith, sound.places size wheel.ring h.turned.ring wheel.place h.turned.place)
+start_place : (number size : ℕ) (wheel : TurnedWheel) → StandsAs number size wheel → unwrap_or (place_on (ring_of number) (letter_shown wheel)) 0 ≡ wheel.place
+start_place number size wheel h = grind (arith, letter_leads_to_place size wheel.ring h.turned.ring wheel.place h.turned.place)
 
 size_is : (number size : ℕ) (wheel : TurnedWheel) → StandsAs number size wheel → size_of number ≡ size
 size_is number size wheel h = sym (ap length h.ring) ∙ h.turned.ring.full
 
 -- so many places on, a wheel shows the letter after so many letters
-shows_after : RingsAreSound → (key : PinKey) (number size count place : ℕ) (wheel : TurnedWheel) → StandsAs number size wheel → slice_index key.letters (number - 1) ≡ letter_shown wheel
+shows_after : (key : PinKey) (number size count place : ℕ) (wheel : TurnedWheel) → StandsAs number size wheel → slice_index key.letters (number - 1) ≡ letter_shown wheel
     → (wheel.place + count) % size ≡ place → slice_index wheel.ring place ≡ letter_after key count number
-shows_after sound key number size count place wheel h shown e = grind (arith, size, size_is, start_place)
+shows_after key number size count place wheel h shown e = grind (arith, size, size_is, start_place)
 
 -- the acting pin of a wheel as it stands is the one that acts after no letters
-pub acts_now : RingsAreSound → (key : PinKey) (number size : ℕ) (wheel : TurnedWheel) → StandsAs number size wheel
+pub acts_now : (key : PinKey) (number size : ℕ) (wheel : TurnedWheel) → StandsAs number size wheel
     → slice_index key.letters (number - 1) ≡ letter_shown wheel → pins_on key.pins number ≡ wheel.pins
     → pin_acting size wheel ≡ is_effective (pins_on key.pins number) ((start_on key number + 0 + offset_of number) % size_of number)
-acts_now sound key number size wheel h shown pins = grind (arith, key, start_place, size, size_is)
+acts_now key number size wheel h shown pins = grind (arith, key, start_place, size, size_is)
 
 -- each wheel so many places on makes the key after so many letters
 pub key_moved : (w1 w2 w3 w4 w5 w6 : TurnedWheel) (rows : List (ℕ × ℕ)) → AllStand w1 w2 w3 w4 w5 w6 → (count p1 p2 p3 p4 p5 p6 : ℕ)
@@ -85,12 +94,12 @@ pub key_moved : (w1 w2 w3 w4 w5 w6 : TurnedWheel) (rows : List (ℕ × ℕ)) →
     → key_of (turned_to w1 p1) (turned_to w2 p2) (turned_to w3 p3) (turned_to w4 p4) (turned_to w5 p5) (turned_to w6 p6) rows ≡ pin_key_after (key_of w1 w2 w3 w4 w5 w6 rows) count
 key_moved w1 w2 w3 w4 w5 w6 rows all count p1 p2 p3 p4 p5 p6 e1 e2 e3 e4 e5 e6 =
     let key = key_of w1 w2 w3 w4 w5 w6 rows in
-    let first = shows_after all.sound key 1 26 count p1 w1 all.first refl e1 in
-    let second = shows_after all.sound key 2 25 count p2 w2 all.second refl e2 in
-    let third = shows_after all.sound key 3 23 count p3 w3 all.third refl e3 in
-    let fourth = shows_after all.sound key 4 21 count p4 w4 all.fourth refl e4 in
-    let fifth = shows_after all.sound key 5 19 count p5 w5 all.fifth refl e5 in
-    let sixth = shows_after all.sound key 6 17 count p6 w6 all.sixth refl e6 in
+    let first = shows_after key 1 26 count p1 w1 all.first refl e1 in
+    let second = shows_after key 2 25 count p2 w2 all.second refl e2 in
+    let third = shows_after key 3 23 count p3 w3 all.third refl e3 in
+    let fourth = shows_after key 4 21 count p4 w4 all.fourth refl e4 in
+    let fifth = shows_after key 5 19 count p5 w5 all.fifth refl e5 in
+    let sixth = shows_after key 6 17 count p6 w6 all.sixth refl e6 in
     λ i. pin_key_turned key (first i ∷ second i ∷ third i ∷ fourth i ∷ fifth i ∷ sixth i ∷ [])
 
 -- the key after no letters

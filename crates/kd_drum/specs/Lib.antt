@@ -1,5 +1,4 @@
 pub mod Converter
 pub mod Counts
 pub mod Laws
-pub mod Sound
 pub mod Standing

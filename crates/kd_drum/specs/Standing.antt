@@ -4,7 +4,6 @@ use Rattle.kd_tables.specs.Rings.{ring_of}
 use Rattle.kd_pins.specs.PinWheel.{TurnedWheel, IsWheel, letter_shown}
 use Rattle.kd_pins.specs.PinWheels.{offset_of}
 use Rattle.kd_drum.specs.Converter.{PinKey}
-use Rattle.kd_drum.specs.Sound.{RingsAreSound}
 
 -- the wheel is that of the number, and has so many places
 pub record StandsAs (number size : ℕ) (wheel : TurnedWheel) : Type 0 where
@@ -20,7 +19,6 @@ pub record AllStand (w1 w2 w3 w4 w5 w6 : TurnedWheel) : Type 0 where
   pub fourth : StandsAs 4 21 w4
   pub fifth : StandsAs 5 19 w5
   pub sixth : StandsAs 6 17 w6
-  pub sound : RingsAreSound
 
 -- the key that six wheels and the readings of the bars make
 abbrev pub key_of : TurnedWheel → TurnedWheel → TurnedWheel → TurnedWheel → TurnedWheel → TurnedWheel → List (ℕ × ℕ) → PinKey

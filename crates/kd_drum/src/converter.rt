@@ -3,10 +3,8 @@ ghost use Rattle.kd_pins.specs.PinWheel.{TurnedWheel, IsWheel, letter_shown};
 ghost use Rattle.kd_pins.specs.PinWheels.{pins_of};
 ghost use Rattle.kd_drum.specs.Converter.{OnWheels, acts_after, bars_met, converter_cipher, pin_key_after, pin_key_turned};
 ghost use Rattle.kd_drum.specs.Counts.{is_in};
-ghost use Rattle.kd_drum.specs.Sound.{RingsAreSound};
 
 use super::counts::counts;
-use super::laws::rings_are_sound;
 use kd_pins::{NotOnWheel, PinSet, PinWheel};
 use kd_tables::{Letter, Reading, ring1, ring2, ring3, ring4, ring5, ring6};
 use std::marker::Model;
@@ -48,7 +46,6 @@ impl Converter {
         ensures value { IfOk result (λ converter.
             converter ≡ record { pins = pins_of pins; letters = letters; rows = rows }) }
     {
-        rings_are_sound();
         let mut converter = Converter {
             w1: PinWheel::new(ring1(), 15, pins.w1),
             w2: PinWheel::new(ring2(), 14, pins.w2),
@@ -157,8 +154,7 @@ impl Converter {
 
     /// Each letter that shows is one of its wheel's.
     fn stands(&self)
-        ensures now { pin_key_after self.now 0 ≡ self.now }
-        ensures sound { RingsAreSound }
+        ensures { pin_key_after self.now 0 ≡ self.now }
     {
         let _ = &self.rows;
     }

@@ -1,7 +1,7 @@
 -- The cipher, letter by letter.
 use Rattle.std.proofs.Common.{zero, ◌≡◌, ℕ, suc, ◌+◌, ◌<◌, List, [], ◌∷◌, ◌++◌, length, map, get_or, set, take, drop}
 use Rattle.std.proofs.Common.{slice_index, All, refl, sym, ap, ◌∙◌, arith, add-zero, add-one, add-suc, rules}
-use Rattle.{kd_enigma.specs.Laws.{CipherInTurn, KeyInTurn, TwiceGivesBack}, kd_enigma.specs.Sound.TablesAreSound}
+use Rattle.kd_enigma.specs.Laws.{CipherInTurn, KeyInTurn, TwiceGivesBack}
 use Rattle.{kd_step.specs.Stepper.{next_window, window_after}, kd_tables.specs.declared.wheel.Wheel.Wheel}
 use Rattle.{std.proofs.lemmas.List.Elements.{All-head, All-tail}, std.specs.List.enumerate_from}
 use Rattle.kd_enigma.specs.Cipher.{RotorKey, IsPlugboard, key_turned, key_after, path, enigma_cipher}
@@ -20,17 +20,17 @@ unfolding path
 path_turned key window shown = refl
 
 -- enciphered twice, each letter is what it was
-twice_from : TablesAreSound → (key : RotorKey) (start : ℕ) (text : List ℕ) → IsPlugboard key.plugs
+twice_from : (key : RotorKey) (start : ℕ) (text : List ℕ) → IsPlugboard key.plugs
     → All (λ letter. letter < 26) text
     → cipher_from key start (cipher_from key start text) ≡ text
-twice_from sound key start [] board h = refl
-twice_from sound key start (letter ∷ text) board h =
+twice_from key start [] board h = refl
+twice_from key start (letter ∷ text) board h =
     ap (λ l. l ∷ cipher_from key (start + 1) (cipher_from key (start + 1) text))
-    ((path_exchanges sound key (window_after key.wheels key.window start) board).back letter (All-head (λ l. l < 26) letter text h))
-    ∙ ap (λ ls. letter ∷ ls) (twice_from sound key (start + 1) text board (All-tail (λ l. l < 26) letter text h))
+    ((path_exchanges key (window_after key.wheels key.window start) board).back letter (All-head (λ l. l < 26) letter text h))
+    ∙ ap (λ ls. letter ∷ ls) (twice_from key (start + 1) text board (All-tail (λ l. l < 26) letter text h))
 
-pub twice_gives_back : TablesAreSound → TwiceGivesBack
-twice_gives_back sound key text = twice_from sound key 1 text
+pub twice_gives_back : TwiceGivesBack
+twice_gives_back key text = twice_from key 1 text
 
 -- ---- a text in two pieces
 

@@ -60,5 +60,5 @@ followed_by_is first second h g =
 
 -- ---- a map for each letter in a window
 
-pub read_at : (f : ℕ → List ℕ) (maps : List (List ℕ)) (window place : ℕ) (d : List ℕ) → maps ≡ map f alphabet → place ≡ window → window < 26 → get_or maps place d ≡ f window
+pub read_at : {X : Type 0} (f : ℕ → X) (maps : List X) (window place : ℕ) (d : X) → maps ≡ map f alphabet → place ≡ window → window < 26 → get_or maps place d ≡ f window
 read_at f maps window place d is here lt = grind (arith, get_or-map-range_with_len)

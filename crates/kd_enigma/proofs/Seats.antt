@@ -2,7 +2,8 @@
 use Rattle.std.proofs.Common.{◌≡◌, ℕ, zero, suc, ◌+◌, ◌-◌, ◌<◌, if◌then◌else◌, ltb, List, [], ◌∷◌, length, take, get_or}
 use Rattle.std.proofs.Common.{refl, ap, ◌∙◌, arith, rules}
 use Rattle.kd_enigma.specs.{Around.SeatedWheel, Around.around, Around.boarded, Cipher.IsPlugboard, Cipher.RotorKey}
-use Rattle.kd_enigma.specs.{Cipher.rotors, Rotor.rotor, Sound.TablesAreSound, Wired.IsWired, Wired.seats, Wired.slow}
+use Rattle.kd_enigma.specs.{Cipher.rotors, Rotor.rotor, Wired.IsWired, Wired.seats, Wired.slow}
+use Rattle.kd_tables.proofs.Products.{inverse_permutes, product_permutes, shift_permutes}
 use Rattle.kd_tables.specs.{Tables.reflector_of, declared.wheel.Wheel.Wheel}
 use Rattle.std.proofs.lemmas.{Bool.Decides.nat_tests, List.take_all}
 use Rattle.kd_tables.specs.Permutation.{alphabet, followed_by, shift, IsPermutation26}
@@ -37,38 +38,37 @@ are_seats plugs seated wheels rings long slots each = absurd (omega arith)
 
 -- ---- the path, where nothing lies to the right of the slow wheels, and the plugboard to the right of the last one
 
-module _ (sound : TablesAreSound) where
-  -- the board encloses what the wheel encloses
-  board_last : (board core : List ℕ) (wheel : Wheel) (ring letter : ℕ) → IsPermutation26 board → Exchanges core
-      → boarded board core (rotor wheel ring letter) ≡ followed_by board (followed_by (enclosed core (rotor wheel ring letter)) board)
-  board_last board core wheel ring letter h k = grind (arith, rotor_permutes, grouped, board, product-size)
+-- the board encloses what the wheel encloses
+board_last : (board core : List ℕ) (wheel : Wheel) (ring letter : ℕ) → IsPermutation26 board → Exchanges core
+    → boarded board core (rotor wheel ring letter) ≡ followed_by board (followed_by (enclosed core (rotor wheel ring letter)) board)
+board_last board core wheel ring letter h k = grind (arith, rotor_permutes, grouped, board, product-size, product_permutes, inverse_permutes)
 
-  no_board : (core : List ℕ) (wheel : Wheel) (ring letter : ℕ) → Exchanges core
-      → boarded alphabet core (rotor wheel ring letter) ≡ enclosed core (rotor wheel ring letter)
-  unfolding shift
-  no_board core wheel ring letter k =
-      let e = enclosed core (rotor wheel ring letter) in
-      let inner = (wheel_exchanges sound core wheel ring letter k).permutes in
-      board_last alphabet core wheel ring letter (sound.laws.shifts 0) k
-      ∙ nothing_before (followed_by e alphabet) (product-size e alphabet ∙ inner.size) ∙ nothing_after e inner
+no_board : (core : List ℕ) (wheel : Wheel) (ring letter : ℕ) → Exchanges core
+    → boarded alphabet core (rotor wheel ring letter) ≡ enclosed core (rotor wheel ring letter)
+unfolding shift
+no_board core wheel ring letter k =
+    let e = enclosed core (rotor wheel ring letter) in
+    let inner = (wheel_exchanges core wheel ring letter k).permutes in
+    board_last alphabet core wheel ring letter (shift_permutes 0) k
+    ∙ nothing_before (followed_by e alphabet) (product-size e alphabet ∙ inner.size) ∙ nothing_after e inner
 
-  around_seats : (plugs core : List ℕ) (wheels : List Wheel) (rings window : List ℕ) → IsPermutation26 plugs
-      → Exchanges core → 0 < length wheels → length rings ≡ length wheels
-      → length window ≡ length wheels
-      → around core (seats plugs wheels rings) window ≡ followed_by plugs (followed_by (nested core (rotors wheels rings window)) plugs)
-  unfolding rotors
-  around_seats plugs core (wheel ∷ []) (ring ∷ []) (letter ∷ []) h k some slots shown = board_last plugs core wheel ring letter h k
-  around_seats plugs core (wheel ∷ next ∷ wheels) (ring ∷ rings) (letter ∷ window) h k some slots shown =
-      ap (λ c. around c (seats plugs (next ∷ wheels) rings) window) (no_board core wheel ring letter k)
-      ∙ around_seats plugs (enclosed core (rotor wheel ring letter)) (next ∷ wheels) rings window h (wheel_exchanges sound core wheel ring letter k) (omega arith) (omega arith) (omega arith)
-  around_seats plugs core wheels rings window h k some slots shown = absurd (omega arith)
+around_seats : (plugs core : List ℕ) (wheels : List Wheel) (rings window : List ℕ) → IsPermutation26 plugs
+    → Exchanges core → 0 < length wheels → length rings ≡ length wheels
+    → length window ≡ length wheels
+    → around core (seats plugs wheels rings) window ≡ followed_by plugs (followed_by (nested core (rotors wheels rings window)) plugs)
+unfolding rotors
+around_seats plugs core (wheel ∷ []) (ring ∷ []) (letter ∷ []) h k some slots shown = board_last plugs core wheel ring letter h k
+around_seats plugs core (wheel ∷ next ∷ wheels) (ring ∷ rings) (letter ∷ window) h k some slots shown =
+    ap (λ c. around c (seats plugs (next ∷ wheels) rings) window) (no_board core wheel ring letter k)
+    ∙ around_seats plugs (enclosed core (rotor wheel ring letter)) (next ∷ wheels) rings window h (wheel_exchanges core wheel ring letter k) (omega arith) (omega arith) (omega arith)
+around_seats plugs core wheels rings window h k some slots shown = absurd (omega arith)
 
-  -- so the path is made of the way around through the slow wheels
-  pub wired : (key : RotorKey) (seated : List SeatedWheel) (reflecting inner whole : List ℕ) (s : SeatedWheel) (shown size d : ℕ) → seated ≡ seats key.plugs key.wheels key.rings → IsPlugboard key.plugs
-      → reflecting ≡ reflector_of key.reflector → inner ≡ around reflecting (slow seated) (slow key.window)
-      → length seated ≡ size → length key.wheels ≡ size → length key.rings ≡ size
-      → length key.window ≡ size → 0 < size → s ≡ get_or seated (size - 1) s → shown ≡ get_or key.window (size - 1) d
-      → whole ≡ boarded s.board inner (rotor s.wheel s.ring shown)
-      → IsWired key seated reflecting inner whole
-  wired key seated reflecting inner whole s shown size d sit board is_reflecting is_inner long wheels rings window some is_s is_shown made =
-      search (rules, around, take_all, around_more, board, around_seats, reflectors_exchange, path_is, key)
+-- so the path is made of the way around through the slow wheels
+pub wired : (key : RotorKey) (seated : List SeatedWheel) (reflecting inner whole : List ℕ) (s : SeatedWheel) (shown size d : ℕ) → seated ≡ seats key.plugs key.wheels key.rings → IsPlugboard key.plugs
+    → reflecting ≡ reflector_of key.reflector → inner ≡ around reflecting (slow seated) (slow key.window)
+    → length seated ≡ size → length key.wheels ≡ size → length key.rings ≡ size
+    → length key.window ≡ size → 0 < size → s ≡ get_or seated (size - 1) s → shown ≡ get_or key.window (size - 1) d
+    → whole ≡ boarded s.board inner (rotor s.wheel s.ring shown)
+    → IsWired key seated reflecting inner whole
+wired key seated reflecting inner whole s shown size d sit board is_reflecting is_inner long wheels rings window some is_s is_shown made =
+    search (rules, around, take_all, around_more, board, around_seats, reflectors_exchange, path_is, key)

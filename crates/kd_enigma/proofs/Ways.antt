@@ -2,7 +2,8 @@
 use Rattle.std.proofs.Common.{◌≡◌, ◌≢◌, ℕ, ◌<◌, List, [], ◌∷◌, ◌++◌, map, reverse, slice_index, All, length, refl, sym}
 use Rattle.std.proofs.Common.{ap, ◌∙◌, subst, arith, rules, append_assoc}
 use Rattle.kd_enigma.specs.{Laws.PathsLeadBack, Laws.PathsMoveEachLetter, Rotor.rotor, Rotor.turned}
-use Rattle.kd_enigma.specs.Sound.{PermutationLaws, TablesAreSound}
+use Rattle.kd_tables.proofs.Products.{inverse_by_letter, inverse_permutes, product_backwards, product_permutes, shift_backwards, shift_permutes}
+use Rattle.kd_tables.proofs.Wirings.{reflector_moves, reflector_permutes, reflector_returns, wiring_permutes}
 use Rattle.kd_tables.specs.{Tables.reflector_of, declared.reflector.Reflector.Reflector, declared.wheel.Wheel.Wheel}
 use Rattle.std.{proofs.lemmas.List.FromFn.get_or-range_with_len, specs.List.AllByRecursion}
 use Rattle.std.proofs.lemmas.List.{ext_get_or, get_or-map, length-map, reverse-append}
@@ -53,9 +54,9 @@ unfolding shift
 no_shift = refl
 
 -- what undoes a turned permutation is what undoes the permutation, turned by as much
-pub turned_undone : PermutationLaws → (by : ℕ) (p : List ℕ) → by < 26 → IsPermutation26 p → inverse (turned by p) ≡ turned by (inverse p)
+pub turned_undone : (by : ℕ) (p : List ℕ) → by < 26 → IsPermutation26 p → inverse (turned by p) ≡ turned by (inverse p)
 unfolding turned
-turned_undone laws by p lt h = search (rules, grouped)
+turned_undone by p lt h = search (rules, grouped, product_backwards, product_permutes, shift_backwards, shift_permutes, inverse_permutes)
 
 -- ---- a map that leads each letter to another one, and that one back
 
@@ -64,11 +65,11 @@ pub record Exchanges (p : List ℕ) : Type 0 where
   pub back : (x : ℕ) → x < 26 → slice_index p (slice_index p x) ≡ x
   pub moves : (x : ℕ) → x < 26 → slice_index p x ≢ x
 
-pub reflectors_exchange : TablesAreSound → (reflector : Reflector) → Exchanges (reflector_of reflector)
-reflectors_exchange sound reflector = record {
-  permutes = sound.reflector reflector;
-  back = at_letter (λ x. slice_index (reflector_of reflector) (slice_index (reflector_of reflector) x) ≡ x) (sound.own_inverse reflector);
-  moves = at_letter (λ x. slice_index (reflector_of reflector) x ≢ x) (sound.none_fixed reflector);
+pub reflectors_exchange : (reflector : Reflector) → Exchanges (reflector_of reflector)
+reflectors_exchange reflector = record {
+  permutes = reflector_permutes reflector;
+  back = at_letter (λ x. slice_index (reflector_of reflector) (slice_index (reflector_of reflector) x) ≡ x) (reflector_returns reflector);
+  moves = at_letter (λ x. slice_index (reflector_of reflector) x ≢ x) (reflector_moves reflector);
 }
 
 -- two permutations undo each other
@@ -78,8 +79,8 @@ record Undo (there back : List ℕ) : Type 0 where
   out : (x : ℕ) → x < 26 → slice_index back (slice_index there x) ≡ x
   into : (x : ℕ) → x < 26 → slice_index there (slice_index back x) ≡ x
 
-wheels_undo : PermutationLaws → (w : List ℕ) → IsPermutation26 w → Undo w (inverse w)
-wheels_undo laws w h = grind (arith, laws.inverses, laws.inverse_at, h.each_once.within)
+wheels_undo : (w : List ℕ) → IsPermutation26 w → Undo w (inverse w)
+wheels_undo w h = let back = inverse_permutes w h in grind (arith, inverse_by_letter, h.each_once.within, back.each_once.within)
 
 boards_undo : (plugs : List ℕ) → IsPlugboard plugs → Undo plugs plugs
 boards_undo plugs board =
@@ -87,16 +88,16 @@ boards_undo plugs board =
     record { in_permutes = board.permutation; out_permutes = board.permutation; out = back; into = back }
 
 -- in by the one, through what exchanges letters, and back by the other
-conjugate : PermutationLaws → (there core back : List ℕ) → Undo there back → Exchanges core
+conjugate : (there core back : List ℕ) → Undo there back → Exchanges core
     → Exchanges (followed_by there (followed_by core back))
-conjugate laws there core back undo h =
+conjugate there core back undo h =
     let in_lt = undo.in_permutes.each_once.within in
     let at : (x : ℕ) → x < 26 → slice_index (followed_by there (followed_by core back)) x ≡ slice_index back (slice_index core (slice_index there x)) =
     λ x lt. grind (arith, product-at, undo.in_permutes.size, h.permutes.size, in_lt) in
     let again : (x : ℕ) → x < 26 → slice_index there (slice_index (followed_by there (followed_by core back)) x) ≡ slice_index core (slice_index there x) =
     λ x lt. grind (arith, at x lt, undo.into, h.permutes.each_once.within, in_lt) in
     record {
-      permutes = laws.products there (followed_by core back) undo.in_permutes (laws.products core back h.permutes undo.out_permutes);
+      permutes = product_permutes there (followed_by core back) undo.in_permutes (product_permutes core back h.permutes undo.out_permutes);
       back = λ x lt. grind (arith, at, again x lt, h.back, undo.out, in_lt, h.permutes.each_once.within, undo.out_permutes.each_once.within);
       moves = λ x lt same. h.moves (slice_index there x) (in_lt x lt) (sym (again x lt) ∙ ap (slice_index there) same);
     }
@@ -111,29 +112,29 @@ abbrev pub nested : List ℕ → List (List ℕ) → List ℕ
 nested core [] = core
 nested core (w ∷ ws) = nested (enclosed core w) ws
 
-pub rotor_permutes : TablesAreSound → (wheel : Wheel) (ring letter : ℕ) → IsPermutation26 (rotor wheel ring letter)
+pub rotor_permutes : (wheel : Wheel) (ring letter : ℕ) → IsPermutation26 (rotor wheel ring letter)
 unfolding turned
-rotor_permutes sound wheel ring letter = grind (arith, sound.laws.products, sound.laws.shifts, sound.wiring)
+rotor_permutes wheel ring letter = product_permutes _ _ (product_permutes _ _ (shift_permutes _) (wiring_permutes wheel)) (shift_permutes _)
 
-rotors_permute : TablesAreSound → (wheels : List Wheel) (rings window : List ℕ)
+rotors_permute : (wheels : List Wheel) (rings window : List ℕ)
     → AllByRecursion IsPermutation26 (rotors wheels rings window)
 unfolding rotors
-rotors_permute sound (wheel ∷ wheels) (ring ∷ rings) (letter ∷ window) = (rotor_permutes sound wheel ring letter, rotors_permute sound wheels rings window)
-rotors_permute sound [] rings window = tt
-rotors_permute sound wheels [] window = tt
-rotors_permute sound wheels rings [] = tt
+rotors_permute (wheel ∷ wheels) (ring ∷ rings) (letter ∷ window) = (rotor_permutes wheel ring letter, rotors_permute wheels rings window)
+rotors_permute [] rings window = tt
+rotors_permute wheels [] window = tt
+rotors_permute wheels rings [] = tt
 
-encloses : PermutationLaws → (core w : List ℕ) → IsPermutation26 w → Exchanges core → Exchanges (enclosed core w)
-encloses laws core w h k = conjugate laws w core (inverse w) (wheels_undo laws w h) k
+encloses : (core w : List ℕ) → IsPermutation26 w → Exchanges core → Exchanges (enclosed core w)
+encloses core w h k = conjugate w core (inverse w) (wheels_undo w h) k
 
-pub wheel_exchanges : TablesAreSound → (core : List ℕ) (wheel : Wheel) (ring letter : ℕ) → Exchanges core
+pub wheel_exchanges : (core : List ℕ) (wheel : Wheel) (ring letter : ℕ) → Exchanges core
     → Exchanges (enclosed core (rotor wheel ring letter))
-wheel_exchanges sound core wheel ring letter k = encloses sound.laws core (rotor wheel ring letter) (rotor_permutes sound wheel ring letter) k
+wheel_exchanges core wheel ring letter k = encloses core (rotor wheel ring letter) (rotor_permutes wheel ring letter) k
 
-nested_exchanges : PermutationLaws → (core : List ℕ) (ws : List (List ℕ)) → AllByRecursion IsPermutation26 ws
+nested_exchanges : (core : List ℕ) (ws : List (List ℕ)) → AllByRecursion IsPermutation26 ws
     → Exchanges core → Exchanges (nested core ws)
-nested_exchanges laws core [] h k = k
-nested_exchanges laws core (w ∷ ws) h k = nested_exchanges laws (enclosed core w) ws h.1 (encloses laws core w h.0 k)
+nested_exchanges core [] h k = k
+nested_exchanges core (w ∷ ws) h k = nested_exchanges (enclosed core w) ws h.1 (encloses core w h.0 k)
 
 -- what is alike behind the same maps
 behind : (xs ps qs : List (List ℕ)) → product ps ≡ product qs → product (xs ++ ps) ≡ product (xs ++ qs)
@@ -141,36 +142,36 @@ unfolding product
 behind [] ps qs e = e
 behind (x ∷ xs) ps qs e = ap (followed_by x) (behind xs ps qs e)
 
-product_around : PermutationLaws → (core : List ℕ) (ws : List (List ℕ)) (rest : List (List ℕ))
+product_around : (core : List ℕ) (ws : List (List ℕ)) (rest : List (List ℕ))
     → AllByRecursion IsPermutation26 ws → Exchanges core
     → product (reverse ws ++ (core ∷ map inverse ws ++ rest)) ≡ followed_by (nested core ws) (product rest)
 unfolding product
-product_around laws core [] rest h k = refl
-product_around laws core (w ∷ ws) rest h k =
+product_around core [] rest h k = refl
+product_around core (w ∷ ws) rest h k =
     let outward = map inverse ws ++ rest in
-    let back = (laws.inverses w h.0).size in
+    let back = (inverse_permutes w h.0).size in
     let one : product (w ∷ core ∷ inverse w ∷ outward) ≡ product (enclosed core w ∷ outward) =
     grind (arith, grouped w (followed_by core (inverse w)) (product outward) h.0, grouped core (inverse w) (product outward) k.permutes, product-size, back, k.permutes.size) in
     ap product (ap (λ ps. ps ++ (core ∷ inverse w ∷ outward)) (reverse-append (w ∷ []) ws) ∙ append_assoc (reverse ws) (w ∷ []) (core ∷ inverse w ∷ outward))
-    ∙ behind (reverse ws) _ _ one ∙ product_around laws (enclosed core w) ws rest h.1 (encloses laws core w h.0 k)
+    ∙ behind (reverse ws) _ _ one ∙ product_around (enclosed core w) ws rest h.1 (encloses core w h.0 k)
 
 -- the path leads in through the plugboard, around, and back through it
-pub path_is : TablesAreSound → (key : RotorKey) (window : List ℕ) → IsPlugboard key.plugs
+pub path_is : (key : RotorKey) (window : List ℕ) → IsPlugboard key.plugs
     → path key window ≡ followed_by key.plugs (followed_by (nested (reflector_of key.reflector) (rotors key.wheels key.rings window)) key.plugs)
 unfolding path product
-path_is sound key window board =
+path_is key window board =
     grind (arith, append_assoc, product_around, rotors_permute, reflectors_exchange, nothing_after)
 
-pub path_exchanges : TablesAreSound → (key : RotorKey) (window : List ℕ) → IsPlugboard key.plugs
+pub path_exchanges : (key : RotorKey) (window : List ℕ) → IsPlugboard key.plugs
     → Exchanges (path key window)
-path_exchanges sound key window board =
+path_exchanges key window board =
     search (rules, nested_exchanges, rotors_permute, reflectors_exchange, path_is, key, board, conjugate, boards_undo)
 
-pub paths_lead_back : TablesAreSound → PathsLeadBack
-paths_lead_back sound key window board =
+pub paths_lead_back : PathsLeadBack
+paths_lead_back key window board =
     each_letter (λ x. slice_index (path key window) (slice_index (path key window) x)
-    ≡ x) (path_exchanges sound key window board).back
+    ≡ x) (path_exchanges key window board).back
 
-pub paths_move_each_letter : TablesAreSound → PathsMoveEachLetter
-paths_move_each_letter sound key window board =
-    each_letter (λ x. slice_index (path key window) x ≢ x) (path_exchanges sound key window board).moves
+pub paths_move_each_letter : PathsMoveEachLetter
+paths_move_each_letter key window board =
+    each_letter (λ x. slice_index (path key window) x ≢ x) (path_exchanges key window board).moves

@@ -20,8 +20,6 @@ around core (s ∷ seated) (letter ∷ window) = around (boarded s.board core (r
 around core _ _ = core
 
 -- what a wheel makes of the letters on the way in and on the way back, for each letter in its window
-abbrev pub inward_of : Wheel → ℕ → List ℕ → List (List ℕ)
-inward_of wheel ring board = map (λ window. followed_by board (rotor wheel ring window)) alphabet
-
-abbrev pub outward_of : Wheel → ℕ → List ℕ → List (List ℕ)
-outward_of wheel ring board = map (λ window. followed_by (inverse (rotor wheel ring window)) board) alphabet
+abbrev pub ways_of : Wheel → ℕ → List ℕ → List (List ℕ × List ℕ)
+ways_of wheel ring board = map (λ window. let turns = rotor wheel ring window in
+    (followed_by board turns, followed_by (inverse turns) board)) alphabet

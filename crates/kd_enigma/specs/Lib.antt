@@ -3,6 +3,5 @@ pub mod Rotor
 pub mod Cipher
 pub mod Map
 pub mod Around
-pub mod Sound
 pub mod Laws
 pub mod Wired

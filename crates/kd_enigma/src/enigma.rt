@@ -4,12 +4,10 @@ ghost use Rattle.kd_enigma.specs.Cipher.{enigma_cipher, key_after, key_turned, p
 ghost use Rattle.kd_enigma.specs.Wired.{slow};
 
 use super::key::EnigmaKey;
-use super::laws::tables_are_sound;
 use super::map::Map;
 use super::plugs::Plugs;
 use super::rotor::Rotor;
 use kd_step::Stepper;
-use kd_step::laws::slow_wheels_move_together;
 use kd_tables::{Letter, Reflector, Wheel, reflecting};
 use std::marker::Model;
 
@@ -48,7 +46,6 @@ impl<const S: usize> Enigma<S> {
         requires most { S ≤ 4 }
         ensures { result ≡ key.entry }
     {
-        tables_are_sound();
         let EnigmaKey {
             wheels,
             rings,
@@ -109,7 +106,6 @@ impl<const S: usize> Enigma<S> {
     pub fn turn_to(&mut self, window: [Letter; S])
         ensures { self.new ≡ key_turned self.old window.entry }
     {
-        tables_are_sound();
         self.stepper = Stepper::new(self.wheels, window);
         self.inner = around_slow(&self.rotors, &window, self.reflecting);
         self.whole = self.rotors[S - 1].enclosing(self.inner, window[S - 1]);
@@ -127,14 +123,14 @@ impl<const S: usize> Enigma<S> {
     fn step(&mut self)
         ensures { self.new ≡ key_after self.old 1 }
     {
-        tables_are_sound();
-        slow_wheels_move_together();
         let stood = self.stepper.shown(S - 2).index();
         self.stepper.step();
         let stands = self.stepper.shown(S - 2).index();
-        if stands != stood {
-            self.inner = around_slow(&self.rotors, &self.stepper.window(), self.reflecting);
-        }
+        self.inner = if stands == stood {
+            self.inner
+        } else {
+            around_slow(&self.rotors, &self.stepper.window(), self.reflecting)
+        };
         let right = self.stepper.shown(S - 1);
         self.whole = self.rotors[S - 1].enclosing(self.inner, right);
     }

@@ -4,24 +4,6 @@ ghost use Rattle.kd_tables.specs.Permutation.{exchange};
 ghost use Rattle.kd_enigma.specs.Cipher.{IsPlugboard};
 ghost use Rattle.kd_enigma.specs.Laws.{PairsMakeAPlugboard, PairsExchange, SamePairsExchangeAlike};
 ghost use Rattle.kd_enigma.specs.Laws.{PathsLeadBack, PathsMoveEachLetter, TwiceGivesBack, CipherInTurn, KeyInTurn};
-ghost use Rattle.kd_enigma.specs.Sound.{PermutationLaws, TablesAreSound};
-
-/// The laws of permutations, together.
-pub(crate) fn permutations_obey_laws()
-    ensures { PermutationLaws }
-{
-    kd_tables::laws::permutations_by_letter();
-    kd_tables::laws::products_are_permutations();
-    kd_tables::laws::inverse_undoes();
-}
-
-/// The tables that the cipher is made of are permutations, and obey their laws.
-pub(crate) fn tables_are_sound()
-    ensures { TablesAreSound }
-{
-    permutations_obey_laws();
-    kd_tables::laws::tables_are_permutations();
-}
 
 /// Pairs in which no letter lies twice make a plugboard, on which a letter becomes the other letter of its pair; the
 /// order of the pairs, and of the two letters of a pair, makes no difference.
@@ -43,17 +25,13 @@ pub fn an_empty_board_is_a_plugboard()
 pub fn path_is_its_own_inverse()
     ensures own_inverse { PathsLeadBack }
     ensures none_fixed { PathsMoveEachLetter }
-{
-    tables_are_sound();
-}
+{}
 
 /// Enciphering twice on the same key gives the text back.
 #[tactic(auto, using(crate::proofs::Ciphers::twice_gives_back))]
 pub fn enciphering_twice_gives_back()
     ensures { TwiceGivesBack }
-{
-    tables_are_sound();
-}
+{}
 
 /// A text in two pieces is enciphered piece by piece, on the key that the first piece leaves.
 #[tactic(auto, using(crate::proofs::Ciphers::cipher_in_turn, crate::proofs::Ciphers::key_in_turn))]

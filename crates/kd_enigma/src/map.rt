@@ -54,7 +54,7 @@ impl Map {
         requires { by ≤ 26 }
         ensures { result ≡ shift by }
     {
-        Map::of(&std::array::from_fn(|index| { Letter::new((index as u8 + by) % 26).unwrap() }))
+        Map::of(&shifted(by))
     }
 
     /// First this map, and then the second one.
@@ -73,4 +73,12 @@ impl Map {
     {
         Letter::new(self.lanes[letter.index()]).unwrap()
     }
+}
+
+/// The table that leads each letter so many places on, with A after Z.
+pub(crate) fn shifted(by: u8) -> [Letter; 26]
+    requires { by ≤ 26 }
+    ensures { result ≡ shift by }
+{
+    std::array::from_fn(|index| Letter::new((index as u8 + by) % 26).unwrap())
 }

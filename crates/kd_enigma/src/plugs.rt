@@ -1,9 +1,9 @@
-ghost use Rattle.std.specs.Prelude.{◌≡◌, ◌≢◌, ◌<◌, ◌↔◌, IsOk, IfOk, OnOk, slice_index, slice_set};
-ghost use Rattle.kd_tables.specs.Permutation.{alphabet, exchange};
+ghost use Rattle.std.specs.Prelude.{◌≡◌, ◌≢◌, ◌<◌, ◌↔◌, IsOk, IsTrue, IfOk, slice_index, slice_set};
+ghost use Rattle.kd_tables.specs.Permutation.{exchange};
 ghost use Rattle.kd_enigma.specs.Cipher.{IsPlugboard};
 ghost use Rattle.kd_enigma.specs.Plugs.{IsLeft, NoLetterTwice};
 
-use super::map::Map;
+use super::map::{Map, shifted};
 use kd_tables::Letter;
 use std::marker::Model;
 use thiserror::Error;
@@ -40,9 +40,11 @@ impl Plugs {
         ensures value { IfOk result (λ plugs. plugs ≡ exchange pairs.now) }
         ensures plugboard { IfOk result IsPlugboard }
     {
-        let mut table = unplugged();
+        let mut table = shifted(0);
         for (one, other) in pairs {
-            plug(&mut table, *one, *other)?;
+            if !plug(&mut table, *one, *other) {
+                return Err(LetterTwice);
+            }
         }
         Ok(Plugs { table })
     }
@@ -70,24 +72,17 @@ impl Plugs {
     }
 }
 
-/// The table that leaves each letter.
-fn unplugged() -> [Letter; 26]
-    ensures { result ≡ alphabet }
-{
-    std::array::from_fn(|index| Letter::new(index as u8).unwrap())
-}
-
-/// Exchanges two letters that have been left so far.
-fn plug(table: &mut [Letter; 26], one: Letter, other: Letter) -> Result<(), LetterTwice>
-    ensures ok { IsOk result ↔ (one ≢ other) × IsLeft table.old one × IsLeft table.old other }
-    ensures after { OnOk result (table.new ≡ slice_set (slice_set table.old one other) other one) }
+/// Exchanges two letters, if they have been left so far and differ, and answers whether it did.
+fn plug(table: &mut [Letter; 26], one: Letter, other: Letter) -> bool
+    ensures can { IsTrue result ↔ (one ≢ other) × IsLeft table.old one × IsLeft table.old other }
+    ensures after { IsTrue result → table.new ≡ slice_set (slice_set table.old one other) other one }
     ensures letters { (one < 26) × (other < 26) }
 {
     let (place, far) = (one.index(), other.index());
     if one == other || table[place] != one || table[far] != other {
-        return Err(LetterTwice);
+        return false;
     }
     table[place] = other;
     table[far] = one;
-    Ok(())
+    true
 }

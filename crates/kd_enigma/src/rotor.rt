@@ -3,7 +3,6 @@ ghost use Rattle.kd_tables.specs.Permutation.{followed_by};
 ghost use Rattle.kd_enigma.specs.Around.{boarded};
 ghost use Rattle.kd_enigma.specs.Rotor.{offset, rotor, turned};
 
-use super::laws::tables_are_sound;
 use super::map::Map;
 use kd_tables::{Letter, Wheel, unwiring, wiring};
 use std::marker::Model;
@@ -15,46 +14,40 @@ pub(crate) struct Rotor {
     wheel: Wheel,
     ring: Letter,
     board: Map,
-    inward: [Map; 26],
-    outward: [Map; 26],
+    ways: [(Map, Map); 26],
 }
 
 impl Model for Rotor {
     ghost use Rattle.std.specs.Prelude.{◌≡◌};
-    ghost use Rattle.kd_enigma.specs.Around.{SeatedWheel, inward_of, outward_of};
+    ghost use Rattle.kd_enigma.specs.Around.{SeatedWheel, ways_of};
 
     ghost Value = { SeatedWheel };
 
     ghost view = { λ r. record { wheel = r.wheel; ring = r.ring; board = r.board } };
 
-    ghost invariant = { λ r. (r.inward ≡ inward_of r.wheel r.ring r.board)
-        × (r.outward ≡ outward_of r.wheel r.ring r.board) };
+    ghost invariant = { λ r. r.ways ≡ ways_of r.wheel r.ring r.board };
 }
 
 impl Rotor {
     pub(crate) fn new(wheel: Wheel, ring: Letter, board: Map) -> Self
         ensures { result ≡ record { wheel = wheel; ring = ring; board = board } }
     {
-        tables_are_sound();
         let (there, back) = (Map::of(&wiring(wheel)), Map::of(&unwiring(wheel)));
-        let inward = std::array::from_fn(
+        let ways = std::array::from_fn(
             |window: usize|
                 requires { window < 26 }
-                ensures { result ≡ followed_by board (turned (offset ring window) there) }
-            { board.then(turned(there, ring, window)) },
-        );
-        let outward = std::array::from_fn(
-            |window: usize|
-                requires { window < 26 }
-                ensures { result ≡ followed_by (turned (offset ring window) back) board }
-            { turned(back, ring, window).then(board) },
+                ensures inward { result.0 ≡ followed_by board (turned (offset ring window) there) }
+                ensures outward { result.1 ≡ followed_by (turned (offset ring window) back) board }
+            {
+                let inward = board.then(turned(there, ring, window));
+                (inward, turned(back, ring, window).then(board))
+            },
         );
         Rotor {
             wheel,
             ring,
             board,
-            inward,
-            outward,
+            ways,
         }
     }
 
@@ -62,9 +55,8 @@ impl Rotor {
     pub(crate) fn enclosing(&self, core: Map, window: Letter) -> Map
         ensures { result ≡ boarded self.now.board core (rotor self.now.wheel self.now.ring window) }
     {
-        self.inward[window.index()]
-            .then(core)
-            .then(self.outward[window.index()])
+        let (inward, outward) = &self.ways[window.index()];
+        inward.then(core).then(*outward)
     }
 }
 

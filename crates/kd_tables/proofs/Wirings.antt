@@ -10,7 +10,7 @@ use Rattle.std.proofs.lemmas.Map.Keys.{IsDistinct-cons, IsDistinct-from_apart, a
 use Rattle.std.proofs.lemmas.Map.{Made.IsDistinct-from_count, Steps.length-le_from_distinct_below}
 use Rattle.std.proofs.lemmas.List.Elements.{All-weaker, All-get_or, All-cons, All-from_get_or, recursion_from_All}
 use Rattle.kd_tables.specs.Permutation.{alphabet, IsPermutation26, IsOwnInverse, MovesEachLetter}
-use Rattle.kd_tables.specs.WiringText.{are_capitals, are_distinct_letters, is_permutation, is_wiring_text, is_ring_text, is_reflection}
+use Rattle.kd_tables.specs.WiringText.{are_capitals, are_distinct_letters, is_permutation, is_ring_text, is_reflection}
 use Rattle.kd_tables.specs.declared.reflector.Reflector.TheVariants as reflectors
 
 by_order : (p : List ℕ) (j k : ℕ) → IsDistinct nat_eq p → j < length p → k < length p → slice_index p j ≡ slice_index p k
@@ -63,7 +63,7 @@ letters_within p h = grind (arith, All-weaker, ltb-true, AllPass-from_list_all)
 letters_differ : (p : List ℕ) → are_distinct_letters p ≡ true → IsDistinct nat_eq p
 letters_differ p h = grind (arith, IsDistinct-from_count, nat_eq_equiv, eqb-true)
 
-pub test_permutes : (p : List ℕ) → is_permutation p ≡ true → IsPermutation26 p
+test_permutes : (p : List ℕ) → is_permutation p ≡ true → IsPermutation26 p
 test_permutes p h =
     let parts = and_parts (length p == 26) (are_distinct_letters p) h in
     let size : length p ≡ 26 = eqb-true (length p) 26 parts.0 in
@@ -74,9 +74,6 @@ test_permutes p h =
         apart = λ j k a b e. one_place p j k (letters_differ p parts.1) (omega arith) (omega arith) e;
       };
     }
-
-pub text_permutes : (text : List ℕ) → is_wiring_text text ≡ true → IsPermutation26 (letters_of text)
-text_permutes text h = test_permutes (letters_of text) (and_parts (are_capitals text) (is_permutation (letters_of text)) h).1
 
 pub text_makes_ring : (n : ℕ) (text : List ℕ) → length (letters_of text) ≡ n → is_ring_text text ≡ true → IsRing n (letters_of text)
 text_makes_ring n text size h =

@@ -21,10 +21,6 @@ is_ring_text text = are_capitals text && are_distinct_letters (letters_of text)
 abbrev pub is_permutation : List ℕ → Bool
 is_permutation p = (length p == 26) && are_distinct_letters p
 
--- 26 capital letters, each once
-abbrev pub is_wiring_text : List ℕ → Bool
-is_wiring_text text = are_capitals text && is_permutation (letters_of text)
-
 -- each letter leads to another one, which leads back
 abbrev pub is_reflection : List ℕ → Bool
 is_reflection p = list_all (λ x. not (slice_index p x == x) && (slice_index p (slice_index p x) == x)) alphabet

@@ -13,6 +13,7 @@ use super::letter::Letter;
 use super::reading::Reading;
 
 /// The published tables are permutations, and a reflector leads each letter to another one and that one back.
+#[tactic(auto, using(crate::proofs::Wirings::reflector_returns, crate::proofs::Wirings::reflector_moves))]
 pub fn tables_are_permutations()
     ensures wheels { WiringsArePermutations }
     ensures reflectors { ReflectorsArePermutations }

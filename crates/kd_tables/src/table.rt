@@ -2,13 +2,13 @@ ghost use Rattle.std.specs.Prelude.{◌≡◌, ◌-◌, ◌+◌, ◌<◌, slice_
 ghost use Rattle.kd_tables.specs.Permutation.{inverse, IsPermutation26, IsOwnInverse, MovesEachLetter};
 ghost use Rattle.kd_tables.specs.Rings.{IsRing};
 ghost use Rattle.kd_tables.specs.Tables.{letters_of};
-ghost use Rattle.kd_tables.specs.WiringText.{are_capitals, is_wiring_text, is_ring_text, is_reflection};
+ghost use Rattle.kd_tables.specs.WiringText.{are_capitals, is_ring_text, is_reflection};
 
 use super::letter::Letter;
 
-/// The letters that a text spells.
+/// The letters that a text spells. Of a table's text the first letter is what A becomes.
 #[tactic(auto, using(std::proofs::lemmas::List::FromFn::fill_by_all))]
-fn letters<const N: usize>(text: &[u8; N]) -> [Letter; N]
+pub(crate) fn letters<const N: usize>(text: &[u8; N]) -> [Letter; N]
     requires { IsTrue (are_capitals text.now) }
     ensures { result ≡ letters_of text.now }
 {
@@ -28,23 +28,12 @@ fn letter_at<const N: usize>(text: &[u8; N], place: usize) -> Letter
     Letter::from_byte(text[place]).unwrap()
 }
 
-/// The table that a published text spells: its first letter is what A becomes.
-#[tactic(auto, using(crate::proofs::Wirings::text_permutes))]
-pub(crate) fn table(text: &[u8; 26]) -> [Letter; 26]
-    requires { IsTrue (is_wiring_text text.now) }
-    ensures table { result ≡ letters_of text.now }
-    ensures permutation { IsPermutation26 (letters_of text.now) }
-{
-    letters(text)
-}
-
-/// The table that undoes the one that a published text spells.
+/// The table that undoes a table.
 #[tactic(auto, using(crate::proofs::Products::filled_is_inverse))]
-pub(crate) fn inverse_table(text: &[u8; 26]) -> [Letter; 26]
-    requires { IsTrue (is_wiring_text text.now) }
-    ensures { result ≡ inverse (letters_of text.now) }
+pub(crate) fn inverse_table(table: &[Letter; 26]) -> [Letter; 26]
+    requires { IsPermutation26 table.now }
+    ensures { result ≡ inverse table.now }
 {
-    let table = table(text);
     let mut inverse = [Letter::A; 26];
     for place in 0..26 {
         inverse[table[usize::from(place)].index()] = Letter::new(place).unwrap();
@@ -55,13 +44,13 @@ pub(crate) fn inverse_table(text: &[u8; 26]) -> [Letter; 26]
 /// The table of a reflector's published text.
 #[tactic(auto, using(crate::proofs::Wirings::reflection_returns, crate::proofs::Wirings::reflection_moves))]
 pub(crate) fn reflection(text: &[u8; 26]) -> [Letter; 26]
-    requires wiring { IsTrue (is_wiring_text text.now) }
+    requires capitals { IsTrue (are_capitals text.now) }
     requires reflection { IsTrue (is_reflection (letters_of text.now)) }
     ensures table { result ≡ letters_of text.now }
     ensures own_inverse { IsOwnInverse (letters_of text.now) }
     ensures none_fixed { MovesEachLetter (letters_of text.now) }
 {
-    table(text)
+    letters(text)
 }
 
 /// The letters of a pin wheel's published text.

@@ -4,7 +4,7 @@ ghost use Rattle.kd_tables.specs.Tables.{wheel_text, wiring_of, is_notch};
 
 use super::letter::Letter;
 use super::names::{name_of, named};
-use super::table::{inverse_table, table};
+use super::table::{inverse_table, letters};
 use arrayvec::ArrayString;
 
 /// A wheel of the rotor machines. I to VIII turn; Beta and Gamma stand still beside the thin reflectors of the M4.
@@ -30,24 +30,6 @@ pub enum Wheel {
     Beta,
     /// The M4's Gamma wheel, which stands to the left of the three that turn.
     Gamma,
-}
-
-/// Makes a table of a wheel's published wiring: what A to Z become, in order.
-macro_rules! wiring {
-    ($make:ident, $wheel:expr) => {
-        match $wheel {
-            Wheel::I => $make(b"EKMFLGDQVZNTOWYHXUSPAIBRCJ"),
-            Wheel::II => $make(b"AJDKSIRUXBLHWTMCQGZNPYFVOE"),
-            Wheel::III => $make(b"BDFHJLCPRTXVZNYEIWGAKMUSQO"),
-            Wheel::IV => $make(b"ESOVPZJAYQUIRHXLNFTGKDCMWB"),
-            Wheel::V => $make(b"VZBRGITYUPSDNHLXAWMJQOFECK"),
-            Wheel::VI => $make(b"JPGVOUMFYQBENHZRDKASXLICTW"),
-            Wheel::VII => $make(b"NZJHGRCXMYSWBOUFAIVLPEKQDT"),
-            Wheel::VIII => $make(b"FKQHTLXOCBJSPDZRAMEWNIUYGV"),
-            Wheel::Beta => $make(b"LEYJVCNIXWPBQMDRTAKZGFUHOS"),
-            Wheel::Gamma => $make(b"FSOKANUERHMBTIYCWLQPZXVGJD"),
-        }
-    };
 }
 
 /// Reads the wheels' names, each beside its wheel, from the one to the other.
@@ -95,16 +77,27 @@ impl Wheel {
 pub fn wiring(wheel: Wheel) -> [Letter; 26]
     ensures { result ≡ wiring_of wheel }
 {
-    wiring!(table, wheel)
+    match wheel {
+        Wheel::I => letters(b"EKMFLGDQVZNTOWYHXUSPAIBRCJ"),
+        Wheel::II => letters(b"AJDKSIRUXBLHWTMCQGZNPYFVOE"),
+        Wheel::III => letters(b"BDFHJLCPRTXVZNYEIWGAKMUSQO"),
+        Wheel::IV => letters(b"ESOVPZJAYQUIRHXLNFTGKDCMWB"),
+        Wheel::V => letters(b"VZBRGITYUPSDNHLXAWMJQOFECK"),
+        Wheel::VI => letters(b"JPGVOUMFYQBENHZRDKASXLICTW"),
+        Wheel::VII => letters(b"NZJHGRCXMYSWBOUFAIVLPEKQDT"),
+        Wheel::VIII => letters(b"FKQHTLXOCBJSPDZRAMEWNIUYGV"),
+        Wheel::Beta => letters(b"LEYJVCNIXWPBQMDRTAKZGFUHOS"),
+        Wheel::Gamma => letters(b"FSOKANUERHMBTIYCWLQPZXVGJD"),
+    }
 }
 
 /// What each letter becomes on the way back, from the left of the wheel to its right: the published wirings, the other
 /// way round.
-#[tactic(auto, unfolding(crate::specs::Tables::wiring_of))]
+#[tactic(auto, using(crate::proofs::Wirings::wiring_permutes))]
 pub fn unwiring(wheel: Wheel) -> [Letter; 26]
     ensures { result ≡ inverse (wiring_of wheel) }
 {
-    wiring!(inverse_table, wheel)
+    inverse_table(&wiring(wheel))
 }
 
 /// Whether the wheel stands at a notch when this letter shows in its window, whatever its ring. Some wheels have two

@@ -26,6 +26,9 @@ column-column-requires g c =
 pub join-requires-in-Some : goal.join-requires-in-Some
 join-requires-in-Some g c = grind (arith, to_z-of_z, scans_of_tree-most, count_by-le-length)
 
+pub loop-holders-smaller : goal.loop-holders-smaller
+loop-holders-smaller g c = grind (arith, count-reached, count_by-le-length, length-set)
+
 pub loop-holders-preserved : goal.loop-holders-preserved
 loop-holders-preserved g c =
     let so_far = c.loop-holders.invariant in

@@ -1,6 +1,12 @@
-use Rattle.{kd_assign.proofs.Counting.scans_of_all, std.proofs.Common.arith}
-use Rattle.kd_assign.proofs.Whole.{columns_at_most, fits, is_least, rows_at_most}
+use Rattle.kd_assign.proofs.Counting.{scans_of_all, scans_of_trees-most}
+use Rattle.{kd_assign.proofs.Whole.{columns_at_most, fits, is_least, price_sum_is, rows_at_most}, std.proofs.Common.arith}
 use Rattle.kd_assign.proofs.solution.assign.Goals as goal
+
+pub assign_row-requires : goal.assign_row-requires
+assign_row-requires g c = grind (arith, scans_of_trees-most)
+
+pub returns-clause-price_sum : goal.returns-clause-price_sum
+returns-clause-price_sum g c = grind (arith, price_sum_is)
 
 pub returns-clause-fits : goal.returns-clause-fits
 returns-clause-fits g c = grind (arith, fits)

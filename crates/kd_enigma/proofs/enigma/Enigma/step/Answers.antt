@@ -1,17 +1,19 @@
 use Rattle.kd_enigma.proofs.{Seats.wired, enigma.Enigma.step.Goals.{else-stands-stood, then-stands-stood}}
 use Rattle.{kd_enigma.specs.Around.around, kd_enigma.specs.Wired.{key_in, slow}, std.proofs.Common.{arith, rules, ◌≡◌}}
+use Rattle.kd_step.proofs.Moved.{slow_still}
 use Rattle.kd_enigma.proofs.enigma.Enigma.step.Goals as goal
 
 pub invariant_of-self : goal.invariant_of-self
 invariant_of-self g c =
-    let inside = c.if-stands-stood.self-inside in
+    let inside = c.self.inside in
     let kept = c.self.invariant.1 in
-    let is_around : inside.inner ≡ around inside.reflecting (slow inside.rotors) (slow inside.stepper.window) = elim c.if-stands-stood.branch [
-      | then-stands-stood w ↦ grind arith
-      | else-stands-stood w ↦ grind (arith, c.slow_wheels_move_together.ensures)
+    let inner = c.if-stands-stood.self in
+    let is_around : inner ≡ around inside.reflecting (slow inside.rotors) (slow c.step.new.self.window) = elim c.if-stands-stood.branch [
+      | then-stands-stood w ↦ grind (arith, slow_still)
+      | else-stands-stood w ↦ grind arith
     ] in (
       grind arith,
-      wired c.tables_are_sound.ensures (key_in inside.stepper inside.rings inside.reflector inside.plugs) inside.rotors inside.reflecting inside.inner c.enclosing-self-inside.result
+      wired (key_in c.step.new.self inside.rings inside.reflector inside.plugs) inside.rotors inside.reflecting inner c.enclosing-self-inside.result
           c.index-self.result c.shown-right.result g.row.S 0 (grind (arith, kept)) (grind (arith, kept)) (grind (arith, kept)) is_around (search rules) (search rules) (search rules) c.shown-right.ensures.size
           (omega (arith, c.self.invariant.2)) c.index-self.is c.shown-right.ensures.value (grind arith),
       c.self.invariant.2,

@@ -1,26 +1,24 @@
 use Rattle.kd_enigma.specs.{Cipher.IsPlugboard, Plugs.NoLetterTwice}
-use Rattle.{kd_tables.specs.Permutation.exchange, std.proofs.Common.refl, std.proofs.Common.◌≡◌}
-use Rattle.std.proofs.lemmas.{Bool.false≢true, Result.err_from_is_err_and}
-use Rattle.kd_enigma.proofs.Cables.{is_plugged_none, plugged_more, can_plug, plugged_all}
+use Rattle.{kd_tables.specs.Permutation.exchange, std.proofs.Common.{refl, rules, ◌≡◌, ◌∙◌}}
+use Rattle.std.proofs.lemmas.{Bool.false≢true}
+use Rattle.kd_enigma.proofs.{Cables.{is_plugged_none, plugged_more, can_plug, plugged_all}, Ways.no_shift}
 use Rattle.kd_enigma.proofs.plugs.Plugs.from_pairs.Goals as goal
 
 pub loop-one-init : goal.loop-one-init
-loop-one-init c = is_plugged_none c.unplugged-table.result c.unplugged-table.ensures
+loop-one-init c = is_plugged_none c.shifted-table.result (c.shifted-table.ensures ∙ no_shift)
 
 pub loop-one-preserved : goal.loop-one-preserved
 loop-one-preserved c =
-    let says = c.in_ok-plug.ensures in
+    let says = c.plug.ensures in
     plugged_more c.args.pairs.now c.loop-one.one-index c.loop-one.table c.loop-one.invariant c.loop-one-item.result
-    c.loop-one-test.true c.loop-one-item.is c.plug.new.table (says.ok.0 refl) says.letters says.after
+    c.loop-one-test.true c.loop-one-item.is c.plug.new.table (says.can.0 (search rules)) says.letters (says.after (search rules))
 
-pub returns-in_err-plug-clause-ok : goal.returns-in_err-plug-clause-ok
-returns-in_err-plug-clause-ok c =
-    let says = c.in_err-plug.ensures in
-    let err = err_from_is_err_and c.from_residual.result c.from_residual.ensures.1 in
-    rw err.1 (
+pub returns-then-not-plug-clause-ok : goal.returns-then-not-plug-clause-ok
+returns-then-not-plug-clause-ok c =
+    let says = c.plug.ensures in (
       λ ok. absurd (false≢true ok),
-      λ once. absurd (false≢true (says.ok.1 (can_plug c.args.pairs.now c.loop-one.one-index c.loop-one.table
-          c.loop-one.invariant c.loop-one-item.result c.loop-one-test.true c.loop-one-item.is once says.letters))),
+      λ once. let can = says.can.1 (can_plug c.args.pairs.now c.loop-one.one-index c.loop-one.table
+          c.loop-one.invariant c.loop-one-item.result c.loop-one-test.true c.loop-one-item.is once says.letters) in cc,
     )
 
 whole : (c : goal.After-loop-one)

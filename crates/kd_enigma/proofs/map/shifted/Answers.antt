@@ -1,10 +1,10 @@
-use Rattle.std.proofs.Common.{◌≡◌, ◌∙◌, ◌+◌, ◌%◌, rules}
+use Rattle.std.proofs.Common.{◌≡◌, ◌+◌, ◌%◌, rules}
 use Rattle.{kd_enigma.proofs.Made.each_made, kd_tables.specs.Permutation.shift}
 use Rattle.std.proofs.lemmas.List.FromFn.{fill_by_all}
-use Rattle.kd_enigma.proofs.map.Map.shift.Goals as goal
+use Rattle.kd_enigma.proofs.map.shifted.Goals as goal
 
 pub returns : goal.returns
 unfolding shift
 returns c =
     let each = each_made c.from_fn.ensures.items (λ k letter. letter ≡ (k + c.args.by) % 26) (λ k letter q lt called. search rules) in
-    c.of.ensures ∙ fill_by_all (λ x. (x + c.args.by) % 26) c.from_fn.result 26 0 c.from_fn.ensures.items.long (λ k lt. each k 0 lt)
+    fill_by_all (λ x. (x + c.args.by) % 26) c.from_fn.result 26 0 c.from_fn.ensures.items.long (λ k lt. each k 0 lt)
