@@ -10,13 +10,8 @@ of_group-requires-clause-rows c =
 pub of_group-requires-clause-columns : goal.of_group-requires-clause-columns
 of_group-requires-clause-columns c =
     let one = c.are_of_one_model.ensures.0 c.if-not-are_of_one_model.false in
-    rw (
-      c.group.ensures,
-      c.as_slice-in-ByNumber-2.ensures.value,
-      c.column_looks.ensures.looks,
-      one.group,
-      ← groups_meet _ _ c.row_looks.ensures.machine c.column_looks.ensures.day one.model,
-    )
+    let meet = groups_meet _ _ c.row_looks.ensures.machine c.column_looks.ensures.day one.model in
+    rw (c.group.ensures, c.as_slice-in-ByNumber-2.ensures.value, c.column_looks.ensures.looks, one.group, ← meet)
     (columns_are_things c.columns_are_the_pairs.ensures.count _ c.column_looks.ensures.day)
 
 pub returns-in-ByNumber : goal.returns-in-ByNumber
@@ -25,15 +20,6 @@ returns-in-ByNumber c =
     (record { ranks = c.ranks_tell_looks.ensures; letters = c.tests_tell_letters.ensures; thirteen = c.columns_are_the_pairs.ensures.count; columns = c.columns_are_the_pairs.ensures.pairs })
     _ _ _ c.row_looks.ensures.machine c.column_looks.ensures.day c.row_prices.ensures.are_prices
     (c.are_of_one_model.ensures.0 c.if-not-are_of_one_model.false) (sym c.version.ensures.value ∙ c.in-ByNumber.is) _
-    (rw (
-      c.group.ensures,
-      c.as_slice.ensures.value,
-      c.row_looks.ensures.looks,
-      c.as_slice-in-ByNumber.ensures.value,
-      c.row_prices.ensures.value,
-      c.as_slice-in-ByNumber-2.ensures.value,
-      c.column_looks.ensures.looks,
-      c.as_slice-in-ByNumber-3.ensures.value,
-      c.column_prices.ensures.value,
-    )
-    at c.of_group.ensures)
+    (rw (c.as_slice-in-ByNumber-2.ensures.value, c.column_looks.ensures.looks, c.as_slice-in-ByNumber-3.ensures.value, c.column_prices.ensures.value)
+    at (rw (c.group.ensures, c.as_slice.ensures.value, c.row_looks.ensures.looks, c.as_slice-in-ByNumber.ensures.value, c.row_prices.ensures.value)
+    at c.of_group.ensures))
