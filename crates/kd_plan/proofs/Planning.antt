@@ -209,10 +209,6 @@ plans m s settings prices machine legal are made =
     record { planned = made; leads = proves.leads; proves = proves; shortest = proving_cards_are_shortest m s settings prices machine legal are whole }
 
 -- ---- the card that is made of an assignment, its prices and its lines is a planned one.
-pub prices_of : (prices : PriceParts) (most : ℕ) → most ≤ 9999 → row_kinds prices ≡ [] → column_kinds prices ≡ [] → length (row_prices prices) ≡ how_many prices → length (column_prices prices) ≡ how_many prices
-    → All (λ price. unsigned_abs price ≤ most) (row_prices prices) → All (λ price. unsigned_abs price ≤ most) (column_prices prices) → ArePrices prices
-prices_of prices most le no_rows no_columns rows columns row_bound column_bound = search (rules, no_columns)
-
 -- the sum of prices, as cards say it and as assignments do
 sums_alike : (prices : List ℤ) → card_sum prices ≡ sum_of prices
 sums_alike [] = refl
@@ -257,5 +253,3 @@ pub planned : (m : Parts) (s : Day) (costs : List (List ℕ)) (to : List ℕ) (s
     → Fits costs rows columns → price_sum rows columns ≡ pos total → assignment_cost costs to ≡ total → IsPlanned m s settings prices
 planned m s costs to settings prices total rows columns same table kind size one_to_one lines first second many more fits sum cost =
     grind (arith, fold_of_both, sums_alike, due_are (nat_eq total 0) costs total rows columns (how_many prices) refl many more fits sum)
-
-pub ruleset card_made = (planned, prices_of, some_since)
