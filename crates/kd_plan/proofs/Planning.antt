@@ -84,6 +84,7 @@ counted_both first a b x y e d = grind arith
 
 counted_lines : (zs : List BarRow) (number : ℕ) → AllByRecursion IsMovable zs
     → AreCounted (lines_from lugs_of number zs) 0 (sum_by (λ z. bar_cost z.0 z.1) zs)
+unfolding lugs_to
 counted_lines [] number h = record { few = omega arith; priced = refl }
 counted_lines (z ∷ zs) number h =
     rw sum_by-cons (counted-append _ _ (subst (AreCounted (lugs_of number z) 0) (is_target z.0 z.1 h.0.reading).1
@@ -208,10 +209,6 @@ plans m s settings prices machine legal are made =
     record { planned = made; leads = proves.leads; proves = proves; shortest = proving_cards_are_shortest m s settings prices machine legal are whole }
 
 -- ---- the card that is made of an assignment, its prices and its lines is a planned one.
-pub prices_of : (prices : PriceParts) (most : ℕ) → most ≤ 9999 → row_kinds prices ≡ [] → column_kinds prices ≡ [] → length (row_prices prices) ≡ how_many prices → length (column_prices prices) ≡ how_many prices
-    → All (λ price. unsigned_abs price ≤ most) (row_prices prices) → All (λ price. unsigned_abs price ≤ most) (column_prices prices) → ArePrices prices
-prices_of prices most le no_rows no_columns rows columns row_bound column_bound = search (rules, no_columns)
-
 -- the sum of prices, as cards say it and as assignments do
 sums_alike : (prices : List ℤ) → card_sum prices ≡ sum_of prices
 sums_alike [] = refl
@@ -240,32 +237,14 @@ table_at_most cost most few h costs xs ys e =
     rw e (All-map (All (λ c. c ≤ 4)) (λ x. map (cost x) ys) xs
     (λ k d lt. All-map (λ c. c ≤ 4) (cost _) ys (λ j e lt'. omega (arith, few, h (get_or xs k d) (get_or ys j e)))))
 
--- there is room for all lines
-few_slots : (model : Model) → slots_of model ≤ 4
-few_slots model = grind arith
+-- there is room for all lines of a rotor machine
+few_of : (model : Model) → (slots_of model ≤ 4) × (length (box_of model) ≤ 10)
+few_of model = grind arith
 
-pub rotor_room : (m : RotorParts) (s : RotorDay) (to : List ℕ) → IsMachine (Rotor m) → IsLegalRotorDay s → m.model ≡ s.model → length to ≡ 13 → IsOneToOne to
-    → length (planned_lines (Rotor m) (OfRotors s) to) ≤ 192
-rotor_room m s to machine legal same count one_to_one =
-    let cables = besides m.cables s.pairs to in
-    let counted = rotor_counted m s to (are_pluggable m s machine legal same to count one_to_one) in
-    let costs = sum_by-le (λ (z : Beside). cable_cost z.0 z.1) 4 cables (λ k d lt. let z : Beside = get_or cables k d in at_most_four z.0 z.1) in
-    grind (arith, counted.few, count_by-le-length, length-zip, unless_same_at_most, few_slots, length-map)
-
-pins_at_most : (now wanted : PinSet) → HasAllPins now
-    → sum_by (λ (z : List Bool × List Bool). length (zip z.0 z.1)) (zip (pins_of now) (pins_of wanted)) ≤ 131
-unfolding ring_of
-pins_at_most now wanted has = grind (arith, length-zip, has 1, has 2, has 3, has 4, has 5, has 6)
-
-pub pin_room : (m : PinParts) (s : PinDay) (to : List ℕ) → IsMachine (Pin m) → IsLegalPinDay s → length to ≡ 27 → IsOneToOne to
-    → length (planned_lines (Pin m) (OfPins s) to) ≤ 192
-pin_room m s to machine legal count one_to_one =
-    let wheels = zip (pins_of m.pins) (pins_of s.pins) in
-    let differing = λ (z : List Bool × List Bool). count_by (λ (pin : Bool × Bool). differ pin.0 pin.1) (zip z.0 z.1) in
-    let pins = sum_by-le-sum_by differing (λ z. length (zip z.0 z.1)) wheels (λ z. count_by-le-length (λ (pin : Bool × Bool). differ pin.0 pin.1) (zip z.0 z.1)) in
-    let bars = sum_by-le (λ (z : BarRow). bar_cost z.0 z.1) 2 (bars_beside m.bars s.rows to) (λ k d lt. bar_cost_at_most _ _) in
-    let counted = pin_counted m s to (are_movable m s to machine legal count one_to_one) in
-    grind (arith, counted.few, sum-map differing wheels, pins_at_most, length-map, count_by-le-length, length-zip)
+pub few_parts : (m : RotorParts) (s : RotorDay) → IsMachine (Rotor m) → IsLegalRotorDay s
+    → length m.slots + length (box_of m.model) + length s.wheels ≤ 18
+few_parts m s machine legal =
+    omega (arith, few_of m.model, few_of s.model, machine.legal.slots, legal.wheels.count, length-map s.wheels (λ (w : SheetWheel). Some w.wheel))
 
 -- the card
 pub planned : (m : Parts) (s : Day) (costs : List (List ℕ)) (to : List ℕ) (settings : List Setting) (prices : PriceParts) (total : ℕ) (rows columns : List ℤ)
@@ -274,5 +253,3 @@ pub planned : (m : Parts) (s : Day) (costs : List (List ℕ)) (to : List ℕ) (s
     → Fits costs rows columns → price_sum rows columns ≡ pos total → assignment_cost costs to ≡ total → IsPlanned m s settings prices
 planned m s costs to settings prices total rows columns same table kind size one_to_one lines first second many more fits sum cost =
     grind (arith, fold_of_both, sums_alike, due_are (nat_eq total 0) costs total rows columns (how_many prices) refl many more fits sum)
-
-pub ruleset card_made = (planned, prices_of, some_since)

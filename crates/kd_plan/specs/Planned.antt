@@ -109,7 +109,7 @@ abbrev pub target_of : Place × Place → ℕ × ℕ → Place × Place
 target_of bar row = unwrap_or (nearest_standing bar row) bar
 
 -- LUG, of one bar: the left lug goes first where its target lies before the right lug's present place
-abbrev pub lugs_to : ℕ → Place × Place → Place × Place → List Setting
+unfoldable pub lugs_to : ℕ → Place × Place → Place × Place → List Setting
 lugs_to number bar target =
     let left = option_to_list (unless_so (is_at bar.0 target.0) (LugTo number Left target.0)) in
     let right = option_to_list (unless_so (is_at bar.1 target.1) (LugTo number Right target.1)) in

@@ -1,6 +1,7 @@
 //! The lines of bars: the lugs that move, first the one that isn't in the other's way.
-ghost use Rattle.std.specs.Prelude.{◌≡◌, ◌+◌, ◌<◌, ◌≤◌, ◌++◌, length, slice_index_or};
+ghost use Rattle.std.specs.Prelude.{◌≡◌, ◌+◌, ◌*◌, ◌<◌, ◌≤◌, ◌++◌, length, slice_index_or};
 ghost use Rattle.std.specs.List.{AllByRecursion};
+ghost use Rattle.std.specs.Option.{option_to_list};
 ghost use Rattle.arrayvec.specs.ArrayVec.{array_vec_len};
 ghost use Rattle.kd_state.specs.Setting.{is_at};
 ghost use Rattle.kd_plan.specs.Planned.{unless_so, lines_from, lugs_to, lugs_of, bars_beside, target_of};
@@ -20,10 +21,10 @@ pub(crate) fn push_lugs(
 )
     requires few { number + length bars.now < 256 }
     requires within { AllByRecursion (λ j. j < 27) to.now }
-    requires room { let lines = lines_from lugs_of number (bars_beside bars.now rows.now to.now) in
-        array_vec_len settings.old + length lines ≤ 192 }
-    ensures { let lines = lines_from lugs_of number (bars_beside bars.now rows.now to.now) in
-        settings.new.items ≡ settings.old.items ++ lines }
+    requires room { array_vec_len settings.old + 2 * length bars.now ≤ 192 }
+    ensures items { settings.new.items ≡ settings.old.items
+        ++ lines_from lugs_of number (bars_beside bars.now rows.now to.now) }
+    ensures few { array_vec_len settings.new ≤ array_vec_len settings.old + 2 * length bars.now }
 {
     let [bar, bars @ ..] = bars else {
         return;
@@ -32,7 +33,8 @@ pub(crate) fn push_lugs(
         return;
     };
     let target = target_at(*bar, rows, *place);
-    push_lugs_of(settings, number, *bar, target);
+    let (one, other) = lugs(number, *bar, target);
+    push_two(settings, one, other);
     push_lugs(settings, number + 1, bars, rows, to);
 }
 
@@ -45,18 +47,18 @@ fn target_at(bar: Standing, rows: &[Reading; 27], place: u8) -> Standing
     nearest_standing(bar, rows[usize::from(place)])
 }
 
-/// Appends LUG for each lug of a bar that has to move. The left lug goes first where its target lies before the right
-/// lug's present place: else it would have to pass the right one.
-fn push_lugs_of(settings: &mut Settings, number: u8, bar: Standing, target: Standing)
-    requires { array_vec_len settings.old + length (lugs_to number bar target) ≤ 192 }
-    ensures { settings.new.items ≡ settings.old.items ++ lugs_to number bar target }
+/// LUG for each lug of a bar that has to move. The left lug goes first where its target lies before the right lug's present
+/// place: else it would have to pass the right one.
+#[tactic(auto, unfolding(crate::specs::Planned::lugs_to))]
+fn lugs(number: u8, bar: Standing, target: Standing) -> (Option<Setting>, Option<Setting>)
+    ensures { option_to_list result.0 ++ option_to_list result.1 ≡ lugs_to number bar target }
 {
     let left = lug_line(number, Lug::Left, bar.left(), target.left());
     let right = lug_line(number, Lug::Right, bar.right(), target.right());
     if target.left() < bar.right() {
-        push_two(settings, left, right);
+        (left, right)
     } else {
-        push_two(settings, right, left);
+        (right, left)
     }
 }
 

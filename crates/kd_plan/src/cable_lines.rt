@@ -1,5 +1,5 @@
 //! The lines of cables: each loses the letters that its pair hasn't, and then takes those that it lacks.
-ghost use Rattle.std.specs.Prelude.{◌≡◌, ◌+◌, ◌<◌, ◌≤◌, ◌++◌, map, length};
+ghost use Rattle.std.specs.Prelude.{◌≡◌, ◌+◌, ◌*◌, ◌<◌, ◌≤◌, ◌++◌, map, length};
 ghost use Rattle.std.specs.Option.{option_to_list};
 ghost use Rattle.arrayvec.specs.ArrayVec.{array_vec_len};
 ghost use Rattle.kd_tables.specs.Places.{in_order};
@@ -8,7 +8,7 @@ ghost use Rattle.kd_state.specs.Setting.{has_letter};
 ghost use Rattle.kd_state.specs.Costs.{column_letters};
 ghost use Rattle.kd_plan.specs.Planned.{unless_so, besides, letters_apart, lines_from, moves_of};
 
-use super::lines::push_line;
+use super::lines::push_two;
 use kd_state::{Cable, Setting, Settings, column_at, lies_in};
 use kd_tables::Letter;
 
@@ -33,10 +33,10 @@ pub(crate) fn push_moves(
     to: &[u8],
 )
     requires few { number + length cables.now < 256 }
-    requires room { let lines = lines_from (moves_of direction) number (besides cables.now pairs.now to.now) in
-        array_vec_len settings.old + length lines ≤ 192 }
-    ensures { let lines = lines_from (moves_of direction) number (besides cables.now pairs.now to.now) in
-        settings.new.items ≡ settings.old.items ++ lines }
+    requires room { array_vec_len settings.old + 2 * length cables.now ≤ 192 }
+    ensures items { settings.new.items ≡ settings.old.items
+        ++ lines_from (moves_of direction) number (besides cables.now pairs.now to.now) }
+    ensures few { array_vec_len settings.new ≤ array_vec_len settings.old + 2 * length cables.now }
 {
     let [cable, cables @ ..] = cables else {
         return;
@@ -45,34 +45,36 @@ pub(crate) fn push_moves(
         return;
     };
     let column = column_at(pairs, usize::from(*place));
-    push_moves_of(settings, direction, number, cable, &column);
+    let (one, other) = moves(direction, number, cable, &column);
+    push_two(settings, one, other);
     push_moves(settings, direction, number + 1, cables, pairs, to);
 }
 
-/// Appends the moves of one cable: PULL for each of its letters, or PUT for each of the pair's in alphabetical order.
-fn push_moves_of(
-    settings: &mut Settings,
+/// The moves of one cable: PULL for each of its letters, or PUT for each of the pair's in alphabetical order.
+fn moves(
     direction: Direction,
     number: u8,
     cable: &Cable,
     column: &Column,
-)
-    requires { let lines = moves_of direction number (cable.now, column.now) in
-        array_vec_len settings.old + length lines ≤ 192 }
-    ensures { settings.new.items ≡ settings.old.items ++ moves_of direction number (cable.now, column.now) }
+) -> (Option<Setting>, Option<Setting>)
+    ensures { option_to_list result.0 ++ option_to_list result.1
+        ≡ moves_of direction number (cable.now, column.now) }
 {
     match direction {
-        Direction::Out => {
-            push_line(settings, pull_line(number, cable.0, *column));
-            push_line(settings, pull_line(number, cable.1, *column));
-        }
-        Direction::In => {
-            if let Some((one, other)) = *column {
+        Direction::Out => (
+            pull_line(number, cable.0, *column),
+            pull_line(number, cable.1, *column),
+        ),
+        Direction::In => match *column {
+            Some((one, other)) => {
                 let (first, second) = ordered(one, other);
-                push_line(settings, put_line(number, *cable, first));
-                push_line(settings, put_line(number, *cable, second));
+                (
+                    put_line(number, *cable, first),
+                    put_line(number, *cable, second),
+                )
             }
-        }
+            None => (None, None),
+        },
     }
 }
 

@@ -1,5 +1,5 @@
 //! The lines of a card, one after another.
-ghost use Rattle.std.specs.Prelude.{◌≡◌, ◌+◌, ◌≤◌, ◌++◌, length};
+ghost use Rattle.std.specs.Prelude.{◌≡◌, ◌+◌, ◌≤◌, ◌++◌};
 ghost use Rattle.std.specs.Option.{option_to_list};
 ghost use Rattle.arrayvec.specs.ArrayVec.{array_vec_len};
 
@@ -7,8 +7,9 @@ use kd_state::{Setting, Settings};
 
 /// Appends a line, if there is one.
 pub(crate) fn push_line(settings: &mut Settings, line: Option<Setting>)
-    requires { array_vec_len settings.old + length (option_to_list line) ≤ 192 }
-    ensures { settings.new.items ≡ settings.old.items ++ option_to_list line }
+    requires { array_vec_len settings.old + 1 ≤ 192 }
+    ensures items { settings.new.items ≡ settings.old.items ++ option_to_list line }
+    ensures few { array_vec_len settings.new ≤ array_vec_len settings.old + 1 }
 {
     if let Some(line) = line {
         settings.push(line);
@@ -17,8 +18,9 @@ pub(crate) fn push_line(settings: &mut Settings, line: Option<Setting>)
 
 /// Appends one line and then another one, so far as there are.
 pub(crate) fn push_two(settings: &mut Settings, one: Option<Setting>, other: Option<Setting>)
-    requires { array_vec_len settings.old + length (option_to_list one ++ option_to_list other) ≤ 192 }
-    ensures { settings.new.items ≡ settings.old.items ++ (option_to_list one ++ option_to_list other) }
+    requires { array_vec_len settings.old + 2 ≤ 192 }
+    ensures items { settings.new.items ≡ settings.old.items ++ (option_to_list one ++ option_to_list other) }
+    ensures few { array_vec_len settings.new ≤ array_vec_len settings.old + 2 }
 {
     push_line(settings, one);
     push_line(settings, other);

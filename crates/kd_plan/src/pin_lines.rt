@@ -11,8 +11,9 @@ use kd_tables::{Letter, ring1, ring2, ring3, ring4, ring5, ring6};
 
 /// Appends PIN for each pin that isn't as the day has it, wheel by wheel.
 pub(crate) fn push_pins(settings: &mut Settings, present: &PinSet, wanted: &PinSet)
-    requires { array_vec_len settings.old + length (pin_lines present.now wanted.now) ≤ 192 }
-    ensures { settings.new.items ≡ settings.old.items ++ pin_lines present.now wanted.now }
+    requires { array_vec_len settings.old + 131 ≤ 192 }
+    ensures items { settings.new.items ≡ settings.old.items ++ pin_lines present.now wanted.now }
+    ensures few { array_vec_len settings.new ≤ array_vec_len settings.old + 131 }
 {
     push_wheel_pins(settings, 1, &ring1().letters(), &present.w1, &wanted.w1);
     push_wheel_pins(settings, 2, &ring2().letters(), &present.w2, &wanted.w2);
@@ -30,10 +31,10 @@ pub(crate) fn push_pin_turns(
     window: &[Letter],
 )
     requires few { number + length letters.now < 256 }
-    requires room { let lines = lines_from pin_turn_of number (zip letters.now window.now) in
-        array_vec_len settings.old + length lines ≤ 192 }
-    ensures { let lines = lines_from pin_turn_of number (zip letters.now window.now) in
-        settings.new.items ≡ settings.old.items ++ lines }
+    requires room { array_vec_len settings.old + length letters.now ≤ 192 }
+    ensures items { settings.new.items ≡ settings.old.items
+        ++ lines_from pin_turn_of number (zip letters.now window.now) }
+    ensures few { array_vec_len settings.new ≤ array_vec_len settings.old + length letters.now }
 {
     let [present, letters @ ..] = letters else {
         return;
@@ -53,10 +54,10 @@ fn push_wheel_pins(
     present: &[bool],
     wanted: &[bool],
 )
-    requires { let lines = wheel_pin_lines wheel ring.now present.now wanted.now in
-        array_vec_len settings.old + length lines ≤ 192 }
-    ensures { let lines = wheel_pin_lines wheel ring.now present.now wanted.now in
-        settings.new.items ≡ settings.old.items ++ lines }
+    requires { array_vec_len settings.old + length ring.now ≤ 192 }
+    ensures items { settings.new.items ≡ settings.old.items
+        ++ wheel_pin_lines wheel ring.now present.now wanted.now }
+    ensures few { array_vec_len settings.new ≤ array_vec_len settings.old + length ring.now }
 {
     let [letter, ring @ ..] = ring else {
         return;

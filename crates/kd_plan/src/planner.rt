@@ -1,5 +1,6 @@
-ghost use Rattle.std.specs.Prelude.{◌≡◌, ◌≢◌, ◌<◌, ◌≤◌, IfOk, IsErr, MatchOption, ◌↔◌, length};
+ghost use Rattle.std.specs.Prelude.{◌≡◌, ◌≢◌, ◌+◌, ◌<◌, ◌≤◌, IfOk, IsErr, MatchOption, ◌↔◌, length};
 ghost use Rattle.std.specs.List.{AllByRecursion};
+ghost use Rattle.kd_tables.specs.Tables.{box_of};
 ghost use Rattle.kd_state.specs.Machine.{IsMachine, model_of};
 ghost use Rattle.kd_state.specs.SheetDay.{OfRotors, OfPins, IsLegalDay, day_model};
 ghost use Rattle.kd_state.specs.Entry.{rotor_values, pin_values};
@@ -49,7 +50,6 @@ fn planned_card(machine: &Machine, day: &SheetDay) -> Option<Card>
 }
 
 /// The card of a rotor machine.
-#[tactic(auto, using(crate::proofs::Planning::card_made))]
 fn rotor_card(machine: &Machine, parts: &RotorParts, entry: &RotorEntry) -> Card
     requires parts { machine.now ≡ Parts.Rotor parts.now }
     requires machine { IsMachine (Parts.Rotor parts.now) }
@@ -72,7 +72,6 @@ fn rotor_card(machine: &Machine, parts: &RotorParts, entry: &RotorEntry) -> Card
 }
 
 /// The card of a Converter M-209.
-#[tactic(auto, using(crate::proofs::Planning::card_made))]
 fn pin_card(parts: &PinParts, entry: &PinEntry) -> Card
     requires machine { IsMachine (Parts.Pin parts.now) }
     requires legal { IsLegalDay (OfPins (pin_values entry.now)) }
@@ -100,11 +99,8 @@ fn rotor_settings(
     to: &[u8; 13],
 ) -> Settings
     requires parts { machine.now ≡ Parts.Rotor parts.now }
-    requires machine { IsMachine (Parts.Rotor parts.now) }
-    requires legal { IsLegalDay (OfRotors (rotor_values entry.now)) }
-    requires model { parts.now.model ≡ entry.now.model }
-    requires room { length (planned_lines (Parts.Rotor parts.now)
-        (OfRotors (rotor_values entry.now)) to.now) ≤ 192 }
+    requires few { length parts.now.slots + length (box_of parts.now.model)
+        + length entry.now.wheels ≤ 18 }
     ensures { result.items
         ≡ planned_lines (Parts.Rotor parts.now) (OfRotors (rotor_values entry.now)) to.now }
 {
@@ -122,10 +118,7 @@ fn rotor_settings(
 
 /// What differs from the day on a Converter M-209, line by line, the bars being made to read as the rows of these places.
 fn pin_settings(parts: &PinParts, entry: &PinEntry, to: &[u8; 27]) -> Settings
-    requires legal { IsLegalDay (OfPins (pin_values entry.now)) }
-    requires within { AllByRecursion (λ j. j < 27) to.now }
-    requires room { length (planned_lines (Parts.Pin parts.now)
-        (OfPins (pin_values entry.now)) to.now) ≤ 192 }
+    requires { AllByRecursion (λ j. j < 27) to.now }
     ensures { result.items
         ≡ planned_lines (Parts.Pin parts.now) (OfPins (pin_values entry.now)) to.now }
 {

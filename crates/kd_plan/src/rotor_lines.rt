@@ -19,10 +19,10 @@ pub(crate) fn push_seats(
     wheels: &[SheetWheel],
 )
     requires few { number + length slots.now < 256 }
-    requires room { let lines = lines_from seat_of number (zip slots.now wheels.now) in
-        array_vec_len settings.old + length lines ≤ 192 }
-    ensures { let lines = lines_from seat_of number (zip slots.now wheels.now) in
-        settings.new.items ≡ settings.old.items ++ lines }
+    requires room { array_vec_len settings.old + length slots.now ≤ 192 }
+    ensures items { settings.new.items ≡ settings.old.items
+        ++ lines_from seat_of number (zip slots.now wheels.now) }
+    ensures few { array_vec_len settings.new ≤ array_vec_len settings.old + length slots.now }
 {
     let [seated, slots @ ..] = slots else {
         return;
@@ -36,8 +36,9 @@ pub(crate) fn push_seats(
 
 /// Appends REFLECTOR, unless it is the day's.
 pub(crate) fn push_reflector(settings: &mut Settings, present: Reflector, wanted: Reflector)
-    requires { array_vec_len settings.old + length (reflector_lines present wanted) ≤ 192 }
-    ensures { settings.new.items ≡ settings.old.items ++ reflector_lines present wanted }
+    requires { array_vec_len settings.old + 1 ≤ 192 }
+    ensures items { settings.new.items ≡ settings.old.items ++ reflector_lines present wanted }
+    ensures few { array_vec_len settings.new ≤ array_vec_len settings.old + 1 }
 {
     push_line(settings, reflector_line(present, wanted));
 }
@@ -51,10 +52,10 @@ pub(crate) fn push_rings(
     wheels: &[SheetWheel],
 )
     requires machine { machine.now ≡ Rotor parts.now }
-    requires room { let lines = flat_map (ring_of_wheel parts.now wheels.now) boxed.now in
-        array_vec_len settings.old + length lines ≤ 192 }
-    ensures { let lines = flat_map (ring_of_wheel parts.now wheels.now) boxed.now in
-        settings.new.items ≡ settings.old.items ++ lines }
+    requires room { array_vec_len settings.old + length boxed.now ≤ 192 }
+    ensures items { settings.new.items ≡ settings.old.items
+        ++ flat_map (ring_of_wheel parts.now wheels.now) boxed.now }
+    ensures few { array_vec_len settings.new ≤ array_vec_len settings.old + length boxed.now }
 {
     if let [wheel, rest @ ..] = boxed {
         push_line(settings, ring_line(machine, wheel_of(wheels, *wheel)));
@@ -72,10 +73,10 @@ pub(crate) fn push_turns(
 )
     requires machine { machine.now ≡ Rotor parts.now }
     requires few { number + length wheels.now < 256 }
-    requires room { let lines = lines_from (turn_of parts.now) number wheels.now in
-        array_vec_len settings.old + length lines ≤ 192 }
-    ensures { let lines = lines_from (turn_of parts.now) number wheels.now in
-        settings.new.items ≡ settings.old.items ++ lines }
+    requires room { array_vec_len settings.old + length wheels.now ≤ 192 }
+    ensures items { settings.new.items ≡ settings.old.items
+        ++ lines_from (turn_of parts.now) number wheels.now }
+    ensures few { array_vec_len settings.new ≤ array_vec_len settings.old + length wheels.now }
 {
     if let [wheel, rest @ ..] = wheels {
         push_line(settings, turn_line(machine, number, *wheel));

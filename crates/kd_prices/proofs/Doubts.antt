@@ -49,7 +49,7 @@ module _ (one : LeadsToOne) (m : Parts) (settings : List Setting) where
       let counts = ap length same.0 in
       let lines : line ≡ other = omega (arith, a.number, b.number) in
       ap (λ l. Err (IllegalAt l why)) lines ∙ ap (λ w. Err (IllegalAt other w)) whys
-  only_carried v w a b = grind arith
+  only_carried v w a b = absurd (assumption)
 
 module _ (costs : List (List ℕ)) (prices : PriceParts) where
   only_fits : IsOnly (SaysFits costs prices)
@@ -67,7 +67,7 @@ module _ (m : Parts) (s : Day) (settings : List Setting) where
       let counts = ap length same.0 in
       let lines : line ≡ other = omega (arith, a.number, b.number) in
       ap (λ l. Err (NeedlessLine l)) lines
-  only_needed v w a b = grind arith
+  only_needed v w a b = absurd (assumption)
 
 -- ---- the whole check
 

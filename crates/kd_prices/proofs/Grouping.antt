@@ -73,11 +73,9 @@ pub grouped_none : (looks : List Look) (prices : List ℤ) → All IsInForm look
 grouped_none looks prices form = record {
   in_order = tt;
   called = λ name all. tt;
-  count = omega (
-    arith,
-    all_counted (below 703) looks
-        (All-weaker IsInForm (λ look. below 703 look ≡ true) (λ look e. lt-ltb (look_rank look) 703 (low_look look e)) looks form),
-  );
+  count =
+      let low = All-weaker IsInForm (λ look. below 703 look ≡ true) (λ look e. lt-ltb (look_rank look) 703 (low_look look e)) looks form in
+      omega (arith, all_counted (below 703) looks low);
   counts = All-nil (HasCount looks);
   each = λ alike place inside high. absurd (omega (arith, low_look _ (All-get_or IsInForm looks place (Pair None) inside form)));
 }

@@ -41,7 +41,7 @@ fn copied(settings: &Settings) -> Settings
 }
 
 /// The same prices by kind, if they can be.
-#[tactic(auto, using(kd_card::proofs::KindPrices::size_of, crate::proofs::Things::rows_are_things, crate::proofs::Things::columns_are_things, crate::proofs::Things::groups_meet))]
+#[tactic(auto, using(kd_card::proofs::KindPrices::size_of))]
 fn prices_by_kind(machine: &Machine, day: &SheetDay, prices: &Prices) -> Option<Prices>
     ensures { MatchOption result
         (¬ (CanBeByKind machine.now day.now prices.now))

@@ -23,14 +23,15 @@ pub(crate) fn row_looks(machine: &Machine) -> ArrayVec<Look, 27>
             for ends in &parts.cables {
                 looks.push(Look::Cable(*ends));
             }
+            looks
         }
         Parts::Pin(parts) => {
             for standing in &parts.bars {
                 looks.push(Look::Bar(*standing));
             }
+            looks
         }
     }
-    looks
 }
 
 /// The looks of the day's pairs and nothings, or of its rows.
@@ -44,14 +45,15 @@ pub(crate) fn column_looks(day: &SheetDay) -> ArrayVec<Look, 27>
             for place in 0..13 {
                 looks.push(Look::Pair(in_order(column_at(entry.pairs.as_slice(), place))));
             }
+            looks
         }
         Entry::Pin(entry) => {
             for reading in &entry.rows {
                 looks.push(Look::Row(*reading));
             }
+            looks
         }
     }
-    looks
 }
 
 /// The pair with its letters in alphabetical order.

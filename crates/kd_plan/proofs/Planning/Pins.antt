@@ -173,6 +173,7 @@ module _ (m : PinParts) where
 
     lugs_led : (bar target : Place × Place) → IsBefore bar.0 bar.1 → IsBefore target.0 target.1
         → Led (with_bar bar) (lugs_to bar_number bar target) (with_bar target)
+    unfolding lugs_to
     lugs_led bar target stands wanted =
         let left = option_to_list (unless_so (is_at bar.0 target.0) (LugTo bar_number Left target.0)) in
         let right = option_to_list (unless_so (is_at bar.1 target.1) (LugTo bar_number Right target.1)) in

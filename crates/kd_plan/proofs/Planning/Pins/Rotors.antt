@@ -3,15 +3,15 @@
 pub use Rattle.kd_assign.specs.Assignment.{IsOneToOne, assignment_cost}
 pub use Rattle.kd_assign.specs.Prices.{CostsAtMost, Fits, cost_at, price_at, price_sum, sum_of}
 pub use Rattle.kd_card.proofs.{Counts.once_of_distinct, Counts.times, Duality.fold_of_both, Duality.sum_of as card_sum}
-pub use Rattle.kd_card.proofs.{Falling.unless_same_at_most, Leading.leads_join}
-pub use Rattle.kd_card.proofs.Shortest.{as_few_are_needed, no_rotors, proving_cards_are_shortest}
-pub use Rattle.kd_card.specs.Prices.{ArePrices, column_kinds, column_prices, how_many, row_kinds, row_prices}
+pub use Rattle.kd_card.proofs.{Leading.leads_join, Shortest.as_few_are_needed, Shortest.no_rotors}
+pub use Rattle.kd_card.proofs.Shortest.{proving_cards_are_shortest}
+pub use Rattle.kd_card.specs.Prices.{ArePrices, column_prices, how_many, row_prices}
 pub use Rattle.kd_card.specs.Proving.{AreOfKind, LeadsToTheDay, Proves, Same, is_priced, priced_count}
 pub use Rattle.{kd_card.specs.declared.prices.PriceParts.PriceParts, kd_enigma.specs.Plugs.letters_plugged}
 pub use Rattle.kd_pins.specs.{PinWheels.pins_of, declared.pin_set.PinSet.PinSet}
 pub use Rattle.kd_plan.specs.{Due.prices_due, Laws.PlannedCardsProve, Laws.PlannedLinesLead}
 pub use Rattle.kd_plan.specs.Planned.{IsPlanned, Plans, bars_beside, besides, letters_apart, letters_due, lines_from}
-pub use Rattle.kd_plan.specs.Planned.{lugs_of, lugs_to, moves_of, pin_lines, pin_of, pin_turn_lines, pin_turn_of}
+pub use Rattle.kd_plan.specs.Planned.{lugs_of, moves_of, pin_lines, pin_of, pin_turn_lines, pin_turn_of}
 pub use Rattle.kd_plan.specs.Planned.{planned_lines, reflector_lines, ring_lines, ring_of_wheel, seat_lines, seat_of}
 pub use Rattle.kd_plan.specs.Planned.{table_size, target_of, turn_lines, turn_of, unless_so, wheel_pin_lines}
 pub use Rattle.kd_plan.specs.declared.cable_lines.Direction.TheVariants.{In, Out}
@@ -23,7 +23,7 @@ pub use Rattle.kd_state.proofs.Wheels.{has_wheel-Decides, place_within, same_ref
 pub use Rattle.kd_state.proofs.Wheels.{same_wheel_differs, same_wheel_self}
 pub use Rattle.kd_state.specs.Costs.{bar_cost, cable_cost, column_letters, columns_of, cost_table, differ, loose_count}
 pub use Rattle.kd_state.specs.Costs.{loose_rings, lugs_moved, reads_as_row, unless_same}
-pub use Rattle.kd_state.specs.{Entry.pin_values, Entry.rotor_values, Machine.AreOnWheels, Machine.HasAllPins}
+pub use Rattle.kd_state.specs.{Entry.rotor_values, Machine.AreOnWheels, Machine.HasAllPins}
 pub use Rattle.kd_state.specs.Machine.{IsMachine, StandsAt, cable_letters, model_of, plugged_letters, ring_at}
 pub use Rattle.kd_state.specs.OnKey.{AreThePairs, IsPaired, Joins, OnKey}
 pub use Rattle.kd_state.specs.{Pins.pin_set, Pins.with_pin, Setting.Leads, Setting.cable_with, Setting.cable_without}
@@ -34,7 +34,7 @@ pub use Rattle.kd_state.specs.ToldApart.{has_wheel, numbered, place_in_box, same
 pub use Rattle.kd_state.specs.declared.machine.parts.Parts.{Parts, TheVariants.Pin, TheVariants.Rotor}
 pub use Rattle.kd_state.specs.declared.machine.{pin_parts.PinParts.PinParts, rotor_parts.RotorParts.RotorParts}
 pub use Rattle.kd_state.specs.declared.setting.Setting.{Setting}
-pub use Rattle.kd_state.specs.declared.setting.Setting.TheVariants.{LugTo, Pull, Put, RingTo, SeatReflector, Turn}
+pub use Rattle.kd_state.specs.declared.setting.Setting.TheVariants.{LugTo, Put, SeatReflector}
 pub use Rattle.kd_state.specs.declared.sheet_day.rotor_entry.SheetWheel.{SheetWheel}
 pub use Rattle.kd_tables.specs.Permutation.{alphabet}
 pub use Rattle.kd_tables.specs.Places.{IsBefore, IsReading, place_rank, places, reading_of, standings}
@@ -45,13 +45,12 @@ pub use Rattle.kd_tables.specs.declared.{reflector.Reflector.Reflector, wheel.Wh
 pub use Rattle.std.proofs.Common.{All, AllPairs, Any, Bool, Contains, IsPermutation, List, None, Option, Some, [], ap}
 pub use Rattle.std.proofs.Common.{append_assoc, arith, cond, count_by, drop, drop-cons, eqb-true, false, filter, find}
 pub use Rattle.std.proofs.Common.{flat_map, fold, get_or, inl, inr, is_some, length, length-append, ltb-false, ltb-true}
-pub use Rattle.std.proofs.Common.{map, max, min, nat_eq, nat_le}
-pub use Rattle.std.proofs.Common.{nat_lt, not, option_and_then, option_to_list, pos, refl, remove, replicate, rules}
-pub use Rattle.std.proofs.Common.{set, slice_get, subst, suc, sum_by, sym, take, true, unsigned_abs, unwrap_or}
-pub use Rattle.std.proofs.Common.{zero, zip, ℕ, ℤ, ◌&&◌, ◌++◌, ◌+ℤ◌, ◌+◌, ◌-◌, ◌<◌, ◌||◌, ◌∙◌, ◌∷◌, ◌≡◌, ◌≢◌, ◌≤ℤ◌, ◌≤◌}
-pub use Rattle.std.proofs.lemmas.Bool.{cases_eq, cond_both, some_since, Decides.nat_tests}
+pub use Rattle.std.proofs.Common.{map, max, min, nat_eq, nat_le, nat_lt, not, option_to_list, pos, refl, remove}
+pub use Rattle.std.proofs.Common.{replicate, set, slice_get, subst, suc, sum_by, sym, take, true, unwrap_or, zero, zip}
+pub use Rattle.std.proofs.Common.{ℕ, ℤ, ◌&&◌, ◌++◌, ◌+ℤ◌, ◌+◌, ◌-◌, ◌<◌, ◌||◌, ◌∙◌, ◌∷◌, ◌≡◌, ◌≢◌, ◌≤ℤ◌, ◌≤◌}
+pub use Rattle.std.proofs.lemmas.Bool.{cases_eq, cond_both, Decides.nat_tests}
 pub use Rattle.std.proofs.lemmas.{Grind.common_steps, Grind.flat_map-append, Int.ints, List.append-nil}
-pub use Rattle.std.proofs.lemmas.List.{get_or-map, get_or-replicate, get_or_at, get_or_default, length-map, length-set}
+pub use Rattle.std.proofs.lemmas.List.{get_or-map, get_or-replicate, get_or_at, length-map, length-set}
 pub use Rattle.std.proofs.lemmas.List.{map-append, set-get_or, set_at, take-append-drop, Edits.length-remove}
 pub use Rattle.std.proofs.lemmas.List.Elements.{All-append, All-filter, All-from_recursion, All-map}
 pub use Rattle.std.proofs.lemmas.List.Elements.{All-replicate, Contains-append_left, filter_passes, recursion_from_All}
@@ -60,13 +59,14 @@ pub use Rattle.std.proofs.lemmas.List.FromFn.{fill_by_all, get_or-range_with_len
 pub use Rattle.std.proofs.lemmas.List.{Quantifiers.all_pairs_remove, Recursion.found_at, Sorted.Contains-permutation}
 pub use Rattle.std.proofs.lemmas.List.Sorted.{IsPermutation-cons, IsPermutation-map, IsPermutation-refl}
 pub use Rattle.std.proofs.lemmas.List.Sorted.{IsPermutation-remove, IsPermutation-sym, IsPermutation-trans}
-pub use Rattle.std.proofs.lemmas.List.{Sorted.sum_by-IsPermutation, Sums.AllPass-from_list_all, Sums.count_by-le-length}
-pub use Rattle.std.proofs.lemmas.List.Sums.{fold_push, length-filter, sum-map, sum_by-append, sum_by-cons, sum_by-le}
+pub use Rattle.std.proofs.lemmas.List.{Sorted.sum_by-IsPermutation, Sums.AllPass-from_list_all}
+pub use Rattle.std.proofs.lemmas.List.Sums.{fold_push, length-filter, sum-map, sum_by-append, sum_by-cons}
 pub use Rattle.std.proofs.lemmas.{List.Sums.sum_by-le-sum_by, Map.Made.Contains-tail}
 pub use Rattle.std.proofs.lemmas.Option.{get_or_from_slice_get, slice_get-get_or, slice_get-map, slice_get_within}
 pub use Rattle.std.proofs.lemmas.{Simd.map-map, Slice.Zip.firsts-zip, Slice.Zip.length-zip, Slice.Zip.seconds-zip}
 pub use Rattle.std.specs.{List.AllByRecursion, List.range_with_len, Option.option_map_or}
-unfoldable pub use Rattle.{kd_state.specs.Costs.standings_as, kd_tables.specs.Rings.ring_of, std.specs.List.IsDistinct}
+unfoldable pub use Rattle.{kd_plan.specs.Planned.lugs_to, kd_state.specs.Costs.standings_as}
+unfoldable pub use Rattle.{kd_tables.specs.Rings.ring_of, std.specs.List.IsDistinct}
 
 -- as many different ones of some numbers as there are, are all of them in another order
 reordered : (js xs : List ℕ) → AllPairs (λ j k. j ≢ k) js → All (Contains xs) js → length js ≡ length xs

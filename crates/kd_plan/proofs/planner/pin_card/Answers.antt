@@ -1,15 +1,13 @@
-use Rattle.kd_plan.proofs.Planning.{arith, bar_cost, bar_cost_at_most, pin_room, pin_values, recursion_from_All, rules, table_at_most, ◌<◌}
+use Rattle.kd_plan.proofs.Planning.{arith, bar_cost, bar_cost_at_most, planned, recursion_from_All, table_at_most, ◌<◌}
 use Rattle.kd_plan.proofs.planner.pin_card.Goals as goal
 
 pub assign-total-requires : goal.assign-total-requires
 assign-total-requires c =
     grind (arith, table_at_most bar_cost 2 (omega arith) bar_cost_at_most _ _ _ c.bar_costs-costs.ensures)
 
-pub pin_settings-settings-requires-clause-within : goal.pin_settings-settings-requires-clause-within
-pin_settings-settings-requires-clause-within c =
+pub pin_settings-settings-requires : goal.pin_settings-settings-requires
+pin_settings-settings-requires c =
     recursion_from_All (λ j. j < 27) _ (λ k d lt. omega (arith, c.assign-total.ensures.one_to_one.in_range k d lt))
 
-pub pin_settings-settings-requires-clause-room : goal.pin_settings-settings-requires-clause-room
-pin_settings-settings-requires-clause-room c =
-    pin_room c.args.parts.now (pin_values c.args.entry.now) _ c.requires.machine c.requires.legal (search rules)
-    c.assign-total.ensures.one_to_one
+pub returns : goal.returns
+returns c = grind (arith, planned)

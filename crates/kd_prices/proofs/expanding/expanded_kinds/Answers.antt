@@ -1,6 +1,17 @@
 use Rattle.kd_prices.proofs.Prelude.{◌≡◌, sym, subst, ArePrices, Expands, group_of}
 use Rattle.{kd_card.specs.CardFault.numbered, kd_prices.proofs.Meaning.expands_kinds}
+use Rattle.kd_prices.proofs.Things.{columns_are_things, groups_meet, rows_are_things}
 use Rattle.kd_prices.proofs.expanding.expanded_kinds.Goals as goal
+
+pub numbered-requires-clause-rows : goal.numbered-requires-clause-rows
+numbered-requires-clause-rows c =
+    let many = (rows_are_things c.args.machine.now c.row_looks.ensures.machine).count in let each = c.in_ok-rows.ensures.0.number in cc
+
+pub numbered-requires-clause-columns : goal.numbered-requires-clause-columns
+numbered-requires-clause-columns c =
+    let many = (columns_are_things c.columns_are_the_pairs.ensures.count c.args.day.now c.column_looks.ensures.day).count in
+    let meet = groups_meet c.args.machine.now c.args.day.now c.row_looks.ensures.machine c.column_looks.ensures.day c.requires.model.model in
+    let each = c.in_ok-columns.ensures.0.number in cc
 
 pub returns : goal.returns
 returns c =
