@@ -198,11 +198,6 @@ same_settings x y e d g =
 pub setting_has_words : (x : Setting) → (2 ≤ length (setting_words x)) × (length (setting_words x) ≤ 4)
 setting_has_words x = elim x as (λ y. (2 ≤ length (setting_words y)) × (length (setting_words y) ≤ 4)) [ Pull c l ↦ (omega arith, omega arith) | _ ↦ (omega arith, omega arith) ]
 
-pub no_form : (form : List ℕ) (rest : List (List ℕ)) → ((f : Keyword) → keyword_text f ≢ form) → (x : Setting) → IsInRange x → setting_words x ≢ form ∷ rest
-no_form form rest none (Pull c l) r e = none keywords.Pull (cc)
-no_form form rest none x r e =
-    grind (arith, none keywords.Put, none keywords.Seat, none keywords.SeatReflector, none keywords.RingTo, none keywords.Turn, none keywords.PinTo, none keywords.LugTo)
-
 -- ---- the words of a text that is a setting's line
 
 words_of_line : (x : Setting) (text : List ℕ) → IsInRange x → setting_line x ≡ text → setting_words x ≡ words_of text

@@ -1,32 +1,35 @@
-ghost use Rattle.std.specs.Prelude.{◌≡◌, ◌↔◌, IsTrue, IsPermutation, All, true, [], ◌∷◌};
+ghost use Rattle.std.specs.Prelude.{◌≡◌, ◌↔◌, IsTrue, IsPermutation, Some, true, [], ◌∷◌};
+ghost use Rattle.std.specs.List.{AllByRecursion};
 ghost use Rattle.std.specs.Option.{option_map_or};
-ghost use Rattle.kd_state.specs.Entry.{pin_values};
-ghost use Rattle.kd_state.specs.OnKey.{IsPinOnKey, AreThePairs, IsPaired, IsJoined, Joins};
+ghost use Rattle.kd_state.specs.Entry.{rotor_values, pin_values};
+ghost use Rattle.kd_state.specs.Machine.{ring_at, letter_at, IsLegalRotor};
+ghost use Rattle.kd_state.specs.OnKey.{IsRotorOnKey, IsPinOnKey, AreThePairs, IsPaired, IsJoined, Joins};
 ghost use Rattle.kd_state.specs.Setting.{has_letter};
+ghost use Rattle.kd_state.specs.SheetDay.{seats};
 
 use crate::machine::Machine;
 use crate::machine::cable::{Cable, lies_in};
 use crate::machine::parts::Parts;
+use crate::machine::per_slot::PerSlot;
 use crate::machine::pin_parts::{PinParts, readings_of};
+use crate::machine::readers::of_wheel;
 use crate::machine::rotor_parts::RotorParts;
 use crate::sheet_day::SheetDay;
 use crate::sheet_day::entry::Entry;
 use crate::sheet_day::pin_entry::PinEntry;
 use crate::sheet_day::rotor_entry::{RotorEntry, SheetWheel};
-use kd_tables::{Letter, Reading};
+use kd_tables::{Letter, Reading, Wheel};
 
 impl Machine {
-    ghost use Rattle.std.specs.Prelude.{◌≡◌, ◌↔◌, IsTrue, All, Some};
-    ghost use Rattle.kd_state.specs.Machine.{ring_in, letter_in};
-    ghost use Rattle.kd_state.specs.OnKey.{IsRotorOnKey, OnKey, ReadsAs, ShowsWindow};
-    ghost use Rattle.kd_state.specs.Entry.{rotor_values};
+    ghost use Rattle.std.specs.Prelude.{◌↔◌, IsTrue};
+    ghost use Rattle.kd_state.specs.OnKey.{OnKey, ReadsAs, ShowsWindow};
 
     /// Whether the machine is set as the day says, whatever letters show.
     pub fn on_key(&self, day: &SheetDay) -> bool
         ensures { IsTrue result ↔ OnKey self.now day.now }
     {
         match (self.parts(), day.entry()) {
-            (Parts::Rotor(parts), Entry::Rotor(entry)) => self.is_rotor_on_key(parts, entry),
+            (Parts::Rotor(parts), Entry::Rotor(entry)) => is_rotor_on_key(parts, entry),
             (Parts::Pin(parts), Entry::Pin(entry)) => is_pin_on_key(parts, entry),
             _ => false,
         }
@@ -44,46 +47,67 @@ impl Machine {
         ensures { IsTrue result ↔ ShowsWindow self.now day.now }
     {
         match (self.parts(), day.entry()) {
-            (Parts::Rotor(_), Entry::Rotor(entry)) => self.shows_letters(entry.wheels.as_slice()),
+            (Parts::Rotor(parts), Entry::Rotor(entry)) => {
+                show_letters(parts, entry.wheels.as_slice())
+            }
             (Parts::Pin(parts), Entry::Pin(entry)) => parts.letters == entry.window,
             _ => false,
         }
     }
+}
 
-    /// Whether each slot has the day's wheel with the day's ring, and reflector and cables are the day's.
-    fn is_rotor_on_key(&self, parts: &RotorParts, entry: &RotorEntry) -> bool
-        requires { self.now ≡ Parts.Rotor parts.now }
-        ensures { IsTrue result ↔ IsRotorOnKey parts.now (rotor_values entry.now) }
-    {
-        let seats = entry.seats();
-        if parts.model != entry.model || parts.reflector != entry.reflector {
-            return false;
-        }
-        if parts.slots.as_slice() != seats.as_slice() {
-            return false;
-        }
-        if !self.has_rings(entry.wheels.as_slice()) {
-            return false;
-        }
-        are_the_pairs(&parts.cables, entry.pairs.as_slice())
+/// Whether each slot has the day's wheel with the day's ring, and reflector and cables are the day's.
+fn is_rotor_on_key(parts: &RotorParts, entry: &RotorEntry) -> bool
+    requires { IsLegalRotor parts.now }
+    ensures { IsTrue result ↔ IsRotorOnKey parts.now (rotor_values entry.now) }
+{
+    if parts.model != entry.model || parts.reflector != entry.reflector {
+        return false;
     }
-
-    /// Whether each wheel has its ring, wherever it lies.
-    fn has_rings(&self, wheels: &[SheetWheel]) -> bool
-        ensures { IsTrue result ↔ All (λ w. ring_in self.now w.wheel ≡ Some w.ring) wheels.now }
-    {
-        wheels
-            .iter()
-            .all(|seated| self.ring(seated.wheel) == Some(seated.ring))
+    if !have_seats(&parts.slots, &entry.wheels) {
+        return false;
     }
+    if !has_rings(parts, entry.wheels.as_slice()) {
+        return false;
+    }
+    are_the_pairs(&parts.cables, entry.pairs.as_slice())
+}
 
-    /// Whether each wheel shows its letter, wherever it lies.
-    fn shows_letters(&self, wheels: &[SheetWheel]) -> bool
-        ensures { IsTrue result ↔ All (λ w. letter_in self.now w.wheel ≡ Some w.letter) wheels.now }
-    {
-        wheels
-            .iter()
-            .all(|seated| self.letter(seated.wheel) == Some(seated.letter))
+/// Whether the wheels are those in the slots.
+fn have_seats(slots: &PerSlot<Option<Wheel>>, wheels: &PerSlot<SheetWheel>) -> bool
+    ensures { IsTrue result ↔ (slots.now ≡ seats wheels.now) }
+{
+    let seats = wheels.seats();
+    slots.as_slice() == seats.as_slice()
+}
+
+/// Whether each wheel has its ring, wherever it lies.
+fn has_rings(parts: &RotorParts, wheels: &[SheetWheel]) -> bool
+    requires { IsLegalRotor parts.now }
+    ensures { IsTrue result
+        ↔ AllByRecursion (λ w. ring_at parts.now w.wheel ≡ Some w.ring) wheels.now }
+{
+    match wheels {
+        [] => true,
+        [first, rest @ ..] => {
+            of_wheel(parts.model, &parts.rings, first.wheel) == Some(first.ring)
+                && has_rings(parts, rest)
+        }
+    }
+}
+
+/// Whether each wheel shows its letter, wherever it lies.
+fn show_letters(parts: &RotorParts, wheels: &[SheetWheel]) -> bool
+    requires { IsLegalRotor parts.now }
+    ensures { IsTrue result
+        ↔ AllByRecursion (λ w. letter_at parts.now w.wheel ≡ Some w.letter) wheels.now }
+{
+    match wheels {
+        [] => true,
+        [first, rest @ ..] => {
+            of_wheel(parts.model, &parts.letters, first.wheel) == Some(first.letter)
+                && show_letters(parts, rest)
+        }
     }
 }
 
@@ -113,21 +137,22 @@ fn are_the_pairs(cables: &[Cable], pairs: &[(Letter, Letter)]) -> bool
 
 /// Whether each cable is empty or joins one of the pairs.
 fn are_paired(cables: &[Cable], pairs: &[(Letter, Letter)]) -> bool
-    ensures { IsTrue result ↔ All (IsPaired pairs.now) cables.now }
+    ensures { IsTrue result ↔ AllByRecursion (IsPaired pairs.now) cables.now }
 {
-    cables.iter().all(|cable| is_paired(*cable, pairs))
+    match cables {
+        [] => true,
+        [first, rest @ ..] => is_paired(*first, pairs) && are_paired(rest, pairs),
+    }
 }
 
 /// Whether each pair is joined by one of the cables.
 fn are_joined(pairs: &[(Letter, Letter)], cables: &[Cable]) -> bool
-    ensures { IsTrue result ↔ All (IsJoined cables.now) pairs.now }
+    ensures { IsTrue result ↔ AllByRecursion (IsJoined cables.now) pairs.now }
 {
-    for pair in pairs {
-        if !is_joined(cables, *pair) {
-            return false;
-        }
+    match pairs {
+        [] => true,
+        [first, rest @ ..] => is_joined(cables, *first) && are_joined(rest, cables),
     }
-    true
 }
 
 /// Whether the cable is empty, or joins one of the pairs.
@@ -145,7 +170,6 @@ fn is_joined(cables: &[Cable], pair: (Letter, Letter)) -> bool
 }
 
 /// Whether the cable's letters are those of the pair, in whichever order: each lies in the other.
-#[tactic(auto, using(crate::proofs::Cables::joined_by_tests, crate::proofs::Cables::tests_of_joined))]
 fn joins(cable: Cable, pair: (Letter, Letter)) -> bool
     ensures { IsTrue result ↔ Joins cable pair }
 {
