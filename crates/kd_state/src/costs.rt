@@ -12,6 +12,7 @@ use crate::machine::cable::{Cable, lies_in};
 use kd_tables::{Letter, Place, Reading, Standing};
 
 /// What it costs to make of a cable a pair, or nothing: how many letters lie in one of the two alone.
+#[tactic(auto, using(crate::proofs::CostTable::at_most_four, crate::proofs::CostTable::counted_more))]
 pub fn cable_cost(cable: Cable, column: Option<(Letter, Letter)>) -> u8
     ensures cost { result ≡ costs.cable_cost cable column }
     ensures bound { result ≤ 4 }

@@ -86,7 +86,6 @@ pub fn a_setting_is_refused_or_carried()
 
 /// A setting that is carried out changes what it says, and nothing else: as each reader of the machine tells it. Where they
 /// tell just that, and the setting isn't refused, it was carried out; and they tell what is refused.
-#[tactic(auto, using(crate::proofs::Telling::Refusing::Changing::settings_are_told, crate::proofs::Telling::Refusing::refusals_are_told, crate::proofs::Telling::telling_is_making))]
 pub fn readers_tell_what_settings_change()
     ensures told { SettingsAreTold }
     ensures made { TellingIsMaking }

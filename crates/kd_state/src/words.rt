@@ -25,6 +25,7 @@ pub fn split_once(text: &[u8], byte: u8) -> Option<(&[u8], &[u8])>
 }
 
 /// The parts of a line between its spaces, in order; none where there are more than `N`.
+#[tactic(auto, using(crate::proofs::Lines::splitting))]
 pub fn split_words<const N: usize>(line: &[u8]) -> Option<ArrayVec<&[u8], N>>
     ensures { MatchOption result
         (N < length (words_of line.now))

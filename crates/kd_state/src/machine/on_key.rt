@@ -170,6 +170,7 @@ fn is_joined(cables: &[Cable], pair: (Letter, Letter)) -> bool
 }
 
 /// Whether the cable's letters are those of the pair, in whichever order: each lies in the other.
+#[tactic(auto, using(crate::proofs::Cables::joined_by_tests, crate::proofs::Cables::tests_of_joined))]
 fn joins(cable: Cable, pair: (Letter, Letter)) -> bool
     ensures { IsTrue result ↔ Joins cable pair }
 {

@@ -57,6 +57,7 @@ impl PinParts {
     }
 
     /// Moves a lug of the bar to the place.
+    #[tactic(auto, using(crate::proofs::Slots::is_numbered))]
     fn lug_to(&mut self, bar: u8, lug: Lug, place: Place) -> Result<(), Why>
         ensures { Answers (Parts.Pin self.old) (Setting.LugTo bar lug place)
             (Parts.Pin self.new) result }

@@ -64,6 +64,7 @@ impl RotorParts {
     }
 
     /// Seats the wheel in the slot. It leaves the slot that held it, and the wheel that was there goes to the box.
+    #[tactic(auto, using(crate::proofs::Wheels::lacks_wheel, std::proofs::lemmas::Bool::iff_false))]
     fn seat(&mut self, slot: u8, wheel: Wheel) -> Result<(), Why>
         requires { IsLegalRotor self.old }
         ensures { Answers (Parts.Rotor self.old) (Setting.Seat slot wheel)

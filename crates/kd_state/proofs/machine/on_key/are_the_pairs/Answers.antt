@@ -1,4 +1,4 @@
-use Rattle.kd_state.proofs.{Prelude.{false≢true, refl, sym, ◌∙◌}, Wheels.all_tested}
+use Rattle.kd_state.proofs.{Prelude.arith, Prelude.refl, Wheels.all_tested}
 use Rattle.kd_state.proofs.machine.on_key.are_the_pairs.Goals as goal
 
 pub returns-then-are_paired : goal.returns-then-are_paired
@@ -8,6 +8,4 @@ returns-then-are_paired c =
     (λ yes. record { pair = paired.0 c.if-are_paired.true; cable = joined.0 yes }, λ same. joined.1 same.cable)
 
 pub returns-else-are_paired : goal.returns-else-are_paired
-returns-else-are_paired c =
-    let paired = all_tested _ _ _ _ c.are_paired.ensures refl in
-    (λ e. absurd (false≢true (sym c.if-are_paired.false ∙ e)), λ same. paired.1 same.pair)
+returns-else-are_paired c = grind (arith, all_tested _ _ _ _ c.are_paired.ensures refl)

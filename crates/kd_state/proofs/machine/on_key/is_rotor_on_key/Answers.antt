@@ -1,10 +1,8 @@
-use Rattle.kd_state.proofs.{Prelude.{AreThePairs, false≢true, rules, subst, sym, ◌∙◌}, Wheels.all_tested}
+use Rattle.kd_state.proofs.{Prelude.{AreThePairs, arith, rules, subst, sym}, Wheels.all_tested}
 use Rattle.kd_state.proofs.machine.on_key.is_rotor_on_key.Goals as goal
 
 pub returns-then-not-has_rings : goal.returns-then-not-has_rings
-returns-then-not-has_rings c =
-    let rings = all_tested _ _ _ _ c.has_rings.ensures c.as_slice.ensures.value in
-    (λ e. absurd (false≢true e), λ key. absurd (false≢true (sym c.if-not-has_rings.true ∙ rings.1 key.rings)))
+returns-then-not-has_rings c = grind (arith, all_tested _ _ _ _ c.has_rings.ensures c.as_slice.ensures.value)
 
 pub returns : goal.returns
 returns c =

@@ -1,5 +1,4 @@
 use Rattle.kd_state.proofs.{Prelude.{is_at, ap, refl, sym, ◌∙◌}, Telling.Refusing.Changing.would_pass}
-use Rattle.kd_state.proofs.Slots.{is_numbered}
 use Rattle.kd_state.proofs.machine.pin_parts.PinParts.lug_to.Goals as goal
 
 pub returns-in_default-with_lug : goal.returns-in_default-with_lug
@@ -8,8 +7,3 @@ returns-in_default-with_lug c = (
       (ap (is_at c.args.place) (sym c.other_place-other.ensures) ∙ sym c.is_at.ensures ∙ c.if-is_at.false) (λ stands. absurd (cc (c.in_default-with_lug.ensures.exists.1 stands))),
   refl,
 )
-
-pub set_numbered-requires : goal.set_numbered-requires
-set_numbered-requires c =
-    let at = is_numbered c.args.self.now.bars c.args.bar c.in-Some.standing (sym c.in-Some.ensures) in
-    record { first = at.first; last = at.last }
