@@ -5,12 +5,10 @@ ghost use Rattle.kd_state.specs.Entry.{rotor_values, pin_values};
 ghost use Rattle.kd_state.specs.Machine.{ring_at, letter_at, IsLegalRotor};
 ghost use Rattle.kd_state.specs.OnKey.{IsRotorOnKey, IsPinOnKey, AreThePairs, IsPaired, IsJoined, Joins};
 ghost use Rattle.kd_state.specs.Setting.{has_letter};
-ghost use Rattle.kd_state.specs.SheetDay.{seats};
 
 use crate::machine::Machine;
 use crate::machine::cable::{Cable, lies_in};
 use crate::machine::parts::Parts;
-use crate::machine::per_slot::PerSlot;
 use crate::machine::pin_parts::{PinParts, readings_of};
 use crate::machine::readers::of_wheel;
 use crate::machine::rotor_parts::RotorParts;
@@ -18,7 +16,7 @@ use crate::sheet_day::SheetDay;
 use crate::sheet_day::entry::Entry;
 use crate::sheet_day::pin_entry::PinEntry;
 use crate::sheet_day::rotor_entry::{RotorEntry, SheetWheel};
-use kd_tables::{Letter, Reading, Wheel};
+use kd_tables::{Letter, Reading};
 
 impl Machine {
     ghost use Rattle.std.specs.Prelude.{◌↔◌, IsTrue};
@@ -64,21 +62,14 @@ fn is_rotor_on_key(parts: &RotorParts, entry: &RotorEntry) -> bool
     if parts.model != entry.model || parts.reflector != entry.reflector {
         return false;
     }
-    if !have_seats(&parts.slots, &entry.wheels) {
+    let seats = entry.wheels.seats();
+    if parts.slots.as_slice() != seats.as_slice() {
         return false;
     }
     if !has_rings(parts, entry.wheels.as_slice()) {
         return false;
     }
     are_the_pairs(&parts.cables, entry.pairs.as_slice())
-}
-
-/// Whether the wheels are those in the slots.
-fn have_seats(slots: &PerSlot<Option<Wheel>>, wheels: &PerSlot<SheetWheel>) -> bool
-    ensures { IsTrue result ↔ (slots.now ≡ seats wheels.now) }
-{
-    let seats = wheels.seats();
-    slots.as_slice() == seats.as_slice()
 }
 
 /// Whether each wheel has its ring, wherever it lies.

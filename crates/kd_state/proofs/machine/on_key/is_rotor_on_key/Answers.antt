@@ -1,18 +1,23 @@
-use Rattle.kd_state.proofs.{Prelude.{AreThePairs, arith, rules, subst, sym}, Wheels.all_tested}
+use Rattle.kd_state.proofs.Prelude.{AreThePairs, not-false, arith, rules, subst, sym, ◌∙◌}
+use Rattle.kd_state.proofs.Wheels.{all_tested, seats_Decides}
 use Rattle.kd_state.proofs.machine.on_key.is_rotor_on_key.Goals as goal
 
+pub returns-then-ne-3 : goal.returns-then-ne-3
+returns-then-ne-3 c = grind (arith, seats_Decides c.as_slice.result.now c.as_slice-2.result.now)
+
 pub returns-then-not-has_rings : goal.returns-then-not-has_rings
-returns-then-not-has_rings c = grind (arith, all_tested _ _ _ _ c.has_rings.ensures c.as_slice.ensures.value)
+returns-then-not-has_rings c = grind (arith, all_tested _ _ _ _ c.has_rings.ensures c.as_slice-3.ensures.value)
 
 pub returns : goal.returns
 returns c =
-    let rings = all_tested _ _ _ _ c.has_rings.ensures c.as_slice.ensures.value in (
+    let seats = seats_Decides c.as_slice.result.now c.as_slice-2.result.now in
+    let rings = all_tested _ _ _ _ c.has_rings.ensures c.as_slice-3.ensures.value in (
       λ yes. record {
         model = search rules;
-        slots = c.have_seats.ensures.0 c.if-not-have_seats.false;
+        slots = sym c.as_slice.ensures.value ∙ seats.0 (not-false _ (sym c.ne-2.ensures ∙ c.if-ne-3.false)) ∙ c.as_slice-2.ensures.value ∙ c.seats-seats.ensures;
         rings = rings.0 c.if-not-has_rings.false;
         reflector = search rules;
-        cables = subst (AreThePairs c.args.parts.now.cables) c.as_slice-2.ensures.value (c.are_the_pairs.ensures.0 yes);
+        cables = subst (AreThePairs c.args.parts.now.cables) c.as_slice-4.ensures.value (c.are_the_pairs.ensures.0 yes);
       },
-      λ key. c.are_the_pairs.ensures.1 (subst (AreThePairs c.args.parts.now.cables) (sym c.as_slice-2.ensures.value) key.cables),
+      λ key. c.are_the_pairs.ensures.1 (subst (AreThePairs c.args.parts.now.cables) (sym c.as_slice-4.ensures.value) key.cables),
     )
