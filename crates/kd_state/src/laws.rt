@@ -184,7 +184,6 @@ pub fn columns_are_the_pairs()
 {}
 
 /// What it costs to make of a cable a pair, or nothing, is four at most.
-#[tactic(auto, using(crate::proofs::CostTable::at_most_four))]
 pub fn cables_cost_four()
     ensures { CablesCostFour }
 {}

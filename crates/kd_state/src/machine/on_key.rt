@@ -1,14 +1,17 @@
-ghost use Rattle.std.specs.Prelude.{◌≡◌, ◌↔◌, IsTrue, IsPermutation, Some, true, [], ◌∷◌};
+ghost use Rattle.std.specs.Prelude.{◌≡◌, ◌↔◌, IsTrue, IsPermutation, Some, true, [], ◌∷◌, length, slice_get, if◌then◌else◌};
 ghost use Rattle.std.specs.List.{AllByRecursion};
 ghost use Rattle.std.specs.Option.{option_map_or};
 ghost use Rattle.kd_state.specs.Entry.{rotor_values, pin_values};
-ghost use Rattle.kd_state.specs.Machine.{ring_at, letter_at, IsLegalRotor};
+ghost use Rattle.kd_tables.specs.Tables.{box_of};
+ghost use Rattle.kd_state.specs.Machine.{IsLegalRotor};
 ghost use Rattle.kd_state.specs.OnKey.{IsRotorOnKey, IsPinOnKey, AreThePairs, IsPaired, IsJoined, Joins};
 ghost use Rattle.kd_state.specs.Setting.{has_letter};
+ghost use Rattle.kd_state.specs.ToldApart.{place_in_box};
 
 use crate::machine::Machine;
 use crate::machine::cable::{Cable, lies_in};
 use crate::machine::parts::Parts;
+use crate::machine::per_wheel::PerWheel;
 use crate::machine::pin_parts::{PinParts, readings_of};
 use crate::machine::readers::of_wheel;
 use crate::machine::rotor_parts::RotorParts;
@@ -16,7 +19,7 @@ use crate::sheet_day::SheetDay;
 use crate::sheet_day::entry::Entry;
 use crate::sheet_day::pin_entry::PinEntry;
 use crate::sheet_day::rotor_entry::{RotorEntry, SheetWheel};
-use kd_tables::{Letter, Reading};
+use kd_tables::{Letter, Model, Reading};
 
 impl Machine {
     ghost use Rattle.std.specs.Prelude.{◌↔◌, IsTrue};
@@ -46,7 +49,7 @@ impl Machine {
     {
         match (self.parts(), day.entry()) {
             (Parts::Rotor(parts), Entry::Rotor(entry)) => {
-                show_letters(parts, entry.wheels.as_slice())
+                have_letters(parts.model, &parts.letters, entry.wheels.as_slice(), false)
             }
             (Parts::Pin(parts), Entry::Pin(entry)) => parts.letters == entry.window,
             _ => false,
@@ -66,38 +69,29 @@ fn is_rotor_on_key(parts: &RotorParts, entry: &RotorEntry) -> bool
     if parts.slots.as_slice() != seats.as_slice() {
         return false;
     }
-    if !has_rings(parts, entry.wheels.as_slice()) {
+    if !have_letters(parts.model, &parts.rings, entry.wheels.as_slice(), true) {
         return false;
     }
     are_the_pairs(&parts.cables, entry.pairs.as_slice())
 }
 
-/// Whether each wheel has its ring, wherever it lies.
-fn has_rings(parts: &RotorParts, wheels: &[SheetWheel]) -> bool
-    requires { IsLegalRotor parts.now }
-    ensures { IsTrue result
-        ↔ AllByRecursion (λ w. ring_at parts.now w.wheel ≡ Some w.ring) wheels.now }
+/// Whether each wheel has its letter among these, wherever it lies: its ring, or else the letter in its window.
+fn have_letters(
+    model: Model,
+    letters: &PerWheel<Letter>,
+    wheels: &[SheetWheel],
+    of_rings: bool,
+) -> bool
+    requires { length letters.now ≡ length (box_of model) }
+    ensures { IsTrue result ↔ AllByRecursion (λ w. slice_get letters.now (place_in_box model w.wheel)
+        ≡ Some (if of_rings then w.ring else w.letter)) wheels.now }
 {
     match wheels {
         [] => true,
         [first, rest @ ..] => {
-            of_wheel(parts.model, &parts.rings, first.wheel) == Some(first.ring)
-                && has_rings(parts, rest)
-        }
-    }
-}
-
-/// Whether each wheel shows its letter, wherever it lies.
-fn show_letters(parts: &RotorParts, wheels: &[SheetWheel]) -> bool
-    requires { IsLegalRotor parts.now }
-    ensures { IsTrue result
-        ↔ AllByRecursion (λ w. letter_at parts.now w.wheel ≡ Some w.letter) wheels.now }
-{
-    match wheels {
-        [] => true,
-        [first, rest @ ..] => {
-            of_wheel(parts.model, &parts.letters, first.wheel) == Some(first.letter)
-                && show_letters(parts, rest)
+            let due = if of_rings { first.ring } else { first.letter };
+            of_wheel(model, letters, first.wheel) == Some(due)
+                && have_letters(model, letters, rest, of_rings)
         }
     }
 }
