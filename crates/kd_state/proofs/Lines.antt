@@ -13,11 +13,10 @@ use Rattle.kd_state.proofs.Prelude.{false, get_or, length, map, refl, rules, sym
 use Rattle.kd_state.proofs.Prelude.{◌≡◌, ◌≢◌, ◌≤◌, common_steps, ParsesUnsigned}
 use Rattle.kd_state.specs.{Words.LettersAreWords, Words.letter_text, declared.setting.keyword.Keyword.Keyword}
 use Rattle.kd_state.specs.declared.setting.list.ListFault.TheVariants.{BadLine, TooMany}
-use Rattle.{kd_tables.specs.declared.reflector.Reflector.TheVariants.A, std.proofs.Common.eqb, std.proofs.Common.ltb}
-use Rattle.std.proofs.{Common.◌*◌, Common.◌^◌, lemmas.List.Concat.flat_map-append, lemmas.Str.IsUtf8-from_ascii}
-use Rattle.std.proofs.lemmas.Str.Parse.{IsNumeralModel, numerals_by_value, tells_by_index}
+use Rattle.{kd_tables.specs.declared.reflector.Reflector.TheVariants.A, std.proofs.lemmas.List.Concat.flat_map-append}
+use Rattle.std.proofs.lemmas.Str.{IsUtf8-from_ascii, Parse.{IsNumeralModel, numerals_by_value, tells_by_index}}
 use Rattle.std.specs.{Fmt.decimal, Result.result_ok, Str.IsUtf8, Str.Parse.digits_value}
-use Rattle.std.proofs.Common.{Bor, Result, Ok, MatchResult}
+use Rattle.std.proofs.Common.{Bor, Result, Ok, MatchResult, eqb, ltb, ◌*◌, ◌^◌}
 use Rattle.std.specs.Int.{IsInRange as IsFigure}
 use Rattle.std.proofs.lemmas.List.Splits.{length-slice_split, slice_split_none, slice_split_at, join_with_byte-slice_split}
 use Rattle.kd_state.specs.Words.{words_of, line_of, IsWithout, IsWord, IsFirstPart, LinesTellWords, LinesSplitIntoWords}

@@ -1,10 +1,10 @@
 -- Wheels and reflectors by their names, and where the wheels of the box may stand.
 use Rattle.kd_state.proofs.Prelude.{has_reflector, has_wheel, place_in_box, same_reflector, same_wheel}
 use Rattle.kd_state.proofs.Prelude.{AllowedWheelsLieInTheBox, DaysWheelsHaveTheirPlaces, PlacesTellWheels, StandsAt}
-use Rattle.kd_state.proofs.Prelude.{ShowsWindow, Day, OfPins, PinDay, AllByRecursion, All-from_recursion, recursion_from_All, subst}
-use Rattle.kd_state.proofs.Prelude.{seats, Parts, Pin, PinParts, SheetWheel, IsAllowed, box_of}
-use Rattle.kd_state.proofs.Prelude.{lies_in, reflector_text, slots_of, wheel_text, wheels_for, Model, Reflector, Wheel}
-use Rattle.kd_state.proofs.Prelude.{Beta, Gamma, I, II, III, IV, V, VI, VII, VIII, cases_Bool, eqb-true}
+use Rattle.kd_state.proofs.Prelude.{ShowsWindow, Day, OfPins, PinDay, AllByRecursion, All-from_recursion}
+use Rattle.kd_state.proofs.Prelude.{recursion_from_All, subst, seats, Parts, Pin, PinParts, SheetWheel, IsAllowed}
+use Rattle.kd_state.proofs.Prelude.{box_of, lies_in, reflector_text, slots_of, wheel_text, wheels_for, Model, Reflector}
+use Rattle.kd_state.proofs.Prelude.{Wheel, Beta, Gamma, I, II, III, IV, V, VI, VII, VIII, cases_Bool, eqb-true}
 use Rattle.kd_state.proofs.Prelude.{false_from_ne_true, leb-true, Decides-like, Contains-append_left}
 use Rattle.kd_state.proofs.Prelude.{Contains-append_right, Contains-get_or, passes_at_first, position_or_len_is}
 use Rattle.kd_state.proofs.Prelude.{is_member-Decides, same_Some, slice_get-get_or, slice_get-map, Decides}

@@ -149,10 +149,7 @@ fn turn_drum(converter: &mut Converter, letters: &[Letter]) -> bool
     ensures unchanged { OnFalse result (converter.new ≡ converter.old) }
 {
     match <[Letter; 6]>::try_from(letters) {
-        Ok(window) => match converter.turn_to(window) {
-            Ok(()) => true,
-            Err(_) => false,
-        },
+        Ok(window) => converter.turn_to(window).is_ok(),
         Err(_) => false,
     }
 }

@@ -1,5 +1,4 @@
-use Rattle.kd_state.proofs.Prelude.{pointwise_decides, ap, arith, sym, ◌∙◌}
-use Rattle.kd_state.proofs.{Wheels.all_tested, Wheels.pin_letters_show}
+use Rattle.kd_state.proofs.{Prelude.{pointwise_decides, ap, arith, sym, ◌∙◌}, Wheels.{all_tested, pin_letters_show}}
 use Rattle.kd_state.specs.Entry.{values_of}
 use Rattle.kd_state.proofs.machine.Machine.shows_window.Goals as goal
 
