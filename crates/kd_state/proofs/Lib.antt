@@ -7,6 +7,4 @@ pub mod CostTable
 mod Keys
 mod Seating
 mod SortedAlike
-pub mod Changing
-pub mod Refusing
-mod Telling
+pub mod Telling

@@ -13,11 +13,10 @@ use Rattle.kd_state.proofs.Prelude.{false, get_or, length, map, refl, rules, sym
 use Rattle.kd_state.proofs.Prelude.{◌≡◌, ◌≢◌, ◌≤◌, common_steps, ParsesUnsigned}
 use Rattle.kd_state.specs.{Words.LettersAreWords, Words.letter_text, declared.setting.keyword.Keyword.Keyword}
 use Rattle.kd_state.specs.declared.setting.list.ListFault.TheVariants.{BadLine, TooMany}
-use Rattle.{kd_tables.specs.declared.reflector.Reflector.TheVariants.A, std.proofs.Common.eqb, std.proofs.Common.ltb}
-use Rattle.std.proofs.{Common.◌*◌, Common.◌^◌, lemmas.List.Concat.flat_map-append, lemmas.Str.IsUtf8-from_ascii}
-use Rattle.std.proofs.lemmas.Str.Parse.{IsNumeralModel, numerals_by_value, tells_by_index}
+use Rattle.{kd_tables.specs.declared.reflector.Reflector.TheVariants.A, std.proofs.lemmas.List.Concat.flat_map-append}
+use Rattle.std.proofs.lemmas.Str.{IsUtf8-from_ascii, Parse.{IsNumeralModel, numerals_by_value, tells_by_index}}
 use Rattle.std.specs.{Fmt.decimal, Result.result_ok, Str.IsUtf8, Str.Parse.digits_value}
-use Rattle.std.proofs.Common.{Bor, Result, Ok, MatchResult}
+use Rattle.std.proofs.Common.{Bor, Result, Ok, MatchResult, eqb, ltb, ◌*◌, ◌^◌}
 use Rattle.std.specs.Int.{IsInRange as IsFigure}
 use Rattle.std.proofs.lemmas.List.Splits.{length-slice_split, slice_split_none, slice_split_at, join_with_byte-slice_split}
 use Rattle.kd_state.specs.Words.{words_of, line_of, IsWithout, IsWord, IsFirstPart, LinesTellWords, LinesSplitIntoWords}
@@ -197,11 +196,6 @@ same_settings x y e d g =
 
 pub setting_has_words : (x : Setting) → (2 ≤ length (setting_words x)) × (length (setting_words x) ≤ 4)
 setting_has_words x = elim x as (λ y. (2 ≤ length (setting_words y)) × (length (setting_words y) ≤ 4)) [ Pull c l ↦ (omega arith, omega arith) | _ ↦ (omega arith, omega arith) ]
-
-pub no_form : (form : List ℕ) (rest : List (List ℕ)) → ((f : Keyword) → keyword_text f ≢ form) → (x : Setting) → IsInRange x → setting_words x ≢ form ∷ rest
-no_form form rest none (Pull c l) r e = none keywords.Pull (cc)
-no_form form rest none x r e =
-    grind (arith, none keywords.Put, none keywords.Seat, none keywords.SeatReflector, none keywords.RingTo, none keywords.Turn, none keywords.PinTo, none keywords.LugTo)
 
 -- ---- the words of a text that is a setting's line
 

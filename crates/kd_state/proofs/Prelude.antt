@@ -12,53 +12,39 @@ pub use Rattle.kd_state.specs.Pins.{pin_at, pin_set, wheel_pins, with_pin}
 pub use Rattle.kd_state.specs.Setting.{Carries, Leads, Stands, are_new, cable_at, cable_with, cable_without, changed, has_letter, is_at, is_plugged, lies_beyond, lug_place, other_lug, reasons, why_refused, with_letter, with_lug, with_lug_at, without}
 pub use Rattle.kd_state.specs.SheetDay.{Day, HasLetters, IsLegalDay, IsLegalRotorDay, OfPins, OfRotors, PinDay, RotorDay, seats}
 pub use Rattle.kd_state.specs.TwoCiphers.{EngineKey, IsRotorReady, OfDrum, OfWheels, both_ends, cipher, key_with_window, physical_cipher, physical_key, plugged_pairs, seated_wheels, sheet_key, window_of}
-pub use Rattle.kd_state.specs.declared.machine.parts.Parts.{Parts}
-pub use Rattle.kd_state.specs.declared.machine.parts.Parts.TheVariants.{Pin, Rotor}
-pub use Rattle.kd_state.specs.declared.machine.pin_parts.PinParts.{PinParts}
-pub use Rattle.kd_state.specs.declared.machine.rotor_parts.RotorParts.{RotorParts}
-pub use Rattle.kd_state.specs.declared.setting.Setting.{Setting}
+pub use Rattle.kd_state.specs.declared.machine.parts.Parts.{Parts, TheVariants.Pin, TheVariants.Rotor}
+pub use Rattle.kd_state.specs.declared.machine.{pin_parts.PinParts.PinParts, rotor_parts.RotorParts.RotorParts}
+pub use Rattle.kd_state.specs.declared.{setting.Setting.Setting, setting.why.Why.Why}
 pub use Rattle.kd_state.specs.declared.setting.Setting.TheVariants.{LugTo, PinTo, Pull, Put, RingTo, Seat, SeatReflector, Turn}
-pub use Rattle.kd_state.specs.declared.setting.why.Why.{Why}
 pub use Rattle.kd_state.specs.declared.setting.why.Why.TheVariants.{NoLooseEnd, NoSuchBar, NoSuchCable, NotOnWheel, NotThere, OtherModel, PlaceTaken, SlotEmpty, SocketTaken, WheelNotAllowed, WouldPass}
 pub use Rattle.kd_state.specs.declared.sheet_day.rotor_entry.SheetWheel.{SheetWheel}
-pub use Rattle.kd_tables.specs.Permutation.{alphabet, exchange}
+pub use Rattle.kd_tables.specs.{Permutation.alphabet, Permutation.exchange, Rings.place_on}
 pub use Rattle.kd_tables.specs.Places.{IsBefore, IsReading, lug_text, place_number, place_text, places, reading_of}
-pub use Rattle.kd_tables.specs.Rings.{place_on}
 pub use Rattle.kd_tables.specs.Tables.{IsAllowed, box_of, lies_in, reflector_text, reflectors_of, slots_of, wheel_text, wheels_for}
-pub use Rattle.kd_tables.specs.declared.lug.Lug.{Lug}
-pub use Rattle.kd_tables.specs.declared.lug.Lug.TheVariants.{Left}
-pub use Rattle.kd_tables.specs.declared.model.Model.{Model}
-pub use Rattle.kd_tables.specs.declared.place.Place.{Place}
-pub use Rattle.kd_tables.specs.declared.place.Place.TheVariants.{One}
-pub use Rattle.kd_tables.specs.declared.reflector.Reflector.{Reflector}
-pub use Rattle.kd_tables.specs.declared.wheel.Wheel.{Wheel}
+pub use Rattle.kd_tables.specs.declared.{lug.Lug.Lug, lug.Lug.TheVariants.Left, model.Model.Model, place.Place.Place}
+pub use Rattle.kd_tables.specs.declared.{model.Model.TheVariants.M209, place.Place.TheVariants.One}
+pub use Rattle.kd_tables.specs.declared.{reflector.Reflector.Reflector, wheel.Wheel.Wheel}
 pub use Rattle.kd_tables.specs.declared.wheel.Wheel.TheVariants.{Beta, Gamma, I, II, III, IV, V, VI, VII, VIII}
 pub use Rattle.std.proofs.lemmas.Bool.{and_from, and_parts, both_ways, cases_Bool, cases_eq, cond_both, eq-eqb, eqb-false, eqb-true, false_from_ne_true, false≢true, iff_false, le-leb, le-ltb, leb-false, leb-true, lt-ltb, ltb-true, ne_eqb, not-false, not-true, or_from, or_parts, true_from_ne_false, true≢false}
 pub use Rattle.std.proofs.lemmas.Bool.Decides.{Decides-and, Decides-eqb, Decides-like, nat_tests}
 pub use Rattle.std.proofs.lemmas.Fmt.{IsAscii-decimal, decimal_injective, decimal_nonempty, digits_decimal, parse-decimal}
 pub use Rattle.std.proofs.lemmas.List.{append-nil, append_assoc, append_cancel_left, drop_all, drop_more, get_or-map, get_or_at, get_or_default, length-append, length-map, length-replicate, length-set, length_push, map-set, map_push, take_more}
 pub use Rattle.std.proofs.lemmas.List.Elements.{All-append, All-cons, All-contains, All-from_all_within, All-from_get_or, All-from_recursion, All-head, All-map, All-nil, All-push, All-set, All-tail, All-weaker, AllWithin-more, AllWithin-upto, Contains-append_cases, Contains-append_left, Contains-append_right, Contains-get_or, at_read, filter_map-append, recursion_from_All}
-pub use Rattle.std.proofs.lemmas.List.Quantifiers.{position-Some}
+pub use Rattle.std.proofs.lemmas.{Grind.common_steps, List.Quantifiers.position-Some}
 pub use Rattle.std.proofs.lemmas.List.Sorted.{All-permutation, Contains-permutation, IsPermutation-append, IsPermutation-append_comm, IsPermutation-append_left, IsPermutation-append_right, IsPermutation-refl, IsPermutation-sym, IsPermutation-trans, ranks_by, sorted_far, sum_by-IsPermutation}
 pub use Rattle.std.proofs.lemmas.List.Sums.{AllPass-from_list_all, passes_at_first, position_or_len_is, sum_by-cons, sum_by-le, sum_by_more}
 pub use Rattle.std.proofs.lemmas.Map.Made.{Contains-tail, is_member-Decides}
 pub use Rattle.std.proofs.lemmas.Option.{get_or_from_slice_get, gets, none-some, same_Some, slice_get-get_or, slice_get-map, slice_get_cases, slice_get_past, slice_get_within}
-pub use Rattle.std.specs.Bool.{Decides, then_some}
+pub use Rattle.std.specs.{Bool.Decides, Bool.then_some, Cmp.Lexicographic.pointwise_decides, Str.Parse.ParsesUnsigned}
 pub use Rattle.std.specs.Cmp.{IsStrictWeakOrder, nat_cmp_total, on_total, then_total}
-pub use Rattle.std.specs.Cmp.Lexicographic.{pointwise_decides}
 pub use Rattle.std.specs.List.{All, AllByRecursion, AllWithin, cons_option, count_by, enumerate_from, list_all, list_any, position_or_len, range_with_len, slice_split}
 pub use Rattle.std.specs.Option.{IsSome, SomeIff, is_none, is_some, option_and_then, option_eq, option_map, option_map_or, option_or, option_to_list, unwrap_or}
-pub use Rattle.kd_pins.specs.PinWheels.{pins_of}
-pub use Rattle.kd_pins.specs.declared.pin_set.PinSet.{PinSet}
+pub use Rattle.kd_pins.specs.{PinWheels.pins_of, declared.pin_set.PinSet.PinSet}
 unfoldable pub use Rattle.kd_tables.specs.Rings.{ring_of}
-pub use Rattle.kd_tables.specs.declared.model.Model.TheVariants.{M209}
 pub use Rattle.std.proofs.Common.{Bool, Contains, List, MatchOption, None, Option, Some, [], ap, arith, drop, false}
 pub use Rattle.std.proofs.Common.{filter_map, find, get_or, inl, inr, length, map, nat_eq, not, refl, rules, set}
 pub use Rattle.std.proofs.Common.{slice_get, subst, suc, sym, true, zero, ℕ, ◌++◌, ◌+◌, ◌-◌, ◌<◌, ◌||◌, ◌↔◌, ◌∙◌, ◌∷◌}
 pub use Rattle.std.proofs.Common.{◌≡◌, ◌≢◌, ◌≤◌, ◌⊎◌}
-pub use Rattle.std.proofs.lemmas.Grind.{common_steps}
 unfoldable pub use Rattle.std.specs.List.{IsDistinct}
-pub use Rattle.std.specs.Ordering.{is_lt, nat_cmp}
-pub use Rattle.std.specs.Prelude.{IsPermutation, take, ◌&&◌}
-pub use Rattle.std.specs.Str.Parse.{ParsesUnsigned}
+pub use Rattle.std.specs.{Ordering.is_lt, Ordering.nat_cmp, Prelude.IsPermutation, Prelude.take, Prelude.◌&&◌}
 pub use lib.Pointwise.{pointwise}

@@ -6,7 +6,7 @@ use Rattle.kd_state.proofs.Prelude.{false≢true, get_or-map, length-map, All-ma
 use Rattle.kd_state.proofs.Prelude.{slice_get-get_or, All, AllByRecursion, cons_option, IsSome, Contains, List}
 use Rattle.kd_state.proofs.Prelude.{None, Option, Some, [], ap, arith, filter_map, get_or, length, map}
 use Rattle.kd_state.proofs.Prelude.{refl, set, slice_get, subst, suc, sym, zero, ℕ, ◌+◌, ◌<◌, ◌∙◌, ◌∷◌, ◌≡◌, ◌≢◌}
-use Rattle.kd_state.proofs.{Changing.letters_set, Changing.with_letters, Slots.set_here, Slots.set_other}
+use Rattle.kd_state.proofs.{Telling.Refusing.Changing.{letters_set, with_letters}, Slots.set_here, Slots.set_other}
 use Rattle.kd_state.proofs.Wheels.{place_within, placed, places_tell_wheels}
 use Rattle.kd_state.specs.Seated.{key_of_wheels, seated_wheel, wheel_with}
 

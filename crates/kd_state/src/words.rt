@@ -1,5 +1,5 @@
 //! The words of a line, and the numbers and letters among them.
-ghost use Rattle.std.specs.Prelude.{◌≡◌, ◌≢◌, ℕ, ◌+◌, ◌^◌, ◌<◌, ◌≤◌, ◌++◌, length, map, decimal, MatchOption};
+ghost use Rattle.std.specs.Prelude.{◌≡◌, ◌≢◌, ◌↔◌, ℕ, ◌+◌, ◌^◌, ◌<◌, ◌≤◌, ◌++◌, length, map, decimal, IsTrue, MatchOption};
 ghost use Rattle.arrayvec.specs.ArrayString.{array_string_len};
 ghost use Rattle.kd_state.specs.SheetDay.{IsDayNumber};
 ghost use Rattle.kd_state.specs.Words.{words_of, letter_text, IsWithout, IsFirstPart};
@@ -16,8 +16,12 @@ pub fn split_once(text: &[u8], byte: u8) -> Option<(&[u8], &[u8])>
         (IsWithout byte text.now)
         (λ parts. IsFirstPart byte text.now parts.0.now parts.1.now) }
 {
-    let end = text.iter().position(|other| *other == byte)?;
-    Some((&text[..end], &text[end + 1..]))
+    for (end, other) in text.iter().enumerate() {
+        if *other == byte {
+            return Some((&text[..end], &text[end + 1..]));
+        }
+    }
+    None
 }
 
 /// The parts of a line between its spaces, in order; none where there are more than `N`.
@@ -43,6 +47,13 @@ pub fn split_words<const N: usize>(line: &[u8]) -> Option<ArrayVec<&[u8], N>>
     Some(words)
 }
 
+/// Whether the text is the word.
+pub(crate) fn is_word(text: &[u8], word: &str) -> bool
+    ensures { IsTrue result ↔ (word.now ≡ text.now) }
+{
+    word.as_bytes() == text
+}
+
 /// The number below 65,536 that is written so: in decimal, without leading zeros and without a sign.
 pub fn wide_number_of_text(text: &[u8]) -> Option<u16>
     ensures { MatchOption result
@@ -51,7 +62,7 @@ pub fn wide_number_of_text(text: &[u8]) -> Option<u16>
 {
     let number: u16 = str::from_utf8(text).ok()?.parse().ok()?;
     let mut buffer = Buffer::new();
-    (buffer.format(number).as_bytes() == text).then_some(number)
+    is_word(text, buffer.format(number)).then_some(number)
 }
 
 /// The number below 256 that is written so.

@@ -1,32 +1,36 @@
-ghost use Rattle.std.specs.Prelude.{◌≡◌, ◌↔◌, IsTrue, IsPermutation, All, true, [], ◌∷◌};
+ghost use Rattle.std.specs.Prelude.{◌≡◌, ◌↔◌, IsTrue, IsPermutation, Some, true, [], ◌∷◌, length, slice_get, if◌then◌else◌};
+ghost use Rattle.std.specs.List.{AllByRecursion};
 ghost use Rattle.std.specs.Option.{option_map_or};
-ghost use Rattle.kd_state.specs.Entry.{pin_values};
-ghost use Rattle.kd_state.specs.OnKey.{IsPinOnKey, AreThePairs, IsPaired, IsJoined, Joins};
+ghost use Rattle.kd_state.specs.Entry.{rotor_values, pin_values};
+ghost use Rattle.kd_tables.specs.Tables.{box_of};
+ghost use Rattle.kd_state.specs.Machine.{IsLegalRotor};
+ghost use Rattle.kd_state.specs.OnKey.{IsRotorOnKey, IsPinOnKey, AreThePairs, IsPaired, IsJoined, Joins};
 ghost use Rattle.kd_state.specs.Setting.{has_letter};
+ghost use Rattle.kd_state.specs.ToldApart.{place_in_box};
 
 use crate::machine::Machine;
 use crate::machine::cable::{Cable, lies_in};
 use crate::machine::parts::Parts;
+use crate::machine::per_wheel::PerWheel;
 use crate::machine::pin_parts::{PinParts, readings_of};
+use crate::machine::readers::of_wheel;
 use crate::machine::rotor_parts::RotorParts;
 use crate::sheet_day::SheetDay;
 use crate::sheet_day::entry::Entry;
 use crate::sheet_day::pin_entry::PinEntry;
 use crate::sheet_day::rotor_entry::{RotorEntry, SheetWheel};
-use kd_tables::{Letter, Reading};
+use kd_tables::{Letter, Model, Reading};
 
 impl Machine {
-    ghost use Rattle.std.specs.Prelude.{◌≡◌, ◌↔◌, IsTrue, All, Some};
-    ghost use Rattle.kd_state.specs.Machine.{ring_in, letter_in};
-    ghost use Rattle.kd_state.specs.OnKey.{IsRotorOnKey, OnKey, ReadsAs, ShowsWindow};
-    ghost use Rattle.kd_state.specs.Entry.{rotor_values};
+    ghost use Rattle.std.specs.Prelude.{◌↔◌, IsTrue};
+    ghost use Rattle.kd_state.specs.OnKey.{OnKey, ReadsAs, ShowsWindow};
 
     /// Whether the machine is set as the day says, whatever letters show.
     pub fn on_key(&self, day: &SheetDay) -> bool
         ensures { IsTrue result ↔ OnKey self.now day.now }
     {
         match (self.parts(), day.entry()) {
-            (Parts::Rotor(parts), Entry::Rotor(entry)) => self.is_rotor_on_key(parts, entry),
+            (Parts::Rotor(parts), Entry::Rotor(entry)) => is_rotor_on_key(parts, entry),
             (Parts::Pin(parts), Entry::Pin(entry)) => is_pin_on_key(parts, entry),
             _ => false,
         }
@@ -44,46 +48,51 @@ impl Machine {
         ensures { IsTrue result ↔ ShowsWindow self.now day.now }
     {
         match (self.parts(), day.entry()) {
-            (Parts::Rotor(_), Entry::Rotor(entry)) => self.shows_letters(entry.wheels.as_slice()),
+            (Parts::Rotor(parts), Entry::Rotor(entry)) => {
+                have_letters(parts.model, &parts.letters, entry.wheels.as_slice(), false)
+            }
             (Parts::Pin(parts), Entry::Pin(entry)) => parts.letters == entry.window,
             _ => false,
         }
     }
+}
 
-    /// Whether each slot has the day's wheel with the day's ring, and reflector and cables are the day's.
-    fn is_rotor_on_key(&self, parts: &RotorParts, entry: &RotorEntry) -> bool
-        requires { self.now ≡ Parts.Rotor parts.now }
-        ensures { IsTrue result ↔ IsRotorOnKey parts.now (rotor_values entry.now) }
-    {
-        let seats = entry.seats();
-        if parts.model != entry.model || parts.reflector != entry.reflector {
-            return false;
-        }
-        if parts.slots.as_slice() != seats.as_slice() {
-            return false;
-        }
-        if !self.has_rings(entry.wheels.as_slice()) {
-            return false;
-        }
-        are_the_pairs(&parts.cables, entry.pairs.as_slice())
+/// Whether each slot has the day's wheel with the day's ring, and reflector and cables are the day's.
+fn is_rotor_on_key(parts: &RotorParts, entry: &RotorEntry) -> bool
+    requires { IsLegalRotor parts.now }
+    ensures { IsTrue result ↔ IsRotorOnKey parts.now (rotor_values entry.now) }
+{
+    if parts.model != entry.model || parts.reflector != entry.reflector {
+        return false;
     }
-
-    /// Whether each wheel has its ring, wherever it lies.
-    fn has_rings(&self, wheels: &[SheetWheel]) -> bool
-        ensures { IsTrue result ↔ All (λ w. ring_in self.now w.wheel ≡ Some w.ring) wheels.now }
-    {
-        wheels
-            .iter()
-            .all(|seated| self.ring(seated.wheel) == Some(seated.ring))
+    let seats = entry.wheels.seats();
+    if parts.slots.as_slice() != seats.as_slice() {
+        return false;
     }
+    if !have_letters(parts.model, &parts.rings, entry.wheels.as_slice(), true) {
+        return false;
+    }
+    are_the_pairs(&parts.cables, entry.pairs.as_slice())
+}
 
-    /// Whether each wheel shows its letter, wherever it lies.
-    fn shows_letters(&self, wheels: &[SheetWheel]) -> bool
-        ensures { IsTrue result ↔ All (λ w. letter_in self.now w.wheel ≡ Some w.letter) wheels.now }
-    {
-        wheels
-            .iter()
-            .all(|seated| self.letter(seated.wheel) == Some(seated.letter))
+/// Whether each wheel has its letter among these, wherever it lies: its ring, or else the letter in its window.
+fn have_letters(
+    model: Model,
+    letters: &PerWheel<Letter>,
+    wheels: &[SheetWheel],
+    of_rings: bool,
+) -> bool
+    requires { length letters.now ≡ length (box_of model) }
+    ensures { IsTrue result ↔ AllByRecursion (λ w. slice_get letters.now (place_in_box model w.wheel)
+        ≡ Some (if of_rings then w.ring else w.letter)) wheels.now }
+{
+    match wheels {
+        [] => true,
+        [first, rest @ ..] => {
+            let due = if of_rings { first.ring } else { first.letter };
+            of_wheel(model, letters, first.wheel) == Some(due)
+                && have_letters(model, letters, rest, of_rings)
+        }
     }
 }
 
@@ -113,21 +122,22 @@ fn are_the_pairs(cables: &[Cable], pairs: &[(Letter, Letter)]) -> bool
 
 /// Whether each cable is empty or joins one of the pairs.
 fn are_paired(cables: &[Cable], pairs: &[(Letter, Letter)]) -> bool
-    ensures { IsTrue result ↔ All (IsPaired pairs.now) cables.now }
+    ensures { IsTrue result ↔ AllByRecursion (IsPaired pairs.now) cables.now }
 {
-    cables.iter().all(|cable| is_paired(*cable, pairs))
+    match cables {
+        [] => true,
+        [first, rest @ ..] => is_paired(*first, pairs) && are_paired(rest, pairs),
+    }
 }
 
 /// Whether each pair is joined by one of the cables.
 fn are_joined(pairs: &[(Letter, Letter)], cables: &[Cable]) -> bool
-    ensures { IsTrue result ↔ All (IsJoined cables.now) pairs.now }
+    ensures { IsTrue result ↔ AllByRecursion (IsJoined cables.now) pairs.now }
 {
-    for pair in pairs {
-        if !is_joined(cables, *pair) {
-            return false;
-        }
+    match pairs {
+        [] => true,
+        [first, rest @ ..] => is_joined(cables, *first) && are_joined(rest, cables),
     }
-    true
 }
 
 /// Whether the cable is empty, or joins one of the pairs.

@@ -3,6 +3,7 @@ ghost use Rattle.kd_state.specs.Setting.{without};
 
 use crate::counted::put;
 use crate::machine::seats::is_wheel;
+use crate::sheet_day::rotor_entry::SheetWheel;
 use kd_tables::Wheel;
 use std::marker::Model;
 
@@ -38,15 +39,11 @@ impl<T: Copy> PerSlot<T> {
         ensures exists { IsSome result ↔ ((length values.now ≡ 3) ⊎ (length values.now ≡ 4)) }
         ensures value { IfSome result (λ slots. slots ≡ values.now) }
     {
-        match values {
-            [left, middle, right] => Some(PerSlot {
-                values: Slots::Three([*left, *middle, *right]),
-            }),
-            [first, left, middle, right] => Some(PerSlot {
-                values: Slots::Four([*first, *left, *middle, *right]),
-            }),
-            _ => None,
-        }
+        let values = match <[T; 3]>::try_from(values) {
+            Ok(values) => Slots::Three(values),
+            Err(_) => Slots::Four(<[T; 4]>::try_from(values).ok()?),
+        };
+        Some(PerSlot { values })
     }
 
     /// How many values there are: three or four.
@@ -110,6 +107,31 @@ impl PerSlot<Option<Wheel>> {
                 ];
             }
         }
+    }
+}
+
+impl PerSlot<SheetWheel> {
+    ghost use Rattle.std.specs.Prelude.{◌≡◌};
+    ghost use Rattle.kd_state.specs.SheetDay.{seats};
+
+    /// The seats that the wheels take.
+    pub(crate) fn seats(&self) -> PerSlot<Option<Wheel>>
+        ensures { result ≡ seats self.now }
+    {
+        let values = match &self.values {
+            Slots::Three([left, middle, right]) => Slots::Three([
+                Some(left.wheel),
+                Some(middle.wheel),
+                Some(right.wheel),
+            ]),
+            Slots::Four([first, left, middle, right]) => Slots::Four([
+                Some(first.wheel),
+                Some(left.wheel),
+                Some(middle.wheel),
+                Some(right.wheel),
+            ]),
+        };
+        PerSlot { values }
     }
 }
 

@@ -37,11 +37,12 @@ impl<T: Copy> PerWheel<T> {
             ↔ ((length values.now ≡ 5) ⊎ (length values.now ≡ 8) ⊎ (length values.now ≡ 10)) }
         ensures value { IfSome result (λ wheels. wheels ≡ values.now) }
     {
-        let values = match values.len() {
-            5 => Wheels::Five(<[T; 5]>::try_from(values).ok()?),
-            8 => Wheels::Eight(<[T; 8]>::try_from(values).ok()?),
-            10 => Wheels::Ten(<[T; 10]>::try_from(values).ok()?),
-            _ => return None,
+        let values = match <[T; 5]>::try_from(values) {
+            Ok(values) => Wheels::Five(values),
+            Err(_) => match <[T; 8]>::try_from(values) {
+                Ok(values) => Wheels::Eight(values),
+                Err(_) => Wheels::Ten(<[T; 10]>::try_from(values).ok()?),
+            },
         };
         Some(PerWheel { values })
     }

@@ -1,8 +1,7 @@
 //! The letters and the pins of the Converter's six wheels, by the wheels' numbers.
-ghost use Rattle.std.specs.Prelude.{◌≡◌, ◌↔◌, ◌≤◌, slice_get, slice_set, unwrap_or, Contains, IsSome, IsTrue};
-ghost use Rattle.std.specs.Option.{option_and_then};
+ghost use Rattle.std.specs.Prelude.{◌≡◌, ◌↔◌, ◌≤◌, slice_set, unwrap_or, Contains, IsSome, IsTrue};
 ghost use Rattle.kd_tables.specs.Rings.{ring_of, place_on};
-ghost use Rattle.kd_state.specs.Pins.{pin_at, with_pin};
+ghost use Rattle.kd_state.specs.Pins.{pin_at, wheel_pins, with_pin};
 ghost use Rattle.kd_state.specs.Setting.{has_letter};
 
 use kd_pins::PinSet;
@@ -22,23 +21,23 @@ pub(crate) fn is_on_wheel(wheel: u8, letter: Letter) -> bool
 pub(crate) fn pin_at(pins: &PinSet, wheel: u8, letter: Letter) -> Option<bool>
     ensures { result ≡ pin_at pins.now wheel letter }
 {
-    match wheel {
-        1 => pin_on(&ring1(), &pins.w1, letter),
-        2 => pin_on(&ring2(), &pins.w2, letter),
-        3 => pin_on(&ring3(), &pins.w3, letter),
-        4 => pin_on(&ring4(), &pins.w4, letter),
-        5 => pin_on(&ring5(), &pins.w5, letter),
-        6 => pin_on(&ring6(), &pins.w6, letter),
-        _ => None,
-    }
+    let place = place_on_wheel(wheel, letter)?;
+    pins_on(pins, wheel).get(place).copied()
 }
 
-/// Whether a wheel's pin at the letter is effective.
-fn pin_on<const N: usize>(ring: &Ring<N>, pins: &[bool; N], letter: Letter) -> Option<bool>
-    ensures { result ≡ option_and_then (slice_get pins.now) (place_on ring.now letter) }
+/// The pins of the wheel of that number, and no pin where there is no such wheel.
+fn pins_on(pins: &PinSet, wheel: u8) -> &[bool]
+    ensures { result.now ≡ wheel_pins pins.now wheel }
 {
-    let place = ring.place_of(letter)?;
-    Some(pins[place])
+    match wheel {
+        1 => &pins.w1,
+        2 => &pins.w2,
+        3 => &pins.w3,
+        4 => &pins.w4,
+        5 => &pins.w5,
+        6 => &pins.w6,
+        _ => &[],
+    }
 }
 
 /// Makes the pin at the letter effective or not on the wheel of that number, which has the letter.

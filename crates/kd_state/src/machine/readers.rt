@@ -105,7 +105,6 @@ impl Machine {
 }
 
 /// The letter that stands for a wheel of the box.
-#[tactic(auto, using(std::proofs::lemmas::Option::slice_get_past, crate::proofs::Wheels::place_nowhere))]
 pub(crate) fn of_wheel(model: Model, letters: &PerWheel<Letter>, wheel: Wheel) -> Option<Letter>
     requires { length letters.now ≡ length (box_of model) }
     ensures { result ≡ slice_get letters.now (place_in_box model wheel) }

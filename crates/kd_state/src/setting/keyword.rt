@@ -1,5 +1,7 @@
-ghost use Rattle.std.specs.Prelude.{◌≡◌, ◌≢◌, MatchOption};
+ghost use Rattle.std.specs.Prelude.{◌≡◌, ◌↔◌, IsTrue};
 ghost use Rattle.kd_state.specs.Line.{keyword_text};
+
+use crate::words::is_word;
 
 /// The first word of a setting's line: it tells which setting it is.
 #[derive(Clone, Copy)]
@@ -15,22 +17,26 @@ pub(crate) enum Keyword {
 }
 
 impl Keyword {
-    /// The keyword of the lines that begin with this word.
-    pub(crate) fn from_text(text: &[u8]) -> Option<Self>
-        ensures { MatchOption result
-            ((keyword : _) → keyword_text keyword ≢ text.now)
-            (λ keyword. keyword_text keyword ≡ text.now) }
+    /// The word.
+    fn text(self) -> &'static str
+        ensures { result.now ≡ keyword_text self }
     {
-        match text {
-            b"PULL" => Some(Keyword::Pull),
-            b"PUT" => Some(Keyword::Put),
-            b"SEAT" => Some(Keyword::Seat),
-            b"REFLECTOR" => Some(Keyword::SeatReflector),
-            b"RING" => Some(Keyword::RingTo),
-            b"TURN" => Some(Keyword::Turn),
-            b"PIN" => Some(Keyword::PinTo),
-            b"LUG" => Some(Keyword::LugTo),
-            _ => None,
+        match self {
+            Keyword::Pull => "PULL",
+            Keyword::Put => "PUT",
+            Keyword::Seat => "SEAT",
+            Keyword::SeatReflector => "REFLECTOR",
+            Keyword::RingTo => "RING",
+            Keyword::Turn => "TURN",
+            Keyword::PinTo => "PIN",
+            Keyword::LugTo => "LUG",
         }
+    }
+
+    /// Whether the word is this one.
+    pub(crate) fn is(self, word: &[u8]) -> bool
+        ensures { IsTrue result ↔ (keyword_text self ≡ word.now) }
+    {
+        is_word(word, self.text())
     }
 }

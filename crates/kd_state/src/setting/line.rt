@@ -8,7 +8,9 @@ ghost use Rattle.kd_state.specs.Line.{setting_line, pin_text, IsInRange, IsReadO
 use crate::facts::is_in_range;
 use crate::setting::Setting;
 use crate::setting::keyword::Keyword;
-use crate::words::{letter_of_text, number_of_text, push_letter, push_number, split_words};
+use crate::words::{
+    is_word, letter_of_text, number_of_text, push_letter, push_number, split_words,
+};
 use arrayvec::ArrayString;
 use kd_tables::{Letter, Lug, Place, Reflector, Wheel};
 
@@ -131,65 +133,74 @@ fn of_words(words: &[&[u8]]) -> Option<Setting>
 }
 
 /// The setting whose line has these two words.
-#[tactic(auto, using(crate::proofs::Lines::no_form))]
 fn with_one_value(keyword: &[u8], value: &[u8]) -> Option<Setting>
     ensures { IsReadOff (keyword.now ∷ value.now ∷ []) result }
 {
-    match Keyword::from_text(keyword)? {
-        Keyword::SeatReflector => Some(Setting::SeatReflector {
-            reflector: Reflector::from_text(value)?,
-        }),
-        _ => None,
+    if !Keyword::SeatReflector.is(keyword) {
+        return None;
     }
+    Some(Setting::SeatReflector {
+        reflector: Reflector::from_text(value)?,
+    })
 }
 
 /// The setting whose line has these three words.
-#[tactic(auto, using(crate::proofs::Lines::no_form))]
 fn with_two_values(keyword: &[u8], first: &[u8], second: &[u8]) -> Option<Setting>
     ensures { IsReadOff (keyword.now ∷ first.now ∷ second.now ∷ []) result }
 {
-    match Keyword::from_text(keyword)? {
-        Keyword::Pull => Some(Setting::Pull {
-            cable: number_of_text(first)?,
-            letter: letter_of_text(second)?,
-        }),
-        Keyword::Put => Some(Setting::Put {
-            cable: number_of_text(first)?,
-            letter: letter_of_text(second)?,
-        }),
-        Keyword::Seat => Some(Setting::Seat {
-            slot: number_of_text(first)?,
-            wheel: Wheel::from_text(second)?,
-        }),
-        Keyword::RingTo => Some(Setting::RingTo {
+    if Keyword::RingTo.is(keyword) {
+        return Some(Setting::RingTo {
             wheel: Wheel::from_text(first)?,
             letter: letter_of_text(second)?,
-        }),
-        Keyword::Turn => Some(Setting::Turn {
-            slot: number_of_text(first)?,
-            letter: letter_of_text(second)?,
-        }),
-        _ => None,
+        });
+    }
+    let number = number_of_text(first)?;
+    if Keyword::Seat.is(keyword) {
+        return Some(Setting::Seat {
+            slot: number,
+            wheel: Wheel::from_text(second)?,
+        });
+    }
+    let letter = letter_of_text(second)?;
+    if Keyword::Pull.is(keyword) {
+        Some(Setting::Pull {
+            cable: number,
+            letter,
+        })
+    } else if Keyword::Put.is(keyword) {
+        Some(Setting::Put {
+            cable: number,
+            letter,
+        })
+    } else if Keyword::Turn.is(keyword) {
+        Some(Setting::Turn {
+            slot: number,
+            letter,
+        })
+    } else {
+        None
     }
 }
 
 /// The setting whose line has these four words.
-#[tactic(auto, using(crate::proofs::Lines::no_form))]
 fn with_three_values(keyword: &[u8], first: &[u8], second: &[u8], third: &[u8]) -> Option<Setting>
     ensures { IsReadOff (keyword.now ∷ first.now ∷ second.now ∷ third.now ∷ []) result }
 {
-    match Keyword::from_text(keyword)? {
-        Keyword::PinTo => Some(Setting::PinTo {
-            wheel: number_of_text(first)?,
+    let number = number_of_text(first)?;
+    if Keyword::PinTo.is(keyword) {
+        Some(Setting::PinTo {
+            wheel: number,
             letter: letter_of_text(second)?,
             effective: effective_of_text(third)?,
-        }),
-        Keyword::LugTo => Some(Setting::LugTo {
-            bar: number_of_text(first)?,
+        })
+    } else if Keyword::LugTo.is(keyword) {
+        Some(Setting::LugTo {
+            bar: number,
             lug: Lug::from_text(second)?,
             place: Place::from_text(third)?,
-        }),
-        _ => None,
+        })
+    } else {
+        None
     }
 }
 
@@ -199,9 +210,11 @@ fn effective_of_text(text: &[u8]) -> Option<bool>
         ((effective : _) → pin_text effective ≢ text.now)
         (λ effective. pin_text effective ≡ text.now) }
 {
-    match text {
-        b"ON" => Some(true),
-        b"OFF" => Some(false),
-        _ => None,
+    if is_word(text, "ON") {
+        Some(true)
+    } else if is_word(text, "OFF") {
+        Some(false)
+    } else {
+        None
     }
 }

@@ -44,8 +44,8 @@ pub struct RotorEntry {
 }
 
 impl RotorEntry {
-    ghost use Rattle.std.specs.Prelude.{◌≡◌, ◌↔◌, IsTrue};
-    ghost use Rattle.kd_state.specs.SheetDay.{IsLegalRotorDay, AreOfAGroup, seats};
+    ghost use Rattle.std.specs.Prelude.{◌↔◌, IsTrue};
+    ghost use Rattle.kd_state.specs.SheetDay.{IsLegalRotorDay, AreOfAGroup};
     ghost use Rattle.kd_state.specs.Entry.{rotor_values};
 
     /// Whether an accepted entry has these values.
@@ -58,29 +58,8 @@ impl RotorEntry {
         are_words(groups);
         is_day_number(self.day)
             && allowed_reflector(self.model, self.reflector)
-            && seats::are_legal(self.model, &self.seats())
+            && seats::are_legal(self.model, &self.wheels.seats())
             && Plugs::from_pairs(pairs).is_ok()
-    }
-
-    /// The seats that the wheels take.
-    pub(crate) fn seats(&self) -> PerSlot<Option<Wheel>>
-        ensures { result ≡ seats self.now.wheels }
-    {
-        let seats = match self.wheels.as_slice() {
-            [first, left, middle, right] => PerSlot::new(&[
-                Some(first.wheel),
-                Some(left.wheel),
-                Some(middle.wheel),
-                Some(right.wheel),
-            ]),
-            [left, middle, right] => PerSlot::new(&[
-                Some(left.wheel),
-                Some(middle.wheel),
-                Some(right.wheel),
-            ]),
-            _ => None,
-        };
-        seats.unwrap()
     }
 
     /// Whether these are the letters of one of the groups, in any order.

@@ -3,10 +3,8 @@ use Rattle.kd_state.proofs.engine.turn_drum.Goals as goal
 
 pub returns-in-Ok-clause-window : goal.returns-in-Ok-clause-window
 returns-in-Ok-clause-window c =
-    let letters = c.args.letters.now in
     let whole = c.in-Ok.ensures.1 in
-    let turned = c.turn_to.ensures.ok in
     let tells = c.is_ok.ensures.value in (
-      λ yes. are_on_wheels letters whole.long (subst OnWheels whole.same (turned.0 (sym tells ∙ yes))),
-      λ on. tells ∙ turned.1 (subst OnWheels (sym whole.same) (stand_on_wheels letters on)),
+      λ yes. are_on_wheels _ whole.long (subst OnWheels whole.same (c.turn_to.ensures.ok.0 (sym tells ∙ yes))),
+      λ on. tells ∙ c.turn_to.ensures.ok.1 (subst OnWheels (sym whole.same) (stand_on_wheels _ on)),
     )

@@ -1,4 +1,4 @@
-use Rattle.kd_state.proofs.Refusing.{seats_by_the_tables, reflectors_by_the_tables, rings_by_the_tables}
+use Rattle.kd_state.proofs.Telling.Refusing.{seats_by_the_tables, reflectors_by_the_tables, rings_by_the_tables}
 use Rattle.kd_state.proofs.laws.tables_say_what_is_refused.Goals as goal
 
 pub returns : goal.returns

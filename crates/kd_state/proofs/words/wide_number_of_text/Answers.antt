@@ -1,5 +1,4 @@
-use Rattle.kd_state.proofs.Prelude.{Decides-eqb, Decides, arith, subst, sym, ◌∙◌, ◌≡◌, ParsesUnsigned}
-use Rattle.std.proofs.lemmas.Slice.Eq.{slice_eq-Decides}
+use Rattle.kd_state.proofs.Prelude.{Decides, arith, subst, sym, ◌∙◌, ◌≡◌, ParsesUnsigned}
 use Rattle.kd_state.proofs.Lines.{no_text, no_number, only_number, ok_part}
 use Rattle.kd_state.proofs.words.wide_number_of_text.Goals as goal
 
@@ -15,7 +14,6 @@ pub returns : goal.returns
 returns c =
     let text = ok_part c.from_utf8.result c.in_ok-ok.field-0 _ _ c.from_utf8.ensures.cases c.in_ok-ok.ensures.value in
     let parsed = subst (λ bs. ParsesUnsigned 16 10 bs c.parse.result) text.0 c.parse.ensures.value.0 in
-    let compared = slice_eq-Decides Decides-eqb c.as_bytes.result.now c.args.text.now c.eq.result c.eq.ensures in
-    let decided = subst (λ bs. Decides c.eq.result (bs ≡ c.args.text.now)) (c.as_bytes.ensures.value ∙ c.format.ensures.text) compared in
+    let decided = subst (λ bs. Decides c.is_word.result (bs ≡ c.args.text.now)) c.format.ensures.text c.is_word.ensures in
     rw c.then_some.ensures
-    (only_number c.args.text.now c.parse.result c.in_ok-number.number c.eq.result parsed (sym c.in_ok-number.ensures.value) decided)
+    (only_number c.args.text.now c.parse.result c.in_ok-number.number c.is_word.result parsed (sym c.in_ok-number.ensures.value) decided)

@@ -1,4 +1,4 @@
-use Rattle.kd_state.proofs.{Changing.ordered_parts, Prelude.IsMachine, Prelude.subst, Prelude.sym}
+use Rattle.kd_state.proofs.{Telling.Refusing.Changing.ordered_parts, Prelude.IsMachine, Prelude.subst, Prelude.sym}
 use Rattle.kd_state.proofs.machine.Machine.rotor.Goals as goal
 
 pub invariant_of-result : goal.invariant_of-result

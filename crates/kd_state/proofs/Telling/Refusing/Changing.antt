@@ -1,29 +1,32 @@
 -- What a setting that is carried out makes of a machine: a machine again, in which the readers tell what was set, and all else as before.
-use Rattle.kd_state.proofs.Prelude.{numbered, place_in_box, IsKept, IsSeatOf, Makes, MovesLug, SetsOnly, TheBar}
-use Rattle.kd_state.proofs.Prelude.{TheCable, TheLetter, ThePin, TheReflector, TheSlot, Thing, SettingsAreTold}
-use Rattle.kd_state.proofs.Prelude.{SettingsKeepMachines, IsInRange, AreAllowed, AreApart, AreCables, AreLetters}
-use Rattle.kd_state.proofs.Prelude.{AreOnWheels, IsLegalPin, IsLegalRotor, IsMachine, StandsAt, cable_letters}
-use Rattle.kd_state.proofs.Prelude.{cables_ordered, letter_at, ordered, plugged_letters, pin_at, pin_set, wheel_pins}
-use Rattle.kd_state.proofs.Prelude.{with_pin, cable_at, cable_with, cable_without, changed, is_at, lies_beyond}
-use Rattle.kd_state.proofs.Prelude.{lug_place, other_lug, reasons, why_refused, with_letter, with_lug, with_lug_at}
-use Rattle.kd_state.proofs.Prelude.{without, Parts, Pin, Rotor, PinParts, RotorParts, Setting, LugTo, PinTo, Pull, Put}
-use Rattle.kd_state.proofs.Prelude.{RingTo, Seat, SeatReflector, Turn, Why, WouldPass, IsBefore, place_on, box_of}
-use Rattle.kd_state.proofs.Prelude.{reflectors_of, wheels_for, Lug, Model, Place, Wheel, both_ways, cases_Bool}
-use Rattle.kd_state.proofs.Prelude.{cases_eq, eqb-false, not-false, true_from_ne_false, true≢false, length-map}
-use Rattle.kd_state.proofs.Prelude.{length-set, map-set, All-cons, All-contains, All-from_recursion, All-set, All-tail}
-use Rattle.kd_state.proofs.Prelude.{Contains-append_cases, Contains-append_left, Contains-append_right, position-Some}
-use Rattle.kd_state.proofs.Prelude.{All-permutation, Contains-permutation, IsPermutation-sym, Contains-tail, none-some}
-use Rattle.kd_state.proofs.Prelude.{same_Some, slice_get-map, slice_get_within, All, AllByRecursion, is_none}
-use Rattle.kd_state.proofs.Prelude.{option_and_then, option_map, option_map_or, option_or, unwrap_or, pins_of, PinSet}
-use Rattle.kd_state.proofs.Prelude.{ring_of, Bool, Contains, List, None, Option, Some, [], ap, arith, false, find, inl}
-use Rattle.kd_state.proofs.Prelude.{inr, length, map, nat_eq, refl, rules, set, slice_get, subst, suc, sym, true, zero}
-use Rattle.kd_state.proofs.Prelude.{ℕ, ◌+◌, ◌-◌, ◌<◌, ◌↔◌, ◌∙◌, ◌∷◌, ◌≡◌, ◌≢◌, ◌≤◌, ◌⊎◌, common_steps, IsDistinct}
-use Rattle.kd_state.proofs.{Prelude.IsPermutation, Slots.numbered_here, Slots.numbered_other, Slots.seated_in_box}
-use Rattle.std.proofs.lemmas.Map.Keys.{IsDistinct-IsPermutation, IsDistinct-head, IsDistinct-tail, IsDistinct-cons}
-use Rattle.kd_state.proofs.Cables.{all_ordered, all_ordered_move, all_ordered_again, ordered_again, without_ordered}
-use Rattle.kd_state.proofs.Cables.{without_moves, with_moves, set_moves, eqb_flips, free_tells, of_one}
-use Rattle.kd_state.proofs.Slots.{has_letter-Decides, place_there, only_place, stands, set_here, set_other}
-use Rattle.kd_state.proofs.Wheels.{places_tell_wheels, has_wheel-Decides, has_reflector-Decides, same_wheel-Decides, same_wheel_self, same_wheel_differs, placed, place_within, place_nowhere}
+pub use Rattle.kd_state.proofs.Prelude.{numbered, place_in_box, IsKept, IsSeatOf, Makes, MovesLug, SetsOnly, TheBar}
+pub use Rattle.kd_state.proofs.Prelude.{TheCable, TheLetter, ThePin, TheReflector, TheSlot, Thing, SettingsAreTold}
+pub use Rattle.kd_state.proofs.Prelude.{SettingsKeepMachines, IsInRange, AreAllowed, AreApart, AreCables, AreLetters}
+pub use Rattle.kd_state.proofs.Prelude.{AreOnWheels, IsLegalPin, IsLegalRotor, IsMachine, StandsAt, cable_letters}
+pub use Rattle.kd_state.proofs.Prelude.{cables_ordered, letter_at, ordered, plugged_letters, pin_at, pin_set}
+pub use Rattle.kd_state.proofs.Prelude.{wheel_pins, with_pin, cable_at, cable_with, cable_without, changed, is_at}
+pub use Rattle.kd_state.proofs.Prelude.{lies_beyond, lug_place, other_lug, reasons, why_refused, with_letter, with_lug}
+pub use Rattle.kd_state.proofs.Prelude.{with_lug_at, without, Parts, Pin, Rotor, PinParts, RotorParts, Setting, LugTo}
+pub use Rattle.kd_state.proofs.Prelude.{PinTo, Pull, Put, RingTo, Seat, SeatReflector, Turn, Why, WouldPass, IsBefore}
+pub use Rattle.kd_state.proofs.Prelude.{place_on, box_of, reflectors_of, wheels_for, Lug, Model, Place, Wheel}
+pub use Rattle.kd_state.proofs.Prelude.{both_ways, cases_Bool, cases_eq, eqb-false, not-false, true_from_ne_false}
+pub use Rattle.kd_state.proofs.Prelude.{true≢false, length-map, length-set, map-set, All-cons, All-contains}
+pub use Rattle.kd_state.proofs.Prelude.{All-from_recursion, All-set, All-tail, Contains-append_cases}
+pub use Rattle.kd_state.proofs.Prelude.{Contains-append_left, Contains-append_right, position-Some, All-permutation}
+pub use Rattle.kd_state.proofs.Prelude.{Contains-permutation, IsPermutation-sym, Contains-tail, none-some, same_Some}
+pub use Rattle.kd_state.proofs.Prelude.{slice_get-map, slice_get_within, All, AllByRecursion, is_none, option_and_then}
+pub use Rattle.kd_state.proofs.Prelude.{option_map, option_map_or, option_or, unwrap_or, pins_of, PinSet, Bool}
+pub use Rattle.kd_state.proofs.Prelude.{Contains, List, None, Option, Some, [], ap, arith, false, find, inl, inr}
+pub use Rattle.kd_state.proofs.Prelude.{length, map, nat_eq, refl, rules, set, slice_get, subst, suc, sym, true, zero}
+pub use Rattle.kd_state.proofs.Prelude.{ℕ, ◌+◌, ◌-◌, ◌<◌, ◌↔◌, ◌∙◌, ◌∷◌, ◌≡◌, ◌≢◌, ◌≤◌, ◌⊎◌, common_steps, IsDistinct}
+pub use Rattle.kd_state.proofs.Slots.{numbered_here, numbered_other, seated_in_box, has_letter-Decides, place_there}
+pub use Rattle.kd_state.proofs.{Prelude.IsPermutation, Slots.{only_place, stands, set_here, set_other}}
+pub use Rattle.std.proofs.lemmas.Map.Keys.{IsDistinct-IsPermutation, IsDistinct-head, IsDistinct-tail, IsDistinct-cons}
+pub use Rattle.kd_state.proofs.Cables.{all_ordered, all_ordered_move, all_ordered_again, ordered_again, without_ordered}
+pub use Rattle.kd_state.proofs.Cables.{without_moves, with_moves, set_moves, eqb_flips, free_tells, of_one}
+pub use Rattle.kd_state.proofs.Wheels.{places_tell_wheels, has_wheel-Decides, has_reflector-Decides, same_wheel-Decides}
+pub use Rattle.kd_state.proofs.Wheels.{same_wheel_self, same_wheel_differs, placed, place_within, place_nowhere}
+unfoldable pub use Rattle.kd_state.proofs.Prelude.{ring_of}
 
 -- ---- reasons, and machines that differ in one thing
 

@@ -1,20 +1,11 @@
 -- What a machine refuses, as its readers tell it; and settings and lists of them, refused and carried out.
-use Rattle.kd_state.proofs.Prelude.{numbered, RefusalsAreTold, IsInRange, HasAllPins, IsMachine, cable_letters}
-use Rattle.kd_state.proofs.Prelude.{plugged_letters, pin_at, wheel_pins, Carries, Leads, Stands, changed, has_letter}
-use Rattle.kd_state.proofs.Prelude.{is_at, is_plugged, lies_beyond, lug_place, other_lug, why_refused, with_lug, Parts}
-use Rattle.kd_state.proofs.Prelude.{Pin, Rotor, PinParts, RotorParts, Setting, LugTo, PinTo, Pull, Put, RingTo, Seat}
-use Rattle.kd_state.proofs.Prelude.{SeatReflector, Turn, Why, NoLooseEnd, NoSuchBar, NoSuchCable, NotOnWheel, NotThere}
-use Rattle.kd_state.proofs.Prelude.{OtherModel, PlaceTaken, SlotEmpty, SocketTaken, WheelNotAllowed, WouldPass}
-use Rattle.kd_state.proofs.Prelude.{place_on, IsAllowed, box_of, reflectors_of, wheels_for, Lug, Place, Reflector}
-use Rattle.kd_state.proofs.Prelude.{Wheel, false_from_ne_true, false≢true, not-false, All-head, All-tail}
-use Rattle.kd_state.proofs.Prelude.{Contains-append_cases, position-Some, none-some, same_Some, slice_get-get_or}
-use Rattle.kd_state.proofs.Prelude.{Decides, All, IsSome, is_none, is_some, option_and_then, option_map, option_map_or}
-use Rattle.kd_state.proofs.Prelude.{unwrap_or, ring_of, Bool, Contains, List, MatchOption, None, Option, Some, [], ap}
-use Rattle.kd_state.proofs.Prelude.{arith, false, inl, inr, length, nat_eq, not, refl, slice_get, subst, suc, sym, true}
-use Rattle.kd_state.proofs.Prelude.{zero, ℕ, ◌<◌, ◌↔◌, ◌∙◌, ◌∷◌, ◌≡◌, ◌⊎◌}
-use Rattle.kd_state.proofs.Changing.{first_reason, settings_keep_machines, no_reason, lies_plugged, still_before}
-use Rattle.kd_state.proofs.Wheels.{has_wheel-Decides, has_reflector-Decides}
-use Rattle.kd_state.proofs.Slots.{has_letter-Decides, is_some-place_on, place_there}
+pub mod Changing
+unfoldable pub use Changing.*
+pub use Rattle.kd_state.proofs.Prelude.{RefusalsAreTold, HasAllPins, Carries, Leads, Stands, has_letter, is_plugged}
+pub use Rattle.kd_state.proofs.Prelude.{NoLooseEnd, NoSuchBar, NoSuchCable, NotOnWheel, NotThere, OtherModel}
+pub use Rattle.kd_state.proofs.Prelude.{PlaceTaken, SlotEmpty, SocketTaken, WheelNotAllowed, IsAllowed, Reflector}
+pub use Rattle.kd_state.proofs.Prelude.{false_from_ne_true, false≢true, All-head, slice_get-get_or, Decides, IsSome}
+pub use Rattle.kd_state.proofs.{Prelude.is_some, Prelude.MatchOption, Prelude.not, Slots.is_some-place_on}
 
 pub lists_keep_machines : (m n : Parts) (xs : List Setting) → IsMachine m → All IsInRange xs → Leads m xs n → IsMachine n
 lists_keep_machines m n [] h r l = subst IsMachine (sym l) h
