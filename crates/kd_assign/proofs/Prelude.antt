@@ -5,8 +5,7 @@ pub use Rattle.kd_assign.specs.Scans.{scans_of_tree, scans_of_trees}
 pub use Rattle.kd_assign.specs.Solved.{Has, IsCheapest, IsFree, IsSeated, IsSolvedTo}
 pub use Rattle.kd_assign.specs.Tree.{AreClose, AreCompared, IsCompared, IsGrown, IsNearest, IsPlan, has_column, room_at}
 pub use Rattle.std.proofs.lemmas.Bool.{cases_Bool, cases_eq, cases_lt, eq-eqb, eqb-true, false≢true}
-pub use Rattle.std.proofs.lemmas.Grind.{common_steps}
-pub use Rattle.std.proofs.lemmas.Int.{clamps, ints, to_z-of_z}
+pub use Rattle.std.proofs.lemmas.{Grind.common_steps, Int.{clamps, ints, to_z-of_z}}
 pub use Rattle.std.proofs.lemmas.List.{get_or-set_other, get_or-set_same, get_or_default, get_or_past, length-set}
 pub use Rattle.std.proofs.lemmas.List.Sums.{count_by-le-length, get_or-le-sum_by, sum_by-cons, sum_by-set, sum_by_more}
 pub use Rattle.std.proofs.lemmas.Option.{none-some, same_Some}

@@ -3,8 +3,7 @@ use Rattle.kd_desk.proofs.Prelude.{◌≡◌, ◌≢◌, ℕ, List, Option, Some
 use Rattle.clap.proofs.{OnLiterals.clap_on_literals, WalkLemmas.first_value-rows}
 use Rattle.clap.specs.declared.error.{Error.Error, kind.ErrorKind.TheVariants.OutOfMemory}
 use Rattle.clap.specs.declared.parser.matches.{ArgMatches.ArgMatches, Found.Found}
-use Rattle.kd_desk.specs.{CommandLine.desk_grammar, declared.command.Command.Command}
-use Rattle.std.proofs.Common.{ok_or}
+use Rattle.{kd_desk.specs.{CommandLine.desk_grammar, declared.command.Command.Command}, std.proofs.Common.ok_or}
 
 -- a command with its files' names as they were lent
 abbrev Lent : Type 0

@@ -1,12 +1,9 @@
 -- What the proofs of this crate speak of.
 pub use Rattle.std.proofs.Common.{Bool, Bor, Err, IfOk, IfSome, IsErr, IsErrAnd, IsFalse, IsSomeAnd, IsTrue, List, MatchResult, None, Ok, Option, Result, Some, [], ap, append_assoc, ap₂, arith, codes, decimal, false, inl, inr, is_ok, length, map, option_map, refl, rules, subst, suc, sym, take, true, true≢false, ℕ, ◌++◌, ◌+◌, ◌-◌, ◌<◌, ◌||◌, ◌∙◌, ◌∷◌, ◌≡◌, ◌≢◌, ◌≤◌, ◌⊎◌}
-pub use Rattle.std.proofs.lemmas.Option.{same_Some}
-pub use Rattle.std.specs.Io.KnownBytes.{Appends, Consumes}
-pub use Rattle.std.specs.Option.{ok_or}
+pub use Rattle.std.{proofs.lemmas.Option.same_Some, specs.Io.KnownBytes.{Appends, Consumes}, specs.Option.ok_or}
 pub use Rattle.clap.specs.Simple.{app_of_fields}
 pub use Rattle.clap.specs.Words.{App, FailsBy, HasKind, HasMatchesOf, Row, app_of, fault_of, first_of, first_value, found_of, is_simple, is_simple_and_free, kind_of, new_app, new_rule, rows_of, rule_of, subcommand_of, subcommand_rows_of}
-pub use Rattle.clap.specs.declared.builder.arg.Arg.{Arg}
-pub use Rattle.kd_card.specs.CardText.{IsCard}
+pub use Rattle.{clap.specs.declared.builder.arg.Arg.Arg, kd_card.specs.CardText.IsCard}
 pub use Rattle.kd_card.specs.declared.prices.PriceParts.{PriceParts}
 pub use Rattle.kd_desk.specs.CommandLine.{IsActionOf, IsOf, Named, NamedAction, Says, named}
 pub use Rattle.kd_desk.specs.Files.{Gives, IsReadWhole, Opened, opened}
@@ -17,15 +14,9 @@ pub use Rattle.kd_desk.specs.RunApply.{Applies, Carried, NoSettings, RefusedLine
 pub use Rattle.kd_desk.specs.RunCheck.{Checks, Doubtful, NoCard, Other, Shortest, verdict_text}
 pub use Rattle.kd_desk.specs.RunSteps.{LacksMemory, is_device, is_refused_before}
 pub use Rattle.kd_desk.specs.Settings.{AreSettings, InCard, InList, IsSettingsFault, OfCard, OfList, begins_as_card}
-pub use Rattle.kd_desk.specs.declared.fault.DeskFault.{DeskFault}
-pub use Rattle.kd_desk.specs.declared.stop.Stop.{Stop}
-pub use Rattle.kd_desk.specs.declared.stop.Stop.TheVariants.{Unread, Usage}
-pub use Rattle.kd_form.specs.declared.fault.FormFault.{FormFault}
-pub use Rattle.kd_sheet.specs.MachineFile.{machine_of}
-pub use Rattle.kd_state.specs.Machine.{IsMachine}
-pub use Rattle.kd_state.specs.Setting.{Leads, why_refused}
-pub use Rattle.kd_state.specs.SheetDay.{Day, IsDayNumber, IsLegalDay, day_number}
-pub use Rattle.kd_state.specs.declared.machine.parts.Parts.{Parts}
+pub use Rattle.kd_desk.specs.declared.{fault.DeskFault.DeskFault, stop.Stop.Stop, stop.Stop.TheVariants.{Unread, Usage}}
+pub use Rattle.{kd_form.specs.declared.fault.FormFault.FormFault, kd_sheet.specs.MachineFile.machine_of}
+pub use Rattle.kd_state.specs.{Machine.IsMachine, Setting.{Leads, why_refused}}
+pub use Rattle.kd_state.specs.{SheetDay.{Day, IsDayNumber, IsLegalDay, day_number}, declared.machine.parts.Parts.Parts}
 pub use Rattle.kd_state.specs.declared.setting.Setting.{Setting}
-pub use Rattle.kd_tables.specs.Ports.{Fail, IsWell, Port, port, read_limit}
-pub use Rattle.kd_tables.specs.Writing.{TakesFront}
+pub use Rattle.kd_tables.specs.{Ports.{Fail, IsWell, Port, port, read_limit}, Writing.TakesFront}

@@ -1,7 +1,6 @@
 -- Six letters that are read one by one, and the wheels that have them.
 use Rattle.std.proofs.Common.{◌≡◌, ◌↔◌, ◌-◌, ◌||◌, ◌∷◌, [], ℕ, ◌<◌, Bool, false, not, IsTrue, List, Contains, length, get_or, slice_index, refl, arith}
-use Rattle.kd_drum.{proofs.Starts.each_wheel, specs.Converter.OnWheels}
-use Rattle.kd_tables.specs.Rings.{ring_of}
+use Rattle.{kd_drum.{proofs.Starts.each_wheel, specs.Converter.OnWheels}, kd_tables.specs.Rings.ring_of}
 use Rattle.std.proofs.{Math.Bool.beq, lemmas.Bool.Decides.nat_tests, lemmas.List.get_or_default}
 
 -- a letter that was read from the list is on a wheel with these letters

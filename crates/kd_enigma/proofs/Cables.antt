@@ -11,8 +11,7 @@ use Rattle.{std.specs.List.list_any, std.proofs.lemmas.Bool.{cases_Bool, cases_e
 use Rattle.{std.proofs.lemmas.Bool.{false_from_ne_true, false≢true}, std.proofs.lemmas.List.{drop_more, length-set}}
 use Rattle.std.proofs.lemmas.List.{map-id, take-append-drop, take_all, take_more}
 use Rattle.std.proofs.lemmas.List.FromFn.{fill_by_all, get_or-map-range_with_len, length-map-range_with_len}
-use Rattle.kd_enigma.specs.Plugs.{IsLeft, letters_plugged, NoLetterTwice, Joins}
-use Rattle.kd_enigma.proofs.Ways.{each_letter}
+use Rattle.kd_enigma.{specs.Plugs.{IsLeft, letters_plugged, NoLetterTwice, Joins}, proofs.Ways.each_letter}
 
 -- ---- the letters of pairs
 

@@ -3,8 +3,7 @@ pub use Rattle.kd_form.proofs.Prelude.{◌≡◌, ◌∙◌, ℕ, ◌<◌, List,
 use Rattle.std.proofs.lemmas.List.FromFn.{length-enumerate_from, length-range_with_len, get_or-range_with_len}
 use Rattle.kd_tables.specs.{Permutation.alphabet, Permutation.followed_by, Rings.ring_of}
 use Rattle.kd_enigma.specs.Cipher.{RotorKey, product, path}
-use Rattle.kd_state.specs.TwoCiphers.{EngineKey, key_left, key_with_window}
-use Rattle.kd_form.specs.Making.{IsTurnedFrom}
+use Rattle.{kd_state.specs.TwoCiphers.{EngineKey, key_left, key_with_window}, kd_form.specs.Making.IsTurnedFrom}
 
 pub enciphered_length : (s : Day) (window text : List ℕ) → length (cipher_from s window text) ≡ length text
 enciphered_length (OfRotors s) window text = length-map (enumerate_from 1 text) _ ∙ length-enumerate_from 1 text

@@ -2,8 +2,7 @@
 use Rattle.kd_prices.proofs.Prelude.{◌≡◌, ℕ, List, [], ◌∷◌, ◌++◌, length, refl, sym, ap, ◌∙◌, subst, arith, ◌↔◌, cases_order, false≢true, Parts, Setting, Why, why_refused, Leads, Day, cost_table, LeadsToOne, PriceParts, AreNeeded, Proves, IllegalAt, NeedlessLine, IsFirstWithout, IsFirstNeedless, Result, Ok, Err, IsOk, IfErr, Found, IsOnly, only_then, only_finds, only_demands, passed}
 use Rattle.{kd_card.specs.Carrying.IsFirstIllegal, kd_prices.proofs.Leading.needed_at}
 use Rattle.kd_prices.proofs.{Leading.not_refused, Meaning.are_numbered, Meaning.of_one_model, Meaning.one_expansion}
-use Rattle.kd_prices.specs.declared.doubt.Doubt.{Doubt}
-use Rattle.kd_prices.specs.Doubt.{SaysCarried, SaysFits, SaysNeeded, SaysChecked, IsDoubt}
+use Rattle.kd_prices.specs.{declared.doubt.Doubt.Doubt, Doubt.{SaysCarried, SaysFits, SaysNeeded, SaysChecked, IsDoubt}}
 
 -- A list has one front that is good, and with what stands behind it is the front of no good list.
 one_front : {X : Type 0} (Good : List X → Type 0) (front other after behind : List X) (x y : X) → front ++ x ∷ after ≡ other ++ y ∷ behind → Good front → Good other

@@ -3,8 +3,7 @@ use Rattle.kd_prices.proofs.Prelude.{leads_next, ◌≡◌, Some, ℕ, ◌+◌, 
 use Rattle.{kd_card.specs.Proving.is_priced, kd_prices.specs.Doubt.SaysNeeded}
 use Rattle.{kd_prices.specs.declared.doubt.Doubt.Doubt, kd_state.specs.Costs.loose_count}
 use Rattle.{kd_state.specs.Setting.Carries, std.proofs.Math.Seq.drop-cons, std.proofs.lemmas.List.length-take-le}
-use Rattle.std.{proofs.lemmas.List.take_more, specs.Prelude.IsFalse, specs.Result.MatchResult}
-use Rattle.std.specs.Result.{result_and}
+use Rattle.std.{proofs.lemmas.List.take_more, specs.Prelude.IsFalse, specs.Result.MatchResult, specs.Result.result_and}
 
 -- the settings behind those that have been carried out
 pub leads_on : (m between n : Parts) (front rest : List Setting) → Leads m front between → Leads m (front ++ rest) n → Leads between rest n

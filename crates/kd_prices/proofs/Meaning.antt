@@ -1,7 +1,6 @@
 -- Prices mean one list of prices by number at most, and those are of the same model.
 use Rattle.kd_prices.proofs.Prelude.{below_more, ◌≡◌, ◌≢◌, Some, ℕ, ◌+◌, ◌<◌, ◌≤◌, inl, inr, List, [], ◌∷◌, ◌++◌, length, get_or, sym, ◌∙◌, subst, arith, ℤ, pos, unsigned_abs, Option, None, MatchOption, All-from_get_or, Pair, ext_get_or, get_or_default, Parts, Setting, Day, Look, PricedKind, PriceParts, Group, ByNumber, ByKind, look_rank, AreKinds, version_of, row_kinds, column_kinds, ArePrices, row_prices, column_prices, price_at, AreWithinReach, group_of, AreOfKind, row_looks, column_looks, IsPriced, look_at, AreExpanded, Expands, Same, Expanded, group_of_machine, Proves, AreOfOneModel, AreNumbered}
-use Rattle.std.proofs.lemmas.List.{get_or_append_left, get_or_at}
-use Rattle.kd_card.specs.CardFault.{numbered}
+use Rattle.{std.proofs.lemmas.List.{get_or_append_left, get_or_at}, kd_card.specs.CardFault.numbered}
 
 above : (floor : ℕ) (kinds : List PricedKind) (look : Look) (price : ℤ) → AreKinds floor kinds → IsPriced look price kinds → floor ≤ look_rank look
 above floor [] look price are priced = absurd priced

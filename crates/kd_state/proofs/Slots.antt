@@ -5,8 +5,7 @@ use Rattle.kd_state.proofs.Prelude.{Decides-like, position-Some, is_member-Decid
 use Rattle.kd_state.proofs.Prelude.{slice_get-get_or, slice_get_within, Decides, is_none, is_some, unwrap_or, PinSet}
 use Rattle.kd_state.proofs.Prelude.{ring_of, Contains, List, Option, Some, arith, false, length, nat_eq, refl, set}
 use Rattle.kd_state.proofs.Prelude.{slice_get, sym, ℕ, ◌+◌, ◌-◌, ◌<◌, ◌∙◌, ◌≡◌, ◌≢◌, ◌≤◌, common_steps}
-use Rattle.std.proofs.Common.{add-one}
-use Rattle.kd_state.proofs.Wheels.{placed, first_within, first_nowhere}
+use Rattle.{std.proofs.Common.add-one, kd_state.proofs.Wheels.{placed, first_within, first_nowhere}}
 
 -- what has a number, stands at a place
 pub record IsNumbered {X : Type 0} (xs : List X) (number : ℕ) (x : X) : Type 0 where

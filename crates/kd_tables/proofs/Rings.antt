@@ -1,8 +1,7 @@
 -- The places of a pin wheel's letters.
 use Rattle.std.proofs.Common.{◌≡◌, ◌≢◌, ℕ, ◌<◌, ◌==◌, ltb, List, [], length, slice_index, Some, None, refl, arith}
 use Rattle.kd_tables.{proofs.Wirings.one_place, specs.Rings.IsRing, specs.Rings.place_on, specs.Rings.ring_of}
-use Rattle.std.proofs.lemmas.List.{Quantifiers.position-Some, Sums.position_or_len_is}
-use Rattle.std.specs.List.{position_or_len}
+use Rattle.std.{proofs.lemmas.List.{Quantifiers.position-Some, Sums.position_or_len_is}, specs.List.position_or_len}
 use Rattle.std.proofs.lemmas.Bool.{cond-true, lt-ltb, eqb-true, eq-eqb, ne_eqb}
 
 pub letter_leads_to_place : (size : ℕ) (ring : List ℕ) → IsRing size ring → (place : ℕ) → place < size → place_on ring (slice_index ring place) ≡ Some place

@@ -1,5 +1,4 @@
-use Rattle.std.proofs.Common.{◌≡◌, ℕ, ◌<◌, length, slice_index}
-use Rattle.kd_assign.proofs.Prelude.{Has}
+use Rattle.{std.proofs.Common.{◌≡◌, ℕ, ◌<◌, length, slice_index}, kd_assign.proofs.Prelude.Has}
 use Rattle.kd_assign.proofs.columns.columns_of.Given as goal
 
 abbrev pub invariant-loop-column : goal.invariant-loop-column

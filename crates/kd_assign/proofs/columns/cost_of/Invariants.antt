@@ -1,5 +1,4 @@
-use Rattle.std.proofs.Common.{◌≡◌, ◌+◌, ◌*◌, ◌≤◌, drop}
-use Rattle.kd_assign.specs.Assignment.{assignment_cost}
+use Rattle.{std.proofs.Common.{◌≡◌, ◌+◌, ◌*◌, ◌≤◌, drop}, kd_assign.specs.Assignment.assignment_cost}
 use Rattle.kd_assign.proofs.columns.cost_of.Given as goal
 
 abbrev pub invariant-loop-row : goal.invariant-loop-row

@@ -1,7 +1,6 @@
 use Rattle.std.proofs.Common.{add-one, ◌+◌, ◌∙◌, count_by, is_some, None, set, false, w16, rules, arith}
 use Rattle.kd_assign.proofs.Counting.{scans_of_tree-grows, scans_of_tree-most}
-use Rattle.kd_assign.proofs.Growing.{ends, first_grown, grows, some_outside}
-use Rattle.kd_assign.proofs.Places.{count-reached, count_at_most}
+use Rattle.kd_assign.proofs.{Growing.{ends, first_grown, grows, some_outside}, Places.{count-reached, count_at_most}}
 use Rattle.kd_assign.proofs.Prelude.{common_steps, length-set, to_z-of_z, count_by-le-length}
 use Rattle.kd_assign.proofs.growth.assign_row.Goals as goal
 

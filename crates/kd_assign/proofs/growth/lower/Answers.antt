@@ -1,5 +1,4 @@
-use Rattle.std.proofs.Common.{inl, inr, rules, arith}
-use Rattle.kd_assign.proofs.Prelude.{cases_eq, common_steps, to_z-of_z}
+use Rattle.{std.proofs.Common.{inl, inr, rules, arith}, kd_assign.proofs.Prelude.{cases_eq, common_steps, to_z-of_z}}
 use Rattle.kd_assign.proofs.growth.lower.Goals as goal
 
 pub loop-column-preserved : goal.loop-column-preserved

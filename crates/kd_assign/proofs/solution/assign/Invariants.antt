@@ -1,5 +1,4 @@
-use Rattle.std.proofs.Common.{◌≡◌, ◌*◌, ◌≤◌, length}
-use Rattle.kd_assign.proofs.Prelude.{IsSolvedTo, scans_of_trees}
+use Rattle.{std.proofs.Common.{◌≡◌, ◌*◌, ◌≤◌, length}, kd_assign.proofs.Prelude.{IsSolvedTo, scans_of_trees}}
 use Rattle.kd_assign.proofs.solution.assign.Given as goal
 
 abbrev pub invariant-loop-row : goal.invariant-loop-row

@@ -1,5 +1,4 @@
-use Rattle.kd_desk.proofs.{Grammars.one_command_more, Prelude.refl}
-use Rattle.std.proofs.lemmas.Result.{IfOk-weaker}
+use Rattle.{kd_desk.proofs.{Grammars.one_command_more, Prelude.refl}, std.proofs.lemmas.Result.IfOk-weaker}
 use Rattle.kd_desk.proofs.command.with_command.Goals as goal
 
 pub returns : goal.returns

@@ -1,5 +1,4 @@
-use Rattle.kd_desk.proofs.{Months.papers_for, Prelude.Leads, Prelude.rules}
-use Rattle.kd_plan.specs.Planned.{Plans}
+use Rattle.{kd_desk.proofs.{Months.papers_for, Prelude.Leads, Prelude.rules}, kd_plan.specs.Planned.Plans}
 use Rattle.kd_desk.proofs.laws.set_to.Goals as goal
 
 pub returns-clause-written : goal.returns-clause-written

@@ -1,5 +1,4 @@
-use Rattle.kd_form.proofs.Prelude.{◌≡◌, ◌+◌, ◌++◌, take, letters_text}
-use Rattle.arrayvec.specs.ArrayString.{array_string_len}
+use Rattle.{kd_form.proofs.Prelude.{◌≡◌, ◌+◌, ◌++◌, take, letters_text}, arrayvec.specs.ArrayString.array_string_len}
 use Rattle.kd_form.proofs.body.push_letters.Given as goal
 
 abbrev pub invariant-loop-letter : goal.invariant-loop-letter

@@ -1,7 +1,6 @@
 use Rattle.std.proofs.Common.{◌≡◌, ℕ, ◌<◌, true, eqb, List, [], ◌∷◌, All, ◌⊎◌, inl, inr, sym, subst, arith}
 use Rattle.std.proofs.lemmas.{Bool.eqb-true, Bool.false≢true, Bool.or_cases, List.Elements.All-head}
-use Rattle.std.proofs.lemmas.{List.Elements.All-tail, Map.Steps.length-le_from_distinct_below}
-use Rattle.std.specs.List.{list_any}
+use Rattle.std.{proofs.lemmas.{List.Elements.All-tail, Map.Steps.length-le_from_distinct_below}, specs.List.list_any}
 use Rattle.kd_pins.proofs.pin_wheel.at_most_all_letters.Goals as goal
 
 -- a number among numbers below 26 is below 26

@@ -33,8 +33,7 @@ pub use Rattle.kd_state.specs.SheetDay.{PinDay, RotorDay, day_model, seats}
 pub use Rattle.kd_state.specs.ToldApart.{has_wheel, numbered, place_in_box, same_reflector, same_wheel}
 pub use Rattle.kd_state.specs.declared.machine.parts.Parts.{Parts, TheVariants.Pin, TheVariants.Rotor}
 pub use Rattle.kd_state.specs.declared.machine.{pin_parts.PinParts.PinParts, rotor_parts.RotorParts.RotorParts}
-pub use Rattle.kd_state.specs.declared.setting.Setting.{Setting}
-pub use Rattle.kd_state.specs.declared.setting.Setting.TheVariants.{LugTo, Put, SeatReflector}
+pub use Rattle.kd_state.specs.declared.setting.Setting.{Setting, TheVariants.{LugTo, Put, SeatReflector}}
 pub use Rattle.kd_state.specs.declared.sheet_day.rotor_entry.SheetWheel.{SheetWheel}
 pub use Rattle.kd_tables.specs.Permutation.{alphabet}
 pub use Rattle.kd_tables.specs.Places.{IsBefore, IsReading, place_rank, places, reading_of, standings}

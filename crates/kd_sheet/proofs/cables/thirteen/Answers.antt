@@ -1,5 +1,4 @@
-use Rattle.kd_sheet.proofs.Prelude.{None, ap, length, ◌++◌}
-use Rattle.std.proofs.lemmas.List.{drop-replicate}
+use Rattle.{kd_sheet.proofs.Prelude.{None, ap, length, ◌++◌}, std.proofs.lemmas.List.drop-replicate}
 use Rattle.kd_sheet.proofs.cables.thirteen.Goals as goal
 
 pub returns : goal.returns

@@ -1,5 +1,4 @@
-use Rattle.std.proofs.Common.{◌≡◌, ℕ, ◌<◌, false, length, slice_index_or}
-use Rattle.kd_tables.specs.Tables.{is_notch}
+use Rattle.{std.proofs.Common.{◌≡◌, ℕ, ◌<◌, false, length, slice_index_or}, kd_tables.specs.Tables.is_notch}
 use Rattle.kd_step.proofs.notches.notches.Given as goal
 
 abbrev pub invariant-loop-index : goal.invariant-loop-index

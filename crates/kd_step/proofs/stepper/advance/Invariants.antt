@@ -1,5 +1,4 @@
-use Rattle.std.proofs.Common.{◌≡◌, ℕ, ◌<◌, ◌≤◌, get_or}
-use Rattle.kd_step.specs.Stepper.{next_letter}
+use Rattle.{std.proofs.Common.{◌≡◌, ℕ, ◌<◌, ◌≤◌, get_or}, kd_step.specs.Stepper.next_letter}
 use Rattle.kd_step.proofs.stepper.advance.Given as goal
 
 abbrev pub invariant-loop-letter : goal.invariant-loop-letter

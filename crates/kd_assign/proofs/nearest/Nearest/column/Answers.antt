@@ -1,5 +1,4 @@
-use Rattle.std.proofs.Common.{inl, inr, rules, arith}
-use Rattle.kd_assign.proofs.Prelude.{cases_eq}
+use Rattle.{std.proofs.Common.{inl, inr, rules, arith}, kd_assign.proofs.Prelude.cases_eq}
 use Rattle.kd_assign.proofs.nearest.Nearest.column.Goals as goal
 
 pub loop-column-preserved : goal.loop-column-preserved

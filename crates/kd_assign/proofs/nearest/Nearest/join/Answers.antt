@@ -1,5 +1,4 @@
-use Rattle.std.proofs.Common.{inl, inr, rules, arith}
-use Rattle.kd_assign.proofs.Prelude.{cases_eq, ints, sum_by_more}
+use Rattle.{std.proofs.Common.{inl, inr, rules, arith}, kd_assign.proofs.Prelude.{cases_eq, ints, sum_by_more}}
 use Rattle.kd_assign.proofs.nearest.Nearest.join.Goals as goal
 
 pub loop-column-preserved : goal.loop-column-preserved

@@ -1,5 +1,4 @@
-use Rattle.std.proofs.Common.{rules}
-use Rattle.kd_drum.proofs.Letters.{none_fails, on_wheel}
+use Rattle.{std.proofs.Common.rules, kd_drum.proofs.Letters.{none_fails, on_wheel}}
 use Rattle.kd_drum.proofs.converter.Converter.can_show.Goals as goal
 
 pub returns : goal.returns

@@ -1,5 +1,4 @@
-use Rattle.kd_form.proofs.MadeParts.{own_when_left, ◌∙◌, ap, length}
-use Rattle.kd_state.specs.TwoCiphers.{key_left}
+use Rattle.{kd_form.proofs.MadeParts.{own_when_left, ◌∙◌, ap, length}, kd_state.specs.TwoCiphers.key_left}
 use Rattle.kd_form.proofs.own_machine.OwnMachine.encipher.Goals as goal
 
 pub invariant_of-self : goal.invariant_of-self
