@@ -1,4 +1,5 @@
-use Rattle.kd_plan.proofs.Planning.{Bool, Put, arith, cable_letters, filter, has_letter, map, not, option_to_list, unless_so, ◌++◌, ◌∷◌, ◌≡◌, [], ℕ}
+use Rattle.kd_plan.proofs.Planning.{Bool, Put, arith, cable_letters, filter, has_letter, map, not, option_to_list}
+use Rattle.kd_plan.proofs.Planning.{unless_so, ◌++◌, ◌∷◌, ◌≡◌, [], ℕ}
 use Rattle.kd_plan.proofs.cable_lines.moves.Goals as goal
 
 -- two letters, each of which is put unless it is held
