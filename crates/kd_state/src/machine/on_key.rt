@@ -1,4 +1,4 @@
-ghost use Rattle.std.specs.Prelude.{◌≡◌, ◌↔◌, IsTrue, IsPermutation, Some, true, [], ◌∷◌, length, slice_get, if◌then◌else◌};
+ghost use Rattle.std.specs.Prelude.{◌≡◌, ◌↔◌, IsTrue, IsPermutation, Some, true, [], ◌∷◌, length, slice_get};
 ghost use Rattle.std.specs.List.{AllByRecursion};
 ghost use Rattle.std.specs.Option.{option_map_or};
 ghost use Rattle.kd_state.specs.Entry.{rotor_values, pin_values};
@@ -49,7 +49,7 @@ impl Machine {
     {
         match (self.parts(), day.entry()) {
             (Parts::Rotor(parts), Entry::Rotor(entry)) => {
-                have_letters(parts.model, &parts.letters, entry.wheels.as_slice(), false)
+                show_letters(parts.model, &parts.letters, entry.wheels.as_slice())
             }
             (Parts::Pin(parts), Entry::Pin(entry)) => parts.letters == entry.window,
             _ => false,
@@ -69,29 +69,38 @@ fn is_rotor_on_key(parts: &RotorParts, entry: &RotorEntry) -> bool
     if parts.slots.as_slice() != seats.as_slice() {
         return false;
     }
-    if !have_letters(parts.model, &parts.rings, entry.wheels.as_slice(), true) {
+    if !have_rings(parts.model, &parts.rings, entry.wheels.as_slice()) {
         return false;
     }
     are_the_pairs(&parts.cables, entry.pairs.as_slice())
 }
 
-/// Whether each wheel has its letter among these, wherever it lies: its ring, or else the letter in its window.
-fn have_letters(
-    model: Model,
-    letters: &PerWheel<Letter>,
-    wheels: &[SheetWheel],
-    of_rings: bool,
-) -> bool
-    requires { length letters.now ≡ length (box_of model) }
-    ensures { IsTrue result ↔ AllByRecursion (λ w. slice_get letters.now (place_in_box model w.wheel)
-        ≡ Some (if of_rings then w.ring else w.letter)) wheels.now }
+/// Whether each wheel has its ring among these, wherever it lies.
+fn have_rings(model: Model, rings: &PerWheel<Letter>, wheels: &[SheetWheel]) -> bool
+    requires { length rings.now ≡ length (box_of model) }
+    ensures { IsTrue result
+        ↔ AllByRecursion (λ w. slice_get rings.now (place_in_box model w.wheel) ≡ Some w.ring) wheels.now }
 {
     match wheels {
         [] => true,
         [first, rest @ ..] => {
-            let due = if of_rings { first.ring } else { first.letter };
-            of_wheel(model, letters, first.wheel) == Some(due)
-                && have_letters(model, letters, rest, of_rings)
+            of_wheel(model, rings, first.wheel) == Some(first.ring)
+                && have_rings(model, rings, rest)
+        }
+    }
+}
+
+/// Whether each wheel shows its letter among these, wherever it lies.
+fn show_letters(model: Model, letters: &PerWheel<Letter>, wheels: &[SheetWheel]) -> bool
+    requires { length letters.now ≡ length (box_of model) }
+    ensures { IsTrue result
+        ↔ AllByRecursion (λ w. slice_get letters.now (place_in_box model w.wheel) ≡ Some w.letter) wheels.now }
+{
+    match wheels {
+        [] => true,
+        [first, rest @ ..] => {
+            of_wheel(model, letters, first.wheel) == Some(first.letter)
+                && show_letters(model, letters, rest)
         }
     }
 }
