@@ -31,10 +31,8 @@ pub fn receive(
         (λ text. IsTextOf day.now form.now text.items)
         (IsReceiveFault day.now form.now) ((text : List ℕ) × IsTextOf day.now form.now text) result }
 {
-    match check_machine(machine, day) {
-        Ok(()) => bytes_of::<FormReader>(alloc, day, form),
-        Err(fault) => Err(fault),
-    }
+    check_machine(machine, day)?;
+    bytes_of::<FormReader>(alloc, day, form)
 }
 
 /// Reads a form from the source as it comes, and writes its text to the sink, part by part. No more than one part is held, and
@@ -59,8 +57,6 @@ pub fn receive_stream<R: Source, W: Sink>(
     ensures failed { Fail (port R.remaining R.has_failed source.old source.new)
         (port W.taken W.has_failed sink.old sink.new) (is_device result) }
 {
-    match check_machine(machine, day) {
-        Ok(()) => stream(day, FormReader::start(day), source, sink),
-        Err(fault) => Err(fault),
-    }
+    check_machine(machine, day)?;
+    stream(day, FormReader::start(day), source, sink)
 }

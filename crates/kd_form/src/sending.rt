@@ -30,10 +30,8 @@ pub fn send(
         (λ form. IsFormOf day.now order.now form.items)
         (IsSendFault day.now order.now) ((form : List ℕ) × IsFormOf day.now order.now form) result }
 {
-    match check_machine(machine, day) {
-        Ok(()) => bytes_of::<OrderReader>(alloc, day, order),
-        Err(fault) => Err(fault),
-    }
+    check_machine(machine, day)?;
+    bytes_of::<OrderReader>(alloc, day, order)
 }
 
 /// Reads an order from the source as it comes, and writes the form that it becomes on a machine that is on the day's key, part
@@ -58,10 +56,8 @@ pub fn send_stream<R: Source, W: Sink>(
     ensures failed { Fail (port R.remaining R.has_failed source.old source.new)
         (port W.taken W.has_failed sink.old sink.new) (is_device result) }
 {
-    match check_machine(machine, day) {
-        Ok(()) => stream(day, OrderReader::start(day), source, sink),
-        Err(fault) => Err(fault),
-    }
+    check_machine(machine, day)?;
+    stream(day, OrderReader::start(day), source, sink)
 }
 
 /// How many letters of the text a part has at most.

@@ -1,5 +1,7 @@
-use Rattle.kd_form.proofs.Prelude.{refl, OffKey}
+use Rattle.{std.proofs.lemmas.Result.err_from_is_err_and, kd_form.proofs.Prelude.{refl, OffKey}}
 use Rattle.kd_form.proofs.receiving.receive.Goals as goal
 
-pub returns-in-Err : goal.returns-in-Err
-returns-in-Err c = OffKey c.in-Err.fault c.in-Err.ensures refl
+pub returns-in_err-check_machine : goal.returns-in_err-check_machine
+returns-in_err-check_machine c =
+    let (fault, is, told) = err_from_is_err_and c.from_residual.result c.from_residual.ensures.1 in
+    rw (is, told) (OffKey _ c.in_err-check_machine.ensures refl)

@@ -1,11 +1,14 @@
-use Rattle.kd_form.proofs.OneText.{form_told, sym, ◌∙◌, false≢true, refl, Off}
+use Rattle.{std.proofs.lemmas.Result.err_from_is_err_and, kd_form.proofs.OneText.{form_told, sym, ◌∙◌, false≢true}}
+use Rattle.kd_form.proofs.Prelude.{refl, Off}
 use Rattle.kd_form.proofs.receiving.receive_stream.Goals as goal
 
-pub returns-in-Err-clause-streamed : goal.returns-in-Err-clause-streamed
-returns-in-Err-clause-streamed g c = Off c.in-Err.fault c.in-Err.ensures refl (record { has = refl; well = refl }) (record { has = refl; well = refl })
+pub returns-in_err-check_machine-clause-streamed : goal.returns-in_err-check_machine-clause-streamed
+returns-in_err-check_machine-clause-streamed g c =
+    let (fault, is, told) = err_from_is_err_and c.from_residual.result c.from_residual.ensures.1 in
+    rw (is, told) (Off _ c.in_err-check_machine.ensures refl (record { has = refl; well = refl }) (record { has = refl; well = refl }))
 
-pub returns-in-Ok-clause-untouched : goal.returns-in-Ok-clause-untouched
-returns-in-Ok-clause-untouched g c = λ off. absurd (false≢true (sym (form_told _ _ _ _ _ _ c.stream.ensures.answers).1 ∙ off))
+pub returns-clause-untouched : goal.returns-clause-untouched
+returns-clause-untouched g c = λ off. absurd (false≢true (sym (form_told _ _ _ _ _ _ c.stream.ensures.answers).1 ∙ off))
 
-pub returns-in-Ok-clause-failed : goal.returns-in-Ok-clause-failed
-returns-in-Ok-clause-failed g c = (form_told _ _ _ _ _ _ c.stream.ensures.answers).0
+pub returns-clause-failed : goal.returns-clause-failed
+returns-clause-failed g c = (form_told _ _ _ _ _ _ c.stream.ensures.answers).0

@@ -1,5 +1,7 @@
-use Rattle.kd_form.proofs.Prelude.{refl, Off}
+use Rattle.{std.proofs.lemmas.Result.err_from_is_err_and, kd_form.proofs.Prelude.{refl, Off}}
 use Rattle.kd_form.proofs.sending.send_stream.Goals as goal
 
-pub returns-in-Err-clause-streamed : goal.returns-in-Err-clause-streamed
-returns-in-Err-clause-streamed g c = Off c.in-Err.fault c.in-Err.ensures refl (record { has = refl; well = refl }) (record { has = refl; well = refl })
+pub returns-in_err-check_machine-clause-streamed : goal.returns-in_err-check_machine-clause-streamed
+returns-in_err-check_machine-clause-streamed g c =
+    let (fault, is, told) = err_from_is_err_and c.from_residual.result c.from_residual.ensures.1 in
+    rw (is, told) (Off _ c.in_err-check_machine.ensures refl (record { has = refl; well = refl }) (record { has = refl; well = refl }))
