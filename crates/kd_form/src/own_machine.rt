@@ -1,4 +1,4 @@
-//! The day's own machine, from any letters on.
+//! The day's own machine, from any letters on, and letters that are appended.
 ghost use Rattle.std.specs.Prelude.{◌≡◌, ◌↔◌, ◌≤◌, ◌+◌, ◌<◌, ◌++◌, length, All, IsTrue};
 ghost use Rattle.std.specs.Bool.{OnTrue};
 ghost use Rattle.kd_state.specs.TwoCiphers.{sheet_key, IsWindow};
@@ -13,6 +13,7 @@ use std::marker::Model;
 #[derive(Drop)]
 pub(crate) struct OwnMachine<'day> {
     pub(crate) day: &'day SheetDay,
+    /// It is set to the day's key, whatever letters show.
     engine: Engine,
 }
 
@@ -28,6 +29,7 @@ impl<'day> Model for OwnMachine<'day> {
 }
 
 impl<'day> OwnMachine<'day> {
+    /// The machine as the day sets it.
     #[tactic(auto, using(crate::proofs::MadeParts::own_at_first))]
     pub(crate) fn new(day: &'day SheetDay) -> Self
         ensures { result ≡ day.now }
