@@ -1,7 +1,7 @@
 -- A grammar as it grows: no help, and a word or a command more.
 use Rattle.kd_desk.proofs.Prelude.{arith, ◌≡◌, ◌∙◌, [], ◌∷◌, ◌++◌, ℕ, List, true, false, ap, ap₂, sym, subst, App}
 use Rattle.kd_desk.proofs.Prelude.{app_of, rule_of, new_rule, app_of_fields, Arg, Bor}
-use Rattle.clap.specs.{Built.AddsArg, Built.AddsSubcommand, Simple.Shape, Simple.new_app, Simple.with_subcommand}
+use Rattle.clap.specs.{Built.AddsArg, Built.AddsSubcommand, Simple.new_app, Simple.with_subcommand}
 use Rattle.clap.specs.declared.builder.command.Command.{Command, TheOpen.Command-F, TheViews.out-Command}
 use Rattle.{kd_desk.specs.CommandLine.{IsMadeOf, shape_with}, std.proofs.lemmas.List.map-append}
 
@@ -36,7 +36,3 @@ one_word_more word more has rule local adds = record {
 pub one_command_more : {name : List ℕ} {words : List (Bor (List ℕ))} {app : App} {old sub new : Command} → app_of old ≡ app
     → IsMadeOf sub name words → AddsSubcommand old sub new → app_of new ≡ with_subcommand app (shape_with name words)
 one_command_more is has adds = adds.shape has.local ∙ ap₂ with_subcommand is (ap (λ (a : App). a.top) has.shape)
-
--- and of a grammar that is known
-pub grown : {old known new : App} (shape : Shape) → old ≡ known → new ≡ with_subcommand old shape → new ≡ with_subcommand known shape
-grown shape is adds = adds ∙ ap (λ app. with_subcommand app shape) is

@@ -1,7 +1,11 @@
 -- Files that are read one after another, and what the program answers to a command.
+use Rattle.kd_desk.specs.{Program.is_stopped_before, Program.is_stopped_by_port, Stops.stop_after}
+use Rattle.kd_desk.specs.{RunSteps.is_device, RunSteps.is_refused_before}
+use Rattle.kd_desk.specs.declared.fault.DeskFault.{DeskFault}
+use Rattle.kd_desk.specs.declared.fault.DeskFault.TheVariants.{Device}
 use Rattle.kd_desk.{proofs.Failing.err_is, proofs.SaidCommands.same_command, specs.CommandLine.desk_grammar}
 use Rattle.{kd_desk.specs.declared.files.fault.FileFault.FileFault, std.proofs.Common.arith}
-use Rattle.kd_desk.proofs.Prelude.{◌≡◌, ℕ, suc, Bool, true, false, List, [], ◌∷◌, ◌++◌, take, Option, Some, None, IfSome, IsSomeAnd, Result, Ok, Err, IsErr, IsErrAnd, is_ok, refl, sym, ap, ◌∙◌, subst, inl, inr, append_assoc, Row, subcommand_of, Stop, Unread, Named, IsOf, Says, KnownCommand, command_over, AskFor, CarriesOut, IsDone, has_read, Gives, Opened, Port}
+use Rattle.kd_desk.proofs.Prelude.{◌≡◌, ℕ, suc, Bool, true, false, List, [], ◌∷◌, ◌++◌, take, Option, Some, None, IfSome, IsSomeAnd, Result, Ok, Err, IsErr, IsErrAnd, IsTrue, is_ok, refl, sym, ap, ◌∙◌, subst, inl, inr, append_assoc, Row, subcommand_of, Stop, Unread, Named, IsOf, Says, KnownCommand, command_over, AskFor, CarriesOut, IsDone, has_read, Gives, Opened, Port}
 
 -- what is known of files
 abbrev Known : Type 0
@@ -83,3 +87,16 @@ module _ (source sink : Port) (answer : Result (Unit {0}) Stop) where
     pub done : (of_files : KnownCommand) → IsDone of_files source sink answer → IfSome known (λ held. Gives (command_over held said) (Ok of_files))
         → IfSome known Meant
     done of_files is gives = done_of of_files is known gives
+
+-- ---- what stops the program, by what the command answered
+
+-- it is before anything was written where the command was refused before, and at a port where the command failed by a device
+pub refused_before : (file_failed : Bool) (told : Result (Unit {0}) DeskFault) (answer : Result (Unit {0}) Stop) → answer ≡ stop_after file_failed told
+    → IsTrue (is_stopped_before answer) → IsTrue (is_refused_before told)
+refused_before file_failed (Ok done) answer e early = subst (λ a. IsTrue (is_stopped_before a)) e early
+refused_before true (Err Device) answer e early = subst (λ a. IsTrue (is_stopped_before a)) e early
+refused_before file_failed (Err fault) answer e early = subst (λ a. IsTrue (is_stopped_before a)) e early
+
+pub by_port : (told : Result (Unit {0}) DeskFault) (answer : Result (Unit {0}) Stop) → answer ≡ stop_after false told → is_stopped_by_port answer ≡ is_device told
+by_port (Ok done) answer e = ap is_stopped_by_port e
+by_port (Err fault) answer e = ap is_stopped_by_port e

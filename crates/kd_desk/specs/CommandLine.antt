@@ -1,9 +1,9 @@
 -- What the program's words say, by what clap makes of the desk's grammar.
-use Rattle.std.specs.Prelude.{codes, decimal, ◌≡◌, ℕ, true, false, List, [], ◌∷◌, ◌++◌, map, Option, Some, None, IsSomeAnd}
+use Rattle.std.specs.Prelude.{codes, decimal, ◌≡◌, ℕ, true, false, List, [], ◌∷◌, ◌++◌, map, fold, Option, Some, None, IsSomeAnd}
 use Rattle.std.specs.Borrow.{Bor}
 use Rattle.clap.specs.declared.builder.command.Command.{Command as Grammar, out-Command}
 use Rattle.clap.specs.Words.{App, app_of, Row, Shape, first_of, fault_of, new_rule, subcommand_of}
-use Rattle.clap.specs.Simple.{new_shape}
+use Rattle.clap.specs.Simple.{new_shape, with_subcommand}
 use Rattle.kd_state.specs.SheetDay.{IsDayNumber}
 use Rattle.kd_desk.specs.declared.command.Command.{Command}
 use Rattle.kd_desk.specs.declared.command.Action.{Action}
@@ -27,6 +27,10 @@ alone shape = record { top = shape; subs = [] }
 -- the same with the words as they are borrowed
 abbrev pub shape_with : List ℕ → List (Bor (List ℕ)) → Shape
 shape_with name words = command_shape name (map (λ word. word.now) words)
+
+-- a grammar with these commands, each with its words
+abbrev pub with_commands : App → List (Bor (List ℕ) × Bor (List (Bor (List ℕ)))) → App
+with_commands app commands = fold (λ a command. with_subcommand a (shape_with command.0.now command.1.now)) app commands
 
 -- a grammar is that command, and its words are its own alone
 pub record IsMadeOf (grammar : Grammar) (name : List ℕ) (words : List (Bor (List ℕ))) : Type 0 where

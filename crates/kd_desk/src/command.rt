@@ -1,7 +1,6 @@
 ghost use Rattle.std.specs.Prelude.{◌≡◌, ◌≢◌, [], ◌∷◌, ℕ, List, false, codes, map, Err, IfSome, IfOk, IfErr};
-ghost use Rattle.clap.specs.Simple.{with_subcommand};
-ghost use Rattle.clap.specs.Words.{app_of, found_of, kind_of, rows_of};
-ghost use Rattle.kd_desk.specs.CommandLine.{IsMadeOf, way_name, way_word, desk_grammar, shape_with};
+ghost use Rattle.clap.specs.Words.{App, app_of, found_of, kind_of, rows_of};
+ghost use Rattle.kd_desk.specs.CommandLine.{IsMadeOf, way_name, way_word, desk_grammar, with_commands};
 ghost use Rattle.kd_desk.specs.CommandLine.{named, action_named, HaveDay, IsActionOf, IsOf, IsOfNone, Says, SaysNothing};
 
 use crate::fault::DeskFault;
@@ -188,6 +187,16 @@ fn day_of<'a>(words: &ArgMatches<'a>) -> Option<(&'a str, u8)>
     Some((sheet, day))
 }
 
+/// The commands of the desk, each with its words.
+static COMMANDS: [(&str, &[&str]); 6] = [
+    ("type", &["MACHINE"]),
+    ("apply", &["MACHINE", "LIST"]),
+    ("card", &["MACHINE", "SHEET", "DAY"]),
+    ("check", &["MACHINE", "SHEET", "DAY", "CARD"]),
+    ("send", &["MACHINE", "SHEET", "DAY", "ORDER"]),
+    ("receive", &["MACHINE", "SHEET", "DAY", "FORM"]),
+];
+
 /// What may stand on the command line: no options and no help.
 fn grammar<'a>(alloc: Global) -> Result<Grammar<'a>, AllocError>
     ensures { IfOk result (λ grammar. app_of grammar ≡ desk_grammar) }
@@ -195,26 +204,24 @@ fn grammar<'a>(alloc: Global) -> Result<Grammar<'a>, AllocError>
     let desk = Grammar::new(alloc, "desk")
         .disable_help_flag(true)
         .disable_help_subcommand(true);
-    let desk = with_command(alloc, desk, "type", &["MACHINE"])?;
-    let desk = with_command(alloc, desk, "apply", &["MACHINE", "LIST"])?;
-    let desk = with_command(alloc, desk, "card", &["MACHINE", "SHEET", "DAY"])?;
-    let desk = with_command(alloc, desk, "check", &["MACHINE", "SHEET", "DAY", "CARD"])?;
-    let desk = with_command(alloc, desk, "send", &["MACHINE", "SHEET", "DAY", "ORDER"])?;
-    with_command(alloc, desk, "receive", &["MACHINE", "SHEET", "DAY", "FORM"])
+    with_commands(alloc, desk, &COMMANDS)
 }
 
-/// The grammar with one command more, which has these words.
-fn with_command<'a>(
+/// The grammar with these commands, each with its words.
+fn with_commands<'a>(
     alloc: Global,
     grammar: Grammar<'a>,
-    name: &'a str,
-    words: &[&'a str],
+    commands: &[(&'a str, &[&'a str])],
 ) -> Result<Grammar<'a>, AllocError>
-    ensures { IfOk result (λ more. app_of more
-        ≡ with_subcommand (app_of grammar.entry) (shape_with name.entry.now words.now)) }
+    ensures { (app : App) → app_of grammar.entry ≡ app
+        → IfOk result (λ more. app_of more ≡ with_commands app commands.now) }
 {
-    let command = with_words(alloc, name, words)?;
-    grammar.subcommand(command)
+    let mut grammar = grammar;
+    for (name, words) in commands {
+        let command = with_words(alloc, *name, *words)?;
+        grammar = grammar.subcommand(command)?;
+    }
+    Ok(grammar)
 }
 
 /// A command with these words.

@@ -1,4 +1,4 @@
-use Rattle.kd_desk.proofs.{Prelude.opened, Runs.nothing_left}
+use Rattle.kd_desk.proofs.{Prelude.false, Prelude.opened, Runs.{by_port, nothing_left, refused_before}}
 use Rattle.kd_desk.proofs.program.carry_task.Goals as goal
 
 pub returns-in-Card-clause-does : goal.returns-in-Card-clause-does
@@ -20,3 +20,19 @@ returns-in-Message-clause-does g c =
       does = c.carry_message-done.ensures.does;
       answers = rw c.failed.ensures at c.after_file.ensures;
     })
+
+pub returns-in-Card-clause-untouched : goal.returns-in-Card-clause-untouched
+returns-in-Card-clause-untouched g c = λ early. c.run_card.ensures.untouched (refused_before false _ _ c.after.ensures early)
+
+pub returns-in-Check-clause-untouched : goal.returns-in-Check-clause-untouched
+returns-in-Check-clause-untouched g c = λ early. c.run_check.ensures.untouched (refused_before false _ _ c.after-in-Check.ensures early)
+
+pub returns-in-Message-clause-untouched : goal.returns-in-Message-clause-untouched
+returns-in-Message-clause-untouched g c =
+    λ early. (c.carry_message-done.ensures.untouched (refused_before _ _ _ c.after_file.ensures early)).1
+
+pub returns-in-Card-clause-failed : goal.returns-in-Card-clause-failed
+returns-in-Card-clause-failed g c = rw (by_port _ _ c.after.ensures) c.run_card.ensures.failed
+
+pub returns-in-Check-clause-failed : goal.returns-in-Check-clause-failed
+returns-in-Check-clause-failed g c = rw (by_port _ _ c.after-in-Check.ensures) c.run_check.ensures.failed
