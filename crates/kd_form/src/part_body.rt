@@ -95,13 +95,9 @@ impl PartBody {
     {
         let letters = self.letters.as_slice();
         let (letters, _) = letters.split_at(letters.len() - others);
-        match read_body(day, &self.heading, letters) {
-            Ok(letters) => {
-                *made = given_letters(day, letters.as_slice());
-                Ok(())
-            }
-            Err(fault) => Err(fault),
-        }
+        let letters = read_body(day, &self.heading, letters)?;
+        *made = given_letters(day, letters.as_slice());
+        Ok(())
     }
 }
 

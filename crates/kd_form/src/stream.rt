@@ -28,15 +28,13 @@ pub(crate) fn stream<On, M: PieceReader<On> + Drop, R: Source, W: Sink>(
 {
     let mut read = 0;
     while read < READ_LIMIT {
-        match read_next(&mut reader, on, source, sink, READ_LIMIT - read) {
-            Ok(0) => return close(&mut reader, on, sink),
-            Ok(count) => read += count,
-            Err(stop) => return Err(FormFault::from(stop)),
+        match read_next(&mut reader, on, source, sink, READ_LIMIT - read)? {
+            0 => return close(&mut reader, on, sink),
+            count => read += count,
         }
     }
-    match is_at_end(source) {
-        Ok(true) => close(&mut reader, on, sink),
-        Ok(false) => Err(FormFault::ReadTooLong),
-        Err(_) => Err(FormFault::Device),
+    if !is_at_end(source)? {
+        return Err(FormFault::ReadTooLong);
     }
+    close(&mut reader, on, sink)
 }

@@ -1,3 +1,4 @@
+use Rattle.std.proofs.lemmas.Result.{err_from_is_err_and}
 use Rattle.kd_form.proofs.Streaming.{typed_held, [], refl, sym, ap, ◌∙◌, All-nil, IsTrue, is_text_byte, letters_text, typed_letters, cipher, false≢true, NotReady, Off}
 use Rattle.kd_form.proofs.typing.type_stream.Goals as goal
 
@@ -7,9 +8,10 @@ stream-requires g c =
     typed_held c.args.machine.now _ [] [] (record {
       counted = refl;
       allowed = All-nil (λ b. IsTrue (is_text_byte b));
-      behind = λ more. ap letters_text (sym (law _ (typed_letters more)) ∙ ap (λ k. cipher k (typed_letters more)) (sym c.in-Ok.ensures.key));
+      behind = λ more. ap letters_text (sym (law _ (typed_letters more)) ∙ ap (λ k. cipher k (typed_letters more)) (sym c.in_ok-engine.ensures.key));
     })
 
-pub returns-in-Err-clause-streamed : goal.returns-in-Err-clause-streamed
-returns-in-Err-clause-streamed g c =
-    Off NotReady (λ ready. false≢true (c.in-Err.ensures.ready.1 ready), refl) refl (record { has = refl; well = refl }) (record { has = refl; well = refl })
+pub returns-in_err-engine-clause-streamed : goal.returns-in_err-engine-clause-streamed
+returns-in_err-engine-clause-streamed g c =
+    let (fault, is, told) = err_from_is_err_and c.from_residual.result c.from_residual.ensures.1 in
+    rw (is, told) (Off NotReady (λ ready. false≢true (c.in_err-engine.ensures.ready.1 ready), refl) refl (record { has = refl; well = refl }) (record { has = refl; well = refl }))

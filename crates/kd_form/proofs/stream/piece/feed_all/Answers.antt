@@ -1,18 +1,20 @@
+use Rattle.std.proofs.lemmas.Result.{err_from_is_err_and}
 use Rattle.kd_form.proofs.Streaming.{fed_none, room_for, still_well, take_all, refl, fed_next, fed_whole, fed_up_to, room_less, well_now, sym, ◌∙◌, arith, take_more, up_to}
 use Rattle.kd_form.proofs.stream.piece.feed_all.Goals as goal
 
-pub returns-in-Err-clause-fed : goal.returns-in-Err-clause-fed
-returns-in-Err-clause-fed g c =
-    fed_whole _ _ _ _ _ _ _ (up_to c.args.bytes.now c.loop-byte.byte-index c.loop-byte-test.true)
-    (fed_up_to _ _ _ _ _ _ _ (fed_next _ _ _ _ _ _ _ _ _ _ _ _ _ c.loop-byte.invariant.fed c.in-Err.ensures.fed))
+pub returns-in_err-feed_one-clause-fed : goal.returns-in_err-feed_one-clause-fed
+returns-in_err-feed_one-clause-fed g c =
+    let (stop, is, told) = err_from_is_err_and c.from_residual.result c.from_residual.ensures.1 in
+    rw (is, told) (fed_whole _ _ _ _ _ _ _ (up_to c.args.bytes.now c.loop-byte.byte-index c.loop-byte-test.true)
+    (fed_up_to _ _ _ _ _ _ _ (fed_next _ _ _ _ _ _ _ _ _ _ _ _ _ c.loop-byte.invariant.fed c.in_err-feed_one.ensures.fed)))
 
 pub loop-byte-preserved : goal.loop-byte-preserved
 loop-byte-preserved g c = record {
-  room = room_less _ _ _ _ _ _ _ (omega (arith, c.loop-byte-test.true)) c.loop-byte.invariant.room c.in-Ok.ensures.fed;
+  room = room_less _ _ _ _ _ _ _ (omega (arith, c.loop-byte-test.true)) c.loop-byte.invariant.room c.in_ok-feed_one.ensures.fed;
   fed = fed_whole _ _ _ _ _ _ _ (sym (take_more c.args.bytes.now c.loop-byte.byte-index 0 c.loop-byte-test.true))
-      (fed_next _ _ _ _ _ _ _ _ _ _ _ _ _ c.loop-byte.invariant.fed c.in-Ok.ensures.fed);
-  empty = c.in-Ok.ensures.emptied;
-  well = well_now _ _ c.in-Ok.ensures.failed ∙ c.loop-byte.invariant.well;
+      (fed_next _ _ _ _ _ _ _ _ _ _ _ _ _ c.loop-byte.invariant.fed c.in_ok-feed_one.ensures.fed);
+  empty = c.in_ok-feed_one.ensures.emptied;
+  well = well_now _ _ c.in_ok-feed_one.ensures.failed ∙ c.loop-byte.invariant.well;
 }
 
 pub loop-byte-init : goal.loop-byte-init

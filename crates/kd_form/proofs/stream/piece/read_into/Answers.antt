@@ -1,9 +1,12 @@
+use Rattle.std.proofs.lemmas.Result.{err_from_is_err_and}
 use Rattle.kd_form.proofs.Streaming.{read_failed, read_stopped, rules}
 use Rattle.kd_form.proofs.stream.piece.read_into.Goals as goal
 
-pub returns-in-Err : goal.returns-in-Err
-returns-in-Err g c bytes text held few =
-    read_stopped _ _ _ bytes text _ _ _ _ _ _ _ _ _ _ _ held few (search rules) c.in-Ok.ensures.bytes.given c.in-Ok.ensures.failed c.in-Err.ensures.fed c.in-Err.ensures.failed
+pub returns-in_err-read : goal.returns-in_err-read
+returns-in_err-read g c bytes text held few =
+    let (stop, is, told) = err_from_is_err_and c.from_residual.result c.from_residual.ensures.1 in
+    rw (is, told) (read_stopped _ _ _ bytes text _ _ _ _ _ _ _ _ _ _ _ held few (search rules) c.in-Ok.ensures.bytes.given c.in-Ok.ensures.failed
+    c.in_err-read.ensures.fed c.in_err-read.ensures.failed)
 
 pub returns-in_default : goal.returns-in_default
 returns-in_default g c bytes text held few =
