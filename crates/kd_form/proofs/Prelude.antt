@@ -4,7 +4,7 @@ pub use Rattle.std.proofs.Math.{ListN.get_or-append, ListN.get_or-eq_default, Na
 pub use Rattle.std.proofs.Math.{Nat.le_of_mul-le-mul_left, Nat.mod-eq_of_lt, Seq.drop-append_seam}
 pub use Rattle.std.proofs.Math.{Seq.get_or-append_seam, Seq.take-append_seam}
 pub use Rattle.std.proofs.{Transfers.starts_with_of_append, lemmas.Bool.cases_Bool, lemmas.Bool.cases_eq}
-pub use Rattle.std.proofs.{lemmas.Bool.cases_lt, lemmas.Bool.false≢true, lemmas.Grind.common_steps}
+pub use Rattle.std.proofs.lemmas.{Bool.cases_lt, Bool.false≢true, Grind.common_steps, Result.err_from_is_err_and}
 pub use Rattle.std.proofs.{lemmas.List.Sums.AllPass-from_list_all, lemmas.Bool.Decides.nat_tests}
 pub use Rattle.std.proofs.lemmas.List.{append-nil, append_cancel_right, drop-drop, drop-take, drop_all, drop_at, drop_min, drop_more, get_or-map, get_or-take, get_or_append_left, get_or_past, length-map, length-replicate, length-take, length-take-le, map-append, map_push, nil_from_length, take-append-drop, take-append-le, take-take, take_all, take_at, take_min, take_more}
 pub use Rattle.std.proofs.lemmas.List.Elements.{All-append, All-cons, All-drop, All-from_get_or, All-get_or, All-head, All-map, All-nil, All-push, All-replicate, All-same, All-tail, All-take, All-weaker, filter_map-append, All-more}

@@ -1,4 +1,4 @@
-use Rattle.{std.proofs.lemmas.Result.err_from_is_err_and, kd_form.proofs.Lines.{keys_broken, keys_read, ◌∙◌}}
+use Rattle.kd_form.proofs.Lines.{err_from_is_err_and, keys_broken, keys_read, ◌∙◌}
 use Rattle.kd_form.proofs.key_line.read_keys.Goals as goal
 
 pub returns : goal.returns

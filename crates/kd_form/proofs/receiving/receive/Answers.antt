@@ -1,4 +1,4 @@
-use Rattle.{std.proofs.lemmas.Result.err_from_is_err_and, kd_form.proofs.Prelude.{refl, OffKey}}
+use Rattle.kd_form.proofs.Prelude.{err_from_is_err_and, refl, OffKey}
 use Rattle.kd_form.proofs.receiving.receive.Goals as goal
 
 pub returns-in_err-check_machine : goal.returns-in_err-check_machine

@@ -1,4 +1,4 @@
-use Rattle.{std.proofs.lemmas.Result.err_from_is_err_and, kd_form.proofs.OneText.{form_told, sym, ◌∙◌, false≢true}}
+use Rattle.kd_form.proofs.OneText.{err_from_is_err_and, form_told, sym, ◌∙◌, false≢true}
 use Rattle.kd_form.proofs.Prelude.{refl, Off}
 use Rattle.kd_form.proofs.receiving.receive_stream.Goals as goal
 

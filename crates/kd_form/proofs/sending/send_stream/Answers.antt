@@ -1,4 +1,4 @@
-use Rattle.{std.proofs.lemmas.Result.err_from_is_err_and, kd_form.proofs.Prelude.{refl, Off}}
+use Rattle.kd_form.proofs.Prelude.{err_from_is_err_and, refl, Off}
 use Rattle.kd_form.proofs.sending.send_stream.Goals as goal
 
 pub returns-in_err-check_machine-clause-streamed : goal.returns-in_err-check_machine-clause-streamed

@@ -1,5 +1,4 @@
-use Rattle.std.proofs.lemmas.Result.{err_from_is_err_and}
-use Rattle.kd_form.proofs.Streaming.{SoFar-room, SoFar-read, SoFar-ended, IsStreamed-stopped, IsStreamed-closed, well_now, [], ◌∷◌, ◌++◌, ◌∙◌, refl, arith, TooLong, Consumes-nil, Consumes-trans, Appends-nil}
+use Rattle.kd_form.proofs.Streaming.{err_from_is_err_and, SoFar-room, SoFar-read, SoFar-ended, IsStreamed-stopped, IsStreamed-closed, well_now, [], ◌∷◌, ◌++◌, ◌∙◌, refl, arith, TooLong, Consumes-nil, Consumes-trans, Appends-nil}
 use Rattle.kd_form.proofs.stream.stream.Goals as goal
 
 pub loop-read-init : goal.loop-read-init

@@ -1,4 +1,4 @@
-use Rattle.{std.proofs.lemmas.Result.err_from_is_err_and, kd_form.proofs.Lines.{unsuited, sym}}
+use Rattle.kd_form.proofs.Lines.{err_from_is_err_and, unsuited, sym}
 use Rattle.kd_form.proofs.suiting.check_keys.Goals as goal
 
 pub returns-in_err-check_part : goal.returns-in_err-check_part

@@ -1,5 +1,4 @@
-use Rattle.std.proofs.lemmas.Result.{err_from_is_err_and}
-use Rattle.kd_form.proofs.FormSteps.{next_last, next_refused, closes, closes_refused, closes_short, in_stage, [], ℕ, ap, ArrayVec, ◌∙◌}
+use Rattle.kd_form.proofs.FormSteps.{err_from_is_err_and, next_last, next_refused, closes, closes_refused, closes_short, in_stage, [], ℕ, ap, ArrayVec, ◌∙◌}
 use Rattle.kd_form.proofs.form_reader.FormReaderMessageReader.end.Goals as goal
 
 pub give-requires-clause-heading : goal.give-requires-clause-heading

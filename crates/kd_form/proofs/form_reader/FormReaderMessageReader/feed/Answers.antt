@@ -1,5 +1,4 @@
-use Rattle.std.proofs.lemmas.Result.{err_from_is_err_and}
-use Rattle.kd_form.proofs.FormSteps.{first_longer, goes_on, held, grows, in_stage, take_kept, off, refused, refused_at, four_letters, part_refused, part_read, follows, not_begun, one_more, ended_heading, bad_behind, ◌≢◌, take, All-push, All-nil, IsTrue, is_text_byte, IsLineText, line_of, heading_words, [], ◌∷◌, ◌++◌, ◌+◌, ◌-◌, ◌≡◌, ℕ, List, length, length-append, refl, inl, ap, subst, given_letters, BeginsHeading, NoHeading, BadHeading, BadByte, InBody, arith, sym, ◌∙◌, false≢true}
+use Rattle.kd_form.proofs.FormSteps.{err_from_is_err_and, first_longer, goes_on, held, grows, in_stage, take_kept, off, refused, refused_at, four_letters, part_refused, part_read, follows, not_begun, one_more, ended_heading, bad_behind, ◌≢◌, take, All-push, All-nil, IsTrue, is_text_byte, IsLineText, line_of, heading_words, [], ◌∷◌, ◌++◌, ◌+◌, ◌-◌, ◌≡◌, ℕ, List, length, length-append, refl, inl, ap, subst, given_letters, BeginsHeading, NoHeading, BadHeading, BadByte, InBody, arith, sym, ◌∙◌, false≢true}
 use Rattle.kd_form.specs.declared.form_reader.Stage.TheVariants as stages
 use Rattle.kd_form.proofs.form_reader.FormReaderMessageReader.feed.Goals as goal
 

@@ -1,5 +1,4 @@
-use Rattle.std.proofs.lemmas.Result.{err_from_is_err_and}
-use Rattle.kd_form.proofs.FormSteps.{body_told, given_letters, ap, ◌∙◌}
+use Rattle.kd_form.proofs.FormSteps.{err_from_is_err_and, body_told, given_letters, ap, ◌∙◌}
 use Rattle.kd_form.proofs.part_body.PartBody.give.Goals as goal
 
 pub returns-clause-given : goal.returns-clause-given

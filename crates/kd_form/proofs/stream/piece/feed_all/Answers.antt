@@ -1,5 +1,4 @@
-use Rattle.std.proofs.lemmas.Result.{err_from_is_err_and}
-use Rattle.kd_form.proofs.Streaming.{fed_none, room_for, still_well, take_all, refl, fed_next, fed_whole, fed_up_to, room_less, well_now, sym, ◌∙◌, arith, take_more, up_to}
+use Rattle.kd_form.proofs.Streaming.{err_from_is_err_and, fed_none, room_for, still_well, take_all, refl, fed_next, fed_whole, fed_up_to, room_less, well_now, sym, ◌∙◌, arith, take_more, up_to}
 use Rattle.kd_form.proofs.stream.piece.feed_all.Goals as goal
 
 pub returns-in_err-feed_one-clause-fed : goal.returns-in_err-feed_one-clause-fed

@@ -1,4 +1,4 @@
-use Rattle.{std.proofs.lemmas.Result.err_from_is_err_and, kd_form.proofs.Streaming.{fed_in_part, append-nil, Appends-nil, subst, [], TakesFront}}
+use Rattle.kd_form.proofs.Streaming.{err_from_is_err_and, fed_in_part, append-nil, Appends-nil, subst, [], TakesFront}
 use Rattle.kd_form.proofs.stream.piece.feed_one.Goals as goal
 
 pub returns-in_err-feed-clause-fed : goal.returns-in_err-feed-clause-fed

@@ -1,5 +1,4 @@
-use Rattle.std.proofs.lemmas.Result.{err_from_is_err_and}
-use Rattle.kd_form.proofs.Streaming.{read_failed, read_stopped, rules}
+use Rattle.kd_form.proofs.Streaming.{err_from_is_err_and, read_failed, read_stopped, rules}
 use Rattle.kd_form.proofs.stream.piece.read_into.Goals as goal
 
 pub returns-in_err-read : goal.returns-in_err-read

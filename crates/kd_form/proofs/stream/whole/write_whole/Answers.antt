@@ -1,5 +1,4 @@
-use Rattle.std.proofs.lemmas.Result.{err_from_is_err_and}
-use Rattle.kd_form.proofs.Streaming.{room_less, [], ℕ, append-nil, length, arith}
+use Rattle.kd_form.proofs.Streaming.{err_from_is_err_and, room_less, [], ℕ, append-nil, length, arith}
 use Rattle.kd_form.proofs.stream.whole.write_whole.Goals as goal
 
 pub finish-requires : goal.finish-requires

@@ -1,4 +1,4 @@
-use Rattle.{std.proofs.lemmas.Result.err_from_is_err_and, kd_form.proofs.Streaming.{closed_in_part, typed_ends, Ok}}
+use Rattle.kd_form.proofs.Streaming.{err_from_is_err_and, closed_in_part, typed_ends, Ok}
 use Rattle.kd_form.proofs.typing.TypistPieceReaderMachine.finish.Goals as goal
 
 pub returns-clause-ended : goal.returns-clause-ended

@@ -1,5 +1,4 @@
-use Rattle.std.proofs.lemmas.Result.{err_from_is_err_and}
-use Rattle.kd_form.proofs.Streaming.{read_refused, read_in_part, refl, subst, Appends, TakesFront}
+use Rattle.kd_form.proofs.Streaming.{err_from_is_err_and, read_refused, read_in_part, refl, subst, Appends, TakesFront}
 use Rattle.kd_form.proofs.typing.TypistPieceReaderMachine.read.Goals as goal
 
 pub returns-in_err-put_all-clause-fed : goal.returns-in_err-put_all-clause-fed

@@ -1,4 +1,4 @@
-use Rattle.{std.proofs.lemmas.Result.err_from_is_err_and, kd_form.proofs.Streaming.{closed_in_part, subst, TakesFront}}
+use Rattle.kd_form.proofs.Streaming.{err_from_is_err_and, closed_in_part, subst, TakesFront}
 use Rattle.kd_form.proofs.stream.piece.AnyPieceReaderSheetDay.finish.Goals as goal
 
 pub returns-in_err-put_all-clause-ended : goal.returns-in_err-put_all-clause-ended
