@@ -1,5 +1,4 @@
-use Rattle.kd_form.proofs.OneText.{err_from_is_err_and, form_told, sym, ◌∙◌, false≢true}
-use Rattle.kd_form.proofs.Prelude.{refl, Off}
+use Rattle.kd_form.proofs.{OneText.{err_from_is_err_and, form_told, sym, ◌∙◌, false≢true}, Prelude.{refl, Off}}
 use Rattle.kd_form.proofs.receiving.receive_stream.Goals as goal
 
 pub returns-in_err-check_machine-clause-streamed : goal.returns-in_err-check_machine-clause-streamed
