@@ -23,13 +23,10 @@ product_letters (p ∷ ps) =
     All-map (λ letter. letter < 26) (λ y. slice_index (product ps) y) p
     (λ k d inside. letter_read (product ps) (get_or p k d) (product_letters ps))
 
-path_letters : (key : RotorKey) (window : List ℕ) → All (λ letter. letter < 26) (path key window)
-unfolding path
-path_letters key window = grind (arith, product_letters)
-
 pub enciphered_letters : (s : Day) (window text : List ℕ) → All (λ letter. letter < 26) (cipher_from s window text)
+unfolding path
 enciphered_letters (OfRotors s) window text =
-    All-map (λ letter. letter < 26) _ (enumerate_from 1 text) (λ k d inside. letter_read _ _ (path_letters _ _))
+    All-map (λ letter. letter < 26) _ (enumerate_from 1 text) (λ k d inside. letter_read _ _ (product_letters _))
 enciphered_letters (OfPins s) window text =
     All-map (λ letter. letter < 26) _ (enumerate_from 0 text) (λ k d inside. omega arith)
 

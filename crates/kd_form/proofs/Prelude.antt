@@ -1,8 +1,8 @@
 -- What the proofs of this crate speak of.
-pub use Rattle.std.proofs.Common.{All, Bool, Contains, Err, IfSome, IsFalse, IsSome, IsTrue, List, MatchOption, MatchResult, None, Ok, Option, Result, Some, [], add-one, ap, append_assoc, arith, codes, decimal, drop, drop-cons, false, get_or, inl, inr, length, length-append, length-drop, map, min, nat_le, option_map, option_to_list, refl, replicate, rules, slice_get, slice_index, subst, suc, sym, take, true, zero, ℕ, ◌%◌, ◌*◌, ◌++◌, ◌+◌, ◌-◌, ◌<◌, ◌==◌, ◌^◌, ◌||◌, ◌∙◌, ◌∷◌, ◌≡◌, ◌≢◌, ◌≤◌, ◌⊎◌}
+pub use Rattle.std.proofs.Common.{All, Bool, Contains, Err, IfSome, IsErrAnd, IsFalse, IsSome, IsTrue, List, MatchOption, MatchResult, None, Ok, Option, Result, Some, [], add-one, ap, append_assoc, arith, codes, decimal, drop, drop-cons, false, get_or, inl, inr, length, length-append, length-drop, map, min, nat_le, option_map, option_to_list, refl, replicate, rules, slice_get, slice_index, subst, suc, sym, take, true, zero, ℕ, ◌%◌, ◌*◌, ◌++◌, ◌+◌, ◌-◌, ◌<◌, ◌==◌, ◌^◌, ◌||◌, ◌∙◌, ◌∷◌, ◌≡◌, ◌≢◌, ◌≤◌, ◌⊎◌}
 pub use Rattle.std.proofs.Math.{ListN.get_or-append, ListN.get_or-eq_default, Nat.le_of_mul-le-mul_left}
 pub use Rattle.std.proofs.Math.{Nat.{div-eq_of_lt, mod-eq_of_lt}, Seq.{drop-append_seam, get_or-append_seam, take-append_seam}}
-pub use Rattle.std.proofs.{Transfers.starts_with_of_append, lemmas.{Grind.common_steps, Result.err_from_is_err_and}}
+pub use Rattle.std.proofs.{Transfers.starts_with_of_append, lemmas.Grind.common_steps}
 pub use Rattle.std.proofs.lemmas.Bool.{cases_Bool, cases_eq, cases_lt, false≢true, Decides.nat_tests}
 pub use Rattle.std.proofs.lemmas.List.{append-nil, append_cancel_right, drop-drop, drop-take, drop_all, drop_at, drop_min, drop_more, get_or-map, get_or-take, get_or_append_left, get_or_past, length-map, length-replicate, length-take, length-take-le, map-append, map_push, nil_from_length, take-append-drop, take-append-le, take-take, take_all, take_at, take_min, take_more, Sums.AllPass-from_list_all}
 pub use Rattle.std.proofs.lemmas.List.Elements.{All-append, All-cons, All-drop, All-from_get_or, All-get_or, All-head, All-map, All-nil, All-push, All-replicate, All-same, All-tail, All-take, All-weaker, filter_map-append, All-more}
@@ -38,3 +38,7 @@ pub use Rattle.kd_state.specs.TwoCiphers.{EngineKey, IsWindow, cipher, physical_
 pub use Rattle.kd_state.specs.Words.{IsFirstPart, IsWithout, IsWord, line_of, words_of}
 pub use Rattle.kd_tables.specs.{Ports.Ends, Ports.Fail, Ports.IsWell, Ports.Port, Ports.port, Ports.read_limit}
 pub use Rattle.kd_tables.specs.{Text.is_text_byte, Text.letters_text, Writing.TakesFront}
+
+-- the error that `?` makes
+pub err_is : {T E : Type 0} (answer : Result T E) (fault : E) → IsErrAnd answer (λ made. made ≡ fault) → answer ≡ Err fault
+err_is answer fault e = grind arith

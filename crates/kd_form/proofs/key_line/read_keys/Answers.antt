@@ -1,4 +1,4 @@
-use Rattle.kd_form.proofs.Lines.{err_from_is_err_and, keys_broken, keys_read, ◌∙◌}
+use Rattle.kd_form.proofs.Lines.{err_is, keys_broken, keys_read, ◌∙◌}
 use Rattle.kd_form.proofs.key_line.read_keys.Goals as goal
 
 pub returns : goal.returns
@@ -8,5 +8,4 @@ returns c =
 
 pub returns-in_err-letters : goal.returns-in_err-letters
 returns-in_err-letters c =
-    let (why, is, told) = err_from_is_err_and c.from_residual.result c.from_residual.ensures.1 in
-    rw (is, told) (keys_broken _ _ _ (rw c.key_pattern.ensures.pattern at c.in_err-letters.ensures))
+    rw (err_is _ _ c.from_residual.ensures.1) (keys_broken _ _ _ (rw c.key_pattern.ensures.pattern at c.in_err-letters.ensures))

@@ -1,4 +1,4 @@
-use Rattle.kd_form.proofs.Streaming.{err_from_is_err_and, SoFar-room, SoFar-read, SoFar-ended, IsStreamed-stopped, IsStreamed-closed, well_now, [], ◌∷◌, ◌++◌, ◌∙◌, refl, arith, TooLong, Consumes-nil, Consumes-trans, Appends-nil}
+use Rattle.kd_form.proofs.Streaming.{err_is, SoFar-room, SoFar-read, SoFar-ended, IsStreamed-stopped, IsStreamed-closed, well_now, [], ◌∷◌, ◌++◌, ◌∙◌, refl, arith, TooLong, Consumes-nil, Consumes-trans, Appends-nil}
 use Rattle.kd_form.proofs.stream.stream.Goals as goal
 
 pub loop-read-init : goal.loop-read-init
@@ -20,8 +20,7 @@ loop-read-preserved g c = (SoFar-read _ _ _ _ _ _ _ _ _ _ _ _ _ _ _ _ _ c.loop-r
 
 pub returns-in_err-count : goal.returns-in_err-count
 returns-in_err-count g c =
-    let (fault, is, told) = err_from_is_err_and c.from_residual.result c.from_residual.ensures.1 in
-    rw is (IsStreamed-stopped _ _ _ _ _ _ _ _ _ _ _ _ _ _ _ _ _ c.loop-read.invariant refl _ fault told c.in_err-count.ensures)
+    rw (err_is _ _ c.from_residual.ensures.1) (IsStreamed-stopped _ _ _ _ _ _ _ _ _ _ _ _ _ _ _ _ _ c.loop-read.invariant refl _ _ refl c.in_err-count.ensures)
 
 pub returns : goal.returns
 returns g c =

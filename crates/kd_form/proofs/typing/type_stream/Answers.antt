@@ -1,4 +1,4 @@
-use Rattle.kd_form.proofs.Streaming.{err_from_is_err_and, typed_held, [], refl, sym, ap, ◌∙◌, All-nil, IsTrue, is_text_byte, letters_text, typed_letters, cipher, false≢true, NotReady, Off}
+use Rattle.kd_form.proofs.Streaming.{err_is, typed_held, [], refl, sym, ap, ◌∙◌, All-nil, IsTrue, is_text_byte, letters_text, typed_letters, cipher, false≢true, NotReady, Off}
 use Rattle.kd_form.proofs.typing.type_stream.Goals as goal
 
 pub stream-requires : goal.stream-requires
@@ -12,5 +12,4 @@ stream-requires g c =
 
 pub returns-in_err-engine-clause-streamed : goal.returns-in_err-engine-clause-streamed
 returns-in_err-engine-clause-streamed g c =
-    let (fault, is, told) = err_from_is_err_and c.from_residual.result c.from_residual.ensures.1 in
-    rw (is, told) (Off NotReady (λ ready. false≢true (c.in_err-engine.ensures.ready.1 ready), refl) refl (record { has = refl; well = refl }) (record { has = refl; well = refl }))
+    rw (err_is _ _ c.from_residual.ensures.1) (Off NotReady (λ ready. false≢true (c.in_err-engine.ensures.ready.1 ready), refl) refl (record { has = refl; well = refl }) (record { has = refl; well = refl }))

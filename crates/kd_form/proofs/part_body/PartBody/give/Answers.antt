@@ -1,4 +1,4 @@
-use Rattle.kd_form.proofs.FormSteps.{err_from_is_err_and, body_told, given_letters, ap, ◌∙◌}
+use Rattle.kd_form.proofs.FormSteps.{err_is, body_told, given_letters, ap, ◌∙◌}
 use Rattle.kd_form.proofs.part_body.PartBody.give.Goals as goal
 
 pub returns-clause-given : goal.returns-clause-given
@@ -10,5 +10,4 @@ returns-clause-given c letters more size kept =
 pub returns-in_err-letters-clause-given : goal.returns-in_err-letters-clause-given
 returns-in_err-letters-clause-given c letters more size kept =
     let shown = rw c.as_slice-letters.ensures.value at c.split_at.ensures.front in
-    let (fault, is, told) = err_from_is_err_and c.from_residual.result c.from_residual.ensures.1 in
-    rw (is, told) (body_told _ _ _ _ _ letters more _ c.requires.heading c.requires.few size kept shown c.in_err-letters.ensures)
+    rw (err_is _ _ c.from_residual.ensures.1) (body_told _ _ _ _ _ letters more _ c.requires.heading c.requires.few size kept shown c.in_err-letters.ensures)

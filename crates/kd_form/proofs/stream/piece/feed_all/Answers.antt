@@ -1,10 +1,9 @@
-use Rattle.kd_form.proofs.Streaming.{err_from_is_err_and, fed_none, room_for, still_well, take_all, refl, fed_next, fed_whole, fed_up_to, room_less, well_now, sym, ◌∙◌, arith, take_more, up_to}
+use Rattle.kd_form.proofs.Streaming.{err_is, fed_none, room_for, still_well, take_all, refl, fed_next, fed_whole, fed_up_to, room_less, well_now, sym, ◌∙◌, arith, take_more, up_to}
 use Rattle.kd_form.proofs.stream.piece.feed_all.Goals as goal
 
 pub returns-in_err-feed_one-clause-fed : goal.returns-in_err-feed_one-clause-fed
 returns-in_err-feed_one-clause-fed g c =
-    let (stop, is, told) = err_from_is_err_and c.from_residual.result c.from_residual.ensures.1 in
-    rw (is, told) (fed_whole _ _ _ _ _ _ _ (up_to c.args.bytes.now c.loop-byte.byte-index c.loop-byte-test.true)
+    rw (err_is _ _ c.from_residual.ensures.1) (fed_whole _ _ _ _ _ _ _ (up_to c.args.bytes.now c.loop-byte.byte-index c.loop-byte-test.true)
     (fed_up_to _ _ _ _ _ _ _ (fed_next _ _ _ _ _ _ _ _ _ _ _ _ _ c.loop-byte.invariant.fed c.in_err-feed_one.ensures.fed)))
 
 pub loop-byte-preserved : goal.loop-byte-preserved

@@ -1,10 +1,9 @@
-use Rattle.kd_form.proofs.Streaming.{err_from_is_err_and, fed_in_part, append-nil, Appends-nil, subst, [], TakesFront}
+use Rattle.kd_form.proofs.Streaming.{err_is, fed_in_part, append-nil, Appends-nil, subst, [], TakesFront}
 use Rattle.kd_form.proofs.stream.piece.feed_one.Goals as goal
 
 pub returns-in_err-feed-clause-fed : goal.returns-in_err-feed-clause-fed
 returns-in_err-feed-clause-fed g c bytes text held =
-    let (stop, is, told) = err_from_is_err_and c.from_residual.result c.from_residual.ensures.1 in
-    rw (is, told) (record { made = []; written = Appends-nil _; fed = rw (append-nil text) (c.in_err-feed.ensures bytes text held) })
+    rw (err_is _ _ c.from_residual.ensures.1) (record { made = []; written = Appends-nil _; fed = rw (append-nil text) (c.in_err-feed.ensures bytes text held) })
 
 pub returns-clause-fed : goal.returns-clause-fed
 returns-clause-fed g c bytes text held =
@@ -12,6 +11,5 @@ returns-clause-fed g c bytes text held =
 
 pub returns-in_err-put_all-clause-fed : goal.returns-in_err-put_all-clause-fed
 returns-in_err-put_all-clause-fed g c bytes text held =
-    let (stop, is, told) = err_from_is_err_and c.from_residual-in_err-put_all.result c.from_residual-in_err-put_all.ensures.1 in
-    rw (is, told) (fed_in_part _ _ _ text _ _ _ _ _ (c.in_ok-feed.ensures bytes text held)
+    rw (err_is _ _ c.from_residual-in_err-put_all.ensures.1) (fed_in_part _ _ _ text _ _ _ _ _ (c.in_ok-feed.ensures bytes text held)
     (subst (TakesFront _ _) c.as_slice.ensures.value c.in_err-put_all.ensures.text.front))

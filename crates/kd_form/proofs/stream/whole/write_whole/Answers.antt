@@ -1,4 +1,4 @@
-use Rattle.kd_form.proofs.Streaming.{err_from_is_err_and, room_less, [], ℕ, append-nil, length, arith}
+use Rattle.kd_form.proofs.Streaming.{room_less, [], ℕ, append-nil, length, arith}
 use Rattle.kd_form.proofs.stream.whole.write_whole.Goals as goal
 
 pub finish-requires : goal.finish-requires
@@ -8,5 +8,4 @@ finish-requires g c =
 
 pub returns-in_err-feed_all-clause-written : goal.returns-in_err-feed_all-clause-written
 returns-in_err-feed_all-clause-written g c =
-    let (stop, is, told) = err_from_is_err_and c.from_residual.result c.from_residual.ensures.1 in
-    let fed = c.in_err-feed_all.ensures.fed [] [] c.start-reader.ensures in rw (is, told) (grind (arith, append-nil {A = ℕ}, fed))
+    let fed = c.in_err-feed_all.ensures.fed [] [] c.start-reader.ensures in grind (arith, append-nil {A = ℕ}, fed)

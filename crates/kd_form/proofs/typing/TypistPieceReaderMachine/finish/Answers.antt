@@ -1,4 +1,4 @@
-use Rattle.kd_form.proofs.Streaming.{err_from_is_err_and, closed_in_part, typed_ends, Ok}
+use Rattle.kd_form.proofs.Streaming.{err_is, closed_in_part, typed_ends, Ok}
 use Rattle.kd_form.proofs.typing.TypistPieceReaderMachine.finish.Goals as goal
 
 pub returns-clause-ended : goal.returns-clause-ended
@@ -6,5 +6,4 @@ returns-clause-ended g c bytes text held = record { made = _; written = c.in_ok-
 
 pub returns-in_err-put_all-clause-ended : goal.returns-in_err-put_all-clause-ended
 returns-in_err-put_all-clause-ended g c =
-    let (stop, is, told) = err_from_is_err_and c.from_residual.result c.from_residual.ensures.1 in
-    rw (is, told) (closed_in_part _ _ _ _ _ _ _ (Ok tt) (typed_ends _ _) c.in_err-put_all.ensures.text.front)
+    rw (err_is _ _ c.from_residual.ensures.1) (closed_in_part _ _ _ _ _ _ _ (Ok tt) (typed_ends _ _) c.in_err-put_all.ensures.text.front)
