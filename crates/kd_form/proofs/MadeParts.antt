@@ -223,11 +223,6 @@ pub has_internal : (s : Day) (k : PinKeys) → Suits s (Pin k)
     → (internal : List ℕ) × IsInternalKey (enciphered_choice s k) internal
 has_internal s k suits = grind arith
 
-pub not_spent : {X : Type 0} (found : Option X) (items : X → List ℕ) (letters : List ℕ)
-    → MatchOption found (HaveRunOut letters) (λ key. IsInternalKey letters (items key))
-    → (internal : List ℕ) × IsInternalKey letters internal → IsSome found
-not_spent found items letters told internal = grind arith
-
 -- the deciphered message key is a window
 pub key_is_window : (s : Day) (i : Indicator) (key : List ℕ) → HasIndicator s (Some i) → key ≡ message_key s i → All (λ l. l < 26) key
     → IsWindow (sheet_key s) key

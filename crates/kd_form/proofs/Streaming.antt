@@ -18,9 +18,6 @@ failed_now before after e = grind arith
 pub well_now : (before after : Bool) → after ≡ (before || false) → after ≡ before
 well_now before after e = grind arith
 
-pub still_well : (before after : Bool) → after ≡ before → after ≡ (before || false)
-still_well before after e = grind arith
-
 all_of_it : (xs : List ℕ) → StartsWith xs xs
 all_of_it xs = starts_with_of_append xs xs [] (sym (append-nil xs))
 

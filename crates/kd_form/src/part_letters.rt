@@ -99,26 +99,6 @@ fn read_pin_letters(
     }
 }
 
-/// The letters of the text of a part, whose heading has this indicator.
-fn read_letters(
-    day: &SheetDay,
-    part: u8,
-    indicator: &Option<Indicator>,
-    letters: &[Letter],
-) -> Result<ArrayVec<Letter, 500>, FormFault>
-    requires indicator { HasIndicator day.now indicator.now }
-    requires count { IsLetterCount day.now (length letters.now) }
-    ensures { MatchResult result
-        (λ text. SaysLetters day.now part indicator.now letters.now (Ok text.items))
-        (λ fault. SaysLetters day.now part indicator.now letters.now (Err fault)) }
-{
-    prove!(slots_of(day) != Some(0));
-    match indicator {
-        Some(indicator) => read_rotor_letters(day, part, indicator, letters),
-        None => read_pin_letters(day, part, letters),
-    }
-}
-
 /// The letters of the text of a part that has this heading and these letters in its body, or more than a body has.
 pub(crate) fn read_body(
     day: &SheetDay,
@@ -133,5 +113,9 @@ pub(crate) fn read_body(
     if letters.len() != heading.letters {
         return Err(FormFault::CountWrong(heading.part));
     }
-    read_letters(day, heading.part, &heading.indicator, letters)
+    prove!(slots_of(day) != Some(0));
+    match &heading.indicator {
+        Some(indicator) => read_rotor_letters(day, heading.part, indicator, letters),
+        None => read_pin_letters(day, heading.part, letters),
+    }
 }

@@ -57,7 +57,7 @@ pub fn send_stream<R: Source, W: Sink>(
         (port W.taken W.has_failed sink.old sink.new) (is_device result) }
 {
     check_machine(machine, day)?;
-    stream(day, OrderReader::start(day), source, sink)
+    stream(day, &mut OrderReader::start(day), source, sink)
 }
 
 /// How many letters of the text a part has at most.

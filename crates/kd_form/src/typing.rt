@@ -36,7 +36,7 @@ pub fn type_stream<R: Source, W: Sink>(
 {
     laws::engines_encipher_as_their_machines();
     let engine = machine.engine()?;
-    stream(machine, Typist { engine, read: 0 }, source, sink)
+    stream(machine, &mut Typist { engine, read: 0 }, source, sink)
 }
 
 /// What types a text.

@@ -1,4 +1,4 @@
-use Rattle.kd_form.proofs.Streaming.{err_is, fed_none, room_for, still_well, take_all, refl, fed_next, fed_whole, fed_up_to, room_less, well_now, sym, ◌∙◌, arith, take_more, up_to}
+use Rattle.kd_form.proofs.Streaming.{err_is, fed_none, room_for, take_all, refl, fed_next, fed_whole, fed_up_to, room_less, well_now, sym, ◌∙◌, arith, take_more, up_to}
 use Rattle.kd_form.proofs.stream.piece.feed_all.Goals as goal
 
 pub returns-in_err-feed_one-clause-fed : goal.returns-in_err-feed_one-clause-fed
@@ -32,4 +32,4 @@ returns-clause-fed g c =
     c.loop-byte.invariant.fed
 
 pub returns-clause-failed : goal.returns-clause-failed
-returns-clause-failed g c = still_well _ _ c.loop-byte.invariant.well
+returns-clause-failed g c = c.loop-byte.invariant.well ∙ sym (well_now _ _ refl)
