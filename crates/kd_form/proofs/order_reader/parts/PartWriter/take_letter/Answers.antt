@@ -38,6 +38,3 @@ returns-else-from-keys c = grind (arith, common_steps)
 
 pub returns-then-len-part_size : goal.returns-then-len-part_size
 returns-then-len-part_size c = grind (arith, common_steps)
-
-pub write-requires-clause-few : goal.write-requires-clause-few
-write-requires-clause-few c = grind (arith, common_steps)
