@@ -1,10 +1,10 @@
 //! The letters of a part's body, read.
 ghost use Rattle.std.specs.Prelude.{◌≡◌, ◌+◌, ◌^◌, ◌<◌, ◌≤◌, ◌↔◌, Some, length, IsTrue};
 ghost use Rattle.std.specs.Prelude.{MatchResult};
-ghost use Rattle.kd_form.specs.Reading.{HasIndicator, SaysLetters, SaysRotor, SaysPin};
+ghost use Rattle.kd_form.specs.Reading.{HasIndicator, SaysRotor, SaysPin};
 ghost use Rattle.kd_form.specs.Reading.{HasIndicatorsAround, keys_in};
 ghost use Rattle.kd_form.specs.KeyPatterns.{HasPins};
-ghost use Rattle.kd_form.specs.FormParts.{IsHeading, IsLetterCount};
+ghost use Rattle.kd_form.specs.FormParts.{IsHeading};
 ghost use Rattle.kd_form.specs.Receiving.{SaysBody};
 
 use super::fault::FormFault;
