@@ -2,7 +2,7 @@
 pub use Rattle.kd_form.proofs.Prelude.{◌≡◌, ◌∙◌, ℕ, ◌<◌, List, [], ◌∷◌, length, get_or, arith, All, slice_index, enumerate_from, get_or-eq_default, cases_lt, length-map, All-get_or, All-from_get_or, All-map, Day, OfRotors, OfPins, cipher_from, ◌≢◌, suc, ◌+◌, ◌≤◌, inl, inr, ◌++◌, map, refl, ap, subst, append_assoc, length-append, slice_get, Some, Contains, cases_eq, append-nil, map_push, ComesFirst, ArePicked, IsInternalKey, HaveRunOut, IsTakenInTurn, OnWheel, OffWheel, ◌-◌, ◌%◌, take, drop, sym, length-drop, add-one, min, replicate, codes, decimal, Option, MatchOption, IsSome, option_map, div_ceil, join_with_byte, div-eq_of_lt, mod-eq_of_lt, take_min, drop_min, length-replicate, Heading, fraction, indicator_words, heading_words, pieces, behind_spaces, with_line, Part, pin_day, IsLegalDay, Keys, Rotor, Pin, PinKeys, Indicator, Suits, indicator_of, rotor_letters, enciphered_choice, pin_letters, list_letters, IsMade, part_size, pin_indicators, filled, sheet_key, IsWindow, take-append_seam, drop-append_seam, HasIndicator, message_key, HasIndicatorsAround, group_in, keys_in, list_in, text_in, SaysLetters, Ok, All-append, All-cons, All-replicate, TheDayDeciphersItself, IsFraction, IsHeading, sent_letters, AreKeys, nat_tests, nil_from_length, AreRising}
 use Rattle.std.proofs.lemmas.List.FromFn.{length-enumerate_from, length-range_with_len, get_or-range_with_len}
 use Rattle.kd_tables.specs.{Permutation.alphabet, Permutation.followed_by, Rings.ring_of}
-use Rattle.kd_enigma.specs.Cipher.{RotorKey, product, path}
+use Rattle.kd_enigma.specs.Cipher.{product, path}
 use Rattle.{kd_state.specs.TwoCiphers.{EngineKey, key_left, key_with_window}, kd_form.specs.Making.IsTurnedFrom}
 
 pub enciphered_length : (s : Day) (window text : List ℕ) → length (cipher_from s window text) ≡ length text
@@ -23,13 +23,10 @@ product_letters (p ∷ ps) =
     All-map (λ letter. letter < 26) (λ y. slice_index (product ps) y) p
     (λ k d inside. letter_read (product ps) (get_or p k d) (product_letters ps))
 
-path_letters : (key : RotorKey) (window : List ℕ) → All (λ letter. letter < 26) (path key window)
-unfolding path
-path_letters key window = grind (arith, product_letters)
-
 pub enciphered_letters : (s : Day) (window text : List ℕ) → All (λ letter. letter < 26) (cipher_from s window text)
+unfolding path
 enciphered_letters (OfRotors s) window text =
-    All-map (λ letter. letter < 26) _ (enumerate_from 1 text) (λ k d inside. letter_read _ _ (path_letters _ _))
+    All-map (λ letter. letter < 26) _ (enumerate_from 1 text) (λ k d inside. letter_read _ _ (product_letters _))
 enciphered_letters (OfPins s) window text =
     All-map (λ letter. letter < 26) _ (enumerate_from 0 text) (λ k d inside. omega arith)
 
@@ -225,11 +222,6 @@ heading_line front whole h written = grind (arith, append_assoc {A = ℕ}, line_
 pub has_internal : (s : Day) (k : PinKeys) → Suits s (Pin k)
     → (internal : List ℕ) × IsInternalKey (enciphered_choice s k) internal
 has_internal s k suits = grind arith
-
-pub not_spent : {X : Type 0} (found : Option X) (items : X → List ℕ) (letters : List ℕ)
-    → MatchOption found (HaveRunOut letters) (λ key. IsInternalKey letters (items key))
-    → (internal : List ℕ) × IsInternalKey letters internal → IsSome found
-not_spent found items letters told internal = grind arith
 
 -- the deciphered message key is a window
 pub key_is_window : (s : Day) (i : Indicator) (key : List ℕ) → HasIndicator s (Some i) → key ≡ message_key s i → All (λ l. l < 26) key

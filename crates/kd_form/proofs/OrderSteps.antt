@@ -15,8 +15,7 @@ use Rattle.kd_form.specs.SendStream as stream
 -- the pieces of letters that have a last piece behind so many whole ones
 pieces_more : (size k : ℕ) (letters : List ℕ) → 0 < size → size * k < length letters → length letters ≤ size * k + size
     → pieces size letters ≡ pieces size (take (size * k) letters) ++ drop (size * k) letters ∷ []
-pieces_more size zero letters large some few =
-    grind (arith, pieces-next, take_all, drop_all, pieces-none)
+pieces_more size zero letters large some few = grind (arith, pieces-next, take_all, drop_all, pieces-none)
 pieces_more size (suc k) letters large some few =
     let rest = pieces_more size k (drop size letters) large in
     grind (arith, rest, pieces-next, take-take, drop-take, drop-drop, length-drop, length-take)
@@ -245,8 +244,7 @@ module _ (s : Day) where
 
   pub order_held : (r : OrderReader) (order sent : List ℕ) → IsOrderRead s r order sent
       → Held (orders s) (IsOrderRead s r) order sent
-  order_held r order sent is =
-      record { is = is; open_yet = open_yet r.stage r.head r.parts order sent is.stage }
+  order_held r order sent is = record { is = is; open_yet = open_yet r.stage r.head r.parts order sent is.stage }
 
   -- ---- in the text
 

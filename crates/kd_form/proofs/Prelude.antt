@@ -1,15 +1,12 @@
 -- What the proofs of this crate speak of.
-pub use Rattle.std.proofs.Common.{All, Bool, Contains, Err, IfSome, IsFalse, IsSome, IsTrue, List, MatchOption, MatchResult, None, Ok, Option, Result, Some, [], add-one, ap, append_assoc, arith, codes, decimal, drop, drop-cons, false, get_or, inl, inr, length, length-append, length-drop, map, min, nat_le, option_map, option_to_list, refl, replicate, rules, slice_get, slice_index, subst, suc, sym, take, true, zero, ℕ, ◌%◌, ◌*◌, ◌++◌, ◌+◌, ◌-◌, ◌<◌, ◌==◌, ◌^◌, ◌||◌, ◌∙◌, ◌∷◌, ◌≡◌, ◌≢◌, ◌≤◌, ◌⊎◌}
-pub use Rattle.std.proofs.Math.{ListN.get_or-append, ListN.get_or-eq_default, Nat.div-eq_of_lt}
-pub use Rattle.std.proofs.Math.{Nat.le_of_mul-le-mul_left, Nat.mod-eq_of_lt, Seq.drop-append_seam}
-pub use Rattle.std.proofs.Math.{Seq.get_or-append_seam, Seq.take-append_seam}
-pub use Rattle.std.proofs.{Transfers.starts_with_of_append, lemmas.Bool.cases_Bool, lemmas.Bool.cases_eq}
-pub use Rattle.std.proofs.{lemmas.Bool.cases_lt, lemmas.Bool.false≢true, lemmas.Grind.common_steps}
-pub use Rattle.std.proofs.{lemmas.List.Sums.AllPass-from_list_all, lemmas.Bool.Decides.nat_tests}
-pub use Rattle.std.proofs.lemmas.List.{append-nil, append_cancel_right, drop-drop, drop-take, drop_all, drop_at, drop_min, drop_more, get_or-map, get_or-take, get_or_append_left, get_or_past, length-map, length-replicate, length-take, length-take-le, map-append, map_push, nil_from_length, take-append-drop, take-append-le, take-take, take_all, take_at, take_min, take_more}
+pub use Rattle.std.proofs.Common.{All, Bool, Contains, Err, IfSome, IsErrAnd, IsFalse, IsSome, IsTrue, List, MatchOption, MatchResult, None, Ok, Option, Result, Some, [], add-one, ap, append_assoc, arith, codes, decimal, drop, drop-cons, false, get_or, inl, inr, length, length-append, length-drop, map, min, nat_le, option_map, option_to_list, refl, replicate, rules, slice_get, slice_index, subst, suc, sym, take, true, zero, ℕ, ◌%◌, ◌*◌, ◌++◌, ◌+◌, ◌-◌, ◌<◌, ◌==◌, ◌^◌, ◌||◌, ◌∙◌, ◌∷◌, ◌≡◌, ◌≢◌, ◌≤◌, ◌⊎◌}
+pub use Rattle.std.proofs.Math.{ListN.get_or-append, ListN.get_or-eq_default, Nat.le_of_mul-le-mul_left}
+pub use Rattle.std.proofs.Math.{Nat.{div-eq_of_lt, mod-eq_of_lt}, Seq.{drop-append_seam, get_or-append_seam, take-append_seam}}
+pub use Rattle.std.proofs.{Transfers.starts_with_of_append, lemmas.Grind.common_steps}
+pub use Rattle.std.proofs.lemmas.Bool.{cases_Bool, cases_eq, cases_lt, false≢true, Decides.nat_tests}
+pub use Rattle.std.proofs.lemmas.List.{append-nil, append_cancel_right, drop-drop, drop-take, drop_all, drop_at, drop_min, drop_more, get_or-map, get_or-take, get_or_append_left, get_or_past, length-map, length-replicate, length-take, length-take-le, map-append, map_push, nil_from_length, take-append-drop, take-append-le, take-take, take_all, take_at, take_min, take_more, Sums.AllPass-from_list_all}
 pub use Rattle.std.proofs.lemmas.List.Elements.{All-append, All-cons, All-drop, All-from_get_or, All-get_or, All-head, All-map, All-nil, All-push, All-replicate, All-same, All-tail, All-take, All-weaker, filter_map-append, All-more}
-pub use Rattle.std.specs.{Int.IsInRange, Int.div_ceil, Io.KnownBytes.Appends, Io.KnownBytes.Consumes}
-pub use Rattle.std.specs.{Io.KnownBytes.IsAtEnd, Io.KnownBytes.Keeps}
+pub use Rattle.std.specs.{Int.{IsInRange, div_ceil}, Io.KnownBytes.{Appends, Consumes, IsAtEnd, Keeps}}
 pub use Rattle.std.specs.List.{AllWithin, cons_option, enumerate_from, flat_map, join_with_byte, list_all}
 pub use Rattle.arrayvec.specs.{ArrayVec.ArrayVec, ArrayVec.array_vec_len}
 pub use Rattle.kd_form.specs.FormParts.{AreFewLetters, AreHeadingWords, BeginsHeading, HasFirstLine, IsFraction, IsHeading, IsLetterCount, IsLineText, WithoutReturn, cut, parts_of}
@@ -18,8 +15,7 @@ pub use Rattle.kd_form.specs.FormText.{AtPart, EndsAt, IsComplete, IsLast, IsRea
 pub use Rattle.kd_form.specs.InternalKey.{ArePicked, ComesFirst, HaveRunOut, IsInternalKey, IsTakenInTurn, OffWheel, OnWheel, AreRising}
 pub use Rattle.kd_form.specs.KeyPatterns.{HasPins, HasSlots, IsAnyKeyLine, key_letters, key_pattern, places_for, rotor_pattern}
 pub use Rattle.kd_form.specs.{Keys.AreKeys, Keys.key_words, Laws.FormsGiveTheirOrders, Laws.FormsStayRefused}
-pub use Rattle.kd_form.specs.{OnTheKey.IsKeyFault, OnTheKey.OffKey, Steps.Answer, Steps.IsCaught, Steps.IsFound}
-pub use Rattle.kd_form.specs.{Steps.IsJudged, Steps.IsSought}
+pub use Rattle.kd_form.specs.{OnTheKey.{IsKeyFault, OffKey}, Steps.{Answer, IsCaught, IsFound, IsJudged, IsSought}}
 pub use Rattle.kd_form.specs.Making.{IsMade, IsMadeText, Suits, cipher_from, enciphered_choice, filled, indicator_of, list_letters, part_size, pin_indicators, pin_letters, rotor_letters}
 pub use Rattle.kd_form.specs.Order.{BeginsWithKeys, BreaksOff, IsAnyHead, IsEnded, IsHead, IsHeadFault, IsKeyLine, IsOrder}
 pub use Rattle.kd_form.specs.Part.{Part, behind_spaces, body_text, fraction, groups_of, heading_words, indicator_words, part_text, pieces, with_line}
@@ -32,9 +28,8 @@ pub use Rattle.kd_form.specs.Sending.{AreMadeTexts, Cut, InHead, InKeys, InParts
 pub use Rattle.kd_form.specs.StreamSteps.{AtSource, ClosesAs, ClosesAt, EndsIn, FedTo, FeedsAll, HasRoom, Held, InFeeding, IsFed, IsRead, IsStopped, ReadsNext, answer_to, fault_of, stops_at_device}
 pub use Rattle.kd_form.specs.Streams.{Answers, AreWell, AtEnd, ByTheEnd, ByThen, Closes, FallsShort, IsOpen, IsRefused, IsStreamed, Message, Off, SinkFails, SourceFails, Stands, TooLong, Whole, is_device, is_off_key}
 pub use Rattle.kd_form.specs.Typing.{IsAllowedTo, IsTextFault, IsTypedTo, Lights, cipher_text, texts, typed_letters}
-pub use Rattle.kd_form.specs.declared.{fault.FormFault.FormFault, heading.Heading.Heading, heading.Indicator.Indicator}
-pub use Rattle.kd_form.specs.declared.{keys.Keys.Keys, keys.Keys.TheVariants.Pin, keys.Keys.TheVariants.Rotor}
-pub use Rattle.kd_form.specs.declared.{keys.PinKeys.PinKeys, pattern_line.Unread.Unread}
+pub use Rattle.kd_form.specs.declared.{fault.FormFault.FormFault, heading.{Heading.Heading, Indicator.Indicator}}
+pub use Rattle.kd_form.specs.declared.{keys.{Keys.{Keys, TheVariants.{Pin, Rotor}}, PinKeys.PinKeys}, pattern_line.Unread.Unread}
 pub use Rattle.kd_form.specs.declared.fault.FormFault.TheVariants.{BadByte, BadHeading, EmptyText, NotReady, PartKeys, PartOrder}
 pub use Rattle.kd_state.proofs.Lines.{lines_split_into_words, numbers_are_words, parts_make_lines, texts_tell_first_parts, word_by_bytes}
 pub use Rattle.kd_state.specs.{Laws.CipherInTurn, Laws.TheDayDeciphersItself, declared.machine.parts.Parts.Parts}
@@ -43,3 +38,7 @@ pub use Rattle.kd_state.specs.TwoCiphers.{EngineKey, IsWindow, cipher, physical_
 pub use Rattle.kd_state.specs.Words.{IsFirstPart, IsWithout, IsWord, line_of, words_of}
 pub use Rattle.kd_tables.specs.{Ports.Ends, Ports.Fail, Ports.IsWell, Ports.Port, Ports.port, Ports.read_limit}
 pub use Rattle.kd_tables.specs.{Text.is_text_byte, Text.letters_text, Writing.TakesFront}
+
+-- the error that `?` makes
+pub err_is : {T E : Type 0} (answer : Result T E) (fault : E) → IsErrAnd answer (λ made. made ≡ fault) → answer ≡ Err fault
+err_is answer fault e = grind arith

@@ -1,3 +1,5 @@
+use kd_state::NotReady;
+use kd_tables::Device;
 use thiserror::Error;
 
 /// Why an order becomes no form, or a form no text. Positions are counted in bytes from 1, and parts from 1.
@@ -48,4 +50,26 @@ pub enum FormFault {
     /// The source gives more bytes than are read of it.
     #[error("38 ReadTooLong")]
     ReadTooLong,
+}
+
+impl From<NotReady> for FormFault {
+    ghost use Rattle.std.specs.Prelude.{◌≡◌};
+    ghost use Rattle.kd_form.specs.declared.fault.FormFault.TheVariants as faults;
+
+    ghost from_gives = { λ _ fault. fault ≡ faults.NotReady };
+
+    fn from(_: NotReady) -> FormFault {
+        FormFault::NotReady
+    }
+}
+
+impl From<Device> for FormFault {
+    ghost use Rattle.std.specs.Prelude.{◌≡◌};
+    ghost use Rattle.kd_form.specs.declared.fault.FormFault.TheVariants as faults;
+
+    ghost from_gives = { λ _ fault. fault ≡ faults.Device };
+
+    fn from(_: Device) -> FormFault {
+        FormFault::Device
+    }
 }

@@ -67,7 +67,7 @@ impl MessageReader for FormReader {
                     return Ok(());
                 }
                 let heading = heading_of_ended(day, line.as_slice());
-                let heading = check_heading(self.number, &self.expected, heading)?;
+                let heading = check_heading(self.number, self.expected, heading)?;
                 self.stage = Stage::Body(PartBody::new(heading));
                 Ok(())
             }
@@ -90,7 +90,7 @@ impl MessageReader for FormReader {
 
     fn end(&mut self, day: &SheetDay, made: &mut Made) -> Result<(), FormFault> {
         match &self.stage {
-            Stage::Heading(line) => Err(fault_in_heading(day, self.number, &self.expected, line)),
+            Stage::Heading(line) => Err(fault_in_heading(day, self.number, self.expected, line)),
             Stage::Body(body) => {
                 body.give(day, 0, made)?;
                 if body.heading.parts != self.number {
@@ -107,11 +107,11 @@ impl MessageReader for FormReader {
 fn fault_in_heading(
     day: &SheetDay,
     number: u8,
-    expected: &Option<u8>,
+    expected: Option<u8>,
     line: &ArrayVec<u8, LINE>,
 ) -> FormFault
     ensures { (part : List ℕ) → HoldsLine line.now.items part → (start : ℕ)
-        → IsPartFault day.now number expected.now start part result }
+        → IsPartFault day.now number expected start part result }
 {
     let heading = heading_of_open(day, line.as_slice());
     match check_heading(number, expected, heading) {
@@ -143,12 +143,12 @@ fn heading_from(digit: u8) -> ArrayVec<u8, LINE>
 /// Refuses what isn't the heading of the part of that number, where the form is to have so many.
 fn check_heading(
     number: u8,
-    expected: &Option<u8>,
+    expected: Option<u8>,
     heading: Option<Heading>,
 ) -> Result<Heading, FormFault>
     ensures { MatchResult result
-        (IsHeadingDue number expected.now heading)
-        (IsHeadingOff number expected.now heading) }
+        (IsHeadingDue number expected heading)
+        (IsHeadingOff number expected heading) }
 {
     let Some(heading) = heading else {
         return Err(FormFault::BadHeading(number));
@@ -160,11 +160,11 @@ fn check_heading(
 }
 
 /// Whether the number of parts is the first part's, if there was one.
-fn is_expected(expected: &Option<u8>, parts: u8) -> bool
-    ensures { IsTrue result ↔ IsExpected expected.now parts }
+fn is_expected(expected: Option<u8>, parts: u8) -> bool
+    ensures { IsTrue result ↔ IsExpected expected parts }
 {
     match expected {
-        Some(first) => *first == parts,
+        Some(first) => first == parts,
         None => true,
     }
 }

@@ -1,5 +1,5 @@
 //! The line of a heading, read.
-ghost use Rattle.std.specs.Prelude.{◌≡◌, ◌≢◌, ◌⊎◌, ◌↔◌, ℕ, ◌^◌, ◌<◌, List, [], ◌∷◌, ◌++◌, codes};
+ghost use Rattle.std.specs.Prelude.{◌≡◌, ◌≢◌, ◌⊎◌, ◌↔◌, ℕ, ◌^◌, ◌<◌, List, [], ◌∷◌, ◌++◌};
 ghost use Rattle.std.specs.Prelude.{All, decimal, map, take, IsTrue, MatchOption};
 ghost use Rattle.kd_tables.specs.Text.{letters_text};
 ghost use Rattle.kd_state.specs.Machine.{AreLetters};
@@ -13,6 +13,7 @@ ghost use Rattle.kd_form.specs.Receiving.{HasHeading};
 
 use super::heading::{Heading, Indicator};
 use super::key_line::slots_of;
+use super::text::is_text;
 use arrayvec::ArrayVec;
 use kd_state::{PerSlot, SheetDay, number_of_text, split_once, split_words, wide_number_of_text};
 use kd_tables::Letter;
@@ -114,7 +115,7 @@ fn heading_of_words(day: &SheetDay, words: &[&[u8]]) -> Option<Heading>
     let [name, fraction, count, indicator @ ..] = words else {
         return None;
     };
-    if !is_part(name) {
+    if !is_text(name, b"PART") {
         return None;
     }
     let (part, parts) = read_fraction(fraction)?;
@@ -127,13 +128,6 @@ fn heading_of_words(day: &SheetDay, words: &[&[u8]]) -> Option<Heading>
         letters,
         indicator,
     })
-}
-
-/// Whether the word is PART.
-fn is_part(word: &[u8]) -> bool
-    ensures { IsTrue result ↔ (word.now ≡ codes "PART") }
-{
-    matches!(word, b"PART")
 }
 
 /// The heading of the line, if a part of the day can have it.

@@ -20,10 +20,8 @@ pub(crate) fn read_keys(day: &SheetDay, bytes: &[u8]) -> Result<(Keys,), Unread>
         (λ read. AreKeys day.now read.0 × IsKeyLine read.0 bytes.now)
         (BreaksOff (IsAnyKeyLine day.now) bytes.now) }
 {
-    match read_pattern(key_pattern(day), bytes) {
-        Ok(letters) => Ok((keys_of(day, letters.as_slice()),)),
-        Err(why) => Err(why),
-    }
+    let letters = read_pattern(key_pattern(day), bytes)?;
+    Ok((keys_of(day, letters.as_slice()),))
 }
 
 /// The pattern of the line.

@@ -18,7 +18,7 @@ use super::heading::Heading;
 use super::keeping::keep;
 use super::part_letters::read_body;
 use super::stream::reader::Made;
-use super::text::letter_of_byte;
+use super::text::{is_text, letter_of_byte};
 use arrayvec::ArrayVec;
 use kd_state::SheetDay;
 use kd_tables::Letter;
@@ -59,7 +59,7 @@ impl PartBody {
     pub(crate) fn ends_before(&self, byte: u8) -> bool
         ensures { IsTrue result ↔ ((self.now.line.items ≡ codes "PART ") × (48 ≤ byte) × (byte ≤ 57)) }
     {
-        matches!(self.line.as_slice(), b"PART ") && byte.is_ascii_digit()
+        is_text(self.line.as_slice(), b"PART ") && byte.is_ascii_digit()
     }
 
     /// Takes a byte that may stand in a body.
@@ -95,13 +95,9 @@ impl PartBody {
     {
         let letters = self.letters.as_slice();
         let (letters, _) = letters.split_at(letters.len() - others);
-        match read_body(day, &self.heading, letters) {
-            Ok(letters) => {
-                *made = given_letters(day, letters.as_slice());
-                Ok(())
-            }
-            Err(fault) => Err(fault),
-        }
+        let letters = read_body(day, &self.heading, letters)?;
+        *made = given_letters(day, letters.as_slice());
+        Ok(())
     }
 }
 

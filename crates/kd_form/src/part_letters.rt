@@ -1,10 +1,10 @@
 //! The letters of a part's body, read.
 ghost use Rattle.std.specs.Prelude.{◌≡◌, ◌+◌, ◌^◌, ◌<◌, ◌≤◌, ◌↔◌, Some, length, IsTrue};
 ghost use Rattle.std.specs.Prelude.{MatchResult};
-ghost use Rattle.kd_form.specs.Reading.{HasIndicator, SaysLetters, SaysRotor, SaysPin};
+ghost use Rattle.kd_form.specs.Reading.{HasIndicator, SaysRotor, SaysPin};
 ghost use Rattle.kd_form.specs.Reading.{HasIndicatorsAround, keys_in};
 ghost use Rattle.kd_form.specs.KeyPatterns.{HasPins};
-ghost use Rattle.kd_form.specs.FormParts.{IsHeading, IsLetterCount};
+ghost use Rattle.kd_form.specs.FormParts.{IsHeading};
 ghost use Rattle.kd_form.specs.Receiving.{SaysBody};
 
 use super::fault::FormFault;
@@ -18,7 +18,6 @@ use kd_state::SheetDay;
 use kd_tables::Letter;
 
 /// The letters of the text of a rotor machine's part.
-#[tactic(auto, using(crate::proofs::MadeParts::key_is_window))]
 fn read_rotor_letters(
     day: &SheetDay,
     part: u8,
@@ -100,26 +99,6 @@ fn read_pin_letters(
     }
 }
 
-/// The letters of the text of a part, whose heading has this indicator.
-fn read_letters(
-    day: &SheetDay,
-    part: u8,
-    indicator: &Option<Indicator>,
-    letters: &[Letter],
-) -> Result<ArrayVec<Letter, 500>, FormFault>
-    requires indicator { HasIndicator day.now indicator.now }
-    requires count { IsLetterCount day.now (length letters.now) }
-    ensures { MatchResult result
-        (λ text. SaysLetters day.now part indicator.now letters.now (Ok text.items))
-        (λ fault. SaysLetters day.now part indicator.now letters.now (Err fault)) }
-{
-    prove!(slots_of(day) != Some(0));
-    match indicator {
-        Some(indicator) => read_rotor_letters(day, part, indicator, letters),
-        None => read_pin_letters(day, part, letters),
-    }
-}
-
 /// The letters of the text of a part that has this heading and these letters in its body, or more than a body has.
 pub(crate) fn read_body(
     day: &SheetDay,
@@ -134,5 +113,9 @@ pub(crate) fn read_body(
     if letters.len() != heading.letters {
         return Err(FormFault::CountWrong(heading.part));
     }
-    read_letters(day, heading.part, &heading.indicator, letters)
+    prove!(slots_of(day) != Some(0));
+    match &heading.indicator {
+        Some(indicator) => read_rotor_letters(day, heading.part, indicator, letters),
+        None => read_pin_letters(day, heading.part, letters),
+    }
 }

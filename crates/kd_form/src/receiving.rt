@@ -58,5 +58,5 @@ pub fn receive_stream<R: Source, W: Sink>(
         (port W.taken W.has_failed sink.old sink.new) (is_device result) }
 {
     check_machine(machine, day)?;
-    stream(day, FormReader::start(day), source, sink)
+    stream(day, &mut FormReader::start(day), source, sink)
 }

@@ -41,7 +41,7 @@ pub fn send(
 /// before `ReadTooLong`, and before `Device` where it is the source that fails; what the end of the order shows comes at the
 /// end of the source. A part is written once a letter has come for the next one, so a part may be out when the order is
 /// refused. At most 1,048,576 bytes are read, and one more to see that there are more.
-#[tactic(auto, using(crate::proofs::OneText::off_key, crate::proofs::OneText::order_told))]
+#[tactic(auto, using(crate::proofs::OneText::off_key))]
 pub fn send_stream<R: Source, W: Sink>(
     machine: &Machine,
     day: &SheetDay,
@@ -57,7 +57,7 @@ pub fn send_stream<R: Source, W: Sink>(
         (port W.taken W.has_failed sink.old sink.new) (is_device result) }
 {
     check_machine(machine, day)?;
-    stream(day, OrderReader::start(day), source, sink)
+    stream(day, &mut OrderReader::start(day), source, sink)
 }
 
 /// How many letters of the text a part has at most.

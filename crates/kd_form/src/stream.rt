@@ -16,27 +16,25 @@ use piece::{close, read_next};
 use reader::PieceReader;
 
 /// Reads a message from the source to its end, on a day or on a machine, and writes what becomes of it as it comes.
-pub(crate) fn stream<On, M: PieceReader<On> + Drop, R: Source, W: Sink>(
+pub(crate) fn stream<On, M: PieceReader<On>, R: Source, W: Sink>(
     on: &On,
-    mut reader: M,
+    reader: &mut M,
     source: &mut R,
     sink: &mut W,
 ) -> Result<(), FormFault>
-    requires { Held (M.message on.now) (M.holds on.now reader) [] [] }
+    requires { Held (M.message on.now) (M.holds on.now reader.old) [] [] }
     ensures { IsStreamed (M.message on.now) (port R.remaining R.has_failed source.old source.new)
         (port W.taken W.has_failed sink.old sink.new) result }
 {
     let mut read = 0;
     while read < READ_LIMIT {
-        match read_next(&mut reader, on, source, sink, READ_LIMIT - read) {
-            Ok(0) => return close(&mut reader, on, sink),
-            Ok(count) => read += count,
-            Err(stop) => return Err(FormFault::from(stop)),
+        match read_next(reader, on, source, sink, READ_LIMIT - read)? {
+            0 => return close(reader, on, sink),
+            count => read += count,
         }
     }
-    match is_at_end(source) {
-        Ok(true) => close(&mut reader, on, sink),
-        Ok(false) => Err(FormFault::ReadTooLong),
-        Err(_) => Err(FormFault::Device),
+    if !is_at_end(source)? {
+        return Err(FormFault::ReadTooLong);
     }
+    close(reader, on, sink)
 }

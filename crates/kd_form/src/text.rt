@@ -1,5 +1,5 @@
 //! The text of an order: capital letters and spaces, with line ends anywhere.
-ghost use Rattle.std.specs.Prelude.{◌≡◌};
+ghost use Rattle.std.specs.Prelude.{◌≡◌, ◌↔◌, IsTrue};
 ghost use Rattle.kd_tables.specs.Text.{is_text_byte};
 ghost use Rattle.kd_form.specs.Sending.{blank_of, letter_of_byte};
 
@@ -31,4 +31,11 @@ pub(crate) fn is_text_byte(byte: u8) -> bool
     ensures { result ≡ is_text_byte byte }
 {
     matches!(byte, b'A'..=b'Z' | b' ' | b'\r' | b'\n')
+}
+
+/// Whether the bytes are this text.
+pub(crate) fn is_text(bytes: &[u8], text: &[u8]) -> bool
+    ensures { IsTrue result ↔ (bytes.now ≡ text.now) }
+{
+    bytes == text
 }

@@ -35,10 +35,8 @@ pub fn type_stream<R: Source, W: Sink>(
         (port W.taken W.has_failed sink.old sink.new) (is_device result) }
 {
     laws::engines_encipher_as_their_machines();
-    match machine.engine() {
-        Ok(engine) => stream(machine, Typist { engine, read: 0 }, source, sink),
-        Err(_) => Err(FormFault::NotReady),
-    }
+    let engine = machine.engine()?;
+    stream(machine, &mut Typist { engine, read: 0 }, source, sink)
 }
 
 /// What types a text.
@@ -63,10 +61,7 @@ impl PieceReader<Machine> for Typist {
         let mut lamps = ArrayVec::from([0; PIECE]);
         let front = type_piece(&mut self.engine, bytes, &mut lamps);
         self.read += front;
-        match put_all(sink, &lamps) {
-            Ok(()) => {}
-            Err(_) => return Err(Stop::Device),
-        }
+        put_all(sink, &lamps)?;
         if front < bytes.len() {
             return Err(Stop::Refused(FormFault::BadByte(self.read + 1)));
         }
@@ -74,9 +69,7 @@ impl PieceReader<Machine> for Typist {
     }
 
     fn finish<W: Sink>(&mut self, _on: &Machine, sink: &mut W) -> Result<(), Stop> {
-        match put_all(sink, b"\n") {
-            Ok(()) => Ok(()),
-            Err(_) => Err(Stop::Device),
-        }
+        put_all(sink, b"\n")?;
+        Ok(())
     }
 }

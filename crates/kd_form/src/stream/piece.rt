@@ -26,10 +26,7 @@ pub(crate) fn feed_all<M: MessageReader, W: Sink>(
 {
     let mut made: Made = ArrayVec::new();
     for byte in bytes {
-        match feed_one(reader, day, *byte, &mut made, sink) {
-            Ok(()) => {}
-            Err(stop) => return Err(stop),
-        }
+        feed_one(reader, day, *byte, &mut made, sink)?;
     }
     Ok(())
 }
@@ -50,20 +47,13 @@ fn feed_one<M: MessageReader, W: Sink>(
     ensures failed { W.has_failed sink.new ≡ (W.has_failed sink.old || stops_at_device result) }
     ensures emptied { OnOk result (made.new.items ≡ []) }
 {
-    match reader.feed(day, byte, made) {
-        Ok(()) => {}
-        Err(fault) => return Err(Stop::Refused(fault)),
-    }
+    reader.feed(day, byte, made)?;
     if made.is_empty() {
         return Ok(());
     }
-    match put_all(sink, made.as_slice()) {
-        Ok(()) => {
-            made.clear();
-            Ok(())
-        }
-        Err(_) => Err(Stop::Device),
-    }
+    put_all(sink, made.as_slice())?;
+    made.clear();
+    Ok(())
 }
 
 impl<M: MessageReader> PieceReader<SheetDay> for M {
@@ -78,11 +68,9 @@ impl<M: MessageReader> PieceReader<SheetDay> for M {
     fn finish<W: Sink>(&mut self, on: &SheetDay, sink: &mut W) -> Result<(), Stop> {
         let mut made: Made = ArrayVec::new();
         let answer = self.end(on, &mut made);
-        match (put_all(sink, made.as_slice()), answer) {
-            (Ok(()), Ok(())) => Ok(()),
-            (Ok(()), Err(fault)) => Err(Stop::Refused(fault)),
-            (Err(_), _) => Err(Stop::Device),
-        }
+        put_all(sink, made.as_slice())?;
+        answer?;
+        Ok(())
     }
 }
 
@@ -139,8 +127,6 @@ fn read_into<On, M: PieceReader<On>, R: Source, W: Sink>(
     let Ok(count) = source.get(buffer) else {
         return Err(Stop::Device);
     };
-    match reader.read(on, &buffer[..count], sink) {
-        Ok(()) => Ok(count),
-        Err(stop) => Err(stop),
-    }
+    reader.read(on, &buffer[..count], sink)?;
+    Ok(count)
 }

@@ -1,4 +1,5 @@
 use crate::fault::FormFault;
+use kd_tables::Device;
 
 /// Why the writing of a message stops before its end.
 #[derive(Clone, Copy)]
@@ -20,5 +21,27 @@ impl From<Stop> for FormFault {
             Stop::Device => FormFault::Device,
             Stop::Refused(fault) => fault,
         }
+    }
+}
+
+impl From<FormFault> for Stop {
+    ghost use Rattle.std.specs.Prelude.{◌≡◌};
+    ghost use Rattle.kd_form.specs.declared.stream.stop.Stop.TheVariants as stops;
+
+    ghost from_gives = { λ fault stop. stop ≡ stops.Refused fault };
+
+    fn from(fault: FormFault) -> Stop {
+        Stop::Refused(fault)
+    }
+}
+
+impl From<Device> for Stop {
+    ghost use Rattle.std.specs.Prelude.{◌≡◌};
+    ghost use Rattle.kd_form.specs.declared.stream.stop.Stop.TheVariants as stops;
+
+    ghost from_gives = { λ _ stop. stop ≡ stops.Device };
+
+    fn from(_: Device) -> Stop {
+        Stop::Device
     }
 }

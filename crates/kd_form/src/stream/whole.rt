@@ -60,8 +60,6 @@ fn write_whole<M: MessageReader + Drop, W: Sink>(
 {
     let mut reader = M::start(day);
     prove!(message.len() < 1 << 63);
-    match feed_all(&mut reader, day, message, sink) {
-        Ok(()) => reader.finish(day, sink),
-        Err(stop) => Err(stop),
-    }
+    feed_all(&mut reader, day, message, sink)?;
+    reader.finish(day, sink)
 }

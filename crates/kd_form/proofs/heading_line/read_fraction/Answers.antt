@@ -1,5 +1,4 @@
 use Rattle.kd_form.proofs.Headings.{fraction_parts, same_fraction, rules, arith}
-use Rattle.kd_form.proofs.heading_line.read_fraction.Goals.{then-part-lt1-via-then-part-lt1, then-part-lt1-via-else-part-lt1+then-part-parts, then-part-lt1-via-else-part-lt1+else-part-parts+then-parts-gt99}
 use Rattle.kd_form.proofs.heading_line.read_fraction.Goals as goal
 
 pub returns-in_err-part-2 : goal.returns-in_err-part-2
@@ -15,9 +14,4 @@ returns-in_err-parts c =
 pub returns-then-part-lt1 : goal.returns-then-part-lt1
 returns-then-part-lt1 c = λ part parts number is.
     let same = same_fraction _ _ _ part parts c.in_ok-part-2.part c.in_ok-parts.parts number (search rules) (search rules)
-    c.in_ok-part.ensures c.in_ok-part-2.ensures c.in_ok-parts.ensures is in
-    elim c.then-part-lt1.branch [
-      | then-part-lt1-via-then-part-lt1 w ↦ omega (arith, number.first, same.0, w.if-part-lt1.true)
-      | then-part-lt1-via-else-part-lt1+then-part-parts w ↦ omega (arith, number.in_order, same.0, same.1, w.if-part-parts.true)
-      | then-part-lt1-via-else-part-lt1+else-part-parts+then-parts-gt99 w ↦ omega (arith, number.few, same.1, w.if-parts-gt99.true)
-    ]
+    c.in_ok-part.ensures c.in_ok-part-2.ensures c.in_ok-parts.ensures is in grind (arith, same, number)

@@ -1,7 +1,6 @@
-use Rattle.{std.proofs.lemmas.Result.err_from_is_err_and, kd_form.proofs.Prelude.{refl, OffKey}}
+use Rattle.kd_form.proofs.Prelude.{err_is, refl, OffKey}
 use Rattle.kd_form.proofs.sending.send.Goals as goal
 
 pub returns-in_err-check_machine : goal.returns-in_err-check_machine
 returns-in_err-check_machine c =
-    let (fault, is, told) = err_from_is_err_and c.from_residual.result c.from_residual.ensures.1 in
-    rw (is, told) (OffKey _ c.in_err-check_machine.ensures refl)
+    rw (err_is _ _ c.from_residual.ensures.1) (OffKey _ c.in_err-check_machine.ensures refl)

@@ -1,7 +1,12 @@
-use Rattle.{std.proofs.lemmas.Result.err_from_is_err_and, kd_form.proofs.Prelude.{refl, Off}}
+use Rattle.kd_form.proofs.{OneText.{err_is, order_told, sym, ◌∙◌, false≢true}, Prelude.{refl, Off}}
 use Rattle.kd_form.proofs.sending.send_stream.Goals as goal
 
 pub returns-in_err-check_machine-clause-streamed : goal.returns-in_err-check_machine-clause-streamed
 returns-in_err-check_machine-clause-streamed g c =
-    let (fault, is, told) = err_from_is_err_and c.from_residual.result c.from_residual.ensures.1 in
-    rw (is, told) (Off _ c.in_err-check_machine.ensures refl (record { has = refl; well = refl }) (record { has = refl; well = refl }))
+    rw (err_is _ _ c.from_residual.ensures.1) (Off _ c.in_err-check_machine.ensures refl (record { has = refl; well = refl }) (record { has = refl; well = refl }))
+
+pub returns-clause-untouched : goal.returns-clause-untouched
+returns-clause-untouched g c = λ off. absurd (false≢true (sym (order_told _ _ _ _ _ _ c.stream.ensures.answers).1 ∙ off))
+
+pub returns-clause-failed : goal.returns-clause-failed
+returns-clause-failed g c = (order_told _ _ _ _ _ _ c.stream.ensures.answers).0

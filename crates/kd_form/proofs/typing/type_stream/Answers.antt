@@ -1,4 +1,4 @@
-use Rattle.kd_form.proofs.Streaming.{typed_held, [], refl, sym, ap, ◌∙◌, All-nil, IsTrue, is_text_byte, letters_text, typed_letters, cipher, false≢true, NotReady, Off}
+use Rattle.kd_form.proofs.Streaming.{err_is, typed_held, [], refl, sym, ap, ◌∙◌, All-nil, IsTrue, is_text_byte, letters_text, typed_letters, cipher, false≢true, NotReady, Off}
 use Rattle.kd_form.proofs.typing.type_stream.Goals as goal
 
 pub stream-requires : goal.stream-requires
@@ -7,9 +7,9 @@ stream-requires g c =
     typed_held c.args.machine.now _ [] [] (record {
       counted = refl;
       allowed = All-nil (λ b. IsTrue (is_text_byte b));
-      behind = λ more. ap letters_text (sym (law _ (typed_letters more)) ∙ ap (λ k. cipher k (typed_letters more)) (sym c.in-Ok.ensures.key));
+      behind = λ more. ap letters_text (sym (law _ (typed_letters more)) ∙ ap (λ k. cipher k (typed_letters more)) (sym c.in_ok-engine.ensures.key));
     })
 
-pub returns-in-Err-clause-streamed : goal.returns-in-Err-clause-streamed
-returns-in-Err-clause-streamed g c =
-    Off NotReady (λ ready. false≢true (c.in-Err.ensures.ready.1 ready), refl) refl (record { has = refl; well = refl }) (record { has = refl; well = refl })
+pub returns-in_err-engine-clause-streamed : goal.returns-in_err-engine-clause-streamed
+returns-in_err-engine-clause-streamed g c =
+    rw (err_is _ _ c.from_residual.ensures.1) (Off NotReady (λ ready. false≢true (c.in_err-engine.ensures.ready.1 ready), refl) refl (record { has = refl; well = refl }) (record { has = refl; well = refl }))

@@ -1,5 +1,4 @@
-use Rattle.std.proofs.lemmas.Result.{err_from_is_err_and}
-use Rattle.kd_form.proofs.FormSteps.{next_last, next_refused, closes, closes_refused, closes_short, in_stage, [], ℕ, ap, ArrayVec, ◌∙◌}
+use Rattle.kd_form.proofs.FormSteps.{err_is, next_last, next_refused, closes, closes_refused, closes_short, in_stage, [], ℕ, ap, ArrayVec, ◌∙◌}
 use Rattle.kd_form.proofs.form_reader.FormReaderMessageReader.end.Goals as goal
 
 pub give-requires-clause-heading : goal.give-requires-clause-heading
@@ -22,8 +21,6 @@ returns-else-body-self c = λ form text so_far.
 
 pub returns-in_err-give-in-Body : goal.returns-in_err-give-in-Body
 returns-in_err-give-in-Body c = λ form text so_far.
-    let (fault, is, same) = err_from_is_err_and c.from_residual.result c.from_residual.ensures.1 in
-    rw is (closes_refused _ c.args.self.now form text so_far.is _ fault
-    (next_refused _ _ _ _ _ _ [] (next_last _ c.args.self.now form text so_far.is _ c.in-Body.is) _
-    (rw same c.in_err-give-in-Body.ensures.given))
+    rw (err_is _ _ c.from_residual.ensures.1) (closes_refused _ c.args.self.now form text so_far.is _ _
+    (next_refused _ _ _ _ _ _ [] (next_last _ c.args.self.now form text so_far.is _ c.in-Body.is) _ c.in_err-give-in-Body.ensures.given)
     (ap (λ (v : ArrayVec ℕ). v.items) c.in_err-give-in-Body.ensures.unchanged ∙ c.requires.empty))

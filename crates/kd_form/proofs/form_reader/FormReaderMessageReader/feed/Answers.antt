@@ -1,5 +1,4 @@
-use Rattle.std.proofs.lemmas.Result.{err_from_is_err_and}
-use Rattle.kd_form.proofs.FormSteps.{first_longer, goes_on, held, grows, in_stage, take_kept, off, refused, refused_at, four_letters, part_refused, part_read, follows, not_begun, one_more, ended_heading, bad_behind, ◌≢◌, take, All-push, All-nil, IsTrue, is_text_byte, IsLineText, line_of, heading_words, [], ◌∷◌, ◌++◌, ◌+◌, ◌-◌, ◌≡◌, ℕ, List, length, length-append, refl, inl, ap, subst, given_letters, BeginsHeading, NoHeading, BadHeading, BadByte, InBody, arith, sym, ◌∙◌, false≢true}
+use Rattle.kd_form.proofs.FormSteps.{err_is, first_longer, goes_on, held, grows, in_stage, take_kept, off, refused, refused_at, four_letters, part_refused, part_read, follows, not_begun, one_more, ended_heading, bad_behind, ◌≢◌, take, All-push, All-nil, IsTrue, is_text_byte, IsLineText, line_of, heading_words, [], ◌∷◌, ◌++◌, ◌+◌, ◌-◌, ◌≡◌, ℕ, List, length, length-append, refl, inl, ap, subst, given_letters, BeginsHeading, NoHeading, BadHeading, BadByte, InBody, arith, sym, ◌∙◌, false≢true}
 use Rattle.kd_form.specs.declared.form_reader.Stage.TheVariants as stages
 use Rattle.kd_form.proofs.form_reader.FormReaderMessageReader.feed.Goals as goal
 
@@ -110,8 +109,7 @@ returns-in_err-heading-in-Heading c = λ form text so_far.
     let r = c.args.self.now in
     let there = in_stage _ r form text h _ c.in-Heading.is in
     let ended = c.heading_of_ended-heading.ensures h.last there.0.unbroken (c.as_slice-in-Heading.ensures.value ∙ there.0.kept) in
-    let (fault, is, same) = err_from_is_err_and c.from_residual.result c.from_residual.ensures.1 in
-    rw (is, same, c.if-byte-ne10.false) (refused_at _ r form text h _ (10 ∷ []) (h.last ++ 10 ∷ []) []
+    rw (err_is _ _ c.from_residual.ensures.1, c.if-byte-ne10.false) (refused_at _ r form text h _ (10 ∷ []) (h.last ++ 10 ∷ []) []
     (one_more h.last 10 there.0.unbroken) (
       (h.last, [], record { joined = refl; without = there.0.unbroken }),
       off _ r.number r.expected (length h.front) (h.last ++ 10 ∷ []) _ _
@@ -126,8 +124,6 @@ returns-in_ok-give-in-Body c = λ form text so_far.
 
 pub returns-in_err-give-in-Body : goal.returns-in_err-give-in-Body
 returns-in_err-give-in-Body c = λ form text so_far.
-    let (fault, is, same) = err_from_is_err_and c.from_residual-in_err-give-in-Body.result
-    c.from_residual-in_err-give-in-Body.ensures.1 in
-    rw (is, same) (part_refused _ c.args.self.now form text so_far.is _ _ c.in-Body.is
+    rw (err_is _ _ c.from_residual-in_err-give-in-Body.ensures.1) (part_refused _ c.args.self.now form text so_far.is _ _ c.in-Body.is
     (c.ends_before.ensures.0 c.if-not-ends_before.false) _
     c.in_err-give-in-Body.ensures.given)

@@ -1,13 +1,13 @@
-use Rattle.kd_form.proofs.FormSteps.{body_told, given_letters, ap, ◌∙◌}
+use Rattle.kd_form.proofs.FormSteps.{err_is, body_told, given_letters, ap, ◌∙◌}
 use Rattle.kd_form.proofs.part_body.PartBody.give.Goals as goal
 
-pub returns-in-Ok-clause-given : goal.returns-in-Ok-clause-given
-returns-in-Ok-clause-given c letters more size kept =
+pub returns-clause-given : goal.returns-clause-given
+returns-clause-given c letters more size kept =
     let shown = rw c.as_slice-letters.ensures.value at c.split_at.ensures.front in
-    let told = body_told _ _ _ _ _ letters more _ c.requires.heading c.requires.few size kept shown c.in-Ok.ensures in
+    let told = body_told _ _ _ _ _ letters more _ c.requires.heading c.requires.few size kept shown c.in_ok-letters.ensures in
     (_, told, c.given_letters.ensures ∙ ap (given_letters c.args.day.now) c.as_slice.ensures.value)
 
-pub returns-in-Err-clause-given : goal.returns-in-Err-clause-given
-returns-in-Err-clause-given c letters more size kept =
+pub returns-in_err-letters-clause-given : goal.returns-in_err-letters-clause-given
+returns-in_err-letters-clause-given c letters more size kept =
     let shown = rw c.as_slice-letters.ensures.value at c.split_at.ensures.front in
-    body_told _ _ _ _ _ letters more _ c.requires.heading c.requires.few size kept shown c.in-Err.ensures
+    rw (err_is _ _ c.from_residual.ensures.1) (body_told _ _ _ _ _ letters more _ c.requires.heading c.requires.few size kept shown c.in_err-letters.ensures)

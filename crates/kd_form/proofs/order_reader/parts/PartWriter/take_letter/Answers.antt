@@ -1,4 +1,4 @@
-use Rattle.kd_form.proofs.OrderSteps.{part_more, size_some, [], ◌≡◌, ◌≤◌, ◌<◌, ◌-◌, ◌*◌, ◌+◌, ◌++◌, ◌∷◌, ℕ, inl, inr, ap, ◌∙◌, arith, cases_lt, drop, drop_at, length, length-append, length-drop, length-take, le_of_mul-le-mul_left, part_size, take_all, take_at}
+use Rattle.kd_form.proofs.OrderSteps.{common_steps, part_more, size_some, [], ◌≡◌, ◌≤◌, ◌<◌, ◌-◌, ◌*◌, ◌+◌, ◌++◌, ◌∷◌, ℕ, inl, inr, ap, ◌∙◌, arith, cases_lt, drop, drop_at, length, length-append, length-drop, length-take, le_of_mul-le-mul_left, part_size, take_all, take_at}
 use Rattle.kd_form.proofs.order_reader.parts.PartWriter.take_letter.Goals as goal
 
 -- a letter more shows that the part is full
@@ -32,3 +32,9 @@ returns-then-from-keys c letters sent is =
       made = rw (number, take_at letters (letter ∷ []) (size * (w.written + 1)) up_to)
           (part_more s keys w k letters sent _ is found made (omega (arith, whole, large)) (omega (arith, whole)));
     }
+
+pub returns-else-from-keys : goal.returns-else-from-keys
+returns-else-from-keys c = grind (arith, common_steps)
+
+pub returns-then-len-part_size : goal.returns-then-len-part_size
+returns-then-len-part_size c = grind (arith, common_steps)
