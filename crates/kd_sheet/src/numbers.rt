@@ -1,9 +1,10 @@
 //! Whole numbers, and the letters that numbers from 1 to 26 stand for.
-ghost use Rattle.std.specs.Prelude.{◌≡◌, ◌<◌, ◌≤◌, map, length, IfSome};
+ghost use Rattle.std.specs.Prelude.{◌≡◌, ◌<◌, ◌≤◌, map, IfSome};
 ghost use Rattle.toml.specs.View.{view};
 ghost use Rattle.kd_tables.specs.Tables.{slots_of};
 ghost use Rattle.kd_sheet.specs.Numbers.{number_to, numbered_letter, numbered_letters};
 
+use arrayvec::ArrayVec;
 use kd_state::PerSlot;
 use kd_tables::{Letter, Model};
 use toml::Value;
@@ -29,19 +30,6 @@ fn numbered_letter(item: &Value) -> Option<Letter>
     Letter::new(number - 1)
 }
 
-/// The letters that `N` numbers stand for.
-pub fn numbered_letters<const N: usize>(items: &[Value]) -> Option<[Letter; N]>
-    requires { length items.now ≡ N }
-    ensures value { result ≡ numbered_letters N (map view items.now) }
-    ensures count { IfSome result (λ letters. length letters ≡ N) }
-{
-    let mut letters = [Letter::A; N];
-    for (place, item) in items.iter().enumerate() {
-        letters[place] = numbered_letter(item)?;
-    }
-    Some(letters)
-}
-
 /// The letters that numbers stand for, one for each of the model's slots.
 pub fn numbered_slots(model: Model, items: &[Value]) -> Option<PerSlot<Letter>>
     requires { 0 < slots_of model }
@@ -50,9 +38,9 @@ pub fn numbered_slots(model: Model, items: &[Value]) -> Option<PerSlot<Letter>>
     if items.len() != usize::from(model.slots()) {
         return None;
     }
-    if model.slots() == 4 {
-        PerSlot::new(&numbered_letters::<4>(items)?)
-    } else {
-        PerSlot::new(&numbered_letters::<3>(items)?)
+    let mut letters = ArrayVec::<Letter, 4>::new();
+    for item in items {
+        letters.push(numbered_letter(item)?);
     }
+    PerSlot::new(letters.as_slice())
 }

@@ -10,7 +10,7 @@ ghost use Rattle.kd_sheet.specs.PinWheels.{are_on_wheels, letters_on_wheels, sho
 use super::document::{items_at, text_at};
 use super::fault::SheetFault;
 use super::key::Key;
-use super::letters::capital_letters;
+use super::letters::letters_of_text;
 use kd_pins::PinSet;
 use kd_tables::{Letter, Ring, ring1, ring2, ring3, ring4, ring5, ring6};
 use toml::{Table, Value};
@@ -40,7 +40,7 @@ fn are_on_wheels(letters: &[Letter; 6]) -> bool
 fn letters_on_wheels(text: &[u8]) -> Option<[Letter; 6]>
     ensures { result ≡ letters_on_wheels text.now }
 {
-    let letters = capital_letters::<6>(text)?;
+    let letters = letters_of_text(text)?;
     if are_on_wheels(&letters) {
         Some(letters)
     } else {

@@ -93,11 +93,6 @@ pub fn seats_in(table: &Table, key: Key, model: Model) -> Result<PerSlot<Option<
     ensures { result ≡ seats_in key model (table_view table.now) }
 {
     let reader = SeatReader { key, model };
-    if model.slots() == 4 {
-        let slots = read_each::<_, _, 4>(table, key, &reader, None)?;
-        Ok(PerSlot::new(&slots).unwrap())
-    } else {
-        let slots = read_each::<_, _, 3>(table, key, &reader, None)?;
-        Ok(PerSlot::new(&slots).unwrap())
-    }
+    let slots = read_each::<_, _, 4>(table, key, usize::from(model.slots()), &reader)?;
+    Ok(PerSlot::new(slots.as_slice()).unwrap())
 }
