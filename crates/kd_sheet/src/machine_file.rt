@@ -4,16 +4,16 @@ ghost use Rattle.toml.specs.View.{table_view};
 ghost use Rattle.kd_tables.specs.Tables.{box_of, slots_of};
 ghost use Rattle.kd_sheet.specs.Document.{Answers};
 ghost use Rattle.kd_sheet.specs.Letters.{letters_at};
-ghost use Rattle.kd_sheet.specs.MachineFile.{version_in, model_in, known_model_in, reflector_in, rotor_parts_in, pin_parts_in, parts_in, machine_in, machine_of};
+ghost use Rattle.kd_sheet.specs.MachineFile.{model_in, known_model_in, reflector_in, rotor_parts_in, pin_parts_in, parts_in, machine_in, machine_of};
 
 use super::bars::bars_in;
 use super::cables::cables_in;
-use super::document::{document, text_at, value_at};
+use super::document::{document, text_at};
 use super::fault::SheetFault;
 use super::key::Key;
 use super::letters::box_letters;
 use super::names::{model_by_name, reflector_by_name};
-use super::numbers::number_to;
+use super::numbers::number_at;
 use super::pin_wheels::{pins_in, shown_in};
 use super::seats::seats_in;
 use kd_state::{Machine, PerWheel, PinParts, RotorParts};
@@ -23,14 +23,6 @@ use toml::Table;
 
 /// The latest version of the files.
 const VERSION: u8 = 2;
-
-/// The file's version.
-#[tactic(auto, unfolding(crate::specs::MachineFile::version_in))]
-fn version_in(table: &Table) -> Result<u8, SheetFault>
-    ensures { result ≡ version_in (table_view table.now) }
-{
-    number_to(value_at(table, Key::Version)?, VERSION).ok_or(SheetFault::BadValue(Key::Version))
-}
 
 /// The model whose name stands in the table.
 #[tactic(auto, unfolding(crate::specs::MachineFile::model_in))]
@@ -124,11 +116,11 @@ fn parts_in(table: &Table, model: Model) -> Result<Machine, SheetFault>
 }
 
 /// The machine that a machine file's table describes, or its first fault.
-#[tactic(auto, unfolding(crate::specs::MachineFile::machine_in))]
+#[tactic(auto, unfolding(crate::specs::MachineFile::machine_in, crate::specs::MachineFile::version_in))]
 fn machine_in(table: &Table) -> Result<Machine, SheetFault>
     ensures { result ≡ machine_in (table_view table.now) }
 {
-    let version = version_in(table)?;
+    let version = number_at(table, Key::Version, VERSION)?;
     let model = known_model_in(version, table)?;
     parts_in(table, model)
 }

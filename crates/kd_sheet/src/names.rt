@@ -20,11 +20,13 @@ pub fn model_by_name(name: &str) -> Option<Model>
 pub fn reflector_by_name(model: Model, name: &str) -> Option<Reflector>
     ensures { result ≡ reflector_by_name model name.now }
 {
-    model
-        .reflectors()
-        .iter()
-        .copied()
-        .find(|reflector| reflector.text().as_str() == name)
+    let reflectors = model.reflectors();
+    for reflector in reflectors {
+        if reflector.text().as_str() == name {
+            return Some(*reflector);
+        }
+    }
+    None
 }
 
 /// The wheel of that name.

@@ -1,13 +1,18 @@
 //! Whole numbers, and the letters that numbers from 1 to 26 stand for.
-ghost use Rattle.std.specs.Prelude.{◌≡◌, ◌<◌, ◌≤◌, map, IfSome};
-ghost use Rattle.toml.specs.View.{view};
+ghost use Rattle.std.specs.Prelude.{◌≡◌, ◌<◌, ◌≤◌, map, ok_or, IfOk, IfSome};
+ghost use Rattle.toml.specs.View.{view, table_view};
 ghost use Rattle.kd_tables.specs.Tables.{slots_of};
+ghost use Rattle.kd_sheet.specs.Document.{◌>>=◌ as ◌followed_by◌, value_at};
+ghost use Rattle.kd_sheet.specs.declared.fault.SheetFault.TheVariants as faults;
 ghost use Rattle.kd_sheet.specs.Numbers.{number_to, numbered_letter, numbered_letters};
 
+use super::document::value_at;
+use super::fault::SheetFault;
+use super::key::Key;
 use arrayvec::ArrayVec;
 use kd_state::PerSlot;
 use kd_tables::{Letter, Model};
-use toml::Value;
+use toml::{Table, Value};
 
 /// The value as a whole number from 1 to `last`.
 pub fn number_to(value: &Value, last: u8) -> Option<u8>
@@ -20,6 +25,15 @@ pub fn number_to(value: &Value, last: u8) -> Option<u8>
     } else {
         None
     }
+}
+
+/// The whole number from 1 to `last` at a key.
+pub fn number_at(table: &Table, key: Key, last: u8) -> Result<u8, SheetFault>
+    ensures value { result ≡ (value_at key (table_view table.now)
+        followed_by (λ value. ok_or (number_to last value) (faults.BadValue key))) }
+    ensures within { IfOk result (λ number. (1 ≤ number) × (number ≤ last)) }
+{
+    number_to(value_at(table, key)?, last).ok_or(SheetFault::BadValue(key))
 }
 
 /// The letter that a number from 1 to 26 stands for. 1 is A.

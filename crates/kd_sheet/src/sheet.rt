@@ -6,13 +6,13 @@ use kd_state::SheetDay;
 use std::marker::Model;
 
 /// How many days the longest month has.
-pub(crate) const DAYS: usize = 31;
+pub(crate) const DAYS: u8 = 31;
 
 /// A key sheet: a month with a day here and there. It takes no memory of its own.
 #[derive(Drop)]
 pub struct Sheet {
     /// Each day at its number, counted from 1.
-    days: [Option<SheetDay>; DAYS],
+    days: [Option<SheetDay>; DAYS as usize],
 }
 
 impl Model for Sheet {

@@ -4,36 +4,27 @@ ghost use Rattle.toml.specs.View.{view, table_view};
 ghost use Rattle.kd_state.specs.SheetDay.{Day, IsDayNumber};
 ghost use Rattle.kd_sheet.specs.Document.{Answers, in_turn, result_map};
 ghost use Rattle.kd_sheet.specs.Sheet.{month_of};
-ghost use Rattle.kd_sheet.specs.SheetFile.{number_in, new_number_in, day_in, day_for, sheet_in, sheet_of};
+ghost use Rattle.kd_sheet.specs.SheetFile.{new_number_in, day_in, day_for, sheet_in, sheet_of};
 
 use super::day_table::model_day_in;
-use super::document::{document, items_at, value_at};
+use super::document::{document, items_at};
 use super::fault::SheetFault;
 use super::key::Key;
 use super::machine_file::model_in;
-use super::numbers::number_to;
+use super::numbers::number_at;
 use super::sheet::{DAYS, Sheet};
 use kd_state::SheetDay;
 use std::alloc::Global;
 use toml::{Table, Value};
 
-/// The day's number.
-#[tactic(auto, unfolding(crate::specs::SheetFile::number_in))]
-fn number_in(table: &Table) -> Result<u8, SheetFault>
-    ensures value { result ≡ number_in (table_view table.now) }
-    ensures within { IfOk result IsDayNumber }
-{
-    number_to(value_at(table, Key::Day)?, DAYS as u8).ok_or(SheetFault::BadValue(Key::Day))
-}
-
 /// The day's number, which no day of the sheet has.
-#[tactic(auto, using(crate::proofs::Months::taken), unfolding(crate::specs::SheetFile::new_number_in))]
+#[tactic(auto, using(crate::proofs::Months::taken), unfolding(crate::specs::SheetFile::new_number_in, crate::specs::SheetFile::number_in))]
 fn new_number_in(sheet: &Sheet, table: &Table) -> Result<u8, SheetFault>
     ensures value { (days : List Day) → sheet.now ≡ month_of days
         → result ≡ new_number_in days (table_view table.now) }
     ensures within { IfOk result IsDayNumber }
 {
-    let number = number_in(table)?;
+    let number = number_at(table, Key::Day, DAYS)?;
     if sheet.day(number).is_some() {
         Err(SheetFault::DayTwice(number))
     } else {
