@@ -90,7 +90,7 @@ fn sheet_wheels(slots: &[Option<Wheel>], rings: &[Letter], window: &[Letter]) ->
 }
 
 /// The day of a rotor model.
-#[tactic(auto, using(crate::proofs::Seating::seats_in_fill, crate::proofs::Bounds::rings_in_letters, crate::proofs::Bounds::letters_at_are), unfolding(crate::specs::SheetFile::rotor_day_in))]
+#[tactic(auto, unfolding(crate::specs::SheetFile::rotor_day_in))]
 fn rotor_day_in(table: &Table, day: u8, model: Model) -> Result<SheetDay, SheetFault>
     requires slots { 0 < slots_of model }
     requires day { IsDayNumber day }
@@ -115,7 +115,7 @@ fn rotor_day_in(table: &Table, day: u8, model: Model) -> Result<SheetDay, SheetF
 }
 
 /// The day of a Converter M-209.
-#[tactic(auto, using(crate::proofs::Legal::pin_day), unfolding(crate::specs::SheetFile::pin_day_in))]
+#[tactic(auto, unfolding(crate::specs::SheetFile::pin_day_in))]
 fn pin_day_in(table: &Table, day: u8) -> Result<SheetDay, SheetFault>
     requires { IsDayNumber day }
     ensures { result ≡ pin_day_in day (table_view table.now) }

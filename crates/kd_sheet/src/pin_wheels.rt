@@ -31,11 +31,11 @@ fn are_on_wheels(letters: &[Letter; 6]) -> bool
 {
     let [one, two, three, four, five, six] = *letters;
     is_on_wheel(&ring1(), one)
-        & is_on_wheel(&ring2(), two)
-        & is_on_wheel(&ring3(), three)
-        & is_on_wheel(&ring4(), four)
-        & is_on_wheel(&ring5(), five)
-        & is_on_wheel(&ring6(), six)
+        && is_on_wheel(&ring2(), two)
+        && is_on_wheel(&ring3(), three)
+        && is_on_wheel(&ring4(), four)
+        && is_on_wheel(&ring5(), five)
+        && is_on_wheel(&ring6(), six)
 }
 
 /// The letters of a text of six capital letters, each on its wheel.

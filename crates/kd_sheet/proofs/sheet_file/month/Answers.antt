@@ -1,5 +1,14 @@
-use Rattle.kd_sheet.proofs.{InTurn.read_stops, Prelude.day_for, Prelude.rules, Prelude.◌∙◌}
+use Rattle.kd_sheet.proofs.{InTurn.{on_all, read_stops}, Prelude.{arith, rules, ◌∙◌, length-map, day_for}, Months.{first_month, next_month}}
 use Rattle.kd_sheet.proofs.sheet_file.month.Goals as goal
+
+pub loop-item-init : goal.loop-item-init
+loop-item-init c = first_month _ _ c.new-sheet.ensures
+
+pub loop-item-preserved : goal.loop-item-preserved
+loop-item-preserved c =
+    let so_far = c.loop-item.invariant in
+    next_month _ _ _ _ _ _ c.loop-item-test.true c.item-item.is so_far (c.in_ok-day.ensures so_far.days so_far.month)
+    c.put.ensures
 
 pub returns-in_err-day : goal.returns-in_err-day
 unfolding day_for
@@ -7,3 +16,6 @@ returns-in_err-day c =
     let so_far = c.loop-item.invariant in
     rw (so_far.read ∙ read_stops day_for _ _ _ c.loop-item-test.true c.item-item.is so_far.days _
     (c.in_err-day.ensures so_far.days so_far.month)) (search rules)
+
+pub returns : goal.returns
+returns c = grind (arith, on_all, length-map)
