@@ -97,31 +97,19 @@ module _ {A : Type 0} where
 
   module _ (reading : List A → Data → Result A SheetFault) (items : List Value) (place : ℕ) (item : Value)
       (left : place < length items) (here : item ≡ get_or items place item) (values : List A) where
+    next : drop place (map view items) ≡ view item ∷ drop (place + 1) (map view items)
+    next = rw (drop_more (map view items) place (view item) (omega (arith, length-map items view)), viewed_at items place item left here) refl
+
     -- one item more
     pub read_more : (value : A) → Ok value ≡ reading values (view item)
         → on reading values (drop place (map view items))
         ≡ on reading (values ++ value ∷ []) (drop (place + 1) (map view items))
-    read_more value is =
-        rw (
-          drop_more (map view items) place (view item) (omega
-              (arith, length-map items view)),
-          viewed_at items place item left here,
-          append-nil,
-          ← is,
-        )
-        (simp append_assoc (grind arith))
+    read_more value is = rw (next, append-nil, ← is) (simp append_assoc (grind arith))
 
     -- the first fault
     pub read_stops : (fault : SheetFault) → Err fault ≡ reading values (view item)
         → on reading values (drop place (map view items)) ≡ Err fault
-    read_stops fault is =
-        rw (
-          drop_more (map view items) place (view item) (omega
-              (arith, length-map items view)),
-          viewed_at items place item left here,
-          append-nil,
-          ← is,
-        ) refl
+    read_stops fault is = rw (next, append-nil, ← is) refl
 
   -- as many values as items, and each is read of its item behind the earlier ones
   pub as_many : (reading : List A → Data → Result A SheetFault) (items : List Data)

@@ -63,13 +63,7 @@ module _ {X : Type 0} (key : Key) (count : ℕ) (text_of : X → List ℕ) (thin
   up_to_again few =
       let read = again reading text_of things each in
       let items = map string (map text_of things) in
-      let fits : length items ≤ count = omega (
-        arith,
-        few,
-        length-map
-            (map text_of things) string,
-        length-map things text_of,
-      ) in
+      let fits : length items ≤ count = grind (arith, length-map) in
       rw (list_of-items_of items, le-leb (length items) count fits) read
 
 -- ---- letters

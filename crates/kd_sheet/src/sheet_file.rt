@@ -54,6 +54,7 @@ fn day_for(sheet: &Sheet, item: &Value) -> Result<SheetDay, SheetFault>
 }
 
 /// The month with the days of the items.
+#[tactic(auto, using(crate::proofs::Months::first_month, crate::proofs::InTurn::on_all))]
 fn month(items: &[Value]) -> Result<Sheet, SheetFault>
     ensures { result ≡ result_map month_of (in_turn day_for (map view items.now)) }
 {

@@ -1,5 +1,5 @@
-use Rattle.kd_sheet.proofs.Prelude.{arith, rules, ◌∙◌, length-map}
-use Rattle.kd_sheet.proofs.InTurn.{on_all, on_none, read_more, read_stops}
+use Rattle.kd_sheet.proofs.Prelude.{arith, rules, ◌∙◌}
+use Rattle.kd_sheet.proofs.InTurn.{on_none, read_more, read_stops}
 use Rattle.kd_sheet.proofs.items.read_items.Goals as goal
 
 pub loop-item-init : goal.loop-item-init
@@ -17,6 +17,3 @@ pub returns-in_err-value-clause-value : goal.returns-in_err-value-clause-value
 returns-in_err-value-clause-value g c =
     rw (c.loop-item.invariant.read ∙ read_stops (g.R.ItemReader.reading c.args.reader.now) _ _ _ c.loop-item-test.true
     c.item-item.is _ _ (rw c.as_slice.ensures.value at c.in_err-value.ensures)) (search rules)
-
-pub returns-clause-value : goal.returns-clause-value
-returns-clause-value g c = grind (arith, on_all, length-map)

@@ -6,6 +6,3 @@ returns-in_err-from_byte-clause-value g c = grind (arith, common_steps)
 
 pub loop-byte-preserved : goal.loop-byte-preserved
 loop-byte-preserved g c = grind (arith, common_steps)
-
-pub returns-clause-value : goal.returns-clause-value
-returns-clause-value g c = grind (arith, common_steps)

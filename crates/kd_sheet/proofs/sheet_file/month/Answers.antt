@@ -1,8 +1,5 @@
-use Rattle.kd_sheet.proofs.{InTurn.{on_all, read_stops}, Prelude.{arith, rules, ◌∙◌, length-map, day_for}, Months.{first_month, next_month}}
+use Rattle.kd_sheet.proofs.{InTurn.read_stops, Prelude.{rules, ◌∙◌, day_for}, Months.next_month}
 use Rattle.kd_sheet.proofs.sheet_file.month.Goals as goal
-
-pub loop-item-init : goal.loop-item-init
-loop-item-init c = first_month _ _ c.new-sheet.ensures
 
 pub loop-item-preserved : goal.loop-item-preserved
 loop-item-preserved c =
@@ -16,6 +13,3 @@ returns-in_err-day c =
     let so_far = c.loop-item.invariant in
     rw (so_far.read ∙ read_stops day_for _ _ _ c.loop-item-test.true c.item-item.is so_far.days _
     (c.in_err-day.ensures so_far.days so_far.month)) (search rules)
-
-pub returns : goal.returns
-returns c = grind (arith, on_all, length-map)
