@@ -62,7 +62,10 @@ impl Sheet {
         ensures month { IsMonth self }
     {
         let Sheet { mut days } = self;
-        days.get_mut(usize::from(number).checked_sub(1)?)?.take()
+        if number == 0 {
+            return None;
+        }
+        days.get_mut(usize::from(number) - 1)?.take()
     }
 
     /// The day at that number.
@@ -71,7 +74,10 @@ impl Sheet {
         ensures month { IsMonth self.now }
     {
         let days = &self.days;
-        days.get(usize::from(number).checked_sub(1)?)?.as_ref()
+        if number == 0 {
+            return None;
+        }
+        days.get(usize::from(number) - 1)?.as_ref()
     }
 
     /// Puts the day at its number.
