@@ -4,7 +4,7 @@ ghost use Rattle.toml.specs.View.{table_view};
 ghost use Rattle.kd_tables.specs.Tables.{box_of, slots_of};
 ghost use Rattle.kd_sheet.specs.Document.{Answers};
 ghost use Rattle.kd_sheet.specs.Letters.{letters_at};
-ghost use Rattle.kd_sheet.specs.MachineFile.{model_in, known_model_in, reflector_in, rotor_parts_in, pin_parts_in, parts_in, machine_in, machine_of};
+ghost use Rattle.kd_sheet.specs.MachineFile.{model_in, reflector_in, rotor_parts_in, pin_parts_in, parts_in, machine_in, machine_of};
 
 use super::bars::bars_in;
 use super::cables::cables_in;
@@ -30,18 +30,6 @@ pub fn model_in(table: &Table) -> Result<Model, SheetFault>
     ensures { result ≡ model_in (table_view table.now) }
 {
     model_by_name(text_at(table, Key::Model)?).ok_or(SheetFault::UnknownModel)
-}
-
-/// The model of a machine file of that version: the M4 came with version 2.
-#[tactic(auto, unfolding(crate::specs::MachineFile::known_model_in))]
-fn known_model_in(version: u8, table: &Table) -> Result<Model, SheetFault>
-    ensures { result ≡ known_model_in version (table_view table.now) }
-{
-    let model = model_in(table)?;
-    match model {
-        Model::M4 if version != 2 => Err(SheetFault::UnknownModel),
-        _ => Ok(model),
-    }
 }
 
 /// The model's reflector whose name stands in the table.
@@ -115,14 +103,16 @@ fn parts_in(table: &Table, model: Model) -> Result<Machine, SheetFault>
     }
 }
 
-/// The machine that a machine file's table describes, or its first fault.
-#[tactic(auto, unfolding(crate::specs::MachineFile::machine_in, crate::specs::MachineFile::version_in))]
+/// The machine that a machine file's table describes, or its first fault. The M4 came with version 2.
+#[tactic(auto, unfolding(crate::specs::MachineFile::machine_in, crate::specs::MachineFile::version_in, crate::specs::MachineFile::known_model_in))]
 fn machine_in(table: &Table) -> Result<Machine, SheetFault>
     ensures { result ≡ machine_in (table_view table.now) }
 {
     let version = number_at(table, Key::Version, VERSION)?;
-    let model = known_model_in(version, table)?;
-    parts_in(table, model)
+    match model_in(table)? {
+        Model::M4 if version != 2 => Err(SheetFault::UnknownModel),
+        model => parts_in(table, model),
+    }
 }
 
 /// The machine that the bytes of a machine file describe, or the file's first fault. A file of version 1 or 2 is read; the

@@ -4,7 +4,7 @@ ghost use Rattle.toml.specs.View.{view, table_view};
 ghost use Rattle.kd_state.specs.SheetDay.{Day, IsDayNumber};
 ghost use Rattle.kd_sheet.specs.Document.{Answers, in_turn, result_map};
 ghost use Rattle.kd_sheet.specs.Sheet.{month_of};
-ghost use Rattle.kd_sheet.specs.SheetFile.{new_number_in, day_in, day_for, sheet_in, sheet_of};
+ghost use Rattle.kd_sheet.specs.SheetFile.{new_number_in, day_for, sheet_of};
 
 use super::day_table::model_day_in;
 use super::document::{document, items_at};
@@ -32,25 +32,15 @@ fn new_number_in(sheet: &Sheet, table: &Table) -> Result<u8, SheetFault>
     }
 }
 
-/// The day that an entry's table describes, behind the days of the sheet, or its first fault.
-#[tactic(auto, unfolding(crate::specs::SheetFile::day_in))]
-fn day_in(sheet: &Sheet, table: &Table) -> Result<SheetDay, SheetFault>
-    ensures { (days : List Day) → sheet.now ≡ month_of days → result ≡ day_in days (table_view table.now) }
-{
-    let number = new_number_in(sheet, table)?;
-    let model = model_in(table)?;
-    model_day_in(table, number, model)
-}
-
-/// The day of an item behind the days of the sheet.
-#[tactic(auto, unfolding(crate::specs::SheetFile::day_for))]
+/// The day of an item behind the days of the sheet, or its first fault.
+#[tactic(auto, unfolding(crate::specs::SheetFile::day_for, crate::specs::SheetFile::day_in))]
 fn day_for(sheet: &Sheet, item: &Value) -> Result<SheetDay, SheetFault>
     ensures { (days : List Day) → sheet.now ≡ month_of days → result ≡ day_for days (view item.now) }
 {
-    day_in(
-        sheet,
-        item.as_table().ok_or(SheetFault::BadValue(Key::Day))?,
-    )
+    let table = item.as_table().ok_or(SheetFault::BadValue(Key::Day))?;
+    let number = new_number_in(sheet, table)?;
+    let model = model_in(table)?;
+    model_day_in(table, number, model)
 }
 
 /// The month with the days of the items.
@@ -66,19 +56,12 @@ fn month(items: &[Value]) -> Result<Sheet, SheetFault>
     Ok(sheet)
 }
 
-/// The sheet that a sheet's table describes, or its first fault.
-#[tactic(auto, unfolding(crate::specs::SheetFile::sheet_in))]
-fn sheet_in(table: &Table) -> Result<Sheet, SheetFault>
-    ensures { result ≡ sheet_in (table_view table.now) }
-{
-    month(items_at(table, Key::Day)?)
-}
-
 /// The sheet that the bytes of a sheet file describe, or the file's first fault. `NoMemory` may stand in place of any other
 /// answer: only reading the document takes memory, but no clause says that memory ran out where it is told.
+#[tactic(auto, unfolding(crate::specs::SheetFile::sheet_in))]
 pub fn read_sheet(alloc: Global, bytes: &[u8]) -> Result<Sheet, SheetFault>
     ensures { Answers result (sheet_of bytes.now) }
 {
     let table = document(alloc, bytes)?;
-    sheet_in(&table)
+    month(items_at(&table, Key::Day)?)
 }
