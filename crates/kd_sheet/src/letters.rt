@@ -3,11 +3,11 @@ ghost use Rattle.std.specs.Prelude.{◌≡◌, ◌<◌, ◌≤◌, length, IfSom
 ghost use Rattle.std.specs.Option.{option_and_then};
 ghost use Rattle.toml.specs.Data.{as_str};
 ghost use Rattle.toml.specs.View.{view};
-ghost use Rattle.kd_tables.specs.Tables.{box_of, slots_of};
+ghost use Rattle.kd_tables.specs.Tables.{slots_of};
 ghost use Rattle.kd_sheet.specs.Letters.{capital_letters};
 
 use arrayvec::ArrayVec;
-use kd_state::{PerSlot, PerWheel};
+use kd_state::PerSlot;
 use kd_tables::{Letter, Model};
 use toml::Value;
 
@@ -52,13 +52,4 @@ pub fn slot_letters(model: Model, text: &[u8]) -> Option<PerSlot<Letter>>
 {
     let letters = capital_letters::<4>(text, usize::from(model.slots()))?;
     PerSlot::new(letters.as_slice())
-}
-
-/// A letter for each wheel of the model's box, in box order.
-pub fn box_letters(model: Model, text: &[u8]) -> Option<PerWheel<Letter>>
-    requires { 0 < slots_of model }
-    ensures { result ≡ capital_letters (length (box_of model)) text.now }
-{
-    let letters = capital_letters::<10>(text, model.wheels().len())?;
-    PerWheel::new(letters.as_slice())
 }

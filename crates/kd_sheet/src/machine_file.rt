@@ -11,7 +11,7 @@ use super::cables::cables_in;
 use super::document::{document, text_at};
 use super::fault::SheetFault;
 use super::key::Key;
-use super::letters::box_letters;
+use super::letters::capital_letters;
 use super::names::{model_by_name, reflector_by_name};
 use super::numbers::number_at;
 use super::pin_wheels::{pins_in, shown_in};
@@ -47,7 +47,11 @@ fn box_letters_in(table: &Table, key: Key, model: Model) -> Result<PerWheel<Lett
     requires { 0 < slots_of model }
     ensures { result ≡ letters_at key (length (box_of model)) (table_view table.now) }
 {
-    box_letters(model, text_at(table, key)?.as_bytes()).ok_or(SheetFault::BadValue(key))
+    let text = text_at(table, key)?.as_bytes();
+    let letters = capital_letters::<10>(text, model.wheels().len()).ok_or(SheetFault::BadValue(
+        key,
+    ))?;
+    Ok(PerWheel::new(letters.as_slice()).unwrap())
 }
 
 /// The parts of a rotor machine.
