@@ -18,14 +18,12 @@ same_found x y e = cc
 
 -- what was read before it
 pub given : {A B : Type 0} (first : Result A SheetFault) (next : A → Result B SheetFault) (value : B)
-    → (first >>= next) ≡ Ok value
-    → (x : A) × (first ≡ Ok x) × (next x ≡ Ok value)
+    → (first >>= next) ≡ Ok value → (x : A) × (first ≡ Ok x) × (next x ≡ Ok value)
 given first next value e = grind arith
 
 -- a test that passed
 pub passed : {B : Type 0} (test : Bool) (fault : SheetFault) (next : Result B SheetFault) (value : B)
-    → (demand test fault >> next) ≡ Ok value
-    → (test ≡ true) × (next ≡ Ok value)
+    → (demand test fault >> next) ≡ Ok value → (test ≡ true) × (next ≡ Ok value)
 passed test fault next value e = grind arith
 
 -- what holds of what is read, where something is
@@ -72,8 +70,7 @@ pub then_read : {A B : Type 0} (first : Result A SheetFault) (next : A
 then_read first next x result is rest = ap (λ answer. answer >>= next) is ∙ rest
 
 pub passing : {B : Type 0} (test : Bool) (fault : SheetFault) (next result : Result B SheetFault) → test ≡ true
-    → next ≡ result
-    → (demand test fault >> next) ≡ result
+    → next ≡ result → (demand test fault >> next) ≡ result
 passing test fault next result e d = grind arith
 
 -- ---- items, one after another
