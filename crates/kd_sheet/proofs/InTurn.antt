@@ -18,14 +18,12 @@ same_found x y e = cc
 
 -- what was read before it
 pub given : {A B : Type 0} (first : Result A SheetFault) (next : A → Result B SheetFault) (value : B)
-    → (first >>= next) ≡ Ok value
-    → (x : A) × (first ≡ Ok x) × (next x ≡ Ok value)
+    → (first >>= next) ≡ Ok value → (x : A) × (first ≡ Ok x) × (next x ≡ Ok value)
 given first next value e = grind arith
 
 -- a test that passed
 pub passed : {B : Type 0} (test : Bool) (fault : SheetFault) (next : Result B SheetFault) (value : B)
-    → (demand test fault >> next) ≡ Ok value
-    → (test ≡ true) × (next ≡ Ok value)
+    → (demand test fault >> next) ≡ Ok value → (test ≡ true) × (next ≡ Ok value)
 passed test fault next value e = grind arith
 
 -- what holds of what is read, where something is
@@ -72,8 +70,7 @@ pub then_read : {A B : Type 0} (first : Result A SheetFault) (next : A
 then_read first next x result is rest = ap (λ answer. answer >>= next) is ∙ rest
 
 pub passing : {B : Type 0} (test : Bool) (fault : SheetFault) (next result : Result B SheetFault) → test ≡ true
-    → next ≡ result
-    → (demand test fault >> next) ≡ result
+    → next ≡ result → (demand test fault >> next) ≡ result
 passing test fault next result e d = grind arith
 
 -- ---- items, one after another
@@ -97,31 +94,19 @@ module _ {A : Type 0} where
 
   module _ (reading : List A → Data → Result A SheetFault) (items : List Value) (place : ℕ) (item : Value)
       (left : place < length items) (here : item ≡ get_or items place item) (values : List A) where
+    next : drop place (map view items) ≡ view item ∷ drop (place + 1) (map view items)
+    next = rw (drop_more (map view items) place (view item) (omega (arith, length-map items view)), viewed_at items place item left here) refl
+
     -- one item more
     pub read_more : (value : A) → Ok value ≡ reading values (view item)
         → on reading values (drop place (map view items))
         ≡ on reading (values ++ value ∷ []) (drop (place + 1) (map view items))
-    read_more value is =
-        rw (
-          drop_more (map view items) place (view item) (omega
-              (arith, length-map items view)),
-          viewed_at items place item left here,
-          append-nil,
-          ← is,
-        )
-        (simp append_assoc (grind arith))
+    read_more value is = rw (next, append-nil, ← is) (simp append_assoc (grind arith))
 
     -- the first fault
     pub read_stops : (fault : SheetFault) → Err fault ≡ reading values (view item)
         → on reading values (drop place (map view items)) ≡ Err fault
-    read_stops fault is =
-        rw (
-          drop_more (map view items) place (view item) (omega
-              (arith, length-map items view)),
-          viewed_at items place item left here,
-          append-nil,
-          ← is,
-        ) refl
+    read_stops fault is = rw (next, append-nil, ← is) refl
 
   -- as many values as items, and each is read of its item behind the earlier ones
   pub as_many : (reading : List A → Data → Result A SheetFault) (items : List Data)

@@ -63,13 +63,7 @@ module _ {X : Type 0} (key : Key) (count : ℕ) (text_of : X → List ℕ) (thin
   up_to_again few =
       let read = again reading text_of things each in
       let items = map string (map text_of things) in
-      let fits : length items ≤ count = omega (
-        arith,
-        few,
-        length-map
-            (map text_of things) string,
-        length-map things text_of,
-      ) in
+      let fits : length items ≤ count = grind (arith, length-map) in
       rw (list_of-items_of items, le-leb (length items) count fits) read
 
 -- ---- letters
@@ -173,8 +167,7 @@ pair_again before pair free = grind (arith, letters_spelled, recursion_from_All,
 -- ---- pins and bars
 
 pub pins_in_again : (table : Members) (pins : PinSet)
-    → value_at keys.Pins table ≡ Ok (texts (pin_texts pins))
-    → HasAllPins pins → pins_in table ≡ Ok pins
+    → value_at keys.Pins table ≡ Ok (texts (pin_texts pins)) → HasAllPins pins → pins_in table ≡ Ok pins
 unfolding pins_in pins_of_item
 pins_in_again table pins there fit = grind (arith, pins_back, fit, then_read, items_at, texts_read)
 
@@ -246,8 +239,7 @@ groups_in_again s legal =
 
 -- what each wheel has, the ring or the letter in the window
 parts_are : (s : RotorDay) → IsLegalRotorDay s → (part : SheetWheel → ℕ)
-    → ((w : SheetWheel) → HasLetters w → part w < 26)
-    → AreLetters (slots_of s.model) (map part s.wheels)
+    → ((w : SheetWheel) → HasLetters w → part w < 26) → AreLetters (slots_of s.model) (map part s.wheels)
 parts_are s legal part low = record {
   count = length-map s.wheels _ ∙ sym (length-map s.wheels _) ∙ legal.wheels.count;
   within = All-map (λ letter. letter < 26) _ s.wheels (All-weaker HasLetters _ low s.wheels legal.letters);

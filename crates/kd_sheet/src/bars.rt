@@ -1,12 +1,14 @@
 //! How the bars of the Converter's drum stand, and what a sheet wants them to read as.
 ghost use Rattle.std.specs.Prelude.{◌≡◌, ◌+◌, is_some, IfSome};
-ghost use Rattle.toml.specs.View.{table_view};
+ghost use Rattle.std.specs.Option.{option_and_then};
+ghost use Rattle.toml.specs.Data.{as_str};
+ghost use Rattle.toml.specs.View.{view, table_view};
 ghost use Rattle.kd_sheet.specs.Bars.{standing_for, bars_in, is_figure, may_read, row_of_text, row_for, rows_in};
 
 use super::fault::SheetFault;
 use super::items::{ItemReader, read_each};
 use super::key::Key;
-use super::names::standing_by_text;
+use super::names::standing_of_item;
 use kd_tables::{Reading, Standing};
 use toml::{Table, Value};
 
@@ -23,9 +25,7 @@ impl ItemReader<Standing> for BarReader {
     ghost reading = { λ _. standing_for };
 
     fn read(&self, before: &[Standing], item: &Value) -> Result<Standing, SheetFault> {
-        let bar = before.len() as u8 + 1;
-        let text = item.as_str().ok_or(SheetFault::BadRow(bar))?;
-        standing_by_text(text).ok_or(SheetFault::BadRow(bar))
+        standing_of_item(item).ok_or(SheetFault::BadRow(before.len() as u8 + 1))
     }
 }
 
@@ -34,7 +34,8 @@ impl ItemReader<Standing> for BarReader {
 pub fn bars_in(table: &Table) -> Result<[Standing; BARS], SheetFault>
     ensures { result ≡ bars_in (table_view table.now) }
 {
-    read_each(table, Key::Bars, &BarReader, Standing::default())
+    let bars = read_each(table, Key::Bars, BARS, &BarReader)?;
+    Ok(bars.into_inner().ok().unwrap())
 }
 
 /// The number of a figure from 0 to 6.
@@ -48,18 +49,18 @@ fn figure(byte: u8) -> Option<u8>
     }
 }
 
-/// The numbers of a text of two figures with `-` between them, in either order.
+/// The numbers of an item that is a text of two figures with `-` between them, in either order.
 #[tactic(auto, unfolding(crate::specs::Bars::row_of_text))]
-fn row_of_text(text: &[u8]) -> Option<Reading>
-    ensures { result ≡ row_of_text text.now }
+fn row_of_item(item: &Value) -> Option<Reading>
+    ensures { result ≡ option_and_then row_of_text (as_str (view item.now)) }
 {
-    match text {
-        [one, b'-', other] => {
-            let (one, other) = (figure(*one)?, figure(*other)?);
-            Reading::new(one, other)
-        }
-        _ => None,
+    let [one, dash, other] = item.as_str()?.as_bytes() else {
+        return None;
+    };
+    if *dash != b'-' {
+        return None;
     }
+    Reading::new(figure(*one)?, figure(*other)?)
 }
 
 /// Reads what the rows say.
@@ -72,9 +73,7 @@ impl ItemReader<Reading> for RowReader {
     ghost reading = { λ _. row_for };
 
     fn read(&self, before: &[Reading], item: &Value) -> Result<Reading, SheetFault> {
-        let row = before.len() as u8 + 1;
-        let text = item.as_str().ok_or(SheetFault::BadRow(row))?;
-        row_of_text(text.as_bytes()).ok_or(SheetFault::BadRow(row))
+        row_of_item(item).ok_or(SheetFault::BadRow(before.len() as u8 + 1))
     }
 }
 
@@ -83,5 +82,6 @@ impl ItemReader<Reading> for RowReader {
 pub fn rows_in(table: &Table) -> Result<[Reading; BARS], SheetFault>
     ensures { result ≡ rows_in (table_view table.now) }
 {
-    read_each(table, Key::Rows, &RowReader, Reading::new(0, 0).unwrap())
+    let rows = read_each(table, Key::Rows, BARS, &RowReader)?;
+    Ok(rows.into_inner().ok().unwrap())
 }

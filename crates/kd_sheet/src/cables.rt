@@ -1,6 +1,7 @@
 //! The cables of a machine, one after another.
 ghost use Rattle.std.specs.Prelude.{◌≡◌, ◌≤◌, Some, None, length, IfSome};
-ghost use Rattle.std.specs.Option.{option_map};
+ghost use Rattle.std.specs.Option.{option_map, option_and_then};
+ghost use Rattle.toml.specs.Data.{as_str};
 ghost use Rattle.toml.specs.View.{view, table_view};
 ghost use Rattle.kd_state.specs.Machine.{cable_letters};
 ghost use Rattle.kd_sheet.specs.Cables.{letters_in_cable, cable_of, cable_for, thirteen, cables_in};
@@ -17,25 +18,21 @@ use toml::{Table, Value};
 /// How many cables a plugboard takes.
 const CABLES: usize = 13;
 
-/// The cable with the letters of a text.
+/// The cable with the letters of an item's text.
 #[tactic(auto, unfolding(crate::specs::Cables::letters_in_cable))]
-fn cable_of_text(text: &[u8]) -> Option<Cable>
-    ensures value { result ≡ option_map cable_of (letters_in_cable text.now) }
-    ensures letters { IfSome result
-        (λ cable. letters_in_cable text.now ≡ Some (cable_letters cable)) }
+fn cable_of_item(item: &Value) -> Option<Cable>
+    ensures value { result
+        ≡ option_map cable_of (option_and_then letters_in_cable (as_str (view item.now))) }
+    ensures letters { IfSome result (λ cable.
+        option_and_then letters_in_cable (as_str (view item.now)) ≡ Some (cable_letters cable)) }
 {
-    match text.len() {
-        0 => Some((None, None)),
-        1 => {
-            let [one] = capital_letters::<1>(text)?;
-            Some((Some(one), None))
-        }
-        2 => {
-            let [one, other] = capital_letters::<2>(text)?;
-            Some((Some(one), Some(other)))
-        }
-        _ => None,
+    let text = item.as_str()?.as_bytes();
+    if text.len() > 2 {
+        return None;
     }
+    let letters = capital_letters::<2>(text, text.len())?;
+    let letters = letters.as_slice();
+    Some((letters.first().copied(), letters.get(1).copied()))
 }
 
 /// Reads the cables, of which none has a letter of another.
@@ -49,8 +46,7 @@ impl ItemReader<Cable> for CableReader {
 
     #[tactic(auto, unfolding(crate::specs::Cables::cable_for))]
     fn read(&self, before: &[Cable], item: &Value) -> Result<Cable, SheetFault> {
-        let text = item.as_str().ok_or(SheetFault::BadValue(Key::Cables))?;
-        let cable = cable_of_text(text.as_bytes()).ok_or(SheetFault::BadValue(Key::Cables))?;
+        let cable = cable_of_item(item).ok_or(SheetFault::BadValue(Key::Cables))?;
         if is_new(&cable, before) {
             Ok(cable)
         } else {

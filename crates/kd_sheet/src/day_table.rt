@@ -12,7 +12,7 @@ use super::document::{text_at, value_at};
 use super::fault::SheetFault;
 use super::groups::groups_in;
 use super::key::Key;
-use super::letters::{capital_letters, slot_letters};
+use super::letters::{letters_of_text, slot_letters};
 use super::machine_file::reflector_in;
 use super::numbers::numbered_slots;
 use super::pin_wheels::{pins_in, shown_in};
@@ -59,7 +59,7 @@ fn list_in(table: &Table) -> Result<[Letter; 2], SheetFault>
     ensures { result ≡ letters_at keys.List 2 (table_view table.now) }
 {
     let text = text_at(table, Key::List)?;
-    capital_letters(text.as_bytes()).ok_or(SheetFault::BadValue(Key::List))
+    letters_of_text(text.as_bytes()).ok_or(SheetFault::BadValue(Key::List))
 }
 
 /// The wheels in their slots, each with its ring and the letter in its window.
@@ -115,7 +115,7 @@ fn rotor_day_in(table: &Table, day: u8, model: Model) -> Result<SheetDay, SheetF
 }
 
 /// The day of a Converter M-209.
-#[tactic(auto, using(crate::proofs::Legal::pin_day), unfolding(crate::specs::SheetFile::pin_day_in))]
+#[tactic(auto, unfolding(crate::specs::SheetFile::pin_day_in))]
 fn pin_day_in(table: &Table, day: u8) -> Result<SheetDay, SheetFault>
     requires { IsDayNumber day }
     ensures { result ≡ pin_day_in day (table_view table.now) }

@@ -8,7 +8,7 @@ use super::document::find_at;
 use super::fault::SheetFault;
 use super::items::{ItemReader, read_up_to};
 use super::key::Key;
-use super::letters::capital_letters;
+use super::letters::letters_of_item;
 use arrayvec::ArrayVec;
 use kd_tables::Letter;
 use toml::{Table, Value};
@@ -27,8 +27,7 @@ impl ItemReader<[Letter; 3]> for GroupReader {
 
     #[tactic(auto, unfolding(crate::specs::SheetFile::group_of_item))]
     fn read(&self, _before: &[[Letter; 3]], item: &Value) -> Result<[Letter; 3], SheetFault> {
-        let text = item.as_str().ok_or(SheetFault::BadValue(Key::Groups))?;
-        capital_letters(text.as_bytes()).ok_or(SheetFault::BadValue(Key::Groups))
+        letters_of_item(item).ok_or(SheetFault::BadValue(Key::Groups))
     }
 }
 

@@ -1,5 +1,5 @@
 //! The items of an array, read one after another, each in the light of those before it.
-ghost use Rattle.std.specs.Prelude.{◌≡◌, ◌<◌, ◌≤◌, ℕ, List, Result, map, length};
+ghost use Rattle.std.specs.Prelude.{◌≡◌, ◌<◌, ◌≤◌, ℕ, List, Result, IfOk, map, length};
 ghost use Rattle.toml.specs.Data.{Data};
 ghost use Rattle.toml.specs.View.{view, table_view};
 ghost use Rattle.kd_sheet.specs.Document.{in_turn, each_at, up_to, result_map};
@@ -26,40 +26,43 @@ pub trait ItemReader<T> {
         ensures { result ≡ reading self.now before.now (view item.now) };
 }
 
-/// Fills the places with what the items are, an item for each.
-fn read_items<T: Copy, R: ItemReader<T>>(
+/// What the items are, of which there may be `N`.
+fn read_items<T: Copy + Default, R: ItemReader<T>, const N: usize>(
     reader: &R,
     items: &[Value],
-    values: &mut [T],
-) -> Result<(), SheetFault>
+) -> Result<ArrayVec<T, N>, SheetFault>
+    requires few { length items.now ≤ N }
     requires room { length items.now ≤ R.room reader.now }
-    requires count { length values.old ≡ length items.now }
-    ensures { result_map (λ _. values.new) result ≡ in_turn (R.reading reader.now) (map view items.now) }
+    ensures value { result_map (λ values. values.items) result
+        ≡ in_turn (R.reading reader.now) (map view items.now) }
+    ensures count { IfOk result (λ values. length values.items ≡ length items.now) }
 {
-    for (place, item) in items.iter().enumerate() {
-        let value = reader.read(&values[..place], item)?;
-        values[place] = value;
+    let mut values = ArrayVec::new();
+    for item in items {
+        let value = reader.read(values.as_slice(), item)?;
+        values.push(value);
     }
-    Ok(())
+    Ok(values)
 }
 
-/// What the items of the array at a key are, of which there have to be `N`.
-pub fn read_each<T: Copy, R: ItemReader<T>, const N: usize>(
+/// What the items of the array at a key are, of which there have to be so many, at most `N`.
+pub fn read_each<T: Copy + Default, R: ItemReader<T>, const N: usize>(
     table: &Table,
     key: Key,
+    count: usize,
     reader: &R,
-    blank: T,
-) -> Result<[T; N], SheetFault>
-    requires { R.room reader.now ≡ N }
-    ensures { result ≡ each_at key N (R.reading reader.now) (table_view table.now) }
+) -> Result<ArrayVec<T, N>, SheetFault>
+    requires few { count ≤ N }
+    requires room { R.room reader.now ≡ count }
+    ensures value { result_map (λ values. values.items) result
+        ≡ each_at key count (R.reading reader.now) (table_view table.now) }
+    ensures count { IfOk result (λ values. length values.items ≡ count) }
 {
     let items = items_at(table, key)?;
-    if items.len() != N {
+    if items.len() != count {
         return Err(SheetFault::BadValue(key));
     }
-    let mut values = [blank; N];
-    read_items(reader, items, &mut values)?;
-    Ok(values)
+    read_items(reader, items)
 }
 
 /// What the items of the array are that a key's value has to be, of which there may be `N`.
@@ -76,7 +79,5 @@ pub fn read_up_to<T: Copy + Default, R: ItemReader<T>, const N: usize>(
     if items.len() > N {
         return Err(SheetFault::BadValue(key));
     }
-    let mut values = [T::default(); N];
-    read_items(reader, items, &mut values[..items.len()])?;
-    Ok(ArrayVec::try_from(&values[..items.len()]).ok().unwrap())
+    read_items(reader, items)
 }

@@ -1,24 +1,48 @@
 //! Texts of capital letters.
-ghost use Rattle.std.specs.Prelude.{◌≡◌, ◌<◌, length, IfSome};
-ghost use Rattle.kd_tables.specs.Tables.{box_of, slots_of};
+ghost use Rattle.std.specs.Prelude.{◌≡◌, ◌<◌, ◌≤◌, length, IfSome, option_map};
+ghost use Rattle.std.specs.Option.{option_and_then};
+ghost use Rattle.toml.specs.Data.{as_str};
+ghost use Rattle.toml.specs.View.{view};
+ghost use Rattle.kd_tables.specs.Tables.{slots_of};
 ghost use Rattle.kd_sheet.specs.Letters.{capital_letters};
 
-use kd_state::{PerSlot, PerWheel};
+use arrayvec::ArrayVec;
+use kd_state::PerSlot;
 use kd_tables::{Letter, Model};
+use toml::Value;
+
+/// The letters of a text of exactly so many capital letters, at most `N`.
+pub fn capital_letters<const N: usize>(text: &[u8], count: usize) -> Option<ArrayVec<Letter, N>>
+    requires { count ≤ N }
+    ensures value { option_map (λ letters. letters.items) result ≡ capital_letters count text.now }
+    ensures count { IfSome result (λ letters. length letters.items ≡ count) }
+{
+    if text.len() != count {
+        return None;
+    }
+    let mut letters = ArrayVec::new();
+    for byte in text {
+        letters.push(Letter::from_byte(*byte)?);
+    }
+    Some(letters)
+}
 
 /// The letters of a text of exactly `N` capital letters.
-pub fn capital_letters<const N: usize>(text: &[u8]) -> Option<[Letter; N]>
+pub fn letters_of_text<const N: usize>(text: &[u8]) -> Option<[Letter; N]>
+    requires { N ≤ 26 }
     ensures value { result ≡ capital_letters N text.now }
     ensures count { IfSome result (λ letters. length letters ≡ N) }
 {
-    if text.len() != N {
-        return None;
-    }
-    let mut letters = [Letter::A; N];
-    for (place, byte) in text.iter().enumerate() {
-        letters[place] = Letter::from_byte(*byte)?;
-    }
-    Some(letters)
+    capital_letters(text, N)?.into_inner().ok()
+}
+
+/// The letters of an item that is a text of exactly `N` capital letters.
+pub fn letters_of_item<const N: usize>(item: &Value) -> Option<[Letter; N]>
+    requires { N ≤ 26 }
+    ensures value { result ≡ option_and_then (capital_letters N) (as_str (view item.now)) }
+    ensures count { IfSome result (λ letters. length letters ≡ N) }
+{
+    letters_of_text(item.as_str()?.as_bytes())
 }
 
 /// A letter for each of the model's slots.
@@ -26,22 +50,6 @@ pub fn slot_letters(model: Model, text: &[u8]) -> Option<PerSlot<Letter>>
     requires { 0 < slots_of model }
     ensures { result ≡ capital_letters (slots_of model) text.now }
 {
-    if model.slots() == 4 {
-        PerSlot::new(&capital_letters::<4>(text)?)
-    } else {
-        PerSlot::new(&capital_letters::<3>(text)?)
-    }
-}
-
-/// A letter for each wheel of the model's box, in box order.
-pub fn box_letters(model: Model, text: &[u8]) -> Option<PerWheel<Letter>>
-    requires { 0 < slots_of model }
-    ensures { result ≡ capital_letters (length (box_of model)) text.now }
-{
-    match model {
-        Model::EnigmaI => PerWheel::new(&capital_letters::<5>(text)?),
-        Model::M3 => PerWheel::new(&capital_letters::<8>(text)?),
-        Model::M4 => PerWheel::new(&capital_letters::<10>(text)?),
-        Model::M209 => None,
-    }
+    let letters = capital_letters::<4>(text, usize::from(model.slots()))?;
+    PerSlot::new(letters.as_slice())
 }

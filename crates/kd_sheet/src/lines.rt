@@ -55,17 +55,6 @@ pub fn push_text_line(text: &mut Text, key: Key, value: &str)
     text.push_str("\n");
 }
 
-/// Puts an item behind another one.
-fn push_next<T: ItemText>(text: &mut Text, item: &T)
-    requires { array_string_len text.old + 36 ≤ 2048 }
-    ensures bytes { text.new.bytes
-        ≡ text.old.bytes ++ (codes ", " ++ quoted (T.item_text item.now)) }
-    ensures len { array_string_len text.new ≤ array_string_len text.old + 36 }
-{
-    text.push_str(", ");
-    push_quoted(text, item.item_text().as_str());
-}
-
 /// Puts items behind a first one.
 fn push_rest<T: ItemText>(text: &mut Text, items: &[T])
     requires { array_string_len text.old + 36 * length items.now ≤ 2048 }
@@ -74,7 +63,8 @@ fn push_rest<T: ItemText>(text: &mut Text, items: &[T])
     ensures len { array_string_len text.new ≤ array_string_len text.old + 36 * length items.now }
 {
     for item in items {
-        push_next(text, item);
+        text.push_str(", ");
+        push_quoted(text, item.item_text().as_str());
     }
 }
 

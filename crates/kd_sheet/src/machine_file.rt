@@ -4,16 +4,16 @@ ghost use Rattle.toml.specs.View.{table_view};
 ghost use Rattle.kd_tables.specs.Tables.{box_of, slots_of};
 ghost use Rattle.kd_sheet.specs.Document.{Answers};
 ghost use Rattle.kd_sheet.specs.Letters.{letters_at};
-ghost use Rattle.kd_sheet.specs.MachineFile.{version_in, model_in, known_model_in, reflector_in, rotor_parts_in, pin_parts_in, parts_in, machine_in, machine_of};
+ghost use Rattle.kd_sheet.specs.MachineFile.{model_in, reflector_in, rotor_parts_in, pin_parts_in, parts_in, machine_in, machine_of};
 
 use super::bars::bars_in;
 use super::cables::cables_in;
-use super::document::{document, text_at, value_at};
+use super::document::{document, text_at};
 use super::fault::SheetFault;
 use super::key::Key;
-use super::letters::box_letters;
+use super::letters::capital_letters;
 use super::names::{model_by_name, reflector_by_name};
-use super::numbers::number_to;
+use super::numbers::number_at;
 use super::pin_wheels::{pins_in, shown_in};
 use super::seats::seats_in;
 use kd_state::{Machine, PerWheel, PinParts, RotorParts};
@@ -24,32 +24,12 @@ use toml::Table;
 /// The latest version of the files.
 const VERSION: u8 = 2;
 
-/// The file's version.
-#[tactic(auto, unfolding(crate::specs::MachineFile::version_in))]
-fn version_in(table: &Table) -> Result<u8, SheetFault>
-    ensures { result ≡ version_in (table_view table.now) }
-{
-    number_to(value_at(table, Key::Version)?, VERSION).ok_or(SheetFault::BadValue(Key::Version))
-}
-
 /// The model whose name stands in the table.
 #[tactic(auto, unfolding(crate::specs::MachineFile::model_in))]
 pub fn model_in(table: &Table) -> Result<Model, SheetFault>
     ensures { result ≡ model_in (table_view table.now) }
 {
     model_by_name(text_at(table, Key::Model)?).ok_or(SheetFault::UnknownModel)
-}
-
-/// The model of a machine file of that version: the M4 came with version 2.
-#[tactic(auto, unfolding(crate::specs::MachineFile::known_model_in))]
-fn known_model_in(version: u8, table: &Table) -> Result<Model, SheetFault>
-    ensures { result ≡ known_model_in version (table_view table.now) }
-{
-    let model = model_in(table)?;
-    match model {
-        Model::M4 if version != 2 => Err(SheetFault::UnknownModel),
-        _ => Ok(model),
-    }
 }
 
 /// The model's reflector whose name stands in the table.
@@ -67,7 +47,11 @@ fn box_letters_in(table: &Table, key: Key, model: Model) -> Result<PerWheel<Lett
     requires { 0 < slots_of model }
     ensures { result ≡ letters_at key (length (box_of model)) (table_view table.now) }
 {
-    box_letters(model, text_at(table, key)?.as_bytes()).ok_or(SheetFault::BadValue(key))
+    let text = text_at(table, key)?.as_bytes();
+    let letters = capital_letters::<10>(text, model.wheels().len()).ok_or(SheetFault::BadValue(
+        key,
+    ))?;
+    Ok(PerWheel::new(letters.as_slice()).unwrap())
 }
 
 /// The parts of a rotor machine.
@@ -123,14 +107,16 @@ fn parts_in(table: &Table, model: Model) -> Result<Machine, SheetFault>
     }
 }
 
-/// The machine that a machine file's table describes, or its first fault.
-#[tactic(auto, unfolding(crate::specs::MachineFile::machine_in))]
+/// The machine that a machine file's table describes, or its first fault. The M4 came with version 2.
+#[tactic(auto, unfolding(crate::specs::MachineFile::machine_in, crate::specs::MachineFile::version_in, crate::specs::MachineFile::known_model_in))]
 fn machine_in(table: &Table) -> Result<Machine, SheetFault>
     ensures { result ≡ machine_in (table_view table.now) }
 {
-    let version = version_in(table)?;
-    let model = known_model_in(version, table)?;
-    parts_in(table, model)
+    let version = number_at(table, Key::Version, VERSION)?;
+    match model_in(table)? {
+        Model::M4 if version != 2 => Err(SheetFault::UnknownModel),
+        model => parts_in(table, model),
+    }
 }
 
 /// The machine that the bytes of a machine file describe, or the file's first fault. A file of version 1 or 2 is read; the

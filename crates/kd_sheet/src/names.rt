@@ -1,8 +1,12 @@
 //! Models, reflectors, wheels and standings by their names.
 ghost use Rattle.std.specs.Prelude.{◌≡◌};
+ghost use Rattle.std.specs.Option.{option_and_then};
+ghost use Rattle.toml.specs.Data.{as_str};
+ghost use Rattle.toml.specs.View.{view};
 ghost use Rattle.kd_sheet.specs.Names.{model_by_name, reflector_by_name, wheel_by_name, standing_by_text};
 
 use kd_tables::{Model, Reflector, Standing, Wheel};
+use toml::Value;
 
 /// The model of that name.
 pub fn model_by_name(name: &str) -> Option<Model>
@@ -16,11 +20,13 @@ pub fn model_by_name(name: &str) -> Option<Model>
 pub fn reflector_by_name(model: Model, name: &str) -> Option<Reflector>
     ensures { result ≡ reflector_by_name model name.now }
 {
-    model
-        .reflectors()
-        .iter()
-        .copied()
-        .find(|reflector| reflector.text().as_str() == name)
+    let reflectors = model.reflectors();
+    for reflector in reflectors {
+        if reflector.text().as_str() == name {
+            return Some(*reflector);
+        }
+    }
+    None
 }
 
 /// The wheel of that name.
@@ -30,9 +36,9 @@ pub fn wheel_by_name(name: &str) -> Option<Wheel>
     Wheel::from_text(name.as_bytes())
 }
 
-/// The standing of that text.
-pub fn standing_by_text(text: &str) -> Option<Standing>
-    ensures { result ≡ standing_by_text text.now }
+/// The standing of an item's text.
+pub fn standing_of_item(item: &Value) -> Option<Standing>
+    ensures { result ≡ option_and_then standing_by_text (as_str (view item.now)) }
 {
-    Standing::from_text(text.as_bytes())
+    Standing::from_text(item.as_str()?.as_bytes())
 }

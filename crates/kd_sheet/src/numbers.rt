@@ -1,12 +1,18 @@
 //! Whole numbers, and the letters that numbers from 1 to 26 stand for.
-ghost use Rattle.std.specs.Prelude.{◌≡◌, ◌<◌, ◌≤◌, map, length, IfSome};
-ghost use Rattle.toml.specs.View.{view};
+ghost use Rattle.std.specs.Prelude.{◌≡◌, ◌<◌, ◌≤◌, map, ok_or, IfOk, IfSome};
+ghost use Rattle.toml.specs.View.{view, table_view};
 ghost use Rattle.kd_tables.specs.Tables.{slots_of};
+ghost use Rattle.kd_sheet.specs.Document.{◌>>=◌ as ◌followed_by◌, value_at};
+ghost use Rattle.kd_sheet.specs.declared.fault.SheetFault.TheVariants as faults;
 ghost use Rattle.kd_sheet.specs.Numbers.{number_to, numbered_letter, numbered_letters};
 
+use super::document::value_at;
+use super::fault::SheetFault;
+use super::key::Key;
+use arrayvec::ArrayVec;
 use kd_state::PerSlot;
 use kd_tables::{Letter, Model};
-use toml::Value;
+use toml::{Table, Value};
 
 /// The value as a whole number from 1 to `last`.
 pub fn number_to(value: &Value, last: u8) -> Option<u8>
@@ -21,25 +27,21 @@ pub fn number_to(value: &Value, last: u8) -> Option<u8>
     }
 }
 
+/// The whole number from 1 to `last` at a key.
+pub fn number_at(table: &Table, key: Key, last: u8) -> Result<u8, SheetFault>
+    ensures value { result ≡ (value_at key (table_view table.now)
+        followed_by (λ value. ok_or (number_to last value) (faults.BadValue key))) }
+    ensures within { IfOk result (λ number. (1 ≤ number) × (number ≤ last)) }
+{
+    number_to(value_at(table, key)?, last).ok_or(SheetFault::BadValue(key))
+}
+
 /// The letter that a number from 1 to 26 stands for. 1 is A.
 fn numbered_letter(item: &Value) -> Option<Letter>
     ensures { result ≡ numbered_letter (view item.now) }
 {
     let number = number_to(item, 26)?;
     Letter::new(number - 1)
-}
-
-/// The letters that `N` numbers stand for.
-pub fn numbered_letters<const N: usize>(items: &[Value]) -> Option<[Letter; N]>
-    requires { length items.now ≡ N }
-    ensures value { result ≡ numbered_letters N (map view items.now) }
-    ensures count { IfSome result (λ letters. length letters ≡ N) }
-{
-    let mut letters = [Letter::A; N];
-    for (place, item) in items.iter().enumerate() {
-        letters[place] = numbered_letter(item)?;
-    }
-    Some(letters)
 }
 
 /// The letters that numbers stand for, one for each of the model's slots.
@@ -50,9 +52,9 @@ pub fn numbered_slots(model: Model, items: &[Value]) -> Option<PerSlot<Letter>>
     if items.len() != usize::from(model.slots()) {
         return None;
     }
-    if model.slots() == 4 {
-        PerSlot::new(&numbered_letters::<4>(items)?)
-    } else {
-        PerSlot::new(&numbered_letters::<3>(items)?)
+    let mut letters = ArrayVec::<Letter, 4>::new();
+    for item in items {
+        letters.push(numbered_letter(item)?);
     }
+    PerSlot::new(letters.as_slice())
 }

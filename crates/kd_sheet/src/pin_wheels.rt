@@ -1,16 +1,19 @@
 //! The letters of the Converter's six wheels, and which of their pins are effective.
-ghost use Rattle.std.specs.Prelude.{◌≡◌, ◌+◌, ◌==◌, ◌<◌, [], ◌∷◌, map, length, All, Ok, IfOk, IfSome};
-ghost use Rattle.std.specs.List.{list_any, count_by};
+ghost use Rattle.std.specs.Prelude.{◌≡◌, [], ◌∷◌, map, ok_or, Ok};
+ghost use Rattle.std.specs.Option.{option_and_then};
+ghost use Rattle.toml.specs.Data.{as_str};
 ghost use Rattle.toml.specs.View.{view, table_view};
 ghost use Rattle.kd_state.specs.Pins.{pin_set};
 ghost use Rattle.kd_state.specs.Setting.{has_letter};
 ghost use Rattle.kd_sheet.specs.Document.{◌>>=◌ as ◌followed_by◌, in_turn};
-ghost use Rattle.kd_sheet.specs.PinWheels.{are_on_wheels, letters_on_wheels, shown_in, is_on, stands_once, is_pin_text, has_capital, pins_of_text, pins_of_item, pins_behind, pins_in};
+ghost use Rattle.kd_sheet.specs.declared.fault.SheetFault.TheVariants as faults;
+ghost use Rattle.kd_sheet.specs.declared.key.Key.TheVariants as keys;
+ghost use Rattle.kd_sheet.specs.PinWheels.{are_on_wheels, letters_on_wheels, shown_in, is_on, stands_once, is_pin_text, has_capital, pins_of_text, pins_behind, pins_in};
 
 use super::document::{items_at, text_at};
 use super::fault::SheetFault;
 use super::key::Key;
-use super::letters::capital_letters;
+use super::letters::letters_of_text;
 use kd_pins::PinSet;
 use kd_tables::{Letter, Ring, ring1, ring2, ring3, ring4, ring5, ring6};
 use toml::{Table, Value};
@@ -40,7 +43,7 @@ fn are_on_wheels(letters: &[Letter; 6]) -> bool
 fn letters_on_wheels(text: &[u8]) -> Option<[Letter; 6]>
     ensures { result ≡ letters_on_wheels text.now }
 {
-    let letters = capital_letters::<6>(text)?;
+    let letters = letters_of_text(text)?;
     if are_on_wheels(&letters) {
         Some(letters)
     } else {
@@ -79,8 +82,12 @@ fn stands_once(text: &[u8], byte: u8) -> bool
 fn is_pin_text(ring: &[Letter], text: &[u8]) -> bool
     ensures { result ≡ is_pin_text ring.now text.now }
 {
-    text.iter()
-        .all(|byte| is_on(ring, *byte) && stands_once(text, *byte))
+    for byte in text {
+        if !is_on(ring, *byte) || !stands_once(text, *byte) {
+            return false;
+        }
+    }
+    true
 }
 
 /// Which of the letters the text has.
@@ -94,26 +101,18 @@ fn letters_in<const N: usize>(letters: &[Letter; N], text: &[u8]) -> [bool; N]
     found
 }
 
-/// Which pins of the wheel are effective, where the text has the letters of those that are.
+/// Which pins of the wheel are effective, where the item is a text that has the letters of those that are.
 #[tactic(auto, unfolding(crate::specs::PinWheels::pins_of_text))]
-fn pins_of_text<const N: usize>(ring: &Ring<N>, text: &[u8]) -> Option<[bool; N]>
-    ensures { result ≡ pins_of_text ring.now text.now }
+fn pins_of_item<const N: usize>(ring: &Ring<N>, item: &Value) -> Option<[bool; N]>
+    ensures { result ≡ option_and_then (pins_of_text ring.now) (as_str (view item.now)) }
 {
+    let text = item.as_str()?.as_bytes();
     let letters = ring.letters();
     if is_pin_text(&letters, text) {
         Some(letters_in(&letters, text))
     } else {
         None
     }
-}
-
-/// Which pins of the wheel the item makes effective.
-#[tactic(auto, unfolding(crate::specs::PinWheels::pins_of_item))]
-fn pins_of_item<const N: usize>(ring: &Ring<N>, item: &Value) -> Result<[bool; N], SheetFault>
-    ensures { result ≡ pins_of_item ring.now (view item.now) }
-{
-    let text = item.as_str().ok_or(SheetFault::BadValue(Key::Pins))?;
-    pins_of_text(ring, text.as_bytes()).ok_or(SheetFault::BadValue(Key::Pins))
 }
 
 /// The effective pins of the six wheels, an item for each.
@@ -125,10 +124,11 @@ pub fn pins_in(table: &Table) -> Result<PinSet, SheetFault>
     let [one, two, three, four, five, six] = items else {
         return Err(SheetFault::BadValue(Key::Pins));
     };
-    pins_of_six(one, two, three, four, five, six)
+    pins_of_six(one, two, three, four, five, six).ok_or(SheetFault::BadValue(Key::Pins))
 }
 
 /// The effective pins of the six wheels, by their items.
+#[tactic(auto, unfolding(crate::specs::PinWheels::pins_of_item))]
 fn pins_of_six(
     one: &Value,
     two: &Value,
@@ -136,8 +136,8 @@ fn pins_of_six(
     four: &Value,
     five: &Value,
     six: &Value,
-) -> Result<PinSet, SheetFault>
-    ensures { result ≡ (in_turn pins_behind
+) -> Option<PinSet>
+    ensures { ok_or result (faults.BadValue keys.Pins) ≡ (in_turn pins_behind
         (view one.now ∷ view two.now ∷ view three.now ∷ view four.now ∷ view five.now ∷ view six.now ∷ [])
         followed_by (λ pins. Ok (pin_set pins))) }
 {
@@ -147,7 +147,7 @@ fn pins_of_six(
     let w4 = pins_of_item(&ring4(), four)?;
     let w5 = pins_of_item(&ring5(), five)?;
     let w6 = pins_of_item(&ring6(), six)?;
-    Ok(PinSet {
+    Some(PinSet {
         w1,
         w2,
         w3,

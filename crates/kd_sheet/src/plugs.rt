@@ -10,7 +10,7 @@ use super::document::value_at;
 use super::fault::SheetFault;
 use super::items::{ItemReader, read_up_to};
 use super::key::Key;
-use super::letters::capital_letters;
+use super::letters::letters_of_item;
 use arrayvec::ArrayVec;
 use kd_tables::Letter;
 use toml::{Table, Value};
@@ -44,11 +44,7 @@ impl ItemReader<Pair> for PairReader {
 
     #[tactic(auto, unfolding(crate::specs::Cables::pair_for))]
     fn read(&self, before: &[Pair], item: &Value) -> Result<Pair, SheetFault> {
-        let text = item.as_str().ok_or(SheetFault::BadValue(Key::Plugs))?;
-        let letters = capital_letters::<2>(text.as_bytes()).ok_or(SheetFault::BadValue(
-            Key::Plugs,
-        ))?;
-        let [one, other] = letters;
+        let [one, other] = letters_of_item::<2>(item).ok_or(SheetFault::BadValue(Key::Plugs))?;
         if one == other || is_plugged(before, one) || is_plugged(before, other) {
             return Err(SheetFault::LetterTwice);
         }

@@ -3,7 +3,7 @@ ghost use Rattle.std.specs.Prelude.{◌≡◌, ◌+◌, ◌<◌, length};
 ghost use Rattle.toml.specs.View.{table_view};
 ghost use Rattle.kd_tables.specs.Tables.{slots_of, wheels_for};
 ghost use Rattle.kd_state.specs.ToldApart.{has_wheel};
-ghost use Rattle.kd_sheet.specs.Seats.{is_seated, wheel_for, seat_for, seat_of_item, seats_in};
+ghost use Rattle.kd_sheet.specs.Seats.{is_seated, wheel_for, seat_of_item, seats_in};
 
 use super::fault::SheetFault;
 use super::items::{ItemReader, read_each};
@@ -49,25 +49,7 @@ fn wheel_for(
     Ok(wheel)
 }
 
-/// What a name seats in the slot behind these: nothing by the empty text where it may stand, else the wheel.
-#[tactic(auto, unfolding(crate::specs::Seats::seat_for))]
-fn seat_for(
-    key: Key,
-    model: Model,
-    slots: &[Option<Wheel>],
-    name: &str,
-) -> Result<Option<Wheel>, SheetFault>
-    requires { length slots.now < slots_of model }
-    ensures { result ≡ seat_for key model slots.now name.now }
-{
-    if matches!(key, Key::Slots) && name.is_empty() {
-        Ok(None)
-    } else {
-        Ok(Some(wheel_for(key, model, slots, name)?))
-    }
-}
-
-/// Reads the seats of a model's slots, of an array at a key.
+/// Reads the seats of a model's slots, of an array at a key. The empty text seats nothing, where it may stand.
 #[derive(Clone, Copy)]
 struct SeatReader {
     key: Key,
@@ -79,10 +61,13 @@ impl ItemReader<Option<Wheel>> for SeatReader {
 
     ghost reading = { λ reader. seat_of_item reader.key reader.model };
 
-    #[tactic(auto, unfolding(crate::specs::Seats::seat_of_item))]
+    #[tactic(auto, unfolding(crate::specs::Seats::seat_of_item, crate::specs::Seats::seat_for))]
     fn read(&self, before: &[Option<Wheel>], item: &Value) -> Result<Option<Wheel>, SheetFault> {
         let name = item.as_str().ok_or(SheetFault::BadValue(self.key))?;
-        seat_for(self.key, self.model, before, name)
+        if matches!(self.key, Key::Slots) && name.is_empty() {
+            return Ok(None);
+        }
+        Ok(Some(wheel_for(self.key, self.model, before, name)?))
     }
 }
 
@@ -93,11 +78,6 @@ pub fn seats_in(table: &Table, key: Key, model: Model) -> Result<PerSlot<Option<
     ensures { result ≡ seats_in key model (table_view table.now) }
 {
     let reader = SeatReader { key, model };
-    if model.slots() == 4 {
-        let slots = read_each::<_, _, 4>(table, key, &reader, None)?;
-        Ok(PerSlot::new(&slots).unwrap())
-    } else {
-        let slots = read_each::<_, _, 3>(table, key, &reader, None)?;
-        Ok(PerSlot::new(&slots).unwrap())
-    }
+    let slots = read_each::<_, _, 4>(table, key, usize::from(model.slots()), &reader)?;
+    Ok(PerSlot::new(slots.as_slice()).unwrap())
 }

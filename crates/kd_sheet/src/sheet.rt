@@ -6,13 +6,13 @@ use kd_state::SheetDay;
 use std::marker::Model;
 
 /// How many days the longest month has.
-pub(crate) const DAYS: usize = 31;
+pub(crate) const DAYS: u8 = 31;
 
 /// A key sheet: a month with a day here and there. It takes no memory of its own.
 #[derive(Drop)]
 pub struct Sheet {
     /// Each day at its number, counted from 1.
-    days: [Option<SheetDay>; DAYS],
+    days: [Option<SheetDay>; DAYS as usize],
 }
 
 impl Model for Sheet {
@@ -62,7 +62,10 @@ impl Sheet {
         ensures month { IsMonth self }
     {
         let Sheet { mut days } = self;
-        days.get_mut(usize::from(number).checked_sub(1)?)?.take()
+        if number == 0 {
+            return None;
+        }
+        days.get_mut(usize::from(number) - 1)?.take()
     }
 
     /// The day at that number.
@@ -71,7 +74,10 @@ impl Sheet {
         ensures month { IsMonth self.now }
     {
         let days = &self.days;
-        days.get(usize::from(number).checked_sub(1)?)?.as_ref()
+        if number == 0 {
+            return None;
+        }
+        days.get(usize::from(number) - 1)?.as_ref()
     }
 
     /// Puts the day at its number.

@@ -4,36 +4,27 @@ ghost use Rattle.toml.specs.View.{view, table_view};
 ghost use Rattle.kd_state.specs.SheetDay.{Day, IsDayNumber};
 ghost use Rattle.kd_sheet.specs.Document.{Answers, in_turn, result_map};
 ghost use Rattle.kd_sheet.specs.Sheet.{month_of};
-ghost use Rattle.kd_sheet.specs.SheetFile.{number_in, new_number_in, day_in, day_for, sheet_in, sheet_of};
+ghost use Rattle.kd_sheet.specs.SheetFile.{new_number_in, day_for, sheet_of};
 
 use super::day_table::model_day_in;
-use super::document::{document, items_at, value_at};
+use super::document::{document, items_at};
 use super::fault::SheetFault;
 use super::key::Key;
 use super::machine_file::model_in;
-use super::numbers::number_to;
+use super::numbers::number_at;
 use super::sheet::{DAYS, Sheet};
 use kd_state::SheetDay;
 use std::alloc::Global;
 use toml::{Table, Value};
 
-/// The day's number.
-#[tactic(auto, unfolding(crate::specs::SheetFile::number_in))]
-fn number_in(table: &Table) -> Result<u8, SheetFault>
-    ensures value { result ≡ number_in (table_view table.now) }
-    ensures within { IfOk result IsDayNumber }
-{
-    number_to(value_at(table, Key::Day)?, DAYS as u8).ok_or(SheetFault::BadValue(Key::Day))
-}
-
 /// The day's number, which no day of the sheet has.
-#[tactic(auto, using(crate::proofs::Months::taken), unfolding(crate::specs::SheetFile::new_number_in))]
+#[tactic(auto, using(crate::proofs::Months::taken), unfolding(crate::specs::SheetFile::new_number_in, crate::specs::SheetFile::number_in))]
 fn new_number_in(sheet: &Sheet, table: &Table) -> Result<u8, SheetFault>
     ensures value { (days : List Day) → sheet.now ≡ month_of days
         → result ≡ new_number_in days (table_view table.now) }
     ensures within { IfOk result IsDayNumber }
 {
-    let number = number_in(table)?;
+    let number = number_at(table, Key::Day, DAYS)?;
     if sheet.day(number).is_some() {
         Err(SheetFault::DayTwice(number))
     } else {
@@ -41,29 +32,19 @@ fn new_number_in(sheet: &Sheet, table: &Table) -> Result<u8, SheetFault>
     }
 }
 
-/// The day that an entry's table describes, behind the days of the sheet, or its first fault.
-#[tactic(auto, unfolding(crate::specs::SheetFile::day_in))]
-fn day_in(sheet: &Sheet, table: &Table) -> Result<SheetDay, SheetFault>
-    ensures { (days : List Day) → sheet.now ≡ month_of days → result ≡ day_in days (table_view table.now) }
+/// The day of an item behind the days of the sheet, or its first fault.
+#[tactic(auto, unfolding(crate::specs::SheetFile::day_for, crate::specs::SheetFile::day_in))]
+fn day_for(sheet: &Sheet, item: &Value) -> Result<SheetDay, SheetFault>
+    ensures { (days : List Day) → sheet.now ≡ month_of days → result ≡ day_for days (view item.now) }
 {
+    let table = item.as_table().ok_or(SheetFault::BadValue(Key::Day))?;
     let number = new_number_in(sheet, table)?;
     let model = model_in(table)?;
     model_day_in(table, number, model)
 }
 
-/// The day of an item behind the days of the sheet.
-#[tactic(auto, unfolding(crate::specs::SheetFile::day_for))]
-fn day_for(sheet: &Sheet, item: &Value) -> Result<SheetDay, SheetFault>
-    ensures { (days : List Day) → sheet.now ≡ month_of days → result ≡ day_for days (view item.now) }
-{
-    day_in(
-        sheet,
-        item.as_table().ok_or(SheetFault::BadValue(Key::Day))?,
-    )
-}
-
 /// The month with the days of the items.
-#[tactic(auto, using(crate::proofs::Months::first_month, crate::proofs::Months::next_month, crate::proofs::InTurn::on_all))]
+#[tactic(auto, using(crate::proofs::Months::first_month, crate::proofs::InTurn::on_all))]
 fn month(items: &[Value]) -> Result<Sheet, SheetFault>
     ensures { result ≡ result_map month_of (in_turn day_for (map view items.now)) }
 {
@@ -75,19 +56,12 @@ fn month(items: &[Value]) -> Result<Sheet, SheetFault>
     Ok(sheet)
 }
 
-/// The sheet that a sheet's table describes, or its first fault.
-#[tactic(auto, unfolding(crate::specs::SheetFile::sheet_in))]
-fn sheet_in(table: &Table) -> Result<Sheet, SheetFault>
-    ensures { result ≡ sheet_in (table_view table.now) }
-{
-    month(items_at(table, Key::Day)?)
-}
-
 /// The sheet that the bytes of a sheet file describe, or the file's first fault. `NoMemory` may stand in place of any other
 /// answer: only reading the document takes memory, but no clause says that memory ran out where it is told.
+#[tactic(auto, unfolding(crate::specs::SheetFile::sheet_in))]
 pub fn read_sheet(alloc: Global, bytes: &[u8]) -> Result<Sheet, SheetFault>
     ensures { Answers result (sheet_of bytes.now) }
 {
     let table = document(alloc, bytes)?;
-    sheet_in(&table)
+    month(items_at(&table, Key::Day)?)
 }

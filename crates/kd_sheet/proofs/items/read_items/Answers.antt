@@ -1,22 +1,19 @@
-use Rattle.kd_sheet.proofs.Prelude.{arith, length, map, rules, ◌<◌, ◌∙◌, length-map, take_all, take_more_set, view}
-use Rattle.kd_sheet.proofs.InTurn.{on_none, on_all, read_more, read_stops}
+use Rattle.kd_sheet.proofs.Prelude.{arith, rules, ◌∙◌}
+use Rattle.kd_sheet.proofs.InTurn.{on_none, read_more, read_stops}
 use Rattle.kd_sheet.proofs.items.read_items.Goals as goal
 
-pub loop-place-init : goal.loop-place-init
-loop-place-init g c = on_none (g.R.ItemReader.reading c.args.reader.now) (map view c.args.items.now)
+pub loop-item-init : goal.loop-item-init
+loop-item-init g c = grind (arith, on_none)
 
-pub loop-place-preserved : goal.loop-place-preserved
-loop-place-preserved g c =
-    let left : c.loop-place.place < length c.args.items.now = omega arith in
-    let room : c.loop-place.place < length c.loop-place.values = omega arith in
-    rw take_more_set (c.loop-place.invariant ∙ read_more (g.R.ItemReader.reading c.args.reader.now) _ _ _ left
-    c.index-items-place.is _ _ c.in_ok-value.ensures)
+pub loop-item-preserved : goal.loop-item-preserved
+loop-item-preserved g c = record {
+  count = omega arith;
+  read = c.loop-item.invariant.read ∙ rw c.push.ensures.items (rw (← c.as_slice.ensures.value)
+      (read_more (g.R.ItemReader.reading c.args.reader.now) _ _ _ c.loop-item-test.true c.item-item.is _ _
+      c.in_ok-value.ensures));
+}
 
-pub returns-in_err-value : goal.returns-in_err-value
-returns-in_err-value g c =
-    let left : c.loop-place.place < length c.args.items.now = omega arith in
-    rw (c.loop-place.invariant ∙ read_stops (g.R.ItemReader.reading c.args.reader.now) _ _ _ left c.index-items-place.is
-    _ _ c.in_err-value.ensures) (search rules)
-
-pub returns : goal.returns
-returns g c = grind (arith, on_all, take_all, length-map)
+pub returns-in_err-value-clause-value : goal.returns-in_err-value-clause-value
+returns-in_err-value-clause-value g c =
+    rw (c.loop-item.invariant.read ∙ read_stops (g.R.ItemReader.reading c.args.reader.now) _ _ _ c.loop-item-test.true
+    c.item-item.is _ _ (rw c.as_slice.ensures.value at c.in_err-value.ensures)) (search rules)

@@ -4,8 +4,5 @@ use Rattle.kd_sheet.proofs.items.read_up_to.Goals as goal
 pub returns-then-len : goal.returns-then-len
 returns-then-len g c = grind (arith, common_steps)
 
-pub returns-in_err-read_items : goal.returns-in_err-read_items
-returns-in_err-read_items g c = grind (arith, common_steps)
-
 pub returns : goal.returns
 returns g c = grind (arith, common_steps)
