@@ -10,7 +10,7 @@ ghost use Rattle.kd_card.specs.Reading.{words_behind, EndsAt, IsBadAt};
 use super::fault::CardFault;
 use super::kinds::PricedKind;
 use super::look::{Look, Name};
-use super::price_text::{price_of_text, split_first};
+use super::price_text::{is_word, price_of_text, split_first};
 use arrayvec::{ArrayString, ArrayVec};
 use itoa::Buffer;
 use kd_state::{number_of_text, push_number, split_words};
@@ -67,11 +67,8 @@ fn next_kind(
     if text.is_empty() {
         return Ok(None);
     }
-    let (first, behind, rest) = match split_first(text, line) {
-        Ok(found) => found,
-        Err(fault) => return Err(fault),
-    };
-    if first != name.text().as_bytes() {
+    let (first, behind, rest) = split_first(text, line)?;
+    if !is_word(first, name.text()) {
         return Ok(None);
     }
     match kind_behind(name, behind) {

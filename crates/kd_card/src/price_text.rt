@@ -51,7 +51,14 @@ pub(crate) fn price_of_text(text: &[u8]) -> Option<i16>
         return None;
     }
     let mut buffer = Buffer::new();
-    (buffer.format(price).as_bytes() == text).then_some(price)
+    is_word(text, buffer.format(price)).then_some(price)
+}
+
+/// Whether the text is the word.
+pub(crate) fn is_word(text: &[u8], word: &str) -> bool
+    ensures { IsTrue result ↔ (text.now ≡ word.now) }
+{
+    text == word.as_bytes()
 }
 
 /// The first word of the first line of the text, what stands behind the space after it, and what follows the line.
@@ -111,12 +118,12 @@ fn group_of_word(word: &[u8], version: Version) -> Option<Group>
         ((group : _) → word.now ≢ first_text version group)
         (λ group. word.now ≡ first_text version group) }
 {
-    match (version, word) {
-        (Version::ByNumber, b"CABLES") => Some(Group::OfCables),
-        (Version::ByNumber, b"BARS") => Some(Group::OfBars),
-        (Version::ByKind, b"CABLE") => Some(Group::OfCables),
-        (Version::ByKind, b"BAR") => Some(Group::OfBars),
-        _ => None,
+    if is_word(word, Group::OfCables.first_text(version)) {
+        Some(Group::OfCables)
+    } else if is_word(word, Group::OfBars.first_text(version)) {
+        Some(Group::OfBars)
+    } else {
+        None
     }
 }
 
