@@ -105,6 +105,11 @@ pub value_line : {bytes : List ℕ} (name value rest : List ℕ) → IsWord name
     → bytes ≡ with_line (name ∷ value ∷ []) rest → HasWords bytes (name ∷ value ∷ []) rest
 value_line name value rest named valued e = grind (arith, line_has_words, All-from_recursion)
 
+-- three words
+pub words_in_place : (words : List (List ℕ)) (items : List (Bor (List ℕ))) (a b d : Bor (List ℕ)) → map (λ (word : Bor (List ℕ)). word.now) items ≡ words
+    → length items ≡ 3 → words ≡ (get_or items 0 a).now ∷ (get_or items 1 b).now ∷ (get_or items 2 d).now ∷ []
+words_in_place words items a b d e h = grind (arith, common_steps)
+
 -- ---- prices by their texts
 
 pub fits : (p : ℤ) → unsigned_abs p ≤ 9999 → FitsSigned w16 p

@@ -9,12 +9,14 @@ ghost use Rattle.kd_card.specs.CardFault.{SaysNumbered, SaysKinded, SaysAllPrice
 use super::card::Card;
 use super::fault::CardFault;
 use super::kind_text::read_kinds;
-use super::price_text::{first_group, first_word, is_numeral, is_word, prices_behind, split_first};
+use super::price_text::{
+    first_group, first_word, is_numeral, is_word, prices_behind, split_first, three_words,
+};
 use super::prices::{Prices, Version};
 use arrayvec::ArrayVec;
 use itoa::Buffer;
 use kd_state::laws::texts_tell_first_parts;
-use kd_state::{Settings, day_of_text, split_setting, split_words};
+use kd_state::{Settings, day_of_text, split_setting};
 
 /// The card whose text this is, and its day.
 pub fn read_card(text: &[u8]) -> Result<(u8, Card), CardFault>
@@ -75,20 +77,7 @@ fn head_behind(behind: &[u8]) -> Option<(Version, u8)>
         head_words version day ≢ codes "CARD" ∷ words_of behind.now)
         (λ head. (head_words head.0 head.1 ≡ codes "CARD" ∷ words_of behind.now) × IsDayNumber head.1) }
 {
-    let words = split_words::<3>(behind)?;
-    match words.as_slice() {
-        [version, name, day] => head_of_parts(version, name, day),
-        _ => None,
-    }
-}
-
-/// What the prices are by, and the day, by the three words that say it.
-fn head_of_parts(version: &[u8], name: &[u8], day: &[u8]) -> Option<(Version, u8)>
-    ensures { let words = codes "CARD" ∷ version.now ∷ name.now ∷ day.now ∷ [] in
-        MatchOption result
-        ((version : _) (day : ℕ) → IsDayNumber day → head_words version day ≢ words)
-        (λ head. (head_words head.0 head.1 ≡ words) × IsDayNumber head.1) }
-{
+    let (version, name, day) = three_words(behind)?;
     if !is_word(name, "DAY") {
         return None;
     }
