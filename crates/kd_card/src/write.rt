@@ -99,7 +99,6 @@ fn push_count<const N: usize>(text: &mut ArrayString<N>, count: usize)
 }
 
 /// Appends the lines of the prices.
-#[tactic(auto, using(crate::proofs::KindPrices::kinds_written))]
 fn push_prices<const N: usize>(text: &mut ArrayString<N>, prices: &Prices)
     requires { array_string_len text.old + 1296 ≤ N }
     ensures bytes { text.new.bytes ≡ text.old.bytes ++ lines_text (price_lines prices.now) }
