@@ -15,6 +15,7 @@ pub struct IllegalAt {
 }
 
 /// The machine to which the settings lead, carried out one after another, or the first that is refused.
+#[tactic(auto, using(crate::proofs::Leading::leads_next, crate::proofs::Leading::stops_at))]
 pub fn carry_all(machine: &Machine, settings: &[Setting]) -> Result<Machine, IllegalAt>
     ensures carried { IfOk result (λ n. Leads machine.now settings.now n) }
     ensures refused { IfErr result

@@ -248,6 +248,7 @@ impl Prices {
     }
 
     /// The sum of all prices.
+    #[tactic(auto, using(crate::proofs::Lines::few_prices))]
     pub fn sum(&self) -> i32
         ensures { result ≡ price_sum self.now }
     {

@@ -70,8 +70,9 @@ fn push_settings<const N: usize>(text: &mut ArrayString<N>, settings: &[Setting]
     ensures len { array_string_len text.new ≤ array_string_len text.old + 24 * length settings.now }
     ensures in_range { All IsInRange settings.now }
 {
-    for setting in settings {
-        push_setting(text, setting);
+    if let [first, rest @ ..] = settings {
+        push_setting(text, first);
+        push_settings(text, rest);
     }
 }
 

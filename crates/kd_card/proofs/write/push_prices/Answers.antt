@@ -1,12 +1,6 @@
 use Rattle.kd_card.proofs.{Prelude.arith, Prelude.append_assoc, KindPrices.all_kinds, KindPrices.text_by_kind}
 use Rattle.kd_card.proofs.write.push_prices.Goals as goal
 
-pub returns-in-Cables-clause-bytes : goal.returns-in-Cables-clause-bytes
-returns-in-Cables-clause-bytes g c = grind (arith, append_assoc)
-
-pub returns-in-Bars-clause-bytes : goal.returns-in-Bars-clause-bytes
-returns-in-Bars-clause-bytes g c = grind (arith, append_assoc)
-
 pub push_kinds-requires : goal.push_kinds-requires
 push_kinds-requires g c = grind (arith, all_kinds)
 
