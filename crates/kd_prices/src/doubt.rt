@@ -1,3 +1,4 @@
+use kd_card::IllegalAt;
 use kd_state::Why;
 use thiserror::Error;
 
@@ -12,7 +13,7 @@ pub enum Doubt {
     #[error("10 PriceMissing")]
     PriceMissing,
     /// The line is the first that the machine refuses in its turn, for this reason.
-    #[error("13 IllegalAt {0} {1}")]
+    #[error("{}", IllegalAt {line: *.0, why: *.1})]
     IllegalAt(usize, Why),
     /// After the last line the machine doesn't read as the day.
     #[error("14 NotTheSheet")]
