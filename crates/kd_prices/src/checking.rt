@@ -56,7 +56,10 @@ fn judged_by_number(
     requires few { length settings.now ≤ 192 }
     ensures { SaysByNumber machine.now day.now settings.now prices.now result }
 {
-    let walk = walked(machine, day, settings)?;
+    let walk = match walked(machine, day, settings) {
+        Ok(walk) => walk,
+        Err(doubt) => return Err(doubt),
+    };
     if !walk.reached.reads_as(day) {
         return Err(Doubt::NotTheSheet);
     }
