@@ -1,5 +1,5 @@
 -- Kinds: the prices of their things, one for each, and kinds that are read one after another.
-use Rattle.kd_card.proofs.Prelude.{◌≡◌, ◌↔◌, ℕ, ◌+◌, ◌≤◌, List, [], ◌∷◌, length, replicate, refl, sym, ap, ◌∙◌, length-append, arith, unsigned_abs, ◌++◌, map, Option, None, length-replicate, length-map, All-append, All-nil, All-replicate, PricedKind, PriceParts, CableKinds, BarKinds, ByKind, look_rank, counted, prices_of_kinds, AreKinds, look_name, kind_words, kinds_text, cable_kind, pair_kind, bar_kind, row_kind, AreCalled, version_of, how_many, row_kinds, column_kinds, row_prices, column_prices, AreWithinReach, ArePrices, flat_map-append, flat_map-map, Place, One, line_of, Look, Cable, Pair, Bar, Row, Name, Group, group_of, row_name, column_name, price_count, lines_text, price_lines, IsGroup, HaveKinds, with_line, rules, common_steps, map-id, ◌<◌, zero, suc, ◌*◌, take, get_or, subst, append_assoc, All, All-cons, IsPricedKind, IsNextKind, BeginsWithKinds, append-nil, HasNoNext}
+use Rattle.kd_card.proofs.Prelude.{◌≡◌, ◌↔◌, ℕ, ◌+◌, ◌≤◌, List, [], ◌∷◌, length, replicate, refl, sym, ap, ◌∙◌, length-append, arith, unsigned_abs, ◌++◌, map, Option, None, length-replicate, All-append, All-nil, All-replicate, PricedKind, PriceParts, CableKinds, BarKinds, ByKind, look_rank, counted, prices_of_kinds, AreKinds, look_name, kind_words, kinds_text, cable_kind, pair_kind, bar_kind, row_kind, AreCalled, version_of, how_many, row_kinds, column_kinds, row_prices, column_prices, AreWithinReach, ArePrices, flat_map-append, flat_map-map, Place, One, line_of, Look, Cable, Pair, Bar, Row, Name, Group, group_of, row_name, column_name, price_count, lines_text, price_lines, IsGroup, HaveKinds, with_line, rules, common_steps, map-id, ◌<◌, zero, suc, ◌*◌, take, get_or, subst, append_assoc, All, All-cons, IsPricedKind, IsNextKind, BeginsWithKinds, append-nil, HasNoNext}
 use Rattle.{std.proofs.lemmas.Simd.map-map, arrayvec.specs.ArrayVec.ArrayVec}
 use Rattle.kd_card.specs.declared.kinds.{CableKind.CableKind, PairKind.PairKind, BarKind.BarKind, RowKind.RowKind}
 use Rattle.kd_card.proofs.Lines.{line_and_more, is_line}
@@ -151,8 +151,6 @@ called_at name (first ∷ kinds) (suc i) kind inside is called = called_at name 
 pub all_kinds : (floor : ℕ) (kinds : List PricedKind) → AreKinds floor kinds → All IsPricedKind kinds
 all_kinds floor [] are = All-nil IsPricedKind
 all_kinds floor (kind ∷ kinds) are = All-cons IsPricedKind kind kinds are.0 (all_kinds (look_rank kind.look + 1) kinds are.2)
-
-pub ruleset kinds_written = (all_kinds, text_by_kind, append_assoc)
 
 -- ---- kinds, read
 

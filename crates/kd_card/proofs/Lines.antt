@@ -105,6 +105,11 @@ pub value_line : {bytes : List ℕ} (name value rest : List ℕ) → IsWord name
     → bytes ≡ with_line (name ∷ value ∷ []) rest → HasWords bytes (name ∷ value ∷ []) rest
 value_line name value rest named valued e = grind (arith, line_has_words, All-from_recursion)
 
+-- three words
+pub words_in_place : (words : List (List ℕ)) (items : List (Bor (List ℕ))) (a b d : Bor (List ℕ)) → map (λ (word : Bor (List ℕ)). word.now) items ≡ words
+    → length items ≡ 3 → words ≡ (get_or items 0 a).now ∷ (get_or items 1 b).now ∷ (get_or items 2 d).now ∷ []
+words_in_place words items a b d e h = grind (arith, common_steps)
+
 -- ---- prices by their texts
 
 pub fits : (p : ℤ) → unsigned_abs p ≤ 9999 → FitsSigned w16 p
@@ -136,14 +141,14 @@ pub read_price : {E : Type 0} (bs : List ℕ) (r : Result ℤ E) → ParsesSigne
 read_price bs r h price within e = ap result_ok (parse-signed_decimal w16 price bs r (fits price within) (small price within) (sym e) h)
 
 pub only_price : {E : Type 0} (bs : List ℕ) (r : Result ℤ E) (q : ℤ) (test : Bool) → ParsesSigned w16 10 bs r → result_ok r ≡ Some q
-    → unsigned_abs q ≤ 9999 → Decides test (signed_decimal q ≡ bs)
+    → unsigned_abs q ≤ 9999 → Decides test (bs ≡ signed_decimal q)
     → MatchOption (then_some test q)
     ((price : ℤ) → unsigned_abs price ≤ 9999 → signed_decimal price ≢ bs)
     (λ price. (signed_decimal price ≡ bs) × (unsigned_abs price ≤ 9999))
-only_price bs r q true h some near d = (d.0 refl, near)
+only_price bs r q true h some near d = (sym (d.0 refl), near)
 only_price bs r q false h some near d = λ price within e.
     let same : q ≡ price = let read = read_price bs r h price within e in cc in
-    false≢true (d.1 (ap signed_decimal same ∙ e))
+    false≢true (d.1 (sym e ∙ ap signed_decimal (sym same)))
 
 -- ---- words that are prices
 
@@ -202,12 +207,9 @@ pub stops : {F Y : Type 0} (answer : Result Y F) (fault : F) (Good : Y → Type 
     → IsErrAnd answer (λ made. made ≡ fault) → Bad fault → MatchResult answer Good Bad
 stops answer fault Good Bad made bad = let is = err_from_is_err_and answer made in rw (is.1, is.2) bad
 
--- two texts are compared
-pub same_text : {a b : List ℕ} {test : Bool} → test ≡ not (pointwise eqb a b) → test ≡ false → a ≡ b
-same_text {a} {b} is e = (slice_eq-Decides Decides-eqb a b _ refl).0 (not-false _ (sym is ∙ e))
-
-pub other_text : {a b : List ℕ} {test : Bool} → test ≡ not (pointwise eqb a b) → test ≡ true → a ≢ b
-other_text {a} {b} is e same = false≢true (sym (is ∙ ap not ((slice_eq-Decides Decides-eqb a b _ refl).1 same)) ∙ e)
+-- a test has failed
+pub untrue : {P : Type 0} {test : Bool} → Decides test P → test ≡ false → ¬ P
+untrue decides e is = false≢true (sym e ∙ decides.1 is)
 
 pub filled : {text : List ℕ} {test : Bool} → test ≡ eqb (length text) 0 → test ≡ false → text ≢ []
 filled is e none = false≢true (sym e ∙ is ∙ ap (λ t. eqb (length t) 0) none)

@@ -1,7 +1,9 @@
 ghost use Rattle.std.specs.Prelude.{◌≡◌};
 ghost use Rattle.kd_card.specs.CardText.{row_name, column_name, column_word, price_count};
+ghost use Rattle.kd_card.specs.CardFault.{first_text};
 
 use super::look::Name;
+use super::prices::Version;
 
 /// What the prices of a card are of.
 #[derive(Clone, Copy)]
@@ -30,6 +32,17 @@ impl Group {
         match self {
             Group::OfCables => Name::Pair,
             Group::OfBars => Name::Row,
+        }
+    }
+
+    /// The first word of the first line of prices.
+    pub(crate) fn first_text(self, version: Version) -> &'static str
+        ensures { result.now ≡ first_text version self }
+    {
+        match (version, self) {
+            (Version::ByNumber, Group::OfCables) => "CABLES",
+            (Version::ByNumber, Group::OfBars) => "BARS",
+            (Version::ByKind, _) => self.row_name().text(),
         }
     }
 

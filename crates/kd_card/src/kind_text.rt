@@ -10,27 +10,23 @@ ghost use Rattle.kd_card.specs.Reading.{words_behind, EndsAt, IsBadAt};
 use super::fault::CardFault;
 use super::kinds::PricedKind;
 use super::look::{Look, Name};
-use super::price_text::{price_of_text, split_first};
+use super::price_text::{is_word, price_of_text, split_first, three_words};
 use arrayvec::{ArrayString, ArrayVec};
 use itoa::Buffer;
-use kd_state::{number_of_text, push_number, split_words};
+use kd_state::{number_of_text, push_number};
 
 /// No group has more kinds in order, each once: their ranks are below this.
 const MOST: usize = 703;
 
 /// The kind of things of that name whose line has these words behind its first one, which is the name.
-#[tactic(auto, using(crate::proofs::KindWords::four_words))]
 fn kind_behind(name: Name, behind: Option<&[u8]>) -> Option<PricedKind>
     ensures { let words = name_text name ∷ words_behind (option_copied behind.entry) in
         MatchOption result
         ((kind : _) → ¬ (HasKindWords name words kind))
         (λ kind. HasKindWords name words kind) }
 {
-    let words = split_words::<3>(behind?)?;
-    match words.as_slice() {
-        [look, count, price] => kind_of_parts(name, look, count, price),
-        _ => None,
-    }
+    let (look, count, price) = three_words(behind?)?;
+    kind_of_parts(name, look, count, price)
 }
 
 /// The kind, of things of that name, of this look, count and price.
@@ -67,11 +63,8 @@ fn next_kind(
     if text.is_empty() {
         return Ok(None);
     }
-    let (first, behind, rest) = match split_first(text, line) {
-        Ok(found) => found,
-        Err(fault) => return Err(fault),
-    };
-    if first != name.text().as_bytes() {
+    let (first, behind, rest) = split_first(text, line)?;
+    if !is_word(first, name.text()) {
         return Ok(None);
     }
     match kind_behind(name, behind) {

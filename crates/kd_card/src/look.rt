@@ -6,10 +6,8 @@ ghost use Rattle.kd_card.specs.Kinds.{name_text, look_name, look_text, look_rank
 ghost use Rattle.kd_card.specs.Kinds.{reading_rank, AreEnds, IsPairInOrder, IsInForm, HasLook};
 
 use arrayvec::ArrayString;
+use kd_state::push_letter;
 use kd_tables::{Letter, Place, Reading, Standing};
-
-/// The letters in a cable: none, one, or two in alphabetical order.
-type Ends = (Option<Letter>, Option<Letter>);
 
 /// What things are called in the lines of a card.
 #[derive(Clone, Copy)]
@@ -134,8 +132,8 @@ impl Look {
             (λ look. HasLook name text.now look) }
     {
         match name {
-            Name::Cable => Some(Look::Cable(ends_of_text(text)?)),
-            Name::Pair => Some(Look::Pair(pair_of_text(text)?)),
+            Name::Cable => cable_of_text(text),
+            Name::Pair => pair_of_text(text),
             Name::Bar => Some(Look::Bar(Standing::from_text(text)?)),
             Name::Row => {
                 let reading = Reading::from_text(text)?;
@@ -176,42 +174,42 @@ fn text_of_letters(one: Option<Letter>, other: Option<Letter>) -> ArrayString<8>
 {
     let mut text = ArrayString::new();
     match (one, other) {
-        (None, None) => text.push('-'),
-        (Some(letter), None) => text.push(char::from(letter.byte())),
-        (None, Some(letter)) => text.push(char::from(letter.byte())),
+        (None, None) => text.push_str("-"),
+        (Some(letter), None) => push_letter(&mut text, letter),
+        (None, Some(letter)) => push_letter(&mut text, letter),
         (Some(one), Some(other)) => {
-            text.push(char::from(one.byte()));
-            text.push(char::from(other.byte()));
+            push_letter(&mut text, one);
+            push_letter(&mut text, other);
         }
     }
     text
 }
 
-/// The cable's letters of that text.
-fn ends_of_text(text: &[u8]) -> Option<Ends>
+/// The look of that text, of a cable.
+fn cable_of_text(text: &[u8]) -> Option<Look>
     ensures { MatchOption result
-        ((ends : _) → ¬ (HasLook Name.Cable text.now (Look.Cable ends)))
-        (λ ends. HasLook Name.Cable text.now (Look.Cable ends)) }
+        ((look : _) → ¬ (HasLook Name.Cable text.now look))
+        (λ look. HasLook Name.Cable text.now look) }
 {
     match text {
-        [b'-'] => Some((None, None)),
-        [letter] => Some((Some(Letter::from_byte(*letter)?), None)),
+        [b'-'] => Some(Look::Cable((None, None))),
+        [letter] => Some(Look::Cable((Some(Letter::from_byte(*letter)?), None))),
         _ => {
             let (one, other) = two_letters(text)?;
-            Some((Some(one), Some(other)))
+            Some(Look::Cable((Some(one), Some(other))))
         }
     }
 }
 
-/// The pair, or nothing, of that text.
-fn pair_of_text(text: &[u8]) -> Option<Option<(Letter, Letter)>>
+/// The look of that text, of a pair or of nothing.
+fn pair_of_text(text: &[u8]) -> Option<Look>
     ensures { MatchOption result
-        ((pair : _) → ¬ (HasLook Name.Pair text.now (Look.Pair pair)))
-        (λ pair. HasLook Name.Pair text.now (Look.Pair pair)) }
+        ((look : _) → ¬ (HasLook Name.Pair text.now look))
+        (λ look. HasLook Name.Pair text.now look) }
 {
     match text {
-        [b'-'] => Some(None),
-        _ => Some(Some(two_letters(text)?)),
+        [b'-'] => Some(Look::Pair(None)),
+        _ => Some(Look::Pair(Some(two_letters(text)?))),
     }
 }
 

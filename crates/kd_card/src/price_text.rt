@@ -1,5 +1,5 @@
 //! Prices and numbers as they are written, and the first words of their lines.
-ghost use Rattle.std.specs.Prelude.{◌≡◌, ◌≢◌, ◌↔◌, ◌<◌, ◌≤◌, ◌∷◌, ℕ, List, ℤ, map, length, unsigned_abs, All};
+ghost use Rattle.std.specs.Prelude.{◌≡◌, ◌≢◌, ◌↔◌, ◌<◌, ◌≤◌, [], ◌∷◌, ℕ, List, ℤ, map, length, unsigned_abs, All};
 ghost use Rattle.std.specs.Prelude.{IsTrue, MatchOption, MatchResult, Ok, Err};
 ghost use Rattle.std.specs.Option.{option_copied};
 ghost use Rattle.std.specs.Fmt.{signed_decimal};
@@ -24,8 +24,7 @@ fn is_number_text(text: &[u8]) -> bool
     match text {
         [] => false,
         [b'0'] => true,
-        [first, rest @ ..] => matches!(first, b'1'..=b'9')
-            && rest.iter().all(|byte| matches!(byte, b'0'..=b'9')),
+        [first, rest @ ..] => matches!(first, b'1'..=b'9') && rest.iter().all(u8::is_ascii_digit),
     }
 }
 
@@ -51,7 +50,28 @@ pub(crate) fn price_of_text(text: &[u8]) -> Option<i16>
         return None;
     }
     let mut buffer = Buffer::new();
-    (buffer.format(price).as_bytes() == text).then_some(price)
+    is_word(text, buffer.format(price)).then_some(price)
+}
+
+/// Whether the text is the word.
+pub(crate) fn is_word(text: &[u8], word: &str) -> bool
+    ensures { IsTrue result ↔ (text.now ≡ word.now) }
+{
+    text == word.as_bytes()
+}
+
+/// The three words of the text; none where it has another number of them.
+#[tactic(auto, using(crate::proofs::Lines::words_in_place))]
+pub(crate) fn three_words(text: &[u8]) -> Option<(&[u8], &[u8], &[u8])>
+    ensures { MatchOption result
+        ((one two three : List ℕ) → words_of text.now ≢ one ∷ two ∷ three ∷ [])
+        (λ words. words_of text.now ≡ words.0.now ∷ words.1.now ∷ words.2.now ∷ []) }
+{
+    let words = split_words::<3>(text)?;
+    match words.as_slice() {
+        [one, two, three] => Some((one, two, three)),
+        _ => None,
+    }
 }
 
 /// The first word of the first line of the text, what stands behind the space after it, and what follows the line.
@@ -111,12 +131,12 @@ fn group_of_word(word: &[u8], version: Version) -> Option<Group>
         ((group : _) → word.now ≢ first_text version group)
         (λ group. word.now ≡ first_text version group) }
 {
-    match (version, word) {
-        (Version::ByNumber, b"CABLES") => Some(Group::OfCables),
-        (Version::ByNumber, b"BARS") => Some(Group::OfBars),
-        (Version::ByKind, b"CABLE") => Some(Group::OfCables),
-        (Version::ByKind, b"BAR") => Some(Group::OfBars),
-        _ => None,
+    if is_word(word, Group::OfCables.first_text(version)) {
+        Some(Group::OfCables)
+    } else if is_word(word, Group::OfBars.first_text(version)) {
+        Some(Group::OfBars)
+    } else {
+        None
     }
 }
 

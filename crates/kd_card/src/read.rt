@@ -9,12 +9,14 @@ ghost use Rattle.kd_card.specs.CardFault.{SaysNumbered, SaysKinded, SaysAllPrice
 use super::card::Card;
 use super::fault::CardFault;
 use super::kind_text::read_kinds;
-use super::price_text::{first_group, first_word, is_numeral, prices_behind, split_first};
+use super::price_text::{
+    first_group, first_word, is_numeral, is_word, prices_behind, split_first, three_words,
+};
 use super::prices::{Prices, Version};
 use arrayvec::ArrayVec;
 use itoa::Buffer;
 use kd_state::laws::texts_tell_first_parts;
-use kd_state::{Settings, day_of_text, split_setting, split_words};
+use kd_state::{Settings, day_of_text, split_setting};
 
 /// The card whose text this is, and its day.
 pub fn read_card(text: &[u8]) -> Result<(u8, Card), CardFault>
@@ -42,7 +44,7 @@ pub fn read_card(text: &[u8]) -> Result<(u8, Card), CardFault>
 }
 
 /// What stands behind the name, as the first word of the first line of the text, and what follows that line.
-fn split_value<'a>(text: &'a [u8], name: &[u8]) -> Option<(&'a [u8], &'a [u8])>
+fn split_value<'a>(text: &'a [u8], name: &str) -> Option<(&'a [u8], &'a [u8])>
     ensures { MatchOption result
         ((word : List ℕ) (words : List (List ℕ)) (rest : List ℕ) →
         ¬ (HasWords text.now (name.now ∷ word ∷ words) rest))
@@ -50,7 +52,7 @@ fn split_value<'a>(text: &'a [u8], name: &[u8]) -> Option<(&'a [u8], &'a [u8])>
 {
     texts_tell_first_parts();
     let (first, behind, rest) = first_word(text)?;
-    if first != name {
+    if !is_word(first, name) {
         return None;
     }
     Some((behind?, rest))
@@ -63,7 +65,7 @@ fn read_head(text: &[u8]) -> Option<(Version, u8, &[u8])>
         ((version : _) (day : ℕ) (rest : List ℕ) → ¬ (BeginsWithHead text.now version day rest))
         (λ found. BeginsWithHead text.now found.0 found.1 found.2.now) }
 {
-    let (behind, rest) = split_value(text, b"CARD")?;
+    let (behind, rest) = split_value(text, "CARD")?;
     let (version, day) = head_behind(behind)?;
     Some((version, day, rest))
 }
@@ -75,21 +77,8 @@ fn head_behind(behind: &[u8]) -> Option<(Version, u8)>
         head_words version day ≢ codes "CARD" ∷ words_of behind.now)
         (λ head. (head_words head.0 head.1 ≡ codes "CARD" ∷ words_of behind.now) × IsDayNumber head.1) }
 {
-    let words = split_words::<3>(behind)?;
-    match words.as_slice() {
-        [version, name, day] => head_of_parts(version, name, day),
-        _ => None,
-    }
-}
-
-/// What the prices are by, and the day, by the three words that say it.
-fn head_of_parts(version: &[u8], name: &[u8], day: &[u8]) -> Option<(Version, u8)>
-    ensures { let words = codes "CARD" ∷ version.now ∷ name.now ∷ day.now ∷ [] in
-        MatchOption result
-        ((version : _) (day : ℕ) → IsDayNumber day → head_words version day ≢ words)
-        (λ head. (head_words head.0 head.1 ≡ words) × IsDayNumber head.1) }
-{
-    if name != b"DAY".as_slice() {
+    let (version, name, day) = three_words(behind)?;
+    if !is_word(name, "DAY") {
         return None;
     }
     Some((version_of_text(version)?, day_of_text(day)?))
@@ -135,8 +124,7 @@ fn read_count(text: &[u8], count: usize) -> Result<&[u8], CardFault>
         (λ fault. SaysNumber count text.now (Err fault)) }
 {
     let mut buffer = Buffer::new();
-    let due = buffer.format(count).as_bytes();
-    read_value(text, b"SETTINGS", due, false, count + 2)
+    read_value(text, "SETTINGS", buffer.format(count), false, count + 2)
 }
 
 /// What follows the line with that sum, which is that of this number.
@@ -147,14 +135,14 @@ fn read_sum(text: &[u8], sum: i32, line: usize) -> Result<&[u8], CardFault>
         (λ fault. SaysSum sum line text.now (Err fault)) }
 {
     let mut buffer = Buffer::new();
-    read_value(text, b"SUM", buffer.format(sum).as_bytes(), true, line)
+    read_value(text, "SUM", buffer.format(sum), true, line)
 }
 
 /// What follows the line with that name and that number, as it is written; the line is that of this number.
 fn read_value<'a>(
     text: &'a [u8],
-    name: &[u8],
-    due: &[u8],
+    name: &str,
+    due: &str,
     signed: bool,
     line: usize,
 ) -> Result<&'a [u8], CardFault>
@@ -168,7 +156,7 @@ fn read_value<'a>(
     if !is_numeral(number, signed) {
         return Err(CardFault::BadLine(line));
     }
-    if number != due {
+    if !is_word(number, due) {
         return Err(CardFault::CountWrong);
     }
     Ok(rest)
@@ -197,8 +185,7 @@ fn read_numbered(text: &[u8], line: usize) -> Result<(Prices, &[u8]), CardFault>
     let (group, behind, rest) = first_group(text, Version::ByNumber, line)?;
     let number = group.number();
     let rows = prices_behind(behind, number, line)?;
-    let word = group.column_text().as_bytes();
-    let (columns, rest) = read_price_line(rest, word, number, line + 1)?;
+    let (columns, rest) = read_price_line(rest, group.column_text(), number, line + 1)?;
     let prices = Prices::numbered(group, rows.as_slice(), columns.as_slice());
     Ok((prices, rest))
 }
@@ -224,7 +211,7 @@ fn read_kinded(text: &[u8], line: usize) -> Result<(Prices, &[u8]), CardFault>
 /// The prices behind the word in the first line of the text, which is that of this number, and what follows it.
 fn read_price_line<'a>(
     text: &'a [u8],
-    word: &[u8],
+    word: &str,
     number: usize,
     line: usize,
 ) -> Result<(ArrayVec<i16, 27>, &'a [u8]), CardFault>
@@ -235,7 +222,7 @@ fn read_price_line<'a>(
         (λ fault. says (Err fault)) }
 {
     let (first, behind, rest) = split_first(text, line)?;
-    if first != word {
+    if !is_word(first, word) {
         return Err(CardFault::PriceMissing);
     }
     Ok((prices_behind(behind, number, line)?, rest))

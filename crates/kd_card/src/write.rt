@@ -70,8 +70,9 @@ fn push_settings<const N: usize>(text: &mut ArrayString<N>, settings: &[Setting]
     ensures len { array_string_len text.new ≤ array_string_len text.old + 24 * length settings.now }
     ensures in_range { All IsInRange settings.now }
 {
-    for setting in settings {
-        push_setting(text, setting);
+    if let [first, rest @ ..] = settings {
+        push_setting(text, first);
+        push_settings(text, rest);
     }
 }
 
@@ -99,7 +100,6 @@ fn push_count<const N: usize>(text: &mut ArrayString<N>, count: usize)
 }
 
 /// Appends the lines of the prices.
-#[tactic(auto, using(crate::proofs::KindPrices::kinds_written))]
 fn push_prices<const N: usize>(text: &mut ArrayString<N>, prices: &Prices)
     requires { array_string_len text.old + 1296 ≤ N }
     ensures bytes { text.new.bytes ≡ text.old.bytes ++ lines_text (price_lines prices.now) }

@@ -85,16 +85,18 @@ fn are_counted(looks: &[Look], kinds: &[PricedKind]) -> bool
 fn is_counted(looks: &[Look], kind: &PricedKind) -> bool
     ensures { IsTrue result ↔ HasCount looks.now kind.now }
 {
-    usize::from(kind.count) == alike_count(kind.look, looks)
+    usize::from(kind.count) == alike_count(&kind.look, looks)
 }
 
 /// How many of the looks are this one.
-pub(crate) fn alike_count(look: Look, looks: &[Look]) -> usize
-    ensures value { result ≡ proving.alike_count look looks.now }
+pub(crate) fn alike_count(look: &Look, looks: &[Look]) -> usize
+    ensures value { result ≡ proving.alike_count look.now looks.now }
     ensures few { result ≤ length looks.now }
 {
-    let rank = look.rank();
-    looks.iter().filter(|other| other.rank() == rank).count()
+    match looks {
+        [] => 0,
+        [other, rest @ ..] => usize::from(other.rank() == look.rank()) + alike_count(look, rest),
+    }
 }
 
 /// The price of the kind that looks so.

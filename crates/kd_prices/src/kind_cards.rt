@@ -143,7 +143,7 @@ fn kind_at(place: usize, looks: &[Look], prices: &[i16]) -> PricedKind
     requires each { length prices.now ≡ length looks.now }
     ensures { IsKindAt looks.now prices.now place result }
 {
-    let count = alike_count(looks[place], looks) as u8;
+    let count = alike_count(&looks[place], looks) as u8;
     PricedKind {
         look: looks[place],
         count,

@@ -1,5 +1,5 @@
 //! How many things of a machine differ from a day, cables and bars apart.
-ghost use Rattle.std.specs.Prelude.{◌≡◌, ◌≤◌, length, nat_eq, false, not, zip, map, sum, count_by};
+ghost use Rattle.std.specs.Prelude.{◌≡◌, ◌+◌, ◌*◌, ◌≤◌, length, nat_eq, false, not, zip, map, sum, count_by};
 ghost use Rattle.std.specs.Option.{option_map_or};
 ghost use Rattle.kd_pins.specs.PinWheels.{pins_of};
 ghost use Rattle.kd_state.specs.ToldApart.{same_wheel, same_reflector};
@@ -38,8 +38,7 @@ fn loose_in_rotors(machine: &Machine, parts: &RotorParts, entry: &RotorEntry) ->
     let wheels = entry.wheels.as_slice();
     loose_slots(parts.slots.as_slice(), wheels)
         + loose_reflector(parts.reflector, entry.reflector)
-        + loose_rings(machine, wheels)
-        + loose_letters(machine, wheels)
+        + loose_in_box(machine, wheels)
 }
 
 /// How many slots hold another wheel than the day's, or none.
@@ -49,11 +48,13 @@ fn loose_slots(slots: &[Option<Wheel>], wheels: &[SheetWheel]) -> usize
         (zip slots.now wheels.now) }
     ensures few { result ≤ length wheels.now }
 {
-    slots
-        .iter()
-        .zip(wheels)
-        .filter(|(seated, wheel)| !is_seated(**seated, wheel.wheel))
-        .count()
+    let [seated, slots @ ..] = slots else {
+        return 0;
+    };
+    let [wheel, wheels @ ..] = wheels else {
+        return 0;
+    };
+    usize::from(!is_seated(*seated, wheel.wheel)) + loose_slots(slots, wheels)
 }
 
 /// Whether it is the wheel that is seated.
@@ -71,30 +72,21 @@ fn loose_reflector(reflector: Reflector, other: Reflector) -> usize
     if reflector == other { 0 } else { 1 }
 }
 
-/// How many of the day's wheels have another ring, wherever they lie.
-fn loose_rings(machine: &Machine, wheels: &[SheetWheel]) -> usize
-    ensures value { result ≡ count_by
-        (λ w. not (option_map_or (nat_eq w.ring) (ring_in machine.now w.wheel) false))
-        wheels.now }
-    ensures few { result ≤ length wheels.now }
+/// How many of the day's wheels have another ring, and how many another window letter, wherever they lie.
+fn loose_in_box(machine: &Machine, wheels: &[SheetWheel]) -> usize
+    ensures value { result
+        ≡ count_by (λ w. not (option_map_or (nat_eq w.ring) (ring_in machine.now w.wheel) false)) wheels.now
+        + count_by (λ w. not (option_map_or (nat_eq w.letter) (letter_in machine.now w.wheel) false)) wheels.now }
+    ensures few { result ≤ 2 * length wheels.now }
 {
-    wheels
-        .iter()
-        .filter(|seated| !is_letter(machine.ring(seated.wheel), seated.ring))
-        .count()
-}
-
-/// How many of the day's wheels have another window letter, wherever they lie.
-fn loose_letters(machine: &Machine, wheels: &[SheetWheel]) -> usize
-    ensures value { result ≡ count_by
-        (λ w. not (option_map_or (nat_eq w.letter) (letter_in machine.now w.wheel) false))
-        wheels.now }
-    ensures few { result ≤ length wheels.now }
-{
-    wheels
-        .iter()
-        .filter(|seated| !is_letter(machine.letter(seated.wheel), seated.letter))
-        .count()
+    match wheels {
+        [] => 0,
+        [seated, rest @ ..] => {
+            let ring = !is_letter(machine.ring(seated.wheel), seated.ring);
+            let letter = !is_letter(machine.letter(seated.wheel), seated.letter);
+            usize::from(ring) + usize::from(letter) + loose_in_box(machine, rest)
+        }
+    }
 }
 
 /// Whether it is the letter that is set.
@@ -132,10 +124,13 @@ fn pins_apart(pins: &[bool], others: &[bool]) -> usize
     ensures value { result ≡ count_by (λ pin. differ pin.0 pin.1) (zip pins.now others.now) }
     ensures few { result ≤ length pins.now }
 {
-    pins.iter()
-        .zip(others)
-        .filter(|(pin, other)| pin != other)
-        .count()
+    let [pin, pins @ ..] = pins else {
+        return 0;
+    };
+    let [other, others @ ..] = others else {
+        return 0;
+    };
+    usize::from(*pin != *other) + pins_apart(pins, others)
 }
 
 /// How many pin wheels show another letter.
@@ -144,9 +139,11 @@ fn loose_shown(letters: &[Letter], others: &[Letter]) -> usize
         (λ letter. not (nat_eq letter.0 letter.1)) (zip letters.now others.now) }
     ensures few { result ≤ length letters.now }
 {
-    letters
-        .iter()
-        .zip(others)
-        .filter(|(letter, other)| letter != other)
-        .count()
+    let [letter, letters @ ..] = letters else {
+        return 0;
+    };
+    let [other, others @ ..] = others else {
+        return 0;
+    };
+    usize::from(*letter != *other) + loose_shown(letters, others)
 }

@@ -1,4 +1,4 @@
-use Rattle.kd_card.proofs.Prelude.{rules, ◌≡◌, ◌<◌, ◌≤◌, ◌∙◌, sym, ap, subst, unsigned_abs, Decides, w16, to_z, of_z, arith, signed_decimal, then_some, Decides-eqb, to_z-of_z, slice_eq-Decides, ok_part}
+use Rattle.kd_card.proofs.Prelude.{rules, ◌≡◌, ◌<◌, ◌≤◌, ◌∙◌, sym, ap, subst, unsigned_abs, Decides, w16, to_z, of_z, arith, signed_decimal, then_some, to_z-of_z, ok_part}
 use Rattle.kd_card.proofs.Lines.{no_text, read_price, only_price}
 use Rattle.kd_card.proofs.price_text.price_of_text.Goals as goal
 
@@ -30,8 +30,7 @@ returns c =
     let parsed = rw text.0 at c.parse.ensures.value.0 in
     let same : to_z w16 (of_z w16 c.in_ok-price.price) ≡ c.in_ok-price.price = to_z-of_z w16 c.in_ok-price.price (search rules) in
     let near : unsigned_abs c.in_ok-price.price ≤ 9999 = omega (arith, c.unsigned_abs.ensures.value, ap unsigned_abs same, c.if-unsigned_abs-gt9999.false) in
-    let compared = slice_eq-Decides Decides-eqb c.as_bytes.result.now c.args.text.now c.eq.result c.eq.ensures in
     let decided =
-    subst (λ bs. Decides c.eq.result (bs ≡ c.args.text.now)) (c.as_bytes.ensures.value ∙ c.format.ensures.text ∙ ap signed_decimal same) compared in
-    rw (c.then_some.ensures ∙ ap (then_some c.eq.result) same)
-    (only_price c.args.text.now c.parse.result c.in_ok-price.price c.eq.result parsed (sym c.in_ok-price.ensures.value) near decided)
+    subst (λ word. Decides c.is_word.result (c.args.text.now ≡ word)) (c.format.ensures.text ∙ ap signed_decimal same) c.is_word.ensures in
+    rw (c.then_some.ensures ∙ ap (then_some c.is_word.result) same)
+    (only_price c.args.text.now c.parse.result c.in_ok-price.price c.is_word.result parsed (sym c.in_ok-price.ensures.value) near decided)

@@ -1,6 +1,4 @@
 use Rattle.kd_card.proofs.read.read_count.Goals as goal
 
 pub returns : goal.returns
-returns c =
-    rw (c.as_bytes-due.ensures.value, c.format.ensures.text) at
-    c.read_value.ensures
+returns c = rw c.format.ensures.text at c.read_value.ensures

@@ -13,10 +13,10 @@ pub returns-in_err-columns : goal.returns-in_err-columns
 returns-in_err-columns c =
     stops _ _ _ _ c.from_residual-in_err-columns.ensures.1
     (Found _ (Found _ c.in_ok-group.ensures (Found _ (rw c.number-number.ensures at c.in_ok-rows.ensures) refl))
-    (Refused _ (rw (c.as_bytes-word.ensures.value, c.column_text.ensures, c.number-number.ensures) at c.in_err-columns.ensures) refl))
+    (Refused _ (rw (c.column_text.ensures, c.number-number.ensures) at c.in_err-columns.ensures) refl))
 
 pub returns : goal.returns
 returns c =
     rw (c.numbered-prices.ensures.value, c.as_slice.ensures.value, c.as_slice-2.ensures.value)
     (Found _ (Found _ c.in_ok-group.ensures (Found _ (rw c.number-number.ensures at c.in_ok-rows.ensures) refl))
-    (Found _ (rw (c.as_bytes-word.ensures.value, c.column_text.ensures, c.number-number.ensures) at c.in_ok-columns.ensures) refl))
+    (Found _ (rw (c.column_text.ensures, c.number-number.ensures) at c.in_ok-columns.ensures) refl))

@@ -1,5 +1,5 @@
 use Rattle.kd_card.proofs.Prelude.{◌∙◌, [], ◌∷◌, sym, ap, drop, subst, false≢true, line_of, IsNumeral, with_line, parts_make_lines}
-use Rattle.kd_card.proofs.Lines.{value_line, same_words, is_line, words_of_last, same_text, other_text, numeral_word, value_says, other_value, no_value}
+use Rattle.kd_card.proofs.Lines.{value_line, same_words, is_line, words_of_last, untrue, numeral_word, value_says, other_value, no_value}
 use Rattle.kd_card.proofs.read.read_value.Goals as goal
 
 pub returns-in_default : goal.returns-in_default
@@ -16,19 +16,19 @@ returns-then-not-is_numeral c =
     let number = same ∙ parts_make_lines c.in-Some.number.now in
     false≢true (sym c.if-not-is_numeral.true ∙ c.is_numeral.ensures.1 (subst (IsNumeral c.args.signed) number form)))
 
-pub returns-then-ne : goal.returns-then-ne
-returns-then-ne c =
+pub returns-then-not-is_word : goal.returns-then-not-is_word
+returns-then-not-is_word c =
     let number = c.in-Some.number.now in
     let form = c.is_numeral.ensures.0 c.if-not-is_numeral.false in
     other_value c.args.signed c.args.name.now c.args.due.now c.args.line number c.in-Some.rest.now form
     (is_line (rw (words_of_last number (numeral_word c.args.signed number form).spaceless) at c.in-Some.ensures))
-    (other_text c.ne.ensures c.if-ne.true)
+    (untrue c.is_word.ensures c.if-not-is_word.true)
 
 pub returns : goal.returns
 returns c =
     let number = c.in-Some.number.now in
     let form = c.is_numeral.ensures.0 c.if-not-is_numeral.false in
-    let due = same_text c.ne.ensures c.if-ne.false in
+    let due = c.is_word.ensures.0 c.if-not-is_word.false in
     value_says c.args.signed c.args.name.now c.args.due.now c.args.line (subst (IsNumeral c.args.signed) due form)
     (is_line (rw (words_of_last number (numeral_word c.args.signed number form).spaceless) at c.in-Some.ensures)
     ∙ ap (λ n. with_line (c.args.name.now ∷ n ∷ []) c.in-Some.rest.now) due)
