@@ -13,9 +13,6 @@ in_each_order cables = map (λ cable. ordered cable.0 cable.1) cables
 two_ordered : (a b : ℕ) → ordered (Some a) (Some b) ≡ (Some a, Some b) → eqb a b ≡ false → a < b
 two_ordered a b e apart = grind (arith, nat_tests)
 
-abbrev first_end : Option ℕ × Option ℕ → Option ℕ
-first_end ends = ends.0
-
 cables_in_form : (cables : List (Option ℕ × Option ℕ)) → in_each_order cables ≡ cables
     → AllByRecursion (λ letter. letter < 26) (plugged_letters cables)
     → IsDistinct eqb (plugged_letters cables) → AllByRecursion IsInForm (map (λ ends. Cable ends) cables)

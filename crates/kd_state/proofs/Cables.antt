@@ -115,10 +115,6 @@ letters_of_pairs (cable ∷ cables) h = absurd (h.0 refl)
 pub no_letter_twice : (cables : List (Option ℕ × Option ℕ)) → AreCables cables → All (λ cable. length (cable_letters cable) ≢ 1) cables → NoLetterTwice (pairs_of cables)
 no_letter_twice cables h whole = grind (arith, letters_of_pairs, recursion_from_All)
 
--- one of two, and of one
-pub of_two : (a b x : ℕ) → Contains (a ∷ b ∷ []) x → (x ≡ a) ⊎ (x ≡ b)
-of_two a b x e = grind arith
-
 pub of_one : (a x : ℕ) → Contains (a ∷ []) x → x ≡ a
 of_one a x e = grind arith
 

@@ -31,9 +31,6 @@ joined_counts : (f : Bool → Bool → Bool) → ((a b : Bool) → once (f a b) 
 joined_counts f fits p q [] = omega arith
 joined_counts f fits p q (x ∷ xs) = search (rules, count_by-cons, p, q, fits, joined_counts f fits p q xs)
 
-either_fits : (a b : Bool) → once (a || b) ≤ once a + once b
-either_fits a b = grind arith
-
 differ_fits : (a b : Bool) → once (differ a b) ≤ once a + once b
 differ_fits a b = grind arith
 

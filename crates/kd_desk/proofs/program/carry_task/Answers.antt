@@ -1,4 +1,4 @@
-use Rattle.kd_desk.proofs.{Prelude.false, Prelude.opened, Runs.{by_port, nothing_left, refused_before}}
+use Rattle.kd_desk.proofs.{Prelude.false, Prelude.opened, Runs.{nothing_left, refused_before}}
 use Rattle.kd_desk.proofs.program.carry_task.Goals as goal
 
 pub returns-in-Card-clause-does : goal.returns-in-Card-clause-does
@@ -30,9 +30,3 @@ returns-in-Check-clause-untouched g c = λ early. c.run_check.ensures.untouched 
 pub returns-in-Message-clause-untouched : goal.returns-in-Message-clause-untouched
 returns-in-Message-clause-untouched g c =
     λ early. (c.carry_message-done.ensures.untouched (refused_before _ _ _ c.after_file.ensures early)).1
-
-pub returns-in-Card-clause-failed : goal.returns-in-Card-clause-failed
-returns-in-Card-clause-failed g c = rw (by_port _ _ c.after.ensures) c.run_card.ensures.failed
-
-pub returns-in-Check-clause-failed : goal.returns-in-Check-clause-failed
-returns-in-Check-clause-failed g c = rw (by_port _ _ c.after-in-Check.ensures) c.run_check.ensures.failed
