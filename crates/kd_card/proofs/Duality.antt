@@ -64,8 +64,7 @@ module _ {A C : Type 0} (R : A → C → Type 0) where
   -- where the first kind is put in another order, so can the second be
   pub reordered : (xs others : List A) (ys : List C) → IsPermutation xs others → AllZip R xs ys → Reordered ys others
   reordered xs others ys order h =
-      IsPermutation-keeps xs (Reordered ys) (ys, IsPermutation-refl ys, h)
-      (λ l i j hi hj kept.
+      IsPermutation-keeps xs (Reordered ys) (ys, IsPermutation-refl ys, h) (λ l i j hi hj kept.
       let same = AllZip-long R l kept.0 kept.2 in (
         lists.swap kept.0 i j,
         IsPermutation-trans ys kept.0 (lists.swap kept.0 i j) kept.1 (IsPermutation-swap kept.0 (lists.swap kept.0 i j) i j (omega arith) (omega arith) refl),

@@ -301,8 +301,7 @@ none_wrong seen wanted (w ∷ wheels) h =
 
 rotor_not_loose : (n : RotorParts) (s : RotorDay) → ReadsAs (Rotor n) (OfRotors s) → loose_count (Rotor n) (OfRotors s) ≡ 0
 rotor_not_loose n s h =
-    let slots : loose_slots n s ≡ 0 =
-    ap (λ slots. count_by wrong_slot (zip slots s.wheels)) h.key.slots
+    let slots : loose_slots n s ≡ 0 = ap (λ slots. count_by wrong_slot (zip slots s.wheels)) h.key.slots
     ∙ zip_none (λ slot. cond (wrong_slot slot) 1 0) (λ w. Some w.wheel) (λ w. ap (λ b. cond (not b) 1 0) (itself (wheel_text w.wheel))) s.wheels in
     let reflector : loose_reflector n s ≡ 0 = ap (λ reflector. unless_same (same_reflector reflector s.reflector)) h.key.reflector ∙ ap unless_same (itself (reflector_text s.reflector)) in
     let rings : loose_rings n s ≡ 0 = none_wrong (λ w. ring_at n w.wheel) (λ w. w.ring) s.wheels (recursion_from_All (λ (w : SheetWheel). ring_at n w.wheel ≡ Some w.ring) s.wheels h.key.rings) in
@@ -314,8 +313,7 @@ no_pin_wrong pins = self_none (λ (pin : Bool × Bool). cond (differ pin.0 pin.1
 
 pin_not_loose : (n : PinParts) (s : PinDay) → ReadsAs (Pin n) (OfPins s) → loose_count (Pin n) (OfPins s) ≡ 0
 pin_not_loose n s h =
-    let pins : loose_pins n s ≡ 0 =
-    ap (λ pins. sum (map differing (zip (pins_of pins) (pins_of s.pins)))) h.key.pins
+    let pins : loose_pins n s ≡ 0 = ap (λ pins. sum (map differing (zip (pins_of pins) (pins_of s.pins)))) h.key.pins
     ∙ sum-map differing (zip (pins_of s.pins) (pins_of s.pins)) ∙ self_none differing no_pin_wrong (pins_of s.pins) in
     let letters : loose_pin_letters n s ≡ 0 =
     ap (λ letters. count_by (λ (letter : ℕ × ℕ). not (nat_eq letter.0 letter.1)) (zip letters s.window)) h.window

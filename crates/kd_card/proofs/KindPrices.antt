@@ -19,8 +19,7 @@ reach_of_kinds floor (kind ∷ kinds) are =
 -- each kind is of one thing at least
 pub few_kinds : (floor : ℕ) (kinds : List PricedKind) → AreKinds floor kinds → length kinds ≤ counted kinds
 few_kinds floor [] are = omega arith
-few_kinds floor (kind ∷ kinds) are =
-    omega (arith, few_kinds (look_rank kind.look + 1) kinds are.2)
+few_kinds floor (kind ∷ kinds) are = omega (arith, few_kinds (look_rank kind.look + 1) kinds are.2)
 
 -- prices by kind that may stand on a card
 pub prices_of : (parts : PriceParts) → version_of parts ≡ ByKind

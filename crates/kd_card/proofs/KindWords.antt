@@ -40,8 +40,7 @@ look_is_word : (look : Look) → IsWord (look_text look)
 look_is_word look = grind (arith, bytes_are_word, word_by_bytes, length-append, standing_above)
 
 pub kind_is_words : (kind : PricedKind) → IsPricedKind kind → All IsWord (kind_words kind)
-kind_is_words kind good =
-    grind (arith, All-from_recursion, name_is_word, look_is_word, numbers_are_words, signed_word)
+kind_is_words kind good = grind (arith, All-from_recursion, name_is_word, look_is_word, numbers_are_words, signed_word)
 
 -- ---- looks by their texts
 
@@ -59,8 +58,7 @@ place_without p = All-weaker (λ b. 45 < b) (λ b. b ≢ 45) (λ b above same. o
 
 same_standing : (a b c d : Place) → look_text (Bar (a, b)) ≡ look_text (Bar (c, d)) → Bar (a, b) ≡ Bar (c, d)
 same_standing a b c d e =
-    let parts =
-    texts_tell_first_parts 45 (place_text a) (place_text c) _ _ (place_without a) (place_without c)
+    let parts = texts_tell_first_parts 45 (place_text a) (place_text c) _ _ (place_without a) (place_without c)
     (sym (append_assoc (place_text a) (codes "-") (place_text b)) ∙ e ∙ append_assoc (place_text c) (codes "-") (place_text d)) in
     alike (λ m n. Bar (m, n)) (same_place a c parts.0) (same_place b d parts.1)
 

@@ -259,8 +259,7 @@ first_is_word kind = grind (arith, word_by_test)
 pub prices_are_words : (word : List ℕ) (prices : List ℤ) → IsWord word → AreWithinReach prices
     → All IsWord (price_words word prices)
 prices_are_words word prices w reach =
-    All-cons IsWord word (map signed_decimal prices) w
-    (All-map IsWord signed_decimal prices
+    All-cons IsWord word (map signed_decimal prices) w (All-map IsWord signed_decimal prices
     (All-weaker (λ price. unsigned_abs price ≤ 9999) (λ price. IsWord (signed_decimal price))
     (λ price within. signed_word price (omega (arith, within))) prices reach))
 

@@ -305,8 +305,7 @@ bounds (Rotor m) (Rotor n) (OfRotors s) (Cables row column) settings machine leg
     let falling = list_lowers pairing.beside [] (OfRotors s) legal (Rotor m) (Rotor n) settings same leads in
     bounded (None, None) None cable_cost m.cables (columns_of s.pairs) (Cables row column)
     (loose_count (Rotor m) (OfRotors s)) (length settings) at_first.count (thirteen_columns s.pairs legal.pairs.few) are
-    fits pairing.beside pairing.order
-    (omega (arith, falling, pairing.free, nothing_loose (Rotor n) (OfRotors s) reads))
+    fits pairing.beside pairing.order (omega (arith, falling, pairing.free, nothing_loose (Rotor n) (OfRotors s) reads))
 bounds (Pin m) (Pin n) (OfPins s) (Bars row column) settings machine legal are kind fits leads reads =
     let at_first = machines_have_all (Pin m) machine.legal in
     let at_last = list_keeps (Pin m) (Pin n) settings leads at_first in

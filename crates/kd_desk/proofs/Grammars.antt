@@ -27,10 +27,7 @@ first_word new old is local made = record {
 pub one_word_more : {name : List ℕ} {words : List (Bor (List ℕ))} {old new : Command} (word : Arg) (more : Bor (List ℕ))
     → IsMadeOf old name words → rule_of word ≡ new_rule more.now → word.global ≡ false → AddsArg old word new
     → IsMadeOf new name (words ++ more ∷ [])
-one_word_more word more has rule local adds = record {
-  shape = grind (arith, map-append);
-  local = grind arith;
-}
+one_word_more word more has rule local adds = record { shape = grind (arith, map-append); local = grind arith }
 
 -- a command more, with these words
 pub one_command_more : {name : List ℕ} {words : List (Bor (List ℕ))} {app : App} {old sub new : Command} → app_of old ≡ app

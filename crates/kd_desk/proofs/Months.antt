@@ -108,8 +108,7 @@ papers_for keep ready cipher equal read_back m n s machine legal planned card pl
     file sheet month of_file of_sheet of_month =
     let back = read_back n (keep m n card.settings.items machine is_card.in_range leads) in
     let prints = printed keep ready cipher equal m s machine legal planned card plans kinds
-    text day (taken text) well number is_card
-    (in_whole text (taken text) refl) in
+    text day (taken text) well number is_card (in_whole text (taken text) refl) in
     let applies : Applies m text (taken (machine_text n)) well =
     Carried card.settings.items n (settings_of text day card.settings.items card.prices is_card) leads back
     (in_whole (machine_text n) (taken (machine_text n)) refl) in (

@@ -1,8 +1,7 @@
 -- Files that are read one after another, and what the program answers to a command.
 use Rattle.kd_desk.specs.{Program.is_stopped_before, Program.is_stopped_by_port, Stops.stop_after}
 use Rattle.kd_desk.specs.{RunSteps.is_device, RunSteps.is_refused_before}
-use Rattle.kd_desk.specs.declared.fault.DeskFault.{DeskFault}
-use Rattle.kd_desk.specs.declared.fault.DeskFault.TheVariants.{Device}
+use Rattle.{kd_desk.specs.declared.fault.DeskFault.DeskFault, kd_desk.specs.declared.fault.DeskFault.TheVariants.Device}
 use Rattle.kd_desk.{proofs.Failing.err_is, proofs.SaidCommands.same_command, specs.CommandLine.desk_grammar}
 use Rattle.{kd_desk.specs.declared.files.fault.FileFault.FileFault, std.proofs.Common.arith}
 use Rattle.kd_desk.proofs.Prelude.{◌≡◌, ℕ, suc, Bool, true, false, List, [], ◌∷◌, ◌++◌, take, Option, Some, None, IfSome, IsSomeAnd, Result, Ok, Err, IsErr, IsErrAnd, IsTrue, is_ok, refl, sym, ap, ◌∙◌, subst, inl, inr, append_assoc, Row, subcommand_of, Stop, Unread, Named, IsOf, Says, KnownCommand, command_over, AskFor, CarriesOut, IsDone, has_read, Gives, Opened, Port}

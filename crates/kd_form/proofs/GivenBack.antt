@@ -65,8 +65,7 @@ gives_pieces : (size : ℕ) (whole : List (List ℕ) → List ℕ) → 0 < size 
     → (letters : List ℕ) → AreOfTheAlphabet letters → Gives (whole (pieces size letters)) letters
 gives_pieces size whole large none step letters =
     by_length size (λ letters. AreOfTheAlphabet letters → Gives (whole (pieces size letters)) letters) large
-    (λ are. rw (pieces-none size large, none) gives_none)
-    (λ letters some rest are.
+    (λ are. rw (pieces-none size large, none) gives_none) (λ letters some rest are.
     rw (pieces-next size letters large some) (subst (Gives (whole (take size letters ∷ pieces size (drop size letters)))) (take-append-drop size letters)
     (step (take size letters) (pieces size (drop size letters)) (drop size letters) (All-take (λ l. l < 26) size letters are)
     (rest (All-drop (λ l. l < 26) size letters are))))) (length letters) letters (omega arith)

@@ -324,14 +324,12 @@ letters_word letters some = grind (arith, common_steps, word_by_bytes, lower, le
 
 fraction_word : (part parts : ℕ) → part < 2 ^ 64 → parts < 2 ^ 64 → IsWord (fraction part parts)
 fraction_word part parts small few =
-    word_by_bytes (fraction part parts)
-    (λ none. omega (
+    word_by_bytes (fraction part parts) (λ none. omega (
       arith,
       ap length none,
       length-append (decimal part ++ codes "/") (decimal parts),
       length-append (decimal part) (codes "/"),
-    ))
-    (lower 47 33 (fraction part parts) (omega arith) (fraction_from part parts small few))
+    )) (lower 47 33 (fraction part parts) (omega arith) (fraction_from part parts small few))
 
 line_words : (s : Day) (found : Option ℕ) (h : Heading) (line : List ℕ) → MatchOption found (HasPins s) (HasSlots s)
     → IsHeading s h → line_of (heading_words h) ≡ line → words_of line ≡ heading_words h

@@ -134,8 +134,7 @@ module _ (s : Day) (keys : List Keys) (line order : List ℕ) (is : IsHeadRead s
 
   pub text_head : (more : List ℕ) → IsEnded (codes "TEXT") (line ++ more) → IsHead s keys (order ++ more)
   text_head more ended =
-      let lines =
-      rw (append-nil keys) at
+      let lines = rw (append-nil keys) at
       (lines_more (IsEnded (codes "TEXT")) s more keys [] order (λ rest same. rw same ended) is.lines) in
       record { lines = lines; few = is.few }
 

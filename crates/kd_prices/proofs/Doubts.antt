@@ -73,18 +73,15 @@ module _ (m : Parts) (s : Day) (settings : List Setting) where
 module _ (one : LeadsToOne) (m : Parts) (s : Day) (settings : List Setting) (prices : PriceParts) where
   pub only_checked : IsOnly (SaysChecked m s settings prices)
   only_checked =
-      only_then (only_demands _ _)
-      (λ same model. only_then (only_finds _ (one_expansion m s prices))
-      (λ numbered expands. only_then (only_carried one m settings)
-      (λ n leads. only_then (only_demands _ _)
+      only_then (only_demands _ _) (λ same model. only_then (only_finds _ (one_expansion m s prices))
+      (λ numbered expands. only_then (only_carried one m settings) (λ n leads. only_then (only_demands _ _)
       (λ reads same. only_then (only_fits (cost_table m s) numbered)
       (λ fits are. only_then (only_demands _ _) (λ sum is. only_needed m s settings))))))
 
   pub proving_says : Proves m s settings prices → SaysChecked m s settings prices (Ok tt)
   proving_says h =
       let by = h.proves in
-      Found tt (of_one_model m s settings prices h)
-      (Found h.numbered h.expands
+      Found tt (of_one_model m s settings prices h) (Found h.numbered h.expands
       (Found by.leads.0 by.leads.1 (Found tt by.leads.2 (Found tt by.fits (Found tt by.sum by.needed)))))
 
   says_proving : SaysChecked m s settings prices (Ok tt) → Proves m s settings prices

@@ -168,5 +168,4 @@ pub alike_priced : (looks : List Look) (prices : List ℤ) (kinds : List PricedK
 alike_priced looks prices kinds with_prices = λ place other inside within same.
     one_price 0 kinds (look_at looks other) (price_at prices place) (price_at prices other) with_prices.good.in_order
     (priced_alike (look_at looks place) (look_at looks other) (price_at prices place) kinds same
-    (with_prices.expanded.each place inside))
-    (with_prices.expanded.each other within)
+    (with_prices.expanded.each place inside)) (with_prices.expanded.each other within)

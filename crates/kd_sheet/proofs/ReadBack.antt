@@ -75,8 +75,7 @@ letters_spelled (letter ∷ letters) within = grind (arith, letters_spelled lett
 
 pub capitals_again : (count : ℕ) (letters : List ℕ) → AreLetters count letters
     → capital_letters count (letters_text letters) ≡ Some letters
-capitals_again count letters are =
-    grind (arith, common_steps, letters_spelled, recursion_from_All, eq-eqb)
+capitals_again count letters are = grind (arith, common_steps, letters_spelled, recursion_from_All, eq-eqb)
 
 pub window_again : (window : List ℕ) → AreOnWheels window → letters_on_wheels (letters_text window) ≡ Some window
 unfolding letters_on_wheels
@@ -191,8 +190,7 @@ row_again row is = grind (arith, le-leb, may_read_again)
 
 abbrev rotor_day_table : RotorDay → Members
 rotor_day_table s =
-    member (key_name keys.Day) (integer (pos s.day))
-    (member (key_name keys.Groups) (texts (map letters_text s.groups))
+    member (key_name keys.Day) (integer (pos s.day)) (member (key_name keys.Groups) (texts (map letters_text s.groups))
     (member (key_name keys.Model) (string (model_text s.model))
     (member (key_name keys.Plugs) (texts (map (λ pair. letters_text (pair_letters pair)) s.pairs))
     (member (key_name keys.Reflector) (string (reflector_text s.reflector))
@@ -202,10 +200,8 @@ rotor_day_table s =
 
 abbrev pin_day_table : PinDay → Members
 pin_day_table s =
-    member (key_name keys.Day) (integer (pos s.day))
-    (member (key_name keys.List) (string (letters_text s.list))
-    (member (key_name keys.Model) (string (model_text M209))
-    (member (key_name keys.Pins) (texts (pin_texts s.pins))
+    member (key_name keys.Day) (integer (pos s.day)) (member (key_name keys.List) (string (letters_text s.list))
+    (member (key_name keys.Model) (string (model_text M209)) (member (key_name keys.Pins) (texts (pin_texts s.pins))
     (member (key_name keys.Rows) (texts (map reading_text s.rows))
     (member (key_name keys.Window) (string (letters_text s.window)) no_members)))))
 
@@ -233,8 +229,7 @@ group_again earlier group are = rw (capitals_again 3 group are) refl
 groups_in_again : (s : RotorDay) → IsLegalRotorDay s → groups_in (rotor_day_table s) ≡ Ok s.groups
 unfolding groups_in
 groups_in_again s legal =
-    up_to_again keys.Groups 4 letters_text s.groups group_for
-    (λ k group at. group_again (take k s.groups) group (held
+    up_to_again keys.Groups 4 letters_text s.groups group_for (λ k group at. group_again (take k s.groups) group (held
     (AreLetters 3) s.groups k group legal.groups at)) legal.few_groups
 
 -- what each wheel has, the ring or the letter in the window
@@ -360,8 +355,7 @@ texts_written key [] plain = grind arith
 texts_written key (text ∷ ts) plain =
     let rest = are_written ts plain.1 in
     let writes : IsItemsText false false true (items_of (map string (text ∷ ts))) (quoted text ++
-    (behind ts ++ codes "]")) =
-    (quoted text, behind ts ++ codes "]", refl, quoted_is text plain.0, rest.writes) in
+    (behind ts ++ codes "]")) = (quoted text, behind ts ++ codes "]", refl, quoted_is text plain.0, rest.writes) in
     record {
       writes = grind (arith, append_assoc, quoted, one_line);
       shallow = rw rest.shallow (omega arith);
@@ -518,8 +512,7 @@ unfolding rotor_parts_in reflector_in letters_at
 rotor_parts_again m legal =
     let has = (has_reflector-Decides (reflectors_of m.model) m.reflector).1 legal.reflector in
     let seated = seats_in_again keys.Slots m.model (rotor_table m) m.slots refl (λ k d within. may_stand
-    (get_or m.slots k d))
-    (record { count = legal.slots; allowed = legal.allowed; apart = legal.apart }) in
+    (get_or m.slots k d)) (record { count = legal.slots; allowed = legal.allowed; apart = legal.apart }) in
     grind (arith, then_read, reflector_again, capitals_again, cables_in_again)
 
 by_model : (model : Model) (reflector : Reflector) (table : Members) (m : RotorParts)
@@ -539,8 +532,7 @@ abbrev pin_table : PinParts → Members
 pin_table m =
     member (key_name keys.Bars) (texts (map standing_text m.bars))
     (member (key_name keys.Letters) (string (letters_text m.letters))
-    (member (key_name keys.Model) (string (model_text M209))
-    (member (key_name keys.Pins) (texts (pin_texts m.pins))
+    (member (key_name keys.Model) (string (model_text M209)) (member (key_name keys.Pins) (texts (pin_texts m.pins))
     (member (key_name keys.Version) (integer (pos (version_of M209))) no_members))))
 
 pin_read : (m : PinParts) → IsLegalPin m → document_of (machine_text (Pin m)) ≡ Ok (pin_table m)

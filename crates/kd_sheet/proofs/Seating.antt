@@ -64,8 +64,7 @@ stands_free key model items slots e place wheel stands =
 -- a wheel that stands further left isn't free
 not_free : (model : Model) (slots : List (Option Wheel)) (place other : ℕ) (wheel : Wheel) → StandsAt slots place wheel
     → IsFree model (take other slots) wheel → other ≤ length slots → other ≤ place
-not_free model slots place other wheel stands free within =
-    grind (arith, common_steps, gets, cases_lt place other)
+not_free model slots place other wheel stands free within = grind (arith, common_steps, gets, cases_lt place other)
 
 -- each wheel stands where it may, and none in two slots
 pub record FillsSlots (key : Key) (model : Model) (slots : List (Option Wheel)) : Type 0 where

@@ -16,8 +16,7 @@ use Rattle.kd_state.specs.declared.setting.list.ListFault.TheVariants.{BadLine, 
 use Rattle.{kd_tables.specs.declared.reflector.Reflector.TheVariants.A, std.proofs.lemmas.List.Concat.flat_map-append}
 use Rattle.std.proofs.lemmas.Str.{IsUtf8-from_ascii, Parse.{IsNumeralModel, numerals_by_value, tells_by_index}}
 use Rattle.std.specs.{Fmt.decimal, Result.result_ok, Str.IsUtf8, Str.Parse.digits_value}
-use Rattle.std.proofs.Common.{Bor, Result, Ok, MatchResult, eqb, ltb, ◌*◌, ◌^◌}
-use Rattle.std.specs.Int.{IsInRange as IsFigure}
+use Rattle.{std.proofs.Common.{Bor, Result, Ok, MatchResult, eqb, ltb, ◌*◌, ◌^◌}, std.specs.Int.IsInRange as IsFigure}
 use Rattle.std.proofs.lemmas.List.Splits.{length-slice_split, slice_split_none, slice_split_at, join_with_byte-slice_split}
 use Rattle.kd_state.specs.Words.{words_of, line_of, IsWithout, IsWord, IsFirstPart, LinesTellWords, LinesSplitIntoWords}
 use Rattle.kd_state.specs.Words.{PartsMakeLines, WordsMakeOneLine, TextsTellFirstParts, NumbersAreWords}

@@ -25,6 +25,5 @@ pub returns-else-total-number : goal.returns-else-total-number
 returns-else-total-number c =
     let read = c.kind.invariant in
     let end = rw c.in_default.is at c.in-Ok.ensures in
-    Found (c.kind.kinds.items, c.kind.rest.now) (all_read read end.none_more)
-    (Found tt end.ends
+    Found (c.kind.kinds.items, c.kind.rest.now) (all_read read end.none_more) (Found tt end.ends
     (Refused PriceMissing ((λ same count. c.if-total-number.false (read.total_is ∙ count)), refl) refl))

@@ -6,8 +6,7 @@ use Rattle.kd_card.proofs.price_text.are_prices.Goals as goal
 
 pub returns : goal.returns
 returns c =
-    let cases =
-    cases_from_all _ _ c.all.result IsPriceText (λ word. ¬ (IsPriceText word)) c.all.ensures.ran
+    let cases = cases_from_all _ _ c.all.result IsPriceText (λ word. ¬ (IsPriceText word)) c.all.ensures.ran
     (YieldsList-from_slice_split _ (λ b. eqb b 32) c.args.text.now c.split.ensures.rest c.split.ensures.done
     c.split.ensures.closure (λ x b q k. search (rules, tests)))
     (λ x q k. search (rules, tests, tells_price)) (λ x q k. search (rules, tests, tells_price)) in (

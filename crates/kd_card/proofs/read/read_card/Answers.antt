@@ -30,8 +30,7 @@ pub returns-then-not-is_empty : goal.returns-then-not-is_empty
 returns-then-not-is_empty c =
     let sum = to_z-of_z w32 c.sum.result (search rules) ∙ c.sum.ensures in
     up_to_settings c.in-Some.ensures c.in-Some-read_settings.ensures c.len-count.ensures.value
-    (Found _ c.in_ok-rest.ensures
-    (Found _ c.in-Ok.ensures
+    (Found _ c.in_ok-rest.ensures (Found _ c.in-Ok.ensures
     (Found c.in_ok-rest-2.rest.now (rw (sum, c.line_count.ensures.value) at c.in_ok-rest-2.ensures)
     (Refused Trailing ((λ same. filled c.is_empty.ensures c.if-not-is_empty.true), refl) refl))))
 
@@ -40,7 +39,6 @@ returns c =
     let sum = to_z-of_z w32 c.sum.result (search rules) ∙ c.sum.ensures in
     card_said (c.in-Some.day, c.in-Some-read_settings.settings.items, c.in-Ok.found.0)
     (up_to_settings c.in-Some.ensures c.in-Some-read_settings.ensures c.len-count.ensures.value
-    (Found _ c.in_ok-rest.ensures
-    (Found _ c.in-Ok.ensures
+    (Found _ c.in_ok-rest.ensures (Found _ c.in-Ok.ensures
     (Found c.in_ok-rest-2.rest.now (rw (sum, c.line_count.ensures.value) at c.in_ok-rest-2.ensures)
     (Found tt (nil_from_length c.in_ok-rest-2.rest.now (eqb-true _ 0 (sym c.is_empty.ensures ∙ c.if-not-is_empty.false))) refl)))))

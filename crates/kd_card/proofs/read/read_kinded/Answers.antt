@@ -12,8 +12,7 @@ returns-in_err-rows c =
 
 pub returns-in_err-columns : goal.returns-in_err-columns
 returns-in_err-columns c =
-    stops _ _ _ _ c.from_residual-in_err-columns.ensures.1
-    (Found _ c.in_ok-group.ensures
+    stops _ _ _ _ c.from_residual-in_err-columns.ensures.1 (Found _ c.in_ok-group.ensures
     (Found _ (rw (c.row_name.ensures, c.number-number.ensures) at c.in_ok-rows.ensures)
     (Refused _ (rw (c.column_name.ensures, c.number-number.ensures, c.len.ensures.value) at c.in_err-columns.ensures) refl)))
 
@@ -22,7 +21,6 @@ read_kinds-requires-2-clause-near c = grind (arith, group_said, few_kinds, some_
 
 pub returns : goal.returns
 returns c =
-    Found _ c.in_ok-group.ensures
-    (Found _ (rw (c.row_name.ensures, c.number-number.ensures) at c.in_ok-rows.ensures)
+    Found _ c.in_ok-group.ensures (Found _ (rw (c.row_name.ensures, c.number-number.ensures) at c.in_ok-rows.ensures)
     (Found _ (rw (c.column_name.ensures, c.number-number.ensures, c.len.ensures.value) at c.in_ok-columns.ensures)
     (Found _ (rw (c.as_slice.ensures.value, c.as_slice-2.ensures.value) at c.of_groups.ensures.kinds) refl)))

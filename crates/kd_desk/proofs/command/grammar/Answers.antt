@@ -1,6 +1,5 @@
 use Rattle.kd_desk.proofs.Prelude.{true, ap, codes, ◌≡◌, ◌∙◌, App, app_of, new_app, app_of_fields}
-use Rattle.kd_desk.proofs.Grammars.{without_help}
-use Rattle.kd_desk.specs.CommandLine.{desk_grammar}
+use Rattle.{kd_desk.proofs.Grammars.without_help, kd_desk.specs.CommandLine.desk_grammar}
 use Rattle.kd_desk.proofs.command.grammar.Goals as goal
 
 abbrev without_help_command : App → App

@@ -10,8 +10,7 @@ returns-in-Type-clause-does g c =
 pub returns-in-Apply-clause-does : goal.returns-in-Apply-clause-does
 returns-in-Apply-clause-does g c =
     let run = c.run_apply.ensures in
-    rw (c.in-Apply.is, ← c.as_slice-machine.ensures, ← c.as_slice.ensures)
-    (record {
+    rw (c.in-Apply.is, ← c.as_slice-machine.ensures, ← c.as_slice.ensures) (record {
       left = nothing_left;
       told = c.run_apply.result;
       does = (record { refused = run.refused; applied = run.applied }, record { has = refl; well = refl });

@@ -13,8 +13,7 @@ returns-in-Check-clause-does g c =
 
 pub returns-in-Message-clause-does : goal.returns-in-Message-clause-does
 returns-in-Message-clause-does g c =
-    rw c.in-Message.is
-    (record {
+    rw c.in-Message.is (record {
       left = opened g.O.Source.remaining g.O.Source.has_failed c.carry_message-done.new.file;
       told = c.carry_message-done.result;
       does = c.carry_message-done.ensures.does;

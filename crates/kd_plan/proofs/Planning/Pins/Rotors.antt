@@ -406,8 +406,7 @@ module _ (m : RotorParts) where
   seats_led front (now ∷ slots) (w ∷ wheels) number e size allowed absent apart =
       let others = recursion_from_All (λ (v : SheetWheel). w.wheel ≢ v.wheel) wheels
       (λ k d lt. apart zero (suc k) d (omega arith) (omega arith)) in
-      let rest =
-      seats_led (front ++ Some w.wheel ∷ []) (behind now w slots) wheels (number + 1)
+      let rest = seats_led (front ++ Some w.wheel ∷ []) (behind now w slots) wheels (number + 1)
       (omega (arith, length-append front (Some w.wheel ∷ []))) (grind (arith, length-map))
       (λ k n wheel e at. allowed (suc k) n wheel (omega arith) at)
       (λ k d lt. grind (arith, map-append, absent (suc k) d (omega arith), apart zero (suc k) d (omega arith) (omega arith), same_wheel-Decides))

@@ -11,16 +11,14 @@ returns-then-not-reads_as c =
 
 pub returns-in-Some : goal.returns-in-Some
 returns-in-Some c =
-    Found c.in-Ok.walk.reached c.in-Ok.ensures.leads
-    (Found tt (c.reads_as.ensures.0 c.if-not-reads_as.false)
+    Found c.in-Ok.walk.reached c.in-Ok.ensures.leads (Found tt (c.reads_as.ensures.0 c.if-not-reads_as.false)
     (Refused (PriceTooHigh (c.in-Some.cell.row + 1) (c.in-Some.cell.column + 1))
     (c.in-Some.cell.row, c.in-Some.cell.column, refl, refl, c.in-Some.ensures) refl))
 
 pub returns-then-sum-priced_count : goal.returns-then-sum-priced_count
 returns-then-sum-priced_count c =
     let differs : price_sum c.args.prices.now ≢ pos (priced_count c.args.settings.now) = search rules in
-    Found c.in-Ok.walk.reached c.in-Ok.ensures.leads
-    (Found tt (c.reads_as.ensures.0 c.if-not-reads_as.false)
+    Found c.in-Ok.walk.reached c.in-Ok.ensures.leads (Found tt (c.reads_as.ensures.0 c.if-not-reads_as.false)
     (Found tt c.in_default.ensures (Refused SumDiffers ((λ same sum. differs sum), refl) refl)))
 
 -- a sum and a count that are alike in 32 bits
@@ -31,7 +29,6 @@ pub returns : goal.returns
 returns c =
     let few : c.priced_count.result < 2 ^ 31 = omega (arith, c.priced_count.ensures.few, c.requires.few) in
     let same = same_sum c.sum.result c.priced_count.result (search rules) few c.if-sum-priced_count.false in
-    Found c.in-Ok.walk.reached c.in-Ok.ensures.leads
-    (Found tt (c.reads_as.ensures.0 c.if-not-reads_as.false)
+    Found c.in-Ok.walk.reached c.in-Ok.ensures.leads (Found tt (c.reads_as.ensures.0 c.if-not-reads_as.false)
     (Found tt c.in_default.ensures
     (Found tt (sym c.sum.ensures ∙ same ∙ ap pos c.priced_count.ensures.value) c.in-Ok.ensures.needed)))

@@ -118,8 +118,7 @@ returns-in_err-heading-in-Heading c = λ form text so_far.
 
 pub returns-in_ok-give-in-Body : goal.returns-in_ok-give-in-Body
 returns-in_ok-give-in-Body c = λ form text so_far.
-    held c.args.day.now _ _ _
-    (part_read _ c.args.self.now form text so_far.is _ _ c.in-Body.is
+    held c.args.day.now _ _ _ (part_read _ c.args.self.now form text so_far.is _ _ c.in-Body.is
     (c.ends_before.ensures.0 c.if-not-ends_before.false) _ _ c.in_ok-give-in-Body.ensures.given c.heading_from.ensures)
 
 pub returns-in_err-give-in-Body : goal.returns-in_err-give-in-Body
