@@ -1,6 +1,5 @@
 -- Files that are read one after another, and what the program answers to a command.
-use Rattle.kd_desk.specs.{Program.is_stopped_before, Program.is_stopped_by_port, Stops.stop_after}
-use Rattle.kd_desk.specs.{RunSteps.is_device, RunSteps.is_refused_before}
+use Rattle.kd_desk.specs.{Program.is_stopped_before, RunSteps.is_refused_before, Stops.stop_after}
 use Rattle.{kd_desk.specs.declared.fault.DeskFault.DeskFault, kd_desk.specs.declared.fault.DeskFault.TheVariants.Device}
 use Rattle.kd_desk.{proofs.Failing.err_is, proofs.SaidCommands.same_command, specs.CommandLine.desk_grammar}
 use Rattle.{kd_desk.specs.declared.files.fault.FileFault.FileFault, std.proofs.Common.arith}
@@ -87,15 +86,9 @@ module _ (source sink : Port) (answer : Result (Unit {0}) Stop) where
         → IfSome known Meant
     done of_files is gives = done_of of_files is known gives
 
--- ---- what stops the program, by what the command answered
-
--- it is before anything was written where the command was refused before, and at a port where the command failed by a device
-pub refused_before : (file_failed : Bool) (told : Result (Unit {0}) DeskFault) (answer : Result (Unit {0}) Stop) → answer ≡ stop_after file_failed told
-    → IsTrue (is_stopped_before answer) → IsTrue (is_refused_before told)
+-- What stops the program before anything was written was a refusal before that.
+pub refused_before : (file_failed : Bool) (told : Result (Unit {0}) DeskFault) (answer : Result (Unit {0}) Stop)
+    → answer ≡ stop_after file_failed told → IsTrue (is_stopped_before answer) → IsTrue (is_refused_before told)
 refused_before file_failed (Ok done) answer e early = subst (λ a. IsTrue (is_stopped_before a)) e early
 refused_before true (Err Device) answer e early = subst (λ a. IsTrue (is_stopped_before a)) e early
 refused_before file_failed (Err fault) answer e early = subst (λ a. IsTrue (is_stopped_before a)) e early
-
-pub by_port : (told : Result (Unit {0}) DeskFault) (answer : Result (Unit {0}) Stop) → answer ≡ stop_after false told → is_stopped_by_port answer ≡ is_device told
-by_port (Ok done) answer e = ap is_stopped_by_port e
-by_port (Err fault) answer e = ap is_stopped_by_port e
