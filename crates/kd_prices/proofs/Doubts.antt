@@ -1,5 +1,5 @@
 -- A card that proves itself is in no doubt, and a card is in one doubt at most.
-use Rattle.kd_prices.proofs.Prelude.{◌≡◌, ℕ, List, [], ◌∷◌, ◌++◌, length, refl, sym, ap, ◌∙◌, subst, arith, ◌↔◌, cases_order, false≢true, Parts, Setting, Why, why_refused, Leads, Day, cost_table, LeadsToOne, PriceParts, AreNeeded, Proves, IllegalAt, NeedlessLine, IsFirstWithout, IsFirstNeedless, Result, Ok, Err, IsOk, IfErr, Found, IsOnly, only_then, only_finds, only_demands, passed}
+use Rattle.kd_prices.proofs.Prelude.{◌≡◌, ℕ, List, [], ◌∷◌, ◌++◌, length, refl, sym, ap, ◌∙◌, subst, arith, ◌↔◌, cases_order, false≢true, Parts, Setting, Why, why_refused, Leads, Day, cost_table, leads_to_one, PriceParts, AreNeeded, Proves, IllegalAt, NeedlessLine, IsFirstWithout, IsFirstNeedless, Result, Ok, Err, IsOk, IfErr, Found, IsOnly, only_then, only_finds, only_demands, passed}
 use Rattle.{kd_card.specs.Carrying.IsFirstIllegal, kd_prices.proofs.Leading.needed_at}
 use Rattle.kd_prices.proofs.{Leading.not_refused, Meaning.are_numbered, Meaning.of_one_model, Meaning.one_expansion}
 use Rattle.kd_prices.specs.{declared.doubt.Doubt.Doubt, Doubt.{SaysCarried, SaysFits, SaysNeeded, SaysChecked, IsDoubt}}
@@ -31,16 +31,16 @@ wanted : {m : Parts} {s : Day} {settings : List Setting} {line : ℕ} (h : IsFir
     (rest : List Setting) → ¬ (AreNeeded m s (h.front ++ h.setting ∷ rest))
 wanted {m} {s} h rest needed = h.needless (needed_at m h.between s h.front rest h.setting h.leads needed)
 
-module _ (one : LeadsToOne) (m : Parts) (settings : List Setting) where
+module _ (m : Parts) (settings : List Setting) where
   only_carried : IsOnly (SaysCarried m settings)
-  only_carried (Ok n) (Ok o) a b = ap Ok (one m n o settings a b)
+  only_carried (Ok n) (Ok o) a b = ap Ok (leads_to_one m n o settings a b)
   only_carried (Ok n) (Err (IllegalAt line why)) a b = absurd (refused b n b.rest (subst (λ xs. Leads m xs n) b.split a))
   only_carried (Err (IllegalAt line why)) (Ok n) a b = absurd (refused a n a.rest (subst (λ xs. Leads m xs n) a.split b))
   only_carried (Err (IllegalAt line why)) (Err (IllegalAt other reason)) a b =
       let same =
       one_front (λ xs. (n : Parts) × Leads m xs n) a.front b.front a.rest b.rest a.setting b.setting (sym a.split ∙ b.split)
       (a.between, a.leads) (b.between, b.leads) (λ rest leads. refused a leads.0 rest leads.1) (λ rest leads. refused b leads.0 rest leads.1) in
-      let between = one m a.between b.between b.front (subst (λ front. Leads m front a.between) same.0 a.leads) b.leads in
+      let between = leads_to_one m a.between b.between b.front (subst (λ front. Leads m front a.between) same.0 a.leads) b.leads in
       let reasons : why_refused a.between a.setting ≡ why_refused b.between b.setting = cc in
       let first = a.refused in
       let second = b.refused in
@@ -70,11 +70,11 @@ module _ (m : Parts) (s : Day) (settings : List Setting) where
 
 -- ---- the whole check
 
-module _ (one : LeadsToOne) (m : Parts) (s : Day) (settings : List Setting) (prices : PriceParts) where
+module _ (m : Parts) (s : Day) (settings : List Setting) (prices : PriceParts) where
   pub only_checked : IsOnly (SaysChecked m s settings prices)
   only_checked =
       only_then (only_demands _ _) (λ same model. only_then (only_finds _ (one_expansion m s prices))
-      (λ numbered expands. only_then (only_carried one m settings) (λ n leads. only_then (only_demands _ _)
+      (λ numbered expands. only_then (only_carried m settings) (λ n leads. only_then (only_demands _ _)
       (λ reads same. only_then (only_fits (cost_table m s) numbered)
       (λ fits are. only_then (only_demands _ _) (λ sum is. only_needed m s settings))))))
 

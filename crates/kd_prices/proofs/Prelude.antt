@@ -8,11 +8,11 @@ pub use Rattle.std.proofs.lemmas.List.{append-nil, drop_all, drop_more, ext_get_
 pub use Rattle.std.proofs.lemmas.List.Elements.{All-cons, All-contains_itself, All-from_get_or, All-from_recursion, All-get_or, All-head, All-map, All-more, All-nil, All-same, All-tail, All-weaker, recursion_from_All}
 pub use Rattle.std.proofs.lemmas.Option.{slice_get-get_or, slice_get_past, unwrap_or-slice_get}
 pub use Rattle.std.specs.{List.{All, AllByRecursion}, Prelude.{drop, map, take, ◌↔◌, Err, IfErr, IsOk, Ok, Result}}
-pub use Rattle.kd_card.proofs.{KindPrices.{few_kinds, size_of}, KindWords.low_rank}
+pub use Rattle.kd_card.proofs.{KindPrices.{few_kinds, size_of}, KindWords.{low_rank, ranks_tell_looks}}
 pub use Rattle.kd_card.proofs.Leading.{leads_join, leads_next, stops_at}
 pub use Rattle.kd_card.specs.CardText.{column_name, group_of, price_count, row_name}
 pub use Rattle.kd_card.specs.Kinds.{AreCalled, AreEnds, AreKinds, IsInForm, IsPricedKind, counted, look_name, look_rank}
-pub use Rattle.kd_card.specs.Laws.{ProvingCardsAreShortest, ProvingPricesAreTight, RanksTellLooks}
+pub use Rattle.kd_card.specs.Laws.{ProvingCardsAreShortest, ProvingPricesAreTight}
 pub use Rattle.kd_card.specs.Prices.{ArePrices, AreTight, AreWithinReach, Fits, column_kinds, column_prices, cost_at, how_many, price_at, price_sum, row_kinds, row_prices, version_of}
 pub use Rattle.kd_card.specs.Proving.{AreExpanded, AreNeeded, AreOfKind, Expanded, Expands, HasCount, IsNeeded, IsPriced, Proves, Same, alike_count, column_looks, group_of_machine, look_at, pair_in_order, priced_count, row_looks}
 pub use Rattle.kd_card.specs.declared.{group.Group.{Group, TheVariants.{OfBars, OfCables}}, kinds.PricedKind.PricedKind}
@@ -26,7 +26,7 @@ pub use Rattle.kd_prices.specs.KindCards.{AreAlikePriced, AreByKind, AreKindsOf,
 pub use Rattle.kd_prices.specs.Laws.{AlikePricesAreEqual, AreEqualWhereAlike, RestIsShortest}
 pub use Rattle.kd_prices.specs.declared.doubt.Doubt.TheVariants.{IllegalAt, NeedlessLine, NotTheSheet, OtherModel, PriceMissing, PriceTooHigh, SumDiffers}
 pub use Rattle.kd_state.specs.Costs.{bar_cost, cable_cost, columns_of, cost_table}
-pub use Rattle.kd_state.specs.Laws.{ColumnsAreThePairs, LeadsToOne, TestsTellLetters, ThirteenColumns}
+pub use Rattle.kd_state.proofs.{CostTable.{columns_are_the_pairs, tests_tell_letters, thirteen_columns}, Telling.Refusing.leads_to_one}
 pub use Rattle.kd_state.specs.Machine.{IsMachine, cable_letters, ordered, plugged_letters}
 pub use Rattle.kd_state.specs.{OnKey.{ReadsAs, SameLetters}, OneModel.AreParted, Setting.{Leads, changed, why_refused}}
 pub use Rattle.kd_state.specs.{SheetDay.{Day, IsLegalDay, OfPins, OfRotors}, declared.machine.parts.Parts.Parts}

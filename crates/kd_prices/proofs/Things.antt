@@ -2,7 +2,7 @@
 use Rattle.{kd_state.specs.Machine.model_of, kd_state.specs.SheetDay.day_model, kd_tables.specs.Tables.reflectors_of}
 use Rattle.kd_tables.specs.declared.{model.Model.Model, model.Model.TheVariants.M209, reflector.Reflector.Reflector}
 use Rattle.std.specs.List.{IsDistinct}
-use Rattle.kd_prices.proofs.Prelude.{◌≡◌, ℕ, zero, suc, ◌-◌, ◌<◌, false, eqb, List, [], ◌∷◌, ◌++◌, length, get_or, replicate, Option, Some, None, refl, sym, subst, Contains, ap, ◌∙◌, arith, AllByRecursion, eqb-false, length-map, All-from_recursion, recursion_from_All, All-map, letters_plugged, NoLetterTwice, Parts, Rotor, Pin, plugged_letters, ordered, IsMachine, Day, OfRotors, OfPins, IsLegalDay, columns_of, ThirteenColumns, Look, Cable, Pair, Bar, Row, look_name, IsInForm, All, nat_tests, Group, OfCables, OfBars, row_name, column_name, price_count, row_looks, column_looks, pair_in_order, group_of_machine, AreThings, map}
+use Rattle.kd_prices.proofs.Prelude.{◌≡◌, ℕ, zero, suc, ◌-◌, ◌<◌, false, eqb, List, [], ◌∷◌, ◌++◌, length, get_or, replicate, Option, Some, None, refl, sym, subst, Contains, ap, ◌∙◌, arith, AllByRecursion, eqb-false, length-map, All-from_recursion, recursion_from_All, All-map, letters_plugged, NoLetterTwice, Parts, Rotor, Pin, plugged_letters, ordered, IsMachine, Day, OfRotors, OfPins, IsLegalDay, columns_of, thirteen_columns, Look, Cable, Pair, Bar, Row, look_name, IsInForm, All, nat_tests, Group, OfCables, OfBars, row_name, column_name, price_count, row_looks, column_looks, pair_in_order, group_of_machine, AreThings, map}
 
 pub no_rotors : (model : Model) (reflector : Reflector) → model ≡ M209 → Contains (reflectors_of model) reflector → ⊥
 no_rotors model reflector e h = let none = subst (λ model. Contains (reflectors_of model) reflector) e h in omega (arith, none.1)
@@ -67,10 +67,10 @@ groups_meet (Pin m) (OfPins s) machine legal same = refl
 groups_meet (Rotor m) (OfPins s) machine legal same = absurd (no_rotors m.model m.reflector same machine.legal.reflector)
 groups_meet (Pin m) (OfRotors s) machine legal same = absurd (no_rotors s.model s.reflector (sym same) legal.reflector)
 
-pub columns_are_things : ThirteenColumns → (s : Day) → IsLegalDay s → AreThings (column_name (group_of_day s)) (price_count (group_of_day s)) (column_looks s)
-columns_are_things thirteen (OfRotors s) legal =
+pub columns_are_things : (s : Day) → IsLegalDay s → AreThings (column_name (group_of_day s)) (price_count (group_of_day s)) (column_looks s)
+columns_are_things (OfRotors s) legal =
     let pairs = legal.pairs in
-    things pair_look (columns_of s.pairs) (column_name OfCables) 13 (λ x. refl) (thirteen s.pairs pairs.few) (All-from_recursion IsInForm (column_looks (OfRotors s))
+    things pair_look (columns_of s.pairs) (column_name OfCables) 13 (λ x. refl) (thirteen_columns s.pairs pairs.few) (All-from_recursion IsInForm (column_looks (OfRotors s))
     (pairs_in_form (13 - length s.pairs) s.pairs (recursion_from_All (λ letter. letter < 26) (letters_plugged s.pairs) pairs.within) pairs.apart))
-columns_are_things thirteen (OfPins s) legal =
+columns_are_things (OfPins s) legal =
     things (λ numbers. Row numbers) s.rows (column_name OfBars) 27 (λ x. refl) legal.count (All-map IsInForm (λ numbers. Row numbers) s.rows legal.rows)

@@ -11,7 +11,6 @@ use super::expanding::expanded;
 use super::fitting::{Cell, first_too_high};
 use super::walking::{is_priced, walked};
 use kd_card::{Card, Group, PriceParts, Prices};
-use kd_state::laws::a_setting_is_refused_or_carried;
 use kd_state::{Machine, OneModel, Parts, Setting, SheetDay, bar_costs, cable_costs};
 
 /// Whether the card proves itself, whoever made it: its lines lead the machine to the day, and its prices show that no
@@ -22,7 +21,6 @@ pub fn check(machine: &Machine, day: &SheetDay, card: &Card) -> Result<(), Doubt
     ensures doubt { IfErr result
         (IsDoubt machine.now day.now card.now.settings.items card.now.prices) }
 {
-    a_setting_is_refused_or_carried();
     judged(machine, day, card.settings.as_slice(), &card.prices)
 }
 

@@ -10,7 +10,6 @@ ghost use Rattle.kd_prices.specs.Doubt.{AreOfOneModel};
 use super::looks::{column_looks, row_looks};
 use arrayvec::ArrayVec;
 use kd_card::{Look, PriceParts, PricedKind, Prices};
-use kd_state::laws::columns_are_the_pairs;
 use kd_state::{Machine, SheetDay};
 
 /// The prices by number that prices mean for the machine and the day: those of the machine's cables or bars, each that of its
@@ -40,7 +39,6 @@ fn expanded_kinds(machine: &Machine, day: &SheetDay, prices: &Prices) -> Option<
         ((numbered : _) → ¬ (Expands machine.now day.now prices.now numbered))
         (λ numbered. Expands machine.now day.now prices.now numbered) }
 {
-    columns_are_the_pairs();
     let group = prices.group();
     let rows = priced(row_looks(machine).as_slice(), prices.row_kinds().as_slice())?;
     let columns = priced(

@@ -12,9 +12,7 @@ use super::checking::are_of_one_model;
 use super::expanding::{alike_count, priced};
 use super::looks::{column_looks, row_looks};
 use arrayvec::ArrayVec;
-use kd_card::laws::ranks_tell_looks;
 use kd_card::{Card, Group, Look, PricedKind, Prices, Version};
-use kd_state::laws::{columns_are_the_pairs, tests_tell_letters};
 use kd_state::{Machine, Settings, SheetDay};
 
 /// The ranks of all looks in their one form are below this.
@@ -47,9 +45,6 @@ fn prices_by_kind(machine: &Machine, day: &SheetDay, prices: &Prices) -> Option<
         (¬ (CanBeByKind machine.now day.now prices.now))
         (AreByKind machine.now day.now prices.now) }
 {
-    ranks_tell_looks();
-    columns_are_the_pairs();
-    tests_tell_letters();
     if !are_of_one_model(machine, day, prices) {
         return None;
     }

@@ -2,21 +2,17 @@
 ghost use Rattle.kd_prices.specs.Laws.{ProvingCardsAreInNoDoubt, OneDoubt, RestIsShortest, AlikePricesAreEqual};
 
 use kd_card::laws::{proving_cards_are_shortest, proving_prices_are_tight};
-use kd_state::laws::{a_setting_is_refused_or_carried, columns_are_the_pairs, tests_tell_letters};
 
 /// A card that proves itself is in no doubt, and no card is in two.
 pub fn a_card_is_in_one_doubt_at_most()
     ensures none { ProvingCardsAreInNoDoubt }
     ensures one { OneDoubt }
-{
-    a_setting_is_refused_or_carried();
-}
+{}
 
 /// After the first lines of a card that proves itself, the rest leads to the day, and no settings that do are fewer.
 pub fn rest_of_a_card_is_shortest()
     ensures { RestIsShortest }
 {
-    a_setting_is_refused_or_carried();
     proving_cards_are_shortest();
 }
 
@@ -27,6 +23,4 @@ pub fn alike_prices_are_equal()
     ensures { AlikePricesAreEqual }
 {
     proving_prices_are_tight();
-    tests_tell_letters();
-    columns_are_the_pairs();
 }

@@ -3,10 +3,10 @@ use Rattle.kd_prices.proofs.checking.check.Goals as goal
 
 pub returns-clause-proves : goal.returns-clause-proves
 returns-clause-proves c =
-    told c.a_setting_is_refused_or_carried.ensures.lists_to_one c.args.machine.now c.args.day.now c.args.card.now.settings.items
+    told c.args.machine.now c.args.day.now c.args.card.now.settings.items
     c.args.card.now.prices c.judged.result (rw c.as_slice.ensures.value at c.judged.ensures)
 
 pub returns-clause-doubt : goal.returns-clause-doubt
 returns-clause-doubt c =
-    doubted c.a_setting_is_refused_or_carried.ensures.lists_to_one c.args.machine.now c.args.day.now c.args.card.now.settings.items
+    doubted c.args.machine.now c.args.day.now c.args.card.now.settings.items
     c.args.card.now.prices c.judged.result (rw c.as_slice.ensures.value at c.judged.ensures)

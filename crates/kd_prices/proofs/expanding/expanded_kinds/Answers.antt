@@ -9,7 +9,7 @@ numbered-requires-clause-rows c =
 
 pub numbered-requires-clause-columns : goal.numbered-requires-clause-columns
 numbered-requires-clause-columns c =
-    let many = (columns_are_things c.columns_are_the_pairs.ensures.count c.args.day.now c.column_looks.ensures.day).count in
+    let many = (columns_are_things c.args.day.now c.column_looks.ensures.day).count in
     let meet = groups_meet c.args.machine.now c.args.day.now c.row_looks.ensures.machine c.column_looks.ensures.day c.requires.model.model in
     let each = c.in_ok-columns.ensures.0.number in cc
 

@@ -12,12 +12,11 @@ of_group-requires-clause-columns c =
     let one = c.are_of_one_model.ensures.0 c.if-not-are_of_one_model.false in
     let meet = groups_meet _ _ c.row_looks.ensures.machine c.column_looks.ensures.day one.model in
     rw (c.group.ensures, c.as_slice-in-ByNumber-2.ensures.value, c.column_looks.ensures.looks, one.group, ← meet)
-    (columns_are_things c.columns_are_the_pairs.ensures.count _ c.column_looks.ensures.day)
+    (columns_are_things _ c.column_looks.ensures.day)
 
 pub returns-in-ByNumber : goal.returns-in-ByNumber
 returns-in-ByNumber c =
     by_kind_told
-    (record { ranks = c.ranks_tell_looks.ensures; letters = c.tests_tell_letters.ensures; thirteen = c.columns_are_the_pairs.ensures.count; columns = c.columns_are_the_pairs.ensures.pairs })
     _ _ _ c.row_looks.ensures.machine c.column_looks.ensures.day c.row_prices.ensures.are_prices
     (c.are_of_one_model.ensures.0 c.if-not-are_of_one_model.false) (sym c.version.ensures.value ∙ c.in-ByNumber.is) _
     (rw (c.as_slice-in-ByNumber-2.ensures.value, c.column_looks.ensures.looks, c.as_slice-in-ByNumber-3.ensures.value, c.column_prices.ensures.value)
