@@ -15,7 +15,6 @@ use super::price_text::{
 use super::prices::{Prices, Version};
 use arrayvec::ArrayVec;
 use itoa::Buffer;
-use kd_state::laws::texts_tell_first_parts;
 use kd_state::{Settings, day_of_text, split_setting};
 
 /// The card whose text this is, and its day.
@@ -44,13 +43,13 @@ pub fn read_card(text: &[u8]) -> Result<(u8, Card), CardFault>
 }
 
 /// What stands behind the name, as the first word of the first line of the text, and what follows that line.
+#[tactic(auto, using(kd_state::proofs::Lines::texts_tell_first_parts))]
 fn split_value<'a>(text: &'a [u8], name: &str) -> Option<(&'a [u8], &'a [u8])>
     ensures { MatchOption result
         ((word : List ℕ) (words : List (List ℕ)) (rest : List ℕ) →
         ¬ (HasWords text.now (name.now ∷ word ∷ words) rest))
         (λ found. HasWords text.now (name.now ∷ words_of found.0.now) found.1.now) }
 {
-    texts_tell_first_parts();
     let (first, behind, rest) = first_word(text)?;
     if !is_word(first, name) {
         return None;

@@ -11,7 +11,6 @@ ghost use Rattle.kd_sheet.specs.MachineText.{quoted, key_line, version_of, pin_t
 
 use super::item_text::Item;
 use super::key::Key;
-use super::laws::written_files_are_read_back;
 use super::lines::{Text, push_figure_line, push_list_line, push_text_line};
 use kd_pins::PinSet;
 use kd_state::{Machine, Parts, PinParts, RotorParts, push_letter};
@@ -141,12 +140,12 @@ fn pin_machine_text(parts: &PinParts) -> Text
 
 /// Writes the machine file of a machine: in version 1, and in version 2 for the M4. On `Device` the sink has taken a front
 /// of the text. Whoever reads the whole text finds just this machine.
+#[tactic(auto, using(crate::proofs::ReadBack::parts_are_read_back))]
 pub fn write_machine<W: Sink>(sink: &mut W, machine: &Machine) -> Result<(), Device>
     ensures text { Writes (W.taken sink.old) (W.taken sink.new) (machine_text machine.now) result }
     ensures failed { W.has_failed sink.new ≡ (W.has_failed sink.old || is_err result) }
     ensures file { machine_of (machine_text machine.now) ≡ Ok machine.now }
 {
-    written_files_are_read_back();
     let text = match machine.parts() {
         Parts::Rotor(parts) => rotor_text(parts),
         Parts::Pin(parts) => pin_machine_text(parts),
