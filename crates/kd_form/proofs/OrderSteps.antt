@@ -73,7 +73,7 @@ module _ (s : Day) (keys : List Keys) (w : PartWriter) (k : Keys) (letters sent 
 
 -- -------- an order up to its text, byte by byte
 
-pub short_line : (s : Day) → length (key_pattern s) ≤ 21 → (line : List ℕ) → IsAnyKeyLine s line → length line ≤ 23
+short_line : (s : Day) → length (key_pattern s) ≤ 21 → (line : List ℕ) → IsAnyKeyLine s line → length line ≤ 23
 short_line s few line is = grind (arith, common_steps, as_form_line, length-filled, length-append {A = ℕ})
 
 module _ (s : Day) (count : ℕ) where
@@ -129,8 +129,8 @@ head_next s count (k ∷ keys) bytes few (line, rest, are, is, later, joined) =
     (line, rest, inl (record { keys = k; of_the_day = are; keyed = is }, omega arith), joined)
 
 module _ (s : Day) (keys : List Keys) (line order : List ℕ) (is : IsHeadRead s keys line order) where
-  pub line_short : ((next : List ℕ) → IsAnyKeyLine s next → length next ≤ 23) → length line < 25
-  line_short few = grind (arith, length-append {A = ℕ})
+  pub line_short : length (key_pattern s) ≤ 21 → length line < 25
+  line_short few = grind (arith, short_line s few, length-append {A = ℕ})
 
   pub text_head : (more : List ℕ) → IsEnded (codes "TEXT") (line ++ more) → IsHead s keys (order ++ more)
   text_head more ended =

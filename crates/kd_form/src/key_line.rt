@@ -25,7 +25,7 @@ pub(crate) fn read_keys(day: &SheetDay, bytes: &[u8]) -> Result<(Keys,), Unread>
 }
 
 /// The pattern of the line.
-fn key_pattern(day: &SheetDay) -> &'static [u8]
+pub(crate) fn key_pattern(day: &SheetDay) -> &'static [u8]
     ensures pattern { result.now ≡ key_pattern day.now }
     ensures few { blanks (key_pattern day.now) ≤ 13 }
     ensures short { length (key_pattern day.now) ≤ 21 }
@@ -35,14 +35,6 @@ fn key_pattern(day: &SheetDay) -> &'static [u8]
         Some(_) => b"PART ____ ____ __ ___",
         None => b"PART _ ______",
     }
-}
-
-/// No line of keys is longer than 23 bytes, with its end.
-#[tactic(auto, using(crate::proofs::OrderSteps::short_line))]
-pub(crate) fn key_lines_are_short(day: &SheetDay)
-    ensures { (line : List ℕ) → IsAnyKeyLine day.now line → length line ≤ 23 }
-{
-    prove!(key_pattern(day).len() <= 21);
 }
 
 /// How many slots the day's machine has; none on the Converter M-209.

@@ -5,7 +5,7 @@ ghost use Rattle.kd_form.specs.Keys.{AreKeys};
 ghost use Rattle.kd_form.specs.Order.{BreaksOff, IsEnded, IsKeyLine};
 ghost use Rattle.kd_form.specs.SendSteps.{HeadIsRead, IsHeadRead, IsHeadLine};
 
-use crate::key_line::{key_lines_are_short, read_keys};
+use crate::key_line::{key_pattern, read_keys};
 use crate::keys::Keys;
 use crate::pattern_line::{Unread, read_pattern};
 use arrayvec::ArrayVec;
@@ -60,7 +60,7 @@ impl HeadReader {
         ensures { (order : List ℕ) → IsHeadRead day.now self.old.keys.items self.old.line.items order
             → HeadIsRead day.now self.new.keys.items self.new.line.items (order ++ byte ∷ []) result }
     {
-        key_lines_are_short(day);
+        prove!(key_pattern(day).len() <= 21);
         self.line.push(byte);
         match read_line(day, self.keys.len(), self.line.as_slice()) {
             Ok(Some(keys)) => {
