@@ -1,16 +1,16 @@
 -- What is told of a card.
-use Rattle.{kd_card.specs.Laws.ProvingCardsAreShortest, kd_card.specs.Proving.Proves, kd_desk.specs.Ports.WritesText}
+use Rattle.{kd_card.proofs.Shortest.proving_cards_are_shortest, kd_card.specs.Proving.Proves, kd_desk.specs.Ports.WritesText}
 use Rattle.kd_desk.proofs.Prelude.{◌≡◌, ℕ, List, length, Result, Parts, Setting, IsMachine, Day, IsLegalDay, PriceParts, IsCard, DeskFault, Port, Checks, Shortest, verdict_text}
 
 -- a card that proves itself
-pub told : ProvingCardsAreShortest → (m : Parts) (s : Day) (number : ℕ) (bytes : List ℕ)
+pub told : (m : Parts) (s : Day) (number : ℕ) (bytes : List ℕ)
     (sink : Port) (answer : Result (Unit {0}) DeskFault)
     → IsMachine m → IsLegalDay s → (day : ℕ) (settings : List Setting) (prices : PriceParts) (count : ℕ)
     → IsCard bytes day settings prices → day ≡ number → Proves m s settings prices → count ≡ length settings
     → WritesText (verdict_text count) sink answer → Checks m s number bytes sink answer
-told shortest m s number bytes sink answer machine legal day settings prices count card same proves counted writes =
+told m s number bytes sink answer machine legal day settings prices count card same proves counted writes =
     Shortest settings prices (rw same at card) (record {
       proves = proves;
-      shortest = shortest m s settings prices machine legal card.are_prices proves;
+      shortest = proving_cards_are_shortest m s settings prices machine legal card.are_prices proves;
       written = rw counted at writes;
     })

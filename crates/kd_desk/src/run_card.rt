@@ -13,8 +13,7 @@ use crate::machine_and_day::find_day;
 use kd_card::{Card, Version, write_card};
 use kd_plan::plan;
 use kd_prices::by_kind;
-use kd_prices::laws::alike_prices_are_equal;
-use kd_state::{Machine, SheetDay, laws};
+use kd_state::{Machine, SheetDay};
 use kd_tables::Sink;
 use std::alloc::Global;
 
@@ -47,9 +46,6 @@ fn print_card<W: Sink>(machine: &Machine, day: &SheetDay, sink: &mut W) -> Resul
     ensures untouched { IsTrue (is_refused_before result) → sink.new ≡ sink.old }
     ensures failed { W.has_failed sink.new ≡ (W.has_failed sink.old || is_device result) }
 {
-    laws::settings_keep_machines();
-    laws::reading_as_the_day_is_its_cipher();
-    laws::equally_set_machines_decipher();
     let card = in_kinds(machine, day, &plan(machine, day)?);
     write_card(sink, day.day(), &card)?;
     Ok(())
@@ -63,6 +59,5 @@ pub(crate) fn in_kinds(machine: &Machine, day: &SheetDay, card: &Card) -> Card
     ensures { IsByKind machine.now day.now card.now result }
 {
     prove!(matches!(card.prices.version(), Version::ByNumber));
-    alike_prices_are_equal();
     by_kind(machine, day, card).unwrap()
 }

@@ -11,7 +11,7 @@ use crate::fault::DeskFault;
 use crate::machine_and_day::find_day;
 use arrayvec::ArrayString;
 use itoa::Buffer;
-use kd_card::{laws, read_card};
+use kd_card::read_card;
 use kd_prices::check;
 use kd_state::{Machine, SheetDay};
 use kd_tables::{Device, Sink, put_all};
@@ -55,7 +55,6 @@ fn check_card<W: Sink>(
     ensures untouched { IsTrue (is_refused_before result) → sink.new ≡ sink.old }
     ensures failed { W.has_failed sink.new ≡ (W.has_failed sink.old || is_device result) }
 {
-    laws::proving_cards_are_shortest();
     let (dated, card) = read_card(card)?;
     if dated != number {
         return Err(DeskFault::OtherDay);

@@ -6,7 +6,7 @@ ghost use Rattle.kd_desk.specs.RunSteps.{is_refused_before, is_device};
 
 use crate::fault::{DeskFault, answer_to_message};
 use crate::machine_and_day::find_day;
-use kd_form::{laws, receive_stream};
+use kd_form::receive_stream;
 use kd_tables::{Sink, Source};
 use std::alloc::Global;
 
@@ -34,8 +34,5 @@ pub fn run_receive<R: Source, W: Sink>(
         (port W.taken W.has_failed sink.old sink.new) (is_device result) }
 {
     let (machine, day) = find_day(alloc, machine, sheet, number)?;
-    laws::forms_have_one_answer();
-    laws::forms_stay_refused();
-    laws::forms_give_their_orders();
     answer_to_message(receive_stream(&machine, &day, form, sink))
 }

@@ -53,7 +53,6 @@ impl<const S: usize> Enigma<S> {
             reflector,
             plugs,
         } = key;
-        plugs.exchanges();
         let (none, board) = (Map::shift(0), plugs.map());
         let rotors = std::array::from_fn(
             |slot: usize|

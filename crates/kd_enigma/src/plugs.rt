@@ -59,16 +59,10 @@ impl Plugs {
 
     /// What each letter is exchanged for.
     pub(crate) fn map(self) -> Map
-        ensures { result ≡ self }
+        ensures value { result ≡ self }
+        ensures plugboard { IsPlugboard self }
     {
         Map::of(&self.table)
-    }
-
-    /// The board exchanges letters.
-    pub(crate) fn exchanges(&self)
-        ensures { IsPlugboard self.now }
-    {
-        let _ = &self.table;
     }
 }
 

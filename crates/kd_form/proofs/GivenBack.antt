@@ -1,5 +1,5 @@
 -- The text of a part, and that the form that an order becomes gives the order's letters back.
-pub use Rattle.kd_form.proofs.Prelude.{append-nil, take-append-drop, IsWithout, ◌≡◌, ℕ, zero, suc, ◌+◌, ◌<◌, ◌≤◌, List, [], ◌∷◌, ◌++◌, length, take, drop, refl, sym, ap, subst, ◌∙◌, append_assoc, length-drop, arith, map, All, IsTrue, Some, None, flat_map, cons_option, nat_tests, All-nil, All-cons, All-head, All-tail, All-append, All-take, All-drop, filter_map-append, is_text_byte, letters_text, line_of, pieces, groups_of, with_line, body_text, Part, heading_words, part_text, letter_of_byte, letters_from, Day, IsHeading, BeginsHeading, HasHeading, WithoutReturn, cut, common_steps, ◌≢◌, ◌%◌, inl, inr, length-append, Option, IfSome, cases_lt, take_all, drop_all, length-take, length-take-le, TheDayDeciphersItself, IsLegalDay, Keys, given_text, sent_letters, AreKeys, FormsGiveTheirOrders, Suits, part_size, filled, SaysBody, Ok, IsPartRead, blank_of, text_letters, parts_needed, AreMadeTexts, ReadsTo, at_first, IsComplete, IsExpected, take-append_seam, All-more}
+pub use Rattle.kd_form.proofs.Prelude.{OrdersGiveLetters, append-nil, take-append-drop, IsWithout, ◌≡◌, ℕ, zero, suc, ◌+◌, ◌<◌, ◌≤◌, List, [], ◌∷◌, ◌++◌, length, take, drop, refl, sym, ap, subst, ◌∙◌, append_assoc, length-drop, arith, map, All, IsTrue, Some, None, flat_map, cons_option, nat_tests, All-nil, All-cons, All-head, All-tail, All-append, All-take, All-drop, filter_map-append, is_text_byte, letters_text, line_of, pieces, groups_of, with_line, body_text, Part, heading_words, part_text, letter_of_byte, letters_from, Day, IsHeading, BeginsHeading, HasHeading, WithoutReturn, cut, common_steps, ◌≢◌, ◌%◌, inl, inr, length-append, Option, IfSome, cases_lt, take_all, drop_all, length-take, length-take-le, IsLegalDay, Keys, given_text, sent_letters, AreKeys, FormsGiveTheirOrders, Suits, part_size, filled, SaysBody, Ok, IsPartRead, blank_of, text_letters, parts_needed, AreMadeTexts, ReadsTo, at_first, IsComplete, IsExpected, take-append_seam, All-more}
 use Rattle.kd_form.proofs.Headings.{allowed_one, at_cut, cut_behind, ended_heading, has_byte, plain_heading, words_begin, one_byte}
 use Rattle.kd_form.proofs.MadeParts.{pieces-next, pieces-none, more_pieces, IsPiece, GivesBack, part_gives_back, size_some}
 use Rattle.kd_form.proofs.{Lines.AreAllowed, Lines.without, OneOrder.all_of_the_day, OneOrder.one_order}
@@ -164,22 +164,22 @@ record AreGivenBack (s : Day) (part parts count : ℕ) (pieces : List (List ℕ)
   read : (expected : Option ℕ) (start : ℕ) → IsExpected expected parts → (texts ≡ [] → expected ≡ Some parts)
       → ReadsTo s IsComplete (record { number = part; expected = expected; start = start }) texts (flat_map (sent_letters s) pieces)
 
-parts_are_given_back : (s : Day) (part parts : ℕ) (keys : List Keys) (pieces : List (List ℕ)) (form : List ℕ) → TheDayDeciphersItself → IsLegalDay s
+parts_are_given_back : (s : Day) (part parts : ℕ) (keys : List Keys) (pieces : List (List ℕ)) (form : List ℕ) → IsLegalDay s
     → All (AreKeys s) keys → All (Suits s) keys → All (IsPiece s) pieces → 1 ≤ part → part + length keys ≡ parts + 1 → parts ≤ 99
     → AreMadeTexts s part parts keys pieces form → AreGivenBack s part parts (length keys) pieces form
-parts_are_given_back s part parts [] [] form decipher legal are suited all first last few made = rw made (record {
+parts_are_given_back s part parts [] [] form legal are suited all first last few made = rw made (record {
   texts = [];
   counted = refl;
   begins = λ some. absurd (some refl);
   cut_so = one_byte 10;
   read = λ expected start due known. ((parts, known refl, omega arith), refl);
 })
-parts_are_given_back s part parts (k ∷ keys) (piece ∷ pieces) form decipher legal are suited all first last few (one, more, (made, makes, written), others, joined) =
+parts_are_given_back s part parts (k ∷ keys) (piece ∷ pieces) form legal are suited all first last few (one, more, (made, makes, written), others, joined) =
     let rest : AreGivenBack s (part + 1) parts (length keys) pieces more =
-    parts_are_given_back s (part + 1) parts keys pieces more decipher legal (All-tail (AreKeys s) k keys are) (All-tail (Suits s) k keys suited)
+    parts_are_given_back s (part + 1) parts keys pieces more legal (All-tail (AreKeys s) k keys are) (All-tail (Suits s) k keys suited)
     (All-tail (IsPiece s) piece pieces all) (omega arith) (omega arith) few others in
     let back : GivesBack s part parts (sent_letters s piece) made =
-    part_gives_back s part parts k piece made decipher legal (All-head (AreKeys s) k keys are) (All-head (Suits s) k keys suited)
+    part_gives_back s part parts k piece made legal (All-head (AreKeys s) k keys are) (All-head (Suits s) k keys suited)
     (record { first = first; in_order = omega arith; few = few }) (All-head (IsPiece s) piece pieces all) makes in
     let given = gives_body made.body back.within in
     let is_read : IsPartRead s part parts (part_text made) (sent_letters s piece) = record {
@@ -198,16 +198,16 @@ parts_are_given_back s part parts (k ∷ keys) (piece ∷ pieces) form decipher 
       cut_so = part_is_first s made more rest.texts back.is_heading back.within rest.cut_so;
       read = grind (arith, is_read, rest.read);
     })
-parts_are_given_back s part parts _ _ form decipher legal are suited all first last few made = absurd made
+parts_are_given_back s part parts _ _ form legal are suited all first last few made = absurd made
 
-pub forms_give_their_orders : TheDayDeciphersItself → FormsGiveTheirOrders
-forms_give_their_orders decipher s order form given legal is due =
+pub forms_give_their_orders : FormsGiveTheirOrders
+forms_give_their_orders s order form given legal is due =
     let letters : List ℕ = text_letters s is.text in
     let sent : List ℕ = sent_letters s letters in
     let order_is = is.sendable.is_order in
     let same = one_order s order is.keys due.keys is.head due.head is.text due.text order_is due.is_order in
     let back : AreGivenBack s 1 (length is.keys) (length is.keys) (pieces (part_size s) letters) form =
-    parts_are_given_back s 1 (length is.keys) is.keys (pieces (part_size s) letters) form decipher legal
+    parts_are_given_back s 1 (length is.keys) is.keys (pieces (part_size s) letters) form legal
     (all_of_the_day _ s is.keys is.head order_is.is_head.lines) is.sendable.suited
     (are_pieces s letters (letters_within (blank_of s) is.text (grind arith))) (omega arith) (omega arith) order_is.is_head.few is.made in
     let some : back.texts ≢ [] =
@@ -218,3 +218,9 @@ forms_give_their_orders decipher s order form given legal is due =
       read = grind (arith, at_first, at_cut, back.begins, sent_pieces, letters, read);
       is = due.is ∙ ap (λ t. given_text s (sent_letters s (text_letters s t))) (sym same.2);
     }
+
+pub orders_give_letters : OrdersGiveLetters
+orders_give_letters s order form is = (
+  given_text s (sent_letters s (text_letters s is.text)),
+  record { keys = is.keys; head = is.head; text = is.text; is_order = is.sendable.is_order; is = refl },
+)

@@ -1,5 +1,5 @@
 -- How a part of a form is made: ciphers and their letters, the internal key, and the letters in groups.
-pub use Rattle.kd_form.proofs.Prelude.{◌≡◌, ◌∙◌, ℕ, ◌<◌, List, [], ◌∷◌, length, get_or, arith, All, slice_index, enumerate_from, get_or-eq_default, cases_lt, length-map, All-get_or, All-from_get_or, All-map, Day, OfRotors, OfPins, cipher_from, ◌≢◌, suc, ◌+◌, ◌≤◌, inl, inr, ◌++◌, map, refl, ap, subst, append_assoc, length-append, slice_get, Some, Contains, cases_eq, append-nil, map_push, ComesFirst, ArePicked, IsInternalKey, HaveRunOut, IsTakenInTurn, OnWheel, OffWheel, ◌-◌, ◌%◌, take, drop, sym, length-drop, add-one, min, replicate, codes, decimal, Option, MatchOption, IsSome, option_map, div_ceil, join_with_byte, div-eq_of_lt, mod-eq_of_lt, take_min, drop_min, length-replicate, Heading, fraction, indicator_words, heading_words, pieces, behind_spaces, with_line, Part, pin_day, IsLegalDay, Keys, Rotor, Pin, PinKeys, Indicator, Suits, indicator_of, rotor_letters, enciphered_choice, pin_letters, list_letters, IsMade, part_size, pin_indicators, filled, sheet_key, IsWindow, take-append_seam, drop-append_seam, HasIndicator, message_key, HasIndicatorsAround, group_in, keys_in, list_in, text_in, SaysLetters, Ok, All-append, All-cons, All-replicate, TheDayDeciphersItself, IsFraction, IsHeading, sent_letters, AreKeys, nat_tests, nil_from_length, AreRising}
+pub use Rattle.kd_form.proofs.Prelude.{◌≡◌, ◌∙◌, ℕ, ◌<◌, List, [], ◌∷◌, length, get_or, arith, All, slice_index, enumerate_from, get_or-eq_default, cases_lt, length-map, All-get_or, All-from_get_or, All-map, Day, OfRotors, OfPins, cipher_from, ◌≢◌, suc, ◌+◌, ◌≤◌, inl, inr, ◌++◌, map, refl, ap, subst, append_assoc, length-append, slice_get, Some, Contains, cases_eq, append-nil, map_push, ComesFirst, ArePicked, IsInternalKey, HaveRunOut, IsTakenInTurn, OnWheel, OffWheel, ◌-◌, ◌%◌, take, drop, sym, length-drop, add-one, min, replicate, codes, decimal, Option, MatchOption, IsSome, option_map, div_ceil, join_with_byte, div-eq_of_lt, mod-eq_of_lt, take_min, drop_min, length-replicate, Heading, fraction, indicator_words, heading_words, pieces, behind_spaces, with_line, Part, pin_day, IsLegalDay, Keys, Rotor, Pin, PinKeys, Indicator, Suits, indicator_of, rotor_letters, enciphered_choice, pin_letters, list_letters, IsMade, part_size, pin_indicators, filled, sheet_key, IsWindow, take-append_seam, drop-append_seam, HasIndicator, message_key, HasIndicatorsAround, group_in, keys_in, list_in, text_in, SaysLetters, Ok, All-append, All-cons, All-replicate, twice_on_key, IsFraction, IsHeading, sent_letters, AreKeys, nat_tests, nil_from_length, AreRising}
 use Rattle.std.proofs.lemmas.List.FromFn.{length-enumerate_from, length-range_with_len, get_or-range_with_len}
 use Rattle.kd_tables.specs.{Permutation.alphabet, Permutation.followed_by, Rings.ring_of}
 use Rattle.kd_enigma.specs.Cipher.{product, path}
@@ -273,16 +273,15 @@ pin_places k (a ∷ b ∷ c ∷ d ∷ e ∷ f ∷ []) (x ∷ y ∷ []) text is s
     })
 pin_places k _ _ text is six two = absurd (omega arith)
 
-pub part_gives_back : (s : Day) (part parts : ℕ) (k : Keys) (piece : List ℕ) (made : Part) → TheDayDeciphersItself
-    → IsLegalDay s → AreKeys s k → Suits s k → IsFraction part parts → IsPiece s piece
+pub part_gives_back : (s : Day) (part parts : ℕ) (k : Keys) (piece : List ℕ) (made : Part) → IsLegalDay s → AreKeys s k → Suits s k → IsFraction part parts → IsPiece s piece
     → IsMade s part parts k piece made → GivesBack s part parts (sent_letters s piece) made
-part_gives_back (OfRotors s) part parts (Rotor k) piece made decipher legal are suits fraction is makes =
+part_gives_back (OfRotors s) part parts (Rotor k) piece made legal are suits fraction is makes =
     let day : Day = OfRotors s in
     let enciphered : List ℕ = cipher_from day k.key piece in
     let count : length (rotor_letters day k piece) ≡ 5 + length piece =
     omega (arith, length-append {A = ℕ}, enciphered_length day k.key piece, are.fillers.count, are.group.count) in
-    let key : cipher_from day k.start (cipher_from day k.start k.key) ≡ k.key = decipher day k.start k.key legal are.key.within in
-    let text : cipher_from day k.key enciphered ≡ piece = decipher day k.key piece legal is.within in
+    let key : cipher_from day k.start (cipher_from day k.start k.key) ≡ k.key = twice_on_key day k.start k.key legal are.key.within in
+    let text : cipher_from day k.key enciphered ≡ piece = twice_on_key day k.key piece legal is.within in
     rw makes (record {
       is_heading = grind (arith, count, enciphered_length day k.start k.key, enciphered_letters day k.start k.key);
       numbered = refl;
@@ -294,7 +293,7 @@ part_gives_back (OfRotors s) part parts (Rotor k) piece made decipher legal are 
           let is = sym text ∙ ap (λ window. cipher_from day window enciphered) (sym key) ∙ ap (cipher_from day (message_key day (indicator_of day k))) (sym placed.1) in
           inr (rw (placed.0) suits, ap Ok is);
     })
-part_gives_back (OfPins s) part parts (Pin k) piece made decipher legal are suits fraction is (internal, first, makes) =
+part_gives_back (OfPins s) part parts (Pin k) piece made legal are suits fraction is (internal, first, makes) =
     let day : Day = OfPins s in
     let indicators : List ℕ = pin_indicators day k in
     let enciphered : List ℕ = cipher_from day internal (filled piece) in
@@ -326,7 +325,7 @@ part_gives_back (OfPins s) part parts (Pin k) piece made decipher legal are suit
       read = let placed = pin_places k k.external (list_letters day) enciphered refl are.external.count legal.list.count in
           let on_wheels = subst (λ (x : PinKeys). IsWindow (sheet_key day) x.external) placed.keys suits.0 in
           let best = subst (λ (x : PinKeys). IsInternalKey (enciphered_choice day x) internal) placed.keys first in
-          let is = sym (decipher day internal (filled piece) legal inner) ∙ ap (cipher_from day internal) placed.text_is in
+          let is = sym (twice_on_key day internal (filled piece) legal inner) ∙ ap (cipher_from day internal) placed.text_is in
           inr (placed.around, inr (on_wheels, inr (sym placed.listed, inr (internal, best, ap Ok is))));
     })
-part_gives_back _ part parts _ piece made decipher legal are suits fraction is makes = absurd suits
+part_gives_back _ part parts _ piece made legal are suits fraction is makes = absurd suits

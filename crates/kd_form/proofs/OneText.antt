@@ -1,5 +1,5 @@
 -- A form becomes one text, or has one fault; and what refuses it for good.
-pub use Rattle.kd_form.proofs.Prelude.{err_is, append-nil, ◌≡◌, ℕ, ◌+◌, ◌-◌, inl, inr, List, [], ◌∷◌, ◌++◌, length, Result, Ok, Err, refl, sym, ap, subst, ◌∙◌, append_assoc, arith, All, IsTrue, Option, Some, None, is_text_byte, Day, FormFault, BadByte, BadHeading, PartOrder, Heading, Indicator, enciphered_choice, letters_from, IsBadAt, keys_in, Answer, IsCaught, IsJudged, IsSought, SaysBody, SaysLetters, HasHeading, IsExpected, IsPartRead, IsPartFault, InHeading, InNumber, InBody, BeginsHeading, IsAt, OfRest, Place, at_first, place_behind, ReadsTo, IsComplete, StandsAt, EndsAt, AtPart, cut, parts_of, IsTextOf, NoHeading, IsReceiveFault, false, ◌⊎◌, length-append, Port, Fail, Parts, IsEarlyFault, form_message, IsKeyFault, orders, Answers, AreWell, is_device, is_off_key, texts, IsWithout, FormsStayRefused, Message, given_text, false≢true, Off, OffKey}
+pub use Rattle.kd_form.proofs.Prelude.{err_is, append-nil, ◌≡◌, ℕ, ◌+◌, ◌-◌, inl, inr, List, [], ◌∷◌, ◌++◌, length, Result, Ok, Err, refl, sym, ap, subst, ◌∙◌, append_assoc, arith, All, IsTrue, Option, Some, None, is_text_byte, Day, FormFault, BadByte, BadHeading, PartOrder, Heading, Indicator, enciphered_choice, letters_from, IsBadAt, keys_in, Answer, IsCaught, IsJudged, IsSought, SaysBody, SaysLetters, HasHeading, IsExpected, IsPartRead, IsPartFault, InHeading, InNumber, InBody, BeginsHeading, IsAt, OfRest, Place, at_first, place_behind, ReadsTo, IsComplete, StandsAt, EndsAt, AtPart, cut, parts_of, IsTextOf, NoHeading, IsReceiveFault, false, ◌⊎◌, length-append, Port, Fail, Parts, IsEarlyFault, form_message, IsKeyFault, orders, Answers, AreWell, is_device, is_off_key, texts, IsWithout, FormsBecomeOneText, FormsHaveOneFault, FormsStayRefused, ReceivedFormsHaveNoFault, Message, given_text, false≢true, Off, OffKey}
 use Rattle.kd_form.proofs.OneOrder.{only_this, only_either, only_found, only_judged, only_caught, one_internal_key, one_bad_byte, no_bad_byte, IsOnly}
 use Rattle.kd_form.proofs.Headings.{one_heading, begins_there, begins_more, first_there, ended_heading, heading_there, IsAlike, alike, as_parts, first_done, single}
 
@@ -143,6 +143,22 @@ module _ (s : Day) where
         (letters, reads_as s (StandsAt s fault) (AnswersAt s (Err fault)) (stands_at s fault) at_first (parts_of form) letters reads)
     fault_answer fault (text, inr (letters, reads, is)) =
         (letters, reads_as s (EndsAt s fault) (AnswersAt s (Err fault)) (ends_at s fault) at_first (parts_of form) letters reads)
+
+pub forms_become_one_text : FormsBecomeOneText
+forms_become_one_text s form text other a b =
+    let same = only_form s form (Ok tt) (Ok tt) a.letters b.letters (text_answer s form text a) (text_answer s form other b) in
+    a.is ∙ ap (given_text s) same.0 ∙ sym b.is
+
+pub forms_have_one_fault : FormsHaveOneFault
+forms_have_one_fault s form fault other a b =
+    let one = fault_answer s form fault a in
+    let two = fault_answer s form other b in
+    let same = (only_form s form (Err fault) (Err other) one.0 two.0 one.1 two.1).1 in cc
+
+pub received_forms_have_no_fault : ReceivedFormsHaveNoFault
+received_forms_have_no_fault s form text fault a b =
+    let found = fault_answer s form fault b in
+    let clash = (only_form s form (Ok tt) (Err fault) a.letters found.0 (text_answer s form text a) found.1).1 in cc
 
 -- -------- of which answers a device is the reason, or the machine
 

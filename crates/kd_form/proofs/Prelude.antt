@@ -14,7 +14,8 @@ pub use Rattle.kd_form.specs.FormReading.{FitsAt, HasBegun, HasTail, HoldsBody, 
 pub use Rattle.kd_form.specs.FormText.{AtPart, EndsAt, IsComplete, IsLast, IsReadTo, IsReceiveFault, IsRefusedAtEnd, IsRefusedForGood, IsTextOf, NoHeading, OfRest, Place, ReadsTo, StandsAt, at_first, form_message, given_byte, given_letters, given_text, place_behind, sent_letters}
 pub use Rattle.kd_form.specs.InternalKey.{ArePicked, ComesFirst, HaveRunOut, IsInternalKey, IsTakenInTurn, OffWheel, OnWheel, AreRising}
 pub use Rattle.kd_form.specs.KeyPatterns.{HasPins, HasSlots, IsAnyKeyLine, key_letters, key_pattern, places_for, rotor_pattern}
-pub use Rattle.kd_form.specs.{Keys.AreKeys, Keys.key_words, Laws.FormsGiveTheirOrders, Laws.FormsStayRefused}
+pub use Rattle.kd_form.specs.Keys.{AreKeys, key_words}
+pub use Rattle.kd_form.specs.Laws.{FormsBecomeOneText, FormsGiveTheirOrders, FormsHaveOneFault, FormsStayRefused, OrdersGiveLetters, ReceivedFormsHaveNoFault}
 pub use Rattle.kd_form.specs.{OnTheKey.{IsKeyFault, OffKey}, Steps.{Answer, IsCaught, IsFound, IsJudged, IsSought}}
 pub use Rattle.kd_form.specs.Making.{IsMade, IsMadeText, Suits, cipher_from, enciphered_choice, filled, indicator_of, list_letters, part_size, pin_indicators, pin_letters, rotor_letters}
 pub use Rattle.kd_form.specs.Order.{BeginsWithKeys, BreaksOff, IsAnyHead, IsEnded, IsHead, IsHeadFault, IsKeyLine, IsOrder}
@@ -32,7 +33,7 @@ pub use Rattle.kd_form.specs.declared.{fault.FormFault.FormFault, heading.{Headi
 pub use Rattle.kd_form.specs.declared.{keys.{Keys.{Keys, TheVariants.{Pin, Rotor}}, PinKeys.PinKeys}, pattern_line.Unread.Unread}
 pub use Rattle.kd_form.specs.declared.fault.FormFault.TheVariants.{BadByte, BadHeading, EmptyText, NotReady, PartKeys, PartOrder}
 pub use Rattle.kd_state.proofs.Lines.{lines_split_into_words, numbers_are_words, parts_make_lines, texts_tell_first_parts, word_by_bytes}
-pub use Rattle.kd_state.specs.{Laws.CipherInTurn, Laws.TheDayDeciphersItself, declared.machine.parts.Parts.Parts}
+pub use Rattle.kd_state.{proofs.Keys.{cipher_in_turn, engine_cipher, twice_on_key}, specs.declared.machine.parts.Parts.Parts}
 pub use Rattle.kd_state.specs.SheetDay.{Day, IsLegalDay, OfPins, OfRotors, pin_day}
 pub use Rattle.kd_state.specs.TwoCiphers.{EngineKey, IsWindow, cipher, physical_cipher, sheet_key}
 pub use Rattle.kd_state.specs.Words.{IsFirstPart, IsWithout, IsWord, line_of, words_of}

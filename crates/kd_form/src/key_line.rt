@@ -1,28 +1,13 @@
 //! The line of an order that gives the keys of a part.
-ghost use Rattle.std.specs.Prelude.{◌≡◌, ◌≤◌, ◌+◌, ◌⊎◌, List, ℕ, ◌++◌, ◌∷◌, length, MatchOption};
-ghost use Rattle.std.specs.Prelude.{MatchResult, ◌<◌, []};
+ghost use Rattle.std.specs.Prelude.{◌≡◌, ◌≤◌, ◌+◌, ◌⊎◌, ◌++◌, ◌∷◌, length, MatchOption};
 ghost use Rattle.kd_state.specs.Machine.{AreLetters};
 ghost use Rattle.kd_form.specs.Keys.{AreKeys, AreRotorKeys, ArePinKeys};
-ghost use Rattle.kd_form.specs.declared.keys.Keys.{Keys};
-ghost use Rattle.kd_form.specs.Order.{BreaksOff, IsKeyLine};
 ghost use Rattle.kd_form.specs.Patterns.{blanks};
-ghost use Rattle.kd_form.specs.KeyPatterns.{key_pattern, key_letters, IsAnyKeyLine, HasSlots};
-ghost use Rattle.kd_form.specs.KeyPatterns.{HasPins};
+ghost use Rattle.kd_form.specs.KeyPatterns.{key_pattern, key_letters, HasSlots, HasPins};
 
 use super::keys::{Keys, PinKeys, RotorKeys};
-use super::pattern_line::{Unread, read_pattern};
 use kd_state::{Entry, PerSlot, SheetDay};
 use kd_tables::Letter;
-
-/// The keys in the line, with its end. They come in a tuple, as the prover can't carry them alone.
-pub(crate) fn read_keys(day: &SheetDay, bytes: &[u8]) -> Result<(Keys,), Unread>
-    ensures { MatchResult result
-        (λ read. AreKeys day.now read.0 × IsKeyLine read.0 bytes.now)
-        (BreaksOff (IsAnyKeyLine day.now) bytes.now) }
-{
-    let letters = read_pattern(key_pattern(day), bytes)?;
-    Ok((keys_of(day, letters.as_slice()),))
-}
 
 /// The pattern of the line.
 pub(crate) fn key_pattern(day: &SheetDay) -> &'static [u8]
@@ -50,7 +35,7 @@ pub(crate) fn slots_of(day: &SheetDay) -> Option<usize>
 }
 
 /// The keys with these letters.
-fn keys_of(day: &SheetDay, letters: &[Letter]) -> Keys
+pub(crate) fn keys_of(day: &SheetDay, letters: &[Letter]) -> Keys
     requires { AreLetters (blanks (key_pattern day.now)) letters.now }
     ensures letters { key_letters result ≡ letters.now }
     ensures keys { AreKeys day.now result }

@@ -11,7 +11,6 @@ use super::form_reader::FormReader;
 use super::order_reader::OrderReader;
 use super::stream::whole::judge;
 use kd_state::SheetDay;
-use kd_state::laws::the_day_deciphers_itself;
 
 /// An order becomes one form at most, has one fault at most, and never both.
 pub fn orders_have_one_answer()
@@ -56,6 +55,4 @@ pub fn forms_have_an_answer(day: &SheetDay, form: &[u8])
 pub fn forms_give_their_orders()
     ensures letters { OrdersGiveLetters }
     ensures back { FormsGiveTheirOrders }
-{
-    the_day_deciphers_itself();
-}
+{}

@@ -78,17 +78,7 @@ impl<'day> OwnMachine<'day> {
         let mut letters = ArrayVec::new();
         push_letters(&mut letters, text);
         self.encipher(window, letters.as_mut_slice());
-        are_letters(letters.as_slice());
         letters
-    }
-}
-
-/// Letters are letters of the alphabet.
-fn are_letters(letters: &[Letter])
-    ensures { All (λ letter. letter < 26) letters.now }
-{
-    for letter in letters {
-        prove!(letter.index() < 26);
     }
 }
 

@@ -41,20 +41,13 @@ fn read_rotor_letters(
     Ok(own.enciphered(key.as_slice(), &letters[5..]))
 }
 
-/// Whether these are the same letters in the same order.
-#[tactic(auto, using(crate::proofs::Lines::comparing))]
-fn are_the_same(letters: &[Letter], others: &[Letter]) -> bool
-    ensures { IsTrue result ↔ (letters.now ≡ others.now) }
-{
-    letters == others
-}
-
 /// Whether the last ten letters are the first ten, of which the first two are the same.
+#[tactic(auto, using(crate::proofs::Lines::comparing))]
 fn has_indicators_around(letters: &[Letter]) -> bool
     requires { 20 ≤ length letters.now }
     ensures { IsTrue result ↔ HasIndicatorsAround letters.now }
 {
-    are_the_same(&letters[..10], &letters[letters.len() - 10..]) && letters[0] == letters[1]
+    letters[..10] == letters[letters.len() - 10..] && letters[0] == letters[1]
 }
 
 /// The keys in the indicators.
@@ -89,7 +82,7 @@ fn read_pin_letters(
         return Err(FormFault::KeyNotOnWheel);
     }
     let due = day.list().unwrap();
-    if !are_the_same(&letters[8..10], &due) {
+    if letters[8..10] != due[..] {
         return Err(FormFault::WrongGroup(part));
     }
     let text = &letters[10..letters.len() - 10];

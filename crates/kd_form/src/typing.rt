@@ -11,7 +11,7 @@ use super::stream::reader::{PIECE, PieceReader};
 use super::stream::stop::Stop;
 use super::stream::stream;
 use arrayvec::ArrayVec;
-use kd_state::{Engine, Machine, laws};
+use kd_state::{Engine, Machine};
 use kd_tables::{Sink, Source, put_all};
 use piece::type_piece;
 
@@ -34,7 +34,6 @@ pub fn type_stream<R: Source, W: Sink>(
     ensures failed { Fail (port R.remaining R.has_failed source.old source.new)
         (port W.taken W.has_failed sink.old sink.new) (is_device result) }
 {
-    laws::engines_encipher_as_their_machines();
     let engine = machine.engine()?;
     stream(machine, &mut Typist { engine, read: 0 }, source, sink)
 }
@@ -57,7 +56,6 @@ impl PieceReader<Machine> for Typist {
 
     #[tactic(auto, using(crate::proofs::Streaming::read_whole))]
     fn read<W: Sink>(&mut self, _on: &Machine, bytes: &[u8], sink: &mut W) -> Result<(), Stop> {
-        laws::pieces_are_enciphered_in_turn();
         let mut lamps = ArrayVec::from([0; PIECE]);
         let front = type_piece(&mut self.engine, bytes, &mut lamps);
         self.read += front;

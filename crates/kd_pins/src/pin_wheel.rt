@@ -42,13 +42,14 @@ impl<const N: usize> Model for PinWheel<N> {
 impl<const N: usize> PinWheel<N> {
     /// The wheel with these letters and the pins beside them, showing its first letter, A. The pin that acts stands `offset`
     /// places past the letter shown, in the wheel's own order.
+    #[tactic(auto, using(crate::proofs::Rings::at_most_all))]
     pub fn new(ring: Ring<N>, offset: usize, pins: [bool; N]) -> Self
         requires { offset < N }
         ensures value { result
             ≡ record { ring = ring.entry; offset = offset; pins = pins.entry; place = 0 } }
         ensures wheel { IsWheel N result }
     {
-        at_most_all_letters(&ring);
+        prove!(ring.letters().len() == N);
         PinWheel {
             ring,
             offset,
@@ -120,12 +121,4 @@ impl<const N: usize> PinWheel<N> {
         let PinWheel { ring, place, .. } = self;
         ring.letter_of(*place)
     }
-}
-
-/// A wheel has each letter at most once, and so no more than there are.
-fn at_most_all_letters<const N: usize>(ring: &Ring<N>)
-    ensures size { N ≤ 26 }
-    ensures ring { IsRing N ring.now }
-{
-    prove!(ring.letters().len() == N);
 }

@@ -1,7 +1,6 @@
 -- In a card that proves itself, what is alike has equal prices: it costs the same everywhere, and each price is tight
 -- somewhere.
-use Rattle.kd_prices.proofs.Prelude.{◌≡◌, ℕ, ◌<◌, ◌≤◌, List, get_or, length, None, unwrap_or, slice_get, sym, ap, ◌∙◌, arith, ints, get_or-map, unwrap_or-slice_get, slice_get_past, One, Rotor, Pin, cable_letters, Day, OfRotors, OfPins, tests_tell_letters, thirteen_columns, columns_are_the_pairs, cable_cost, bar_cost, columns_of, PriceParts, Cables, Bars, how_many, cost_at, Fits, AreTight, ProvingPricesAreTight, Parts, StandAlike, ReadAlike, AlikePricesAreEqual, AreEqualWhereAlike, map}
-use Rattle.kd_prices.proofs.Things.{no_rotors}
+use Rattle.kd_prices.proofs.Prelude.{no_rotors, proving_prices_are_tight, ◌≡◌, ℕ, ◌<◌, ◌≤◌, List, get_or, length, None, unwrap_or, slice_get, sym, ap, ◌∙◌, arith, ints, get_or-map, unwrap_or-slice_get, slice_get_past, One, Rotor, Pin, cable_letters, Day, OfRotors, OfPins, tests_tell_letters, thirteen_columns, columns_are_the_pairs, cable_cost, bar_cost, columns_of, PriceParts, Cables, Bars, how_many, cost_at, Fits, AreTight, Parts, StandAlike, ReadAlike, AlikePricesAreEqual, AreEqualWhereAlike, map}
 
 -- prices that fit a table of costs, each tight somewhere
 module _ {A B : Type 0} (cost : A → B → ℕ) (rows : List A) (columns : List B) (a : A) (b : B) (m : Parts) (s : Day) (prices : PriceParts)
@@ -32,16 +31,16 @@ same_at xs i k d e = sym (unwrap_or-slice_get xs i d) ∙ ap (λ found. unwrap_o
 pub nothing_at : (pairs : List (ℕ × ℕ)) (place : ℕ) → length pairs ≤ place → get_or (columns_of pairs) place None ≡ None
 nothing_at pairs place past = columns_are_the_pairs pairs place ∙ slice_get_past pairs place past
 
-pub alike_prices_are_equal : ProvingPricesAreTight → AlikePricesAreEqual
-alike_prices_are_equal tight (Rotor m) (OfRotors s) settings (Cables row column) machine legal are_prices h =
+pub alike_prices_are_equal : AlikePricesAreEqual
+alike_prices_are_equal (Rotor m) (OfRotors s) settings (Cables row column) machine legal are_prices h =
     equal_where_alike cable_cost m.cables (columns_of s.pairs) (None, None) None (Rotor m) (OfRotors s) (Cables row column) machine.legal.cables.count (thirteen_columns s.pairs legal.pairs.few) h.fits
-    (tight (Rotor m) (OfRotors s) settings (Cables row column) machine legal are_prices h)
+    (proving_prices_are_tight (Rotor m) (OfRotors s) settings (Cables row column) machine legal are_prices h)
     (λ i k alike column. simp ((tests_tell_letters (cable_letters (get_or m.cables i (None, None))) (cable_letters (get_or m.cables k (None, None)))).0 alike))
     (λ j k alike. nothing_at s.pairs j alike.0 ∙ sym (nothing_at s.pairs k alike.1))
-alike_prices_are_equal tight (Pin m) (OfPins s) settings (Bars row column) machine legal are_prices h =
+alike_prices_are_equal (Pin m) (OfPins s) settings (Bars row column) machine legal are_prices h =
     equal_where_alike bar_cost m.bars s.rows (One, One) (0, 0) (Pin m) (OfPins s) (Bars row column) machine.legal.bars legal.count h.fits
-    (tight (Pin m) (OfPins s) settings (Bars row column) machine legal are_prices h)
+    (proving_prices_are_tight (Pin m) (OfPins s) settings (Bars row column) machine legal are_prices h)
     (λ i k alike column. ap (λ bar. bar_cost bar column) (same_at m.bars i k (One, One) alike)) (λ j k alike. same_at s.rows j k (0, 0) alike)
-alike_prices_are_equal tight (Rotor m) (OfPins s) settings prices machine legal are_prices h = absurd (no_rotors m.model m.reflector h.model machine.legal.reflector)
-alike_prices_are_equal tight (Pin m) (OfRotors s) settings prices machine legal are_prices h = absurd (no_rotors s.model s.reflector (sym h.model) legal.reflector)
-alike_prices_are_equal tight m s settings prices machine legal are_prices h = absurd h.kind
+alike_prices_are_equal (Rotor m) (OfPins s) settings prices machine legal are_prices h = absurd (no_rotors m.model m.reflector h.model machine.legal.reflector)
+alike_prices_are_equal (Pin m) (OfRotors s) settings prices machine legal are_prices h = absurd (no_rotors s.model s.reflector (sym h.model) legal.reflector)
+alike_prices_are_equal m s settings prices machine legal are_prices h = absurd h.kind

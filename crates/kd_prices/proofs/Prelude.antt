@@ -12,7 +12,7 @@ pub use Rattle.kd_card.proofs.{KindPrices.{few_kinds, size_of}, KindWords.{low_r
 pub use Rattle.kd_card.proofs.Leading.{leads_join, leads_next, stops_at}
 pub use Rattle.kd_card.specs.CardText.{column_name, group_of, price_count, row_name}
 pub use Rattle.kd_card.specs.Kinds.{AreCalled, AreEnds, AreKinds, IsInForm, IsPricedKind, counted, look_name, look_rank}
-pub use Rattle.kd_card.specs.Laws.{ProvingCardsAreShortest, ProvingPricesAreTight}
+pub use Rattle.kd_card.proofs.Shortest.{no_rotors, proving_cards_are_shortest, proving_prices_are_tight}
 pub use Rattle.kd_card.specs.Prices.{ArePrices, AreTight, AreWithinReach, Fits, column_kinds, column_prices, cost_at, how_many, price_at, price_sum, row_kinds, row_prices, version_of}
 pub use Rattle.kd_card.specs.Proving.{AreExpanded, AreNeeded, AreOfKind, Expanded, Expands, HasCount, IsNeeded, IsPriced, Proves, Same, alike_count, column_looks, group_of_machine, look_at, pair_in_order, priced_count, row_looks}
 pub use Rattle.kd_card.specs.declared.{group.Group.{Group, TheVariants.{OfBars, OfCables}}, kinds.PricedKind.PricedKind}

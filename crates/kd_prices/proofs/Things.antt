@@ -1,11 +1,7 @@
 -- What a machine's cables or bars look like, and a day's pairs and nothings or rows: so many, called so, each in its form.
-use Rattle.{kd_state.specs.Machine.model_of, kd_state.specs.SheetDay.day_model, kd_tables.specs.Tables.reflectors_of}
-use Rattle.kd_tables.specs.declared.{model.Model.Model, model.Model.TheVariants.M209, reflector.Reflector.Reflector}
+use Rattle.{kd_state.specs.Machine.model_of, kd_state.specs.SheetDay.day_model}
 use Rattle.std.specs.List.{IsDistinct}
-use Rattle.kd_prices.proofs.Prelude.{◌≡◌, ℕ, zero, suc, ◌-◌, ◌<◌, false, eqb, List, [], ◌∷◌, ◌++◌, length, get_or, replicate, Option, Some, None, refl, sym, subst, Contains, ap, ◌∙◌, arith, AllByRecursion, eqb-false, length-map, All-from_recursion, recursion_from_All, All-map, letters_plugged, NoLetterTwice, Parts, Rotor, Pin, plugged_letters, ordered, IsMachine, Day, OfRotors, OfPins, IsLegalDay, columns_of, thirteen_columns, Look, Cable, Pair, Bar, Row, look_name, IsInForm, All, nat_tests, Group, OfCables, OfBars, row_name, column_name, price_count, row_looks, column_looks, pair_in_order, group_of_machine, AreThings, map}
-
-pub no_rotors : (model : Model) (reflector : Reflector) → model ≡ M209 → Contains (reflectors_of model) reflector → ⊥
-no_rotors model reflector e h = let none = subst (λ model. Contains (reflectors_of model) reflector) e h in omega (arith, none.1)
+use Rattle.kd_prices.proofs.Prelude.{no_rotors, ◌≡◌, ℕ, zero, suc, ◌-◌, ◌<◌, false, eqb, List, [], ◌∷◌, ◌++◌, length, get_or, replicate, Option, Some, None, refl, sym, ap, ◌∙◌, arith, AllByRecursion, eqb-false, length-map, All-from_recursion, recursion_from_All, All-map, letters_plugged, NoLetterTwice, Parts, Rotor, Pin, plugged_letters, ordered, IsMachine, Day, OfRotors, OfPins, IsLegalDay, columns_of, thirteen_columns, Look, Cable, Pair, Bar, Row, look_name, IsInForm, All, nat_tests, Group, OfCables, OfBars, row_name, column_name, price_count, row_looks, column_looks, pair_in_order, group_of_machine, AreThings, map}
 
 abbrev in_each_order : List (Option ℕ × Option ℕ) → List (Option ℕ × Option ℕ)
 in_each_order cables = map (λ cable. ordered cable.0 cable.1) cables

@@ -12,11 +12,12 @@ use Rattle.kd_state.proofs.Prelude.{enumerate_from, pins_of, Bool, List, Some, [
 use Rattle.kd_state.proofs.Prelude.{subst, sym, ℕ, ◌+◌, ◌-◌, ◌||◌, ◌∙◌, ◌∷◌, ◌≡◌, common_steps, IsPermutation}
 use Rattle.kd_state.proofs.{Cables.{no_letter_twice, pairs_joined, whole_cables}, Seating.{all_seated, read_all}}
 use Rattle.kd_state.proofs.Seating.{wheels_of_slots}
-use Rattle.{kd_enigma.specs.Laws.{PairsMakeAPlugboard, SamePairsExchangeAlike}, kd_state.specs.Lugs.bars_moved}
-use Rattle.{kd_state.specs.Lugs.lug_is_met, std.proofs.Common.{max, min, ◌%◌}, std.proofs.Math.Bool.or_comm}
+use Rattle.{kd_state.specs.Lugs.{bars_moved, lug_is_met}, std.proofs.Common.{max, min, ◌%◌}, std.proofs.Math.Bool.or_comm}
 use Rattle.std.proofs.Math.Nat.{min-eq_left, min-eq_right, max-eq_left, max-eq_right}
-use Rattle.kd_enigma.specs.Laws as enigma
-use Rattle.kd_drum.specs.Laws as drum
+use Rattle.kd_enigma.proofs.Cables.{pairs_make_a_plugboard, same_pairs_exchange_alike}
+use Rattle.kd_enigma.proofs.Ciphers as enigma
+use Rattle.kd_drum.proofs.Ciphers as drum
+use Rattle.kd_drum.proofs.Starts as starts
 
 -- ---- the bars that a Converter's wheels meet are as many as its readings say
 
@@ -61,53 +62,51 @@ own_window : (m : Parts) → physical_key m ≡ key_with_window (physical_key m)
 own_window m = grind arith
 
 -- a machine on the day's key has the day's cipher, whatever letters both show
-module _ (alike : SamePairsExchangeAlike) where
-  rotor_key : (m : RotorParts) (s : RotorDay) (window : List ℕ) → AreCables m.cables → IsLegalRotorDay s → IsRotorOnKey m s
-      → key_with_window (physical_key (Rotor m)) window ≡ key_with_window (sheet_key (OfRotors s)) window
-  rotor_key m s window cables legal h =
-      let wheels = wheels_of_slots m s.wheels h.slots in
-      let rings = ap (filter_map (ring_at m)) wheels
-      ∙ read_all (ring_at m) (λ w. w.ring) s.wheels (recursion_from_All (λ (w : SheetWheel). ring_at m w.wheel ≡ Some w.ring) s.wheels h.rings) in
-      let whole = whole_cables m.cables s.pairs legal.pairs.apart h.cables in
-      let plugs = alike (plugged_pairs m) s.pairs (no_letter_twice m.cables cables whole) legal.pairs.apart (pairs_joined m.cables s.pairs whole h.cables) in
-      λ i. OfWheels (record { wheels = wheels i; rings = rings i; window = window; reflector = h.reflector i; plugs = plugs i })
+rotor_key : (m : RotorParts) (s : RotorDay) (window : List ℕ) → AreCables m.cables → IsLegalRotorDay s → IsRotorOnKey m s
+    → key_with_window (physical_key (Rotor m)) window ≡ key_with_window (sheet_key (OfRotors s)) window
+rotor_key m s window cables legal h =
+    let wheels = wheels_of_slots m s.wheels h.slots in
+    let rings = ap (filter_map (ring_at m)) wheels
+    ∙ read_all (ring_at m) (λ w. w.ring) s.wheels (recursion_from_All (λ (w : SheetWheel). ring_at m w.wheel ≡ Some w.ring) s.wheels h.rings) in
+    let whole = whole_cables m.cables s.pairs legal.pairs.apart h.cables in
+    let plugs = same_pairs_exchange_alike (plugged_pairs m) s.pairs (no_letter_twice m.cables cables whole) legal.pairs.apart (pairs_joined m.cables s.pairs whole h.cables) in
+    λ i. OfWheels (record { wheels = wheels i; rings = rings i; window = window; reflector = h.reflector i; plugs = plugs i })
 
-  -- bars that read as the same rows in another order are met as often
-  converter_alike : (pins : List (List Bool)) (letters : List ℕ) (rows others : List (ℕ × ℕ)) (text : List ℕ) → IsPermutation rows others
-      → converter_cipher (record { pins = pins; letters = letters; rows = rows }) text ≡ converter_cipher (record { pins = pins; letters = letters; rows = others }) text
-  converter_alike pins letters rows others text moved = grind (arith, sum_by-IsPermutation, moved)
+-- bars that read as the same rows in another order are met as often
+converter_alike : (pins : List (List Bool)) (letters : List ℕ) (rows others : List (ℕ × ℕ)) (text : List ℕ) → IsPermutation rows others
+    → converter_cipher (record { pins = pins; letters = letters; rows = rows }) text ≡ converter_cipher (record { pins = pins; letters = letters; rows = others }) text
+converter_alike pins letters rows others text moved = grind (arith, sum_by-IsPermutation, moved)
 
-  key_on_key : (m : Parts) (s : Day) (window text : List ℕ) → IsMachine m → IsLegalDay s → OnKey m s
-      → cipher (key_with_window (physical_key m) window) text ≡ cipher (key_with_window (sheet_key s) window) text
-  key_on_key (Rotor m) (OfRotors s) window text machine legal h = ap (λ key. cipher key text) (rotor_key m s window machine.legal.cables legal h)
-  key_on_key (Pin m) (OfPins s) window text machine legal h =
-      ap (λ pins. converter_cipher (record { pins = pins_of pins; letters = window; rows = map (λ bar. reading_of bar.0 bar.1) m.bars }) text) h.pins
-      ∙ converter_alike (pins_of s.pins) window (map (λ bar. reading_of bar.0 bar.1) m.bars) s.rows text h.rows
-  key_on_key m s window text machine legal h = absurd h
+key_on_key : (m : Parts) (s : Day) (window text : List ℕ) → IsMachine m → IsLegalDay s → OnKey m s
+    → cipher (key_with_window (physical_key m) window) text ≡ cipher (key_with_window (sheet_key s) window) text
+key_on_key (Rotor m) (OfRotors s) window text machine legal h = ap (λ key. cipher key text) (rotor_key m s window machine.legal.cables legal h)
+key_on_key (Pin m) (OfPins s) window text machine legal h =
+    ap (λ pins. converter_cipher (record { pins = pins_of pins; letters = window; rows = map (λ bar. reading_of bar.0 bar.1) m.bars }) text) h.pins
+    ∙ converter_alike (pins_of s.pins) window (map (λ bar. reading_of bar.0 bar.1) m.bars) s.rows text h.rows
+key_on_key m s window text machine legal h = absurd h
 
-  pub on_key_cipher : OnKeyIsItsCipher
-  on_key_cipher m s text machine legal h =
-      sym (engine_cipher m text) ∙ ap (λ key. cipher key text) (own_window m) ∙ key_on_key m s (window_of m) text machine legal h
+pub on_key_cipher : OnKeyIsItsCipher
+on_key_cipher m s text machine legal h =
+    sym (engine_cipher m text) ∙ ap (λ key. cipher key text) (own_window m) ∙ key_on_key m s (window_of m) text machine legal h
 
-  pub reading_cipher : ReadingIsItsCipher
-  reading_cipher (Rotor m) (OfRotors s) text machine legal h =
-      let shows = ap (filter_map (letter_at m)) (wheels_of_slots m s.wheels h.key.slots)
-      ∙ read_all (letter_at m) (λ w. w.letter) s.wheels (recursion_from_All (λ (w : SheetWheel). letter_at m w.wheel ≡ Some w.letter) s.wheels h.window) in
-      on_key_cipher (Rotor m) (OfRotors s) text machine legal h.key ∙ ap (λ window. cipher (key_with_window (sheet_key (OfRotors s)) window) text) shows
-  reading_cipher (Pin m) (OfPins s) text machine legal h =
-      on_key_cipher (Pin m) (OfPins s) text machine legal h.key ∙ ap (λ window. cipher (key_with_window (sheet_key (OfPins s)) window) text) h.window
-  reading_cipher m s text machine legal h = absurd h.key
+pub reading_cipher : ReadingIsItsCipher
+reading_cipher (Rotor m) (OfRotors s) text machine legal h =
+    let shows = ap (filter_map (letter_at m)) (wheels_of_slots m s.wheels h.key.slots)
+    ∙ read_all (letter_at m) (λ w. w.letter) s.wheels (recursion_from_All (λ (w : SheetWheel). letter_at m w.wheel ≡ Some w.letter) s.wheels h.window) in
+    on_key_cipher (Rotor m) (OfRotors s) text machine legal h.key ∙ ap (λ window. cipher (key_with_window (sheet_key (OfRotors s)) window) text) shows
+reading_cipher (Pin m) (OfPins s) text machine legal h =
+    on_key_cipher (Pin m) (OfPins s) text machine legal h.key ∙ ap (λ window. cipher (key_with_window (sheet_key (OfPins s)) window) text) h.window
+reading_cipher m s text machine legal h = absurd h.key
 
-  -- what one enciphers the other deciphers
-  module _ (board : PairsMakeAPlugboard) (enigma_twice : enigma.TwiceGivesBack) (drum_twice : drum.TwiceGivesBack) where
-    pub twice_on_key : TheDayDeciphersItself
-    twice_on_key = grind arith
+-- what one enciphers the other deciphers
+pub twice_on_key : TheDayDeciphersItself
+twice_on_key = grind (arith, pairs_make_a_plugboard, enigma.twice_gives_back, drum.twice_gives_back)
 
-    pub equally_set : EquallySetDecipher
-    equally_set m n s text machine other legal h k same letters =
-        let key : List ℕ → EngineKey = key_with_window (sheet_key s) in
-        ap (physical_cipher n) (on_key_cipher m s text machine legal h) ∙ on_key_cipher n s (cipher (key (window_of m)) text) other legal k
-        ∙ ap (λ window. cipher (key window) (cipher (key (window_of m)) text)) (sym same) ∙ twice_on_key s (window_of m) text legal letters
+pub equally_set : EquallySetDecipher
+equally_set m n s text machine other legal h k same letters =
+    let key : List ℕ → EngineKey = key_with_window (sheet_key s) in
+    ap (physical_cipher n) (on_key_cipher m s text machine legal h) ∙ on_key_cipher n s (cipher (key (window_of m)) text) other legal k
+    ∙ ap (λ window. cipher (key window) (cipher (key (window_of m)) text)) (sym same) ∙ twice_on_key s (window_of m) text legal letters
 
 -- turned to other letters
 pub turned_on_key : TurnedIsOnKey
@@ -126,13 +125,13 @@ turned_key m n window turned = absurd turned
 pub turned_engine : TurnedEngineIsTheTurnedMachine
 turned_engine m n window text turned = ap (λ key. cipher key text) (sym (turned_key m n window turned)) ∙ engine_cipher n text
 
-pub turned_cipher : SamePairsExchangeAlike → TurnedHasTheDaysCipher
-turned_cipher alike m n s window text machine legal h turned = sym (turned_engine m n window text turned) ∙ key_on_key alike m s window text machine legal h
+pub turned_cipher : TurnedHasTheDaysCipher
+turned_cipher m n s window text machine legal h turned = sym (turned_engine m n window text turned) ∙ key_on_key m s window text machine legal h
 
 -- a text in pieces
-pub cipher_in_turn : enigma.CipherInTurn → drum.CipherInTurn → CipherInTurn
-cipher_in_turn e d = grind arith
+pub cipher_in_turn : CipherInTurn
+cipher_in_turn = grind (arith, enigma.cipher_in_turn, drum.cipher_in_turn)
 
-pub key_in_turn : enigma.KeyInTurn → drum.KeyInTurn → KeyInTurn
-key_in_turn of_wheels of_drum (OfWheels key) m n = ap OfWheels (of_wheels key m n)
-key_in_turn of_wheels of_drum (OfDrum key) m n = ap OfDrum (of_drum key m n)
+pub key_in_turn : KeyInTurn
+key_in_turn (OfWheels key) m n = ap OfWheels (enigma.key_in_turn key m n)
+key_in_turn (OfDrum key) m n = ap OfDrum (starts.key_in_turn key m n)

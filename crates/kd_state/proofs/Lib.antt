@@ -4,7 +4,7 @@ pub mod Cables
 pub mod Slots
 pub mod Lines
 pub mod CostTable
-mod Keys
+pub mod Keys
 mod Seating
 mod SortedAlike
 pub mod Telling

@@ -63,7 +63,7 @@ pub(crate) fn are_standings(bars: &[Standing; 27])
     ensures each { All (λ bar. IsBefore bar.0 bar.1) bars.now }
 {
     for bar in bars {
-        let _right = bar.right();
+        prove!(bar.left() != bar.right());
     }
 }
 

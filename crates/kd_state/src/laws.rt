@@ -112,18 +112,14 @@ pub fn engines_encipher_as_their_machines()
 pub fn reading_as_the_day_is_its_cipher()
     ensures ready { ReadingIsReady }
     ensures cipher { ReadingIsItsCipher }
-{
-    kd_enigma::laws::pairs_make_a_plugboard();
-}
+{}
 
 /// A machine that is on the day's key is ready, and enciphers as the day's own machine that shows the same letters.
 #[tactic(auto, using(crate::proofs::Keys::on_key_ready, crate::proofs::Keys::on_key_cipher))]
 pub fn being_on_the_key_is_its_cipher()
     ensures ready { OnKeyIsReady }
     ensures cipher { OnKeyIsItsCipher }
-{
-    kd_enigma::laws::pairs_make_a_plugboard();
-}
+{}
 
 /// With other letters a machine has the same key but for the letters, and on a day's key it stays on it, with the cipher of the
 /// day's own machine that shows these letters.
@@ -132,9 +128,7 @@ pub fn turning_keeps_the_key()
     ensures key { TurnedHasItsKey }
     ensures on_key { TurnedIsOnKey }
     ensures cipher { TurnedHasTheDaysCipher }
-{
-    kd_enigma::laws::pairs_make_a_plugboard();
-}
+{}
 
 /// A ready machine can be turned to each window that has a letter for each slot, or for each pin wheel and on it.
 #[tactic(auto, using(crate::proofs::Seating::can_be_turned))]
@@ -145,31 +139,20 @@ pub fn ready_machines_can_be_turned()
 /// What a machine on the day's key enciphers, another one on the key deciphers that shows the same letters.
 pub fn equally_set_machines_decipher()
     ensures { EquallySetDecipher }
-{
-    kd_enigma::laws::pairs_make_a_plugboard();
-    kd_enigma::laws::enciphering_twice_gives_back();
-    kd_drum::laws::enciphering_twice_gives_back();
-}
+{}
 
 /// What the day's own machine enciphers, it deciphers if it shows the same letters again.
 #[tactic(auto, using(crate::proofs::Keys::twice_on_key))]
 pub fn the_day_deciphers_itself()
     ensures { TheDayDeciphersItself }
-{
-    kd_enigma::laws::pairs_make_a_plugboard();
-    kd_enigma::laws::enciphering_twice_gives_back();
-    kd_drum::laws::enciphering_twice_gives_back();
-}
+{}
 
 /// A text in two pieces is enciphered piece by piece, on the key that the first piece leaves.
 #[tactic(auto, using(crate::proofs::Keys::cipher_in_turn, crate::proofs::Keys::key_in_turn))]
 pub fn pieces_are_enciphered_in_turn()
     ensures cipher { CipherInTurn }
     ensures after { KeyInTurn }
-{
-    kd_enigma::laws::pieces_are_enciphered_in_turn();
-    kd_drum::laws::pieces_are_enciphered_in_turn();
-}
+{}
 
 /// Two lists have the same letters exactly where the same tests hold of them.
 pub fn tests_tell_letters()

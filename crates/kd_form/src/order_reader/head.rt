@@ -5,7 +5,7 @@ ghost use Rattle.kd_form.specs.Keys.{AreKeys};
 ghost use Rattle.kd_form.specs.Order.{BreaksOff, IsEnded, IsKeyLine};
 ghost use Rattle.kd_form.specs.SendSteps.{HeadIsRead, IsHeadRead, IsHeadLine};
 
-use crate::key_line::{key_pattern, read_keys};
+use crate::key_line::{key_pattern, keys_of};
 use crate::keys::Keys;
 use crate::pattern_line::{Unread, read_pattern};
 use arrayvec::ArrayVec;
@@ -76,7 +76,7 @@ impl HeadReader {
 }
 
 /// The keys in the line behind so many lines of keys, or none in the line TEXT. Its first byte tells which it can be.
-#[tactic(auto, using(crate::proofs::OrderSteps::next_keys, crate::proofs::OrderSteps::next_text))]
+#[tactic(auto, using(crate::proofs::OrderSteps::next_text))]
 fn read_line(day: &SheetDay, count: usize, line: &[u8]) -> Result<Option<Keys>, Unread>
     ensures { MatchResult result
         (λ found. MatchOption found (IsEnded (codes "TEXT") line.now)
@@ -84,8 +84,8 @@ fn read_line(day: &SheetDay, count: usize, line: &[u8]) -> Result<Option<Keys>, 
         (BreaksOff (IsHeadLine day.now count) line.now) }
 {
     if count < 99 && is_key_line(line) {
-        let (keys,) = read_keys(day, line)?;
-        Ok(Some(keys))
+        let letters = read_pattern(key_pattern(day), line)?;
+        Ok(Some(keys_of(day, letters.as_slice())))
     } else {
         read_pattern(b"TEXT", line)?;
         Ok(None)

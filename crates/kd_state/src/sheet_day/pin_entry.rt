@@ -1,4 +1,4 @@
-use crate::facts::{are_all_pins, are_letters, are_readings};
+use crate::facts::{are_all_pins, are_readings};
 use crate::machine::pin_parts::are_on_wheels;
 use crate::sheet_day::entry::is_day_number;
 use kd_pins::PinSet;
@@ -29,7 +29,7 @@ impl PinEntry {
     {
         are_readings(&self.rows);
         are_all_pins(self.pins);
-        are_letters(&self.list);
+        prove!(self.list[0].index() < 26 && self.list[1].index() < 26);
         is_day_number(self.day) && are_on_wheels(&self.window)
     }
 }

@@ -2,4 +2,4 @@ use Rattle.kd_desk.proofs.Exclusions.{lead_or_refuse}
 use Rattle.kd_desk.proofs.laws.settings_lead_or_are_refused.Goals as goal
 
 pub returns : goal.returns
-returns c = lead_or_refuse c.a_setting_is_refused_or_carried.ensures.to_one
+returns c = lead_or_refuse

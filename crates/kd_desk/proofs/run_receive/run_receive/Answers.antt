@@ -7,11 +7,9 @@ returns-in_err-machine-clause-receives g c =
 
 pub returns-clause-receives : goal.returns-clause-receives
 returns-clause-receives g c =
-    let one = c.forms_have_one_answer.ensures in
     on_day _ _ _ _ _ _ _ c.in_ok-machine.ensures.day (record {
       streamed = record { told = c.receive_stream.result; so = c.receive_stream.ensures.streamed; answers = c.answer_to_message.ensures };
-      orders = tell_of_orders c.in_ok-machine.day c.in_ok-machine.ensures.legal.1 one.text one.never_both c.forms_stay_refused.ensures
-          c.forms_give_their_orders.ensures.letters c.forms_give_their_orders.ensures.back;
+      orders = tell_of_orders c.in_ok-machine.day c.in_ok-machine.ensures.legal.1;
     })
 
 pub returns-clause-untouched : goal.returns-clause-untouched

@@ -1,13 +1,12 @@
-use Rattle.kd_form.proofs.Streaming.{err_is, typed_held, [], refl, sym, ap, ◌∙◌, All-nil, IsTrue, is_text_byte, letters_text, typed_letters, cipher, false≢true, NotReady, Off}
+use Rattle.kd_form.proofs.Streaming.{err_is, typed_held, [], refl, sym, ap, ◌∙◌, All-nil, IsTrue, is_text_byte, letters_text, typed_letters, cipher, engine_cipher, false≢true, NotReady, Off}
 use Rattle.kd_form.proofs.typing.type_stream.Goals as goal
 
 pub stream-requires : goal.stream-requires
 stream-requires g c =
-    let law = c.engines_encipher_as_their_machines.ensures.standing in
     typed_held c.args.machine.now _ [] [] (record {
       counted = refl;
       allowed = All-nil (λ b. IsTrue (is_text_byte b));
-      behind = λ more. ap letters_text (sym (law _ (typed_letters more)) ∙ ap (λ k. cipher k (typed_letters more)) (sym c.in_ok-engine.ensures.key));
+      behind = λ more. ap letters_text (sym (engine_cipher _ (typed_letters more)) ∙ ap (λ k. cipher k (typed_letters more)) (sym c.in_ok-engine.ensures.key));
     })
 
 pub returns-in_err-engine-clause-streamed : goal.returns-in_err-engine-clause-streamed

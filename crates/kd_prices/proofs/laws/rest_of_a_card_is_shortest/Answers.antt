@@ -2,4 +2,4 @@ use Rattle.kd_prices.proofs.Rest.{rest_is_shortest}
 use Rattle.kd_prices.proofs.laws.rest_of_a_card_is_shortest.Goals as goal
 
 pub returns : goal.returns
-returns c = rest_is_shortest c.proving_cards_are_shortest.ensures
+returns c = rest_is_shortest

@@ -4,11 +4,11 @@ use Rattle.kd_form.proofs.typing.TypistPieceReaderMachine.read.Goals as goal
 pub returns-in_err-put_all-clause-fed : goal.returns-in_err-put_all-clause-fed
 returns-in_err-put_all-clause-fed g c =
     let piece = c.type_piece-front.ensures in
-    rw (err_is _ _ c.from_residual.ensures.1) (read_in_part _ c.pieces_are_enciphered_in_turn.ensures.cipher _ _ _ _ _ piece.front piece.lights refl _ _ _ _
+    rw (err_is _ _ c.from_residual.ensures.1) (read_in_part _ _ _ _ _ _ piece.front piece.lights refl _ _ _ _
     (subst (TakesFront _ _) c.deref.ensures.0 c.in_err-put_all.ensures.text.front))
 
 pub returns-then-front-bytes-clause-fed : goal.returns-then-front-bytes-clause-fed
 returns-then-front-bytes-clause-fed g c =
     let piece = c.type_piece-front.ensures in
-    read_refused _ c.pieces_are_enciphered_in_turn.ensures.cipher _ _ _ _ _ piece.front piece.lights refl _ _ _ _
+    read_refused _ _ _ _ _ _ piece.front piece.lights refl _ _ _ _
     (subst (Appends _ _) c.deref.ensures.0 c.in_ok-put_all.ensures.text.whole) c.if-front-bytes.true
