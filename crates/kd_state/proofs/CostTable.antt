@@ -4,7 +4,7 @@ use Rattle.kd_state.proofs.Prelude.{CostTablesAreSquare, TestsTellLetters, Thirt
 use Rattle.kd_state.proofs.Prelude.{OfPins, OfRotors, Pin, Rotor, alphabet, IsReading, le-leb, length-append}
 use Rattle.kd_state.proofs.Prelude.{length-map, length-replicate, All-map, All-nil, sum_by_more, All, count_by}
 use Rattle.kd_state.proofs.Prelude.{range_with_len, Bool, List, None, Option, Some, [], ap, arith, get_or, length, map}
-use Rattle.kd_state.proofs.Prelude.{nat_eq, refl, rules, slice_get, suc, sym, zero, ℕ, ◌++◌, ◌+◌, ◌-◌, ◌<◌, ◌||◌, ◌∙◌}
+use Rattle.kd_state.proofs.Prelude.{nat_eq, refl, rules, slice_get, suc, sym, zero, ℕ, ◌++◌, ◌+◌, ◌-◌, ◌<◌, ◌∙◌}
 use Rattle.kd_state.proofs.{Prelude.{◌∷◌, ◌≡◌, ◌≢◌, ◌≤◌, common_steps, take}, Slots.has_letter-Decides}
 use Rattle.kd_state.{proofs.SortedAlike.{count_by-cons, once}, specs.Costs.{across, place_at, standings_as}}
 use Rattle.{kd_tables.specs.declared.place.Place.TheVariants.{ZeroLeft, ZeroRight}, std.proofs.Common.replicate}
