@@ -1,6 +1,6 @@
 -- What a pairing of cables with pairs, or of bars with rows, costs falls by at most one with each setting that changes a
 -- cable or a bar. Another one puts at most one loose thing right.
-use Rattle.kd_card.proofs.Prelude.{◌≡◌, ℕ, suc, ◌+◌, ◌-◌, ◌≤◌, nat_eq, min, Bool, false, inl, inr, List, [], ◌∷◌, get_or, set, map, fold, count_by, Option, None, unwrap_or, ℤ, sym, ◌∙◌, subst, arith, length, Place, alphabet, RotorParts, Parts, Rotor, Pin, Setting, Pull, Put, LugTo, cable_letters, plugged_letters, IsLegal, has_letter, reasons, why_refused, cable_at, cable_without, cable_with, with_lug, changed, Leads, differ, unless_same, column_letters, cable_cost, lugs_moved, bar_cost, All-set, length-set, numbered, common_steps, All, no_reason, still_before, IsPermutation, refl, true, ◌||◌, ◌⊎◌, not-false, Contains-permutation, IsPermutation-sym, IsDistinct-IsPermutation, IsDistinct-cons, IsDistinct-tail, get_or_from_slice_get, IsDistinct, eqb_flips, free_tells, set_moves, with_moves, without_moves, tests_tell_letters, stands, PinParts, Stands, with_lug_at, ◌≢◌, zero, not, cond, zip, sum, AllPairs, Some, slice_get, ap, AllByRecursion, sum_by, option_map_or, bytes_eq, cases_eq, eq-eqb, recursion_from_All, map-id, sum-map, sum_by-cons, unwrap_or-slice_get, bytes_eq-Decides, Model, wheel_text, reflector_text, Seat, SeatReflector, RingTo, Turn, PinTo, same_wheel, same_reflector, place_in_box, model_of, ring_at, letter_at, seated_in, without, with_letter, RotorDay, PinDay, Day, OfRotors, OfPins, IsLegalDay, day_model, ReadsAs, loose_slots, loose_reflector, loose_rings, loose_letters, loose_pins, loose_pin_letters, loose_count, is_priced, set_other, days_wheels_have_their_places, is_none}
+use Rattle.kd_card.proofs.Prelude.{six_lists, ◌≡◌, ℕ, suc, ◌+◌, ◌-◌, ◌≤◌, nat_eq, min, Bool, false, inl, inr, List, [], ◌∷◌, get_or, set, map, fold, count_by, Option, None, unwrap_or, ℤ, sym, ◌∙◌, subst, arith, length, Place, alphabet, RotorParts, Parts, Rotor, Pin, Setting, Pull, Put, LugTo, cable_letters, plugged_letters, IsLegal, has_letter, reasons, why_refused, cable_at, cable_without, cable_with, with_lug, changed, Leads, differ, unless_same, column_letters, cable_cost, lugs_moved, bar_cost, All-set, length-set, numbered, common_steps, All, no_reason, still_before, IsPermutation, refl, true, ◌||◌, ◌⊎◌, not-false, Contains-permutation, IsPermutation-sym, IsDistinct-IsPermutation, IsDistinct-cons, IsDistinct-tail, get_or_from_slice_get, IsDistinct, eqb_flips, free_tells, set_moves, with_moves, without_moves, tests_tell_letters, stands, PinParts, Stands, with_lug_at, ◌≢◌, zero, not, cond, zip, sum, AllPairs, Some, slice_get, ap, AllByRecursion, sum_by, option_map_or, bytes_eq, cases_eq, eq-eqb, recursion_from_All, map-id, sum-map, sum_by-cons, unwrap_or-slice_get, bytes_eq-Decides, Model, wheel_text, reflector_text, Seat, SeatReflector, RingTo, Turn, PinTo, same_wheel, same_reflector, place_in_box, model_of, ring_at, letter_at, seated_in, without, with_letter, RotorDay, PinDay, Day, OfRotors, OfPins, IsLegalDay, day_model, ReadsAs, loose_slots, loose_reflector, loose_rings, loose_letters, loose_pins, loose_pin_letters, loose_count, is_priced, set_other, days_wheels_have_their_places, is_none}
 use Rattle.kd_state.specs.{Costs.standings_as, declared.sheet_day.rotor_entry.SheetWheel.SheetWheel, Pins.pin_set}
 use Rattle.kd_state.specs.{Pins.wheel_pins, Pins.with_pin}
 use Rattle.kd_tables.specs.{declared.lug.Lug.Lug, declared.wheel.Wheel.Wheel, Rings.ring_of, Rings.place_on}
@@ -246,9 +246,6 @@ wheel_set_lowers xss yss i p effective =
     simp sum-map
     (zip_set differing xss yss i (set was p effective) [] (λ ys. zip_set_lowers differs was ys p effective))
 
-pins_of-set : (pins : PinSet) (i : ℕ) (new : List Bool) → pins_of (pin_set (set (pins_of pins) i new)) ≡ set (pins_of pins) i new
-pins_of-set pins i new = grind arith
-
 pin_lowers : (m : PinParts) (s : PinDay) (wheel letter : ℕ) (effective : Bool) → why_refused (Pin m) (PinTo wheel letter effective) ≡ None
     → loose_pins m s ≤ loose_pins (record m { pins = with_pin m.pins wheel letter effective }) s + 1
 unfolding ring_of
@@ -257,7 +254,7 @@ pin_lowers m s (suc wheel) letter effective e =
     let place = unwrap_or (place_on (ring_of (suc wheel)) letter) 0 in
     let new = set (wheel_pins m.pins (suc wheel)) place effective in
     let all : pins_of (with_pin m.pins (suc wheel) letter effective) ≡ set (pins_of m.pins) wheel (set (get_or (pins_of m.pins) wheel []) place effective)
-    = pins_of-set m.pins (suc wheel - 1) new ∙ ap (λ i. set (pins_of m.pins) i new) (one_less wheel)
+    = six_lists m.pins (suc wheel - 1) new ∙ ap (λ i. set (pins_of m.pins) i new) (one_less wheel)
     ∙ ap (λ pins. set (pins_of m.pins) wheel (set pins place effective)) (unwrap_or-slice_get (pins_of m.pins) wheel []) in
     subst (λ pins. loose_pins m s ≤ sum (map differing (zip pins (pins_of s.pins))) + 1) (sym all) (wheel_set_lowers (pins_of m.pins) (pins_of s.pins) wheel place effective)
 

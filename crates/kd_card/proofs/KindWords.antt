@@ -1,5 +1,5 @@
 -- The words of kinds' lines, and the looks that they tell.
-use Rattle.kd_card.proofs.Prelude.{ltb, codes, ◌≡◌, ◌≢◌, ℕ, ◌<◌, true, List, [], ◌∷◌, ◌++◌, get_or, drop, subst, ℤ, Option, sym, ap, ◌∙◌, append_assoc, length-append, arith, decimal, All, list_all, decimal_injective, signed_decimal_injective, All-append, All-weaker, All-from_recursion, Place, One, place_text, place_rank, places, standing_text, IsWord, IsWithout, Look, Cable, Pair, Bar, Name, PricedKind, look_name, name_text, look_text, look_rank, ends_rank, pair_rank, kind_words, AreEnds, IsPairInOrder, IsInForm, IsPricedKind, kinds_text, HasKindWords, RanksTellLooks, signed_decimal, append-nil, HasWords, BeginsWithWord, EndsGroup, AtNothing, AtOther, IsNextKind, HasNoNext, common_steps, numbers_are_words, texts_tell_first_parts, word_by_bytes, word_by_test, named, told, EndsAt, IsBadAt}
+use Rattle.kd_card.proofs.Prelude.{same_place, ltb, codes, ◌≡◌, ◌≢◌, ℕ, ◌<◌, true, List, [], ◌∷◌, ◌++◌, get_or, drop, subst, ℤ, Option, sym, ap, ◌∙◌, append_assoc, length-append, arith, decimal, All, list_all, decimal_injective, signed_decimal_injective, All-append, All-weaker, All-from_recursion, Place, One, place_text, place_rank, places, standing_text, IsWord, IsWithout, Look, Cable, Pair, Bar, Name, PricedKind, look_name, name_text, look_text, look_rank, ends_rank, pair_rank, kind_words, AreEnds, IsPairInOrder, IsInForm, IsPricedKind, kinds_text, HasKindWords, RanksTellLooks, signed_decimal, append-nil, HasWords, BeginsWithWord, EndsGroup, AtNothing, AtOther, IsNextKind, HasNoNext, common_steps, numbers_are_words, texts_tell_first_parts, word_by_bytes, word_by_test, named, told, EndsAt, IsBadAt}
 use Rattle.kd_card.proofs.Lines.{bytes_above, same_words, some_bytes, bytes_are_word, signed_word, small}
 
 -- ---- names and places by their texts
@@ -7,22 +7,18 @@ use Rattle.kd_card.proofs.Lines.{bytes_above, same_words, some_bytes, bytes_are_
 pub same_name : (n m : Name) → name_text n ≡ name_text m → n ≡ m
 same_name n m e = grind arith
 
--- a place is told by its text and by its rank, of which there are 8, and no byte of the text is - or comes before it
-about_place : (p : Place) → (named place_text places One (place_text p) ≡ p) × (get_or places (place_rank p) One ≡ p)
-    × (place_rank p < 8) × (list_all (ltb 45) (place_text p) ≡ true)
+-- a place is told by its rank, of which there are 8, and no byte of its text is - or comes before it
+about_place : (p : Place) → (get_or places (place_rank p) One ≡ p) × (place_rank p < 8) × (list_all (ltb 45) (place_text p) ≡ true)
 about_place p = grind arith
 
-same_place : (p q : Place) → place_text p ≡ place_text q → p ≡ q
-same_place = told place_text (named place_text places One) (λ p. (about_place p).0)
-
 same_rank : (p q : Place) → place_rank p ≡ place_rank q → p ≡ q
-same_rank p q e = sym (about_place p).1 ∙ ap (λ rank. get_or places rank One) e ∙ (about_place q).1
+same_rank p q e = sym (about_place p).0 ∙ ap (λ rank. get_or places rank One) e ∙ (about_place q).0
 
 pub low_rank : (p : Place) → place_rank p < 8
-low_rank p = (about_place p).2
+low_rank p = (about_place p).1
 
 place_above : (p : Place) → All (λ b. 45 < b) (place_text p)
-place_above p = bytes_above 45 (place_text p) (about_place p).3
+place_above p = bytes_above 45 (place_text p) (about_place p).2
 
 -- ---- words
 

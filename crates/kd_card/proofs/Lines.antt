@@ -1,8 +1,8 @@
 -- Lines of words as they are written and as they are split; prices by their texts; and what stands in a card's lines.
-use Rattle.kd_card.proofs.Prelude.{◌≡◌, ◌≢◌, ℕ, ◌<◌, true, false, eqb, ltb, List, [], ◌∷◌, ◌++◌, length, refl, sym, ap, ◌∙◌, append_assoc, length-append, arith, ℤ, All, list_all, flat_map, signed_decimal, ne_eqb, ltb-true, append-nil, get_or_at, take_all, flat_map-append, AllPass-from_list_all, All-weaker, All-from_recursion, flat_map-map, Setting, words_of, line_of, IsWord, IsWithout, IsFirstPart, setting_line, list_text, PriceParts, Version, version_of, price_sum, head_words, settings_words, price_words, sum_words, lines_text, price_lines, card_text, with_line, HasWords, common_steps, lines_split_into_words, texts_tell_first_parts, words_make_one_line, map, setting_words, suc, ◌^◌, ◌≤◌, Bool, get_or, Option, Some, None, MatchOption, Result, Ok, Err, MatchResult, Decides, Bor, ◌↔◌, IsTrue, is_some, subst, pos, negsuc, unsigned_abs, FitsSigned, w16, to_z, of_z, then_some, IsUtf8, ParsesSigned, AllByRecursion, false≢true, fits_signed_from_abs, to_z-of_z, get_or-map, length-map, recursion_from_All, All-map, IsPriceText, SaysPrices, BadLine, PriceMissing, Refused, Found, parse-signed_decimal, IsAscii-signed, length-decimal-le, AreWithinReach, codes, zero, ◌+◌, ◌*◌, inl, inr, fold, decimal, not, pointwise, not-false, Decides-eqb, slice_eq-Decides, err_from_is_err_and, ◌+ℤ◌, digits_value, decimal_nonempty, digits_decimal, decimal_digit, first_decimal, All-cons, All-append, All-from_get_or, how_many, ArePrices, Group, Name, PricedKind, CountWrong, BeginsWithHead, kinds_text, row_word, column_word, version_text, IsGroup, IsDigit, IsNumberText, IsNumeral, SaysValue, SaysLine, SaysFirst, SaysPriceLine, SaysGroup, nil_from_length, numbers_are_words, word_by_bytes, word_by_test, passed, CardFault}
+use Rattle.kd_card.proofs.Prelude.{figures, ◌≡◌, ◌≢◌, ℕ, ◌<◌, true, false, eqb, ltb, List, [], ◌∷◌, ◌++◌, length, refl, sym, ap, ◌∙◌, append_assoc, length-append, arith, ℤ, All, list_all, flat_map, signed_decimal, ne_eqb, ltb-true, append-nil, get_or_at, take_all, flat_map-append, AllPass-from_list_all, All-weaker, All-from_recursion, flat_map-map, Setting, words_of, line_of, IsWord, IsWithout, IsFirstPart, setting_line, list_text, PriceParts, Version, version_of, price_sum, head_words, settings_words, price_words, sum_words, lines_text, price_lines, card_text, with_line, HasWords, common_steps, lines_split_into_words, texts_tell_first_parts, words_make_one_line, map, setting_words, suc, ◌^◌, ◌≤◌, Bool, get_or, Option, Some, None, MatchOption, Result, Ok, Err, MatchResult, Decides, Bor, ◌↔◌, IsTrue, is_some, subst, pos, negsuc, unsigned_abs, FitsSigned, w16, to_z, of_z, then_some, IsUtf8, ParsesSigned, AllByRecursion, false≢true, fits_signed_from_abs, to_z-of_z, get_or-map, length-map, recursion_from_All, All-map, IsPriceText, SaysPrices, BadLine, PriceMissing, Refused, Found, parse-signed_decimal, IsAscii-signed, length-decimal-le, AreWithinReach, codes, zero, ◌+◌, ◌*◌, inl, inr, fold, decimal, not, pointwise, not-false, Decides-eqb, slice_eq-Decides, err_from_is_err_and, ◌+ℤ◌, digits_value, decimal_nonempty, digits_decimal, decimal_digit, first_decimal, All-cons, All-append, All-from_get_or, how_many, ArePrices, Group, Name, PricedKind, CountWrong, BeginsWithHead, kinds_text, row_word, column_word, version_text, IsGroup, IsDigit, IsNumberText, IsNumeral, SaysValue, SaysLine, SaysFirst, SaysPriceLine, SaysGroup, nil_from_length, numbers_are_words, word_by_bytes, word_by_test, passed, CardFault}
 use Rattle.std.proofs.lemmas.List.Splits.{slice_split_none, slice_split_at, join_with_byte-slice_split}
-use Rattle.std.specs.{Result.result_ok, Result.IsErrAnd, Int.Signed.mag, Int.IsInRange}
-use Rattle.std.proofs.lemmas.Str.{IsUtf8-from_ascii, Parse.{IsNumeralModel, numerals_by_value, tells_by_index}}
+use Rattle.std.specs.{Result.result_ok, Result.IsErrAnd, Int.Signed.mag}
+use Rattle.std.proofs.lemmas.Str.{IsUtf8-from_ascii}
 
 -- ---- writing
 
@@ -55,10 +55,6 @@ written version day count xs ys prices sum empty head list number lines whole a 
 -- two lines, and what follows them
 pub two_lines : (a b : List (List ℕ)) (rest : List ℕ) → lines_text (a ∷ b ∷ []) ++ rest ≡ with_line a (with_line b rest)
 two_lines a b rest = simp (append_assoc, append-nil)
-
--- one more setting's line
-pub text_of_more : (x : Setting) (xs : List Setting) (rest : List ℕ) → list_text (x ∷ xs) ++ rest ≡ setting_line x ++ 10 ∷ (list_text xs ++ rest)
-text_of_more x xs rest = line_and_more (setting_line x) (list_text xs) rest
 
 -- ---- the part before a byte
 
@@ -264,9 +260,6 @@ prices_are_words word prices w reach =
     (λ price within. signed_word price (omega (arith, within))) prices reach))
 
 -- ---- the keywords of numbers
-
-figures : IsNumeralModel (λ ds. (i : ℕ) → i < length ds → IsInRange 48 57 (get_or ds i 0)) (digits_value 10)
-figures = numerals_by_value (λ ds. (i : ℕ) → i < length ds → IsInRange 48 57 (get_or ds i 0)) tells_by_index
 
 number_by_parts : (text : List ℕ) → 0 < length text → ((i : ℕ) → i < length text → IsDigit (get_or text i 0)) → (get_or text 0 0 ≡ 48 → length text ≡ 1)
     → IsNumberText text

@@ -1,7 +1,7 @@
 -- Bytes are one card, or have one fault.
-use Rattle.kd_card.proofs.Prelude.{Bool, true, false, codes, ◌≡◌, ◌≢◌, ℕ, ◌+◌, ◌*◌, ◌^◌, ◌<◌, ◌≤◌, List, [], ◌∷◌, ◌++◌, length, map, get_or, Result, Ok, Err, refl, sym, ap, subst, ◌∙◌, arith, ℤ, unsigned_abs, append_assoc, AllByRecursion, signed_decimal, decimal_injective, signed_decimal_injective, append-nil, recursion_from_All, Setting, IsWord, setting_line, list_text, IsInRange, BeginsWith, BeginsWithNoLine, PriceParts, Cables, Bars, CableKinds, BarKinds, Version, ByNumber, ByKind, Group, OfCables, OfBars, Name, PricedKind, Trailing, Then, Refused, Found, Only, Demands, look_rank, name_text, kinds_text, AreKinds, AreCalled, version_of, row_kinds, column_kinds, price_sum, AreWithinReach, ArePrices, group_of, row_word, column_word, row_name, column_name, price_count, version_text, settings_words, price_words, sum_words, lines_text, price_lines, card_text, IsGroup, IsCard, with_line, SaysValue, SaysFirst, BeginsWithHead, BeginsWithSettings, SaysSettings, SaysPriceLine, SaysNumbered, BeginsWithWord, EndsGroup, AtOther, IsNextKind, floor_behind, SaysGroup, SaysKinded, SaysAllPrices, SaysBehind, SaysCard, TextsTellCards, NoCardBeginsAnother, CardsHaveNoFault, OneCardFault, common_steps, line_has_no_break, lines_tell_settings, texts_tell_first_parts, word_by_test, BeginsWithKinds, CardsAreSaid, IsOnly, only_demands, only_finds, only_only, only_takes, only_then, passed, same_ok, CardFault, head_words, kind_words}
+use Rattle.kd_card.proofs.Prelude.{not_longer, same_end, text_of_more, Bool, true, false, codes, ◌≡◌, ◌≢◌, ℕ, ◌+◌, ◌*◌, ◌^◌, ◌<◌, ◌≤◌, List, [], ◌∷◌, ◌++◌, length, map, get_or, Result, Ok, Err, refl, sym, ap, subst, ◌∙◌, arith, ℤ, unsigned_abs, append_assoc, AllByRecursion, signed_decimal, decimal_injective, signed_decimal_injective, append-nil, recursion_from_All, Setting, IsWord, setting_line, list_text, IsInRange, BeginsWith, BeginsWithNoLine, PriceParts, Cables, Bars, CableKinds, BarKinds, Version, ByNumber, ByKind, Group, OfCables, OfBars, Name, PricedKind, Trailing, Then, Refused, Found, Only, Demands, look_rank, name_text, kinds_text, AreKinds, AreCalled, version_of, row_kinds, column_kinds, price_sum, AreWithinReach, ArePrices, group_of, row_word, column_word, row_name, column_name, price_count, version_text, settings_words, price_words, sum_words, lines_text, price_lines, card_text, IsGroup, IsCard, with_line, SaysValue, SaysFirst, BeginsWithHead, BeginsWithSettings, SaysSettings, SaysPriceLine, SaysNumbered, BeginsWithWord, EndsGroup, AtOther, IsNextKind, floor_behind, SaysGroup, SaysKinded, SaysAllPrices, SaysBehind, SaysCard, TextsTellCards, NoCardBeginsAnother, CardsHaveNoFault, OneCardFault, common_steps, word_by_test, BeginsWithKinds, CardsAreSaid, IsOnly, only_demands, only_finds, only_only, only_takes, only_then, passed, same_ok, CardFault, head_words, kind_words}
 use Rattle.kd_card.specs.CardFault.{numbered}
-use Rattle.kd_card.proofs.Lines.{line_has_words, value_line, same_words, text_of_more, two_lines, card_and_more, small, numeral_word, signed_word, head_has_words, first_is_word, prices_are_words, number_text, signed_text, price_sum_is_small, value_says, value_said, first_says, HasPrices, line_said, group_said}
+use Rattle.kd_card.proofs.Lines.{line_has_words, value_line, same_words, two_lines, card_and_more, small, numeral_word, signed_word, head_has_words, first_is_word, prices_are_words, number_text, signed_text, price_sum_is_small, value_says, value_said, first_says, HasPrices, line_said, group_said}
 use Rattle.kd_card.proofs.KindWords.{kind_is_words, kind_begins, end_has_no_next, same_kind}
 use Rattle.kd_card.proofs.KindPrices.{text_of_more_kinds, text_by_kind, both_groups, size_of, of_two_groups, same_kind_parts, some_and_few}
 
@@ -302,23 +302,10 @@ card_says {day} {xs} {prices} rest card end =
     (Found rest (value_says true (codes "SUM") _ _ (signed_text (price_sum prices) near) refl) end))))
 
 -- where no line of a setting follows the first settings, there are no more of them, and no others
-lists_end : (xs ys : List Setting) (rest more : List ℕ) → AllByRecursion IsInRange xs → AllByRecursion IsInRange ys
-    → BeginsWithNoLine rest → list_text xs ++ rest ≡ list_text ys ++ more
-    → (length ys ≤ length xs) × (BeginsWithNoLine more → (xs ≡ ys) × (rest ≡ more))
-lists_end [] [] rest more a b none e = (omega arith, λ nor. (refl, e))
-lists_end [] (y ∷ ys) rest more a b none e = absurd (none y (list_text ys ++ more) b.0 (e ∙ text_of_more y ys more))
-lists_end (x ∷ xs) [] rest more a b none e = grind (arith, text_of_more)
-lists_end (x ∷ xs) (y ∷ ys) rest more a b none e =
-    let parts : (setting_line x ≡ setting_line y) × (list_text xs ++ rest ≡ list_text ys ++ more) =
-    texts_tell_first_parts 10 (setting_line x) (setting_line y) (list_text xs ++ rest) (list_text ys ++ more)
-    (line_has_no_break x a.0) (line_has_no_break y b.0) (sym (text_of_more x xs rest) ∙ e ∙ text_of_more y ys more) in
-    let first : x ≡ y = lines_tell_settings x y a.0 b.0 parts.0 in
-    let others = lists_end xs ys rest more a.1 b.1 none parts.1 in
-    (omega (arith, others.0), λ nor. let tails : xs ≡ ys = (others.1 nor).0 in (cc, (others.1 nor).1))
-
 lists_meet : {body : List ℕ} {xs ys : List Setting} {rest more : List ℕ} → BeginsWithSettings body xs rest
     → BeginsWith body ys more → (length ys ≤ length xs) × (BeginsWithNoLine more → (xs ≡ ys) × (rest ≡ more))
-lists_meet {xs} {ys} {rest} {more} a b = grind (arith, lists_end xs ys rest more, recursion_from_All)
+lists_meet {body} {xs} {ys} {rest} {more} a b =
+    (not_longer body xs ys rest more a.lines b a.none_more, same_end body xs ys rest more a.lines b a.none_more)
 
 not_too_many : {body : List ℕ} {xs ys : List Setting} {rest more : List ℕ} → BeginsWithSettings body xs rest
     → BeginsWith body ys more → length ys ≡ 193 → ⊥

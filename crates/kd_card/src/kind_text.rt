@@ -127,6 +127,7 @@ pub(crate) fn push_kinds<const N: usize>(text: &mut ArrayString<N>, kinds: &[Pri
 }
 
 /// Appends the line of the kind.
+#[tactic(auto, using(crate::proofs::KindWords::line_in_pieces, crate::proofs::Lines::written_price))]
 fn push_kind<const N: usize>(text: &mut ArrayString<N>, kind: &PricedKind)
     requires room { array_string_len text.old + 24 ≤ N }
     requires kind { IsPricedKind kind.now }

@@ -70,6 +70,7 @@ fn read_head(text: &[u8]) -> Option<(Version, u8, &[u8])>
 }
 
 /// What the prices are by, and the day, of the card whose head has these words behind its first one.
+#[tactic(auto, using(crate::proofs::Lines::untrue))]
 fn head_behind(behind: &[u8]) -> Option<(Version, u8)>
     ensures { MatchOption result
         ((version : _) (day : ℕ) → IsDayNumber day →

@@ -100,6 +100,7 @@ fn push_count<const N: usize>(text: &mut ArrayString<N>, count: usize)
 }
 
 /// Appends the lines of the prices.
+#[tactic(auto, using(crate::proofs::KindPrices::all_kinds, crate::proofs::Prelude::append_assoc, crate::proofs::KindPrices::text_by_kind))]
 fn push_prices<const N: usize>(text: &mut ArrayString<N>, prices: &Prices)
     requires { array_string_len text.old + 1296 ≤ N }
     ensures bytes { text.new.bytes ≡ text.old.bytes ++ lines_text (price_lines prices.now) }
@@ -122,6 +123,7 @@ fn push_prices<const N: usize>(text: &mut ArrayString<N>, prices: &Prices)
 }
 
 /// Appends the line of a word and prices.
+#[tactic(auto, using(crate::proofs::Lines::prices_written))]
 fn push_price_line<const N: usize>(text: &mut ArrayString<N>, word: &str, prices: &[i16])
     requires room { array_string_len text.old + length word.now + 6 * length prices.now + 1 ≤ N }
     requires reach { AreWithinReach prices.now }

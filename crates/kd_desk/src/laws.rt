@@ -11,7 +11,7 @@ use kd_card::{carry_all, write_card};
 use kd_plan::plan;
 use kd_sheet::Sheet;
 use kd_sheet::laws::written_files_are_read_back;
-use kd_state::{Machine, SheetDay};
+use kd_state::{Entry, Machine, Parts, SheetDay};
 use kd_tables::MemorySink;
 
 /// Bytes say one list of settings at most, and if they say one, they have no fault; and they have one at most.
@@ -51,8 +51,8 @@ fn set_to(machine: &Machine, day: &SheetDay) -> Machine
     ensures written { HasPapers machine.now day.now result }
 {
     // Getters tell that both are legal.
-    let _legal_day = day.model();
-    let _legal_machine = machine.parts();
+    prove!(matches!(machine.parts(), Parts::Rotor(_) | Parts::Pin(_)));
+    prove!(matches!(day.entry(), Entry::Rotor(_) | Entry::Pin(_)));
     settings_lead_or_are_refused();
     written_files_are_read_back();
     let card = in_kinds(machine, day, &plan(machine, day).unwrap());

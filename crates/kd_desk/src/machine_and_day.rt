@@ -6,7 +6,7 @@ ghost use Rattle.kd_desk.specs.OnDay.{FindsDay};
 
 use crate::fault::DeskFault;
 use kd_sheet::{read_machine, read_sheet};
-use kd_state::{Machine, SheetDay};
+use kd_state::{Entry, Machine, Parts, SheetDay};
 use std::alloc::Global;
 
 /// The machine of a machine file, and the sheet's day of this number.
@@ -26,7 +26,7 @@ pub fn find_day(
     let sheet = read_sheet(alloc, sheet)?;
     let day = sheet.into_day(number).ok_or(DeskFault::NoSuchDay)?;
     // Getters tell that both are legal.
-    let _parts = machine.parts();
-    let _model = day.model();
+    prove!(matches!(machine.parts(), Parts::Rotor(_) | Parts::Pin(_)));
+    prove!(matches!(day.entry(), Entry::Rotor(_) | Entry::Pin(_)));
     Ok((machine, day))
 }

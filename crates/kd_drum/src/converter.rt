@@ -111,7 +111,7 @@ impl Converter {
         ensures cipher { text.new ≡ converter_cipher self.old text.old }
         ensures after { self.new ≡ pin_key_after self.old (length text.old) }
     {
-        self.stands();
+        prove!(self.acting() < 64);
         for letter in text.iter_mut() {
             *letter = self.press(*letter);
         }
@@ -139,10 +139,11 @@ impl Converter {
         ]
     }
 
-    /// The set of the wheels whose acting pins are effective.
+    /// The set of the wheels whose acting pins are effective. Each letter that shows is one of its wheel's.
     fn acting(&self) -> usize
         ensures set { result < 64 }
         ensures each { (wheel : _) → is_in result wheel ≡ acts_after self.now 0 wheel }
+        ensures stands { pin_key_after self.now 0 ≡ self.now }
     {
         usize::from(self.w1.acting())
             + 2 * usize::from(self.w2.acting())
@@ -150,13 +151,6 @@ impl Converter {
             + 8 * usize::from(self.w4.acting())
             + 16 * usize::from(self.w5.acting())
             + 32 * usize::from(self.w6.acting())
-    }
-
-    /// Each letter that shows is one of its wheel's.
-    fn stands(&self)
-        ensures { pin_key_after self.now 0 ≡ self.now }
-    {
-        let _ = &self.rows;
     }
 
     /// Turns each wheel by one place.

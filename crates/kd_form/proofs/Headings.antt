@@ -1,8 +1,7 @@
 -- A form is cut into its parts, also as more of it comes; and the line of a heading, with which a part begins.
-pub use Rattle.kd_form.proofs.Prelude.{common_steps, ◌≡◌, ◌≢◌, ◌⊎◌, inl, inr, ℕ, ◌<◌, ◌≤◌, List, [], ◌∷◌, ◌++◌, length, get_or, take, drop, refl, sym, ap, ◌∙◌, append_assoc, length-append, length-take, arith, codes, All-head, All-tail, All-get_or, IsTrue, nat_tests, cases_Bool, cases_eq, cases_lt, false≢true, append-nil, take-append-le, take-append-drop, take-append_seam, get_or-append, get_or-append_seam, get_or-take, get_or_past, BeginsHeading, cut, parts_of, FitsAt, HasBegun, IsWithout, IsBadAt, is_text_byte, AllPass-from_list_all, All-take, All-same, take-take, take_more, rules, ◌^◌, ◌+◌, decimal, All, Option, Some, None, MatchOption, IsInRange, All-from_get_or, All-cons, All-nil, All-append, All-map, All-push, All-weaker, IsFirstPart, line_of, words_of, IsWord, texts_tell_first_parts, numbers_are_words, lines_split_into_words, parts_make_lines, fraction, indicator_words, heading_words, length-map, append_cancel_right, take_all, get_or-map, letters_text, AreFewLetters, IsFraction, IsLetterCount, IsHeading, AreHeadingWords, HasFirstLine, IsLineText, Day, OfRotors, OfPins, Heading, Indicator, HasIndicator, HasSlots, HasPins, HasHeading, drop-cons, map, IsFalse, word_by_bytes}
+pub use Rattle.kd_form.proofs.Prelude.{figures, common_steps, ◌≡◌, ◌≢◌, ◌⊎◌, inl, inr, ℕ, ◌<◌, ◌≤◌, List, [], ◌∷◌, ◌++◌, length, get_or, take, drop, refl, sym, ap, ◌∙◌, append_assoc, length-append, length-take, arith, codes, All-head, All-tail, All-get_or, IsTrue, nat_tests, cases_Bool, cases_eq, cases_lt, false≢true, append-nil, take-append-le, take-append-drop, take-append_seam, get_or-append, get_or-append_seam, get_or-take, get_or_past, BeginsHeading, cut, parts_of, FitsAt, HasBegun, IsWithout, IsBadAt, is_text_byte, AllPass-from_list_all, All-take, All-same, take-take, take_more, rules, ◌^◌, ◌+◌, decimal, All, Option, Some, None, MatchOption, IsInRange, All-from_get_or, All-cons, All-nil, All-append, All-map, All-push, All-weaker, IsFirstPart, line_of, words_of, IsWord, texts_tell_first_parts, numbers_are_words, lines_split_into_words, parts_make_lines, fraction, indicator_words, heading_words, length-map, append_cancel_right, take_all, get_or-map, letters_text, AreFewLetters, IsFraction, IsLetterCount, IsHeading, AreHeadingWords, HasFirstLine, IsLineText, Day, OfRotors, OfPins, Heading, Indicator, HasIndicator, HasSlots, HasPins, HasHeading, drop-cons, map, IsFalse, word_by_bytes}
 use Rattle.std.proofs.lemmas.Fmt.{digits_decimal, decimal_injective, length-decimal-le, decimal_nonempty}
-use Rattle.std.proofs.lemmas.{Slice.Eq.bytes_eq-Decides, Str.Parse.{IsNumeralModel, numerals_by_value, tells_by_index}}
-use Rattle.{std.specs.Str.Parse.digits_value, kd_form.specs.FormParts.begins_heading}
+use Rattle.{kd_form.specs.FormParts.begins_heading, std.proofs.lemmas.Slice.Eq.bytes_eq-Decides}
 pub use Rattle.kd_form.proofs.OneOrder.{no_bad_byte, same_letters, same_word, bad_behind}
 pub use Rattle.kd_form.proofs.Lines.{AreAllowed, plain_text, whole_line, same_front, IsPlain, plain_letters, plain_more}
 
@@ -244,9 +243,6 @@ allowed_one (byte ∷ front) rest others allowed is =
         grind (arith, nat_tests, heading_size bytes begun, told bytes begun, get_or-append bytes (10 ∷ []) 0 5, length-append bytes (10 ∷ []), All-get_or (λ b. IsTrue (is_text_byte b)) (bytes ++ 10 ∷ []) 5 0)
 
 -- -------- which part of how many, as it is written
-
-pub figures : IsNumeralModel (λ ds. (i : ℕ) → i < length ds → IsInRange 48 57 (get_or ds i 0)) (digits_value 10)
-figures = numerals_by_value (λ ds. (i : ℕ) → i < length ds → IsInRange 48 57 (get_or ds i 0)) tells_by_index
 
 -- no byte is below this one
 abbrev IsFrom : ℕ → List ℕ → Type 0

@@ -32,7 +32,7 @@ pub use Rattle.kd_form.specs.Typing.{IsAllowedTo, IsTextFault, IsTypedTo, Lights
 pub use Rattle.kd_form.specs.declared.{fault.FormFault.FormFault, heading.{Heading.Heading, Indicator.Indicator}}
 pub use Rattle.kd_form.specs.declared.{keys.{Keys.{Keys, TheVariants.{Pin, Rotor}}, PinKeys.PinKeys}, pattern_line.Unread.Unread}
 pub use Rattle.kd_form.specs.declared.fault.FormFault.TheVariants.{BadByte, BadHeading, EmptyText, NotReady, PartKeys, PartOrder}
-pub use Rattle.kd_state.proofs.Lines.{lines_split_into_words, numbers_are_words, parts_make_lines, texts_tell_first_parts, word_by_bytes}
+pub use Rattle.kd_state.proofs.Lines.{figures, lines_split_into_words, numbers_are_words, parts_make_lines, texts_tell_first_parts, word_by_bytes}
 pub use Rattle.kd_state.{proofs.Keys.{cipher_in_turn, engine_cipher, twice_on_key}, specs.declared.machine.parts.Parts.Parts}
 pub use Rattle.kd_state.specs.SheetDay.{Day, IsLegalDay, OfPins, OfRotors, pin_day}
 pub use Rattle.kd_state.specs.TwoCiphers.{EngineKey, IsWindow, cipher, physical_cipher, sheet_key}

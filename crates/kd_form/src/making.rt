@@ -99,6 +99,7 @@ fn rotor_letters(own: &mut OwnMachine, keys: &RotorKeys, text: &[Letter]) -> Arr
 }
 
 /// The letters of a part on the Converter M-209.
+#[tactic(auto, using(crate::proofs::MadeParts::has_internal))]
 fn pin_letters(own: &mut OwnMachine, keys: &PinKeys, text: &[Letter]) -> ArrayVec<Letter, 520>
     requires keys { AreKeys own.old (Keys.Pin keys.now) }
     requires suits { Suits own.old (Keys.Pin keys.now) }

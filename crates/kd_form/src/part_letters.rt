@@ -18,6 +18,7 @@ use kd_state::SheetDay;
 use kd_tables::Letter;
 
 /// The letters of the text of a rotor machine's part.
+#[tactic(auto, using(crate::proofs::MadeParts::key_is_window))]
 fn read_rotor_letters(
     day: &SheetDay,
     part: u8,

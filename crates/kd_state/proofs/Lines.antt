@@ -98,7 +98,7 @@ word_by_bytes word filled a = grind (arith, All-weaker)
 pub word_by_test : (b : ℕ) (bs : List ℕ) → list_all (λ c. ltb 32 c) (b ∷ bs) ≡ true → IsWord (b ∷ bs)
 word_by_test b bs e = grind (arith, word_by_bytes, All-weaker, ltb-true, AllPass-from_list_all)
 
-figures : IsNumeralModel (λ ds. (i : ℕ) → i < length ds → IsFigure 48 57 (get_or ds i 0)) (digits_value 10)
+pub figures : IsNumeralModel (λ ds. (i : ℕ) → i < length ds → IsFigure 48 57 (get_or ds i 0)) (digits_value 10)
 figures = numerals_by_value (λ ds. (i : ℕ) → i < length ds → IsFigure 48 57 (get_or ds i 0)) tells_by_index
 
 pub numbers_are_words : NumbersAreWords
@@ -138,7 +138,7 @@ pub ruleset splitting = (common_steps, eqb-true, more_words, appended, one_more_
 
 -- ---- names: each is a word, and no two are the same
 
-same_place : (x y : Place) → place_text x ≡ place_text y → x ≡ y
+pub same_place : (x y : Place) → place_text x ≡ place_text y → x ≡ y
 same_place = told place_text (named place_text places One) (λ x. elim x as (λ p. named place_text places One (place_text p) ≡ p) [ One ↦ refl | _ ↦ refl ])
 
 same_lug : (x y : Lug) → lug_text x ≡ lug_text y → x ≡ y
@@ -216,7 +216,7 @@ lines_tell_settings x y r s e = search (rules, same_settings, lines_tell_words, 
 
 -- ---- lists of settings are told by their texts, and a text that is none has one fault
 
-text_of_more : (x : Setting) (xs : List Setting) (rest : List ℕ) → list_text (x ∷ xs) ++ rest ≡ setting_line x ++ 10 ∷ (list_text xs ++ rest)
+pub text_of_more : (x : Setting) (xs : List Setting) (rest : List ℕ) → list_text (x ∷ xs) ++ rest ≡ setting_line x ++ 10 ∷ (list_text xs ++ rest)
 text_of_more x xs rest = grind (arith, append_assoc)
 
 nothing_begins : BeginsWithNoLine []
@@ -265,11 +265,11 @@ no_line_by_first bytes line rest first none x other r e = grind (arith, texts_te
 begins : (bytes : List ℕ) (xs : List Setting) → IsList bytes xs → BeginsWith bytes xs []
 begins bytes xs l = record { lines = l.text ∙ sym (append-nil (list_text xs)); in_range = l.in_range }
 
-same_end : (bytes : List ℕ) (xs ys : List Setting) (rest more : List ℕ) → BeginsWith bytes xs rest → BeginsWith bytes ys more
+pub same_end : (bytes : List ℕ) (xs ys : List Setting) (rest more : List ℕ) → BeginsWith bytes xs rest → BeginsWith bytes ys more
     → BeginsWithNoLine rest → BeginsWithNoLine more → (xs ≡ ys) × (rest ≡ more)
 same_end bytes xs ys rest more a b = grind (arith, same_lists, recursion_from_All)
 
-not_longer : (bytes : List ℕ) (xs ys : List Setting) (rest more : List ℕ) → BeginsWith bytes xs rest → BeginsWith bytes ys more
+pub not_longer : (bytes : List ℕ) (xs ys : List Setting) (rest more : List ℕ) → BeginsWith bytes xs rest → BeginsWith bytes ys more
     → BeginsWithNoLine rest → length ys ≤ length xs
 not_longer bytes xs ys rest more a b = grind (arith, longest, recursion_from_All)
 

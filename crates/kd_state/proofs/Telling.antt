@@ -39,7 +39,7 @@ box_place model wheel = Some (place_in_box model wheel)
 wheels_have_places : (model : Model) → map (box_place model) (box_of model) ≡ map Some (range_with_len 0 (length (box_of model)))
 wheels_have_places model = grind arith
 
-letters_have_places : (wheel : ℕ)
+pub letters_have_places : (wheel : ℕ)
     → map (place_on (ring_of wheel)) (ring_of wheel) ≡ map Some (range_with_len 0 (length (ring_of wheel)))
 unfolding ring_of
 letters_have_places (suc (suc (suc (suc (suc (suc zero)))))) = refl

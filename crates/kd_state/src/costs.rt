@@ -52,6 +52,7 @@ pub fn bar_cost(standing: Standing, row: Reading) -> u8
 }
 
 /// Of the standings that read as the row, the first in the order of standings to which the fewest lugs have to be moved.
+#[tactic(auto, using(crate::proofs::Prelude::nat_tests))]
 pub fn nearest_standing(standing: Standing, row: Reading) -> Standing
     ensures nearest { costs.nearest_standing standing row ≡ Some result }
     ensures cost { costs.lugs_moved standing result ≡ costs.bar_cost standing row }

@@ -93,7 +93,7 @@ fn is_plugged_letter(cable: &Cable)
 pub(crate) fn are_all_pins(pins: PinSet)
     ensures { HasAllPins pins }
 {
-    let _pins = pins;
+    prove!(pins.w1.len() == 26);
 }
 
 /// The numbers of a setting are bytes, and its letter is one of the alphabet.

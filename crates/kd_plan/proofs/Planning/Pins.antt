@@ -3,11 +3,6 @@ pub mod Rotors
 unfoldable pub use Rotors.*
 
 -- ---- PIN: wheel after wheel, and on each wheel letter after letter, each of which stands at its own place
-letters_have_places : (number : ℕ) → map (place_on (ring_of number)) (ring_of number) ≡ map Some (range_with_len 0 (length (ring_of number)))
-unfolding ring_of
-letters_have_places (suc (suc (suc (suc (suc (suc zero)))))) = refl
-letters_have_places number = refl
-
 has_place : (number k letter : ℕ) → slice_get (ring_of number) k ≡ Some letter → place_on (ring_of number) letter ≡ Some k
 has_place number k letter e =
     let many = length (ring_of number) in

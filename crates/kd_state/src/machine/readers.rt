@@ -105,6 +105,7 @@ impl Machine {
 }
 
 /// The letter that stands for a wheel of the box.
+#[tactic(auto, using(crate::proofs::Wheels::place_nowhere, crate::proofs::Prelude::slice_get_past))]
 pub(crate) fn of_wheel(model: Model, letters: &PerWheel<Letter>, wheel: Wheel) -> Option<Letter>
     requires { length letters.now ≡ length (box_of model) }
     ensures { result ≡ slice_get letters.now (place_in_box model wheel) }

@@ -20,7 +20,7 @@ pub use Rattle.kd_state.proofs.CostTable.{no_zero, one_zero, tests_tell_letters,
 pub use Rattle.kd_state.proofs.Slots.{has_letter-Decides, is_some-place_on, set_here, set_other}
 pub use Rattle.kd_state.proofs.Wheels.{allowed_in_box, days_wheels_have_their_places, has_reflector-Decides}
 pub use Rattle.kd_state.proofs.Wheels.{has_wheel-Decides, place_within, same_reflector-Decides, same_wheel-Decides}
-pub use Rattle.kd_state.proofs.Wheels.{same_wheel_differs, same_wheel_self}
+pub use Rattle.kd_state.proofs.{Telling.letters_have_places, Wheels.{same_wheel_differs, same_wheel_self}}
 pub use Rattle.kd_state.specs.Costs.{bar_cost, cable_cost, column_letters, columns_of, cost_table, differ, loose_count}
 pub use Rattle.kd_state.specs.Costs.{loose_rings, lugs_moved, reads_as_row, unless_same}
 pub use Rattle.kd_state.specs.{Entry.rotor_values, Machine.AreOnWheels, Machine.HasAllPins}

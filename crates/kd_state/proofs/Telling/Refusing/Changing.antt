@@ -141,7 +141,7 @@ is_seated held e = grind arith
 -- ---- the Converter
 
 -- six lists are the pins that are made of them
-six_lists : (pins : PinSet) (place : ℕ) (list : List Bool) → pins_of (pin_set (set (pins_of pins) place list)) ≡ set (pins_of pins) place list
+pub six_lists : (pins : PinSet) (place : ℕ) (list : List Bool) → pins_of (pin_set (set (pins_of pins) place list)) ≡ set (pins_of pins) place list
 six_lists pins place list = grind arith
 
 -- another letter's pin, of the pins of one wheel

@@ -1,6 +1,6 @@
-use Rattle.std.proofs.Common.{◌≡◌, ◌+◌, ◌%◌, ℕ, subst, ◌∙◌, refl}
-use Rattle.kd_drum.{proofs.Sets.in_set_of, proofs.Sets.set_of, proofs.Starts.acts_now, specs.Converter.PinKey}
-use Rattle.kd_drum.specs.{Converter.acts_after, Converter.start_on, Counts.is_in, Standing.key_of}
+use Rattle.std.proofs.Common.{◌≡◌, ◌+◌, ◌%◌, ℕ, subst, sym, ◌∙◌, refl}
+use Rattle.kd_drum.proofs.{Sets.{in_set_of, set_of}, Starts.{acts_now, key_stands}}
+use Rattle.kd_drum.specs.{Converter.{PinKey, acts_after, pin_key_after, start_on}, Counts.is_in, Standing.key_of}
 use Rattle.kd_pins.specs.{PinWheel.is_effective, PinWheels.offset_of, PinWheels.pins_on, PinWheels.size_of}
 use Rattle.kd_drum.proofs.converter.Converter.acting.Goals as goal
 
@@ -18,3 +18,9 @@ returns-clause-each c =
     (c.acting-4.ensures ∙ acts_now key 4 21 inside.w4 stands.fourth refl refl)
     (c.acting-5.ensures ∙ acts_now key 5 19 inside.w5 stands.fifth refl refl)
     (c.acting-6.ensures ∙ acts_now key 6 17 inside.w6 stands.sixth refl refl)))
+
+pub returns-clause-stands : goal.returns-clause-stands
+returns-clause-stands c =
+    let inside = c.self.inside in
+    subst (λ (key : PinKey). pin_key_after key 0 ≡ key) c.self.view_is
+    (sym (key_stands inside.w1 inside.w2 inside.w3 inside.w4 inside.w5 inside.w6 inside.rows c.self.invariant.0))
