@@ -2,14 +2,13 @@
 ghost use Rattle.std.specs.Prelude.{◌≡◌, ◌+◌, ◌*◌, ◌<◌, ◌≤◌, ◌++◌, map, length};
 ghost use Rattle.std.specs.Option.{option_to_list};
 ghost use Rattle.arrayvec.specs.ArrayVec.{array_vec_len};
-ghost use Rattle.kd_tables.specs.Places.{in_order};
 ghost use Rattle.kd_state.specs.Machine.{cable_letters};
 ghost use Rattle.kd_state.specs.Setting.{has_letter};
 ghost use Rattle.kd_state.specs.Costs.{column_letters};
 ghost use Rattle.kd_plan.specs.Planned.{unless_so, besides, letters_apart, lines_from, moves_of};
 
 use super::lines::push_two;
-use kd_state::{Cable, Setting, Settings, column_at, lies_in};
+use kd_state::{Cable, Setting, Settings, column_at, letters_in_order, lies_in, lies_in_column};
 use kd_tables::Letter;
 
 /// The pair that a cable becomes, or nothing.
@@ -67,7 +66,7 @@ fn moves(
         ),
         Direction::In => match *column {
             Some((one, other)) => {
-                let (first, second) = ordered(one, other);
+                let (first, second) = letters_in_order(one, other);
                 (
                     put_line(number, *cable, first),
                     put_line(number, *cable, second),
@@ -84,7 +83,7 @@ fn pull_line(cable: u8, end: Option<Letter>, column: Column) -> Option<Setting>
         option_to_list result ≡ map (λ letter. Setting.Pull cable letter) letters }
 {
     let letter = end?;
-    if is_one_of(column, letter) {
+    if lies_in_column(column, letter) {
         None
     } else {
         Some(Setting::Pull { cable, letter })
@@ -101,26 +100,5 @@ fn put_line(number: u8, cable: Cable, letter: Letter) -> Option<Setting>
     } else {
         let cable = number;
         Some(Setting::Put { cable, letter })
-    }
-}
-
-/// The two letters in alphabetical order.
-fn ordered(one: Letter, other: Letter) -> (Letter, Letter)
-    ensures { result ≡ in_order one other }
-{
-    if one.index() <= other.index() {
-        (one, other)
-    } else {
-        (other, one)
-    }
-}
-
-/// Whether the letter is one of the pair.
-fn is_one_of(column: Column, letter: Letter) -> bool
-    ensures { result ≡ has_letter (column_letters column) letter }
-{
-    match column {
-        Some((one, other)) => one == letter || other == letter,
-        None => false,
     }
 }

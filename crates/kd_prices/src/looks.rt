@@ -2,14 +2,13 @@
 ghost use Rattle.std.specs.Prelude.{◌≡◌, ◌≤◌, length, map, None};
 ghost use Rattle.kd_card.specs.declared.look.Look.TheVariants as look;
 ghost use Rattle.kd_card.specs.Proving.{row_looks, column_looks, pair_in_order};
-ghost use Rattle.kd_tables.specs.Places.{in_order};
 ghost use Rattle.kd_state.specs.Costs.{columns_of};
 ghost use Rattle.kd_state.specs.Machine.{IsMachine};
 ghost use Rattle.kd_state.specs.SheetDay.{IsLegalDay};
 
 use arrayvec::ArrayVec;
 use kd_card::Look;
-use kd_state::{Entry, Machine, Parts, SheetDay, column_at};
+use kd_state::{Entry, Machine, Parts, SheetDay, column_at, letters_in_order};
 use kd_tables::{Letter, Reading, Standing};
 
 /// The looks of the machine's cables, or of its bars.
@@ -63,16 +62,5 @@ fn in_order(pair: Option<(Letter, Letter)>) -> Option<(Letter, Letter)>
     match pair {
         None => None,
         Some((one, other)) => Some(letters_in_order(one, other)),
-    }
-}
-
-/// The two letters in alphabetical order.
-fn letters_in_order(one: Letter, other: Letter) -> (Letter, Letter)
-    ensures { result ≡ in_order one other }
-{
-    if one.index() <= other.index() {
-        (one, other)
-    } else {
-        (other, one)
     }
 }

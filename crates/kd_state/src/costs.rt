@@ -34,7 +34,7 @@ fn lies_in_one(cable: Cable, column: Option<(Letter, Letter)>, letter: Letter) -
 }
 
 /// Whether the letter is one of the pair.
-fn lies_in_column(column: Option<(Letter, Letter)>, letter: Letter) -> bool
+pub fn lies_in_column(column: Option<(Letter, Letter)>, letter: Letter) -> bool
     ensures { result ≡ has_letter (column_letters column) letter }
 {
     match column {

@@ -2,6 +2,7 @@
 ghost use Rattle.std.specs.Prelude.{◌≡◌, ◌↔◌, IsTrue, map, nat_eq};
 ghost use Rattle.std.specs.List.{list_any, IsDistinct};
 ghost use Rattle.std.specs.Option.{option_to_list};
+ghost use Rattle.kd_tables.specs.Places.{in_order};
 ghost use Rattle.kd_state.specs.Machine.{cable_letters, plugged_letters, ordered};
 ghost use Rattle.kd_state.specs.Setting.{has_letter, are_new, is_plugged, cable_without, cable_with};
 
@@ -66,6 +67,17 @@ pub(crate) fn is_plugged(cable: &Cable) -> bool
     ensures { result ≡ is_plugged cable.now }
 {
     cable.0.is_some() && cable.1.is_some()
+}
+
+/// The two letters in alphabetical order.
+pub fn letters_in_order(one: Letter, other: Letter) -> (Letter, Letter)
+    ensures { result ≡ in_order one other }
+{
+    if one.index() <= other.index() {
+        (one, other)
+    } else {
+        (other, one)
+    }
 }
 
 /// The cable without the letter.
