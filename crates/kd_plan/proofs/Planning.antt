@@ -237,6 +237,11 @@ table_at_most cost most few h costs xs ys e =
     rw e (All-map (All (λ c. c ≤ 4)) (λ x. map (cost x) ys) xs
     (λ k d lt. All-map (λ c. c ≤ 4) (cost _) ys (λ j e lt'. omega (arith, few, h (get_or xs k d) (get_or ys j e)))))
 
+-- two letters, each of which is put unless it is held
+pub two_put : (held : ℕ → Bool) (n x y : ℕ) → option_to_list (unless_so (held x) (Put n x)) ++ option_to_list (unless_so (held y) (Put n y))
+    ≡ map (λ letter. Put n letter) (filter (λ letter. not (held letter)) (x ∷ y ∷ []))
+two_put held n x y = grind arith
+
 -- there is room for all lines of a rotor machine
 few_of : (model : Model) → (slots_of model ≤ 4) × (length (box_of model) ≤ 10)
 few_of model = grind arith
@@ -246,7 +251,6 @@ pub few_parts : (m : RotorParts) (s : RotorDay) → IsMachine (Rotor m) → IsLe
 few_parts m s machine legal =
     omega (arith, few_of m.model, few_of s.model, machine.legal.slots, legal.wheels.count, length-map s.wheels (λ (w : SheetWheel). Some w.wheel))
 
--- the card
 pub planned : (m : Parts) (s : Day) (costs : List (List ℕ)) (to : List ℕ) (settings : List Setting) (prices : PriceParts) (total : ℕ) (rows columns : List ℤ)
     → model_of m ≡ day_model s → costs ≡ cost_table m s → AreOfKind m prices → length to ≡ table_size m → IsOneToOne to → settings ≡ planned_lines m s to
     → row_prices prices ≡ prices_due total rows → column_prices prices ≡ prices_due total columns → length rows ≡ how_many prices → length columns ≡ how_many prices

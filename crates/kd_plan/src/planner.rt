@@ -50,6 +50,7 @@ fn planned_card(machine: &Machine, day: &SheetDay) -> Option<Card>
 }
 
 /// The card of a rotor machine.
+#[tactic(auto, using(crate::proofs::Planning::few_parts, crate::proofs::Planning::planned))]
 fn rotor_card(machine: &Machine, parts: &RotorParts, entry: &RotorEntry) -> Card
     requires parts { machine.now ≡ Parts.Rotor parts.now }
     requires machine { IsMachine (Parts.Rotor parts.now) }
@@ -72,6 +73,7 @@ fn rotor_card(machine: &Machine, parts: &RotorParts, entry: &RotorEntry) -> Card
 }
 
 /// The card of a Converter M-209.
+#[tactic(auto, using(crate::proofs::Planning::planned))]
 fn pin_card(parts: &PinParts, entry: &PinEntry) -> Card
     requires machine { IsMachine (Parts.Pin parts.now) }
     requires legal { IsLegalDay (OfPins (pin_values entry.now)) }

@@ -1,4 +1,4 @@
-use Rattle.kd_plan.proofs.Planning.{arith, bar_cost, bar_cost_at_most, planned, recursion_from_All, table_at_most, ◌<◌}
+use Rattle.kd_plan.proofs.Planning.{arith, bar_cost, bar_cost_at_most, recursion_from_All, table_at_most, ◌<◌}
 use Rattle.kd_plan.proofs.planner.pin_card.Goals as goal
 
 pub assign-total-requires : goal.assign-total-requires
@@ -8,6 +8,3 @@ assign-total-requires c =
 pub pin_settings-settings-requires : goal.pin_settings-settings-requires
 pin_settings-settings-requires c =
     recursion_from_All (λ j. j < 27) _ (λ k d lt. omega (arith, c.assign-total.ensures.one_to_one.in_range k d lt))
-
-pub returns : goal.returns
-returns c = grind (arith, planned)
