@@ -7,4 +7,5 @@ pub mod OneCard
 pub mod Counts
 pub mod Duality
 pub mod Falling
+pub mod Counting
 pub mod Shortest

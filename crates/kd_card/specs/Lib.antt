@@ -6,4 +6,5 @@ pub mod Steps
 pub mod CardFault
 pub mod Reading
 pub mod Proving
+pub mod Loose
 pub mod Laws

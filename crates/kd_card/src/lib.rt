@@ -2,6 +2,7 @@
 //! both.
 #![tactic(auto)]
 
+mod appending;
 mod card;
 mod carrying;
 mod fault;
@@ -10,17 +11,22 @@ mod kind_text;
 mod kinds;
 pub mod laws;
 mod look;
+mod loose;
+mod pin_lines;
 mod price_text;
 mod prices;
 mod read;
+mod rotor_lines;
 mod write;
 
+pub use appending::{push_line, push_two};
 pub use card::Card;
 pub use carrying::{IllegalAt, carry_all};
 pub use fault::CardFault;
 pub use group::Group;
 pub use kinds::{BarKind, CableKind, PairKind, PricedKind, RowKind};
 pub use look::Look;
+pub use loose::loose_settings;
 pub use prices::{PriceParts, Prices, Version};
 pub use read::read_card;
 pub use write::write_card;

@@ -2,38 +2,9 @@
 pub mod Pins
 unfoldable pub use Pins.*
 
--- so many lines at most beside those of cables and bars, and so many of these
-pub record AreCounted (lines : List Setting) (loose cost : ℕ) : Type 0 where
-  pub few : length lines ≤ loose + cost
-  pub priced : priced_count lines ≡ cost
-
-pub counted-append : {a b p q : ℕ} (xs ys : List Setting) → AreCounted xs a p → AreCounted ys b q → AreCounted (xs ++ ys) (a + b) (p + q)
-counted-append xs ys h k = grind (arith, length-append, sum_by-append)
-
--- a line of another thing that is left out where it is so
-counted_loose : (so : Bool) (x : Setting) → is_priced x ≡ false
-    → AreCounted (option_to_list (unless_so so x)) (cond (not so) 1 0) 0
-counted_loose so x e = grind arith
-
--- lines of things by their numbers
-counted_each : {Z : Type 0} (lines : ℕ → Z → List Setting) (f g : Z → ℕ)
-    → ((number : ℕ) (z : Z) → AreCounted (lines number z) (f z) (g z))
-    → (zs : List Z) (number : ℕ) → AreCounted (lines_from lines number zs) (sum_by f zs) (sum_by g zs)
-counted_each lines f g h [] number = record { few = omega arith; priced = refl }
-counted_each lines f g h (z ∷ zs) number =
-    rw (sum_by-cons f, sum_by-cons g) (counted-append _ _ (h number z) (counted_each lines f g h zs (number + 1)))
-
-sum_none : {Z : Type 0} (zs : List Z) → sum_by (λ z. 0) zs ≡ 0
-sum_none [] = refl
-sum_none (z ∷ zs) = simp sum_by-cons (omega (arith, sum_none zs))
-
 -- a cable's letters are pulled and put as many as its column costs, and 4 at most
 one_letter : (p q : Bool) → cond {A = ℕ} (p && not q) 1 0 + cond (q && not p) 1 0 ≡ cond (differ p q) 1 0
 one_letter p q = grind arith
-
-sums_add : {X : Type 0} (f g h : X → ℕ) → ((x : X) → f x + g x ≡ h x) → (xs : List X) → sum_by f xs + sum_by g xs ≡ sum_by h xs
-sums_add f g h e [] = refl
-sums_add f g h e (x ∷ xs) = simp sum_by-cons (omega (arith, e x, sums_add f g h e xs))
 
 once_among : (p : ℕ → Bool) (x first number : ℕ) → count_by (λ y. nat_eq x y && p y) (range_with_len first number) ≡ cond (nat_le first x && (nat_lt x (first + number) && p x)) 1 0
 once_among p x first zero = grind (arith, nat_tests)
@@ -53,13 +24,15 @@ counted_among p (x ∷ xs) h =
 due_counted : (p : ℕ → Bool) (column : Option (ℕ × ℕ)) → count_by p (letters_due column) ≡ count_by p (column_letters column)
 due_counted p column = grind (arith, sum_by-cons)
 
-abbrev pulled_letters : Beside → ℕ
-pulled_letters z = length (letters_apart (cable_letters z.0) (column_letters z.1))
+abbrev moved : Direction → Beside → ℕ
+moved Out z = length (letters_apart (cable_letters z.0) (column_letters z.1))
+moved In z = length (letters_apart (letters_due z.1) (cable_letters z.0))
 
-abbrev put_letters : Beside → ℕ
-put_letters z = length (letters_apart (letters_due z.1) (cable_letters z.0))
+counted_moves : (direction : Direction) (number : ℕ) (z : Beside) → AreCounted (moves_of direction number z) 0 (moved direction z)
+counted_moves Out number z = grind arith
+counted_moves In number z = grind arith
 
-cable_lines : {pairs : List (ℕ × ℕ)} (z : Beside) → IsPluggable pairs z → pulled_letters z + put_letters z ≡ cable_cost z.0 z.1
+cable_lines : {pairs : List (ℕ × ℕ)} (z : Beside) → IsPluggable pairs z → moved Out z + moved In z ≡ cable_cost z.0 z.1
 cable_lines z h =
     let held = has_letter (cable_letters z.0) in
     let due = has_letter (column_letters z.1) in
@@ -70,11 +43,11 @@ cable_lines z h =
     omega (arith, sums_add _ _ _ (λ l. one_letter (held l) (due l)) alphabet)
 
 cable_sums : (pairs : List (ℕ × ℕ)) (zs : List Beside) → AllByRecursion (IsPluggable pairs) zs
-    → sum_by pulled_letters zs + sum_by put_letters zs ≡ sum_by (λ z. cable_cost z.0 z.1) zs
+    → sum_by (moved Out) zs + sum_by (moved In) zs ≡ sum_by (λ z. cable_cost z.0 z.1) zs
 cable_sums pairs [] h = refl
 cable_sums pairs (z ∷ zs) h =
     let here = sum_by-cons (λ (z : Beside). cable_cost z.0 z.1) z zs in
-    omega (arith, sum_by-cons pulled_letters z zs, sum_by-cons put_letters z zs, here, cable_lines z h.0, cable_sums pairs zs h.1)
+    omega (arith, sum_by-cons (moved Out) z zs, sum_by-cons (moved In) z zs, here, cable_lines z h.0, cable_sums pairs zs h.1)
 
 -- a bar's lines are as many as lugs are moved, in either order
 counted_both : (first a b : Bool) (x y : Setting) → is_priced x ≡ true → is_priced y ≡ true
@@ -85,7 +58,7 @@ counted_both first a b x y e d = grind arith
 counted_lines : (zs : List BarRow) (number : ℕ) → AllByRecursion IsMovable zs
     → AreCounted (lines_from lugs_of number zs) 0 (sum_by (λ z. bar_cost z.0 z.1) zs)
 unfolding lugs_to
-counted_lines [] number h = record { few = omega arith; priced = refl }
+counted_lines [] number h = record { count = refl; priced = refl }
 counted_lines (z ∷ zs) number h =
     rw sum_by-cons (counted-append _ _ (subst (AreCounted (lugs_of number z) 0) (is_target z.0 z.1 h.0.reading).1
     (counted_both _ _ _ _ _ refl refl)) (counted_lines zs (number + 1) h.1))
@@ -106,73 +79,25 @@ table_cost cost columns d (x ∷ all) (j ∷ to) size within =
     simp sum_by-cons (omega (arith, get_or-map (cost x) columns j d 0 within.0, table_cost cost columns d all to (omega arith) within.1))
 table_cost cost columns d _ _ size within = absurd (omega arith)
 
--- a wheel is found under one name only
-once_in_box : (model : Model) (wheel : Wheel) (b : Bool)
-    → count_by (λ x. same_wheel x wheel && b) (box_of model) ≤ cond b 1 0
-once_in_box model wheel b = grind arith
+-- all planned lines, of a rotor machine and of a Converter M-209
+rotor_counted : (m : RotorParts) (s : RotorDay) (to : List ℕ) → IsLegalRotorDay s → m.model ≡ s.model
+    → AllByRecursion (IsPluggable s.pairs) (besides m.cables s.pairs to)
+    → AreCounted (planned_lines (Rotor m) (OfRotors s) to) (loose_count (Rotor m) (OfRotors s))
+    (sum_by (λ z. cable_cost z.0 z.1) (besides m.cables s.pairs to))
+rotor_counted m s to legal same pluggable =
+    let cables = besides m.cables s.pairs to in
+    let loose = all_counted (Rotor m) (OfRotors s) legal same in
+    let moves = λ (direction : Direction). counted_each (moves_of direction) (λ z. 0) (moved direction) cables 1 (λ k n z e at. counted_moves direction n z) in
+    let all = simp sum_none at (counted-append _ _ (counted-append _ _ loose (moves Out)) (moves In)) in
+    let sums = cable_sums s.pairs cables pluggable in
+    record { count = omega (arith, all.count, sums); priced = omega (arith, all.priced, sums) }
 
-abbrev finds : (SheetWheel → Bool) → List SheetWheel → Wheel → Bool
-finds test wheels wheel = option_map_or test (find (λ w. same_wheel wheel w.wheel) wheels) false
-
-finds_first : (test : SheetWheel → Bool) (w : SheetWheel) (wheels : List SheetWheel) (b : Wheel)
-    → cond {A = ℕ} (finds test (w ∷ wheels) b) 1 0 ≤ cond (same_wheel b w.wheel && test w) 1 0 + cond (finds test wheels b) 1 0
-finds_first test w wheels b = grind arith
-
-found_at_most : (test : SheetWheel → Bool) (model : Model) (wheels : List SheetWheel)
-    → count_by (finds test wheels) (box_of model) ≤ count_by test wheels
-found_at_most test model [] = grind arith
-found_at_most test model (w ∷ wheels) =
-    grind (arith, common_steps, sum_by-le-sum_by, finds_first, sums_add, once_in_box, sum_by-cons, found_at_most test model wheels)
-
--- All planned lines of a rotor machine.
-module _ (m : RotorParts) (s : RotorDay) (to : List ℕ) where
-  counted_rings : AreCounted (ring_lines m s.wheels) (loose_rings m s) 0
-  counted_rings =
-      let wrong = λ (w : SheetWheel). not (option_map_or (nat_eq w.ring) (ring_at m w.wheel) false) in
-      let all = rw sum_none at (counted_each (λ n wheel. ring_of_wheel m s.wheels wheel)
-      (λ wheel. cond (finds wrong s.wheels wheel) 1 0) (λ z. 0) (λ n wheel. grind (arith, counted_loose)) (box_of m.model) 1) in
-      rw (lines_of_each (ring_of_wheel m s.wheels) (box_of m.model) 1)
-      (record { few = omega (arith, all.few, found_at_most wrong m.model s.wheels); priced = all.priced })
-
-  pub rotor_counted : AllByRecursion (IsPluggable s.pairs) (besides m.cables s.pairs to)
-      → AreCounted (planned_lines (Rotor m) (OfRotors s) to) (loose_count (Rotor m) (OfRotors s))
-      (sum_by (λ z. cable_cost z.0 z.1) (besides m.cables s.pairs to))
-  rotor_counted pluggable =
-      let cables = besides m.cables s.pairs to in
-      let seats = counted_each seat_of _ (λ z. 0) (λ n z. counted_loose _ _ refl) (zip m.slots s.wheels) 1 in
-      let reflector = counted_loose (same_reflector m.reflector s.reflector) (SeatReflector s.reflector) refl in
-      let turns = counted_each (turn_of m) _ (λ z. 0) (λ n w. counted_loose _ _ refl) s.wheels 1 in
-      let pulled = counted_each (moves_of Out) (λ z. 0) pulled_letters (λ n z. grind arith) cables 1 in
-      let put = counted_each (moves_of In) (λ z. 0) put_letters (λ n z. grind arith) cables 1 in
-      let all = simp sum_none at (counted-append _ _ (counted-append _ _ (counted-append _ _ (counted-append _ _
-      (counted-append _ _ seats reflector) counted_rings) turns) pulled) put) in
-      let sums = cable_sums s.pairs cables pluggable in
-      record { few = grind (arith, all.few, sums); priced = omega (arith, all.priced, sums) }
-
--- And of a Converter M-209.
-module _ (m : PinParts) (s : PinDay) (to : List ℕ) where
-  abbrev bars : List BarRow
-  bars = bars_beside m.bars s.rows to
-
-  counted_wheel : (number : ℕ) (z : List Bool × List Bool) → AreCounted (wheel_pin_lines number (ring_of number) z.0 z.1)
-      (count_by (λ (pin : Bool × Bool). differ pin.0 pin.1) (zip z.0 z.1)) 0
-  counted_wheel number z =
-      let cells = zip (ring_of number) (zip z.0 z.1) in
-      let all = rw sum_none at (counted_each (λ n cell. pin_of number cell) (λ cell. cond (differ cell.1.0 cell.1.1) 1 0)
-      (λ z. 0) (λ n cell. grind (arith, counted_loose)) cells 1) in
-      grind (arith, lines_of_each (pin_of number) cells 1, all, beside_each (λ (pin : Bool × Bool). cond {A = ℕ} (differ pin.0 pin.1) 1 0) (ring_of number) (zip z.0 z.1))
-
-  pub pin_counted : AllByRecursion IsMovable bars → AreCounted (planned_lines (Pin m) (OfPins s) to)
-      (loose_count (Pin m) (OfPins s)) (sum_by (λ z. bar_cost z.0 z.1) bars)
-  pin_counted movable =
-      let wheels = zip (pins_of m.pins) (pins_of s.pins) in
-      let pins = counted_each (λ number z. wheel_pin_lines number (ring_of number) z.0 z.1) _ (λ z. 0) counted_wheel wheels 1 in
-      let turns = counted_each pin_turn_of _ (λ z. 0) (λ n z. counted_loose _ _ refl) (zip m.letters s.window) 1 in
-      let lugs = counted_lines bars 1 movable in
-      let all = simp sum_none at (counted-append _ _ (counted-append (pin_lines m.pins s.pins) _ pins turns) lugs) in
-      let differing = λ (z : List Bool × List Bool). count_by (λ (pin : Bool × Bool). differ pin.0 pin.1) (zip z.0 z.1) in
-      let same = sum-map differing wheels in
-      record { few = omega (arith, all.few); priced = omega (arith, all.priced) }
+pin_counted : (m : PinParts) (s : PinDay) (to : List ℕ) → IsLegalPinDay s → AllByRecursion IsMovable (bars_beside m.bars s.rows to)
+    → AreCounted (planned_lines (Pin m) (OfPins s) to) (loose_count (Pin m) (OfPins s))
+    (sum_by (λ z. bar_cost z.0 z.1) (bars_beside m.bars s.rows to))
+pin_counted m s to legal movable =
+    let all = counted-append _ _ (all_counted (Pin m) (OfPins s) legal refl) (counted_lines (bars_beside m.bars s.rows to) 1 movable) in
+    record { count = omega (arith, all.count); priced = omega (arith, all.priced) }
 
 -- ---- the planned lines of any pairing lead to the day, and a planned card proves itself.
 -- What the lines lead to, and how many of them there are.
@@ -181,12 +106,12 @@ good : (m : Parts) (s : Day) (to : List ℕ) → IsMachine m → IsLegalDay s �
 good (Rotor m) (OfRotors s) to machine legal same count one_to_one =
     let within = recursion_from_All (λ j. j < length (columns_of s.pairs)) to (λ k d lt. omega (arith, one_to_one.in_range k d lt, count, thirteen_columns s.pairs legal.pairs.few)) in
     let cost = table_cost cable_cost (columns_of s.pairs) None m.cables to (machine.legal.cables.count ∙ sym count) within in
-    let counted = rotor_counted m s to (are_pluggable m s machine legal same to count one_to_one) in
+    let counted = rotor_counted m s to legal same (are_pluggable m s machine legal same to count one_to_one) in
     (rotors_lead m s machine legal same to count one_to_one, rw cost counted)
 good (Pin m) (OfPins s) to machine legal same count one_to_one =
     let within = recursion_from_All (λ j. j < length s.rows) to (λ k d lt. omega (arith, one_to_one.in_range k d lt, count, legal.count)) in
     let cost = table_cost bar_cost s.rows (0, 0) m.bars to (machine.legal.bars ∙ sym count) within in
-    let counted = pin_counted m s to (are_movable m s to machine legal count one_to_one) in
+    let counted = pin_counted m s to legal (are_movable m s to machine legal count one_to_one) in
     (pin_machine_leads m s to machine legal count one_to_one, rw cost counted)
 good (Rotor m) (OfPins s) to machine legal same count one_to_one = absurd (no_rotors m.model m.reflector same machine.legal.reflector)
 good (Pin m) (OfRotors s) to machine legal same count one_to_one = absurd (no_rotors s.model s.reflector (sym same) legal.reflector)
@@ -198,7 +123,7 @@ pub planned_cards_prove : PlannedCardsProve
 planned_cards_prove m s settings prices machine legal h =
     let so = good m s h.to machine legal h.model h.all_rows h.one_to_one in
     let sum = h.total ∙ ap pos (sym so.1.priced) in
-    let needed = as_few_are_needed m s (planned_lines m s h.to) legal h.model so.0 (omega (arith, so.1.few, so.1.priced)) in
+    let needed = as_few_are_needed m s (planned_lines m s h.to) legal h.model so.0 (omega (arith, so.1.count, so.1.priced)) in
     rw h.lines (record { model = h.model; kind = h.kind; leads = so.0; fits = h.fits; sum = sum; needed = needed })
 
 -- and no list of settings is shorter
@@ -241,15 +166,6 @@ table_at_most cost most few h costs xs ys e =
 pub two_put : (held : ℕ → Bool) (n x y : ℕ) → option_to_list (unless_so (held x) (Put n x)) ++ option_to_list (unless_so (held y) (Put n y))
     ≡ map (λ letter. Put n letter) (filter (λ letter. not (held letter)) (x ∷ y ∷ []))
 two_put held n x y = grind arith
-
--- there is room for all lines of a rotor machine
-few_of : (model : Model) → (slots_of model ≤ 4) × (length (box_of model) ≤ 10)
-few_of model = grind arith
-
-pub few_parts : (m : RotorParts) (s : RotorDay) → IsMachine (Rotor m) → IsLegalRotorDay s
-    → length m.slots + length (box_of m.model) + length s.wheels ≤ 18
-few_parts m s machine legal =
-    omega (arith, few_of m.model, few_of s.model, machine.legal.slots, legal.wheels.count, length-map s.wheels (λ (w : SheetWheel). Some w.wheel))
 
 pub planned : (m : Parts) (s : Day) (costs : List (List ℕ)) (to : List ℕ) (settings : List Setting) (prices : PriceParts) (total : ℕ) (rows columns : List ℤ)
     → model_of m ≡ day_model s → costs ≡ cost_table m s → AreOfKind m prices → length to ≡ table_size m → IsOneToOne to → settings ≡ planned_lines m s to

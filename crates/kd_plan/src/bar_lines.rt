@@ -4,9 +4,10 @@ ghost use Rattle.std.specs.List.{AllByRecursion};
 ghost use Rattle.std.specs.Option.{option_to_list};
 ghost use Rattle.arrayvec.specs.ArrayVec.{array_vec_len};
 ghost use Rattle.kd_state.specs.Setting.{is_at};
-ghost use Rattle.kd_plan.specs.Planned.{unless_so, lines_from, lugs_to, lugs_of, bars_beside, target_of};
+ghost use Rattle.kd_card.specs.Loose.{unless_so, lines_from};
+ghost use Rattle.kd_plan.specs.Planned.{lugs_to, lugs_of, bars_beside, target_of};
 
-use super::lines::push_two;
+use kd_card::push_two;
 use kd_state::{Setting, Settings, nearest_standing};
 use kd_tables::{Lug, Place, Reading, Standing};
 

@@ -5,9 +5,10 @@ ghost use Rattle.arrayvec.specs.ArrayVec.{array_vec_len};
 ghost use Rattle.kd_state.specs.Machine.{cable_letters};
 ghost use Rattle.kd_state.specs.Setting.{has_letter};
 ghost use Rattle.kd_state.specs.Costs.{column_letters};
-ghost use Rattle.kd_plan.specs.Planned.{unless_so, besides, letters_apart, lines_from, moves_of};
+ghost use Rattle.kd_card.specs.Loose.{unless_so, lines_from};
+ghost use Rattle.kd_plan.specs.Planned.{besides, letters_apart, moves_of};
 
-use super::lines::push_two;
+use kd_card::push_two;
 use kd_state::{Cable, Setting, Settings, column_at, letters_in_order, lies_in, lies_in_column};
 use kd_tables::Letter;
 

@@ -5,11 +5,8 @@ mod bar_lines;
 mod cable_lines;
 mod card_prices;
 pub mod laws;
-mod lines;
 mod other_model;
-mod pin_lines;
 mod planner;
-mod rotor_lines;
 
 pub use other_model::OtherModel;
 pub use planner::plan;

@@ -1,7 +1,8 @@
 -- Settings that lead from one machine to another, taken apart and put together.
-use Rattle.kd_prices.proofs.Prelude.{leads_next, ◌≡◌, Some, ℕ, ◌+◌, ◌<◌, List, [], ◌∷◌, ◌++◌, length, get_or, sym, ◌∙◌, subst, arith, take, take-append-drop, Parts, Setting, Why, why_refused, changed, Leads, Day, IsNeeded, AreNeeded, Result, Ok, Err, NeedlessLine}
+use Rattle.kd_prices.proofs.Prelude.{leads_next, ap, ◌∙◌, ◌≡◌, Some, ℕ, ◌+◌, ◌<◌, List, [], ◌∷◌, ◌++◌, length, get_or, sym, subst, arith, take, take-append-drop, Parts, Setting, Why, why_refused, changed, Leads, Day, IsNeeded, AreNeeded, Result, Ok, Err, NeedlessLine}
 use Rattle.{kd_card.specs.Proving.is_priced, kd_prices.specs.Doubt.SaysNeeded}
 use Rattle.{kd_prices.specs.declared.doubt.Doubt.Doubt, kd_state.specs.Costs.loose_count}
+use Rattle.{kd_card.proofs.Falling.model_of-changed, kd_state.specs.Machine.model_of, kd_state.specs.SheetDay.day_model}
 use Rattle.{kd_state.specs.Setting.Carries, std.proofs.Math.Seq.drop-cons, std.proofs.lemmas.List.length-take-le}
 use Rattle.std.{proofs.lemmas.List.take_more, specs.Prelude.IsFalse, specs.Result.MatchResult, specs.Result.result_and}
 
@@ -33,6 +34,7 @@ needed_join m n s (y ∷ front) x leads needed here =
 -- the settings up to a place have been carried out, and are all needed, or a first one of them isn't
 pub record IsWalked (m n : Parts) (s : Day) (xs : List Setting) (place loose : ℕ) (needed : Result (Unit {0}) Doubt) : Type 0 where
   pub leads : Leads m (take place xs) n
+  pub model : model_of n ≡ day_model s
   pub loose_is : loose ≡ loose_count n s
   pub judged : MatchResult needed (λ _. AreNeeded m s (take place xs)) (λ doubt. SaysNeeded m s xs (Err doubt))
 
@@ -57,6 +59,7 @@ pub walks_on : {m n o : Parts} {s : Day} {xs : List Setting} {place loose left :
     → IsWalked m o s xs (place + 1) left (result_and needed here)
 walks_on {m} {n} {o} {s} {xs} {place} {needed} x here inside is walked carries left tells = record {
   leads = leads_next m n o xs place x inside is walked.leads carries;
+  model = ap model_of carries.made ∙ model_of-changed n x ∙ walked.model;
   loose_is = left;
   judged = judged_on m n s xs place x inside is walked.leads needed here walked.judged
       (rw (← carries.made, ← walked.loose_is, ← left) tells);

@@ -8,7 +8,6 @@ mod fitting;
 mod kind_cards;
 pub mod laws;
 mod looks;
-mod loose;
 mod walking;
 
 pub use checking::check;

@@ -1,11 +1,13 @@
 //! Where the lines of a card lead, and which of them put nothing right.
 ghost use Rattle.std.specs.Prelude.{◌≡◌, ◌+◌, ◌≤◌, IsFalse, MatchResult, IfOk, IfErr, Err};
+ghost use Rattle.kd_state.specs.Machine.{model_of};
 ghost use Rattle.kd_state.specs.Setting.{Leads};
+ghost use Rattle.kd_state.specs.SheetDay.{day_model};
 ghost use Rattle.kd_card.specs.Proving as proving;
 ghost use Rattle.kd_prices.specs.Doubt.{SaysCarried, SaysNeeded};
 
 use super::doubt::Doubt;
-use super::loose::loose_count;
+use kd_card::loose_settings;
 use kd_state::{Machine, Setting, SheetDay};
 
 /// Where the lines of a card lead, and whether each of them is needed, or the first doubt about one.
@@ -18,19 +20,19 @@ pub(crate) struct Walk {
 /// Carries the settings out, one after another, and judges each by what is loose before it and after it.
 #[tactic(auto, using(kd_card::proofs::Leading::stops_at))]
 pub(crate) fn walked(machine: &Machine, day: &SheetDay, settings: &[Setting]) -> Result<Walk, Doubt>
+    requires { model_of machine.now ≡ day_model day.now }
     ensures leads { IfOk result (λ walk. Leads machine.now settings.now walk.reached) }
     ensures needed { IfOk result (λ walk. SaysNeeded machine.now day.now settings.now walk.needed) }
     ensures refused { IfErr result (λ doubt. SaysCarried machine.now settings.now (Err doubt)) }
 {
     let mut reached = *machine;
-    let mut loose = loose_count(machine, day);
+    let mut loose = loose_settings(machine, day).len();
     let mut needed = Ok(());
     for (place, setting) in settings.iter().enumerate() {
-        match reached.carry(*setting) {
-            Ok(()) => {}
-            Err(illegal) => return Err(Doubt::IllegalAt(place + 1, illegal.why)),
+        if let Err(illegal) = reached.carry(*setting) {
+            return Err(Doubt::IllegalAt(place + 1, illegal.why));
         }
-        let left = loose_count(&reached, day);
+        let left = loose_settings(&reached, day).len();
         needed = needed.and(judged(setting, place + 1, loose, left));
         loose = left;
     }

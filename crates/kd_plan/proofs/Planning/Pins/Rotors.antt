@@ -3,6 +3,8 @@
 pub use Rattle.kd_assign.specs.Assignment.{IsOneToOne, assignment_cost}
 pub use Rattle.kd_assign.specs.Prices.{CostsAtMost, Fits, cost_at, price_at, price_sum, sum_of}
 pub use Rattle.kd_card.proofs.{Counts.once_of_distinct, Counts.times, Duality.fold_of_both, Duality.sum_of as card_sum}
+pub use Rattle.kd_card.proofs.Counting.{AreCounted, all_counted, beside_each, counted-append, counted_each, in_box}
+pub use Rattle.kd_card.proofs.Counting.{lines_of_each, sum_none, sums_add}
 pub use Rattle.kd_card.proofs.{Leading.leads_join, Shortest.as_few_are_needed, Shortest.no_rotors}
 pub use Rattle.kd_card.proofs.Shortest.{proving_cards_are_shortest}
 pub use Rattle.kd_card.specs.Prices.{ArePrices, column_prices, how_many, row_prices}
@@ -10,11 +12,12 @@ pub use Rattle.kd_card.specs.Proving.{AreOfKind, LeadsToTheDay, Proves, Same, is
 pub use Rattle.{kd_card.specs.declared.prices.PriceParts.PriceParts, kd_enigma.specs.Plugs.letters_plugged}
 pub use Rattle.kd_pins.specs.{PinWheels.pins_of, declared.pin_set.PinSet.PinSet}
 pub use Rattle.kd_plan.specs.{Due.prices_due, Laws.PlannedCardsProve, Laws.PlannedLinesLead}
-pub use Rattle.kd_plan.specs.Planned.{IsPlanned, Plans, bars_beside, besides, letters_apart, letters_due, lines_from}
-pub use Rattle.kd_plan.specs.Planned.{lugs_of, moves_of, pin_lines, pin_of, pin_turn_lines, pin_turn_of}
-pub use Rattle.kd_plan.specs.Planned.{planned_lines, reflector_lines, ring_lines, ring_of_wheel, seat_lines, seat_of}
-pub use Rattle.kd_plan.specs.Planned.{table_size, target_of, turn_lines, turn_of, unless_so, wheel_pin_lines}
-pub use Rattle.kd_plan.specs.declared.cable_lines.Direction.TheVariants.{In, Out}
+pub use Rattle.kd_card.specs.Loose.{lines_from, pin_lines, pin_of, pin_turn_lines, pin_turn_of, reflector_lines}
+pub use Rattle.kd_card.specs.Loose.{ring_lines, ring_of_wheel, seat_lines, seat_of, turn_lines, turn_of, unless_so}
+pub use Rattle.kd_card.specs.Loose.{wheel_pin_lines}
+pub use Rattle.kd_plan.specs.Planned.{IsPlanned, Plans, bars_beside, besides, letters_apart, letters_due, lugs_of}
+pub use Rattle.kd_plan.specs.Planned.{moves_of, planned_lines, table_size, target_of}
+pub use Rattle.kd_plan.specs.declared.cable_lines.Direction.{Direction, TheVariants.In, TheVariants.Out}
 pub use Rattle.kd_state.proofs.{Cables.free_tells, CostTable.at_most_four, CostTable.columns_are_the_pairs}
 pub use Rattle.kd_state.proofs.CostTable.{no_zero, one_zero, tests_tell_letters, thirteen_columns, zeros}
 pub use Rattle.kd_state.proofs.Slots.{has_letter-Decides, is_some-place_on, set_here, set_other}
@@ -138,11 +141,6 @@ pub led_unless : (so : Bool) (m n : Parts) (x : Setting) → (so ≡ true → n 
     → (so ≡ false → why_refused m x ≡ None)
     → Led m (option_to_list (unless_so so x)) n
 led_unless so m n x same made allowed = grind (arith, led_none, led_cons)
-
--- lines that don't go by numbers
-pub lines_of_each : {X : Type 0} (f : X → List Setting) (xs : List X) (number : ℕ) → flat_map f xs ≡ lines_from (λ n x. f x) number xs
-lines_of_each f [] number = refl
-lines_of_each f (x ∷ xs) number = ap (λ lines. f x ++ lines) (lines_of_each f xs (number + 1))
 
 -- Things one after another, each with lines of its own: the machine is told by the things that are done and those that aren't.
 module _ {Z : Type 0} (state : List Z → List Z → Parts) (lines : ℕ → Z → List Setting) where
@@ -332,11 +330,6 @@ once_wanted : (y : ℕ) (pairs : List (ℕ × ℕ)) (none : ℕ) → count_by (�
 once_wanted y [] none = omega (arith, sum_by-replicate (λ (column : Column). cond (wants column y) 1 0) none None)
 once_wanted y (pair ∷ pairs) none = simp sum_by-cons (grind (arith, nat_tests, once_wanted y pairs none))
 
-pub beside_each : {A B : Type 0} (f : B → ℕ) (xs : List A) (ys : List B) → sum_by (λ (z : A × B). f z.1) (zip xs ys) ≤ sum_by f ys
-beside_each f [] ys = omega arith
-beside_each f (x ∷ xs) [] = omega arith
-beside_each f (x ∷ xs) (y ∷ ys) = simp sum_by-cons (omega (arith, beside_each f xs ys))
-
 no_letters : (xs : List ℕ) → ((y : ℕ) → has_letter xs y ≡ false) → xs ≡ []
 no_letters [] h = refl
 no_letters (x ∷ xs) h = absurd (grind (arith, nat_tests, h x))
@@ -363,9 +356,6 @@ places_in_box model = grind arith
 
 place_is : (model : Model) (k : ℕ) (d : Wheel) → k < length (box_of model) → place_in_box model (get_or (box_of model) k d) ≡ k
 place_is model k d lt = grind (arith, get_or-map, places_in_box, get_or-range_with_len)
-
-seated : (wheels : List SheetWheel) (place : ℕ) (d : SheetWheel) → place < length wheels → slice_get (seats wheels) place ≡ Some (Some (get_or wheels place d).wheel)
-seated wheels place d lt = grind (arith, slice_get-map, slice_get-get_or)
 
 -- ---- SEAT: a slot that is right already is never emptied, since the day's wheels differ
 kept_seat : (wheel other : Wheel) (seated : Option Wheel) → wheel ≢ other
@@ -543,7 +533,7 @@ module _ (m : RotorParts) (s : RotorDay) (machine : IsMachine (Rotor m)) (legal 
       let wanted = λ (column : Column). cond {A = ℕ} (wants column y) 1 0 in
       let moved = sum_by-IsPermutation wanted (columns_of s.pairs) columns order in
       let once = once_of_distinct (letters_plugged s.pairs) legal.pairs.apart y in
-      omega (arith, beside_each wanted m.cables columns, once_wanted y s.pairs (13 - length s.pairs))
+      omega (arith, beside_each wanted m.cables columns (omega (arith, sizes)), once_wanted y s.pairs (13 - length s.pairs))
 
   pub are_the_pairs : AreThePairs (map once_put zs) s.pairs
   are_the_pairs = record {
@@ -570,7 +560,7 @@ module _ (m : RotorParts) (s : RotorDay) (machine : IsMachine (Rotor m)) (legal 
   rotors_lead =
       let shown = λ (k : ℕ) (d : SheetWheel) (lt : k < length s.wheels).
       let w = get_or s.wheels k d in
-      let there = allowed_in_box m.model (k + 1) w.wheel (are_seated.allowed k w.wheel (seated s.wheels k d lt)) in
+      let there = in_box m.model s.wheels are_seated k d lt in
       let within = place_within m.model w.wheel there in
       let front = take k s.wheels in
       let back = drop (suc k) s.wheels in

@@ -5,6 +5,6 @@ pub assign-total-requires : goal.assign-total-requires
 assign-total-requires c =
     grind (arith, table_at_most bar_cost 2 (omega arith) bar_cost_at_most _ _ _ c.bar_costs-costs.ensures)
 
-pub pin_settings-settings-requires : goal.pin_settings-settings-requires
-pin_settings-settings-requires c =
+pub push_lugs-requires-clause-within : goal.push_lugs-requires-clause-within
+push_lugs-requires-clause-within c =
     recursion_from_All (λ j. j < 27) _ (λ k d lt. omega (arith, c.assign-total.ensures.one_to_one.in_range k d lt))

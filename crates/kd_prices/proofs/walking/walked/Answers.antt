@@ -4,5 +4,5 @@ use Rattle.kd_prices.proofs.walking.walked.Goals as goal
 pub loop-place-preserved : goal.loop-place-preserved
 loop-place-preserved c =
     rw c.and-needed.ensures
-    (walks_on _ _ (omega arith) (sym c.index-settings-place.is) c.loop-place.invariant c.in-Ok.ensures.carried
-    c.loose_count-left.ensures.value c.judged.ensures)
+    (walks_on _ _ (omega arith) (sym c.index-settings-place.is) c.loop-place.invariant c.in_default.ensures.carried
+    (cc) c.judged.ensures)

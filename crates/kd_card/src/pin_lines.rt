@@ -2,15 +2,30 @@
 ghost use Rattle.std.specs.Prelude.{◌≡◌, ◌+◌, ◌<◌, ◌≤◌, ◌++◌, not, nat_eq, length, zip};
 ghost use Rattle.arrayvec.specs.ArrayVec.{array_vec_len};
 ghost use Rattle.kd_state.specs.Costs.{differ};
-ghost use Rattle.kd_plan.specs.Planned.{unless_so, lines_from, wheel_pin_lines, pin_lines, pin_turn_of};
+ghost use Rattle.kd_state.specs.declared.machine.parts.Parts.TheVariants.{Pin};
+ghost use Rattle.kd_state.specs.SheetDay.{OfPins};
+ghost use Rattle.kd_state.specs.Entry.{pin_values};
+ghost use Rattle.kd_card.specs.Loose.{unless_so, lines_from, wheel_pin_lines, pin_lines, pin_turn_of, loose_lines};
 
-use super::lines::push_line;
+use super::appending::push_line;
+use arrayvec::ArrayVec;
 use kd_pins::PinSet;
-use kd_state::{Setting, Settings};
+use kd_state::{PinEntry, PinParts, Setting, Settings};
 use kd_tables::{Letter, ring1, ring2, ring3, ring4, ring5, ring6};
 
+/// What isn't as the day has it on a Converter M-209, bars apart, line by line.
+pub(crate) fn pin_settings(parts: &PinParts, entry: &PinEntry) -> Settings
+    ensures lines { result.items ≡ loose_lines (Pin parts.now) (OfPins (pin_values entry.now)) }
+    ensures few { length result.items ≤ 137 }
+{
+    let mut settings = ArrayVec::new();
+    push_pins(&mut settings, &parts.pins, &entry.pins);
+    push_pin_turns(&mut settings, 1, &parts.letters, &entry.window);
+    settings
+}
+
 /// Appends PIN for each pin that isn't as the day has it, wheel by wheel.
-pub(crate) fn push_pins(settings: &mut Settings, present: &PinSet, wanted: &PinSet)
+fn push_pins(settings: &mut Settings, present: &PinSet, wanted: &PinSet)
     requires { array_vec_len settings.old + 131 ≤ 192 }
     ensures items { settings.new.items ≡ settings.old.items ++ pin_lines present.now wanted.now }
     ensures few { array_vec_len settings.new ≤ array_vec_len settings.old + 131 }
@@ -24,12 +39,7 @@ pub(crate) fn push_pins(settings: &mut Settings, present: &PinSet, wanted: &PinS
 }
 
 /// Appends TURN for each pin wheel that shows another letter than the day's, from this wheel's number on.
-pub(crate) fn push_pin_turns(
-    settings: &mut Settings,
-    number: u8,
-    letters: &[Letter],
-    window: &[Letter],
-)
+fn push_pin_turns(settings: &mut Settings, number: u8, letters: &[Letter], window: &[Letter])
     requires few { number + length letters.now < 256 }
     requires room { array_vec_len settings.old + length letters.now ≤ 192 }
     ensures items { settings.new.items ≡ settings.old.items

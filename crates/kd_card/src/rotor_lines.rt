@@ -2,22 +2,42 @@
 ghost use Rattle.std.specs.Prelude.{◌≡◌, ◌+◌, ◌<◌, ◌≤◌, ◌++◌, false, nat_eq, length, find, flat_map, option_and_then, zip};
 ghost use Rattle.std.specs.Option.{option_map_or};
 ghost use Rattle.arrayvec.specs.ArrayVec.{array_vec_len};
+ghost use Rattle.kd_tables.specs.Tables.{box_of};
 ghost use Rattle.kd_state.specs.declared.machine.parts.Parts.TheVariants.{Rotor};
 ghost use Rattle.kd_state.specs.ToldApart.{same_wheel, same_reflector};
 ghost use Rattle.kd_state.specs.Machine.{ring_in, letter_in};
-ghost use Rattle.kd_plan.specs.Planned.{unless_so, lines_from, seat_of, reflector_lines, ring_of_wheel, turn_of};
+ghost use Rattle.kd_state.specs.SheetDay.{OfRotors};
+ghost use Rattle.kd_state.specs.Entry.{rotor_values};
+ghost use Rattle.kd_card.specs.Loose.{unless_so, lines_from, seat_of, ring_of_wheel, turn_of, loose_lines};
 
-use super::lines::push_line;
-use kd_state::{Machine, RotorParts, Setting, Settings, SheetWheel};
+use super::appending::push_line;
+use arrayvec::ArrayVec;
+use kd_state::{Machine, RotorEntry, RotorParts, Setting, Settings, SheetWheel};
 use kd_tables::{Reflector, Wheel};
 
+/// What isn't as the day has it on a rotor machine, cables apart, line by line.
+pub(crate) fn rotor_settings(machine: &Machine, parts: &RotorParts, entry: &RotorEntry) -> Settings
+    requires parts { machine.now ≡ Rotor parts.now }
+    requires few { length parts.now.slots + length (box_of parts.now.model)
+        + length entry.now.wheels ≤ 18 }
+    ensures lines { result.items
+        ≡ loose_lines (Rotor parts.now) (OfRotors (rotor_values entry.now)) }
+    ensures few { length result.items ≤ 19 }
+{
+    let wheels = entry.wheels.as_slice();
+    let mut settings = ArrayVec::new();
+    push_seats(&mut settings, 1, parts.slots.as_slice(), wheels);
+    push_line(
+        &mut settings,
+        reflector_line(parts.reflector, entry.reflector),
+    );
+    push_rings(&mut settings, machine, parts, parts.model.wheels(), wheels);
+    push_turns(&mut settings, machine, parts, 1, wheels);
+    settings
+}
+
 /// Appends SEAT for each slot that doesn't hold the day's wheel, from this slot's number on.
-pub(crate) fn push_seats(
-    settings: &mut Settings,
-    number: u8,
-    slots: &[Option<Wheel>],
-    wheels: &[SheetWheel],
-)
+fn push_seats(settings: &mut Settings, number: u8, slots: &[Option<Wheel>], wheels: &[SheetWheel])
     requires few { number + length slots.now < 256 }
     requires room { array_vec_len settings.old + length slots.now ≤ 192 }
     ensures items { settings.new.items ≡ settings.old.items
@@ -34,17 +54,8 @@ pub(crate) fn push_seats(
     push_seats(settings, number + 1, slots, wheels);
 }
 
-/// Appends REFLECTOR, unless it is the day's.
-pub(crate) fn push_reflector(settings: &mut Settings, present: Reflector, wanted: Reflector)
-    requires { array_vec_len settings.old + 1 ≤ 192 }
-    ensures items { settings.new.items ≡ settings.old.items ++ reflector_lines present wanted }
-    ensures few { array_vec_len settings.new ≤ array_vec_len settings.old + 1 }
-{
-    push_line(settings, reflector_line(present, wanted));
-}
-
 /// Appends RING for each of the day's wheels whose ring differs, in the order of these wheels of the box.
-pub(crate) fn push_rings(
+fn push_rings(
     settings: &mut Settings,
     machine: &Machine,
     parts: &RotorParts,
@@ -64,7 +75,7 @@ pub(crate) fn push_rings(
 }
 
 /// Appends TURN for each slot whose wheel shows another letter than the day's, from this slot's number on.
-pub(crate) fn push_turns(
+fn push_turns(
     settings: &mut Settings,
     machine: &Machine,
     parts: &RotorParts,

@@ -1,0 +1,25 @@
+//! What is loose on a machine beside a day: what isn't as the day has it, cables and bars apart.
+ghost use Rattle.std.specs.Prelude.{◌≡◌, ◌≤◌, length};
+ghost use Rattle.kd_state.specs.Machine.{model_of};
+ghost use Rattle.kd_state.specs.SheetDay.{day_model};
+ghost use Rattle.kd_state.specs.Costs.{loose_count};
+ghost use Rattle.kd_card.specs.Loose.{loose_lines};
+
+use super::pin_lines::pin_settings;
+use super::rotor_lines::rotor_settings;
+use kd_state::{Machine, OneModel, Settings, SheetDay};
+
+/// A setting for each thing of the machine that isn't as the day has it, cables and bars apart, in the order in which they are
+/// made: wheels and reflector, rings, letters; or pins, letters.
+#[tactic(auto, using(crate::proofs::Counting::few_parts, crate::proofs::Counting::as_many))]
+pub fn loose_settings(machine: &Machine, day: &SheetDay) -> Settings
+    requires { model_of machine.now ≡ day_model day.now }
+    ensures lines { result.items ≡ loose_lines machine.now day.now }
+    ensures count { length result.items ≡ loose_count machine.now day.now }
+    ensures few { length result.items ≤ 137 }
+{
+    match machine.of_one_model(day).unwrap() {
+        OneModel::Rotor(parts, entry) => rotor_settings(machine, parts, entry),
+        OneModel::Pin(parts, entry) => pin_settings(parts, entry),
+    }
+}
