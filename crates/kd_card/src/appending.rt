@@ -17,11 +17,11 @@ pub fn push_line(settings: &mut Settings, line: Option<Setting>)
 }
 
 /// Appends one line and then another one, so far as there are.
-pub fn push_two(settings: &mut Settings, one: Option<Setting>, other: Option<Setting>)
+pub fn push_two(settings: &mut Settings, lines: (Option<Setting>, Option<Setting>))
     requires { array_vec_len settings.old + 2 ≤ 192 }
-    ensures items { settings.new.items ≡ settings.old.items ++ (option_to_list one ++ option_to_list other) }
+    ensures items { settings.new.items ≡ settings.old.items ++ (option_to_list lines.0 ++ option_to_list lines.1) }
     ensures few { array_vec_len settings.new ≤ array_vec_len settings.old + 2 }
 {
-    push_line(settings, one);
-    push_line(settings, other);
+    push_line(settings, lines.0);
+    push_line(settings, lines.1);
 }

@@ -23,14 +23,11 @@ pub fn carry_all(machine: &Machine, settings: &[Setting]) -> Result<Machine, Ill
 {
     let mut carried = *machine;
     for (place, setting) in settings.iter().enumerate() {
-        match carried.carry(*setting) {
-            Ok(()) => {}
-            Err(illegal) => {
-                return Err(IllegalAt {
-                    line: place + 1,
-                    why: illegal.why,
-                });
-            }
+        if let Err(illegal) = carried.carry(*setting) {
+            return Err(IllegalAt {
+                line: place + 1,
+                why: illegal.why,
+            });
         }
     }
     Ok(carried)

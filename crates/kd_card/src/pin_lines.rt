@@ -46,14 +46,12 @@ fn push_pin_turns(settings: &mut Settings, number: u8, letters: &[Letter], windo
         ++ lines_from pin_turn_of number (zip letters.now window.now) }
     ensures few { array_vec_len settings.new ≤ array_vec_len settings.old + length letters.now }
 {
-    let [present, letters @ ..] = letters else {
-        return;
-    };
-    let [wanted, window @ ..] = window else {
-        return;
-    };
-    push_line(settings, pin_turn_line(number, *present, *wanted));
-    push_pin_turns(settings, number + 1, letters, window);
+    if let [present, letters @ ..] = letters
+        && let [wanted, window @ ..] = window
+    {
+        push_line(settings, pin_turn_line(number, *present, *wanted));
+        push_pin_turns(settings, number + 1, letters, window);
+    }
 }
 
 /// Appends PIN for each pin of a wheel that isn't as the day has it, in the wheel's own order.
@@ -69,44 +67,30 @@ fn push_wheel_pins(
         ++ wheel_pin_lines wheel ring.now present.now wanted.now }
     ensures few { array_vec_len settings.new ≤ array_vec_len settings.old + length ring.now }
 {
-    let [letter, ring @ ..] = ring else {
-        return;
-    };
-    let [now, present @ ..] = present else {
-        return;
-    };
-    let [due, wanted @ ..] = wanted else {
-        return;
-    };
-    push_line(settings, pin_line(wheel, *letter, *now, *due));
-    push_wheel_pins(settings, wheel, ring, present, wanted);
+    if let [letter, ring @ ..] = ring
+        && let [now, present @ ..] = present
+        && let [due, wanted @ ..] = wanted
+    {
+        push_line(settings, pin_line(wheel, *letter, *now, *due));
+        push_wheel_pins(settings, wheel, ring, present, wanted);
+    }
 }
 
 /// PIN, unless the pin is so.
-fn pin_line(wheel: u8, letter: Letter, present: bool, wanted: bool) -> Option<Setting>
-    ensures { result ≡ unless_so (not (differ present wanted)) (Setting.PinTo wheel letter wanted) }
+fn pin_line(wheel: u8, letter: Letter, present: bool, effective: bool) -> Option<Setting>
+    ensures { let so = not (differ present effective) in
+        result ≡ unless_so so (Setting.PinTo wheel letter effective) }
 {
-    if present == wanted {
-        None
-    } else {
-        Some(Setting::PinTo {
-            wheel,
-            letter,
-            effective: wanted,
-        })
-    }
+    (present != effective).then_some(Setting::PinTo {
+        wheel,
+        letter,
+        effective,
+    })
 }
 
 /// TURN, unless the wheel shows the letter.
-fn pin_turn_line(wheel: u8, present: Letter, letter: Letter) -> Option<Setting>
-    ensures { result ≡ unless_so (nat_eq present letter) (Setting.Turn wheel letter) }
+fn pin_turn_line(slot: u8, present: Letter, letter: Letter) -> Option<Setting>
+    ensures { result ≡ unless_so (nat_eq present letter) (Setting.Turn slot letter) }
 {
-    if present == letter {
-        None
-    } else {
-        Some(Setting::Turn {
-            slot: wheel,
-            letter,
-        })
-    }
+    (present != letter).then_some(Setting::Turn { slot, letter })
 }

@@ -44,14 +44,12 @@ fn push_seats(settings: &mut Settings, number: u8, slots: &[Option<Wheel>], whee
         ++ lines_from seat_of number (zip slots.now wheels.now) }
     ensures few { array_vec_len settings.new ≤ array_vec_len settings.old + length slots.now }
 {
-    let [seated, slots @ ..] = slots else {
-        return;
-    };
-    let [wanted, wheels @ ..] = wheels else {
-        return;
-    };
-    push_line(settings, seat_line(number, *seated, wanted.wheel));
-    push_seats(settings, number + 1, slots, wheels);
+    if let [seated, slots @ ..] = slots
+        && let [wanted, wheels @ ..] = wheels
+    {
+        push_line(settings, seat_line(number, *seated, wanted.wheel));
+        push_seats(settings, number + 1, slots, wheels);
+    }
 }
 
 /// Appends RING for each of the day's wheels whose ring differs, in the order of these wheels of the box.
@@ -100,10 +98,7 @@ fn seat_line(slot: u8, seated: Option<Wheel>, wheel: Wheel) -> Option<Setting>
     ensures { let so = option_map_or (same_wheel wheel) seated false in
         result ≡ unless_so so (Setting.Seat slot wheel) }
 {
-    match seated {
-        Some(present) if wheel == present => None,
-        _ => Some(Setting::Seat { slot, wheel }),
-    }
+    (seated != Some(wheel)).then_some(Setting::Seat { slot, wheel })
 }
 
 /// REFLECTOR, unless it is that one.
@@ -111,11 +106,7 @@ fn reflector_line(present: Reflector, reflector: Reflector) -> Option<Setting>
     ensures { let so = same_reflector present reflector in
         result ≡ unless_so so (Setting.SeatReflector reflector) }
 {
-    if present == reflector {
-        None
-    } else {
-        Some(Setting::SeatReflector { reflector })
-    }
+    (present != reflector).then_some(Setting::SeatReflector { reflector })
 }
 
 /// The wheel among the day's, if it is one of them.
@@ -131,14 +122,12 @@ fn ring_line(machine: &Machine, wanted: Option<SheetWheel>) -> Option<Setting>
         let so = option_map_or (nat_eq seated.ring) (ring_in machine.now seated.wheel) false in
         unless_so so (Setting.RingTo seated.wheel seated.ring)) wanted }
 {
-    let SheetWheel { wheel, ring, .. } = wanted?;
-    match machine.ring(wheel) {
-        Some(present) if ring == present => None,
-        _ => Some(Setting::RingTo {
-            wheel,
-            letter: ring,
-        }),
-    }
+    let SheetWheel {
+        wheel,
+        ring: letter,
+        ..
+    } = wanted?;
+    (machine.ring(wheel) != Some(letter)).then_some(Setting::RingTo { wheel, letter })
 }
 
 /// TURN, unless the wheel in the slot shows the letter.
@@ -148,8 +137,5 @@ fn turn_line(machine: &Machine, slot: u8, wanted: SheetWheel) -> Option<Setting>
         result ≡ unless_so so (Setting.Turn slot wanted.letter) }
 {
     let SheetWheel { wheel, letter, .. } = wanted;
-    match machine.letter(wheel) {
-        Some(present) if letter == present => None,
-        _ => Some(Setting::Turn { slot, letter }),
-    }
+    (machine.letter(wheel) != Some(letter)).then_some(Setting::Turn { slot, letter })
 }

@@ -27,16 +27,13 @@ pub(crate) fn push_lugs(
         ++ lines_from lugs_of number (bars_beside bars.now rows.now to.now) }
     ensures few { array_vec_len settings.new ≤ array_vec_len settings.old + 2 * length bars.now }
 {
-    let [bar, bars @ ..] = bars else {
-        return;
-    };
-    let [place, to @ ..] = to else {
-        return;
-    };
-    let target = target_at(*bar, rows, *place);
-    let (one, other) = lugs(number, *bar, target);
-    push_two(settings, one, other);
-    push_lugs(settings, number + 1, bars, rows, to);
+    if let [bar, bars @ ..] = bars
+        && let [place, to @ ..] = to
+    {
+        let target = target_at(*bar, rows, *place);
+        push_two(settings, lugs(number, *bar, target));
+        push_lugs(settings, number + 1, bars, rows, to);
+    }
 }
 
 /// Where a bar is to stand, so that it reads as the row at the place.
@@ -67,9 +64,5 @@ fn lugs(number: u8, bar: Standing, target: Standing) -> (Option<Setting>, Option
 fn lug_line(bar: u8, lug: Lug, present: Place, place: Place) -> Option<Setting>
     ensures { result ≡ unless_so (is_at present place) (Setting.LugTo bar lug place) }
 {
-    if present == place {
-        None
-    } else {
-        Some(Setting::LugTo { bar, lug, place })
-    }
+    (present != place).then_some(Setting::LugTo { bar, lug, place })
 }

@@ -38,16 +38,13 @@ pub(crate) fn push_moves(
         ++ lines_from (moves_of direction) number (besides cables.now pairs.now to.now) }
     ensures few { array_vec_len settings.new ≤ array_vec_len settings.old + 2 * length cables.now }
 {
-    let [cable, cables @ ..] = cables else {
-        return;
-    };
-    let [place, to @ ..] = to else {
-        return;
-    };
-    let column = column_at(pairs, usize::from(*place));
-    let (one, other) = moves(direction, number, cable, &column);
-    push_two(settings, one, other);
-    push_moves(settings, direction, number + 1, cables, pairs, to);
+    if let [cable, cables @ ..] = cables
+        && let [place, to @ ..] = to
+    {
+        let column = column_at(pairs, usize::from(*place));
+        push_two(settings, moves(direction, number, cable, &column));
+        push_moves(settings, direction, number + 1, cables, pairs, to);
+    }
 }
 
 /// The moves of one cable: PULL for each of its letters, or PUT for each of the pair's in alphabetical order.
@@ -84,22 +81,13 @@ fn pull_line(cable: u8, end: Option<Letter>, column: Column) -> Option<Setting>
         option_to_list result ≡ map (λ letter. Setting.Pull cable letter) letters }
 {
     let letter = end?;
-    if lies_in_column(column, letter) {
-        None
-    } else {
-        Some(Setting::Pull { cable, letter })
-    }
+    (!lies_in_column(column, letter)).then_some(Setting::Pull { cable, letter })
 }
 
 /// PUT, unless the letter lies in the cable.
-fn put_line(number: u8, cable: Cable, letter: Letter) -> Option<Setting>
-    ensures { let so = has_letter (cable_letters cable) letter in
-        result ≡ unless_so so (Setting.Put number letter) }
+fn put_line(cable: u8, ends: Cable, letter: Letter) -> Option<Setting>
+    ensures { let so = has_letter (cable_letters ends) letter in
+        result ≡ unless_so so (Setting.Put cable letter) }
 {
-    if lies_in(&cable, letter) {
-        None
-    } else {
-        let cable = number;
-        Some(Setting::Put { cable, letter })
-    }
+    (!lies_in(&ends, letter)).then_some(Setting::Put { cable, letter })
 }

@@ -25,9 +25,7 @@ pub fn plan(machine: &Machine, day: &SheetDay) -> Result<Card, OtherModel>
     ensures card { IfOk result (λ card.
         Plans machine.now day.now card.settings.items card.prices) }
 {
-    let Some(card) = planned_card(machine, day) else {
-        return Err(OtherModel);
-    };
+    let card = planned_card(machine, day).ok_or(OtherModel)?;
     prove!(matches!(&card.prices.version(), Version::ByNumber));
     Ok(card)
 }

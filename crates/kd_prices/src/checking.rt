@@ -37,9 +37,7 @@ fn judged(
     if !are_of_one_model(machine, day, prices) {
         return Err(Doubt::OtherModel);
     }
-    let Some(numbered) = expanded(machine, day, prices) else {
-        return Err(Doubt::PriceMissing);
-    };
+    let numbered = expanded(machine, day, prices).ok_or(Doubt::PriceMissing)?;
     judged_by_number(machine, day, settings, &numbered)
 }
 
@@ -54,10 +52,7 @@ fn judged_by_number(
     requires few { length settings.now ≤ 192 }
     ensures { SaysByNumber machine.now day.now settings.now prices.now result }
 {
-    let walk = match walked(machine, day, settings) {
-        Ok(walk) => walk,
-        Err(doubt) => return Err(doubt),
-    };
+    let walk = walked(machine, day, settings)?;
     if !walk.reached.reads_as(day) {
         return Err(Doubt::NotTheSheet);
     }

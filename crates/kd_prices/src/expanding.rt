@@ -72,18 +72,11 @@ fn are_counted(looks: &[Look], kinds: &[PricedKind]) -> bool
     ensures { IsTrue result ↔ All (HasCount looks.now) kinds.now }
 {
     for kind in kinds {
-        if !is_counted(looks, kind) {
+        if usize::from(kind.count) != alike_count(&kind.look, looks) {
             return false;
         }
     }
     true
-}
-
-/// Whether there are as many things of the kind as it says.
-fn is_counted(looks: &[Look], kind: &PricedKind) -> bool
-    ensures { IsTrue result ↔ HasCount looks.now kind.now }
-{
-    usize::from(kind.count) == alike_count(&kind.look, looks)
 }
 
 /// How many of the looks are this one.

@@ -13,7 +13,7 @@ use super::expanding::{alike_count, priced};
 use super::looks::{column_looks, row_looks};
 use arrayvec::ArrayVec;
 use kd_card::{Card, Group, Look, PricedKind, Prices, Version};
-use kd_state::{Machine, Settings, SheetDay};
+use kd_state::{Machine, SheetDay};
 
 /// The ranks of all looks in their one form are below this.
 const RANKS: usize = 703;
@@ -27,15 +27,8 @@ pub fn by_kind(machine: &Machine, day: &SheetDay, card: &Card) -> Option<Card>
     ensures card { IfSome result (λ other. IsByKind machine.now day.now card.now other) }
 {
     let prices = prices_by_kind(machine, day, &card.prices)?;
-    let settings = copied(&card.settings);
+    let settings = ArrayVec::try_from(card.settings.as_slice()).unwrap();
     Some(Card { settings, prices })
-}
-
-/// The same settings once more.
-fn copied(settings: &Settings) -> Settings
-    ensures { result.items ≡ settings.now.items }
-{
-    ArrayVec::try_from(settings.as_slice()).unwrap()
 }
 
 /// The same prices by kind, if they can be.
@@ -96,11 +89,7 @@ fn kinds_of(looks: &[Look], prices: &[i16]) -> Option<ArrayVec<PricedKind, 27>>
         (λ kinds. AreWithPrices looks.now prices.now kinds.items) }
 {
     let kinds = first_kinds(looks, prices);
-    if priced(looks, kinds.as_slice())?.as_slice() == prices {
-        Some(kinds)
-    } else {
-        None
-    }
+    (priced(looks, kinds.as_slice())?.as_slice() == prices).then_some(kinds)
 }
 
 /// The kinds of the things that look so, in order; where things that look alike have one price, each kind with that one.

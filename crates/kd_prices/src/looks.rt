@@ -59,8 +59,6 @@ pub(crate) fn column_looks(day: &SheetDay) -> ArrayVec<Look, 27>
 fn in_order(pair: Option<(Letter, Letter)>) -> Option<(Letter, Letter)>
     ensures { result ≡ pair_in_order pair }
 {
-    match pair {
-        None => None,
-        Some((one, other)) => Some(letters_in_order(one, other)),
-    }
+    let (one, other) = pair?;
+    Some(letters_in_order(one, other))
 }
