@@ -1,5 +1,5 @@
 -- Prices mean one list of prices by number at most, and those are of the same model.
-use Rattle.kd_prices.proofs.Prelude.{below_more, ◌≡◌, ◌≢◌, Some, ℕ, ◌+◌, ◌<◌, ◌≤◌, inl, inr, List, [], ◌∷◌, ◌++◌, length, get_or, sym, ◌∙◌, subst, arith, ℤ, pos, unsigned_abs, Option, None, MatchOption, All-from_get_or, Pair, ext_get_or, get_or_default, Parts, Setting, Day, Look, PricedKind, PriceParts, Group, ByNumber, ByKind, look_rank, AreKinds, version_of, row_kinds, column_kinds, ArePrices, row_prices, column_prices, price_at, AreWithinReach, group_of, AreOfKind, row_looks, column_looks, IsPriced, look_at, AreExpanded, Expands, Same, Expanded, group_of_machine, Proves, AreOfOneModel, AreNumbered}
+use Rattle.kd_prices.proofs.Prelude.{below_more, ◌≡◌, ◌≢◌, Some, ℕ, ◌+◌, ◌-◌, drop, take, take_all, ◌<◌, ◌≤◌, inl, inr, List, [], ◌∷◌, ◌++◌, length, get_or, sym, ◌∙◌, subst, arith, ℤ, pos, unsigned_abs, Option, None, MatchOption, All-from_get_or, Pair, ext_get_or, get_or_default, Parts, Setting, Day, Look, PricedKind, PriceParts, Group, ByNumber, ByKind, look_rank, AreKinds, version_of, row_kinds, column_kinds, ArePrices, row_prices, column_prices, price_at, AreWithinReach, group_of, AreOfKind, row_looks, column_looks, IsPriced, look_at, AreExpanded, Expands, Same, Expanded, group_of_machine, Proves, AreOfOneModel, AreNumbered}
 use Rattle.{std.proofs.lemmas.List.{get_or_append_left, get_or_at}, kd_card.specs.CardFault.numbered}
 
 above : (floor : ℕ) (kinds : List PricedKind) (look : Look) (price : ℤ) → AreKinds floor kinds → IsPriced look price kinds → floor ≤ look_rank look
@@ -52,6 +52,11 @@ pub are_numbered : (m : Parts) (s : Day) (prices numbered : PriceParts) → AreO
 are_numbered m s prices numbered model expands = grind (arith, same_group, kind_is)
 
 -- ---- prices found
+
+-- the first of some things, and what is behind it
+pub first_and_rest : {X : Type 0} (xs : List X) (x : X) → 1 ≤ length xs → x ≡ get_or xs 0 x → xs ≡ x ∷ take (length xs - 1) (drop 1 xs)
+first_and_rest [] x some is = absurd (omega arith)
+first_and_rest (y ∷ xs) x some is = grind (arith, take_all)
 
 pub other_price : (look : Look) (kind : PricedKind) (rest : List PricedKind) {kinds : List PricedKind} → kinds ≡ kind ∷ rest
     → (r : Option ℤ) → look_rank kind.look ≢ look_rank look

@@ -37,7 +37,9 @@ fn judged(
     if !are_of_one_model(machine, day, prices) {
         return Err(Doubt::OtherModel);
     }
-    let numbered = expanded(machine, day, prices).ok_or(Doubt::PriceMissing)?;
+    let Some(numbered) = expanded(machine, day, prices) else {
+        return Err(Doubt::PriceMissing);
+    };
     judged_by_number(machine, day, settings, &numbered)
 }
 

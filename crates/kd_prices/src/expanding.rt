@@ -1,5 +1,6 @@
 //! Prices by kind, written out as prices by number for a machine and a day.
-ghost use Rattle.std.specs.Prelude.{◌≡◌, ◌↔◌, ◌≤◌, length, map, All, ℤ, List, IsTrue, MatchOption};
+ghost use Rattle.std.specs.Prelude.{◌≡◌, ◌↔◌, ◌≤◌, length, ℤ, List, IsTrue, MatchOption};
+ghost use Rattle.std.specs.List.{AllByRecursion};
 ghost use Rattle.kd_card.specs.declared.prices.Version.{Version};
 ghost use Rattle.kd_card.specs.Kinds.{AreKinds};
 ghost use Rattle.kd_card.specs.Prices.{version_of, ArePrices, AreWithinReach};
@@ -69,14 +70,14 @@ pub(crate) fn priced(looks: &[Look], kinds: &[PricedKind]) -> Option<ArrayVec<i1
 
 /// Whether there are as many things of each kind as it says.
 fn are_counted(looks: &[Look], kinds: &[PricedKind]) -> bool
-    ensures { IsTrue result ↔ All (HasCount looks.now) kinds.now }
+    ensures { IsTrue result ↔ AllByRecursion (HasCount looks.now) kinds.now }
 {
-    for kind in kinds {
-        if usize::from(kind.count) != alike_count(&kind.look, looks) {
-            return false;
+    match kinds {
+        [] => true,
+        [kind, rest @ ..] => {
+            usize::from(kind.count) == alike_count(&kind.look, looks) && are_counted(looks, rest)
         }
     }
-    true
 }
 
 /// How many of the looks are this one.

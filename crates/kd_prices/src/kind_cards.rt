@@ -89,7 +89,11 @@ fn kinds_of(looks: &[Look], prices: &[i16]) -> Option<ArrayVec<PricedKind, 27>>
         (λ kinds. AreWithPrices looks.now prices.now kinds.items) }
 {
     let kinds = first_kinds(looks, prices);
-    (priced(looks, kinds.as_slice())?.as_slice() == prices).then_some(kinds)
+    if priced(looks, kinds.as_slice())?.as_slice() == prices {
+        Some(kinds)
+    } else {
+        None
+    }
 }
 
 /// The kinds of the things that look so, in order; where things that look alike have one price, each kind with that one.

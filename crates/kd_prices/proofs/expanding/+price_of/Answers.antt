@@ -1,10 +1,6 @@
-use Rattle.kd_prices.proofs.Prelude.{◌≡◌, ◌-◌, ◌≤◌, ◌∙◌, List, [], ◌∷◌, length, get_or, take, drop, take_all, sym, arith}
-use Rattle.kd_prices.proofs.Meaning.{other_price}
+use Rattle.kd_prices.proofs.Prelude.{◌∙◌, sym}
+use Rattle.kd_prices.proofs.Meaning.{first_and_rest, other_price}
 use Rattle.kd_prices.proofs.expanding.+price_of.Goals as goal
-
-first_and_rest : {X : Type 0} (xs : List X) (x : X) → 1 ≤ length xs → x ≡ get_or xs 0 x → xs ≡ x ∷ take (length xs - 1) (drop 1 xs)
-first_and_rest [] x some is = absurd (omega arith)
-first_and_rest (y ∷ xs) x some is = grind (arith, take_all)
 
 pub returns-in-len1-up-2 : goal.returns-in-len1-up-2
 returns-in-len1-up-2 t c =
