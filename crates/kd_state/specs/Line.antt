@@ -75,6 +75,12 @@ pub record BeginsWithLine (bytes : List ℕ) (x : Setting) (rest : List ℕ) : T
 abbrev pub BeginsWithNoLine : List ℕ → Type 0
 BeginsWithNoLine bytes = (x : Setting) (rest : List ℕ) → IsInRange x → bytes ≢ setting_line x ++ 10 ∷ rest
 
+-- all settings, up to a line that is none
+pub record BeginsWithSettings (bytes : List ℕ) (settings : List Setting) (rest : List ℕ) : Type 0 where
+  pub lines : BeginsWith bytes settings rest
+  pub few : length settings ≤ 192
+  pub none_more : BeginsWithNoLine rest
+
 -- Why the bytes are no list of at most 192 settings: the first line that is none, counted from 1, or a 193rd line that is one.
 abbrev pub IsListFault : List ℕ → ListFault → Type 0
 IsListFault bytes (BadLine line) =

@@ -21,16 +21,9 @@ pub fn cable_cost(cable: Cable, column: Option<(Letter, Letter)>) -> u8
     let mut cost = 0;
     for index in 0..26 {
         let letter = Letter::new(index).unwrap();
-        cost += u8::from(lies_in_one(*cable, *column, letter));
+        cost += u8::from(lies_in(cable, letter) != lies_in_column(*column, letter));
     }
     cost
-}
-
-/// Whether the letter lies in the cable and isn't one of the pair, or is one of the pair and doesn't lie in the cable.
-fn lies_in_one(cable: Cable, column: Option<(Letter, Letter)>, letter: Letter) -> bool
-    ensures { result ≡ costs.lies_in_one cable column letter }
-{
-    lies_in(&cable, letter) != lies_in_column(column, letter)
 }
 
 /// Whether the letter is one of the pair.

@@ -29,9 +29,9 @@ impl std::marker::Model for SheetDay {
 }
 
 impl SheetDay {
-    ghost use Rattle.std.specs.Prelude.{◌≡◌, ◌↔◌, ◌≤◌, length, IsTrue, IsSome, IfSome};
+    ghost use Rattle.std.specs.Prelude.{◌≡◌, ◌↔◌, ◌≤◌, length, IsTrue, IfSome, MatchOption};
     ghost use Rattle.std.specs.Option.{option_copied, option_map};
-    ghost use Rattle.kd_state.specs.SheetDay.{OfRotors, OfPins, IsLegalDay, IsLegalRotorDay, IsLegalPinDay, IsDayNumber, AreOfADaysGroup};
+    ghost use Rattle.kd_state.specs.SheetDay.{RotorDay, PinDay, OfRotors, OfPins, IsLegalDay, IsLegalRotorDay, IsLegalPinDay, IsDayNumber, AreOfADaysGroup};
     ghost use Rattle.kd_state.specs.SheetDay.{day_number, day_model, rotor_day, pin_day, sheet_wheel, shown_letter};
     ghost use Rattle.kd_state.specs.Entry.{values_of};
 
@@ -46,22 +46,16 @@ impl SheetDay {
         pairs: &[(Letter, Letter)],
         groups: &[[Letter; 3]],
     ) -> Option<SheetDay>
-        ensures exists { IsSome result ↔ IsLegalRotorDay (record {
+        ensures { let values : RotorDay = record {
           day = day;
           model = model;
           reflector = reflector;
           wheels = wheels.now;
           pairs = pairs.now;
           groups = groups.now;
-        }) }
-        ensures value { IfSome result (λ sheet_day. sheet_day ≡ OfRotors (record {
-          day = day;
-          model = model;
-          reflector = reflector;
-          wheels = wheels.now;
-          pairs = pairs.now;
-          groups = groups.now;
-        })) }
+        } in
+            MatchOption result (¬ (IsLegalRotorDay values))
+            (λ sheet_day. IsLegalRotorDay values × (sheet_day ≡ OfRotors values)) }
     {
         let entry = RotorEntry {
             day,
@@ -89,20 +83,15 @@ impl SheetDay {
         window: [Letter; 6],
         list: [Letter; 2],
     ) -> Option<SheetDay>
-        ensures exists { IsSome result ↔ IsLegalPinDay (record {
+        ensures { let values : PinDay = record {
           day = day;
           rows = rows;
           pins = pins;
           window = window;
           list = list;
-        }) }
-        ensures value { IfSome result (λ sheet_day. sheet_day ≡ OfPins (record {
-          day = day;
-          rows = rows;
-          pins = pins;
-          window = window;
-          list = list;
-        })) }
+        } in
+            MatchOption result (¬ (IsLegalPinDay values))
+            (λ sheet_day. IsLegalPinDay values × (sheet_day ≡ OfPins values)) }
     {
         let entry = PinEntry {
             day,

@@ -36,7 +36,8 @@ impl Machine {
     {
         match self.parts() {
             Parts::Rotor(parts) => {
-                are_seated(parts.slots.as_slice()) && are_whole(&parts.cables)
+                let mut slots = parts.slots.as_slice().iter();
+                slots.all(|seated| seated.is_some()) && are_whole(&parts.cables)
             }
             Parts::Pin(_) => true,
         }
@@ -98,13 +99,6 @@ fn seated_wheel(parts: &RotorParts, seated: Option<Wheel>) -> Option<SheetWheel>
         ring,
         letter,
     })
-}
-
-/// Whether there is a wheel in each slot.
-fn are_seated(slots: &[Option<Wheel>]) -> bool
-    ensures { IsTrue result ↔ All (λ seated. IsSome seated) slots.now }
-{
-    slots.iter().all(|seated| seated.is_some())
 }
 
 /// What the cables exchange, if none has one letter.

@@ -2,7 +2,6 @@ ghost use Rattle.std.specs.Prelude.{◌≡◌, ◌⊎◌, ◌↔◌, ◌<◌, le
 ghost use Rattle.kd_state.specs.Setting.{without};
 
 use crate::counted::put;
-use crate::machine::seats::is_wheel;
 use crate::sheet_day::rotor_entry::SheetWheel;
 use kd_tables::Wheel;
 use std::marker::Model;
@@ -139,9 +138,5 @@ impl PerSlot<SheetWheel> {
 fn left_in(seated: Option<Wheel>, wheel: Wheel) -> Option<Wheel>
     ensures { result ≡ without wheel seated }
 {
-    if is_wheel(seated, wheel) {
-        None
-    } else {
-        seated
-    }
+    if seated == Some(wheel) { None } else { seated }
 }
