@@ -1,8 +1,0 @@
-use Rattle.kd_card.proofs.Prelude.{◌≤◌, length, BeginsWith}
-use Rattle.kd_card.proofs.read.read_settings.Given as goal
-
-abbrev pub invariant-loop-setting : goal.invariant-loop-setting
-invariant-loop-setting l = record { begins : BeginsWith l.text l.settings.items l.rest; few : length l.settings.items ≤ 192 }
-
-abbrev pub decreases-loop-setting : goal.decreases-loop-setting
-decreases-loop-setting l = length l.rest
