@@ -31,10 +31,7 @@ pub fn read_card(text: &[u8]) -> Result<(u8, Card), CardFault>
     };
     let count = settings.len();
     let rest = read_count(rest, count)?;
-    let (prices, rest) = match read_prices(rest, version, count + 3) {
-        Ok(found) => found,
-        Err(fault) => return Err(fault),
-    };
+    let (prices, rest) = read_prices(rest, version, count + 3)?;
     let rest = read_sum(rest, prices.sum(), count + 3 + prices.line_count())?;
     if !rest.is_empty() {
         return Err(CardFault::Trailing);

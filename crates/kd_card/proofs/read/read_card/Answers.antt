@@ -13,10 +13,11 @@ returns-in_err-rest c =
     stops _ _ _ _ c.from_residual.ensures.1
     (up_to_settings c.in-Some.ensures c.in-Some-split_settings.ensures c.len-count.ensures.value (Refused _ c.in_err-rest.ensures refl))
 
-pub returns-in-Err : goal.returns-in-Err
-returns-in-Err c =
-    up_to_settings c.in-Some.ensures c.in-Some-split_settings.ensures c.len-count.ensures.value
-    (Found _ c.in_ok-rest.ensures (Refused _ c.in-Err.ensures refl))
+pub returns-in_err-prices : goal.returns-in_err-prices
+returns-in_err-prices c =
+    stops _ _ _ _ c.from_residual-in_err-prices.ensures.1
+    (up_to_settings c.in-Some.ensures c.in-Some-split_settings.ensures c.len-count.ensures.value
+    (Found _ c.in_ok-rest.ensures (Refused _ c.in_err-prices.ensures refl)))
 
 pub returns-in_err-rest-2 : goal.returns-in_err-rest-2
 returns-in_err-rest-2 c =
@@ -24,21 +25,21 @@ returns-in_err-rest-2 c =
     stops _ _ _ _ c.from_residual-in_err-rest-2.ensures.1
     (up_to_settings c.in-Some.ensures c.in-Some-split_settings.ensures c.len-count.ensures.value
     (Found _ c.in_ok-rest.ensures
-    (Found _ c.in-Ok.ensures (Refused _ (rw (sum, c.line_count.ensures.value) at c.in_err-rest-2.ensures) refl))))
+    (Found _ c.in_ok-prices.ensures (Refused _ (rw (sum, c.line_count.ensures.value) at c.in_err-rest-2.ensures) refl))))
 
 pub returns-then-not-is_empty : goal.returns-then-not-is_empty
 returns-then-not-is_empty c =
     let sum = to_z-of_z w32 c.sum.result (search rules) ∙ c.sum.ensures in
     up_to_settings c.in-Some.ensures c.in-Some-split_settings.ensures c.len-count.ensures.value
-    (Found _ c.in_ok-rest.ensures (Found _ c.in-Ok.ensures
+    (Found _ c.in_ok-rest.ensures (Found _ c.in_ok-prices.ensures
     (Found c.in_ok-rest-2.rest.now (rw (sum, c.line_count.ensures.value) at c.in_ok-rest-2.ensures)
     (Refused Trailing ((λ same. filled c.is_empty.ensures c.if-not-is_empty.true), refl) refl))))
 
 pub returns : goal.returns
 returns c =
     let sum = to_z-of_z w32 c.sum.result (search rules) ∙ c.sum.ensures in
-    card_said (c.in-Some.day, c.in-Some-split_settings.settings.items, c.in-Ok.found.0)
+    card_said (c.in-Some.day, c.in-Some-split_settings.settings.items, c.in_ok-prices.prices)
     (up_to_settings c.in-Some.ensures c.in-Some-split_settings.ensures c.len-count.ensures.value
-    (Found _ c.in_ok-rest.ensures (Found _ c.in-Ok.ensures
+    (Found _ c.in_ok-rest.ensures (Found _ c.in_ok-prices.ensures
     (Found c.in_ok-rest-2.rest.now (rw (sum, c.line_count.ensures.value) at c.in_ok-rest-2.ensures)
     (Found tt (nil_from_length c.in_ok-rest-2.rest.now (eqb-true _ 0 (sym c.is_empty.ensures ∙ c.if-not-is_empty.false))) refl)))))
