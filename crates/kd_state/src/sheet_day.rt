@@ -155,16 +155,6 @@ impl SheetDay {
         }
     }
 
-    /// For each slot from the left the wheel with its ring and its window letter; none on the Converter M-209.
-    pub fn wheels(&self) -> Option<&[SheetWheel]>
-        ensures { option_copied result ≡ option_map (λ s. s.wheels) (rotor_day self.now) }
-    {
-        match &self.entry {
-            Entry::Rotor(entry) => Some(entry.wheels.as_slice()),
-            Entry::Pin(_) => None,
-        }
-    }
-
     /// The reflector; none on the Converter M-209.
     pub fn reflector(&self) -> Option<Reflector>
         ensures { result ≡ option_map (λ s. s.reflector) (rotor_day self.now) }
@@ -224,16 +214,6 @@ impl SheetDay {
         match &self.entry {
             Entry::Rotor(_) => None,
             Entry::Pin(entry) => Some(entry.pins),
-        }
-    }
-
-    /// The letter that each wheel of the Converter M-209 shows, from wheel 1 to wheel 6.
-    pub fn letters(&self) -> Option<[Letter; 6]>
-        ensures { result ≡ option_map (λ s. s.window) (pin_day self.now) }
-    {
-        match &self.entry {
-            Entry::Rotor(_) => None,
-            Entry::Pin(entry) => Some(entry.window),
         }
     }
 

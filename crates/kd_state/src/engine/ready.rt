@@ -27,8 +27,8 @@ use thiserror::Error;
 pub struct NotReady;
 
 impl Machine {
-    ghost use Rattle.std.specs.Prelude.{◌≡◌, ◌↔◌, IsTrue, IsOk, IfOk};
-    ghost use Rattle.kd_state.specs.TwoCiphers.{IsReady, physical_key};
+    ghost use Rattle.std.specs.Prelude.{IsOk, IfOk};
+    ghost use Rattle.kd_state.specs.TwoCiphers.{IsReady};
 
     /// Whether no slot is empty, and no cable has one letter.
     pub fn is_ready(&self) -> bool

@@ -22,7 +22,6 @@ use crate::sheet_day::rotor_entry::{RotorEntry, SheetWheel};
 use kd_tables::{Letter, Model, Reading};
 
 impl Machine {
-    ghost use Rattle.std.specs.Prelude.{◌↔◌, IsTrue};
     ghost use Rattle.kd_state.specs.OnKey.{OnKey, ReadsAs, ShowsWindow};
 
     /// Whether the machine is set as the day says, whatever letters show.

@@ -80,9 +80,6 @@ impl<T: Copy> PerSlot<T> {
 }
 
 impl PerSlot<Option<Wheel>> {
-    ghost use Rattle.std.specs.Prelude.{◌≡◌, map};
-    ghost use Rattle.kd_state.specs.Setting.{without};
-
     /// Takes the wheel out of the slot in which it stands, if it is there.
     pub(crate) fn take_out(&mut self, wheel: Wheel)
         ensures { self.new ≡ map (without wheel) self.old }
@@ -110,7 +107,6 @@ impl PerSlot<Option<Wheel>> {
 }
 
 impl PerSlot<SheetWheel> {
-    ghost use Rattle.std.specs.Prelude.{◌≡◌};
     ghost use Rattle.kd_state.specs.SheetDay.{seats};
 
     /// The seats that the wheels take.
