@@ -51,14 +51,10 @@ pub fn nearest_standing(standing: Standing, row: Reading) -> Standing
     ensures cost { costs.lugs_moved standing result ≡ costs.bar_cost standing row }
 {
     match standings_of(row) {
-        (only, None) => only,
-        (first, Some(second)) => {
-            if lugs_moved(standing, second) < lugs_moved(standing, first) {
-                second
-            } else {
-                first
-            }
+        (first, Some(second)) if lugs_moved(standing, second) < lugs_moved(standing, first) => {
+            second
         }
+        (first, _) => first,
     }
 }
 
