@@ -1,10 +1,10 @@
 //! The letters in the cables of the plugboard.
 ghost use Rattle.std.specs.Prelude.{◌≡◌, ◌↔◌, IsTrue, map, nat_eq};
-ghost use Rattle.std.specs.List.{list_any, IsDistinct};
+ghost use Rattle.std.specs.List.{IsDistinct};
 ghost use Rattle.std.specs.Option.{option_to_list};
 ghost use Rattle.kd_tables.specs.Places.{in_order};
 ghost use Rattle.kd_state.specs.Machine.{cable_letters, plugged_letters, ordered};
-ghost use Rattle.kd_state.specs.Setting.{has_letter, are_new, cable_without, cable_with};
+ghost use Rattle.kd_state.specs.Setting.{has_letter, are_new, cable_without};
 
 use kd_tables::Letter;
 
@@ -79,13 +79,6 @@ pub(crate) fn without(cable: &Cable, letter: Letter) -> Cable
     } else {
         (cable.0, None)
     }
-}
-
-/// The cable with the letter in its loose end.
-pub(crate) fn with(cable: &Cable, letter: Letter) -> Cable
-    ensures { result ≡ cable_with letter cable.now }
-{
-    ordered(cable.0.or(cable.1), Some(letter))
 }
 
 /// Whether no letter lies in two places of the cables.

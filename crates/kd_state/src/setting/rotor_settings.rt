@@ -3,7 +3,7 @@ ghost use Rattle.kd_state.specs.Machine.{IsLegalRotor};
 ghost use Rattle.kd_state.specs.Setting.{Answers};
 
 use crate::counted::{numbered, set_numbered};
-use crate::machine::cable::{lies_in, lies_in_any, with, without};
+use crate::machine::cable::{lies_in, lies_in_any, ordered, without};
 use crate::machine::parts::Parts;
 use crate::machine::rotor_parts::RotorParts;
 use crate::machine::seats::place_in_box;
@@ -54,7 +54,7 @@ impl RotorParts {
         if lies_in_any(&self.cables, letter) {
             return Err(Why::SocketTaken);
         }
-        let both = with(&ends, letter);
+        let both = ordered(ends.0.or(ends.1), Some(letter));
         set_numbered(&mut self.cables, cable, both);
         Ok(())
     }
