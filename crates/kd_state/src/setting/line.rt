@@ -29,7 +29,12 @@ impl Setting {
                 line.push_str(wheel.text().as_str());
                 line
             }
-            Setting::SeatReflector { reflector } => reflector_line(reflector),
+            Setting::SeatReflector { reflector } => {
+                let mut line = ArrayString::new();
+                line.push_str("REFLECTOR ");
+                line.push_str(reflector.text().as_str());
+                line
+            }
             Setting::RingTo { wheel, letter } => ring_line(wheel, letter),
             Setting::Turn { slot, letter } => with_letter("TURN", slot, letter),
             Setting::PinTo {
@@ -41,7 +46,13 @@ impl Setting {
                 line.push_str(if effective { " ON" } else { " OFF" });
                 line
             }
-            Setting::LugTo { bar, lug, place } => lug_line(bar, lug, place),
+            Setting::LugTo { bar, lug, place } => {
+                let mut line = with_number("LUG", bar);
+                line.push_str(lug.text().as_str());
+                line.push_str(" ");
+                line.push_str(place.text().as_str());
+                line
+            }
         }
     }
 
@@ -83,17 +94,6 @@ fn with_letter(word: &str, number: u8, letter: Letter) -> ArrayString<24>
     line
 }
 
-/// The line that changes the reflector.
-fn reflector_line(reflector: Reflector) -> ArrayString<24>
-    ensures value { result.bytes ≡ setting_line (SeatReflector reflector) }
-    ensures short { array_string_len result < 24 }
-{
-    let mut line = ArrayString::new();
-    line.push_str("REFLECTOR ");
-    line.push_str(reflector.text().as_str());
-    line
-}
-
 /// The line that sets a wheel's ring.
 fn ring_line(wheel: Wheel, letter: Letter) -> ArrayString<24>
     ensures value { result.bytes ≡ setting_line (RingTo wheel letter) }
@@ -104,18 +104,6 @@ fn ring_line(wheel: Wheel, letter: Letter) -> ArrayString<24>
     line.push_str(wheel.text().as_str());
     line.push_str(" ");
     push_letter(&mut line, letter);
-    line
-}
-
-/// The line that moves a lug.
-fn lug_line(bar: u8, lug: Lug, place: Place) -> ArrayString<24>
-    ensures value { result.bytes ≡ setting_line (LugTo bar lug place) }
-    ensures short { array_string_len result < 24 }
-{
-    let mut line = with_number("LUG", bar);
-    line.push_str(lug.text().as_str());
-    line.push_str(" ");
-    line.push_str(place.text().as_str());
     line
 }
 
