@@ -8,7 +8,7 @@ pub use Rattle.std.proofs.lemmas.{Int.to_z-of_z, List.Folds.flat_map-map, Option
 pub use Rattle.std.proofs.lemmas.{Option.unwrap_or-slice_get, Slice.Eq.bytes_eq-Decides, Slice.Eq.slice_eq-Decides}
 pub use Rattle.std.proofs.lemmas.{Map.Made.Contains-tail, Map.Made.IsDistinct-from_count}
 pub use Rattle.std.proofs.lemmas.Fmt.{IsAscii-signed, decimal_digit, decimal_injective, decimal_nonempty, digits_decimal, first_decimal, length-decimal-le, parse-signed_decimal, signed_decimal_injective}
-pub use Rattle.std.proofs.lemmas.List.{append-nil, get_or-map, get_or_at, get_or_default, length-map, length-replicate, length-set, length-take-le, length_push, map-id, nil_from_length, take-append-drop, take_all, take_more}
+pub use Rattle.std.proofs.lemmas.List.{append-nil, get_or-map, get_or_at, get_or_default, length-map, length-replicate, length-set, length-take-le, map-id, nil_from_length, take-append-drop, take_all, take_more}
 pub use Rattle.std.proofs.lemmas.List.Elements.{All-append, All-cons, All-contains, All-from_get_or, All-from_recursion, All-map, All-more, All-nil, All-replicate, All-set, All-weaker, recursion_from_All, All-head, All-tail, Contains-append_right, Contains-get_or}
 pub use Rattle.std.proofs.lemmas.List.Sorted.{All-permutation, Contains-permutation, IsPermutation-cons, IsPermutation-keeps, IsPermutation-refl, IsPermutation-remove, IsPermutation-swap, IsPermutation-sym, IsPermutation-trans, length_permutation, sum_by-IsPermutation, IsPermutation-map}
 pub use Rattle.std.proofs.lemmas.List.Sums.{AllPass-from_list_all, fold-append, get_or-le-sum_by, sum-map, sum_by-append, sum_by-cons}
@@ -18,7 +18,7 @@ pub use Rattle.std.specs.{Bool.then_some, Fmt.signed_decimal, Str.IsUtf8, Str.by
 pub use Rattle.std.specs.List.{All, AllByRecursion, AllZip, IsDistinct, flat_map, list_all, sum_by}
 pub use Rattle.std.specs.{Option.option_map_or, Option.option_copied, Str.Parse.ParsesSigned, Str.Parse.digits_value}
 pub use Rattle.arrayvec.specs.ArrayString.{array_string_len}
-pub use Rattle.kd_card.specs.CardFault.{AtNothing, AtOther, BeginsWithHead, BeginsWithKinds, BeginsWithSettings, BeginsWithWord, EndsGroup, HasNoNext, HasWords, IsDigit, IsNextKind, IsNumberText, IsPriceText, IsNumeral, SaysAllPrices, SaysBehind, SaysCard, SaysFirst, SaysGroup, SaysKinded, SaysLine, SaysNumbered, SaysPriceLine, SaysPrices, SaysSettings, SaysValue, floor_behind, with_line}
+pub use Rattle.kd_card.specs.CardFault.{AtNothing, AtOther, BeginsWithHead, BeginsWithKinds, BeginsWithWord, EndsGroup, HasNoNext, HasWords, IsDigit, IsNextKind, IsNumberText, IsPriceText, IsNumeral, SaysAllPrices, SaysBehind, SaysCard, SaysFirst, SaysGroup, SaysKinded, SaysLine, SaysNumbered, SaysPriceLine, SaysPrices, SaysSettings, SaysValue, floor_behind, with_line}
 pub use Rattle.kd_card.specs.CardText.{HaveKinds, IsCard, IsGroup, card_text, column_name, column_word, group_of, head_words, lines_text, price_count, price_lines, price_words, row_name, row_word, settings_words, sum_words, version_text}
 pub use Rattle.kd_card.specs.Kinds.{AreCalled, AreEnds, AreKinds, HasKindWords, IsInForm, IsPairInOrder, IsPricedKind, bar_kind, cable_kind, counted, ends_rank, kind_words, kinds_text, look_name, look_rank, look_text, name_text, pair_kind, pair_rank, prices_of_kinds, row_kind}
 pub use Rattle.kd_card.specs.Laws.{CardsHaveNoFault, AsFewAreNeeded, FittingPricesBoundLists, NoCardBeginsAnother, OneCardFault, ProvingCardsAreAsLong, ProvingCardsAreShortest, ProvingPricesAreTight, RanksTellLooks, TextsTellCards, CardsAreSaid}
@@ -36,11 +36,11 @@ pub use Rattle.kd_enigma.specs.Plugs.{letters_plugged}
 pub use Rattle.kd_state.proofs.Cables.{eqb_flips, free_tells, set_moves, with_moves, without_moves}
 pub use Rattle.kd_state.proofs.{Telling.Refusing.Changing.{no_reason, six_lists, still_before}, Slots.set_other, Slots.stands}
 pub use Rattle.kd_state.proofs.CostTable.{tests_tell_letters, thirteen_columns}
-pub use Rattle.kd_state.proofs.Lines.{figures, lines_split_into_words, not_longer, numbers_are_words, ok_part, one_more, same_end, same_place, text_of_more, parts_make_lines, texts_tell_first_parts, word_by_bytes, word_by_test, words_make_one_line}
+pub use Rattle.kd_state.proofs.Lines.{figures, lines_split_into_words, not_longer, numbers_are_words, ok_part, same_end, same_place, text_of_more, parts_make_lines, texts_tell_first_parts, word_by_bytes, word_by_test, words_make_one_line}
 pub use Rattle.kd_state.proofs.Wheels.{days_wheels_have_their_places, named, told}
 pub use Rattle.kd_state.specs.ToldApart.{numbered, place_in_box, same_reflector, same_wheel}
 pub use Rattle.kd_state.specs.Costs.{bar_cost, cable_cost, column_letters, columns_of, cost_table, differ, loose_count, loose_letters, loose_pin_letters, loose_pins, loose_reflector, loose_rings, loose_slots, lugs_moved, unless_same}
-pub use Rattle.kd_state.specs.Line.{BeginsWith, BeginsWithNoLine, IsInRange, list_text, setting_line, setting_words}
+pub use Rattle.kd_state.specs.Line.{BeginsWith, BeginsWithNoLine, BeginsWithSettings, IsInRange, list_text, setting_line, setting_words}
 pub use Rattle.kd_state.specs.Machine.{IsLegal, IsMachine, cable_letters, letter_at, model_of, plugged_letters, ring_at}
 pub use Rattle.kd_state.specs.OnKey.{AreThePairs, IsJoined, IsPaired, ReadsAs, SameLetters}
 pub use Rattle.kd_state.specs.Setting.{Carries, Leads, cable_at, cable_with, cable_without, changed, has_letter, reasons, seated_in, why_refused, with_letter, with_lug, without, Stands, with_lug_at}

@@ -3,7 +3,7 @@ use Rattle.std.specs.Prelude.{codes, decimal, ◌≡◌, ◌≢◌, ℕ, ◌+◌
 use Rattle.std.specs.Fmt.{signed_decimal}
 use Rattle.kd_state.specs.declared.setting.Setting.{Setting}
 use Rattle.kd_state.specs.Words.{words_of, line_of, IsFirstPart}
-use Rattle.kd_state.specs.Line.{BeginsWith, BeginsWithNoLine}
+use Rattle.kd_state.specs.Line.{BeginsWith, BeginsWithSettings}
 use Rattle.kd_state.specs.SheetDay.{IsDayNumber}
 use Rattle.kd_card.specs.declared.prices.PriceParts.{PriceParts}
 use Rattle.kd_card.specs.declared.prices.PriceParts.TheVariants.{Cables, Bars}
@@ -82,11 +82,6 @@ abbrev pub SaysHead : List ℕ → Says CardFault (Version × ℕ × List ℕ)
 SaysHead bytes = Finds (λ (head : Version × ℕ × List ℕ). BeginsWithHead bytes head.0 head.1 head.2) BadHead
 
 -- all settings, up to a line that is none; or one more than a card may have
-pub record BeginsWithSettings (bytes : List ℕ) (settings : List Setting) (rest : List ℕ) : Type 0 where
-  pub lines : BeginsWith bytes settings rest
-  pub few : length settings ≤ 192
-  pub none_more : BeginsWithNoLine rest
-
 abbrev pub SaysSettings : List ℕ → Says CardFault (List Setting × List ℕ)
 SaysSettings bytes (Ok list) = BeginsWithSettings bytes list.0 list.1
 SaysSettings bytes (Err fault) =

@@ -3,7 +3,7 @@ ghost use Rattle.std.specs.Prelude.{codes, ◌≡◌, ◌≢◌, ℕ, ◌<◌, �
 ghost use Rattle.kd_state.specs.Words.{IsWord, words_of};
 ghost use Rattle.kd_state.specs.SheetDay.{IsDayNumber};
 ghost use Rattle.kd_card.specs.CardText.{IsCard, head_words, version_text};
-ghost use Rattle.kd_card.specs.CardFault.{HasWords, BeginsWithHead, SaysSettings, SaysValue, SaysNumber, SaysPriceLine};
+ghost use Rattle.kd_card.specs.CardFault.{HasWords, BeginsWithHead, SaysValue, SaysNumber, SaysPriceLine};
 ghost use Rattle.kd_card.specs.CardFault.{SaysNumbered, SaysKinded, SaysAllPrices, SaysSum, IsCardFault};
 
 use super::card::Card;
@@ -15,7 +15,7 @@ use super::price_text::{
 use super::prices::{Prices, Version};
 use arrayvec::ArrayVec;
 use itoa::Buffer;
-use kd_state::{Settings, day_of_text, split_setting};
+use kd_state::{day_of_text, split_settings};
 
 /// The card whose text this is, and its day.
 pub fn read_card(text: &[u8]) -> Result<(u8, Card), CardFault>
@@ -26,15 +26,12 @@ pub fn read_card(text: &[u8]) -> Result<(u8, Card), CardFault>
     let Some((version, day, rest)) = read_head(text) else {
         return Err(CardFault::BadHead);
     };
-    let Some((settings, rest)) = read_settings(rest) else {
+    let Some((settings, rest)) = split_settings(rest) else {
         return Err(CardFault::TooMany);
     };
     let count = settings.len();
     let rest = read_count(rest, count)?;
-    let (prices, rest) = match read_prices(rest, version, count + 3) {
-        Ok(found) => found,
-        Err(fault) => return Err(fault),
-    };
+    let (prices, rest) = read_prices(rest, version, count + 3)?;
     let rest = read_sum(rest, prices.sum(), count + 3 + prices.line_count())?;
     if !rest.is_empty() {
         return Err(CardFault::Trailing);
@@ -94,25 +91,6 @@ fn version_of_text(text: &[u8]) -> Option<Version>
         b"2" => Some(Version::ByKind),
         _ => None,
     }
-}
-
-/// The settings whose lines stand at the front of the text, up to the first line that is none, and what follows them;
-/// none where there are more than 192.
-fn read_settings(text: &[u8]) -> Option<(Settings, &[u8])>
-    ensures { MatchOption result
-        (SaysSettings text.now (Err CardFault.TooMany))
-        (λ found. SaysSettings text.now (Ok (found.0.items, found.1.now))) }
-{
-    let mut settings = ArrayVec::new();
-    let mut rest = text;
-    while let Some((setting, after)) = split_setting(rest) {
-        if settings.is_full() {
-            return None;
-        }
-        settings.push(setting);
-        rest = after;
-    }
-    Some((settings, rest))
 }
 
 /// What follows the line with that number of settings.

@@ -1,6 +1,6 @@
 -- Lines: words are told by them, a text's part before a byte by the text, and settings by the words of their lines.
 use Rattle.kd_state.proofs.Prelude.{ListsHaveNoFault, OneListFault, TextsTellLists, BeginsWith, BeginsWithLine}
-use Rattle.kd_state.proofs.Prelude.{BeginsWithNoLine, IsInRange, IsList, IsReadOff, keyword_text, list_text, pin_text}
+use Rattle.kd_state.proofs.Prelude.{BeginsWithNoLine, IsInRange, IsList, IsReadOff, list_text, pin_text}
 use Rattle.kd_state.proofs.Prelude.{setting_line, setting_words, Setting, Pull, lug_text, place_text, places}
 use Rattle.kd_state.proofs.Prelude.{reflector_text, wheel_text, Lug, Left, Place, One, Reflector, Wheel, I, eq-eqb}
 use Rattle.kd_state.proofs.Prelude.{eqb-true, false≢true, ltb-true, ne_eqb, IsAscii-decimal, decimal_injective}
@@ -11,7 +11,7 @@ use Rattle.kd_state.proofs.Prelude.{recursion_from_All, AllPass-from_list_all, D
 use Rattle.kd_state.proofs.Prelude.{list_all, slice_split, Bool, List, MatchOption, None, Option, Some, [], ap, arith}
 use Rattle.kd_state.proofs.Prelude.{false, get_or, length, map, refl, rules, sym, true, ℕ, ◌++◌, ◌+◌, ◌<◌, ◌∙◌, ◌∷◌}
 use Rattle.kd_state.proofs.Prelude.{◌≡◌, ◌≢◌, ◌≤◌, common_steps, ParsesUnsigned}
-use Rattle.kd_state.specs.{Words.LettersAreWords, Words.letter_text, declared.setting.keyword.Keyword.Keyword}
+use Rattle.kd_state.specs.Words.{LettersAreWords, letter_text}
 use Rattle.kd_state.specs.declared.setting.list.ListFault.TheVariants.{BadLine, TooMany}
 use Rattle.{kd_tables.specs.declared.reflector.Reflector.TheVariants.A, std.proofs.lemmas.List.Concat.flat_map-append}
 use Rattle.std.proofs.lemmas.Str.{IsUtf8-from_ascii, Parse.{IsNumeralModel, numerals_by_value, tells_by_index}}
@@ -21,7 +21,6 @@ use Rattle.std.proofs.lemmas.List.Splits.{length-slice_split, slice_split_none, 
 use Rattle.kd_state.specs.Words.{words_of, line_of, IsWithout, IsWord, IsFirstPart, LinesTellWords, LinesSplitIntoWords}
 use Rattle.kd_state.specs.Words.{PartsMakeLines, WordsMakeOneLine, TextsTellFirstParts, NumbersAreWords}
 use Rattle.kd_state.proofs.Wheels.{named, told, one_wheel, one_reflector}
-use Rattle.kd_state.specs.declared.setting.keyword.Keyword.TheVariants as keywords
 
 -- ---- the part before a byte
 
@@ -162,9 +161,6 @@ lug_is_word x = elim x as (λ l. IsWord (lug_text l)) [ Left ↦ word_by_test _ 
 pin_is_word : (x : Bool) → IsWord (pin_text x)
 pin_is_word x = elim x as (λ p. IsWord (pin_text p)) [ true ↦ word_by_test _ _ refl | _ ↦ word_by_test _ _ refl ]
 
-form_is_word : (x : Keyword) → IsWord (keyword_text x)
-form_is_word x = elim x as (λ f. IsWord (keyword_text f)) [ keywords.Pull ↦ word_by_test _ _ refl | _ ↦ word_by_test _ _ refl ]
-
 byte_is_word : (n : ℕ) → n < 2 ^ 8 → IsWord (decimal n)
 byte_is_word n small = numbers_are_words n (omega arith)
 
@@ -172,7 +168,7 @@ byte_is_word n small = numbers_are_words n (omega arith)
 
 words_are_words : (x : Setting) → IsInRange x → AllByRecursion IsWord (setting_words x)
 words_are_words x r =
-    grind (arith, form_is_word, byte_is_word, letters_are_words, wheel_is_word, reflector_is_word, pin_is_word, lug_is_word, place_is_word)
+    grind (arith, word_by_test, byte_is_word, letters_are_words, wheel_is_word, reflector_is_word, pin_is_word, lug_is_word, place_is_word)
 
 pub setting_words_are_words : (x : Setting) → IsInRange x → All IsWord (setting_words x)
 setting_words_are_words x r = All-from_recursion IsWord (setting_words x) (words_are_words x r)
@@ -182,10 +178,6 @@ same_number m n small other e = decimal_injective m n (omega arith) (omega arith
 
 same_letter : (l m : ℕ) → letter_text l ≡ letter_text m → l ≡ m
 same_letter l m e = let places : l + 65 ≡ m + 65 = cc in omega arith
-
--- the first and the third letter of the first word, in which any two keywords differ
-abbrev first_and_third : List (List ℕ) → ℕ
-first_and_third words = get_or (get_or words 0 []) 0 0 * 256 + get_or (get_or words 0 []) 2 0
 
 pub same_settings : (x y : Setting) → IsInRange x → IsInRange y → setting_words x ≡ setting_words y → x ≡ y
 same_settings x y e d g =

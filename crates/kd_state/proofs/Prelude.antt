@@ -5,7 +5,7 @@ pub use Rattle.kd_state.specs.ToldApart.{has_reflector, has_wheel, numbered, pla
 pub use Rattle.kd_state.specs.Changes.{Allows, IsKept, IsSeatOf, Makes, MovesLug, Seats, SetsOnly, TheBar, TheCable, TheLetter, ThePin, TheReflector, TheRing, TheShown, TheSlot, Thing, Turns, letters_in}
 pub use Rattle.kd_state.specs.Costs.{bar_cost, cable_cost, column_letters, columns_of, differ, lies_in_one}
 pub use Rattle.kd_state.specs.Laws.{AllowedWheelsLieInTheBox, CipherInTurn, ColumnsAreThePairs, CostTablesAreSquare, DaysWheelsHaveTheirPlaces, EngineIsTheMachine, EquallySetDecipher, KeyInTurn, ListsHaveNoFault, MachinesCanBeTurned, OnKeyIsItsCipher, OnKeyIsReady, OneListFault, PlacesTellWheels, ReadingIsItsCipher, ReadingIsReady, RefusalsAreTold, SettingsAreTold, SettingsKeepMachines, TellingIsMaking, TestsTellLetters, TextsTellLists, TheDayDeciphersItself, ThirteenColumns, TurnedEngineIsTheTurnedMachine, TurnedHasItsKey, TurnedHasTheDaysCipher, TurnedIsOnKey}
-pub use Rattle.kd_state.specs.Line.{BeginsWith, BeginsWithLine, BeginsWithNoLine, IsInRange, IsList, IsReadOff, keyword_text, list_text, pin_text, setting_line, setting_words}
+pub use Rattle.kd_state.specs.Line.{BeginsWith, BeginsWithLine, BeginsWithNoLine, IsInRange, IsList, IsReadOff, list_text, pin_text, setting_line, setting_words}
 pub use Rattle.kd_state.specs.Machine.{AreAllowed, AreApart, AreCables, AreLetters, AreOnWheels, HasAllPins, IsLegalPin, IsLegalRotor, IsMachine, StandsAt, cable_in, cable_letters, cables_ordered, letter_at, letter_in, model_of, ordered, plugged_letters, ring_at, ring_in, slot_in, standing_in}
 pub use Rattle.kd_state.specs.OnKey.{AreTheLetters, AreThePairs, IsJoined, IsPaired, IsPinOnKey, IsRotorOnKey, Joins, OnKey, SameLetters, ShowsWindow}
 pub use Rattle.kd_state.specs.Pins.{pin_at, pin_set, wheel_pins, with_pin}

@@ -6,8 +6,6 @@ use Rattle.kd_tables.specs.Places.{place_text, lug_text}
 use Rattle.kd_state.specs.Words.{letter_text, line_of}
 use Rattle.kd_state.specs.declared.setting.Setting.{Setting}
 use Rattle.kd_state.specs.declared.setting.Setting.TheVariants.{Pull, Put, Seat, SeatReflector, RingTo, Turn, PinTo, LugTo}
-use Rattle.kd_state.specs.declared.setting.keyword.Keyword.{Keyword}
-use Rattle.kd_state.specs.declared.setting.keyword.Keyword.TheVariants as keywords
 use Rattle.kd_state.specs.declared.setting.list.ListFault.{ListFault}
 use Rattle.kd_state.specs.declared.setting.list.ListFault.TheVariants.{BadLine, TooMany}
 
@@ -16,27 +14,16 @@ abbrev pub pin_text : Bool → List ℕ
 pin_text true = codes "ON"
 pin_text false = codes "OFF"
 
--- the first word of a setting's line
-abbrev pub keyword_text : Keyword → List ℕ
-keyword_text keywords.Pull = codes "PULL"
-keyword_text keywords.Put = codes "PUT"
-keyword_text keywords.Seat = codes "SEAT"
-keyword_text keywords.SeatReflector = codes "REFLECTOR"
-keyword_text keywords.RingTo = codes "RING"
-keyword_text keywords.Turn = codes "TURN"
-keyword_text keywords.PinTo = codes "PIN"
-keyword_text keywords.LugTo = codes "LUG"
-
 -- the words of a setting's line
 abbrev pub setting_words : Setting → List (List ℕ)
-setting_words (Pull cable letter) = keyword_text keywords.Pull ∷ decimal cable ∷ letter_text letter ∷ []
-setting_words (Put cable letter) = keyword_text keywords.Put ∷ decimal cable ∷ letter_text letter ∷ []
-setting_words (Seat slot wheel) = keyword_text keywords.Seat ∷ decimal slot ∷ wheel_text wheel ∷ []
-setting_words (SeatReflector reflector) = keyword_text keywords.SeatReflector ∷ reflector_text reflector ∷ []
-setting_words (RingTo wheel letter) = keyword_text keywords.RingTo ∷ wheel_text wheel ∷ letter_text letter ∷ []
-setting_words (Turn slot letter) = keyword_text keywords.Turn ∷ decimal slot ∷ letter_text letter ∷ []
-setting_words (PinTo wheel letter effective) = keyword_text keywords.PinTo ∷ decimal wheel ∷ letter_text letter ∷ pin_text effective ∷ []
-setting_words (LugTo bar lug place) = keyword_text keywords.LugTo ∷ decimal bar ∷ lug_text lug ∷ place_text place ∷ []
+setting_words (Pull cable letter) = codes "PULL" ∷ decimal cable ∷ letter_text letter ∷ []
+setting_words (Put cable letter) = codes "PUT" ∷ decimal cable ∷ letter_text letter ∷ []
+setting_words (Seat slot wheel) = codes "SEAT" ∷ decimal slot ∷ wheel_text wheel ∷ []
+setting_words (SeatReflector reflector) = codes "REFLECTOR" ∷ reflector_text reflector ∷ []
+setting_words (RingTo wheel letter) = codes "RING" ∷ wheel_text wheel ∷ letter_text letter ∷ []
+setting_words (Turn slot letter) = codes "TURN" ∷ decimal slot ∷ letter_text letter ∷ []
+setting_words (PinTo wheel letter effective) = codes "PIN" ∷ decimal wheel ∷ letter_text letter ∷ pin_text effective ∷ []
+setting_words (LugTo bar lug place) = codes "LUG" ∷ decimal bar ∷ lug_text lug ∷ place_text place ∷ []
 
 -- the line of a setting, without the LF at its end: its words with one space between them
 abbrev pub setting_line : Setting → List ℕ
@@ -74,6 +61,12 @@ pub record BeginsWithLine (bytes : List ℕ) (x : Setting) (rest : List ℕ) : T
 -- no setting's line, with LF at its end, stands at the front of the bytes
 abbrev pub BeginsWithNoLine : List ℕ → Type 0
 BeginsWithNoLine bytes = (x : Setting) (rest : List ℕ) → IsInRange x → bytes ≢ setting_line x ++ 10 ∷ rest
+
+-- all settings, up to a line that is none
+pub record BeginsWithSettings (bytes : List ℕ) (settings : List Setting) (rest : List ℕ) : Type 0 where
+  pub lines : BeginsWith bytes settings rest
+  pub few : length settings ≤ 192
+  pub none_more : BeginsWithNoLine rest
 
 -- Why the bytes are no list of at most 192 settings: the first line that is none, counted from 1, or a 193rd line that is one.
 abbrev pub IsListFault : List ℕ → ListFault → Type 0

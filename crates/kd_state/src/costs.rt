@@ -3,7 +3,6 @@ pub(crate) mod tables;
 ghost use Rattle.std.specs.Prelude.{◌≡◌, ◌≢◌, ◌≤◌, ◌∷◌, Some};
 ghost use Rattle.std.specs.Option.{option_to_list};
 ghost use Rattle.kd_tables.specs.Places.{place_rank};
-ghost use Rattle.kd_state.specs.Machine.{cable_letters};
 ghost use Rattle.kd_state.specs.Setting.{has_letter, is_at};
 ghost use Rattle.kd_state.specs.Costs as costs;
 ghost use Rattle.kd_state.specs.Costs.{column_letters};
@@ -21,16 +20,9 @@ pub fn cable_cost(cable: Cable, column: Option<(Letter, Letter)>) -> u8
     let mut cost = 0;
     for index in 0..26 {
         let letter = Letter::new(index).unwrap();
-        cost += u8::from(lies_in_one(*cable, *column, letter));
+        cost += u8::from(lies_in(cable, letter) != lies_in_column(*column, letter));
     }
     cost
-}
-
-/// Whether the letter lies in the cable and isn't one of the pair, or is one of the pair and doesn't lie in the cable.
-fn lies_in_one(cable: Cable, column: Option<(Letter, Letter)>, letter: Letter) -> bool
-    ensures { result ≡ costs.lies_in_one cable column letter }
-{
-    lies_in(&cable, letter) != lies_in_column(column, letter)
 }
 
 /// Whether the letter is one of the pair.
@@ -58,14 +50,10 @@ pub fn nearest_standing(standing: Standing, row: Reading) -> Standing
     ensures cost { costs.lugs_moved standing result ≡ costs.bar_cost standing row }
 {
     match standings_of(row) {
-        (only, None) => only,
-        (first, Some(second)) => {
-            if lugs_moved(standing, second) < lugs_moved(standing, first) {
-                second
-            } else {
-                first
-            }
+        (first, Some(second)) if lugs_moved(standing, second) < lugs_moved(standing, first) => {
+            second
         }
+        (first, _) => first,
     }
 }
 

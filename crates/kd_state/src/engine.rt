@@ -44,10 +44,8 @@ impl Model for Engine {
 }
 
 impl Engine {
-    ghost use Rattle.std.specs.Prelude.{◌≡◌, ◌⊎◌, ◌↔◌, length, IsTrue};
-    ghost use Rattle.std.specs.Bool.{OnTrue, OnFalse};
+    ghost use Rattle.std.specs.Prelude.{◌⊎◌, length};
     ghost use Rattle.kd_pins.specs.PinWheels.{pins_of};
-    ghost use Rattle.kd_state.specs.Machine.{AreOnWheels};
     ghost use Rattle.kd_state.specs.Seated.{key_of_wheels};
     ghost use Rattle.kd_state.specs.TwoCiphers.{OfWheels, OfDrum, cipher, key_left, key_with_window, IsWindow};
 

@@ -41,33 +41,26 @@ pub fn settings_have_words()
     ensures { SettingsHaveWords }
 {}
 
-/// No two settings have one line.
-pub fn no_two_settings_have_one_line()
-    ensures { LinesTellSettings }
-{}
-
-/// Bytes are the text of one list of settings at most; those that are have no fault, and no bytes have two. That bytes
-/// which are no list have one, `read_list` tells.
-#[tactic(auto, using(crate::proofs::Lines::texts_tell_lists, crate::proofs::Lines::lists_have_no_fault, crate::proofs::Lines::one_list_fault))]
-pub fn texts_tell_lists()
+/// No two settings have one line. Bytes are the text of one list of settings at most; those that are have no fault, and no
+/// bytes have two. That bytes which are no list have one, `read_list` tells.
+pub fn texts_tell_settings()
+    ensures setting { LinesTellSettings }
     ensures list { TextsTellLists }
     ensures no_fault { ListsHaveNoFault }
     ensures one_fault { OneListFault }
 {}
 
-/// No two wheels have one name, and no two reflectors.
-pub fn names_tell_parts()
-    ensures wheels { NamesTellWheels }
+/// No two wheels have one name, and no two reflectors. A wheel that may stand in a slot lies in the box, and each wheel of the
+/// box has a place of its own there. So no two wheels of a day have one place. Two lists have the same letters exactly where
+/// the same tests hold of them.
+pub fn parts_are_told_apart()
+    ensures names { NamesTellWheels }
     ensures reflectors { NamesTellReflectors }
-{}
-
-/// A wheel that may stand in a slot lies in the box, and each wheel of the box has a place of its own there. So no two wheels
-/// of a day have one place.
-pub fn places_tell_wheels()
     ensures in_box { AllowedWheelsLieInTheBox }
     ensures within { WheelsHavePlaces }
     ensures wheels { PlacesTellWheels }
     ensures days { DaysWheelsHaveTheirPlaces }
+    ensures letters { TestsTellLetters }
 {}
 
 /// A setting that is carried out makes a machine of a machine, and so does a list of them.
@@ -136,15 +129,11 @@ pub fn ready_machines_can_be_turned()
     ensures { MachinesCanBeTurned }
 {}
 
-/// What a machine on the day's key enciphers, another one on the key deciphers that shows the same letters.
+/// What a machine on the day's key enciphers, another one on the key deciphers that shows the same letters; and so does the
+/// day's own machine, if it shows them again.
 pub fn equally_set_machines_decipher()
-    ensures { EquallySetDecipher }
-{}
-
-/// What the day's own machine enciphers, it deciphers if it shows the same letters again.
-#[tactic(auto, using(crate::proofs::Keys::twice_on_key))]
-pub fn the_day_deciphers_itself()
-    ensures { TheDayDeciphersItself }
+    ensures another { EquallySetDecipher }
+    ensures itself { TheDayDeciphersItself }
 {}
 
 /// A text in two pieces is enciphered piece by piece, on the key that the first piece leaves.
@@ -154,25 +143,11 @@ pub fn pieces_are_enciphered_in_turn()
     ensures after { KeyInTurn }
 {}
 
-/// Two lists have the same letters exactly where the same tests hold of them.
-pub fn tests_tell_letters()
-    ensures { TestsTellLetters }
-{}
-
-/// A day has 13 columns: its pairs in their order, and then nothings.
-#[tactic(auto, using(crate::proofs::CostTable::thirteen_columns, crate::proofs::CostTable::columns_are_the_pairs))]
-pub fn columns_are_the_pairs()
+/// A day has 13 columns: its pairs in their order, and then nothings. There are as many costs for each cable, or bar, as
+/// there are cables, or bars, and a cable costs four at most.
+pub fn cost_tables_are_square()
     ensures count { ThirteenColumns }
     ensures pairs { ColumnsAreThePairs }
-{}
-
-/// What it costs to make of a cable a pair, or nothing, is four at most.
-pub fn cables_cost_four()
-    ensures { CablesCostFour }
-{}
-
-/// There are as many costs for each cable, or bar, as there are cables, or bars.
-#[tactic(auto, using(crate::proofs::CostTable::cost_tables_are_square))]
-pub fn cost_tables_are_square()
-    ensures { CostTablesAreSquare }
+    ensures square { CostTablesAreSquare }
+    ensures four { CablesCostFour }
 {}

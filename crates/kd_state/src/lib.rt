@@ -23,7 +23,7 @@ pub use machine::per_wheel::PerWheel;
 pub use machine::pin_parts::PinParts;
 pub use machine::rotor_parts::RotorParts;
 pub use setting::Setting;
-pub use setting::list::{ListFault, Settings, read_list, split_setting};
+pub use setting::list::{ListFault, Settings, read_list, split_settings};
 pub use setting::why::{Illegal, Why};
 pub use sheet_day::SheetDay;
 pub use sheet_day::entry::Entry;

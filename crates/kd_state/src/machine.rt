@@ -1,5 +1,4 @@
 pub(crate) mod cable;
-mod carrying;
 mod on_key;
 pub(crate) mod one_model;
 pub(crate) mod parts;
@@ -11,6 +10,9 @@ pub(crate) mod readers;
 pub(crate) mod rotor_parts;
 pub(crate) mod seats;
 
+use crate::facts::is_in_range;
+use crate::setting::Setting;
+use crate::setting::why::Illegal;
 use parts::Parts;
 use pin_parts::PinParts;
 use rotor_parts::RotorParts;
@@ -35,8 +37,9 @@ impl std::marker::Model for Machine {
 }
 
 impl Machine {
-    ghost use Rattle.std.specs.Prelude.{◌≡◌, ◌↔◌, IsSome, IfSome};
+    ghost use Rattle.std.specs.Prelude.{◌≡◌, ◌↔◌, IsSome, IfSome, OnOk, OnErr, IfErr, Some};
     ghost use Rattle.kd_state.specs.Machine.{IsLegalRotor, IsLegalPin, IsMachine, cables_ordered};
+    ghost use Rattle.kd_state.specs.Setting.{Carries, why_refused};
 
     /// The rotor machine of these parts: none where there are more or fewer slots than the model has, a wheel stands in two
     /// slots or may not stand where it does, a letter lies in two places of the cables, or the reflector, the rings or the
@@ -64,6 +67,20 @@ impl Machine {
         Some(Machine {
             parts: Parts::Pin(parts),
         })
+    }
+
+    /// Carries a setting out. If the machine refuses it, nothing changes, and the answer is the first reason that holds.
+    pub fn carry(&mut self, setting: Setting) -> Result<(), Illegal>
+        ensures carried { OnOk result (Carries self.old setting self.new) }
+        ensures refused { IfErr result
+            (λ illegal. why_refused self.old setting ≡ Some illegal.why) }
+        ensures unchanged { OnErr result (self.new ≡ self.old) }
+    {
+        is_in_range(&setting);
+        match self.parts.carry(setting) {
+            Ok(()) => Ok(()),
+            Err(why) => Err(Illegal { why }),
+        }
     }
 
     /// The parts.

@@ -1,4 +1,3 @@
-pub(crate) mod keyword;
 mod line;
 pub(crate) mod list;
 mod pin_settings;

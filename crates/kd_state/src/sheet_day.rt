@@ -29,9 +29,9 @@ impl std::marker::Model for SheetDay {
 }
 
 impl SheetDay {
-    ghost use Rattle.std.specs.Prelude.{◌≡◌, ◌↔◌, ◌≤◌, length, IsTrue, IsSome, IfSome};
+    ghost use Rattle.std.specs.Prelude.{◌≡◌, ◌↔◌, ◌≤◌, length, IsTrue, IfSome, MatchOption};
     ghost use Rattle.std.specs.Option.{option_copied, option_map};
-    ghost use Rattle.kd_state.specs.SheetDay.{OfRotors, OfPins, IsLegalDay, IsLegalRotorDay, IsLegalPinDay, IsDayNumber, AreOfADaysGroup};
+    ghost use Rattle.kd_state.specs.SheetDay.{RotorDay, PinDay, OfRotors, OfPins, IsLegalDay, IsLegalRotorDay, IsLegalPinDay, IsDayNumber, AreOfADaysGroup};
     ghost use Rattle.kd_state.specs.SheetDay.{day_number, day_model, rotor_day, pin_day, sheet_wheel, shown_letter};
     ghost use Rattle.kd_state.specs.Entry.{values_of};
 
@@ -46,22 +46,16 @@ impl SheetDay {
         pairs: &[(Letter, Letter)],
         groups: &[[Letter; 3]],
     ) -> Option<SheetDay>
-        ensures exists { IsSome result ↔ IsLegalRotorDay (record {
+        ensures { let values : RotorDay = record {
           day = day;
           model = model;
           reflector = reflector;
           wheels = wheels.now;
           pairs = pairs.now;
           groups = groups.now;
-        }) }
-        ensures value { IfSome result (λ sheet_day. sheet_day ≡ OfRotors (record {
-          day = day;
-          model = model;
-          reflector = reflector;
-          wheels = wheels.now;
-          pairs = pairs.now;
-          groups = groups.now;
-        })) }
+        } in
+            MatchOption result (¬ (IsLegalRotorDay values))
+            (λ sheet_day. IsLegalRotorDay values × (sheet_day ≡ OfRotors values)) }
     {
         let entry = RotorEntry {
             day,
@@ -89,20 +83,15 @@ impl SheetDay {
         window: [Letter; 6],
         list: [Letter; 2],
     ) -> Option<SheetDay>
-        ensures exists { IsSome result ↔ IsLegalPinDay (record {
+        ensures { let values : PinDay = record {
           day = day;
           rows = rows;
           pins = pins;
           window = window;
           list = list;
-        }) }
-        ensures value { IfSome result (λ sheet_day. sheet_day ≡ OfPins (record {
-          day = day;
-          rows = rows;
-          pins = pins;
-          window = window;
-          list = list;
-        })) }
+        } in
+            MatchOption result (¬ (IsLegalPinDay values))
+            (λ sheet_day. IsLegalPinDay values × (sheet_day ≡ OfPins values)) }
     {
         let entry = PinEntry {
             day,
@@ -166,16 +155,6 @@ impl SheetDay {
         }
     }
 
-    /// For each slot from the left the wheel with its ring and its window letter; none on the Converter M-209.
-    pub fn wheels(&self) -> Option<&[SheetWheel]>
-        ensures { option_copied result ≡ option_map (λ s. s.wheels) (rotor_day self.now) }
-    {
-        match &self.entry {
-            Entry::Rotor(entry) => Some(entry.wheels.as_slice()),
-            Entry::Pin(_) => None,
-        }
-    }
-
     /// The reflector; none on the Converter M-209.
     pub fn reflector(&self) -> Option<Reflector>
         ensures { result ≡ option_map (λ s. s.reflector) (rotor_day self.now) }
@@ -235,16 +214,6 @@ impl SheetDay {
         match &self.entry {
             Entry::Rotor(_) => None,
             Entry::Pin(entry) => Some(entry.pins),
-        }
-    }
-
-    /// The letter that each wheel of the Converter M-209 shows, from wheel 1 to wheel 6.
-    pub fn letters(&self) -> Option<[Letter; 6]>
-        ensures { result ≡ option_map (λ s. s.window) (pin_day self.now) }
-    {
-        match &self.entry {
-            Entry::Rotor(_) => None,
-            Entry::Pin(entry) => Some(entry.window),
         }
     }
 

@@ -72,11 +72,7 @@ pub fn number_of_text(text: &[u8]) -> Option<u8>
         ((number : ℕ) → number < 2 ^ 8 → decimal number ≢ text.now)
         (λ number. decimal number ≡ text.now) }
 {
-    let number = wide_number_of_text(text)?;
-    if number > 255 {
-        return None;
-    }
-    Some(number as u8)
+    u8::try_from(wide_number_of_text(text)?).ok()
 }
 
 /// The day of a month that is written so.

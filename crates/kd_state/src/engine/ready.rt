@@ -1,5 +1,5 @@
 //! When a machine is ready, and its engine.
-ghost use Rattle.std.specs.Prelude.{◌≡◌, ◌≢◌, ◌⊎◌, ◌↔◌, ◌<◌, ◌≤◌, ◌+◌, ◌++◌, length, map, filter_map, All, Contains, IsTrue, IsSome, IfSome, MatchOption, Some, None};
+ghost use Rattle.std.specs.Prelude.{◌≡◌, ◌≢◌, ◌↔◌, ◌<◌, ◌≤◌, ◌+◌, ◌++◌, length, map, filter_map, All, Contains, IsTrue, IsSome, IfSome, MatchOption, Some, None};
 ghost use Rattle.std.specs.Option.{option_to_list};
 ghost use Rattle.arrayvec.specs.ArrayVec.{array_vec_len};
 ghost use Rattle.kd_tables.specs.Permutation.{exchange};
@@ -27,8 +27,8 @@ use thiserror::Error;
 pub struct NotReady;
 
 impl Machine {
-    ghost use Rattle.std.specs.Prelude.{◌≡◌, ◌↔◌, IsTrue, IsOk, IfOk};
-    ghost use Rattle.kd_state.specs.TwoCiphers.{IsReady, physical_key};
+    ghost use Rattle.std.specs.Prelude.{IsOk, IfOk};
+    ghost use Rattle.kd_state.specs.TwoCiphers.{IsReady};
 
     /// Whether no slot is empty, and no cable has one letter.
     pub fn is_ready(&self) -> bool
@@ -36,7 +36,8 @@ impl Machine {
     {
         match self.parts() {
             Parts::Rotor(parts) => {
-                are_seated(parts.slots.as_slice()) && are_whole(&parts.cables)
+                let mut slots = parts.slots.as_slice().iter();
+                slots.all(|seated| seated.is_some()) && are_whole(&parts.cables)
             }
             Parts::Pin(_) => true,
         }
@@ -98,13 +99,6 @@ fn seated_wheel(parts: &RotorParts, seated: Option<Wheel>) -> Option<SheetWheel>
         ring,
         letter,
     })
-}
-
-/// Whether there is a wheel in each slot.
-fn are_seated(slots: &[Option<Wheel>]) -> bool
-    ensures { IsTrue result ↔ All (λ seated. IsSome seated) slots.now }
-{
-    slots.iter().all(|seated| seated.is_some())
 }
 
 /// What the cables exchange, if none has one letter.

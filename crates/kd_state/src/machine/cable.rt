@@ -1,10 +1,10 @@
 //! The letters in the cables of the plugboard.
 ghost use Rattle.std.specs.Prelude.{◌≡◌, ◌↔◌, IsTrue, map, nat_eq};
-ghost use Rattle.std.specs.List.{list_any, IsDistinct};
+ghost use Rattle.std.specs.List.{IsDistinct};
 ghost use Rattle.std.specs.Option.{option_to_list};
 ghost use Rattle.kd_tables.specs.Places.{in_order};
 ghost use Rattle.kd_state.specs.Machine.{cable_letters, plugged_letters, ordered};
-ghost use Rattle.kd_state.specs.Setting.{has_letter, are_new, is_plugged, cable_without, cable_with};
+ghost use Rattle.kd_state.specs.Setting.{has_letter, are_new, cable_without};
 
 use kd_tables::Letter;
 
@@ -44,10 +44,7 @@ pub fn lies_in(cable: &Cable, letter: Letter) -> bool
 fn is_letter(end: Option<Letter>, letter: Letter) -> bool
     ensures { result ≡ has_letter (option_to_list end) letter }
 {
-    match end {
-        None => false,
-        Some(other) => other == letter,
-    }
+    end == Some(letter)
 }
 
 /// Whether the letter lies in one of the cables.
@@ -60,13 +57,6 @@ pub(crate) fn lies_in_any(cables: &[Cable], letter: Letter) -> bool
         }
     }
     false
-}
-
-/// Whether both ends of the cable are plugged.
-pub(crate) fn is_plugged(cable: &Cable) -> bool
-    ensures { result ≡ is_plugged cable.now }
-{
-    cable.0.is_some() && cable.1.is_some()
 }
 
 /// The two letters in alphabetical order.
@@ -89,13 +79,6 @@ pub(crate) fn without(cable: &Cable, letter: Letter) -> Cable
     } else {
         (cable.0, None)
     }
-}
-
-/// The cable with the letter in its loose end.
-pub(crate) fn with(cable: &Cable, letter: Letter) -> Cable
-    ensures { result ≡ cable_with letter cable.now }
-{
-    ordered(cable.0.or(cable.1), Some(letter))
 }
 
 /// Whether no letter lies in two places of the cables.

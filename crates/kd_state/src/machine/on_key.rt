@@ -1,10 +1,10 @@
 ghost use Rattle.std.specs.Prelude.{◌≡◌, ◌↔◌, IsTrue, IsPermutation, Some, true, [], ◌∷◌, length, slice_get};
 ghost use Rattle.std.specs.List.{AllByRecursion};
 ghost use Rattle.std.specs.Option.{option_map_or};
-ghost use Rattle.kd_state.specs.Entry.{rotor_values, pin_values};
+ghost use Rattle.kd_state.specs.Entry.{rotor_values};
 ghost use Rattle.kd_tables.specs.Tables.{box_of};
 ghost use Rattle.kd_state.specs.Machine.{IsLegalRotor};
-ghost use Rattle.kd_state.specs.OnKey.{IsRotorOnKey, IsPinOnKey, AreThePairs, IsPaired, IsJoined, Joins};
+ghost use Rattle.kd_state.specs.OnKey.{IsRotorOnKey, AreThePairs, IsPaired, IsJoined, Joins};
 ghost use Rattle.kd_state.specs.Setting.{has_letter};
 ghost use Rattle.kd_state.specs.ToldApart.{place_in_box};
 
@@ -12,17 +12,15 @@ use crate::machine::Machine;
 use crate::machine::cable::{Cable, lies_in};
 use crate::machine::parts::Parts;
 use crate::machine::per_wheel::PerWheel;
-use crate::machine::pin_parts::{PinParts, readings_of};
+use crate::machine::pin_parts::readings_of;
 use crate::machine::readers::of_wheel;
 use crate::machine::rotor_parts::RotorParts;
 use crate::sheet_day::SheetDay;
 use crate::sheet_day::entry::Entry;
-use crate::sheet_day::pin_entry::PinEntry;
 use crate::sheet_day::rotor_entry::{RotorEntry, SheetWheel};
 use kd_tables::{Letter, Model, Reading};
 
 impl Machine {
-    ghost use Rattle.std.specs.Prelude.{◌↔◌, IsTrue};
     ghost use Rattle.kd_state.specs.OnKey.{OnKey, ReadsAs, ShowsWindow};
 
     /// Whether the machine is set as the day says, whatever letters show.
@@ -31,7 +29,9 @@ impl Machine {
     {
         match (self.parts(), day.entry()) {
             (Parts::Rotor(parts), Entry::Rotor(entry)) => is_rotor_on_key(parts, entry),
-            (Parts::Pin(parts), Entry::Pin(entry)) => is_pin_on_key(parts, entry),
+            (Parts::Pin(parts), Entry::Pin(entry)) => {
+                parts.pins.same(&entry.pins) && are_the_same(readings_of(&parts.bars), entry.rows)
+            }
             _ => false,
         }
     }
@@ -103,13 +103,6 @@ fn show_letters(model: Model, letters: &PerWheel<Letter>, wheels: &[SheetWheel])
                 && show_letters(model, letters, rest)
         }
     }
-}
-
-/// Whether the pins are the day's, and the bars read as its rows.
-fn is_pin_on_key(parts: &PinParts, entry: &PinEntry) -> bool
-    ensures { IsTrue result ↔ IsPinOnKey parts.now (pin_values entry.now) }
-{
-    parts.pins.same(&entry.pins) && are_the_same(readings_of(&parts.bars), entry.rows)
 }
 
 /// Whether these are the same readings, each as often, whatever their order.

@@ -17,7 +17,7 @@ pub enum OneModel<'a> {
 }
 
 impl Machine {
-    ghost use Rattle.std.specs.Prelude.{◌≡◌, ◌≢◌, MatchOption};
+    ghost use Rattle.std.specs.Prelude.{◌≢◌, MatchOption};
     ghost use Rattle.kd_state.specs.Machine.{IsMachine, model_of};
     ghost use Rattle.kd_state.specs.SheetDay.{IsLegalDay, day_model};
     ghost use Rattle.kd_state.specs.OneModel.{AreParted};

@@ -2,7 +2,6 @@ ghost use Rattle.std.specs.Prelude.{◌≡◌, ◌⊎◌, ◌↔◌, ◌<◌, le
 ghost use Rattle.kd_state.specs.Setting.{without};
 
 use crate::counted::put;
-use crate::machine::seats::is_wheel;
 use crate::sheet_day::rotor_entry::SheetWheel;
 use kd_tables::Wheel;
 use std::marker::Model;
@@ -81,9 +80,6 @@ impl<T: Copy> PerSlot<T> {
 }
 
 impl PerSlot<Option<Wheel>> {
-    ghost use Rattle.std.specs.Prelude.{◌≡◌, map};
-    ghost use Rattle.kd_state.specs.Setting.{without};
-
     /// Takes the wheel out of the slot in which it stands, if it is there.
     pub(crate) fn take_out(&mut self, wheel: Wheel)
         ensures { self.new ≡ map (without wheel) self.old }
@@ -111,7 +107,6 @@ impl PerSlot<Option<Wheel>> {
 }
 
 impl PerSlot<SheetWheel> {
-    ghost use Rattle.std.specs.Prelude.{◌≡◌};
     ghost use Rattle.kd_state.specs.SheetDay.{seats};
 
     /// The seats that the wheels take.
@@ -139,9 +134,5 @@ impl PerSlot<SheetWheel> {
 fn left_in(seated: Option<Wheel>, wheel: Wheel) -> Option<Wheel>
     ensures { result ≡ without wheel seated }
 {
-    if is_wheel(seated, wheel) {
-        None
-    } else {
-        seated
-    }
+    if seated == Some(wheel) { None } else { seated }
 }

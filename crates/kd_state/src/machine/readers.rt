@@ -110,8 +110,5 @@ pub(crate) fn of_wheel(model: Model, letters: &PerWheel<Letter>, wheel: Wheel) -
     requires { length letters.now ≡ length (box_of model) }
     ensures { result ≡ slice_get letters.now (place_in_box model wheel) }
 {
-    match place_in_box(model, wheel) {
-        Some(place) => letters.as_slice().get(place).copied(),
-        None => None,
-    }
+    letters.as_slice().get(place_in_box(model, wheel)?).copied()
 }

@@ -30,20 +30,12 @@ impl RotorParts {
     pub(crate) fn is_legal(&self) -> bool
         ensures { IsTrue result ↔ IsLegalRotor self.now }
     {
-        if !seats::are_legal(self.model, &self.slots) {
-            return false;
-        }
-        if !allowed_reflector(self.model, self.reflector) {
-            return false;
-        }
-        if !are_for_the_box(self.model, &self.rings) {
-            return false;
-        }
-        if !are_for_the_box(self.model, &self.letters) {
-            return false;
-        }
         are_plugged_letters(&self.cables);
-        cable::are_apart(&self.cables)
+        seats::are_legal(self.model, &self.slots)
+            && allowed_reflector(self.model, self.reflector)
+            && are_for_the_box(self.model, &self.rings)
+            && are_for_the_box(self.model, &self.letters)
+            && cable::are_apart(&self.cables)
     }
 
     /// The same parts, with the letters of each cable in order.

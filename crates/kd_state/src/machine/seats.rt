@@ -26,13 +26,7 @@ pub(crate) fn are_legal(model: Model, slots: &PerSlot<Option<Wheel>>) -> bool
         × AreApart slots.now }
 {
     let slots = slots.as_slice();
-    if slots.len() != usize::from(model.slots()) {
-        return false;
-    }
-    if !are_allowed(model, slots) {
-        return false;
-    }
-    are_apart(slots)
+    slots.len() == usize::from(model.slots()) && are_allowed(model, slots) && are_apart(slots)
 }
 
 /// Whether each wheel may stand in its slot.
@@ -75,30 +69,10 @@ fn is_alone(slots: &[Option<Wheel>], place: usize, seated: Option<Wheel>) -> boo
     ensures { IsTrue result ↔ IfSome seated
         (λ wheel. (other : ℕ) → StandsAt slots.now other wheel → other ≡ place) }
 {
-    match seated {
-        None => true,
-        Some(wheel) => stands_only_at(slots, place, wheel),
-    }
-}
-
-/// Whether the wheel stands at no other place of the slots, counted from 0.
-fn stands_only_at(slots: &[Option<Wheel>], place: usize, wheel: Wheel) -> bool
-    ensures { IsTrue result ↔ ((other : ℕ) → StandsAt slots.now other wheel → other ≡ place) }
-{
-    for (other, seated) in slots.iter().enumerate() {
-        if other != place && is_wheel(*seated, wheel) {
+    for (other, wheel) in slots.iter().enumerate() {
+        if other != place && seated.is_some() && *wheel == seated {
             return false;
         }
     }
     true
-}
-
-/// Whether the wheel is the one that is seated.
-pub(crate) fn is_wheel(seated: Option<Wheel>, wheel: Wheel) -> bool
-    ensures { IsTrue result ↔ (seated ≡ Some wheel) }
-{
-    match seated {
-        None => false,
-        Some(other) => other == wheel,
-    }
 }

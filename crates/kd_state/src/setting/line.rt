@@ -7,7 +7,6 @@ ghost use Rattle.kd_state.specs.Line.{setting_line, pin_text, IsInRange, IsReadO
 
 use crate::facts::is_in_range;
 use crate::setting::Setting;
-use crate::setting::keyword::Keyword;
 use crate::words::{
     is_word, letter_of_text, number_of_text, push_letter, push_number, split_words,
 };
@@ -30,7 +29,12 @@ impl Setting {
                 line.push_str(wheel.text().as_str());
                 line
             }
-            Setting::SeatReflector { reflector } => reflector_line(reflector),
+            Setting::SeatReflector { reflector } => {
+                let mut line = ArrayString::new();
+                line.push_str("REFLECTOR ");
+                line.push_str(reflector.text().as_str());
+                line
+            }
             Setting::RingTo { wheel, letter } => ring_line(wheel, letter),
             Setting::Turn { slot, letter } => with_letter("TURN", slot, letter),
             Setting::PinTo {
@@ -42,7 +46,13 @@ impl Setting {
                 line.push_str(if effective { " ON" } else { " OFF" });
                 line
             }
-            Setting::LugTo { bar, lug, place } => lug_line(bar, lug, place),
+            Setting::LugTo { bar, lug, place } => {
+                let mut line = with_number("LUG", bar);
+                line.push_str(lug.text().as_str());
+                line.push_str(" ");
+                line.push_str(place.text().as_str());
+                line
+            }
         }
     }
 
@@ -84,17 +94,6 @@ fn with_letter(word: &str, number: u8, letter: Letter) -> ArrayString<24>
     line
 }
 
-/// The line that changes the reflector.
-fn reflector_line(reflector: Reflector) -> ArrayString<24>
-    ensures value { result.bytes ≡ setting_line (SeatReflector reflector) }
-    ensures short { array_string_len result < 24 }
-{
-    let mut line = ArrayString::new();
-    line.push_str("REFLECTOR ");
-    line.push_str(reflector.text().as_str());
-    line
-}
-
 /// The line that sets a wheel's ring.
 fn ring_line(wheel: Wheel, letter: Letter) -> ArrayString<24>
     ensures value { result.bytes ≡ setting_line (RingTo wheel letter) }
@@ -105,18 +104,6 @@ fn ring_line(wheel: Wheel, letter: Letter) -> ArrayString<24>
     line.push_str(wheel.text().as_str());
     line.push_str(" ");
     push_letter(&mut line, letter);
-    line
-}
-
-/// The line that moves a lug.
-fn lug_line(bar: u8, lug: Lug, place: Place) -> ArrayString<24>
-    ensures value { result.bytes ≡ setting_line (LugTo bar lug place) }
-    ensures short { array_string_len result < 24 }
-{
-    let mut line = with_number("LUG", bar);
-    line.push_str(lug.text().as_str());
-    line.push_str(" ");
-    line.push_str(place.text().as_str());
     line
 }
 
@@ -136,7 +123,7 @@ fn of_words(words: &[&[u8]]) -> Option<Setting>
 fn with_one_value(keyword: &[u8], value: &[u8]) -> Option<Setting>
     ensures { IsReadOff (keyword.now ∷ value.now ∷ []) result }
 {
-    if !Keyword::SeatReflector.is(keyword) {
+    if !is_word(keyword, "REFLECTOR") {
         return None;
     }
     Some(Setting::SeatReflector {
@@ -148,31 +135,31 @@ fn with_one_value(keyword: &[u8], value: &[u8]) -> Option<Setting>
 fn with_two_values(keyword: &[u8], first: &[u8], second: &[u8]) -> Option<Setting>
     ensures { IsReadOff (keyword.now ∷ first.now ∷ second.now ∷ []) result }
 {
-    if Keyword::RingTo.is(keyword) {
+    if is_word(keyword, "RING") {
         return Some(Setting::RingTo {
             wheel: Wheel::from_text(first)?,
             letter: letter_of_text(second)?,
         });
     }
     let number = number_of_text(first)?;
-    if Keyword::Seat.is(keyword) {
+    if is_word(keyword, "SEAT") {
         return Some(Setting::Seat {
             slot: number,
             wheel: Wheel::from_text(second)?,
         });
     }
     let letter = letter_of_text(second)?;
-    if Keyword::Pull.is(keyword) {
+    if is_word(keyword, "PULL") {
         Some(Setting::Pull {
             cable: number,
             letter,
         })
-    } else if Keyword::Put.is(keyword) {
+    } else if is_word(keyword, "PUT") {
         Some(Setting::Put {
             cable: number,
             letter,
         })
-    } else if Keyword::Turn.is(keyword) {
+    } else if is_word(keyword, "TURN") {
         Some(Setting::Turn {
             slot: number,
             letter,
@@ -187,13 +174,13 @@ fn with_three_values(keyword: &[u8], first: &[u8], second: &[u8], third: &[u8]) 
     ensures { IsReadOff (keyword.now ∷ first.now ∷ second.now ∷ third.now ∷ []) result }
 {
     let number = number_of_text(first)?;
-    if Keyword::PinTo.is(keyword) {
+    if is_word(keyword, "PIN") {
         Some(Setting::PinTo {
             wheel: number,
             letter: letter_of_text(second)?,
             effective: effective_of_text(third)?,
         })
-    } else if Keyword::LugTo.is(keyword) {
+    } else if is_word(keyword, "LUG") {
         Some(Setting::LugTo {
             bar: number,
             lug: Lug::from_text(second)?,

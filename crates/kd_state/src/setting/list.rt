@@ -1,5 +1,5 @@
 ghost use Rattle.std.specs.Prelude.{MatchOption, MatchResult};
-ghost use Rattle.kd_state.specs.Line.{BeginsWithLine, BeginsWithNoLine, IsList, IsListFault};
+ghost use Rattle.kd_state.specs.Line.{BeginsWithLine, BeginsWithNoLine, BeginsWithSettings, IsList, IsListFault};
 
 use crate::setting::Setting;
 use crate::words::split_once;
@@ -26,23 +26,35 @@ pub fn read_list(text: &[u8]) -> Result<Settings, ListFault>
         (λ settings. IsList text.now settings.items)
         (IsListFault text.now) }
 {
+    let (settings, rest) = split_settings(text).ok_or(ListFault::TooMany)?;
+    if rest.is_empty() {
+        Ok(settings)
+    } else {
+        Err(ListFault::BadLine(settings.len() + 1))
+    }
+}
+
+/// The settings whose lines stand at the front of the text, up to the first line that is none, and what follows them;
+/// none where there are more than 192.
+pub fn split_settings(text: &[u8]) -> Option<(Settings, &[u8])>
+    ensures { MatchOption result
+        (IsListFault text.now ListFault.TooMany)
+        (λ found. BeginsWithSettings text.now found.0.items found.1.now) }
+{
     let mut settings = ArrayVec::new();
     let mut rest = text;
-    while !rest.is_empty() {
-        let Some((setting, after)) = split_setting(rest) else {
-            return Err(ListFault::BadLine(settings.len() + 1));
-        };
+    while let Some((setting, after)) = split_setting(rest) {
         if settings.is_full() {
-            return Err(ListFault::TooMany);
+            return None;
         }
         settings.push(setting);
         rest = after;
     }
-    Ok(settings)
+    Some((settings, rest))
 }
 
 /// The setting whose line, with LF at its end, stands at the front of the text, and what follows.
-pub fn split_setting(text: &[u8]) -> Option<(Setting, &[u8])>
+fn split_setting(text: &[u8]) -> Option<(Setting, &[u8])>
     ensures { MatchOption result
         (BeginsWithNoLine text.now)
         (λ found. BeginsWithLine text.now found.0 found.1.now) }

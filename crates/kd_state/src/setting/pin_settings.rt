@@ -33,9 +33,7 @@ impl PinParts {
         ensures { Answers (Parts.Pin self.old) (Setting.Turn wheel letter)
             (Parts.Pin self.new) result }
     {
-        let Some(_) = numbered(&self.letters, wheel) else {
-            return Err(Why::SlotEmpty);
-        };
+        numbered(&self.letters, wheel).ok_or(Why::SlotEmpty)?;
         if !is_on_wheel(wheel, letter) {
             return Err(Why::NotOnWheel);
         }

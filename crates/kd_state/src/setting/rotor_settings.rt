@@ -3,7 +3,7 @@ ghost use Rattle.kd_state.specs.Machine.{IsLegalRotor};
 ghost use Rattle.kd_state.specs.Setting.{Answers};
 
 use crate::counted::{numbered, set_numbered};
-use crate::machine::cable::{is_plugged, lies_in, lies_in_any, with, without};
+use crate::machine::cable::{lies_in, lies_in_any, ordered, without};
 use crate::machine::parts::Parts;
 use crate::machine::rotor_parts::RotorParts;
 use crate::machine::seats::place_in_box;
@@ -33,9 +33,7 @@ impl RotorParts {
         ensures { Answers (Parts.Rotor self.old) (Setting.Pull cable letter)
             (Parts.Rotor self.new) result }
     {
-        let Some(ends) = numbered(&self.cables, cable) else {
-            return Err(Why::NoSuchCable);
-        };
+        let ends = numbered(&self.cables, cable).ok_or(Why::NoSuchCable)?;
         if !lies_in(&ends, letter) {
             return Err(Why::NotThere);
         }
@@ -49,16 +47,14 @@ impl RotorParts {
         ensures { Answers (Parts.Rotor self.old) (Setting.Put cable letter)
             (Parts.Rotor self.new) result }
     {
-        let Some(ends) = numbered(&self.cables, cable) else {
-            return Err(Why::NoSuchCable);
-        };
-        if is_plugged(&ends) {
+        let ends = numbered(&self.cables, cable).ok_or(Why::NoSuchCable)?;
+        if ends.0.is_some() && ends.1.is_some() {
             return Err(Why::NoLooseEnd);
         }
         if lies_in_any(&self.cables, letter) {
             return Err(Why::SocketTaken);
         }
-        let both = with(&ends, letter);
+        let both = ordered(ends.0.or(ends.1), Some(letter));
         set_numbered(&mut self.cables, cable, both);
         Ok(())
     }
@@ -97,9 +93,7 @@ impl RotorParts {
         ensures { Answers (Parts.Rotor self.old) (Setting.RingTo wheel letter)
             (Parts.Rotor self.new) result }
     {
-        let Some(place) = place_in_box(self.model, wheel) else {
-            return Err(Why::WheelNotAllowed);
-        };
+        let place = place_in_box(self.model, wheel).ok_or(Why::WheelNotAllowed)?;
         self.rings.set(place, letter);
         Ok(())
     }

@@ -44,7 +44,6 @@ pub struct RotorEntry {
 }
 
 impl RotorEntry {
-    ghost use Rattle.std.specs.Prelude.{◌↔◌, IsTrue};
     ghost use Rattle.kd_state.specs.SheetDay.{IsLegalRotorDay, AreOfAGroup};
     ghost use Rattle.kd_state.specs.Entry.{rotor_values};
 

@@ -1,5 +1,5 @@
-use Rattle.kd_card.proofs.Prelude.{◌≤◌, length, BeginsWith}
-use Rattle.kd_card.proofs.read.read_settings.Given as goal
+use Rattle.kd_state.proofs.Prelude.{BeginsWith, length, ◌≤◌}
+use Rattle.kd_state.proofs.setting.list.split_settings.Given as goal
 
 abbrev pub invariant-loop-setting : goal.invariant-loop-setting
 invariant-loop-setting l = record { begins : BeginsWith l.text l.settings.items l.rest; few : length l.settings.items ≤ 192 }

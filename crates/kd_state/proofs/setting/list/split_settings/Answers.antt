@@ -1,12 +1,12 @@
 use Rattle.kd_state.proofs.{Prelude.{eqb-true, length_push, [], arith, sym, ◌++◌, ◌∙◌, ◌∷◌}, Lines.one_more}
-use Rattle.kd_state.proofs.setting.list.read_list.Goals as goal
+use Rattle.kd_state.proofs.setting.list.split_settings.Goals as goal
 
 pub returns-then-is_full : goal.returns-then-is_full
 returns-then-is_full c =
-    let settings = c.loop-rest.settings.items in
+    let settings = c.loop-setting.settings.items in
     let full = eqb-true _ _ (sym c.is_full.ensures.value ∙ c.if-is_full.true) in (
       settings ++ c.in-Some.setting ∷ [],
       c.in-Some.after.now,
-      one_more c.args.text.now settings c.loop-rest.rest.now c.in-Some.setting c.in-Some.after.now c.loop-rest.invariant.begins c.in-Some.ensures,
+      one_more c.args.text.now settings c.loop-setting.rest.now c.in-Some.setting c.in-Some.after.now c.loop-setting.invariant.begins c.in-Some.ensures,
       omega (arith, full, length_push settings c.in-Some.setting),
     )

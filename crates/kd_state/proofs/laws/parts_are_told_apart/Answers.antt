@@ -1,0 +1,14 @@
+use Rattle.kd_state.proofs.Wheels.{place_within, allowed_in_box, places_tell_wheels, days_wheels_have_their_places}
+use Rattle.kd_state.proofs.{CostTable.tests_tell_letters, Wheels.{same_reflector-Decides, same_wheel-Decides}}
+use Rattle.kd_state.proofs.laws.parts_are_told_apart.Goals as goal
+
+pub returns : goal.returns
+returns c = record {
+  names = same_wheel-Decides;
+  reflectors = same_reflector-Decides;
+  in_box = allowed_in_box;
+  within = place_within;
+  wheels = places_tell_wheels;
+  days = days_wheels_have_their_places;
+  letters = tests_tell_letters;
+}
