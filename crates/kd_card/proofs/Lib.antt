@@ -9,3 +9,4 @@ pub mod Duality
 pub mod Falling
 pub mod Counting
 pub mod Shortest
+pub mod Moving

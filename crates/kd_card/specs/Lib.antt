@@ -7,4 +7,5 @@ pub mod CardFault
 pub mod Reading
 pub mod Proving
 pub mod Loose
+pub mod Moves
 pub mod Laws

@@ -6,7 +6,7 @@ ghost use Rattle.arrayvec.specs.ArrayVec.{array_vec_len};
 use kd_state::{Setting, Settings};
 
 /// Appends a line, if there is one.
-pub fn push_line(settings: &mut Settings, line: Option<Setting>)
+pub(crate) fn push_line(settings: &mut Settings, line: Option<Setting>)
     requires { array_vec_len settings.old + 1 ≤ 192 }
     ensures items { settings.new.items ≡ settings.old.items ++ option_to_list line }
     ensures few { array_vec_len settings.new ≤ array_vec_len settings.old + 1 }
@@ -17,7 +17,7 @@ pub fn push_line(settings: &mut Settings, line: Option<Setting>)
 }
 
 /// Appends one line and then another one, so far as there are.
-pub fn push_two(settings: &mut Settings, lines: (Option<Setting>, Option<Setting>))
+pub(crate) fn push_two(settings: &mut Settings, lines: (Option<Setting>, Option<Setting>))
     requires { array_vec_len settings.old + 2 ≤ 192 }
     ensures items { settings.new.items ≡ settings.old.items ++ (option_to_list lines.0 ++ option_to_list lines.1) }
     ensures few { array_vec_len settings.new ≤ array_vec_len settings.old + 2 }

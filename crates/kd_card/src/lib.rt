@@ -3,6 +3,8 @@
 #![tactic(auto)]
 
 mod appending;
+mod bar_lines;
+mod cable_lines;
 mod card;
 mod carrying;
 mod fault;
@@ -12,6 +14,7 @@ mod kinds;
 pub mod laws;
 mod look;
 mod loose;
+mod paired;
 mod pin_lines;
 mod price_text;
 mod prices;
@@ -19,7 +22,6 @@ mod read;
 mod rotor_lines;
 mod write;
 
-pub use appending::{push_line, push_two};
 pub use card::Card;
 pub use carrying::{IllegalAt, carry_all};
 pub use fault::CardFault;
@@ -27,6 +29,7 @@ pub use group::Group;
 pub use kinds::{BarKind, CableKind, PairKind, PricedKind, RowKind};
 pub use look::Look;
 pub use loose::loose_settings;
+pub use paired::paired_settings;
 pub use prices::{PriceParts, Prices, Version};
 pub use read::read_card;
 pub use write::write_card;

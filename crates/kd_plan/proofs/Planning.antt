@@ -1,67 +1,59 @@
--- How many lines there are, and how many of them the prices speak of: as many as the pairing costs.
-pub mod Pins
-unfoldable pub use Pins.*
+-- The planned lines of a pairing, what they cost, and the card that is made of them.
+pub use Rattle.kd_assign.specs.Assignment.{IsOneToOne, assignment_cost}
+pub use Rattle.kd_assign.specs.Prices.{CostsAtMost, Fits, cost_at, price_at, price_sum, sum_of}
+pub use Rattle.kd_card.proofs.Moving.Rotors.{are_pluggable, rotors_lead}
+pub use Rattle.kd_card.proofs.Moving.{are_movable, pin_counted, pin_machine_leads, rotor_counted}
+pub use Rattle.kd_card.proofs.Shortest.{no_rotors, as_few_are_needed, proving_cards_are_shortest}
+pub use Rattle.kd_card.proofs.{Counting.AreCounted, Duality.{fold_of_both, sum_of as card_sum}}
+pub use Rattle.kd_card.specs.{Moves.planned_lines, Prices.{ArePrices, column_prices, how_many, row_prices}}
+pub use Rattle.kd_card.specs.{Proving.{LeadsToTheDay, AreOfKind, Proves, Same}, declared.prices.PriceParts.PriceParts}
+pub use Rattle.kd_plan.specs.Planned.{IsPlanned, Plans, table_size}
+pub use Rattle.kd_plan.specs.{Due.prices_due, Laws.{PlannedCardsProve, PlannedLinesLead}}
+pub use Rattle.kd_state.proofs.CostTable.{at_most_four, thirteen_columns}
+pub use Rattle.kd_state.specs.Costs.{bar_cost, cable_cost, columns_of, loose_count, lugs_moved, cost_table}
+pub use Rattle.kd_state.specs.declared.machine.parts.Parts.{Parts, TheVariants.{Pin, Rotor}}
+pub use Rattle.kd_state.specs.{Machine.{IsMachine, model_of}, SheetDay.{OfPins, OfRotors, Day, IsLegalDay, day_model}}
+pub use Rattle.std.proofs.Common.{All, AllPairs, Bool, Contains, IsPermutation, List, None, [], ap, arith, cond}
+pub use Rattle.std.proofs.Common.{eqb-true, fold, get_or, length, map, min, nat_eq, refl, replicate, subst, suc, sum_by}
+pub use Rattle.std.proofs.Common.{sym, zero, zip, ℕ, ◌++◌, ◌+◌, ◌-◌, ◌<◌, ◌∙◌, ◌∷◌, ◌≡◌, ◌≢◌, ◌≤◌, pos, remove, ℤ, ◌+ℤ◌}
+pub use Rattle.std.proofs.lemmas.List.Elements.{All-map, recursion_from_All, All-append, All-replicate}
+pub use Rattle.std.proofs.lemmas.List.FromFn.{fill_by_all, get_or-range_with_len, length-range_with_len}
+pub use Rattle.std.proofs.lemmas.List.Quantifiers.{all_pairs_remove}
+pub use Rattle.std.proofs.lemmas.List.Sorted.{Contains-permutation, IsPermutation-cons, IsPermutation-map}
+pub use Rattle.std.proofs.lemmas.List.Sorted.{IsPermutation-refl, IsPermutation-remove, IsPermutation-trans}
+pub use Rattle.std.proofs.lemmas.List.{get_or-map, get_or-replicate, Edits.length-remove}
+pub use Rattle.std.proofs.lemmas.{List.Sums.sum_by-cons, Map.Made.Contains-tail}
+pub use Rattle.std.proofs.{Common.◌≤ℤ◌, lemmas.Grind.common_steps, lemmas.Int.ints}
+pub use Rattle.std.specs.List.{AllByRecursion, range_with_len}
+pub use Rattle.{kd_state.specs.declared.setting.Setting.Setting, kd_tables.specs.declared.place.Place.Place}
+unfoldable pub use Rattle.kd_state.specs.Costs.{standings_as}
 
--- a cable's letters are pulled and put as many as its column costs, and 4 at most
-one_letter : (p q : Bool) → cond {A = ℕ} (p && not q) 1 0 + cond (q && not p) 1 0 ≡ cond (differ p q) 1 0
-one_letter p q = grind arith
+-- as many different ones of some numbers as there are, are all of them in another order
+reordered : (js xs : List ℕ) → AllPairs (λ j k. j ≢ k) js → All (Contains xs) js → length js ≡ length xs
+    → IsPermutation xs js
+reordered [] [] apart among e = IsPermutation-refl []
+reordered [] (x ∷ xs) apart among e = absurd (omega arith)
+reordered (j ∷ js) xs apart among e =
+    let there = among zero j (omega arith) in
+    let rest = remove xs there.0 in
+    let order = IsPermutation-remove xs there.0 j there.1 (sym there.2) in
+    let others = reordered js rest (all_pairs_remove (λ i k. i ≢ k) (j ∷ js) zero (omega arith) apart)
+    (λ k d lt. Contains-tail j rest (get_or js k d) (apart zero (suc k) d (omega arith) (omega arith))
+    (Contains-permutation xs (j ∷ rest) (get_or js k d) order (among (suc k) d (omega arith))))
+    (omega (arith, length-remove xs there.0 there.1)) in
+    IsPermutation-trans xs (j ∷ rest) (j ∷ js) order (IsPermutation-cons j rest js others)
 
-once_among : (p : ℕ → Bool) (x first number : ℕ) → count_by (λ y. nat_eq x y && p y) (range_with_len first number) ≡ cond (nat_le first x && (nat_lt x (first + number) && p x)) 1 0
-once_among p x first zero = grind (arith, nat_tests)
-once_among p x first (suc number) =
-    grind (arith, nat_tests, sum_by-cons (λ y. cond {A = ℕ} (nat_eq x y && p y) 1 0) first (range_with_len (first + 1) number), once_among p x (first + 1) number)
-
-counted_among : (p : ℕ → Bool) (xs : List ℕ) → AreProper xs → count_by (λ y. has_letter xs y && p y) alphabet ≡ count_by p xs
-unfolding IsDistinct
-counted_among p [] h = refl
-counted_among p (x ∷ xs) h =
-    let none = (free_tells xs x).1 h.apart.0 in
-    let first : count_by (λ y. nat_eq x y && p y) alphabet ≡ cond (p x) 1 0 = once_among p x 0 26 ∙ grind (arith, nat_tests, h.within.0) in
-    let rest = counted_among p xs (record { apart = h.apart.1; within = h.within.1 }) in
-    let both = sums_add (λ y. cond (nat_eq x y && p y) 1 0) (λ y. cond (has_letter xs y && p y) 1 0) (λ y. cond ((nat_eq x y || has_letter xs y) && p y) 1 0) (λ y. grind (arith, nat_tests)) alphabet in
-    omega (arith, first, rest, both, sum_by-cons (λ y. cond (p y) 1 0) x xs)
-
-due_counted : (p : ℕ → Bool) (column : Option (ℕ × ℕ)) → count_by p (letters_due column) ≡ count_by p (column_letters column)
-due_counted p column = grind (arith, sum_by-cons)
-
-abbrev moved : Direction → Beside → ℕ
-moved Out z = length (letters_apart (cable_letters z.0) (column_letters z.1))
-moved In z = length (letters_apart (letters_due z.1) (cable_letters z.0))
-
-counted_moves : (direction : Direction) (number : ℕ) (z : Beside) → AreCounted (moves_of direction number z) 0 (moved direction z)
-counted_moves Out number z = grind arith
-counted_moves In number z = grind arith
-
-cable_lines : {pairs : List (ℕ × ℕ)} (z : Beside) → IsPluggable pairs z → moved Out z + moved In z ≡ cable_cost z.0 z.1
-cable_lines z h =
-    let held = has_letter (cable_letters z.0) in
-    let due = has_letter (column_letters z.1) in
-    let pulled = length-filter (λ l. not (due l)) (cable_letters z.0) in
-    let put = length-filter (λ l. not (held l)) (letters_due z.1) ∙ due_counted (λ l. not (held l)) z.1 in
-    let out = counted_among (λ l. not (due l)) (cable_letters z.0) h.held in
-    let into = counted_among (λ l. not (held l)) (column_letters z.1) h.due in
-    omega (arith, sums_add _ _ _ (λ l. one_letter (held l) (due l)) alphabet)
-
-cable_sums : (pairs : List (ℕ × ℕ)) (zs : List Beside) → AllByRecursion (IsPluggable pairs) zs
-    → sum_by (moved Out) zs + sum_by (moved In) zs ≡ sum_by (λ z. cable_cost z.0 z.1) zs
-cable_sums pairs [] h = refl
-cable_sums pairs (z ∷ zs) h =
-    let here = sum_by-cons (λ (z : Beside). cable_cost z.0 z.1) z zs in
-    omega (arith, sum_by-cons (moved Out) z zs, sum_by-cons (moved In) z zs, here, cable_lines z h.0, cable_sums pairs zs h.1)
-
--- a bar's lines are as many as lugs are moved, in either order
-counted_both : (first a b : Bool) (x y : Setting) → is_priced x ≡ true → is_priced y ≡ true
-    → let one = option_to_list (unless_so a x) in
-    let other = option_to_list (unless_so b y) in AreCounted (cond first (one ++ other) (other ++ one)) 0 (unless_same a + unless_same b)
-counted_both first a b x y e d = grind arith
-
-counted_lines : (zs : List BarRow) (number : ℕ) → AllByRecursion IsMovable zs
-    → AreCounted (lines_from lugs_of number zs) 0 (sum_by (λ z. bar_cost z.0 z.1) zs)
-unfolding lugs_to
-counted_lines [] number h = record { count = refl; priced = refl }
-counted_lines (z ∷ zs) number h =
-    rw sum_by-cons (counted-append _ _ (subst (AreCounted (lugs_of number z) 0) (is_target z.0 z.1 h.0.reading).1
-    (counted_both _ _ _ _ _ refl refl)) (counted_lines zs (number + 1) h.1))
+-- what stands at the places of a pairing is the whole list, in another order
+pub paired : {X : Type 0} (d : X) (xs : List X) (to : List ℕ) → length to ≡ length xs → IsOneToOne to → IsPermutation xs (map (λ j. get_or xs j d) to)
+paired d xs to size h =
+    let places = range_with_len 0 (length xs) in
+    let many = length-range_with_len 0 (length xs) in
+    let within : (k e : ℕ) → k < length to → get_or to k e < length xs = λ k e lt. omega (arith, h.in_range k e lt) in
+    let order = reordered to places h.distinct
+    (λ k e lt. (get_or to k e, omega (arith, within k e lt), get_or-range_with_len 0 (length xs) (get_or to k e) (get_or to k e) (within k e lt) ∙ omega arith))
+    (omega arith) in
+    subst (λ all. IsPermutation all (map (λ j. get_or xs j d) to)) (sym (fill_by_all (λ j. get_or xs j d) xs (length xs) d refl (λ k lt. refl)))
+    (IsPermutation-map (λ j. get_or xs j d) places to order)
 
 least_at_most : (n : ℕ) (xs : List ℕ) → fold min n xs ≤ n
 least_at_most n [] = omega arith
@@ -79,26 +71,6 @@ table_cost cost columns d (x ∷ all) (j ∷ to) size within =
     simp sum_by-cons (omega (arith, get_or-map (cost x) columns j d 0 within.0, table_cost cost columns d all to (omega arith) within.1))
 table_cost cost columns d _ _ size within = absurd (omega arith)
 
--- all planned lines, of a rotor machine and of a Converter M-209
-rotor_counted : (m : RotorParts) (s : RotorDay) (to : List ℕ) → IsLegalRotorDay s → m.model ≡ s.model
-    → AllByRecursion (IsPluggable s.pairs) (besides m.cables s.pairs to)
-    → AreCounted (planned_lines (Rotor m) (OfRotors s) to) (loose_count (Rotor m) (OfRotors s))
-    (sum_by (λ z. cable_cost z.0 z.1) (besides m.cables s.pairs to))
-rotor_counted m s to legal same pluggable =
-    let cables = besides m.cables s.pairs to in
-    let loose = all_counted (Rotor m) (OfRotors s) legal same in
-    let moves = λ (direction : Direction). counted_each (moves_of direction) (λ z. 0) (moved direction) cables 1 (λ k n z e at. counted_moves direction n z) in
-    let all = simp sum_none at (counted-append _ _ (counted-append _ _ loose (moves Out)) (moves In)) in
-    let sums = cable_sums s.pairs cables pluggable in
-    record { count = omega (arith, all.count, sums); priced = omega (arith, all.priced, sums) }
-
-pin_counted : (m : PinParts) (s : PinDay) (to : List ℕ) → IsLegalPinDay s → AllByRecursion IsMovable (bars_beside m.bars s.rows to)
-    → AreCounted (planned_lines (Pin m) (OfPins s) to) (loose_count (Pin m) (OfPins s))
-    (sum_by (λ z. bar_cost z.0 z.1) (bars_beside m.bars s.rows to))
-pin_counted m s to legal movable =
-    let all = counted-append _ _ (all_counted (Pin m) (OfPins s) legal refl) (counted_lines (bars_beside m.bars s.rows to) 1 movable) in
-    record { count = omega (arith, all.count); priced = omega (arith, all.priced) }
-
 -- ---- the planned lines of any pairing lead to the day, and a planned card proves itself.
 -- What the lines lead to, and how many of them there are.
 good : (m : Parts) (s : Day) (to : List ℕ) → IsMachine m → IsLegalDay s → model_of m ≡ day_model s → length to ≡ table_size m → IsOneToOne to
@@ -106,13 +78,15 @@ good : (m : Parts) (s : Day) (to : List ℕ) → IsMachine m → IsLegalDay s �
 good (Rotor m) (OfRotors s) to machine legal same count one_to_one =
     let within = recursion_from_All (λ j. j < length (columns_of s.pairs)) to (λ k d lt. omega (arith, one_to_one.in_range k d lt, count, thirteen_columns s.pairs legal.pairs.few)) in
     let cost = table_cost cable_cost (columns_of s.pairs) None m.cables to (machine.legal.cables.count ∙ sym count) within in
-    let counted = rotor_counted m s to legal same (are_pluggable m s machine legal same to count one_to_one) in
-    (rotors_lead m s machine legal same to count one_to_one, rw cost counted)
+    let order = paired None (columns_of s.pairs) to (count ∙ sym (thirteen_columns s.pairs legal.pairs.few)) one_to_one in
+    let counted = rotor_counted m s to legal same (are_pluggable m s machine legal same to count order) in
+    (rotors_lead m s machine legal same to count order, rw cost counted)
 good (Pin m) (OfPins s) to machine legal same count one_to_one =
     let within = recursion_from_All (λ j. j < length s.rows) to (λ k d lt. omega (arith, one_to_one.in_range k d lt, count, legal.count)) in
     let cost = table_cost bar_cost s.rows (0, 0) m.bars to (machine.legal.bars ∙ sym count) within in
-    let counted = pin_counted m s to legal (are_movable m s to machine legal count one_to_one) in
-    (pin_machine_leads m s to machine legal count one_to_one, rw cost counted)
+    let order = paired (0, 0) s.rows to (count ∙ sym legal.count) one_to_one in
+    let counted = pin_counted m s to legal (are_movable m s machine legal to count within order) in
+    (pin_machine_leads m s machine legal to count within order, rw cost counted)
 good (Rotor m) (OfPins s) to machine legal same count one_to_one = absurd (no_rotors m.model m.reflector same machine.legal.reflector)
 good (Pin m) (OfRotors s) to machine legal same count one_to_one = absurd (no_rotors s.model s.reflector (sym same) legal.reflector)
 
@@ -161,11 +135,6 @@ pub table_at_most : {A B : Type 0} (cost : A → B → ℕ) (most : ℕ) → mos
 table_at_most cost most few h costs xs ys e =
     rw e (All-map (All (λ c. c ≤ 4)) (λ x. map (cost x) ys) xs
     (λ k d lt. All-map (λ c. c ≤ 4) (cost _) ys (λ j e lt'. omega (arith, few, h (get_or xs k d) (get_or ys j e)))))
-
--- two letters, each of which is put unless it is held
-pub two_put : (held : ℕ → Bool) (n x y : ℕ) → option_to_list (unless_so (held x) (Put n x)) ++ option_to_list (unless_so (held y) (Put n y))
-    ≡ map (λ letter. Put n letter) (filter (λ letter. not (held letter)) (x ∷ y ∷ []))
-two_put held n x y = grind arith
 
 pub planned : (m : Parts) (s : Day) (costs : List (List ℕ)) (to : List ℕ) (settings : List Setting) (prices : PriceParts) (total : ℕ) (rows columns : List ℤ)
     → model_of m ≡ day_model s → costs ≡ cost_table m s → AreOfKind m prices → length to ≡ table_size m → IsOneToOne to → settings ≡ planned_lines m s to

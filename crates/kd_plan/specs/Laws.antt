@@ -7,7 +7,8 @@ use Rattle.kd_state.specs.SheetDay.{Day, IsLegalDay, day_model}
 use Rattle.kd_card.specs.declared.prices.PriceParts.{PriceParts}
 use Rattle.kd_card.specs.Proving.{LeadsToTheDay, ProvesByNumber}
 use Rattle.kd_assign.specs.Assignment.{IsOneToOne}
-use Rattle.kd_plan.specs.Planned.{IsPlanned, planned_lines, table_size}
+use Rattle.kd_card.specs.Moves.{planned_lines}
+use Rattle.kd_plan.specs.Planned.{IsPlanned, table_size}
 
 -- the planned lines of any pairing, carried out one after another, every line legal, lead the machine to the day
 abbrev pub PlannedLinesLead : Type 0

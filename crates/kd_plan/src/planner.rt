@@ -1,17 +1,13 @@
-ghost use Rattle.std.specs.Prelude.{◌≡◌, ◌≢◌, ◌+◌, ◌<◌, ◌≤◌, IfOk, IsErr, MatchOption, ◌↔◌, length};
-ghost use Rattle.std.specs.List.{AllByRecursion};
+ghost use Rattle.std.specs.Prelude.{◌≡◌, ◌≢◌, ◌<◌, IfOk, IsErr, MatchOption, ◌↔◌};
 ghost use Rattle.kd_state.specs.Machine.{IsMachine, model_of};
 ghost use Rattle.kd_state.specs.SheetDay.{OfRotors, OfPins, IsLegalDay, day_model};
 ghost use Rattle.kd_state.specs.Entry.{rotor_values, pin_values};
-ghost use Rattle.kd_plan.specs.Planned.{planned_lines, IsPlanned, Plans};
+ghost use Rattle.kd_plan.specs.Planned.{IsPlanned, Plans};
 
-use super::bar_lines::push_lugs;
-use super::cable_lines::{Direction, push_moves};
 use super::card_prices::prices_due;
 use super::other_model::OtherModel;
-use arrayvec::ArrayVec;
 use kd_assign::{Solution, assign};
-use kd_card::{Card, Prices, Version, loose_settings};
+use kd_card::{Card, Prices, Version, paired_settings};
 use kd_state::{
     Machine, OneModel, Parts, PinEntry, PinParts, RotorEntry, RotorParts, SheetDay, bar_costs,
     cable_costs,
@@ -52,8 +48,7 @@ fn rotor_card(machine: &Machine, day: &SheetDay, parts: &RotorParts, entry: &Rot
     requires model { model_of machine.now ≡ day_model day.now }
     ensures { IsPlanned machine.now day.now result.settings.items result.prices }
 {
-    let pairs = entry.pairs.as_slice();
-    let costs = cable_costs(&parts.cables, pairs);
+    let costs = cable_costs(&parts.cables, entry.pairs.as_slice());
     let Solution {
         to,
         row,
@@ -62,9 +57,7 @@ fn rotor_card(machine: &Machine, day: &SheetDay, parts: &RotorParts, entry: &Rot
         ..
     } = assign(&costs);
     let prices = Prices::cables(prices_due(total, row), prices_due(total, col)).unwrap();
-    let mut settings = loose_settings(machine, day);
-    push_moves(&mut settings, Direction::Out, 1, &parts.cables, pairs, &to);
-    push_moves(&mut settings, Direction::In, 1, &parts.cables, pairs, &to);
+    let settings = paired_settings(machine, day, &to);
     Card { settings, prices }
 }
 
@@ -85,7 +78,6 @@ fn pin_card(machine: &Machine, day: &SheetDay, parts: &PinParts, entry: &PinEntr
         ..
     } = assign(&costs);
     let prices = Prices::bars(prices_due(total, row), prices_due(total, col)).unwrap();
-    let mut settings = loose_settings(machine, day);
-    push_lugs(&mut settings, 1, &parts.bars, &entry.rows, &to);
+    let settings = paired_settings(machine, day, &to);
     Card { settings, prices }
 }

@@ -5,6 +5,6 @@ pub assign-total-requires : goal.assign-total-requires
 assign-total-requires c =
     grind (arith, table_at_most bar_cost 2 (omega arith) bar_cost_at_most _ _ _ c.bar_costs-costs.ensures)
 
-pub push_lugs-requires-clause-within : goal.push_lugs-requires-clause-within
-push_lugs-requires-clause-within c =
+pub paired_settings-settings-requires-clause-within : goal.paired_settings-settings-requires-clause-within
+paired_settings-settings-requires-clause-within c =
     recursion_from_All (λ j. j < 27) _ (λ k d lt. omega (arith, c.assign-total.ensures.one_to_one.in_range k d lt))

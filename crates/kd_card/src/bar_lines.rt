@@ -5,9 +5,9 @@ ghost use Rattle.std.specs.Option.{option_to_list};
 ghost use Rattle.arrayvec.specs.ArrayVec.{array_vec_len};
 ghost use Rattle.kd_state.specs.Setting.{is_at};
 ghost use Rattle.kd_card.specs.Loose.{unless_so, lines_from};
-ghost use Rattle.kd_plan.specs.Planned.{lugs_to, lugs_of, bars_beside, target_of};
+ghost use Rattle.kd_card.specs.Moves.{lugs_to, lugs_of, bars_beside, target_of};
 
-use kd_card::push_two;
+use super::appending::push_two;
 use kd_state::{Setting, Settings, nearest_standing};
 use kd_tables::{Lug, Place, Reading, Standing};
 
@@ -47,7 +47,7 @@ fn target_at(bar: Standing, rows: &[Reading; 27], place: u8) -> Standing
 
 /// LUG for each lug of a bar that has to move. The left lug goes first where its target lies before the right lug's present
 /// place: else it would have to pass the right one.
-#[tactic(auto, unfolding(crate::specs::Planned::lugs_to))]
+#[tactic(auto, unfolding(crate::specs::Moves::lugs_to))]
 fn lugs(number: u8, bar: Standing, target: Standing) -> (Option<Setting>, Option<Setting>)
     ensures { option_to_list result.0 ++ option_to_list result.1 ≡ lugs_to number bar target }
 {

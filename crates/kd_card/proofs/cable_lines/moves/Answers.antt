@@ -1,5 +1,5 @@
-use Rattle.kd_plan.proofs.Planning.{cable_letters, has_letter, two_put}
-use Rattle.kd_plan.proofs.cable_lines.moves.Goals as goal
+use Rattle.kd_card.proofs.Moving.{cable_letters, has_letter, two_put}
+use Rattle.kd_card.proofs.cable_lines.moves.Goals as goal
 
 pub returns-in-Some : goal.returns-in-Some
 returns-in-Some c =

@@ -1,4 +1,4 @@
--- PIN, TURN and LUG, and that all lines of a Converter M-209 lead to the day.
+-- PIN, TURN and LUG, and that all lines of a Converter M-209 lead to the day; and how many lines there are.
 pub mod Rotors
 unfoldable pub use Rotors.*
 
@@ -198,7 +198,8 @@ movable (bar ∷ bars) rows [] stand reading within = tt
 movable (bar ∷ bars) rows (j ∷ to) stand reading within =
     (record { stands = stand.0; reading = reading j (0, 0) within.0 }, movable bars rows to stand.1 reading within.1)
 
-module _ (m : PinParts) (s : PinDay) (to : List ℕ) (machine : IsMachine (Pin m)) (legal : IsLegalPinDay s) (count : length to ≡ 27) (one_to_one : IsOneToOne to) where
+module _ (m : PinParts) (s : PinDay) (machine : IsMachine (Pin m)) (legal : IsLegalPinDay s) (to : List ℕ) (count : length to ≡ 27)
+    (within : AllByRecursion (λ j. j < length s.rows) to) (order : IsPermutation s.rows (map (λ j. get_or s.rows j (0, 0)) to)) where
   abbrev after_turns : PinParts
   after_turns = record m { pins = s.pins; letters = s.window }
 
@@ -211,15 +212,12 @@ module _ (m : PinParts) (s : PinDay) (to : List ℕ) (machine : IsMachine (Pin m
   sizes : length chosen ≡ length m.bars
   sizes = length-map to (λ j. get_or s.rows j (0, 0)) ∙ count ∙ sym machine.legal.bars
 
-  same_size : length to ≡ length s.rows
-  same_size = count ∙ sym legal.count
-
   pub are_movable : AllByRecursion IsMovable zs
-  are_movable = grind (arith, movable, recursion_from_All, same_size)
+  are_movable = grind (arith, movable, recursion_from_All, within)
 
   rows_are : IsPermutation (map (λ (bar : Place × Place). reading_of bar.0 bar.1) (map to_stand zs)) s.rows
   rows_are =
-      rw (rows_read zs are_movable ∙ seconds-zip m.bars chosen sizes) (IsPermutation-sym s.rows chosen (paired (0, 0) s.rows to same_size one_to_one))
+      rw (rows_read zs are_movable ∙ seconds-zip m.bars chosen sizes) (IsPermutation-sym s.rows chosen order)
 
   pub pin_machine_leads : LeadsToTheDay (Pin m) (OfPins s) (planned_lines (Pin m) (OfPins s) to)
   pin_machine_leads =
@@ -227,3 +225,90 @@ module _ (m : PinParts) (s : PinDay) (to : List ℕ) (machine : IsMachine (Pin m
       let turns = turns_lead (record m { pins = s.pins }) s.window machine.legal.letters.count legal.window in
       let lugs = lugs_lead after_turns zs (firsts-zip m.bars chosen sizes) are_movable in
       (with_bars after_turns (map to_stand zs), (led_append _ _ (led_append _ _ pins turns) lugs).leads, record { key = record { pins = refl; rows = rows_are }; window = refl })
+
+-- ---- how many lines there are, and how many of them the prices speak of: as many as the pairing costs.
+-- a cable's letters are pulled and put as many as its column costs, and 4 at most
+one_letter : (p q : Bool) → cond {A = ℕ} (p && not q) 1 0 + cond (q && not p) 1 0 ≡ cond (differ p q) 1 0
+one_letter p q = grind arith
+
+once_among : (p : ℕ → Bool) (x first number : ℕ) → count_by (λ y. nat_eq x y && p y) (range_with_len first number) ≡ cond (nat_le first x && (nat_lt x (first + number) && p x)) 1 0
+once_among p x first zero = grind (arith, nat_tests)
+once_among p x first (suc number) =
+    grind (arith, nat_tests, sum_by-cons (λ y. cond {A = ℕ} (nat_eq x y && p y) 1 0) first (range_with_len (first + 1) number), once_among p x (first + 1) number)
+
+counted_among : (p : ℕ → Bool) (xs : List ℕ) → AreProper xs → count_by (λ y. has_letter xs y && p y) alphabet ≡ count_by p xs
+unfolding IsDistinct
+counted_among p [] h = refl
+counted_among p (x ∷ xs) h =
+    let none = (free_tells xs x).1 h.apart.0 in
+    let first : count_by (λ y. nat_eq x y && p y) alphabet ≡ cond (p x) 1 0 = once_among p x 0 26 ∙ grind (arith, nat_tests, h.within.0) in
+    let rest = counted_among p xs (record { apart = h.apart.1; within = h.within.1 }) in
+    let both = sums_add (λ y. cond (nat_eq x y && p y) 1 0) (λ y. cond (has_letter xs y && p y) 1 0) (λ y. cond ((nat_eq x y || has_letter xs y) && p y) 1 0) (λ y. grind (arith, nat_tests)) alphabet in
+    omega (arith, first, rest, both, sum_by-cons (λ y. cond (p y) 1 0) x xs)
+
+due_counted : (p : ℕ → Bool) (column : Option (ℕ × ℕ)) → count_by p (letters_due column) ≡ count_by p (column_letters column)
+due_counted p column = grind (arith, sum_by-cons)
+
+abbrev moved : Direction → Beside → ℕ
+moved Out z = length (letters_apart (cable_letters z.0) (column_letters z.1))
+moved In z = length (letters_apart (letters_due z.1) (cable_letters z.0))
+
+counted_moves : (direction : Direction) (number : ℕ) (z : Beside) → AreCounted (moves_of direction number z) 0 (moved direction z)
+counted_moves Out number z = grind arith
+counted_moves In number z = grind arith
+
+cable_lines : {pairs : List (ℕ × ℕ)} (z : Beside) → IsPluggable pairs z → moved Out z + moved In z ≡ cable_cost z.0 z.1
+cable_lines z h =
+    let held = has_letter (cable_letters z.0) in
+    let due = has_letter (column_letters z.1) in
+    let pulled = length-filter (λ l. not (due l)) (cable_letters z.0) in
+    let put = length-filter (λ l. not (held l)) (letters_due z.1) ∙ due_counted (λ l. not (held l)) z.1 in
+    let out = counted_among (λ l. not (due l)) (cable_letters z.0) h.held in
+    let into = counted_among (λ l. not (held l)) (column_letters z.1) h.due in
+    omega (arith, sums_add _ _ _ (λ l. one_letter (held l) (due l)) alphabet)
+
+cable_sums : (pairs : List (ℕ × ℕ)) (zs : List Beside) → AllByRecursion (IsPluggable pairs) zs
+    → sum_by (moved Out) zs + sum_by (moved In) zs ≡ sum_by (λ z. cable_cost z.0 z.1) zs
+cable_sums pairs [] h = refl
+cable_sums pairs (z ∷ zs) h =
+    let here = sum_by-cons (λ (z : Beside). cable_cost z.0 z.1) z zs in
+    omega (arith, sum_by-cons (moved Out) z zs, sum_by-cons (moved In) z zs, here, cable_lines z h.0, cable_sums pairs zs h.1)
+
+-- a bar's lines are as many as lugs are moved, in either order
+counted_both : (first a b : Bool) (x y : Setting) → is_priced x ≡ true → is_priced y ≡ true
+    → let one = option_to_list (unless_so a x) in
+    let other = option_to_list (unless_so b y) in AreCounted (cond first (one ++ other) (other ++ one)) 0 (unless_same a + unless_same b)
+counted_both first a b x y e d = grind arith
+
+counted_lines : (zs : List BarRow) (number : ℕ) → AllByRecursion IsMovable zs
+    → AreCounted (lines_from lugs_of number zs) 0 (sum_by (λ z. bar_cost z.0 z.1) zs)
+unfolding lugs_to
+counted_lines [] number h = record { count = refl; priced = refl }
+counted_lines (z ∷ zs) number h =
+    rw sum_by-cons (counted-append _ _ (subst (AreCounted (lugs_of number z) 0) (is_target z.0 z.1 h.0.reading).1
+    (counted_both _ _ _ _ _ refl refl)) (counted_lines zs (number + 1) h.1))
+
+-- all planned lines, of a rotor machine and of a Converter M-209
+pub rotor_counted : (m : RotorParts) (s : RotorDay) (to : List ℕ) → IsLegalRotorDay s → m.model ≡ s.model
+    → AllByRecursion (IsPluggable s.pairs) (besides m.cables s.pairs to)
+    → AreCounted (planned_lines (Rotor m) (OfRotors s) to) (loose_count (Rotor m) (OfRotors s))
+    (sum_by (λ z. cable_cost z.0 z.1) (besides m.cables s.pairs to))
+rotor_counted m s to legal same pluggable =
+    let cables = besides m.cables s.pairs to in
+    let loose = all_counted (Rotor m) (OfRotors s) legal same in
+    let moves = λ (direction : Direction). counted_each (moves_of direction) (λ z. 0) (moved direction) cables 1 (λ k n z e at. counted_moves direction n z) in
+    let all = simp sum_none at (counted-append _ _ (counted-append _ _ loose (moves Out)) (moves In)) in
+    let sums = cable_sums s.pairs cables pluggable in
+    record { count = omega (arith, all.count, sums); priced = omega (arith, all.priced, sums) }
+
+pub pin_counted : (m : PinParts) (s : PinDay) (to : List ℕ) → IsLegalPinDay s → AllByRecursion IsMovable (bars_beside m.bars s.rows to)
+    → AreCounted (planned_lines (Pin m) (OfPins s) to) (loose_count (Pin m) (OfPins s))
+    (sum_by (λ z. bar_cost z.0 z.1) (bars_beside m.bars s.rows to))
+pin_counted m s to legal movable =
+    let all = counted-append _ _ (all_counted (Pin m) (OfPins s) legal refl) (counted_lines (bars_beside m.bars s.rows to) 1 movable) in
+    record { count = omega (arith, all.count); priced = omega (arith, all.priced) }
+
+-- two letters, each of which is put unless it is held
+pub two_put : (held : ℕ → Bool) (n x y : ℕ) → option_to_list (unless_so (held x) (Put n x)) ++ option_to_list (unless_so (held y) (Put n y))
+    ≡ map (λ letter. Put n letter) (filter (λ letter. not (held letter)) (x ∷ y ∷ []))
+two_put held n x y = grind arith

@@ -1,101 +1,58 @@
 -- Settings carried out one after another; SEAT, REFLECTOR, RING, TURN, PULL and PUT; and that all lines of a rotor
 -- machine lead to the day.
-pub use Rattle.kd_assign.specs.Assignment.{IsOneToOne, assignment_cost}
-pub use Rattle.kd_assign.specs.Prices.{CostsAtMost, Fits, cost_at, price_at, price_sum, sum_of}
-pub use Rattle.kd_card.proofs.{Counts.once_of_distinct, Counts.times, Duality.fold_of_both, Duality.sum_of as card_sum}
 pub use Rattle.kd_card.proofs.Counting.{AreCounted, all_counted, beside_each, counted-append, counted_each, in_box}
-pub use Rattle.kd_card.proofs.Counting.{lines_of_each, sum_none, sums_add}
-pub use Rattle.kd_card.proofs.{Leading.leads_join, Shortest.as_few_are_needed, Shortest.no_rotors}
-pub use Rattle.kd_card.proofs.Shortest.{proving_cards_are_shortest}
-pub use Rattle.kd_card.specs.Prices.{ArePrices, column_prices, how_many, row_prices}
-pub use Rattle.kd_card.specs.Proving.{AreOfKind, LeadsToTheDay, Proves, Same, is_priced, priced_count}
-pub use Rattle.{kd_card.specs.declared.prices.PriceParts.PriceParts, kd_enigma.specs.Plugs.letters_plugged}
-pub use Rattle.kd_pins.specs.{PinWheels.pins_of, declared.pin_set.PinSet.PinSet}
-pub use Rattle.kd_plan.specs.{Due.prices_due, Laws.PlannedCardsProve, Laws.PlannedLinesLead}
+pub use Rattle.kd_card.proofs.{Counting.{lines_of_each, sum_none, sums_add}, Counts.{once_of_distinct, times}}
 pub use Rattle.kd_card.specs.Loose.{lines_from, pin_lines, pin_of, pin_turn_lines, pin_turn_of, reflector_lines}
 pub use Rattle.kd_card.specs.Loose.{ring_lines, ring_of_wheel, seat_lines, seat_of, turn_lines, turn_of, unless_so}
-pub use Rattle.kd_card.specs.Loose.{wheel_pin_lines}
-pub use Rattle.kd_plan.specs.Planned.{IsPlanned, Plans, bars_beside, besides, letters_apart, letters_due, lugs_of}
-pub use Rattle.kd_plan.specs.Planned.{moves_of, planned_lines, table_size, target_of}
-pub use Rattle.kd_plan.specs.declared.cable_lines.Direction.{Direction, TheVariants.In, TheVariants.Out}
-pub use Rattle.kd_state.proofs.{Cables.free_tells, CostTable.at_most_four, CostTable.columns_are_the_pairs}
-pub use Rattle.kd_state.proofs.CostTable.{no_zero, one_zero, tests_tell_letters, thirteen_columns, zeros}
+pub use Rattle.kd_card.specs.Moves.{bars_beside, besides, letters_apart, letters_due, lugs_of, moves_of, planned_lines}
+pub use Rattle.kd_card.specs.declared.cable_lines.Direction.TheVariants.{In, Out}
+pub use Rattle.kd_card.specs.{Proving.{LeadsToTheDay, is_priced}, declared.cable_lines.Direction.Direction}
+pub use Rattle.kd_card.{proofs.Leading.leads_join, specs.Loose.wheel_pin_lines, specs.Moves.target_of}
+pub use Rattle.kd_state.proofs.CostTable.{columns_are_the_pairs, no_zero, one_zero, tests_tell_letters, zeros}
 pub use Rattle.kd_state.proofs.Slots.{has_letter-Decides, is_some-place_on, set_here, set_other}
-pub use Rattle.kd_state.proofs.Wheels.{allowed_in_box, days_wheels_have_their_places, has_reflector-Decides}
-pub use Rattle.kd_state.proofs.Wheels.{has_wheel-Decides, place_within, same_reflector-Decides, same_wheel-Decides}
-pub use Rattle.kd_state.proofs.{Telling.letters_have_places, Wheels.{same_wheel_differs, same_wheel_self}}
-pub use Rattle.kd_state.specs.Costs.{bar_cost, cable_cost, column_letters, columns_of, cost_table, differ, loose_count}
-pub use Rattle.kd_state.specs.Costs.{loose_rings, lugs_moved, reads_as_row, unless_same}
-pub use Rattle.kd_state.specs.{Entry.rotor_values, Machine.AreOnWheels, Machine.HasAllPins}
-pub use Rattle.kd_state.specs.Machine.{IsMachine, StandsAt, cable_letters, model_of, plugged_letters, ring_at}
-pub use Rattle.kd_state.specs.OnKey.{AreThePairs, IsPaired, Joins, OnKey}
-pub use Rattle.kd_state.specs.{Pins.pin_set, Pins.with_pin, Setting.Leads, Setting.cable_with, Setting.cable_without}
-pub use Rattle.kd_state.specs.Setting.{changed, has_letter, is_at, lug_place, why_refused, with_lug, without}
-pub use Rattle.kd_state.specs.SheetDay.{AreSeated, Day, IsLegalDay, IsLegalPinDay, IsLegalRotorDay, OfPins, OfRotors}
-pub use Rattle.kd_state.specs.SheetDay.{PinDay, RotorDay, day_model, seats}
-pub use Rattle.kd_state.specs.ToldApart.{has_wheel, numbered, place_in_box, same_reflector, same_wheel}
-pub use Rattle.kd_state.specs.declared.machine.parts.Parts.{Parts, TheVariants.Pin, TheVariants.Rotor}
-pub use Rattle.kd_state.specs.declared.machine.{pin_parts.PinParts.PinParts, rotor_parts.RotorParts.RotorParts}
-pub use Rattle.kd_state.specs.declared.setting.Setting.{Setting, TheVariants.{LugTo, Put, SeatReflector}}
+pub use Rattle.kd_state.proofs.Wheels.{days_wheels_have_their_places, has_reflector-Decides, has_wheel-Decides}
+pub use Rattle.kd_state.proofs.Wheels.{place_within, same_reflector-Decides, same_wheel-Decides, same_wheel_differs}
+pub use Rattle.kd_state.proofs.{Telling.letters_have_places, Wheels.same_wheel_self}
+pub use Rattle.kd_state.specs.Costs.{bar_cost, cable_cost, column_letters, columns_of, differ, loose_count, lugs_moved}
+pub use Rattle.kd_state.specs.Machine.{AreOnWheels, HasAllPins, IsMachine, StandsAt, cable_letters, plugged_letters}
+pub use Rattle.kd_state.specs.Setting.{Leads, cable_with, cable_without, changed, has_letter, is_at, lug_place}
+pub use Rattle.kd_state.specs.SheetDay.{AreSeated, IsLegalPinDay, IsLegalRotorDay, OfPins, OfRotors, PinDay, RotorDay}
+pub use Rattle.kd_state.specs.declared.machine.{parts.Parts.TheVariants.{Pin, Rotor}, pin_parts.PinParts.PinParts}
+pub use Rattle.kd_state.specs.declared.setting.Setting.TheVariants.{LugTo, Put}
 pub use Rattle.kd_state.specs.declared.sheet_day.rotor_entry.SheetWheel.{SheetWheel}
+pub use Rattle.kd_state.specs.declared.{machine.rotor_parts.RotorParts.RotorParts, setting.Setting.Setting}
+pub use Rattle.kd_state.specs.{Costs.{reads_as_row, unless_same}, Machine.ring_at}
+pub use Rattle.kd_state.specs.{OnKey.{AreThePairs, IsPaired, Joins, OnKey}, Pins.{pin_set, with_pin}}
+pub use Rattle.kd_state.specs.{Setting.{why_refused, with_lug, without}, SheetDay.seats}
+pub use Rattle.kd_state.specs.{ToldApart.{has_wheel, place_in_box, same_wheel}, declared.machine.parts.Parts.Parts}
 pub use Rattle.kd_tables.specs.Permutation.{alphabet}
-pub use Rattle.kd_tables.specs.Places.{IsBefore, IsReading, place_rank, places, reading_of, standings}
-pub use Rattle.kd_tables.specs.{Rings.place_on, Tables.IsAllowed, Tables.box_of, Tables.reflectors_of, Tables.slots_of}
-pub use Rattle.kd_tables.specs.declared.lug.Lug.{Lug, TheVariants.Left, TheVariants.Right}
-pub use Rattle.kd_tables.specs.declared.{model.Model.Model, place.Place.Place, place.Place.TheVariants.One}
-pub use Rattle.kd_tables.specs.declared.{reflector.Reflector.Reflector, wheel.Wheel.Wheel}
+pub use Rattle.kd_tables.specs.declared.{lug.Lug.TheVariants.{Left, Right}, model.Model.Model, place.Place.Place}
+pub use Rattle.kd_tables.specs.declared.{place.Place.TheVariants.One, reflector.Reflector.Reflector, wheel.Wheel.Wheel}
+pub use Rattle.kd_tables.specs.{Places.{IsBefore, IsReading, place_rank, places, reading_of, standings}, Rings.place_on}
+pub use Rattle.kd_tables.specs.{Tables.{IsAllowed, box_of, reflectors_of}, declared.lug.Lug.Lug}
 pub use Rattle.std.proofs.Common.{All, AllPairs, Any, Bool, Contains, IsPermutation, List, None, Option, Some, [], ap}
 pub use Rattle.std.proofs.Common.{append_assoc, arith, cond, count_by, drop, drop-cons, eqb-true, false, filter, find}
-pub use Rattle.std.proofs.Common.{flat_map, fold, get_or, inl, inr, is_some, length, length-append, ltb-false, ltb-true}
-pub use Rattle.std.proofs.Common.{map, max, min, nat_eq, nat_le, nat_lt, not, option_to_list, pos, refl, remove}
-pub use Rattle.std.proofs.Common.{replicate, set, slice_get, subst, suc, sum_by, sym, take, true, unwrap_or, zero, zip}
-pub use Rattle.std.proofs.Common.{ℕ, ℤ, ◌&&◌, ◌++◌, ◌+ℤ◌, ◌+◌, ◌-◌, ◌<◌, ◌||◌, ◌∙◌, ◌∷◌, ◌≡◌, ◌≢◌, ◌≤ℤ◌, ◌≤◌}
-pub use Rattle.std.proofs.lemmas.Bool.{cases_eq, cond_both, Decides.nat_tests}
-pub use Rattle.std.proofs.lemmas.{Grind.common_steps, Grind.flat_map-append, Int.ints, List.append-nil}
-pub use Rattle.std.proofs.lemmas.List.{get_or-map, get_or-replicate, get_or_at, length-map, length-set}
-pub use Rattle.std.proofs.lemmas.List.{map-append, set-get_or, set_at, take-append-drop, Edits.length-remove}
-pub use Rattle.std.proofs.lemmas.List.Elements.{All-append, All-filter, All-from_recursion, All-map}
-pub use Rattle.std.proofs.lemmas.List.Elements.{All-replicate, Contains-append_left, filter_passes, recursion_from_All}
+pub use Rattle.std.proofs.Common.{fold, get_or, inl, inr, is_some, length, length-append, ltb-false, ltb-true, map, max}
+pub use Rattle.std.proofs.Common.{min, nat_eq, nat_le, nat_lt, not, option_to_list, refl, replicate, set, slice_get}
+pub use Rattle.std.proofs.Common.{subst, suc, sum_by, sym, take, true, unwrap_or, zero, zip, ℕ, ◌&&◌, ◌++◌, ◌+◌, ◌-◌}
+pub use Rattle.std.proofs.lemmas.List.Elements.{All-filter, All-from_recursion, All-map, Contains-append_left}
+pub use Rattle.std.proofs.lemmas.List.Elements.{filter_passes, recursion_from_All}
 pub use Rattle.std.proofs.lemmas.List.Folds.{list_any-append, sum_by-replicate}
 pub use Rattle.std.proofs.lemmas.List.FromFn.{fill_by_all, get_or-range_with_len, length-range_with_len}
-pub use Rattle.std.proofs.lemmas.List.{Quantifiers.all_pairs_remove, Recursion.found_at, Sorted.Contains-permutation}
-pub use Rattle.std.proofs.lemmas.List.Sorted.{IsPermutation-cons, IsPermutation-map, IsPermutation-refl}
-pub use Rattle.std.proofs.lemmas.List.Sorted.{IsPermutation-remove, IsPermutation-sym, IsPermutation-trans}
-pub use Rattle.std.proofs.lemmas.List.{Sorted.sum_by-IsPermutation, Sums.AllPass-from_list_all}
-pub use Rattle.std.proofs.lemmas.List.Sums.{fold_push, length-filter, sum-map, sum_by-append, sum_by-cons}
-pub use Rattle.std.proofs.lemmas.{List.Sums.sum_by-le-sum_by, Map.Made.Contains-tail}
+pub use Rattle.std.proofs.lemmas.List.Sorted.{Contains-permutation, IsPermutation-sym, sum_by-IsPermutation}
+pub use Rattle.std.proofs.lemmas.List.Sums.{AllPass-from_list_all, fold_push, length-filter, sum_by-append, sum_by-cons}
+pub use Rattle.std.proofs.lemmas.List.{Quantifiers.all_pairs_remove, Recursion.found_at}
+pub use Rattle.std.proofs.lemmas.List.{append-nil, get_or-map, get_or_at, length-map, length-set, map-append}
+pub use Rattle.std.proofs.lemmas.List.{set-get_or, set_at, take-append-drop}
 pub use Rattle.std.proofs.lemmas.Option.{get_or_from_slice_get, slice_get-get_or, slice_get-map, slice_get_within}
-pub use Rattle.std.proofs.lemmas.{Simd.map-map, Slice.Zip.firsts-zip, Slice.Zip.length-zip, Slice.Zip.seconds-zip}
-pub use Rattle.std.specs.{List.AllByRecursion, List.range_with_len, Option.option_map_or}
-unfoldable pub use Rattle.{kd_plan.specs.Planned.lugs_to, kd_state.specs.Costs.standings_as}
+pub use Rattle.std.proofs.lemmas.{Bool.Decides.nat_tests, Grind.{common_steps, flat_map-append}}
+pub use Rattle.std.proofs.lemmas.{Simd.map-map, Slice.Zip.{firsts-zip, length-zip, seconds-zip}}
+pub use Rattle.std.proofs.{Common.{◌<◌, ◌||◌, ◌∙◌, ◌∷◌, ◌≡◌, ◌≢◌, ◌≤◌}, lemmas.Bool.{cases_eq, cond_both}}
+pub use Rattle.std.specs.{List.{AllByRecursion, range_with_len}, Option.option_map_or}
+pub use Rattle.{kd_enigma.specs.Plugs.letters_plugged, kd_pins.specs.PinWheels.pins_of}
+pub use Rattle.{kd_pins.specs.declared.pin_set.PinSet.PinSet, kd_state.proofs.Cables.free_tells}
+unfoldable pub use Rattle.{kd_card.specs.Moves.lugs_to, kd_state.specs.Costs.standings_as}
 unfoldable pub use Rattle.{kd_tables.specs.Rings.ring_of, std.specs.List.IsDistinct}
-
--- as many different ones of some numbers as there are, are all of them in another order
-reordered : (js xs : List ℕ) → AllPairs (λ j k. j ≢ k) js → All (Contains xs) js → length js ≡ length xs
-    → IsPermutation xs js
-reordered [] [] apart among e = IsPermutation-refl []
-reordered [] (x ∷ xs) apart among e = absurd (omega arith)
-reordered (j ∷ js) xs apart among e =
-    let there = among zero j (omega arith) in
-    let rest = remove xs there.0 in
-    let order = IsPermutation-remove xs there.0 j there.1 (sym there.2) in
-    let others = reordered js rest (all_pairs_remove (λ i k. i ≢ k) (j ∷ js) zero (omega arith) apart)
-    (λ k d lt. Contains-tail j rest (get_or js k d) (apart zero (suc k) d (omega arith) (omega arith))
-    (Contains-permutation xs (j ∷ rest) (get_or js k d) order (among (suc k) d (omega arith))))
-    (omega (arith, length-remove xs there.0 there.1)) in
-    IsPermutation-trans xs (j ∷ rest) (j ∷ js) order (IsPermutation-cons j rest js others)
-
--- what stands at the places of a pairing is the whole list, in another order
-pub paired : {X : Type 0} (d : X) (xs : List X) (to : List ℕ) → length to ≡ length xs → IsOneToOne to → IsPermutation xs (map (λ j. get_or xs j d) to)
-paired d xs to size h =
-    let places = range_with_len 0 (length xs) in
-    let many = length-range_with_len 0 (length xs) in
-    let within : (k e : ℕ) → k < length to → get_or to k e < length xs = λ k e lt. omega (arith, h.in_range k e lt) in
-    let order = reordered to places h.distinct
-    (λ k e lt. (get_or to k e, omega (arith, within k e lt), get_or-range_with_len 0 (length xs) (get_or to k e) (get_or to k e) (within k e lt) ∙ omega arith))
-    (omega arith) in
-    subst (λ all. IsPermutation all (map (λ j. get_or xs j d) to)) (sym (fill_by_all (λ j. get_or xs j d) xs (length xs) d refl (λ k lt. refl)))
-    (IsPermutation-map (λ j. get_or xs j d) places to order)
 
 -- the element in the middle
 module _ {X : Type 0} where
@@ -420,7 +377,8 @@ is_the_one : (wheel : Wheel) (wheels : List SheetWheel) (w : SheetWheel)
 is_the_one wheel [] w e = absurd cc
 is_the_one wheel (v ∷ wheels) w e = grind (arith, same_wheel-Decides, is_the_one wheel wheels w)
 
-module _ (m : RotorParts) (s : RotorDay) (machine : IsMachine (Rotor m)) (legal : IsLegalRotorDay s) (same : m.model ≡ s.model) (to : List ℕ) (count : length to ≡ 13) (one_to_one : IsOneToOne to) where
+module _ (m : RotorParts) (s : RotorDay) (machine : IsMachine (Rotor m)) (legal : IsLegalRotorDay s) (same : m.model ≡ s.model)
+    (to : List ℕ) (count : length to ≡ 13) (order : IsPermutation (columns_of s.pairs) (map (column_at s.pairs) to)) where
   are_seated : AreSeated m.model (seats s.wheels)
   are_seated = subst (λ model. AreSeated model (seats s.wheels)) (sym same) legal.wheels
 
@@ -519,9 +477,6 @@ module _ (m : RotorParts) (s : RotorDay) (machine : IsMachine (Rotor m)) (legal 
 
   sizes : length columns ≡ length m.cables
   sizes = omega (arith, machine.legal.cables.count, count, length-map to (column_at s.pairs))
-
-  order : IsPermutation (columns_of s.pairs) columns
-  order = paired None (columns_of s.pairs) to (count ∙ sym (thirteen_columns s.pairs legal.pairs.few)) one_to_one
 
   pub are_pluggable : AllByRecursion (IsPluggable s.pairs) zs
   are_pluggable =
