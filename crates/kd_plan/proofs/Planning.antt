@@ -79,26 +79,6 @@ table_cost cost columns d (x ∷ all) (j ∷ to) size within =
     simp sum_by-cons (omega (arith, get_or-map (cost x) columns j d 0 within.0, table_cost cost columns d all to (omega arith) within.1))
 table_cost cost columns d _ _ size within = absurd (omega arith)
 
--- all planned lines, of a rotor machine and of a Converter M-209
-rotor_counted : (m : RotorParts) (s : RotorDay) (to : List ℕ) → IsLegalRotorDay s → m.model ≡ s.model
-    → AllByRecursion (IsPluggable s.pairs) (besides m.cables s.pairs to)
-    → AreCounted (planned_lines (Rotor m) (OfRotors s) to) (loose_count (Rotor m) (OfRotors s))
-    (sum_by (λ z. cable_cost z.0 z.1) (besides m.cables s.pairs to))
-rotor_counted m s to legal same pluggable =
-    let cables = besides m.cables s.pairs to in
-    let loose = all_counted (Rotor m) (OfRotors s) legal same in
-    let moves = λ (direction : Direction). counted_each (moves_of direction) (λ z. 0) (moved direction) cables 1 (λ k n z e at. counted_moves direction n z) in
-    let all = simp sum_none at (counted-append _ _ (counted-append _ _ loose (moves Out)) (moves In)) in
-    let sums = cable_sums s.pairs cables pluggable in
-    record { count = omega (arith, all.count, sums); priced = omega (arith, all.priced, sums) }
-
-pin_counted : (m : PinParts) (s : PinDay) (to : List ℕ) → IsLegalPinDay s → AllByRecursion IsMovable (bars_beside m.bars s.rows to)
-    → AreCounted (planned_lines (Pin m) (OfPins s) to) (loose_count (Pin m) (OfPins s))
-    (sum_by (λ z. bar_cost z.0 z.1) (bars_beside m.bars s.rows to))
-pin_counted m s to legal movable =
-    let all = counted-append _ _ (all_counted (Pin m) (OfPins s) legal refl) (counted_lines (bars_beside m.bars s.rows to) 1 movable) in
-    record { count = omega (arith, all.count); priced = omega (arith, all.priced) }
-
 -- ---- the planned lines of any pairing lead to the day, and a planned card proves itself.
 -- What the lines lead to, and how many of them there are.
 good : (m : Parts) (s : Day) (to : List ℕ) → IsMachine m → IsLegalDay s → model_of m ≡ day_model s → length to ≡ table_size m → IsOneToOne to
@@ -106,13 +86,18 @@ good : (m : Parts) (s : Day) (to : List ℕ) → IsMachine m → IsLegalDay s �
 good (Rotor m) (OfRotors s) to machine legal same count one_to_one =
     let within = recursion_from_All (λ j. j < length (columns_of s.pairs)) to (λ k d lt. omega (arith, one_to_one.in_range k d lt, count, thirteen_columns s.pairs legal.pairs.few)) in
     let cost = table_cost cable_cost (columns_of s.pairs) None m.cables to (machine.legal.cables.count ∙ sym count) within in
-    let counted = rotor_counted m s to legal same (are_pluggable m s machine legal same to count one_to_one) in
-    (rotors_lead m s machine legal same to count one_to_one, rw cost counted)
+    let cables = besides m.cables s.pairs to in
+    let moves = λ (direction : Direction). counted_each (moves_of direction) (λ z. 0) (moved direction) cables 1
+    (λ k n z e at. counted_moves direction n z) in
+    let all = simp sum_none at (counted-append _ _ (counted-append _ _ (all_counted (Rotor m) (OfRotors s) legal same) (moves Out)) (moves In)) in
+    let sums = cable_sums s.pairs cables (are_pluggable m s machine legal same to count one_to_one) in
+    (rotors_lead m s machine legal same to count one_to_one, record { count = omega (arith, all.count, sums, cost); priced = omega (arith, all.priced, sums, cost) })
 good (Pin m) (OfPins s) to machine legal same count one_to_one =
     let within = recursion_from_All (λ j. j < length s.rows) to (λ k d lt. omega (arith, one_to_one.in_range k d lt, count, legal.count)) in
     let cost = table_cost bar_cost s.rows (0, 0) m.bars to (machine.legal.bars ∙ sym count) within in
-    let counted = pin_counted m s to legal (are_movable m s to machine legal count one_to_one) in
-    (pin_machine_leads m s to machine legal count one_to_one, rw cost counted)
+    let lugs = counted_lines (bars_beside m.bars s.rows to) 1 (are_movable m s to machine legal count one_to_one) in
+    let all = counted-append _ _ (all_counted (Pin m) (OfPins s) legal refl) lugs in
+    (pin_machine_leads m s to machine legal count one_to_one, record { count = omega (arith, all.count, cost); priced = omega (arith, all.priced, cost) })
 good (Rotor m) (OfPins s) to machine legal same count one_to_one = absurd (no_rotors m.model m.reflector same machine.legal.reflector)
 good (Pin m) (OfRotors s) to machine legal same count one_to_one = absurd (no_rotors s.model s.reflector (sym same) legal.reflector)
 
