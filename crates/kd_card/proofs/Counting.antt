@@ -1,12 +1,12 @@
 -- How many lines there are, and how many of them the prices speak of; and that each loose thing has one.
-use Rattle.kd_card.proofs.Prelude.{◌≡◌, ◌≢◌, ℕ, zero, suc, ◌+◌, ◌≤◌, nat_eq, not, Bool, true, cond, List, [], ◌∷◌, ◌++◌, length, get_or_from_slice_get, slice_get, zip, count_by, sum_by, refl, sym, ap, arith, AllByRecursion, Contains, All, Some, option_map_or, recursion_from_All, length-append, sum_by-append, sum_by-cons, sum-map, length-map, differ, loose_count, same_wheel, same_reflector, place_in_box, is_priced, priced_count, Model, Setting, SeatReflector, Parts, Rotor, Pin, model_of, IsMachine, Day, RotorDay, OfRotors, OfPins, IsLegalDay, PinDay, RotorParts, PinParts, unwrap_or-slice_get, subst, day_model, days_wheels_have_their_places, ring_at}
+use Rattle.kd_card.proofs.Prelude.{◌≡◌, ◌≢◌, ℕ, zero, suc, ◌+◌, ◌≤◌, nat_eq, not, Bool, true, cond, List, [], ◌∷◌, ◌++◌, length, get_or_from_slice_get, slice_get, zip, count_by, sum_by, refl, sym, ap, arith, AllByRecursion, Contains, All, Some, option_map_or, recursion_from_All, length-append, sum_by-append, sum_by-cons, sum-map, differ, loose_count, same_wheel, same_reflector, place_in_box, is_priced, priced_count, Model, Setting, SeatReflector, Parts, Rotor, Pin, model_of, Day, RotorDay, OfRotors, OfPins, IsLegalDay, PinDay, RotorParts, PinParts, unwrap_or-slice_get, subst, day_model, days_wheels_have_their_places, ring_at}
 use Rattle.kd_card.proofs.Falling.{HaveTheirPlaces}
 use Rattle.kd_card.specs.Loose.{loose_lines, lines_from, unless_so, seat_of, ring_lines, ring_of_wheel, turn_of, pin_lines, pin_of, pin_turn_of, wheel_pin_lines}
 use Rattle.kd_state.proofs.Wheels.{allowed_in_box, has_wheel-Decides, same_wheel-Decides, same_wheel_differs}
 use Rattle.kd_state.specs.{Machine.HasAllPins, SheetDay.AreSeated, SheetDay.seats, ToldApart.has_wheel}
 use Rattle.kd_pins.specs.{PinWheels.pins_of, declared.pin_set.PinSet.PinSet}
 use Rattle.kd_state.specs.declared.sheet_day.rotor_entry.SheetWheel.{SheetWheel}
-use Rattle.kd_tables.specs.{Rings.ring_of, Tables.box_of, Tables.slots_of, declared.wheel.Wheel.Wheel}
+use Rattle.kd_tables.specs.{Rings.ring_of, Tables.box_of, declared.wheel.Wheel.Wheel}
 use Rattle.std.proofs.Common.{◌&&◌, false, find, flat_map, option_to_list}
 use Rattle.std.proofs.lemmas.List.{get_or_default}
 use Rattle.std.proofs.lemmas.{Option.slice_get-get_or, Option.slice_get-map, Option.slice_get_within, Slice.Zip.get_or-zip, Slice.Zip.length-zip}
@@ -154,10 +154,5 @@ pub as_many : (m : Parts) (s : Day) (xs : List Setting) → IsLegalDay s → mod
 as_many m s xs legal same e = rw e (omega (arith, (all_counted m s legal same).count))
 
 -- ---- there is room for all of them
-few_of : (model : Model) → (slots_of model ≤ 4) × (length (box_of model) ≤ 10)
-few_of model = grind arith
-
-pub few_parts : (m : RotorParts) (s : RotorDay) → IsMachine (Rotor m) → IsLegalDay (OfRotors s)
-    → length m.slots + length (box_of m.model) + length s.wheels ≤ 18
-few_parts m s machine legal =
-    omega (arith, few_of m.model, few_of s.model, machine.legal.slots, legal.wheels.count, length-map s.wheels (λ (w : SheetWheel). Some w.wheel))
+pub few_in_box : (model : Model) → length (box_of model) ≤ 10
+few_in_box model = grind arith

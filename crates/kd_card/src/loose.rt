@@ -11,7 +11,7 @@ use kd_state::{Machine, OneModel, Settings, SheetDay};
 
 /// A setting for each thing of the machine that isn't as the day has it, cables and bars apart, in the order in which they are
 /// made: wheels and reflector, rings, letters; or pins, letters.
-#[tactic(auto, using(crate::proofs::Counting::few_parts, crate::proofs::Counting::as_many))]
+#[tactic(auto, using(crate::proofs::Counting::as_many))]
 pub fn loose_settings(machine: &Machine, day: &SheetDay) -> Settings
     requires { model_of machine.now ≡ day_model day.now }
     ensures lines { result.items ≡ loose_lines machine.now day.now }

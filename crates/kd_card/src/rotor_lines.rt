@@ -2,7 +2,6 @@
 ghost use Rattle.std.specs.Prelude.{◌≡◌, ◌+◌, ◌<◌, ◌≤◌, ◌++◌, false, nat_eq, length, find, flat_map, option_and_then, zip};
 ghost use Rattle.std.specs.Option.{option_map_or};
 ghost use Rattle.arrayvec.specs.ArrayVec.{array_vec_len};
-ghost use Rattle.kd_tables.specs.Tables.{box_of};
 ghost use Rattle.kd_state.specs.declared.machine.parts.Parts.TheVariants.{Rotor};
 ghost use Rattle.kd_state.specs.ToldApart.{same_wheel, same_reflector};
 ghost use Rattle.kd_state.specs.Machine.{ring_in, letter_in};
@@ -16,10 +15,9 @@ use kd_state::{Machine, RotorEntry, RotorParts, Setting, Settings, SheetWheel};
 use kd_tables::{Reflector, Wheel};
 
 /// What isn't as the day has it on a rotor machine, cables apart, line by line.
+#[tactic(auto, using(crate::proofs::Counting::few_in_box))]
 pub(crate) fn rotor_settings(machine: &Machine, parts: &RotorParts, entry: &RotorEntry) -> Settings
-    requires parts { machine.now ≡ Rotor parts.now }
-    requires few { length parts.now.slots + length (box_of parts.now.model)
-        + length entry.now.wheels ≤ 18 }
+    requires { machine.now ≡ Rotor parts.now }
     ensures lines { result.items
         ≡ loose_lines (Rotor parts.now) (OfRotors (rotor_values entry.now)) }
     ensures few { length result.items ≤ 19 }
