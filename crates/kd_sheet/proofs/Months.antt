@@ -73,14 +73,12 @@ put_day month place new before here left =
       ];
     })
 
--- the day that is found has the number
-pub found_number : (month : List (Option Day)) (number : ℕ) (found : Option (Bor Day)) → IsMonth month
-    → option_copied found ≡ day_of month number → IfSome found (λ day. day_number day.now ≡ number)
-found_number month number found e d = grind arith
-
-pub number_of_found : (month : List (Option Day)) (number : ℕ) (found : Option Day) → IsMonth month
-    → found ≡ day_of month number → IfSome found (λ day. day_number day ≡ number)
-number_of_found month number found e d = grind arith
+-- the day at a place has its number
+pub number_at : (month : List (Option Day)) (number place : ℕ) (found : Option Day) → IsMonth month
+    → place < length month → number ≡ suc place → found ≡ get_or month place found
+    → IfSome found (λ day. day_number day ≡ number)
+number_at month number place None is within same here = tt
+number_at month number place (Some day) is within same here = is.each number day (grind (arith, slice_get-get_or))
 
 -- one more day, of a number that none has
 none_found : (days : List Day) (number : ℕ) → list_any (has number) days ≡ false → find (has number) days ≡ None

@@ -3,7 +3,7 @@ use Rattle.kd_sheet.proofs.Prelude.{Bool, Contains, IfSome, List, MatchOption, N
 use Rattle.kd_sheet.proofs.Prelude.{find, inl, inr, nat_lt, refl, suc, sym, true, ℕ, ◌∙◌, ◌∷◌, ◌≡◌, ◌≢◌, cases_Bool, ltb-true}
 use Rattle.kd_sheet.proofs.Prelude.{All-contains, AllPass-from_list_all, none-some, same_Some, bytes_eq-Decides}
 use Rattle.kd_sheet.proofs.Prelude.{model_by_name, standing_by_text, wheel_by_name, model_text, wheel_text, standing_text}
-use Rattle.kd_sheet.proofs.Prelude.{standings, place_rank, IsBefore, Model, Place, Wheel}
+use Rattle.kd_sheet.proofs.Prelude.{standings, place_rank, IsBefore, Model, Place, Wheel, every_model}
 
 -- a list has nothing of a name that none has
 find_unnamed : {A : Type 0} (text_of : A → List ℕ) (name : List ℕ) → ((x : A) → text_of x ≢ name) → (xs : List A)
@@ -24,6 +24,12 @@ find_named text_of xs own name (Some x) named = sym (own x) ∙ ap (λ text. fin
 pub model_by_name-text : (model : Model) → model_by_name (model_text model) ≡ Some model
 unfolding model_by_name
 model_by_name-text model = grind arith
+
+pub model_named : (name : List ℕ) (found : Option Model)
+    → MatchOption found ((model : Model) → model_text model ≢ name) (λ model. model_text model ≡ name)
+    → model_by_name name ≡ found
+unfolding model_by_name
+model_named name found named = sym (find_named model_text every_model model_by_name-text name found named)
 
 -- each wheel is the one of its name
 pub wheel_by_name-text : (wheel : Wheel) → wheel_by_name (wheel_text wheel) ≡ Some wheel

@@ -23,6 +23,11 @@ is_seated-Decides slots wheel =
     Decides-contains slots (Some wheel) _ (Decides-by_or (holds wheel) (λ seat. seat ≡ Some wheel)
     (list_any (holds wheel)) (holds-Decides wheel) refl (λ _ _. refl) slots)
 
+pub not_seated : (slots : List (Option Wheel)) (wheel : Wheel) → ¬ Contains slots (Some wheel) → is_seated slots wheel ≡ false
+not_seated slots wheel free = grind (arith, is_seated-Decides slots wheel)
+
+pub ruleset seating = (not_seated, has_wheel-Decides)
+
 record IsFree (model : Model) (slots : List (Option Wheel)) (wheel : Wheel) : Type 0 where
   allowed : IsAllowed model (length slots + 1) wheel
   free : ¬ Contains slots (Some wheel)

@@ -26,10 +26,9 @@ fn new_number_in(sheet: &Sheet, table: &Table) -> Result<u8, SheetFault>
 {
     let number = number_at(table, Key::Day, DAYS)?;
     if sheet.day(number).is_some() {
-        Err(SheetFault::DayTwice(number))
-    } else {
-        Ok(number)
+        return Err(SheetFault::DayTwice(number));
     }
+    Ok(number)
 }
 
 /// The day of an item behind the days of the sheet, or its first fault.
@@ -39,8 +38,7 @@ fn day_for(sheet: &Sheet, item: &Value) -> Result<SheetDay, SheetFault>
 {
     let table = item.as_table().ok_or(SheetFault::BadValue(Key::Day))?;
     let number = new_number_in(sheet, table)?;
-    let model = model_in(table)?;
-    model_day_in(table, number, model)
+    model_day_in(table, number, model_in(table)?)
 }
 
 /// The month with the days of the items.

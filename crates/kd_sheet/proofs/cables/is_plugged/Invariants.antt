@@ -1,5 +1,5 @@
 use Rattle.kd_sheet.proofs.Prelude.{drop, ◌≡◌, flat_map, pair_letters, has_letter}
-use Rattle.kd_sheet.proofs.plugs.is_plugged.Given as goal
+use Rattle.kd_sheet.proofs.cables.is_plugged.Given as goal
 
 abbrev pub invariant-loop-one : goal.invariant-loop-one
 invariant-loop-one l =

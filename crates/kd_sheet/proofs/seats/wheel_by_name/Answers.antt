@@ -1,5 +1,5 @@
 use Rattle.kd_sheet.proofs.{Prelude.{wheel_by_name, every_wheel, wheel_text}, Namings.{find_named, wheel_by_name-text}}
-use Rattle.kd_sheet.proofs.names.wheel_by_name.Goals as goal
+use Rattle.kd_sheet.proofs.seats.wheel_by_name.Goals as goal
 
 pub returns : goal.returns
 unfolding wheel_by_name

@@ -1,0 +1,6 @@
+use Rattle.kd_sheet.proofs.{Namings.model_named, Prelude.{arith, model_in}}
+use Rattle.kd_sheet.proofs.machine_file.model_in.Goals as goal
+
+pub returns : goal.returns
+unfolding model_in
+returns c = grind (arith, model_named _ _ c.from_text.ensures)
