@@ -1,40 +1,7 @@
 -- What is written of the parts of a machine, or of a day, is read as just these, and so is the file of a machine, line by
 -- line; and each legal day is described by a table.
-use Rattle.kd_sheet.proofs.Prelude.{All, List, None, Ok, Option, Result, Some, [], ap, arith, false, get_or, length}
-use Rattle.kd_sheet.proofs.Prelude.{map, ok_or, pos, refl, rules, slice_get, sym, take, true, ℕ, ◌+◌, ◌<◌, ◌==◌, ◌∙◌}
-use Rattle.kd_sheet.proofs.Prelude.{◌∷◌, ◌≡◌, ◌≤◌, and-false, or-true, cases_eq, eq-eqb, false_from_ne_true, le-leb}
-use Rattle.kd_sheet.proofs.Prelude.{ne_eqb, common_steps, length-map, length-take-le, All-map, All-weaker}
-use Rattle.kd_sheet.proofs.Prelude.{recursion_from_All, gets, slice_get_within, AllByRecursion, list_all, PinSet}
-use Rattle.kd_sheet.proofs.Prelude.{cable_for, letters_in_cable, pair_for, pairs_in, cable_of, pair_letters, each_at}
-use Rattle.kd_sheet.proofs.Prelude.{items_at, items_in, up_to, value_at, row_of_text, rows_in, may_read, row_for}
-use Rattle.kd_sheet.proofs.Prelude.{key_name, capital_letters, letters_at, model_in, reflector_in, cable_text}
-use Rattle.kd_sheet.proofs.Prelude.{pin_texts, seat_text, reflector_by_name, number_to, letters_on_wheels, pins_in}
-use Rattle.kd_sheet.proofs.Prelude.{pins_of_item, shown_in, is_seated, seat_for, seat_of_item, seats_in, wheel_for}
-use Rattle.kd_sheet.proofs.Prelude.{may_be_empty, day_in, group_of_item, groups_in, model_day_in, number_in, pin_day_in}
-use Rattle.kd_sheet.proofs.Prelude.{rings_in, rotor_day_in, group_for, sheet_wheels, SheetFault, UnknownModel, Key}
-use Rattle.kd_sheet.proofs.Prelude.{has_reflector-Decides, has_wheel-Decides, has_reflector, AreAllowed, AreApart}
-use Rattle.kd_sheet.proofs.Prelude.{AreCables, AreLetters, AreOnWheels, HasAllPins, cable_letters, plugged_letters}
-use Rattle.kd_sheet.proofs.Prelude.{AreSeated, Day, HasLetters, IsDayNumber, IsLegalDay, IsLegalPinDay, IsLegalRotorDay}
-use Rattle.kd_sheet.proofs.Prelude.{OfPins, OfRotors, PinDay, RotorDay, seats, SheetWheel, IsBefore, IsReading}
-use Rattle.kd_sheet.proofs.Prelude.{reading_text, standing_text, letters_of, model_text, reflector_text, reflectors_of}
-use Rattle.kd_sheet.proofs.Prelude.{slots_of, wheel_text, wheels_for, is_capital, letters_text, Model, M209, Place}
-use Rattle.kd_sheet.proofs.Prelude.{Reflector, Wheel, Data, Members, array, integer, member, no_members, string}
-use Rattle.kd_sheet.proofs.Prelude.{items_of, Bool, append_assoc, codes, nat_le, nat_lt, not, option_map, suc, ◌&&◌}
-use Rattle.kd_sheet.proofs.Prelude.{◌++◌, ◌||◌, ltb-true, nat_tests, append-nil, list_all-append, AllPass-from_list_all}
-use Rattle.kd_sheet.proofs.Prelude.{IsUtf8-from_ascii, IsAscii-from_all, digits, concat, flat_map, list_any, cables_in}
-use Rattle.kd_sheet.proofs.Prelude.{thirteen, document_of, bars_in, standing_for, LegalPartsAreReadBack, known_model_in}
-use Rattle.kd_sheet.proofs.Prelude.{machine_in, parts_in, pin_parts_in, rotor_parts_in, version_in, machine_text}
-use Rattle.kd_sheet.proofs.Prelude.{key_line, listed, pins_text, quoted, version_of, IsLegalPin, IsLegalRotor}
-use Rattle.kd_sheet.proofs.Prelude.{cables_ordered, ordered, Parts, Pin, Rotor, PinParts, RotorParts, figure}
-use Rattle.kd_sheet.proofs.Prelude.{AllPrinted, read_lines, run, Items, depth, has_valid_dates, items_depth}
-use Rattle.kd_sheet.proofs.Prelude.{items_have_valid_dates, parse_document, skip_bom, along_dots, along_header, at_key}
-use Rattle.kd_sheet.proofs.Prelude.{define, Expression, close, key_value, no_nodes, IsItemsText, IsLinesText}
-use Rattle.kd_sheet.proofs.Prelude.{IsValueText, breaks_lines, encoding_of, escaped, key_text, needs_escape}
-use Rattle.kd_sheet.proofs.{Prelude.{quotes_after, string_text}, CableLetters.{AreFree, IsFree, free_at, all_parts}}
-use Rattle.kd_sheet.proofs.{Documents.{list_of-items_of, document_parsed}, InTurn.{then_read, passing, again, held}}
-use Rattle.kd_sheet.proofs.{Legal.day_again, Namings.{model_by_name-text, wheel_by_name-text, standing_again}}
-use Rattle.kd_sheet.proofs.{PinLetters.{are_own, letters_below, pins_back, rings_below}, Seating.is_seated-Decides}
-use Rattle.kd_sheet.specs.declared.key.Key.TheVariants as keys
+pub mod Described
+unfoldable pub use Described.*
 
 -- ---- arrays of texts
 

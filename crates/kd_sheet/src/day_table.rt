@@ -103,7 +103,7 @@ fn sheet_wheels(slots: &[Option<Wheel>], rings: &[Letter], window: &[Letter]) ->
 }
 
 /// The day of a rotor model.
-#[tactic(auto, using(crate::proofs::Seating::seats_in_fill, crate::proofs::Bounds::rings_in_letters, crate::proofs::Bounds::letters_at_are), unfolding(crate::specs::SheetFile::rotor_day_in))]
+#[tactic(auto, using(crate::proofs::ReadBack::Described::Values::seats_in_fill, crate::proofs::ReadBack::Described::Values::rings_in_letters, crate::proofs::ReadBack::Described::Values::letters_at_are), unfolding(crate::specs::SheetFile::rotor_day_in))]
 fn rotor_day_in(table: &Table, day: u8, model: Model) -> Result<SheetDay, SheetFault>
     requires slots { 0 < slots_of model }
     requires day { IsDayNumber day }

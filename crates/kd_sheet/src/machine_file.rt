@@ -96,7 +96,7 @@ fn pin_parts_in(table: &Table) -> Result<PinParts, SheetFault>
 }
 
 /// The machine of a model that the table describes.
-#[tactic(auto, using(crate::proofs::Legal::rotor_parts_legal, crate::proofs::Legal::pin_parts_legal), unfolding(crate::specs::MachineFile::parts_in))]
+#[tactic(auto, using(crate::proofs::ReadBack::Described::rotor_parts_legal, crate::proofs::ReadBack::Described::pin_parts_legal), unfolding(crate::specs::MachineFile::parts_in))]
 fn parts_in(table: &Table, model: Model) -> Result<Machine, SheetFault>
     ensures { result ≡ parts_in model (table_view table.now) }
 {

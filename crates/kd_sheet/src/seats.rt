@@ -19,7 +19,7 @@ fn wheel_by_name(name: &str) -> Option<Wheel>
 }
 
 /// The wheel of that name, for the slot behind these. The key is the one under which the name stands.
-#[tactic(auto, using(crate::proofs::Seating::seating), unfolding(crate::specs::Seats::wheel_for))]
+#[tactic(auto, using(crate::proofs::ReadBack::Described::Values::seating), unfolding(crate::specs::Seats::wheel_for))]
 fn wheel_for(
     key: Key,
     model: Model,

@@ -25,7 +25,7 @@ impl Model for Sheet {
 
 impl Sheet {
     /// The sheet without days.
-    #[tactic(auto, using(crate::proofs::Months::blank_month, crate::proofs::Months::empty_month))]
+    #[tactic(auto, using(crate::proofs::ReadBack::Described::blank_month, crate::proofs::ReadBack::Described::empty_month))]
     pub(crate) fn new() -> Self
         ensures { result ≡ month_of [] }
     {

@@ -18,7 +18,7 @@ use std::alloc::Global;
 use toml::{Table, Value};
 
 /// The day's number, which no day of the sheet has.
-#[tactic(auto, using(crate::proofs::Months::taken), unfolding(crate::specs::SheetFile::new_number_in, crate::specs::SheetFile::number_in))]
+#[tactic(auto, using(crate::proofs::ReadBack::Described::taken), unfolding(crate::specs::SheetFile::new_number_in, crate::specs::SheetFile::number_in))]
 fn new_number_in(sheet: &Sheet, table: &Table) -> Result<u8, SheetFault>
     ensures value { (days : List Day) → sheet.now ≡ month_of days
         → result ≡ new_number_in days (table_view table.now) }
@@ -42,7 +42,7 @@ fn day_for(sheet: &Sheet, item: &Value) -> Result<SheetDay, SheetFault>
 }
 
 /// The month with the days of the items.
-#[tactic(auto, using(crate::proofs::Months::first_month, crate::proofs::InTurn::on_all))]
+#[tactic(auto, using(crate::proofs::ReadBack::Described::first_month, crate::proofs::ReadBack::Described::Values::InTurn::on_all))]
 fn month(items: &[Value]) -> Result<Sheet, SheetFault>
     ensures { result ≡ result_map month_of (in_turn day_for (map view items.now)) }
 {

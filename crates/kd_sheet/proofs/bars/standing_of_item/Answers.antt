@@ -1,4 +1,4 @@
-use Rattle.kd_sheet.proofs.{Namings.standing_told, Prelude.arith}
+use Rattle.kd_sheet.proofs.ReadBack.Described.Values.{arith, standing_told}
 use Rattle.kd_sheet.proofs.bars.standing_of_item.Goals as goal
 
 pub returns : goal.returns

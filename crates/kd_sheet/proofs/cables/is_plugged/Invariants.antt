@@ -1,4 +1,5 @@
-use Rattle.kd_sheet.proofs.Prelude.{drop, ◌≡◌, flat_map, pair_letters, has_letter}
+use Rattle.{kd_sheet.specs.Cables.pair_letters, kd_state.specs.Setting.has_letter, std.proofs.Common.{drop, ◌≡◌}}
+use Rattle.std.specs.List.{flat_map}
 use Rattle.kd_sheet.proofs.cables.is_plugged.Given as goal
 
 abbrev pub invariant-loop-one : goal.invariant-loop-one

@@ -1,6 +1,7 @@
-use Rattle.kd_sheet.proofs.Prelude.{List, Some, arith, map, rules, sym, ℕ, ◌∙◌, ◌≡◌, none-some, same_Some}
-use Rattle.kd_sheet.proofs.Prelude.{numbered_letters, rings_of, Data, as_array, items_of, view, the_lemmas}
-use Rattle.kd_sheet.proofs.Documents.{list_of-items_of}
+use Rattle.kd_sheet.proofs.ReadBack.Described.Values.InTurn.{Data, List, Some, arith, as_array, items_of}
+use Rattle.kd_sheet.proofs.ReadBack.Described.Values.InTurn.{list_of-items_of, map, none-some, rings_of, rules}
+use Rattle.kd_sheet.proofs.ReadBack.Described.Values.InTurn.{same_Some, sym, view, ℕ, ◌∙◌, ◌≡◌}
+use Rattle.{kd_sheet.specs.Numbers.numbered_letters, toml.specs.declared.value.Value.the_lemmas}
 use Rattle.kd_sheet.proofs.day_table.rings_of.Goals as goal
 
 -- the rings of an array are its numbers

@@ -1,4 +1,4 @@
-use Rattle.kd_sheet.proofs.Prelude.{drop, length, take, ◌++◌, ◌≡◌, sheet_wheels}
+use Rattle.{kd_sheet.specs.SheetFile.sheet_wheels, std.proofs.Common.{drop, length, take, ◌++◌, ◌≡◌}}
 use Rattle.kd_sheet.proofs.day_table.sheet_wheels.Given as goal
 
 -- the wheels so far, and those of the other slots

@@ -1,4 +1,4 @@
-use Rattle.kd_sheet.proofs.{Prelude.{drop, length, map, ◌≡◌, in_turn, view}, InTurn.on}
+use Rattle.kd_sheet.proofs.ReadBack.Described.Values.InTurn.{drop, in_turn, length, map, on, view, ◌≡◌}
 use Rattle.kd_sheet.proofs.items.read_items.Given as goal
 
 -- what is read of all items is read on behind the values so far

@@ -1,4 +1,5 @@
-use Rattle.kd_sheet.proofs.Prelude.{drop, filter_map, is_some, length, map, ◌++◌, ◌≡◌, list_all, numbered_letter, view}
+use Rattle.{kd_sheet.specs.Numbers.numbered_letter, std.proofs.Common.{drop, filter_map, is_some, length, map, ◌++◌}}
+use Rattle.{std.{proofs.Common.◌≡◌, specs.List.list_all}, toml.specs.View.view}
 use Rattle.kd_sheet.proofs.letters.numbered_slots.Given as goal
 
 -- the letters so far are those of the items so far, and the others are those of the rest

@@ -1,4 +1,5 @@
-use Rattle.kd_sheet.proofs.Prelude.{codes, length, map, take, ◌*◌, ◌++◌, ◌+◌, ◌≡◌, ◌≤◌, flat_map, quoted}
+use Rattle.{kd_sheet.specs.MachineText.quoted, std.proofs.Common.{codes, length, map, take, ◌*◌, ◌++◌, ◌+◌, ◌≡◌, ◌≤◌}}
+use Rattle.std.specs.List.{flat_map}
 use Rattle.kd_sheet.proofs.lines.push_rest.Given as goal
 
 abbrev pub invariant-loop-item : goal.invariant-loop-item

@@ -1,4 +1,4 @@
-use Rattle.kd_sheet.proofs.{Namings.model_named, Prelude.{arith, model_in}}
+use Rattle.kd_sheet.proofs.ReadBack.Described.Values.{arith, model_in, model_named}
 use Rattle.kd_sheet.proofs.machine_file.model_in.Goals as goal
 
 pub returns : goal.returns

@@ -1,4 +1,4 @@
-use Rattle.kd_sheet.proofs.Prelude.{bytes_eq, drop, find, ◌≡◌, reflector_text}
+use Rattle.{kd_tables.specs.Tables.reflector_text, std.proofs.Common.{bytes_eq, drop, find, ◌≡◌}}
 use Rattle.kd_sheet.proofs.machine_file.reflector_by_name.Given as goal
 
 abbrev pub invariant-loop-reflector : goal.invariant-loop-reflector

@@ -1,4 +1,4 @@
-use Rattle.kd_sheet.proofs.Prelude.{length}
+use Rattle.std.proofs.Common.{length}
 use Rattle.kd_sheet.proofs.pin_wheels.+are_on_wheels.Given as goal
 
 abbrev pub decreases-are_on_wheels : goal.decreases-are_on_wheels

@@ -1,4 +1,5 @@
-use Rattle.kd_sheet.proofs.{Prelude.{wheel_by_name, every_wheel, wheel_text}, Namings.{find_named, wheel_by_name-text}}
+use Rattle.kd_sheet.proofs.ReadBack.Described.Values.{find_named, wheel_by_name, wheel_by_name-text, wheel_text}
+use Rattle.kd_sheet.specs.Names.{every_wheel}
 use Rattle.kd_sheet.proofs.seats.wheel_by_name.Goals as goal
 
 pub returns : goal.returns

@@ -1,4 +1,4 @@
-use Rattle.kd_sheet.proofs.{Prelude.{arith, wheel_for, has_wheel-Decides}, Seating.is_seated-Decides}
+use Rattle.kd_sheet.proofs.ReadBack.Described.Values.{arith, has_wheel-Decides, is_seated-Decides, wheel_for}
 use Rattle.kd_sheet.proofs.seats.wheel_for.Goals as goal
 
 pub returns-then-contains : goal.returns-then-contains

@@ -1,4 +1,4 @@
-use Rattle.kd_sheet.proofs.Prelude.{drop, length, ◌++◌, ◌+◌, ◌≡◌, ◌≤◌, pins_text}
+use Rattle.{kd_sheet.specs.MachineText.pins_text, std.proofs.Common.{drop, length, ◌++◌, ◌+◌, ◌≡◌, ◌≤◌}}
 use Rattle.kd_sheet.proofs.write.push_pins.Given as goal
 
 abbrev pub invariant-loop-place : goal.invariant-loop-place

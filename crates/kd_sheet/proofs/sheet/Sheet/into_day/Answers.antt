@@ -1,4 +1,4 @@
-use Rattle.kd_sheet.proofs.{Months.number_at, Prelude.{arith, ltb-true}}
+use Rattle.kd_sheet.proofs.ReadBack.Described.{arith, ltb-true, number_at}
 use Rattle.kd_sheet.proofs.sheet.Sheet.into_day.Goals as goal
 
 pub returns-clause-number : goal.returns-clause-number

@@ -1,12 +1,100 @@
--- What is read of items one after another, each given what those before it are; and what a reading that succeeds
--- has found on its way.
-use Rattle.kd_sheet.proofs.Prelude.{All, Bool, Err, List, None, Ok, Option, Result, Some, [], ap, append_assoc, arith}
-use Rattle.kd_sheet.proofs.Prelude.{cond, drop, get_or, length, map, nat_le, ok_or, refl, slice_get, subst, suc, sym}
-use Rattle.kd_sheet.proofs.Prelude.{take, true, zero, ℕ, ◌++◌, ◌+◌, ◌<◌, ◌==◌, ◌∙◌, ◌∷◌, ◌≡◌, ◌≤◌, eqb-true, leb-true}
-use Rattle.kd_sheet.proofs.Prelude.{common_steps, append-nil, drop_more, drop_all, length-map, gets, none-some}
-use Rattle.kd_sheet.proofs.Prelude.{same_Some, slice_get_within, option_map_or, demand, each_at, in_turn, items_at}
-use Rattle.kd_sheet.proofs.Prelude.{items_in, up_to, ◌>>=◌, ◌>>◌, holds, SheetFault, Key, Data, Members, string, view}
-use Rattle.kd_sheet.proofs.{Documents.viewed_at, Prelude.Value}
+-- What is read of a document, and of items one after another, each given what those before it are; and what a reading
+-- that succeeds has found on its way.
+pub use Rattle.{kd_pins.specs.declared.pin_set.PinSet.PinSet, kd_sheet.specs.Bars.{is_figure, may_read, row_for}}
+pub use Rattle.kd_sheet.specs.{Bars.standing_for, Cables.{cable_of, pair_letters, thirteen}, Document.{demand, each_at}}
+pub use Rattle.kd_sheet.specs.Document.{in_turn, items_at, items_in, list_of, result_map, up_to, value_at, ◌>>=◌, ◌>>◌}
+pub use Rattle.kd_sheet.specs.{Key.key_name, Laws.{DaysAreTheEntries, LegalPartsAreReadBack}, Letters.capital_letters}
+pub use Rattle.kd_sheet.specs.MachineText.{cable_text, key_line, listed, pin_texts, pins_text, quoted, seat_text}
+pub use Rattle.kd_sheet.specs.{MachineText.version_of, Names.every_model, Numbers.{number_to, numbered_letter}}
+pub use Rattle.kd_sheet.specs.{PinWheels.{are_on_wheels, has_capital, is_on, pins_behind, stands_once}, Seats.holds}
+pub use Rattle.kd_sheet.specs.{Seats.may_be_empty, Sheet.{IsMonth, day_of, month_of}, SheetFile.{group_for, rings_of}}
+pub use Rattle.kd_sheet.specs.{SheetFile.sheet_wheels, declared.fault.SheetFault.{SheetFault, TheVariants.BadValue}}
+pub use Rattle.kd_sheet.specs.declared.{fault.SheetFault.TheVariants.{NotToml, UnknownModel}, key.Key.Key}
+pub use Rattle.kd_state.proofs.{Cables.{eqb_flips, new_tells, no_letters}, Slots.all_pins}
+pub use Rattle.kd_state.proofs.Slots.{are_on_wheels as on_all_wheels, has_letter-Decides, numbered_here, numbered_other}
+pub use Rattle.kd_state.proofs.Wheels.{has_reflector-Decides, has_wheel-Decides, same_wheel-Decides}
+pub use Rattle.kd_state.specs.Machine.{AreAllowed, AreApart, AreCables, AreLetters, AreOnWheels, HasAllPins, IsLegalPin}
+pub use Rattle.kd_state.specs.Machine.{IsLegalRotor, StandsAt, cable_letters, cables_ordered, ordered, plugged_letters}
+pub use Rattle.kd_state.specs.{Pins.pin_set, Setting.{are_new, has_letter}, SheetDay.{ArePairs, AreSeated, Day}}
+pub use Rattle.kd_state.specs.SheetDay.{HasLetters, IsDayNumber, IsLegalDay, IsLegalPinDay, IsLegalRotorDay, OfPins}
+pub use Rattle.kd_state.specs.{SheetDay.{OfRotors, PinDay, RotorDay, day_number, seats}, ToldApart.has_reflector}
+pub use Rattle.kd_state.specs.{ToldApart.numbered, declared.machine.parts.Parts.{Parts, TheVariants.{Pin, Rotor}}}
+pub use Rattle.kd_state.specs.declared.machine.{pin_parts.PinParts.PinParts, rotor_parts.RotorParts.RotorParts}
+pub use Rattle.{kd_state.specs.declared.sheet_day.rotor_entry.SheetWheel.SheetWheel, kd_tables.specs.Places.IsBefore}
+pub use Rattle.kd_tables.specs.Places.{IsReading, figure, in_order, place_rank, reading_text, standing_text, standings}
+pub use Rattle.kd_tables.specs.Tables.{IsAllowed, box_of, letters_of, model_text, reflector_text, reflectors_of}
+pub use Rattle.kd_tables.specs.{Tables.{slots_of, wheel_text, wheels_for}, Text.{is_capital, letters_text}}
+pub use Rattle.kd_tables.specs.declared.{model.Model.{Model, TheVariants.M209}, place.Place.Place}
+pub use Rattle.{kd_tables.specs.declared.{reflector.Reflector.Reflector, wheel.Wheel.Wheel}, std.proofs.Common.All}
+pub use Rattle.std.proofs.Common.{Bool, Bor, Contains, Decides, Err, Global, IfSome, IsSome, IsUtf8, List, MatchOption}
+pub use Rattle.std.proofs.Common.{None, Ok, Option, Result, Some, Vec, [], ap, append_assoc, arith, bytes_eq, codes}
+pub use Rattle.std.proofs.Common.{cond, drop, false, filter_map, find, get_or, inl, inr, is_some, length, length-set}
+pub use Rattle.std.proofs.Common.{map, nat_eq, nat_le, nat_lt, not, ok_or, option_map, pos, refl, replicate, rules, set}
+pub use Rattle.std.proofs.Common.{slice_get, slice_index, subst, suc, sym, take, true, zero, ℕ, ◌&&◌, ◌++◌, ◌+◌, ◌-◌}
+pub use Rattle.std.proofs.{Common.{◌<◌, ◌==◌, ◌||◌, ◌↔◌, ◌∙◌, ◌∷◌, ◌≡◌, ◌≢◌, ◌≤◌}, Math.Bool.{and-false, or-true}}
+pub use Rattle.std.proofs.lemmas.Bool.{cases_Bool, cases_eq, cases_lt, eq-eqb, eqb-false, eqb-true, false_from_ne_true}
+pub use Rattle.std.proofs.lemmas.Bool.{false≢true, le-leb, leb-true, ltb-true, ne_eqb, not-true, Decides.Decides-by_or}
+pub use Rattle.std.proofs.lemmas.{Bool.Decides.{Decides-like, nat_tests, not_from_Decides}, Grind.common_steps}
+pub use Rattle.std.proofs.lemmas.{Grind.get_or-set_at, List.{append-nil, drop_all, drop_more, get_or-map}}
+pub use Rattle.std.proofs.lemmas.List.{get_or-set_other, length-map, length-take-le, same_lists, take-append-drop}
+pub use Rattle.std.proofs.lemmas.List.{Concat.flat_map-append, Elements.{All-append, All-contains, All-from_recursion}}
+pub use Rattle.std.proofs.lemmas.List.Elements.{All-map, All-nil, All-weaker, Contains-get_or, Decides-contains}
+pub use Rattle.std.proofs.lemmas.List.{Elements.recursion_from_All, Folds.{find-append, list_all-append}}
+pub use Rattle.std.proofs.lemmas.List.FromFn.{get_or-enumerate_from, get_or-map-range_with_len, length-enumerate_from}
+pub use Rattle.std.proofs.lemmas.List.{FromFn.length-map-range_with_len, Sorted.IsPermutation-append_comm}
+pub use Rattle.std.proofs.lemmas.List.Sums.{AllPass-from_list_all, list_all-from_AllPass, sum_by-cons}
+pub use Rattle.std.proofs.lemmas.{Map.Keys.IsDistinct-IsPermutation, Option.{get_or_from_slice_get, gets, none-some}}
+pub use Rattle.std.proofs.lemmas.Option.{same_Some, slice_get-get_or, slice_get_cases, slice_get_within}
+pub use Rattle.std.proofs.lemmas.{Slice.Eq.bytes_eq-Decides, Str.{IsUtf8-from_ascii, IsUtf8-from_is_utf8}}
+pub use Rattle.std.{proofs.lemmas.Str.{is_utf8-from_IsUtf8, Ascii.IsAscii-from_all}, specs.Array.AllOfLen}
+pub use Rattle.std.specs.List.{AllByRecursion, concat, count_by, enumerate_from, flat_map, list_all, list_any}
+pub use Rattle.{std.specs.Option.{option_and_then, option_map_or}, toml.proofs.Lines.data_of_table}
+pub use Rattle.toml.{proofs.ReadLines.{AllPrinted, read_lines, run}, specs.Data.{Data, Items, Members, array, as_array}}
+pub use Rattle.toml.specs.Data.{as_table, depth, get_member, has_valid_dates, integer, items_depth}
+pub use Rattle.toml.specs.{Data.{items_have_valid_dates, member, no_members, string}, Tables.{Expression, close}}
+pub use Rattle.toml.specs.{Tables.{key_value, no_nodes}, Text.{IsItemsText, IsLinesText, IsValueText, breaks_lines}}
+pub use Rattle.toml.specs.{View.{array_view, items_of, view}, declared.value.Value.Value}
+unfoldable pub use Rattle.kd_sheet.specs.{Bars.{bars_in, row_of_text, rows_in}, Cables.{cable_for, cables_in}}
+unfoldable pub use Rattle.kd_sheet.specs.{Cables.{letters_in_cable, pair_for, pairs_in}, Document.document_of}
+unfoldable pub use Rattle.kd_sheet.specs.{Letters.letters_at, MachineFile.{known_model_in, machine_in, model_in}}
+unfoldable pub use Rattle.kd_sheet.specs.MachineFile.{parts_in, pin_parts_in, reflector_in, rotor_parts_in, version_in}
+unfoldable pub use Rattle.kd_sheet.specs.{MachineText.machine_text, Names.{model_by_name, reflector_by_name}}
+unfoldable pub use Rattle.kd_sheet.specs.{Names.{standing_by_text, wheel_by_name}, PinWheels.letters_on_wheels}
+unfoldable pub use Rattle.kd_sheet.specs.{PinWheels.{pins_in, pins_of_item, pins_of_text, shown_in}, Seats.is_seated}
+unfoldable pub use Rattle.kd_sheet.specs.{Seats.{seat_for, seat_of_item, seats_in, wheel_for}, SheetFile.day_for}
+unfoldable pub use Rattle.kd_sheet.specs.SheetFile.{day_in, group_of_item, groups_in, model_day_in, new_number_in}
+unfoldable pub use Rattle.kd_sheet.specs.SheetFile.{number_in, pin_day_in, rings_in, rotor_day_in, sheet_in}
+unfoldable pub use Rattle.{kd_tables.specs.Rings.ring_of, std.specs.{Fmt.digits, List.IsDistinct}}
+unfoldable pub use Rattle.toml.specs.{Parse.{parse_document, skip_bom}, Tables.{along_dots, along_header, at_key}}
+unfoldable pub use Rattle.{toml.specs.Tables.define, toml_writer.specs.Text.{encoding_of, escaped, key_text}}
+unfoldable pub use Rattle.toml_writer.specs.Text.{needs_escape, quotes_after, string_text}
+pub use Rattle.kd_sheet.specs.declared.key.Key.TheVariants as keys
+
+-- ---- a document
+
+-- bytes that were parsed
+pub document_parsed : (bytes : List ℕ) (table : Members) → IsUtf8 bytes → parse_document bytes ≡ Some table → document_of bytes ≡ Ok table
+unfolding document_of
+document_parsed bytes table text parsed = rw (is_utf8-from_IsUtf8 bytes text, parsed)
+
+-- bytes that are no text or that the parser refuses
+pub document_refused : (bytes : List ℕ) → (IsUtf8 bytes → parse_document bytes ≡ None) → document_of bytes ≡ Err NotToml
+unfolding document_of
+document_refused bytes refused = grind (arith, cases_Bool, bytes, refused, IsUtf8-from_is_utf8)
+
+-- a list's items, in order
+pub list_of-items_of : (items : List Data) → list_of (items_of items) ≡ items
+list_of-items_of [] = refl
+list_of-items_of (first ∷ rest) = ap (λ more. first ∷ more) (list_of-items_of rest)
+
+-- the items of an array, as a call found them
+pub items_in_found : (key : Key) (value : Data) (found : Option (Bor (Vec Value Global))) → option_map (λ v. array_view v.now) found ≡ as_array value
+    → result_map (λ items. map view items.now.items) (ok_or found (BadValue key)) ≡ items_in key value
+items_in_found key value found e = grind (arith, option_map, list_of-items_of)
+
+-- the item at a place stands there as data, too
+pub viewed_at : (items : List Value) (place : ℕ) (item : Value) → place < length items → item ≡ get_or items place item → get_or (map view items) place (view item) ≡ view item
+viewed_at items place item left here = get_or-map view items place item (view item) left ∙ ap view (sym here)
 
 -- ---- on the way of a reading
 

@@ -1,18 +1,190 @@
--- A month with a day here and there: the days that a sheet's entries describe, each at its number.
-use Rattle.kd_sheet.proofs.Prelude.{Bool, Bor, Contains, IfSome, List, None, Ok, Option, Some, [], ap, arith, cond}
-use Rattle.kd_sheet.proofs.Prelude.{drop, false, find, get_or, inl, inr, is_some, length, length-set, map, nat_eq}
-use Rattle.kd_sheet.proofs.Prelude.{ok_or, refl, set, subst, suc, sym, take, true, zero, ℕ, ◌++◌, ◌+◌, ◌-◌, ◌<◌, ◌==◌}
-use Rattle.kd_sheet.proofs.Prelude.{◌∙◌, ◌∷◌, ◌≡◌, cases_Bool, cases_eq, eq-eqb, eqb-false, eqb-true, ne_eqb, nat_tests}
-use Rattle.kd_sheet.proofs.Prelude.{get_or-set_at, get_or-set_other, same_lists, Contains-get_or, find-append}
-use Rattle.kd_sheet.proofs.Prelude.{get_or-map-range_with_len, length-map-range_with_len, none-some, same_Some}
-use Rattle.kd_sheet.proofs.Prelude.{slice_get-get_or, slice_get_cases, AllOfLen, list_any, option_and_then}
-use Rattle.kd_sheet.proofs.Prelude.{option_copied, in_turn, items_at, DaysAreTheEntries, IsMonth, day_of, month_of}
-use Rattle.kd_sheet.proofs.Prelude.{day_for, day_in, sheet_in, BadValue, numbered_here, numbered_other, Day}
-use Rattle.kd_sheet.proofs.Prelude.{IsDayNumber, OfPins, OfRotors, day_number, data_of_table, Data, Members, as_table}
-use Rattle.kd_sheet.proofs.{Prelude.{table, view, Value}, InTurn.{same_found, given, there_was, nothing, on, on_none}}
-use Rattle.kd_sheet.proofs.{InTurn.{read_more, as_many, read_at}, Legal.{Tells, described}}
-use Rattle.kd_sheet.specs.declared.key.Key.TheVariants as keys
-use Rattle.kd_sheet.proofs.Namings.{found_there, passes}
+-- The machine and the day that a table describes are legal; and the days that a sheet's entries describe are a month, each
+-- at its number.
+pub mod Values
+unfoldable pub use Values.*
+use Rattle.toml.specs.Data as toml
+
+-- ---- reflectors
+
+reflector_there : (model : Model) (table : Members) → Gives (reflector_in model table) (Contains (reflectors_of model))
+unfolding reflector_in reflector_by_name
+reflector_there model table reflector e = grind (arith, given, there_was, found_there)
+
+-- ---- groups, rows and bars
+
+-- so many of them, and each is one
+abbrev Each : {A : Type 0} → (A → Type 0) → ℕ → List A → Type 0
+Each P count xs = (length xs ≡ count) × All P xs
+
+group_read : (earlier : List (List ℕ)) (item : Data) (group : List ℕ)
+    → group_for earlier item ≡ Ok group → AreLetters 3 group
+unfolding group_of_item
+group_read earlier item group e = grind (arith, there_was, capitals_are_letters, none-some)
+
+groups_in_groups : (table : Members)
+    → Gives (groups_in table) (λ groups. (length groups ≤ 4) × All (AreLetters 3) groups)
+unfolding groups_in
+groups_in_groups table groups e =
+    let read = some_read group_for (All (AreLetters 3)) (each_is group_for (AreLetters 3) group_read) keys.Groups 4 in
+    grind (arith, read, All-nil (AreLetters 3))
+
+row_is_reading : (one other : ℕ) → is_figure one ≡ true → is_figure other ≡ true → may_read one other ≡ true
+    → IsReading (in_order (one - 48) (other - 48))
+row_is_reading one other low high may = grind (arith, nat_tests, leb-true)
+
+row_read : (earlier : List (ℕ × ℕ)) (item : Data) (row : ℕ × ℕ) → row_for earlier item ≡ Ok row → IsReading row
+unfolding row_of_text
+row_read earlier item row e = grind (arith, there_was, some_if, row_is_reading, none-some)
+
+rows_in_rows : (table : Members) → Gives (rows_in table) (Each IsReading 27)
+unfolding rows_in
+rows_in_rows table = each_read row_for (All IsReading) (each_is row_for IsReading row_read) keys.Rows 27 table
+
+abbrev IsStanding : Place × Place → Type 0
+IsStanding bar = IsBefore bar.0 bar.1
+
+text_bar : (earlier : List (Place × Place)) (item : Data) (bar : Place × Place)
+    → standing_for earlier item ≡ Ok bar → IsStanding bar
+text_bar earlier item bar e = grind (arith, there_was, standing_read, none-some)
+
+bars_in_bars : (table : Members) → Gives (bars_in table) (Each IsStanding 27)
+unfolding bars_in
+bars_in_bars table = each_read standing_for (All IsStanding)
+    (each_is standing_for IsStanding text_bar) keys.Bars 27 table
+
+-- ---- pins, and the letters that pin wheels show
+
+text_pins : (ring : List ℕ) (item : Data) (pins : List Bool) → pins_of_item ring item ≡ Ok pins
+    → length pins ≡ length ring
+unfolding pins_of_item pins_of_text
+text_pins ring item pins e = grind (arith, common_steps, there_was, some_if, none-some)
+
+-- each list has as many pins as its wheel has letters
+abbrev Fit : List (List Bool) → Type 0
+Fit lists = (place : ℕ) (d : List Bool) → place < length lists
+    → length (get_or lists place d) ≡ length (ring_of (place + 1))
+
+all_fit : (items : List Data) → Gives (in_turn pins_behind items) Fit
+all_fit items lists e place d within =
+    let few : place ≤ length lists = omega arith in
+    let read = read_at pins_behind items lists e place nothing d (omega (arith, as_many pins_behind items lists e)) in
+    rw length-take-le at (text_pins _ (get_or items place nothing) (get_or lists place d) read)
+
+six_fit : (lists : List (List Bool)) → length lists ≡ 6 → Fit lists → HasAllPins (pin_set lists)
+unfolding ring_of
+six_fit lists six fit = grind (arith, fit)
+
+pins_in_fit : (table : Members) → Gives (pins_in table) HasAllPins
+unfolding pins_in
+pins_in_fit table =
+    after _ _ _ _ (each_read pins_behind Fit all_fit keys.Pins 6 table)
+    (λ lists all. done HasAllPins _ (six_fit lists all.0 all.1))
+
+letters_shown : (key : Key) (table : Members) → Gives (shown_in key table) AreOnWheels
+unfolding shown_in letters_on_wheels
+letters_shown key table letters e = grind (arith, common_steps, there_was, some_if, on_wheels, capitals_are_letters)
+
+-- ---- machines
+
+pub rotor_parts_legal : (model : Model) (table : Members) → Gives (rotor_parts_in model table) IsLegalRotor
+unfolding rotor_parts_in
+rotor_parts_legal model table =
+    after _ _ _ _ (reflector_there model table) (λ reflector there.
+    after _ _ _ _ (seats_in_fill keys.Slots model table) (λ slots fill.
+    after _ _ _ _ (letters_at_are keys.Rings (length (box_of model)) table) (λ rings are_rings.
+    after _ _ _ _ (letters_at_are keys.Letters (length (box_of model)) table) (λ letters are_letters.
+    after _ _ _ _ (are_cables table) (λ cables are. done IsLegalRotor _ (record {
+      slots = fill.0;
+      allowed = fill.1.allowed;
+      apart = fill.1.apart;
+      reflector = there;
+      rings = are_rings;
+      letters = are_letters;
+      cables = are;
+    }))))))
+
+pub pin_parts_legal : (table : Members) → Gives (pin_parts_in table) IsLegalPin
+unfolding pin_parts_in
+pin_parts_legal table =
+    after _ _ _ _ (letters_shown keys.Letters table) (λ letters shown.
+    after _ _ _ _ (pins_in_fit table) (λ pins fit.
+    after _ _ _ _ (bars_in_bars table) (λ bars are.
+    done IsLegalPin _ (record { pins = fit; letters = shown; bars = are.0; apart = are.1 }))))
+
+-- ---- days
+
+-- the day is legal, and has the number
+abbrev pub IsDay : ℕ → Day → Type 0
+IsDay number day = IsLegalDay day × (day_number day ≡ number)
+
+pub rotor_day : (number : ℕ) (model : Model) (table : Members) → IsDayNumber number
+    → Gives (rotor_day_in number model table) (IsDay number)
+unfolding rotor_day_in
+rotor_day number model table is =
+    after _ _ _ _ (reflector_there model table) (λ reflector there.
+    after _ _ _ _ (seats_in_fill keys.Wheels model table) (λ slots fill.
+    after _ _ _ _ (rings_in_letters model table) (λ rings are_rings.
+    after _ _ _ _ (letters_at_are keys.Window (slots_of model) table) (λ window are_letters.
+    after _ _ _ _ (are_pairs table) (λ pairs are_pairs.
+    after _ _ _ _ (groups_in_groups table) (λ groups are_groups.
+    let seated = seats-sheet_wheels slots rings window (recursion_from_All IsSome _ (fill.1.filled refl))
+    (are_rings.count ∙ sym fill.0) (are_letters.count ∙ sym fill.0) in done (IsDay number) _ (
+      record {
+        day = is;
+        reflector = there;
+        wheels = rw seated (record { count = fill.0; allowed = fill.1.allowed; apart = fill.1.apart });
+        letters = grind (arith, All-from_recursion, wheels_have_letters, recursion_from_All);
+        pairs = are_pairs;
+        few_groups = are_groups.0;
+        groups = are_groups.1;
+      },
+      refl,
+    )))))))
+
+pub pin_day : (number : ℕ) (table : Members) → IsDayNumber number → Gives (pin_day_in number table) (IsDay number)
+unfolding pin_day_in
+pin_day number table is day e = grind (arith, given, rows_in_rows, pins_in_fit, letters_shown, letters_at_are)
+
+model_day : (number : ℕ) (model : Model) (table : Members) → IsDayNumber number
+    → Gives (model_day_in number model table) (IsDay number)
+unfolding model_day_in
+model_day number M209 table is = pin_day number table is
+model_day number model table is = rotor_day number model table is
+
+pub day_again : (number : ℕ) (model : Model) (table : Members) (day : Day) → number_in table ≡ Ok number
+    → model_in table ≡ Ok model → model_day_in number model table ≡ Ok day → day_in [] table ≡ Ok day
+unfolding day_in new_number_in
+day_again number model table day is of_model rest = grind (arith, then_read, number_in)
+
+-- what a table tells that describes a day behind others
+pub record Tells (days : List Day) (table : Members) (day : Day) : Type 0 where
+  pub legal : IsLegalDay day
+  pub free : list_any (λ other. day_number other == day_number day) days ≡ false
+  pub alone : day_in [] table ≡ Ok day
+
+alone : (days : List Day) (table : Members) (day : Day) → day_in days table ≡ Ok day → day_in [] table ≡ Ok day
+unfolding day_in new_number_in
+alone days table day e = grind (arith, given, day_again)
+
+abbrev IsNew : List Day → ℕ → Type 0
+IsNew days number = list_any (λ other. day_number other == number) days ≡ false
+
+new_number : (days : List Day) (table : Members)
+    → Gives (new_number_in days table) (λ number. IsDayNumber number × IsNew days number)
+unfolding new_number_in
+new_number days table = grind (arith, after, day_number_within, tested, done, not-true)
+
+day_read : (days : List Day) (table : Members)
+    → Gives (day_in days table) (λ day. IsLegalDay day × IsNew days (day_number day))
+unfolding day_in
+day_read days table =
+    after _ _ _ _ (new_number days table) (λ number new. after_any _ _ _ (λ model day e.
+    let is = model_day number model table new.0 day e in (is.0, subst (IsNew days) (sym is.1) new.1)))
+
+pub described : (days : List Day) (table : Members) (day : Day) → day_in days table ≡ Ok day → Tells days table day
+described days table day e =
+    let read = day_read days table day e in
+    record { legal = read.0; free = read.1; alone = alone days table day e }
 
 -- the day has the number
 abbrev has : ℕ → Day → Bool
@@ -110,7 +282,7 @@ month_more days new is free =
 -- an item that is read is the table of an entry
 record IsEntry (days : List Day) (item : Data) (day : Day) : Type 0 where
   entry : Members
-  is : item ≡ table entry
+  is : item ≡ toml.table entry
   tells : Tells days entry day
 
 entry_read : (days : List Day) (item : Data) (day : Day) → day_for days item ≡ Ok day → IsEntry days item day
@@ -125,7 +297,7 @@ entry_read days item day e =
 
 -- an entry among the items describes the day of that number
 abbrev IsTold : List Data → ℕ → Day → Type 0
-IsTold items number day = (entry : Members) × Contains items (table entry) × (day_in [] entry ≡ Ok day)
+IsTold items number day = (entry : Members) × Contains items (toml.table entry) × (day_in [] entry ≡ Ok day)
     × (day_number day ≡ number)
 
 -- what is found passes; and what passes is found, where nothing before it does
@@ -135,7 +307,7 @@ first_found p [] k d within here none = absurd (omega arith)
 first_found p (x ∷ xs) zero d within here none = rw here refl
 first_found p (x ∷ xs) (suc k) d within here none = grind (arith, nat_tests, first_found p xs k d)
 
-same_table : {entry other : Members} → table entry ≡ table other → entry ≡ other
+same_table : {entry other : Members} → toml.table entry ≡ toml.table other → entry ≡ other
 same_table e = cc
 
 -- what is found among the days is what an entry among the items describes
@@ -160,7 +332,7 @@ module _ (items : List Data) (days : List Day) (read : in_turn day_for items ≡
   told_found number day told =
       let place = told.1.0 in
       let within : place < length days = omega (arith, as_many day_for items days read, told.1.1) in
-      let here = (day_at place (table told.0) day within).1 in
+      let here = (day_at place (toml.table told.0) day within).1 in
       let entry = same_table (sym told.1.2 ∙ here.is) in
       let same : day ≡ get_or days place day = same_found _ _ (sym told.2 ∙ ap (day_in []) entry ∙ here.tells.alone) in
       first_found (has number) days place day within (eq-eqb _ _ (ap day_number (sym same) ∙ told.3))
