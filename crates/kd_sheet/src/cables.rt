@@ -82,12 +82,12 @@ pub fn cables_in(table: &Table) -> Result<[Cable; CABLES], SheetFault>
 fn is_plugged(pairs: &[Pair], letter: Letter) -> bool
     ensures { result ≡ has_letter (flat_map pair_letters pairs.now) letter }
 {
-    for (one, other) in pairs {
-        if *one == letter || *other == letter {
-            return true;
+    match pairs {
+        [(one, other), rest @ ..] => {
+            *one == letter || *other == letter || is_plugged(rest, letter)
         }
+        [] => false,
     }
-    false
 }
 
 /// A pair, which has no letter of those before it.

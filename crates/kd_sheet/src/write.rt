@@ -58,9 +58,9 @@ fn push_pins(text: &mut Item, letters: &[Letter], pins: &[bool])
     requires pins { length pins.now ≡ length letters.now }
     ensures { text.new.bytes ≡ text.old.bytes ++ pins_text letters.now pins.now }
 {
-    for (place, letter) in letters.iter().enumerate() {
-        let effective = pins[place];
-        push_pin(text, *letter, effective);
+    if let ([letter, letters @ ..], [effective, pins @ ..]) = (letters, pins) {
+        push_pin(text, *letter, *effective);
+        push_pins(text, letters, pins);
     }
 }
 

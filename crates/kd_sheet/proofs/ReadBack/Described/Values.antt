@@ -24,12 +24,6 @@ pub model_by_name-text : (model : Model) → model_by_name (model_text model) �
 unfolding model_by_name
 model_by_name-text model = grind arith
 
-pub model_named : (name : List ℕ) (found : Option Model)
-    → MatchOption found ((model : Model) → model_text model ≢ name) (λ model. model_text model ≡ name)
-    → model_by_name name ≡ found
-unfolding model_by_name
-model_named name found named = sym (find_named model_text every_model model_by_name-text name found named)
-
 -- each wheel is the one of its name
 pub wheel_by_name-text : (wheel : Wheel) → wheel_by_name (wheel_text wheel) ≡ Some wheel
 unfolding wheel_by_name
