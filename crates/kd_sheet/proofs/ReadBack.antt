@@ -12,10 +12,6 @@ texts ts = array (items_of (map string ts))
 pub texts_read : (key : Key) (ts : List (List ℕ)) → items_in key (texts ts) ≡ Ok (map string ts)
 texts_read key ts = ap Ok (list_of-items_of (map string ts))
 
-texts_at : (key : Key) (table : Members) (ts : List (List ℕ)) → value_at key table ≡ Ok (texts ts)
-    → items_at key table ≡ Ok (map string ts)
-texts_at key table ts there = search (rules, then_read, value_at, texts_read)
-
 -- an array of so many texts, and one of so many at most, of which each is read as what it was
 module _ {X : Type 0} (key : Key) (count : ℕ) (text_of : X → List ℕ) (things : List X)
     (reading : List X → Data → Result X SheetFault)
@@ -24,7 +20,7 @@ module _ {X : Type 0} (key : Key) (count : ℕ) (text_of : X → List ℕ) (thin
       → each_at key count reading table ≡ Ok things
   each_at_again table there counted =
       let read = again reading text_of things each in
-      grind (arith, common_steps, eq-eqb, then_read, items_at, texts_at, passing)
+      grind (arith, common_steps, eq-eqb, then_read, items_at, list_of-items_of, passing)
 
   pub up_to_again : length things ≤ count → up_to key count reading (texts (map text_of things)) ≡ Ok things
   up_to_again few =
@@ -61,9 +57,6 @@ abbrev pub MayStand : Key → Option Wheel → Type 0
 MayStand key None = may_be_empty key ≡ true
 MayStand key (Some wheel) = Unit {0}
 
-has_name : (wheel : Wheel) → (length (wheel_text wheel) == 0) ≡ false
-has_name wheel = grind arith
-
 seat_again : (key : Key) (model : Model) (slots : List (Option Wheel)) (seat : Option Wheel) → MayStand key seat
     → AreAllowed model slots → AreApart slots → (k : ℕ) → slice_get slots k ≡ Some seat
     → seat_of_item key model (take k slots) (string (seat_text seat)) ≡ Ok seat
@@ -78,7 +71,8 @@ seat_again key model slots (Some wheel) may allowed apart k at =
     let among = (is_seated-Decides (take k slots) wheel).0 seated in
     let stands : slice_get slots among.0 ≡ Some (Some wheel) = grind (arith, common_steps, gets) in
     omega (arith, apart among.0 k wheel stands at, among.1)) in
-    rw (has_name wheel, and-false, wheel_by_name-text wheel, among_them, free) refl
+    let named : (length (wheel_text wheel) == 0) ≡ false = grind arith in
+    rw (named, and-false, wheel_by_name-text wheel, among_them, free) refl
 
 pub seats_in_again : (key : Key) (model : Model) (table : Members) (slots : List (Option Wheel))
     → value_at key table ≡ Ok (texts (map seat_text slots)) → All (MayStand key) slots → AreSeated model slots
@@ -105,9 +99,6 @@ same_cables (cable ∷ cables) = grind (arith, same_cables cables)
 abbrev IsTold : Option ℕ × Option ℕ → Type 0
 IsTold cable = single_first cable ≡ cable
 
-told_once : (cable : Option ℕ × Option ℕ) → IsTold (single_first cable)
-told_once cable = grind arith
-
 cable_again : (before : List (Option ℕ × Option ℕ)) (cable : Option ℕ × Option ℕ) → IsTold cable
     → IsFree cable_letters before cable → cable_for before (string (cable_text cable)) ≡ Ok cable
 unfolding cable_for letters_in_cable
@@ -119,16 +110,11 @@ cables_again cables are =
     let told = map single_first cables in
     let same = (same_cables cables).0 in
     let free : AreFree cable_letters told = record { within = rw same are.within; apart = rw same are.apart } in
-    let all : All IsTold told = All-map IsTold single_first cables (λ k d within. told_once (get_or cables k d)) in
+    let all : All IsTold told = All-map IsTold single_first cables (λ k d within. grind arith) in
     ap (λ ts. up_to keys.Cables 13 cable_for (texts ts)) (sym (same_cables cables).1)
     ∙ up_to_again keys.Cables 13 cable_text told cable_for (λ k cable at.
     cable_again (take k told) cable (held IsTold told k cable all at) (free_at cable_letters told k cable free at))
     (omega (arith, are.count, length-map cables single_first))
-
-pair_again : (before : List (ℕ × ℕ)) (pair : ℕ × ℕ) → IsFree pair_letters before pair
-    → pair_for before (string (letters_text (pair_letters pair))) ≡ Ok pair
-unfolding pair_for
-pair_again before pair free = grind (arith, letters_spelled, recursion_from_All, free)
 
 -- ---- pins and bars
 
@@ -146,12 +132,9 @@ wheels_again (w ∷ wheels) = ap (λ rest. w ∷ rest) (wheels_again wheels)
 
 -- ---- rows
 
-may_read_again : (row : ℕ × ℕ) → IsReading row → may_read (row.0 + 48) (row.1 + 48) ≡ true
-may_read_again row is = grind (arith, cases_eq, eq-eqb, is.equal, or-true, ne_eqb)
-
 row_again : (row : ℕ × ℕ) → IsReading row → row_of_text (reading_text row) ≡ Some row
 unfolding row_of_text
-row_again row is = grind (arith, le-leb, may_read_again)
+row_again row is = grind (arith, le-leb, cases_eq, eq-eqb, is.equal, or-true, ne_eqb)
 
 -- ---- the tables
 
@@ -182,22 +165,18 @@ unfolding model_day_in
 day_by_model number model reflector table day e d = grind arith
 
 pairs_in_again : (s : RotorDay) → IsLegalRotorDay s → pairs_in (rotor_day_table s) ≡ Ok s.pairs
-unfolding pairs_in
+unfolding pairs_in pair_for
 pairs_in_again s legal =
     let free : AreFree pair_letters s.pairs = record { within = legal.pairs.within; apart = legal.pairs.apart } in
     up_to_again keys.Plugs 13 (λ pair. letters_text (pair_letters pair)) s.pairs pair_for
-    (λ k pair at. pair_again (take k s.pairs) pair (free_at pair_letters s.pairs k pair free at)) legal.pairs.few
-
-group_again : (earlier : List (List ℕ)) (group : List ℕ) → AreLetters 3 group
-    → group_for earlier (string (letters_text group)) ≡ Ok group
-unfolding group_of_item
-group_again earlier group are = rw (capitals_again 3 group are) refl
+    (λ k pair at. let new = free_at pair_letters s.pairs k pair free at in
+    grind (arith, letters_spelled, recursion_from_All, new)) legal.pairs.few
 
 groups_in_again : (s : RotorDay) → IsLegalRotorDay s → groups_in (rotor_day_table s) ≡ Ok s.groups
-unfolding groups_in
+unfolding groups_in group_of_item
 groups_in_again s legal =
-    up_to_again keys.Groups 4 letters_text s.groups group_for (λ k group at. group_again (take k s.groups) group (held
-    (AreLetters 3) s.groups k group legal.groups at)) legal.few_groups
+    up_to_again keys.Groups 4 letters_text s.groups group_for (λ k group at.
+    rw (capitals_again 3 group (held (AreLetters 3) s.groups k group legal.groups at)) refl) legal.few_groups
 
 -- what each wheel has, the ring or the letter in the window
 parts_are : (s : RotorDay) → IsLegalRotorDay s → (part : SheetWheel → ℕ)
@@ -438,9 +417,6 @@ same_order : (cables : List (Option ℕ × Option ℕ))
 same_order [] = refl
 same_order (cable ∷ cables) = grind (arith, same_order cables)
 
-may_stand : (seat : Option Wheel) → MayStand keys.Slots seat
-may_stand seat = grind arith
-
 abbrev rotor_entries : RotorParts → List Entry
 rotor_entries m =
     version_entry m.model ∷ text_entry keys.Model (model_text m.model)
@@ -465,21 +441,17 @@ rotor_read m legal =
     search (rules, are_plain, legal.rings.within, legal.letters.within, legal.cables.within) in
     file_read (rotor_entries m) (rotor_table m) all refl
 
--- with empty cables behind 13 they are the same
-thirteen_again : (cables : List (Option ℕ × Option ℕ)) → length cables ≡ 13 → thirteen cables ≡ cables
-thirteen_again cables all = rw all (append-nil cables)
-
 cables_in_again : (m : RotorParts) → IsLegalRotor m → cables_in (rotor_table m) ≡ Ok (map single_first m.cables)
 unfolding cables_in
-cables_in_again m legal = grind (arith, common_steps, cables_again, thirteen_again)
+cables_in_again m legal = grind (arith, common_steps, cables_again, append-nil)
 
 rotor_parts_again : (m : RotorParts) → IsLegalRotor m
     → rotor_parts_in m.model (rotor_table m) ≡ Ok (record m { cables = map single_first m.cables })
 unfolding rotor_parts_in reflector_in letters_at
 rotor_parts_again m legal =
     let has = (has_reflector-Decides (reflectors_of m.model) m.reflector).1 legal.reflector in
-    let seated = seats_in_again keys.Slots m.model (rotor_table m) m.slots refl (λ k d within. may_stand
-    (get_or m.slots k d)) (record { count = legal.slots; allowed = legal.allowed; apart = legal.apart }) in
+    let seated = seats_in_again keys.Slots m.model (rotor_table m) m.slots refl (λ k d within.
+    grind arith) (record { count = legal.slots; allowed = legal.allowed; apart = legal.apart }) in
     grind (arith, then_read, reflector_again, capitals_again, cables_in_again)
 
 by_model : (model : Model) (reflector : Reflector) (table : Members) (m : RotorParts)
@@ -505,7 +477,7 @@ pin_table m =
 pin_read : (m : PinParts) → IsLegalPin m → document_of (machine_text (Pin m)) ≡ Ok (pin_table m)
 unfolding machine_text define along_header along_dots at_key
 pin_read m legal =
-    let all_pins : AllByRecursion IsPlain (pin_texts m.pins) = grind (arith, pins_plain, rings_below) in
+    let all_pins : AllByRecursion IsPlain (pin_texts m.pins) = grind (arith, pins_plain, recursion_from_All, ring_letters) in
     let all : AllByRecursion IsWritten (pin_entries m) =
     search (rules, are_plain, all_pins, letters_below, legal.letters) in
     file_read (pin_entries m) (pin_table m) all refl

@@ -16,41 +16,30 @@ reflector_there model table reflector e = grind (arith, given, there_was, found_
 abbrev Each : {A : Type 0} → (A → Type 0) → ℕ → List A → Type 0
 Each P count xs = (length xs ≡ count) × All P xs
 
-group_read : (earlier : List (List ℕ)) (item : Data) (group : List ℕ)
-    → group_for earlier item ≡ Ok group → AreLetters 3 group
-unfolding group_of_item
-group_read earlier item group e = grind (arith, there_was, capitals_are_letters, none-some)
-
 groups_in_groups : (table : Members)
     → Gives (groups_in table) (λ groups. (length groups ≤ 4) × All (AreLetters 3) groups)
-unfolding groups_in
+unfolding groups_in group_of_item
 groups_in_groups table groups e =
-    let read = some_read group_for (All (AreLetters 3)) (each_is group_for (AreLetters 3) group_read) keys.Groups 4 in
+    let read = some_read group_for (All (AreLetters 3)) (each_is group_for (AreLetters 3) (λ earlier item group e.
+    grind (arith, there_was, capitals_are_letters, none-some))) keys.Groups 4 in
     grind (arith, read, All-nil (AreLetters 3))
 
 row_is_reading : (one other : ℕ) → is_figure one ≡ true → is_figure other ≡ true → may_read one other ≡ true
     → IsReading (in_order (one - 48) (other - 48))
 row_is_reading one other low high may = grind (arith, nat_tests, leb-true)
 
-row_read : (earlier : List (ℕ × ℕ)) (item : Data) (row : ℕ × ℕ) → row_for earlier item ≡ Ok row → IsReading row
-unfolding row_of_text
-row_read earlier item row e = grind (arith, there_was, some_if, row_is_reading, none-some)
-
 rows_in_rows : (table : Members) → Gives (rows_in table) (Each IsReading 27)
-unfolding rows_in
-rows_in_rows table = each_read row_for (All IsReading) (each_is row_for IsReading row_read) keys.Rows 27 table
+unfolding rows_in row_of_text
+rows_in_rows table = each_read row_for (All IsReading) (each_is row_for IsReading (λ earlier item row e.
+    grind (arith, there_was, some_if, row_is_reading, none-some))) keys.Rows 27 table
 
 abbrev IsStanding : Place × Place → Type 0
 IsStanding bar = IsBefore bar.0 bar.1
 
-text_bar : (earlier : List (Place × Place)) (item : Data) (bar : Place × Place)
-    → standing_for earlier item ≡ Ok bar → IsStanding bar
-text_bar earlier item bar e = grind (arith, there_was, standing_read, none-some)
-
 bars_in_bars : (table : Members) → Gives (bars_in table) (Each IsStanding 27)
 unfolding bars_in
-bars_in_bars table = each_read standing_for (All IsStanding)
-    (each_is standing_for IsStanding text_bar) keys.Bars 27 table
+bars_in_bars table = each_read standing_for (All IsStanding) (each_is standing_for IsStanding (λ earlier item bar e.
+    grind (arith, there_was, standing_read, none-some))) keys.Bars 27 table
 
 -- ---- pins, and the letters that pin wheels show
 
@@ -70,15 +59,11 @@ all_fit items lists e place d within =
     let read = read_at pins_behind items lists e place nothing d (omega (arith, as_many pins_behind items lists e)) in
     rw length-take-le at (text_pins _ (get_or items place nothing) (get_or lists place d) read)
 
-six_fit : (lists : List (List Bool)) → length lists ≡ 6 → Fit lists → HasAllPins (pin_set lists)
-unfolding ring_of
-six_fit lists six fit = grind (arith, fit)
-
 pins_in_fit : (table : Members) → Gives (pins_in table) HasAllPins
-unfolding pins_in
+unfolding pins_in ring_of
 pins_in_fit table =
     after _ _ _ _ (each_read pins_behind Fit all_fit keys.Pins 6 table)
-    (λ lists all. done HasAllPins _ (six_fit lists all.0 all.1))
+    (λ lists all. done HasAllPins _ (grind (arith, all.1)))
 
 letters_shown : (key : Key) (table : Members) → Gives (shown_in key table) AreOnWheels
 unfolding shown_in letters_on_wheels
@@ -253,12 +238,9 @@ number_at month number place None is within same here = tt
 number_at month number place (Some day) is within same here = is.each number day (grind (arith, slice_get-get_or))
 
 -- one more day, of a number that none has
-none_found : (days : List Day) (number : ℕ) → list_any (has number) days ≡ false → find (has number) days ≡ None
-none_found days number free = grind (arith, any_found days number)
-
 found_more : (days : List Day) (new : Day) (number : ℕ) → list_any (has (day_number new)) days ≡ false
     → find (has number) (days ++ new ∷ []) ≡ cond (nat_eq (day_number new) number) (Some new) (find (has number) days)
-found_more days new number free = grind (arith, nat_tests, find-append, none_found)
+found_more days new number free = grind (arith, nat_tests, find-append, any_found days number)
 
 month_more : (days : List Day) (new : Day) → IsDayNumber (day_number new) → list_any (has (day_number new)) days ≡ false
     → set (month_of days) (day_number new - 1) (Some new) ≡ month_of (days ++ new ∷ [])
@@ -307,9 +289,6 @@ first_found p [] k d within here none = absurd (omega arith)
 first_found p (x ∷ xs) zero d within here none = rw here refl
 first_found p (x ∷ xs) (suc k) d within here none = grind (arith, nat_tests, first_found p xs k d)
 
-same_table : {entry other : Members} → toml.table entry ≡ toml.table other → entry ≡ other
-same_table e = cc
-
 -- what is found among the days is what an entry among the items describes
 module _ (items : List Data) (days : List Day) (read : in_turn day_for items ≡ Ok days) where
   day_at : (k : ℕ) (e : Data) (d : Day) → k < length days
@@ -333,7 +312,7 @@ module _ (items : List Data) (days : List Day) (read : in_turn day_for items ≡
       let place = told.1.0 in
       let within : place < length days = omega (arith, as_many day_for items days read, told.1.1) in
       let here = (day_at place (toml.table told.0) day within).1 in
-      let entry = same_table (sym told.1.2 ∙ here.is) in
+      let entry : told.0 ≡ here.entry = cc (told.1.2, here.is) in
       let same : day ≡ get_or days place day = same_found _ _ (sym told.2 ∙ ap (day_in []) entry ∙ here.tells.alone) in
       first_found (has number) days place day within (eq-eqb _ _ (ap day_number (sym same) ∙ told.3))
       (rw (ap day_number (sym same) ∙ told.3) at here.tells.free) ∙ ap Some (sym same)

@@ -1,6 +1,7 @@
 -- What the values of keys say: names, numbers and letters, wheels in their slots, cables and pairs, and pins.
 pub mod InTurn
 unfoldable pub use InTurn.*
+use Rattle.std.{proofs.lemmas.List.Folds.find_at, specs.List.position_or_len}
 
 -- ---- names
 
@@ -31,11 +32,9 @@ wheel_by_name-text wheel = grind arith
 
 -- what is found is there, and passes
 pub found_there : {X : Type 0} (p : X → Bool) (xs : List X) (x : X) → find p xs ≡ Some x → Contains xs x
-found_there p [] x e = absurd (none-some x e)
-found_there p (y ∷ xs) x e = elim (cases_Bool (p y)) [
-  | inl is ↦ (0, omega arith, same_Some y x (rw is at e))
-  | inr not ↦ let later = found_there p xs x (rw not at e) in (suc later.0, omega (arith, later.1), later.2)
-]
+found_there p xs x e =
+    let at = sym (find_at p xs) ∙ e in
+    (position_or_len p xs, slice_get_within xs _ x at, get_or_from_slice_get xs _ x x at)
 
 pub passes : {X : Type 0} (p : X → Bool) (xs : List X) (x : X) → find p xs ≡ Some x → p x ≡ true
 passes p [] x e = absurd (none-some x e)
@@ -94,14 +93,10 @@ numbered_letters_within : (items : List Data) → list_all (λ item. is_some (nu
 numbered_letters_within [] e = (tt, refl)
 numbered_letters_within (item ∷ items) e = grind (arith, nat_tests, number_within, numbered_letters_within items)
 
-rings_are_letters : (count : ℕ) (value : Data) (rings : List ℕ) → rings_of count value ≡ Some rings
-    → AreLetters count rings
-rings_are_letters count value rings e =
-    grind (arith, nat_tests, some_if, capitals_are_letters, numbered_letters_within, All-from_recursion)
-
 pub rings_in_letters : (model : Model) (table : Members) → Gives (rings_in model table) (AreLetters (slots_of model))
 unfolding rings_in
-rings_in_letters model table rings e = grind (arith, given, there_was, rings_are_letters)
+rings_in_letters model table rings e =
+    grind (arith, nat_tests, given, there_was, some_if, capitals_are_letters, numbered_letters_within, All-from_recursion)
 
 pub letters_at_are : (key : Key) (count : ℕ) (table : Members) → Gives (letters_at key count table) (AreLetters count)
 unfolding letters_at
@@ -109,17 +104,13 @@ letters_at_are key count table letters e = grind (arith, given, there_was, capit
 
 -- ---- one seat
 
--- a seat holds the wheel
-holds-Decides : (wheel : Wheel) (seat : Option Wheel) → Decides (holds wheel seat) (seat ≡ Some wheel)
-holds-Decides wheel seat = grind (arith, Decides-like, same_Some, same_wheel-Decides)
-
 -- some slot seats the wheel
 pub is_seated-Decides : (slots : List (Option Wheel)) (wheel : Wheel)
     → Decides (is_seated slots wheel) (Contains slots (Some wheel))
 unfolding is_seated
 is_seated-Decides slots wheel =
     Decides-contains slots (Some wheel) _ (Decides-by_or (holds wheel) (λ seat. seat ≡ Some wheel)
-    (list_any (holds wheel)) (holds-Decides wheel) refl (λ _ _. refl) slots)
+    (list_any (holds wheel)) (λ seat. grind (arith, Decides-like, same_Some, same_wheel-Decides)) refl (λ _ _. refl) slots)
 
 pub not_seated : (slots : List (Option Wheel)) (wheel : Wheel) → ¬ Contains slots (Some wheel) → is_seated slots wheel ≡ false
 not_seated slots wheel free = grind (arith, is_seated-Decides slots wheel)
@@ -289,11 +280,6 @@ two_letters (one ∷ []) few = refl
 two_letters (one ∷ other ∷ []) few = refl
 two_letters letters few = absurd (omega arith)
 
-cable_read : (cables : List (Option ℕ × Option ℕ)) (item : Data) (cable : Option ℕ × Option ℕ)
-    → cable_for cables item ≡ Ok cable → IsFree cable_letters cables cable
-unfolding cable_for letters_in_cable
-cable_read cables item cable e = grind (arith, some_if, letters_read, two_letters, leb-true, none-some)
-
 none_in : (n : ℕ) → plugged_letters (replicate n (None, None)) ≡ []
 none_in zero = refl
 none_in (suc n) = none_in n
@@ -307,10 +293,10 @@ filled_up cables few free =
     record { count = grind (arith, common_steps); within = rw letters free.within; apart = rw letters free.apart }
 
 pub are_cables : (table : Members) → Gives (cables_in table) AreCables
-unfolding cables_in
+unfolding cables_in cable_for letters_in_cable
 are_cables table =
-    after _ _ _ _ (if_there (get_member (key_name keys.Cables) table) _ _ _
-    (all_free cable_letters cable_for cable_read keys.Cables 13)
+    after _ _ _ _ (if_there (get_member (key_name keys.Cables) table) _ _ _ (all_free cable_letters cable_for
+    (λ cables item cable e. grind (arith, some_if, letters_read, two_letters, leb-true, none-some)) keys.Cables 13)
     (omega arith, record { within = All-nil (λ letter. letter < 26); apart = no_letters }))
     (λ cables free. done AreCables _ (filled_up cables free.0 free.1))
 
@@ -321,16 +307,12 @@ two_of : (letters : List ℕ) → AreLetters 2 letters
 two_of (one ∷ other ∷ []) are = refl
 two_of letters are = absurd (omega (arith, are.count))
 
-pair_read : (pairs : List (ℕ × ℕ)) (item : Data) (pair : ℕ × ℕ) → pair_for pairs item ≡ Ok pair
-    → IsFree pair_letters pairs pair
-unfolding pair_for
-pair_read pairs item pair e = grind (arith, there_was, capitals_are_letters, two_of, none-some)
-
 pub are_pairs : (table : Members) → Gives (pairs_in table) ArePairs
-unfolding pairs_in
+unfolding pairs_in pair_for
 are_pairs table =
     after_any (value_at keys.Plugs table) (up_to keys.Plugs 13 pair_for) ArePairs (λ value pairs e.
-    let free = all_free pair_letters pair_for pair_read keys.Plugs 13 value pairs e in
+    let free = all_free pair_letters pair_for (λ pairs item pair e.
+    grind (arith, there_was, capitals_are_letters, two_of, none-some)) keys.Plugs 13 value pairs e in
     record { few = free.0; within = free.1.within; apart = free.1.apart })
 
 -- ---- the letters of the pin wheels, and of their effective pins
@@ -363,12 +345,9 @@ ring_below : (wheel : ℕ) → list_all (λ letter. nat_lt letter 26) (ring_of w
 unfolding ring_of
 ring_below wheel = grind arith
 
-ring_letters : (wheel : ℕ) → All (λ letter. letter < 26) (ring_of wheel)
+pub ring_letters : (wheel : ℕ) → All (λ letter. letter < 26) (ring_of wheel)
 ring_letters wheel place d within =
     ltb-true _ _ (AllPass-from_list_all (λ letter. nat_lt letter 26) (ring_of wheel) (ring_below wheel) place d within)
-
-pub rings_below : (wheel : ℕ) → AllByRecursion (λ letter. letter < 26) (ring_of wheel)
-rings_below wheel = recursion_from_All (λ letter. letter < 26) (ring_of wheel) (ring_letters wheel)
 
 pub letters_below : (letters : List ℕ) → AreOnWheels letters → All (λ letter. letter < 26) letters
 letters_below letters are place d within =

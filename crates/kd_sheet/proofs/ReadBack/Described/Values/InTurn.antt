@@ -92,10 +92,6 @@ pub items_in_found : (key : Key) (value : Data) (found : Option (Bor (Vec Value 
     → result_map (λ items. map view items.now.items) (ok_or found (BadValue key)) ≡ items_in key value
 items_in_found key value found e = grind (arith, option_map, list_of-items_of)
 
--- the item at a place stands there as data, too
-pub viewed_at : (items : List Value) (place : ℕ) (item : Value) → place < length items → item ≡ get_or items place item → get_or (map view items) place (view item) ≡ view item
-viewed_at items place item left here = get_or-map view items place item (view item) left ∙ ap view (sym here)
-
 -- ---- on the way of a reading
 
 abbrev found : {A : Type 0} → A → Result A SheetFault
@@ -183,7 +179,8 @@ module _ {A : Type 0} where
   module _ (reading : List A → Data → Result A SheetFault) (items : List Value) (place : ℕ) (item : Value)
       (left : place < length items) (here : item ≡ get_or items place item) (values : List A) where
     next : drop place (map view items) ≡ view item ∷ drop (place + 1) (map view items)
-    next = rw (drop_more (map view items) place (view item) (omega (arith, length-map items view)), viewed_at items place item left here) refl
+    next = rw (drop_more (map view items) place (view item) (omega (arith, length-map items view)),
+        get_or-map view items place item (view item) left ∙ ap view (sym here)) refl
 
     -- one item more
     pub read_more : (value : A) → Ok value ≡ reading values (view item)
