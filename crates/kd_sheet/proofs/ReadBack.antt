@@ -99,13 +99,9 @@ same_cables (cable ∷ cables) = grind (arith, same_cables cables)
 abbrev IsTold : Option ℕ × Option ℕ → Type 0
 IsTold cable = single_first cable ≡ cable
 
-cable_again : (before : List (Option ℕ × Option ℕ)) (cable : Option ℕ × Option ℕ) → IsTold cable
-    → IsFree cable_letters before cable → cable_for before (string (cable_text cable)) ≡ Ok cable
-unfolding cable_for letters_in_cable
-cable_again before cable is free = grind (arith, letters_spelled, recursion_from_All, free)
-
 pub cables_again : (cables : List (Option ℕ × Option ℕ)) → AreCables cables
     → up_to keys.Cables 13 cable_for (texts (map cable_text cables)) ≡ Ok (map single_first cables)
+unfolding cable_for letters_in_cable
 cables_again cables are =
     let told = map single_first cables in
     let same = (same_cables cables).0 in
@@ -113,7 +109,9 @@ cables_again cables are =
     let all : All IsTold told = All-map IsTold single_first cables (λ k d within. grind arith) in
     ap (λ ts. up_to keys.Cables 13 cable_for (texts ts)) (sym (same_cables cables).1)
     ∙ up_to_again keys.Cables 13 cable_text told cable_for (λ k cable at.
-    cable_again (take k told) cable (held IsTold told k cable all at) (free_at cable_letters told k cable free at))
+    let is = held IsTold told k cable all at in
+    let new = free_at cable_letters told k cable free at in
+    grind (arith, letters_spelled, recursion_from_All, new))
     (omega (arith, are.count, length-map cables single_first))
 
 -- ---- pins and bars
@@ -131,10 +129,6 @@ wheels_again [] = refl
 wheels_again (w ∷ wheels) = ap (λ rest. w ∷ rest) (wheels_again wheels)
 
 -- ---- rows
-
-row_again : (row : ℕ × ℕ) → IsReading row → row_of_text (reading_text row) ≡ Some row
-unfolding row_of_text
-row_again row is = grind (arith, le-leb, cases_eq, eq-eqb, is.equal, or-true, ne_eqb)
 
 -- ---- the tables
 
@@ -154,9 +148,6 @@ pin_day_table s =
     (member (key_name keys.Model) (string (model_text M209)) (member (key_name keys.Pins) (texts (pin_texts s.pins))
     (member (key_name keys.Rows) (texts (map reading_text s.rows))
     (member (key_name keys.Window) (string (letters_text s.window)) no_members)))))
-
-number_again : (number : ℕ) → IsDayNumber number → number_to 31 (integer (pos number)) ≡ Some number
-number_again number is = rw (le-leb 1 number is.first, le-leb number 31 is.last) refl
 
 day_by_model : (number : ℕ) (model : Model) (reflector : Reflector) (table : Members) (day : Day)
     → has_reflector (reflectors_of model) reflector ≡ true
@@ -197,10 +188,11 @@ rotor_again s legal =
     grind (arith, then_read, reflector_again, pairs_in_again, groups_in_again, wheels_again)
 
 rows_in_again : (s : PinDay) → IsLegalPinDay s → rows_in (pin_day_table s) ≡ Ok s.rows
-unfolding rows_in
+unfolding rows_in row_of_text
 rows_in_again s legal =
-    each_at_again keys.Rows 27 reading_text s.rows row_for
-    (λ k row at. rw (row_again row (held IsReading s.rows k row legal.rows at)) refl) (pin_day_table s) refl legal.count
+    each_at_again keys.Rows 27 reading_text s.rows row_for (λ k row at.
+    let is = held IsReading s.rows k row legal.rows at in
+    grind (arith, le-leb, cases_eq, eq-eqb, is.equal, or-true, ne_eqb)) (pin_day_table s) refl legal.count
 
 pin_again : (s : PinDay) → IsLegalPinDay s → pin_day_in s.day (pin_day_table s) ≡ Ok (OfPins s)
 unfolding pin_day_in shown_in letters_at
@@ -211,14 +203,14 @@ unfolding number_in model_in model_day_in
 legal_is_described (OfRotors s) legal =
     let has = (has_reflector-Decides (reflectors_of s.model) s.reflector).1 legal.reflector in (
       rotor_day_table s,
-      day_again s.day s.model (rotor_day_table s) (OfRotors s) (rw (number_again s.day legal.day) refl)
+      day_again s.day s.model (rotor_day_table s) (OfRotors s) (grind (arith, le-leb, legal.day))
           (rw (model_by_name-text s.model) refl)
           (day_by_model s.day s.model s.reflector (rotor_day_table s) (OfRotors s) has (rotor_again s legal)),
     )
 legal_is_described (OfPins s) legal =
     let model = ap (λ found. ok_or found UnknownModel) (model_by_name-text M209) in (
       pin_day_table s,
-      day_again s.day M209 (pin_day_table s) (OfPins s) (rw (number_again s.day legal.day) refl) model
+      day_again s.day M209 (pin_day_table s) (OfPins s) (grind (arith, le-leb, legal.day)) model
           (pin_again s legal),
     )
 
@@ -293,9 +285,6 @@ are_written [] plain = record { writes = refl; shallow = refl; dated = refl; low
 are_written (text ∷ ts) plain =
     grind (arith, common_steps, append_assoc, quoted_is, list_all-append, plain_low, are_written ts plain.1)
 
-one_line : (ds : Items) → breaks_lines false ds ≡ false
-one_line ds = grind arith
-
 pub texts_written : (key : Key) (ts : List (List ℕ)) → AllByRecursion IsPlain ts → IsWritten (texts_entry key ts)
 texts_written key [] plain = grind arith
 texts_written key (text ∷ ts) plain =
@@ -303,7 +292,7 @@ texts_written key (text ∷ ts) plain =
     let writes : IsItemsText false false true (items_of (map string (text ∷ ts))) (quoted text ++
     (behind ts ++ codes "]")) = (quoted text, behind ts ++ codes "]", refl, quoted_is text plain.0, rest.writes) in
     record {
-      writes = grind (arith, append_assoc, quoted, one_line);
+      writes = grind (arith, append_assoc, quoted);
       shallow = rw rest.shallow (omega arith);
       dated = rest.dated;
       low = simp (list_all-append, plain_low text plain.0, rest.low);
@@ -441,18 +430,14 @@ rotor_read m legal =
     search (rules, are_plain, legal.rings.within, legal.letters.within, legal.cables.within) in
     file_read (rotor_entries m) (rotor_table m) all refl
 
-cables_in_again : (m : RotorParts) → IsLegalRotor m → cables_in (rotor_table m) ≡ Ok (map single_first m.cables)
-unfolding cables_in
-cables_in_again m legal = grind (arith, common_steps, cables_again, append-nil)
-
 rotor_parts_again : (m : RotorParts) → IsLegalRotor m
     → rotor_parts_in m.model (rotor_table m) ≡ Ok (record m { cables = map single_first m.cables })
-unfolding rotor_parts_in reflector_in letters_at
+unfolding rotor_parts_in reflector_in letters_at cables_in
 rotor_parts_again m legal =
     let has = (has_reflector-Decides (reflectors_of m.model) m.reflector).1 legal.reflector in
     let seated = seats_in_again keys.Slots m.model (rotor_table m) m.slots refl (λ k d within.
     grind arith) (record { count = legal.slots; allowed = legal.allowed; apart = legal.apart }) in
-    grind (arith, then_read, reflector_again, capitals_again, cables_in_again)
+    grind (arith, common_steps, then_read, reflector_again, capitals_again, cables_again, append-nil)
 
 by_model : (model : Model) (reflector : Reflector) (table : Members) (m : RotorParts)
     → has_reflector (reflectors_of model) reflector ≡ true → rotor_parts_in model table ≡ Ok m

@@ -24,14 +24,10 @@ groups_in_groups table groups e =
     grind (arith, there_was, capitals_are_letters, none-some))) keys.Groups 4 in
     grind (arith, read, All-nil (AreLetters 3))
 
-row_is_reading : (one other : ℕ) → is_figure one ≡ true → is_figure other ≡ true → may_read one other ≡ true
-    → IsReading (in_order (one - 48) (other - 48))
-row_is_reading one other low high may = grind (arith, nat_tests, leb-true)
-
 rows_in_rows : (table : Members) → Gives (rows_in table) (Each IsReading 27)
 unfolding rows_in row_of_text
 rows_in_rows table = each_read row_for (All IsReading) (each_is row_for IsReading (λ earlier item row e.
-    grind (arith, there_was, some_if, row_is_reading, none-some))) keys.Rows 27 table
+    grind (arith, there_was, some_if, nat_tests, leb-true, none-some))) keys.Rows 27 table
 
 abbrev IsStanding : Place × Place → Type 0
 IsStanding bar = IsBefore bar.0 bar.1
@@ -144,32 +140,27 @@ day_again number model table day is of_model rest = grind (arith, then_read, num
 -- what a table tells that describes a day behind others
 pub record Tells (days : List Day) (table : Members) (day : Day) : Type 0 where
   pub legal : IsLegalDay day
+  pub number : IsDayNumber (day_number day)
   pub free : list_any (λ other. day_number other == day_number day) days ≡ false
   pub alone : day_in [] table ≡ Ok day
-
-alone : (days : List Day) (table : Members) (day : Day) → day_in days table ≡ Ok day → day_in [] table ≡ Ok day
-unfolding day_in new_number_in
-alone days table day e = grind (arith, given, day_again)
 
 abbrev IsNew : List Day → ℕ → Type 0
 IsNew days number = list_any (λ other. day_number other == number) days ≡ false
 
 new_number : (days : List Day) (table : Members)
-    → Gives (new_number_in days table) (λ number. IsDayNumber number × IsNew days number)
+    → Gives (new_number_in days table) (λ number. (number_in table ≡ Ok number) × IsDayNumber number × IsNew days number)
 unfolding new_number_in
-new_number days table = grind (arith, after, day_number_within, tested, done, not-true)
-
-day_read : (days : List Day) (table : Members)
-    → Gives (day_in days table) (λ day. IsLegalDay day × IsNew days (day_number day))
-unfolding day_in
-day_read days table =
-    after _ _ _ _ (new_number days table) (λ number new. after_any _ _ _ (λ model day e.
-    let is = model_day number model table new.0 day e in (is.0, subst (IsNew days) (sym is.1) new.1)))
+new_number days table number e = grind (arith, given, day_number_within, not-true)
 
 pub described : (days : List Day) (table : Members) (day : Day) → day_in days table ≡ Ok day → Tells days table day
+unfolding day_in
 described days table day e =
-    let read = day_read days table day e in
-    record { legal = read.0; free = read.1; alone = alone days table day e }
+    let number = given (new_number_in days table) _ day e in
+    let model = given (model_in table) _ day number.2 in
+    let new = new_number days table number.0 number.1 in
+    let is = model_day number.0 model.0 table new.1 day model.2 in
+    let alone = day_again number.0 model.0 table day new.0 model.1 model.2 in
+    record { legal = is.0; number = rw is.1 new.1; free = rw is.1 new.2; alone = alone }
 
 -- the day has the number
 abbrev has : ℕ → Day → Bool
@@ -317,11 +308,6 @@ module _ (items : List Data) (days : List Day) (read : in_turn day_for items ≡
       first_found (has number) days place day within (eq-eqb _ _ (ap day_number (sym same) ∙ told.3))
       (rw (ap day_number (sym same) ∙ told.3) at here.tells.free) ∙ ap Some (sym same)
 
--- the number of a day that an entry describes
-numbered : (entry : Members) (day : Day) → day_in [] entry ≡ Ok day → IsDayNumber (day_number day)
-numbered entry (OfRotors s) e = (described [] entry (OfRotors s) e).legal.day
-numbered entry (OfPins s) e = (described [] entry (OfPins s) e).legal.day
-
 pub days_are_the_entries : DaysAreTheEntries
 unfolding sheet_in
 days_are_the_entries members items month number day at e =
@@ -331,7 +317,7 @@ days_are_the_entries members items month number day at e =
     let same : month ≡ month_of days.0 = same_found _ _ (sym days.2) in rw same (
       λ found. found_told items days.0 read number day
           (sym (day_of_month days.0 number (within_month days.0 number day found)) ∙ found),
-      λ told. day_of_month days.0 number (subst IsDayNumber told.3 (numbered told.0 day told.2))
+      λ told. day_of_month days.0 number (subst IsDayNumber told.3 (described [] told.0 day told.2).number)
           ∙ told_found items days.0 read number day told,
     )
 
@@ -357,5 +343,5 @@ next_month sheet after items place item new left here so_far found put =
       days = so_far.days ++ new ∷ [];
       read = so_far.read ∙ read_more day_for items place item left here so_far.days new found;
       month = put ∙ ap (λ month. set month (day_number new - 1) (Some new)) so_far.month
-          ∙ month_more so_far.days new (numbered entry.entry new entry.tells.alone) entry.tells.free;
+          ∙ month_more so_far.days new entry.tells.number entry.tells.free;
     }
