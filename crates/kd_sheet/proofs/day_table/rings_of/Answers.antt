@@ -1,5 +1,4 @@
-use Rattle.kd_sheet.proofs.ReadBack.Described.Values.InTurn.{arith, as_array, list_of-items_of, rules, view}
-use Rattle.toml.specs.declared.value.Value.{the_lemmas}
+use Rattle.kd_sheet.proofs.ReadBack.Described.Values.InTurn.{arith, list_of-items_of, the_lemmas}
 use Rattle.kd_sheet.proofs.day_table.rings_of.Goals as goal
 
 pub returns-in-Array : goal.returns-in-Array

@@ -1,5 +1,4 @@
-use Rattle.kd_sheet.proofs.ReadBack.Described.{OfRotors, arith, common_steps, rotor_day, rotor_day_in}
-use Rattle.toml.specs.View.{table_view}
+use Rattle.kd_sheet.proofs.ReadBack.Described.{OfRotors, arith, common_steps, rotor_day, rotor_day_in, table_view}
 use Rattle.kd_sheet.proofs.day_table.rotor_day_in.Goals as goal
 
 pub unwrap-requires : goal.unwrap-requires

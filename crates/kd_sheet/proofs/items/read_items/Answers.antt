@@ -1,4 +1,4 @@
-use Rattle.kd_sheet.proofs.ReadBack.Described.Values.InTurn.{arith, on_none, read_more, read_stops, rules, ◌∙◌}
+use Rattle.kd_sheet.proofs.ReadBack.Described.Values.InTurn.{arith, read_more, read_stops, rules, ◌∙◌}
 use Rattle.kd_sheet.proofs.items.read_items.Goals as goal
 
 pub loop-item-preserved : goal.loop-item-preserved

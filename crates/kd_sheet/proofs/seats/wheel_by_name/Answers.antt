@@ -1,5 +1,5 @@
-use Rattle.kd_sheet.proofs.ReadBack.Described.Values.{find_named, wheel_by_name, wheel_by_name-text, wheel_text}
-use Rattle.kd_sheet.specs.Names.{every_wheel}
+use Rattle.kd_sheet.proofs.ReadBack.Described.Values.{every_wheel, find_named, wheel_by_name, wheel_by_name-text}
+use Rattle.kd_sheet.proofs.ReadBack.Described.Values.{wheel_text}
 use Rattle.kd_sheet.proofs.seats.wheel_by_name.Goals as goal
 
 pub returns : goal.returns

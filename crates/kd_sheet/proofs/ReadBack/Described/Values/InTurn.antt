@@ -1,27 +1,27 @@
 -- What is read of a document, and of items one after another, each given what those before it are; and what a reading
 -- that succeeds has found on its way.
-pub use Rattle.{kd_pins.specs.declared.pin_set.PinSet.PinSet, kd_sheet.specs.Bars.{is_figure, may_read, row_for}}
-pub use Rattle.kd_sheet.specs.{Bars.standing_for, Cables.{cable_of, pair_letters, thirteen}, Document.{demand, each_at}}
-pub use Rattle.kd_sheet.specs.Document.{in_turn, items_at, items_in, list_of, result_map, up_to, value_at, ◌>>=◌, ◌>>◌}
-pub use Rattle.kd_sheet.specs.{Key.key_name, Laws.{DaysAreTheEntries, LegalPartsAreReadBack}, Letters.capital_letters}
+pub use Rattle.{kd_pins.specs.declared.pin_set.PinSet.PinSet, kd_sheet.specs.Bars.{row_for, standing_for}}
+pub use Rattle.kd_sheet.specs.{Cables.{cable_of, pair_letters, thirteen}, Document.{demand, each_at, in_turn, items_at}}
+pub use Rattle.kd_sheet.specs.{Document.{items_in, list_of, result_map, up_to, value_at, ◌>>=◌, ◌>>◌}, Key.key_name}
+pub use Rattle.kd_sheet.specs.{Laws.{DaysAreTheEntries, LegalPartsAreReadBack}, Letters.capital_letters}
 pub use Rattle.kd_sheet.specs.MachineText.{cable_text, key_line, listed, pin_texts, pins_text, quoted, seat_text}
-pub use Rattle.kd_sheet.specs.{MachineText.version_of, Names.every_model, Numbers.{number_to, numbered_letter}}
-pub use Rattle.kd_sheet.specs.{PinWheels.{are_on_wheels, has_capital, is_on, pins_behind, stands_once}, Seats.holds}
-pub use Rattle.kd_sheet.specs.{Seats.may_be_empty, Sheet.{IsMonth, day_of, month_of}, SheetFile.{group_for, rings_of}}
-pub use Rattle.kd_sheet.specs.{SheetFile.sheet_wheels, declared.fault.SheetFault.{SheetFault, TheVariants.BadValue}}
-pub use Rattle.kd_sheet.specs.declared.{fault.SheetFault.TheVariants.{NotToml, UnknownModel}, key.Key.Key}
+pub use Rattle.kd_sheet.specs.{MachineText.version_of, Names.{every_model, every_wheel}, Numbers.number_to}
+pub use Rattle.kd_sheet.specs.{Numbers.numbered_letter, PinWheels.{are_on_wheels, has_capital, is_on, pins_behind}}
+pub use Rattle.kd_sheet.specs.{PinWheels.stands_once, Seats.{holds, may_be_empty}, Sheet.{IsMonth, day_of, month_of}}
+pub use Rattle.kd_sheet.specs.{SheetFile.{group_for, sheet_wheels}, declared.fault.SheetFault.SheetFault}
+pub use Rattle.kd_sheet.specs.declared.{fault.SheetFault.TheVariants.{BadValue, NotToml, UnknownModel}, key.Key.Key}
 pub use Rattle.kd_state.proofs.{Cables.{eqb_flips, new_tells, no_letters}, Slots.all_pins}
 pub use Rattle.kd_state.proofs.Slots.{are_on_wheels as on_all_wheels, has_letter-Decides, numbered_here, numbered_other}
 pub use Rattle.kd_state.proofs.Wheels.{has_reflector-Decides, has_wheel-Decides, same_wheel-Decides}
 pub use Rattle.kd_state.specs.Machine.{AreAllowed, AreApart, AreCables, AreLetters, AreOnWheels, HasAllPins, IsLegalPin}
 pub use Rattle.kd_state.specs.Machine.{IsLegalRotor, StandsAt, cable_letters, cables_ordered, ordered, plugged_letters}
-pub use Rattle.kd_state.specs.{Pins.pin_set, Setting.{are_new, has_letter}, SheetDay.{ArePairs, AreSeated, Day}}
-pub use Rattle.kd_state.specs.SheetDay.{HasLetters, IsDayNumber, IsLegalDay, IsLegalPinDay, IsLegalRotorDay, OfPins}
-pub use Rattle.kd_state.specs.{SheetDay.{OfRotors, PinDay, RotorDay, day_number, seats}, ToldApart.has_reflector}
-pub use Rattle.kd_state.specs.{ToldApart.numbered, declared.machine.parts.Parts.{Parts, TheVariants.{Pin, Rotor}}}
+pub use Rattle.kd_state.specs.{Setting.{are_new, has_letter}, SheetDay.{ArePairs, AreSeated, Day, HasLetters}}
+pub use Rattle.kd_state.specs.SheetDay.{IsDayNumber, IsLegalDay, IsLegalPinDay, IsLegalRotorDay, OfPins, OfRotors}
+pub use Rattle.kd_state.specs.{SheetDay.{PinDay, RotorDay, day_number, seats}, ToldApart.{has_reflector, numbered}}
+pub use Rattle.kd_state.specs.declared.machine.parts.Parts.{Parts, TheVariants.{Pin, Rotor}}
 pub use Rattle.kd_state.specs.declared.machine.{pin_parts.PinParts.PinParts, rotor_parts.RotorParts.RotorParts}
 pub use Rattle.{kd_state.specs.declared.sheet_day.rotor_entry.SheetWheel.SheetWheel, kd_tables.specs.Places.IsBefore}
-pub use Rattle.kd_tables.specs.Places.{IsReading, figure, in_order, place_rank, reading_text, standing_text, standings}
+pub use Rattle.kd_tables.specs.Places.{IsReading, figure, place_rank, reading_text, standing_text, standings}
 pub use Rattle.kd_tables.specs.Tables.{IsAllowed, box_of, letters_of, model_text, reflector_text, reflectors_of}
 pub use Rattle.kd_tables.specs.{Tables.{slots_of, wheel_text, wheels_for}, Text.{is_capital, letters_text}}
 pub use Rattle.kd_tables.specs.declared.{model.Model.{Model, TheVariants.M209}, place.Place.Place}
@@ -49,11 +49,11 @@ pub use Rattle.std.proofs.lemmas.{Slice.Eq.bytes_eq-Decides, Str.{IsUtf8-from_as
 pub use Rattle.std.{proofs.lemmas.Str.{is_utf8-from_IsUtf8, Ascii.IsAscii-from_all}, specs.Array.AllOfLen}
 pub use Rattle.std.specs.List.{AllByRecursion, concat, count_by, enumerate_from, flat_map, list_all, list_any}
 pub use Rattle.{std.specs.Option.{option_and_then, option_map_or}, toml.proofs.Lines.data_of_table}
-pub use Rattle.toml.{proofs.ReadLines.{AllPrinted, read_lines, run}, specs.Data.{Data, Items, Members, array, as_array}}
+pub use Rattle.toml.{proofs.ReadLines.{AllPrinted, read_lines, run}, specs.Data.{Data, Members, array, as_array}}
 pub use Rattle.toml.specs.Data.{as_table, depth, get_member, has_valid_dates, integer, items_depth}
 pub use Rattle.toml.specs.{Data.{items_have_valid_dates, member, no_members, string}, Tables.{Expression, close}}
-pub use Rattle.toml.specs.{Tables.{key_value, no_nodes}, Text.{IsItemsText, IsLinesText, IsValueText, breaks_lines}}
-pub use Rattle.toml.specs.{View.{array_view, items_of, view}, declared.value.Value.Value}
+pub use Rattle.toml.specs.{Tables.{key_value, no_nodes}, Text.{IsItemsText, IsLinesText, IsValueText}, View.array_view}
+pub use Rattle.toml.specs.{View.{items_of, table_view, view}, declared.value.Value.{Value, the_lemmas}}
 unfoldable pub use Rattle.kd_sheet.specs.{Bars.{bars_in, row_of_text, rows_in}, Cables.{cable_for, cables_in}}
 unfoldable pub use Rattle.kd_sheet.specs.{Cables.{letters_in_cable, pair_for, pairs_in}, Document.document_of}
 unfoldable pub use Rattle.kd_sheet.specs.{Letters.letters_at, MachineFile.{known_model_in, machine_in, model_in}}
