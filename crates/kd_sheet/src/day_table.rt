@@ -1,5 +1,5 @@
 //! A day of a key sheet, which its table says key by key.
-ghost use Rattle.std.specs.Prelude.{◌≡◌, ◌≤◌, ◌<◌, ◌⊎◌, length, All, IsSome};
+ghost use Rattle.std.specs.Prelude.{◌≡◌, ◌≤◌, ◌<◌, ◌+◌, ◌++◌, length};
 ghost use Rattle.toml.specs.View.{view, table_view};
 ghost use Rattle.{kd_tables.specs.Tables.{slots_of}, kd_state.specs.SheetDay.{IsDayNumber}};
 ghost use Rattle.kd_sheet.specs.{Document.{result_map}, Letters.{letters_at}};
@@ -83,27 +83,31 @@ fn list_in(table: &Table) -> Result<[Letter; 2], SheetFault>
     letters_of_text(text.as_bytes()).ok_or(SheetFault::BadValue(Key::List))
 }
 
-/// The wheels in their slots, each with its ring and the letter in its window.
-fn sheet_wheels(slots: &[Option<Wheel>], rings: &[Letter], window: &[Letter]) -> PerSlot<SheetWheel>
-    requires few { (length slots.now ≡ 3) ⊎ (length slots.now ≡ 4) }
-    requires filled { All IsSome slots.now }
-    requires rings { length rings.now ≡ length slots.now }
-    requires window { length window.now ≡ length slots.now }
-    ensures { result ≡ sheet_wheels slots.now rings.now window.now }
+/// Puts the wheels in their slots, each with its ring and the letter in its window.
+fn push_wheels(
+    wheels: &mut ArrayVec<SheetWheel, 4>,
+    slots: &[Option<Wheel>],
+    rings: &[Letter],
+    window: &[Letter],
+)
+    requires { length wheels.old.items + length slots.now ≤ 4 }
+    ensures { wheels.new.items ≡ wheels.old.items ++ sheet_wheels slots.now rings.now window.now }
 {
-    let mut wheels = [SheetWheel::default(); 4];
-    for (place, slot) in slots.iter().enumerate() {
-        wheels[place] = SheetWheel {
-            wheel: slot.unwrap(),
-            ring: rings[place],
-            letter: window[place],
-        };
+    match (slots, rings, window) {
+        ([Some(wheel), slots @ ..], [ring, rings @ ..], [letter, window @ ..]) => {
+            wheels.push(SheetWheel {
+                wheel: *wheel,
+                ring: *ring,
+                letter: *letter,
+            });
+            push_wheels(wheels, slots, rings, window);
+        }
+        _ => {}
     }
-    PerSlot::new(&wheels[..slots.len()]).unwrap()
 }
 
 /// The day of a rotor model.
-#[tactic(auto, using(crate::proofs::ReadBack::Described::Values::seats_in_fill, crate::proofs::ReadBack::Described::Values::rings_in_letters, crate::proofs::ReadBack::Described::Values::letters_at_are), unfolding(crate::specs::SheetFile::rotor_day_in))]
+#[tactic(auto, unfolding(crate::specs::SheetFile::rotor_day_in))]
 fn rotor_day_in(table: &Table, day: u8, model: Model) -> Result<SheetDay, SheetFault>
     requires slots { 0 < slots_of model }
     requires day { IsDayNumber day }
@@ -115,7 +119,13 @@ fn rotor_day_in(table: &Table, day: u8, model: Model) -> Result<SheetDay, SheetF
     let window = window_in(table, model)?;
     let pairs = pairs_in(table)?;
     let groups = groups_in(table)?;
-    let wheels = sheet_wheels(slots.as_slice(), rings.as_slice(), window.as_slice());
+    let mut wheels = ArrayVec::new();
+    push_wheels(
+        &mut wheels,
+        slots.as_slice(),
+        rings.as_slice(),
+        window.as_slice(),
+    );
     let new = SheetDay::rotor(
         day,
         model,

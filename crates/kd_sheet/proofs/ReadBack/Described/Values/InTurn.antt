@@ -179,8 +179,9 @@ module _ {A : Type 0} where
   module _ (reading : List A → Data → Result A SheetFault) (items : List Value) (place : ℕ) (item : Value)
       (left : place < length items) (here : item ≡ get_or items place item) (values : List A) where
     next : drop place (map view items) ≡ view item ∷ drop (place + 1) (map view items)
-    next = rw (drop_more (map view items) place (view item) (omega (arith, length-map items view)),
-        get_or-map view items place item (view item) left ∙ ap view (sym here)) refl
+    next =
+        let viewed = get_or-map view items place item (view item) left ∙ ap view (sym here) in
+        rw (drop_more (map view items) place (view item) (omega (arith, length-map items view)), viewed) refl
 
     -- one item more
     pub read_more : (value : A) → Ok value ≡ reading values (view item)
