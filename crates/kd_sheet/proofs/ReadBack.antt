@@ -313,19 +313,13 @@ key_bare key = grind arith
 key_low : (key : Key) → list_all is_low (key_name key) ≡ true
 key_low key = grind arith
 
+-- the lines write the entries, the reader takes them, and their bytes are low
 lines_text : (started : Bool) (entries : List Entry) → AllByRecursion IsWritten entries
     → IsLinesText false started (map expression_of entries) (concat (map line_of entries))
-lines_text started [] all = refl
-lines_text started (entry ∷ entries) all = grind (arith, key_bare, append_assoc, lines_text true entries all.1)
-
-all_printed : (entries : List Entry) → AllByRecursion IsWritten entries → AllPrinted (map expression_of entries)
-all_printed [] all = tt
-all_printed (entry ∷ entries) all = ((refl, all.0.shallow, all.0.dated), all_printed entries all.1)
-
-file_low : (entries : List Entry) → AllByRecursion IsWritten entries
-    → list_all is_low (concat (map line_of entries)) ≡ true
-file_low [] all = refl
-file_low (entry ∷ entries) all = grind (arith, list_all-append, key_low, file_low entries all.1)
+    × AllPrinted (map expression_of entries) × (list_all is_low (concat (map line_of entries)) ≡ true)
+lines_text started [] all = (refl, tt, refl)
+lines_text started (entry ∷ entries) all =
+    grind (arith, key_bare, append_assoc, list_all-append, key_low, lines_text true entries all.1)
 
 no_mark : (text : List ℕ) → list_all is_low text ≡ true → skip_bom text ≡ text
 unfolding skip_bom
@@ -337,9 +331,10 @@ pub file_read : (entries : List Entry) (table : Members) → AllByRecursion IsWr
 unfolding parse_document
 file_read entries table all is =
     let text = concat (map line_of entries) in
-    let low = file_low entries all in
+    let lines = lines_text false entries all in
+    let low = lines.2 in
     let read = read_lines false false (map expression_of entries) text text (no_nodes, []) (suc (length text))
-    (lines_text false entries all) (all_printed entries all) refl (omega arith) in
+    lines.0 lines.1 refl (omega arith) in
     document_parsed text table
     (IsUtf8-from_ascii text (IsAscii-from_all text (λ place d within. ltb-true _ _ (AllPass-from_list_all is_low text low place d within))))
     (rw (no_mark text low, read) is)

@@ -213,12 +213,10 @@ pub put_day : (month : List (Option Day)) (place : ℕ) (new : Day) → IsMonth 
     → IsMonth (set month place (Some new))
 put_day month place new before here left =
     let at : day_number new - 1 ≡ place = omega arith in
-    subst (λ p. IsMonth (set month p (Some new))) at (record {
+    rw (← at) (record {
       count = length-set month (day_number new - 1) (Some new) ∙ before.count;
-      each = λ number day e. elim (cases_Bool (nat_eq number (day_number new))) [
-        | inl same ↦ grind (arith, eqb-true, numbered_here, same_Some, before.count)
-        | inr differs ↦ grind (arith, eqb-false, numbered_other, before.each)
-      ];
+      each = λ number day e.
+          grind (arith, cases_eq number (day_number new), numbered_here, numbered_other, same_Some, before.count, before.each);
     })
 
 -- the day at a place has its number

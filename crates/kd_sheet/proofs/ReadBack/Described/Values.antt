@@ -124,11 +124,7 @@ record CanBeSeated (model : Model) (slots : List (Option Wheel)) (wheel : Wheel)
 wheel_read : (key : Key) (model : Model) (slots : List (Option Wheel)) (name : List ℕ)
     → Gives (wheel_for key model slots name) (CanBeSeated model slots)
 unfolding wheel_for
-wheel_read key model slots name =
-    after_any _ _ _ (λ wheel. tested _ _ _ _ (λ may. tested _ _ _ _ (λ alone. done (CanBeSeated model slots) _ (record {
-      allowed = (has_wheel-Decides _ wheel).0 may;
-      free = not_from_Decides _ (is_seated-Decides slots wheel) (not-true _ alone);
-    }))))
+wheel_read key model slots name wheel e = grind (arith, given, passed, has_wheel-Decides, is_seated-Decides, not-true)
 
 -- what an item seats behind these slots
 record IsSeat (key : Key) (model : Model) (slots : List (Option Wheel)) (seat : Option Wheel) : Type 0 where
