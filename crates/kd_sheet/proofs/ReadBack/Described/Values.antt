@@ -271,10 +271,8 @@ module _ {X : Type 0} (letters_in : X → List ℕ) where
 -- ---- cables
 
 pub two_letters : (letters : List ℕ) → length letters ≤ 2 → cable_letters (cable_of letters) ≡ letters
-two_letters [] few = refl
-two_letters (one ∷ []) few = refl
-two_letters (one ∷ other ∷ []) few = refl
-two_letters letters few = absurd (omega arith)
+two_letters (one ∷ other ∷ third ∷ letters) few = absurd (omega arith)
+two_letters letters few = refl
 
 none_in : (n : ℕ) → plugged_letters (replicate n (None, None)) ≡ []
 none_in zero = refl
