@@ -22,7 +22,6 @@ pub trait FromItem<Given> {
 }
 
 /// What the items are, of which there may be `N`.
-#[tactic(auto, using(crate::proofs::ReadBack::Described::Values::InTurn::on_none))]
 fn read_items<T: FromItem<G> + Copy + Default, G, const N: usize>(
     given: &G,
     items: &[Value],

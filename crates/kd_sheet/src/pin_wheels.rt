@@ -1,5 +1,5 @@
 //! The letters of the Converter's six wheels, and which of their pins are effective.
-ghost use Rattle.std.specs.Prelude.{◌≡◌, ◌+◌, ◌<◌, length, map, ok_or, Ok};
+ghost use Rattle.std.specs.Prelude.{◌≡◌, ◌+◌, ◌<◌, [], ◌∷◌, length, map, ok_or, Ok};
 ghost use Rattle.std.specs.{List.{enumerate_from, list_all}, Option.{option_and_then}};
 ghost use Rattle.toml.specs.{Data.{as_str}, View.{view, table_view}};
 ghost use Rattle.kd_tables.specs.Rings.{ring_of};
@@ -107,20 +107,27 @@ fn pins_of_item<const N: usize>(ring: &Ring<N>, item: &Value) -> Option<[bool; N
 pub fn pins_in(table: &Table) -> Result<PinSet, SheetFault>
     ensures { result ≡ pins_in (table_view table.now) }
 {
-    match items_at(table, Key::Pins)?.as_slice() {
-        [one, two, three, four, five, six] => pins_of_six([one, two, three, four, five, six]),
-        _ => None,
-    }
-    .ok_or(SheetFault::BadValue(Key::Pins))
+    let items = items_at(table, Key::Pins)?.as_slice();
+    let [one, two, three, four, five, six] = items else {
+        return Err(SheetFault::BadValue(Key::Pins));
+    };
+    pins_of_six(one, two, three, four, five, six).ok_or(SheetFault::BadValue(Key::Pins))
 }
 
 /// The effective pins of the six wheels, by their items.
 #[tactic(auto, unfolding(crate::specs::PinWheels::pins_of_item))]
-fn pins_of_six(items: [&Value; 6]) -> Option<PinSet>
-    ensures { ok_or result (faults.BadValue keys.Pins)
-        ≡ (in_turn pins_behind (map (λ item. view item.now) items.entry) followed_by (λ pins. Ok (pin_set pins))) }
+fn pins_of_six(
+    one: &Value,
+    two: &Value,
+    three: &Value,
+    four: &Value,
+    five: &Value,
+    six: &Value,
+) -> Option<PinSet>
+    ensures { ok_or result (faults.BadValue keys.Pins) ≡ (in_turn pins_behind
+        (view one.now ∷ view two.now ∷ view three.now ∷ view four.now ∷ view five.now ∷ view six.now ∷ [])
+        followed_by (λ pins. Ok (pin_set pins))) }
 {
-    let [one, two, three, four, five, six] = items;
     Some(PinSet {
         w1: pins_of_item(&ring1(), one)?,
         w2: pins_of_item(&ring2(), two)?,

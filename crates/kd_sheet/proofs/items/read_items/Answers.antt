@@ -1,5 +1,8 @@
-use Rattle.kd_sheet.proofs.ReadBack.Described.Values.InTurn.{arith, read_more, read_stops, rules, ◌∙◌}
+use Rattle.kd_sheet.proofs.ReadBack.Described.Values.InTurn.{arith, on_none, read_more, read_stops, rules, ◌∙◌}
 use Rattle.kd_sheet.proofs.items.read_items.Goals as goal
+
+pub loop-item-init : goal.loop-item-init
+loop-item-init g c = grind (arith, on_none)
 
 pub loop-item-preserved : goal.loop-item-preserved
 loop-item-preserved g c = record {
