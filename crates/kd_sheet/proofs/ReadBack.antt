@@ -1,40 +1,7 @@
 -- What is written of the parts of a machine, or of a day, is read as just these, and so is the file of a machine, line by
 -- line; and each legal day is described by a table.
-use Rattle.kd_sheet.proofs.Prelude.{All, List, None, Ok, Option, Result, Some, [], ap, arith, false, get_or, length}
-use Rattle.kd_sheet.proofs.Prelude.{map, ok_or, pos, refl, rules, slice_get, sym, take, true, ℕ, ◌+◌, ◌<◌, ◌==◌, ◌∙◌}
-use Rattle.kd_sheet.proofs.Prelude.{◌∷◌, ◌≡◌, ◌≤◌, and-false, or-true, cases_eq, eq-eqb, false_from_ne_true, le-leb}
-use Rattle.kd_sheet.proofs.Prelude.{ne_eqb, common_steps, length-map, length-take-le, All-map, All-weaker}
-use Rattle.kd_sheet.proofs.Prelude.{recursion_from_All, gets, slice_get_within, AllByRecursion, list_all, PinSet}
-use Rattle.kd_sheet.proofs.Prelude.{cable_for, letters_in_cable, pair_for, pairs_in, cable_of, pair_letters, each_at}
-use Rattle.kd_sheet.proofs.Prelude.{items_at, items_in, up_to, value_at, row_of_text, rows_in, may_read, row_for}
-use Rattle.kd_sheet.proofs.Prelude.{key_name, capital_letters, letters_at, model_in, reflector_in, cable_text}
-use Rattle.kd_sheet.proofs.Prelude.{pin_texts, seat_text, reflector_by_name, number_to, letters_on_wheels, pins_in}
-use Rattle.kd_sheet.proofs.Prelude.{pins_of_item, shown_in, is_seated, seat_for, seat_of_item, seats_in, wheel_for}
-use Rattle.kd_sheet.proofs.Prelude.{may_be_empty, day_in, group_of_item, groups_in, model_day_in, number_in, pin_day_in}
-use Rattle.kd_sheet.proofs.Prelude.{rings_in, rotor_day_in, group_for, sheet_wheels, SheetFault, UnknownModel, Key}
-use Rattle.kd_sheet.proofs.Prelude.{has_reflector-Decides, has_wheel-Decides, has_reflector, AreAllowed, AreApart}
-use Rattle.kd_sheet.proofs.Prelude.{AreCables, AreLetters, AreOnWheels, HasAllPins, cable_letters, plugged_letters}
-use Rattle.kd_sheet.proofs.Prelude.{AreSeated, Day, HasLetters, IsDayNumber, IsLegalDay, IsLegalPinDay, IsLegalRotorDay}
-use Rattle.kd_sheet.proofs.Prelude.{OfPins, OfRotors, PinDay, RotorDay, seats, SheetWheel, IsBefore, IsReading}
-use Rattle.kd_sheet.proofs.Prelude.{reading_text, standing_text, letters_of, model_text, reflector_text, reflectors_of}
-use Rattle.kd_sheet.proofs.Prelude.{slots_of, wheel_text, wheels_for, is_capital, letters_text, Model, M209, Place}
-use Rattle.kd_sheet.proofs.Prelude.{Reflector, Wheel, Data, Members, array, integer, member, no_members, string}
-use Rattle.kd_sheet.proofs.Prelude.{items_of, Bool, append_assoc, codes, nat_le, nat_lt, not, option_map, suc, ◌&&◌}
-use Rattle.kd_sheet.proofs.Prelude.{◌++◌, ◌||◌, ltb-true, nat_tests, append-nil, list_all-append, AllPass-from_list_all}
-use Rattle.kd_sheet.proofs.Prelude.{IsUtf8-from_ascii, IsAscii-from_all, digits, concat, flat_map, list_any, cables_in}
-use Rattle.kd_sheet.proofs.Prelude.{thirteen, document_of, bars_in, standing_for, LegalPartsAreReadBack, known_model_in}
-use Rattle.kd_sheet.proofs.Prelude.{machine_in, parts_in, pin_parts_in, rotor_parts_in, version_in, machine_text}
-use Rattle.kd_sheet.proofs.Prelude.{key_line, listed, pins_text, quoted, version_of, IsLegalPin, IsLegalRotor}
-use Rattle.kd_sheet.proofs.Prelude.{cables_ordered, ordered, Parts, Pin, Rotor, PinParts, RotorParts, figure}
-use Rattle.kd_sheet.proofs.Prelude.{AllPrinted, read_lines, run, Items, depth, has_valid_dates, items_depth}
-use Rattle.kd_sheet.proofs.Prelude.{items_have_valid_dates, parse_document, skip_bom, along_dots, along_header, at_key}
-use Rattle.kd_sheet.proofs.Prelude.{define, Expression, close, key_value, no_nodes, IsItemsText, IsLinesText}
-use Rattle.kd_sheet.proofs.Prelude.{IsValueText, breaks_lines, encoding_of, escaped, key_text, needs_escape}
-use Rattle.kd_sheet.proofs.{Prelude.{quotes_after, string_text}, CableLetters.{AreFree, IsFree, free_at, all_parts}}
-use Rattle.kd_sheet.proofs.{Documents.{list_of-items_of, document_parsed}, InTurn.{then_read, passing, again, held}}
-use Rattle.kd_sheet.proofs.{Legal.day_again, Namings.{model_by_name-text, wheel_by_name-text, standing_again}}
-use Rattle.kd_sheet.proofs.{PinLetters.{are_own, letters_below, pins_back, rings_below}, Seating.is_seated-Decides}
-use Rattle.kd_sheet.specs.declared.key.Key.TheVariants as keys
+pub mod Described
+unfoldable pub use Described.*
 
 -- ---- arrays of texts
 
@@ -45,10 +12,6 @@ texts ts = array (items_of (map string ts))
 pub texts_read : (key : Key) (ts : List (List ℕ)) → items_in key (texts ts) ≡ Ok (map string ts)
 texts_read key ts = ap Ok (list_of-items_of (map string ts))
 
-texts_at : (key : Key) (table : Members) (ts : List (List ℕ)) → value_at key table ≡ Ok (texts ts)
-    → items_at key table ≡ Ok (map string ts)
-texts_at key table ts there = search (rules, then_read, value_at, texts_read)
-
 -- an array of so many texts, and one of so many at most, of which each is read as what it was
 module _ {X : Type 0} (key : Key) (count : ℕ) (text_of : X → List ℕ) (things : List X)
     (reading : List X → Data → Result X SheetFault)
@@ -57,7 +20,7 @@ module _ {X : Type 0} (key : Key) (count : ℕ) (text_of : X → List ℕ) (thin
       → each_at key count reading table ≡ Ok things
   each_at_again table there counted =
       let read = again reading text_of things each in
-      grind (arith, common_steps, eq-eqb, then_read, items_at, texts_at, passing)
+      grind (arith, common_steps, eq-eqb, then_read, items_at, list_of-items_of, passing)
 
   pub up_to_again : length things ≤ count → up_to key count reading (texts (map text_of things)) ≡ Ok things
   up_to_again few =
@@ -94,9 +57,6 @@ abbrev pub MayStand : Key → Option Wheel → Type 0
 MayStand key None = may_be_empty key ≡ true
 MayStand key (Some wheel) = Unit {0}
 
-has_name : (wheel : Wheel) → (length (wheel_text wheel) == 0) ≡ false
-has_name wheel = grind arith
-
 seat_again : (key : Key) (model : Model) (slots : List (Option Wheel)) (seat : Option Wheel) → MayStand key seat
     → AreAllowed model slots → AreApart slots → (k : ℕ) → slice_get slots k ≡ Some seat
     → seat_of_item key model (take k slots) (string (seat_text seat)) ≡ Ok seat
@@ -111,7 +71,8 @@ seat_again key model slots (Some wheel) may allowed apart k at =
     let among = (is_seated-Decides (take k slots) wheel).0 seated in
     let stands : slice_get slots among.0 ≡ Some (Some wheel) = grind (arith, common_steps, gets) in
     omega (arith, apart among.0 k wheel stands at, among.1)) in
-    rw (has_name wheel, and-false, wheel_by_name-text wheel, among_them, free) refl
+    let named : (length (wheel_text wheel) == 0) ≡ false = grind arith in
+    rw (named, and-false, wheel_by_name-text wheel, among_them, free) refl
 
 pub seats_in_again : (key : Key) (model : Model) (table : Members) (slots : List (Option Wheel))
     → value_at key table ≡ Ok (texts (map seat_text slots)) → All (MayStand key) slots → AreSeated model slots
@@ -138,30 +99,20 @@ same_cables (cable ∷ cables) = grind (arith, same_cables cables)
 abbrev IsTold : Option ℕ × Option ℕ → Type 0
 IsTold cable = single_first cable ≡ cable
 
-told_once : (cable : Option ℕ × Option ℕ) → IsTold (single_first cable)
-told_once cable = grind arith
-
-cable_again : (before : List (Option ℕ × Option ℕ)) (cable : Option ℕ × Option ℕ) → IsTold cable
-    → IsFree cable_letters before cable → cable_for before (string (cable_text cable)) ≡ Ok cable
-unfolding cable_for letters_in_cable
-cable_again before cable is free = grind (arith, letters_spelled, recursion_from_All, free)
-
 pub cables_again : (cables : List (Option ℕ × Option ℕ)) → AreCables cables
     → up_to keys.Cables 13 cable_for (texts (map cable_text cables)) ≡ Ok (map single_first cables)
+unfolding cable_for letters_in_cable
 cables_again cables are =
     let told = map single_first cables in
     let same = (same_cables cables).0 in
     let free : AreFree cable_letters told = record { within = rw same are.within; apart = rw same are.apart } in
-    let all : All IsTold told = All-map IsTold single_first cables (λ k d within. told_once (get_or cables k d)) in
+    let all : All IsTold told = All-map IsTold single_first cables (λ k d within. grind arith) in
     ap (λ ts. up_to keys.Cables 13 cable_for (texts ts)) (sym (same_cables cables).1)
     ∙ up_to_again keys.Cables 13 cable_text told cable_for (λ k cable at.
-    cable_again (take k told) cable (held IsTold told k cable all at) (free_at cable_letters told k cable free at))
+    let is = held IsTold told k cable all at in
+    let new = free_at cable_letters told k cable free at in
+    grind (arith, letters_spelled, recursion_from_All, new))
     (omega (arith, are.count, length-map cables single_first))
-
-pair_again : (before : List (ℕ × ℕ)) (pair : ℕ × ℕ) → IsFree pair_letters before pair
-    → pair_for before (string (letters_text (pair_letters pair))) ≡ Ok pair
-unfolding pair_for
-pair_again before pair free = grind (arith, letters_spelled, recursion_from_All, free)
 
 -- ---- pins and bars
 
@@ -178,13 +129,6 @@ wheels_again [] = refl
 wheels_again (w ∷ wheels) = ap (λ rest. w ∷ rest) (wheels_again wheels)
 
 -- ---- rows
-
-may_read_again : (row : ℕ × ℕ) → IsReading row → may_read (row.0 + 48) (row.1 + 48) ≡ true
-may_read_again row is = grind (arith, cases_eq, eq-eqb, is.equal, or-true, ne_eqb)
-
-row_again : (row : ℕ × ℕ) → IsReading row → row_of_text (reading_text row) ≡ Some row
-unfolding row_of_text
-row_again row is = grind (arith, le-leb, may_read_again)
 
 -- ---- the tables
 
@@ -205,9 +149,6 @@ pin_day_table s =
     (member (key_name keys.Rows) (texts (map reading_text s.rows))
     (member (key_name keys.Window) (string (letters_text s.window)) no_members)))))
 
-number_again : (number : ℕ) → IsDayNumber number → number_to 31 (integer (pos number)) ≡ Some number
-number_again number is = rw (le-leb 1 number is.first, le-leb number 31 is.last) refl
-
 day_by_model : (number : ℕ) (model : Model) (reflector : Reflector) (table : Members) (day : Day)
     → has_reflector (reflectors_of model) reflector ≡ true
     → rotor_day_in number model table ≡ Ok day → model_day_in number model table ≡ Ok day
@@ -215,22 +156,18 @@ unfolding model_day_in
 day_by_model number model reflector table day e d = grind arith
 
 pairs_in_again : (s : RotorDay) → IsLegalRotorDay s → pairs_in (rotor_day_table s) ≡ Ok s.pairs
-unfolding pairs_in
+unfolding pairs_in pair_for
 pairs_in_again s legal =
     let free : AreFree pair_letters s.pairs = record { within = legal.pairs.within; apart = legal.pairs.apart } in
     up_to_again keys.Plugs 13 (λ pair. letters_text (pair_letters pair)) s.pairs pair_for
-    (λ k pair at. pair_again (take k s.pairs) pair (free_at pair_letters s.pairs k pair free at)) legal.pairs.few
-
-group_again : (earlier : List (List ℕ)) (group : List ℕ) → AreLetters 3 group
-    → group_for earlier (string (letters_text group)) ≡ Ok group
-unfolding group_of_item
-group_again earlier group are = rw (capitals_again 3 group are) refl
+    (λ k pair at. let new = free_at pair_letters s.pairs k pair free at in
+    grind (arith, letters_spelled, recursion_from_All, new)) legal.pairs.few
 
 groups_in_again : (s : RotorDay) → IsLegalRotorDay s → groups_in (rotor_day_table s) ≡ Ok s.groups
-unfolding groups_in
+unfolding groups_in group_of_item
 groups_in_again s legal =
-    up_to_again keys.Groups 4 letters_text s.groups group_for (λ k group at. group_again (take k s.groups) group (held
-    (AreLetters 3) s.groups k group legal.groups at)) legal.few_groups
+    up_to_again keys.Groups 4 letters_text s.groups group_for (λ k group at.
+    rw (capitals_again 3 group (held (AreLetters 3) s.groups k group legal.groups at)) refl) legal.few_groups
 
 -- what each wheel has, the ring or the letter in the window
 parts_are : (s : RotorDay) → IsLegalRotorDay s → (part : SheetWheel → ℕ)
@@ -251,10 +188,11 @@ rotor_again s legal =
     grind (arith, then_read, reflector_again, pairs_in_again, groups_in_again, wheels_again)
 
 rows_in_again : (s : PinDay) → IsLegalPinDay s → rows_in (pin_day_table s) ≡ Ok s.rows
-unfolding rows_in
+unfolding rows_in row_of_text
 rows_in_again s legal =
-    each_at_again keys.Rows 27 reading_text s.rows row_for
-    (λ k row at. rw (row_again row (held IsReading s.rows k row legal.rows at)) refl) (pin_day_table s) refl legal.count
+    each_at_again keys.Rows 27 reading_text s.rows row_for (λ k row at.
+    let is = held IsReading s.rows k row legal.rows at in
+    grind (arith, le-leb, cases_eq, eq-eqb, is.equal, or-true, ne_eqb)) (pin_day_table s) refl legal.count
 
 pin_again : (s : PinDay) → IsLegalPinDay s → pin_day_in s.day (pin_day_table s) ≡ Ok (OfPins s)
 unfolding pin_day_in shown_in letters_at
@@ -265,14 +203,14 @@ unfolding number_in model_in model_day_in
 legal_is_described (OfRotors s) legal =
     let has = (has_reflector-Decides (reflectors_of s.model) s.reflector).1 legal.reflector in (
       rotor_day_table s,
-      day_again s.day s.model (rotor_day_table s) (OfRotors s) (rw (number_again s.day legal.day) refl)
+      day_again s.day s.model (rotor_day_table s) (OfRotors s) (grind (arith, le-leb, legal.day))
           (rw (model_by_name-text s.model) refl)
           (day_by_model s.day s.model s.reflector (rotor_day_table s) (OfRotors s) has (rotor_again s legal)),
     )
 legal_is_described (OfPins s) legal =
     let model = ap (λ found. ok_or found UnknownModel) (model_by_name-text M209) in (
       pin_day_table s,
-      day_again s.day M209 (pin_day_table s) (OfPins s) (rw (number_again s.day legal.day) refl) model
+      day_again s.day M209 (pin_day_table s) (OfPins s) (grind (arith, le-leb, legal.day)) model
           (pin_again s legal),
     )
 
@@ -347,9 +285,6 @@ are_written [] plain = record { writes = refl; shallow = refl; dated = refl; low
 are_written (text ∷ ts) plain =
     grind (arith, common_steps, append_assoc, quoted_is, list_all-append, plain_low, are_written ts plain.1)
 
-one_line : (ds : Items) → breaks_lines false ds ≡ false
-one_line ds = grind arith
-
 pub texts_written : (key : Key) (ts : List (List ℕ)) → AllByRecursion IsPlain ts → IsWritten (texts_entry key ts)
 texts_written key [] plain = grind arith
 texts_written key (text ∷ ts) plain =
@@ -357,7 +292,7 @@ texts_written key (text ∷ ts) plain =
     let writes : IsItemsText false false true (items_of (map string (text ∷ ts))) (quoted text ++
     (behind ts ++ codes "]")) = (quoted text, behind ts ++ codes "]", refl, quoted_is text plain.0, rest.writes) in
     record {
-      writes = grind (arith, append_assoc, quoted, one_line);
+      writes = grind (arith, append_assoc, quoted);
       shallow = rw rest.shallow (omega arith);
       dated = rest.dated;
       low = simp (list_all-append, plain_low text plain.0, rest.low);
@@ -378,19 +313,13 @@ key_bare key = grind arith
 key_low : (key : Key) → list_all is_low (key_name key) ≡ true
 key_low key = grind arith
 
+-- the lines write the entries, the reader takes them, and their bytes are low
 lines_text : (started : Bool) (entries : List Entry) → AllByRecursion IsWritten entries
     → IsLinesText false started (map expression_of entries) (concat (map line_of entries))
-lines_text started [] all = refl
-lines_text started (entry ∷ entries) all = grind (arith, key_bare, append_assoc, lines_text true entries all.1)
-
-all_printed : (entries : List Entry) → AllByRecursion IsWritten entries → AllPrinted (map expression_of entries)
-all_printed [] all = tt
-all_printed (entry ∷ entries) all = ((refl, all.0.shallow, all.0.dated), all_printed entries all.1)
-
-file_low : (entries : List Entry) → AllByRecursion IsWritten entries
-    → list_all is_low (concat (map line_of entries)) ≡ true
-file_low [] all = refl
-file_low (entry ∷ entries) all = grind (arith, list_all-append, key_low, file_low entries all.1)
+    × AllPrinted (map expression_of entries) × (list_all is_low (concat (map line_of entries)) ≡ true)
+lines_text started [] all = (refl, tt, refl)
+lines_text started (entry ∷ entries) all =
+    grind (arith, key_bare, append_assoc, list_all-append, key_low, lines_text true entries all.1)
 
 no_mark : (text : List ℕ) → list_all is_low text ≡ true → skip_bom text ≡ text
 unfolding skip_bom
@@ -402,9 +331,10 @@ pub file_read : (entries : List Entry) (table : Members) → AllByRecursion IsWr
 unfolding parse_document
 file_read entries table all is =
     let text = concat (map line_of entries) in
-    let low = file_low entries all in
+    let lines = lines_text false entries all in
+    let low = lines.2 in
     let read = read_lines false false (map expression_of entries) text text (no_nodes, []) (suc (length text))
-    (lines_text false entries all) (all_printed entries all) refl (omega arith) in
+    lines.0 lines.1 refl (omega arith) in
     document_parsed text table
     (IsUtf8-from_ascii text (IsAscii-from_all text (λ place d within. ltb-true _ _ (AllPass-from_list_all is_low text low place d within))))
     (rw (no_mark text low, read) is)
@@ -471,9 +401,6 @@ same_order : (cables : List (Option ℕ × Option ℕ))
 same_order [] = refl
 same_order (cable ∷ cables) = grind (arith, same_order cables)
 
-may_stand : (seat : Option Wheel) → MayStand keys.Slots seat
-may_stand seat = grind arith
-
 abbrev rotor_entries : RotorParts → List Entry
 rotor_entries m =
     version_entry m.model ∷ text_entry keys.Model (model_text m.model)
@@ -498,22 +425,14 @@ rotor_read m legal =
     search (rules, are_plain, legal.rings.within, legal.letters.within, legal.cables.within) in
     file_read (rotor_entries m) (rotor_table m) all refl
 
--- with empty cables behind 13 they are the same
-thirteen_again : (cables : List (Option ℕ × Option ℕ)) → length cables ≡ 13 → thirteen cables ≡ cables
-thirteen_again cables all = rw all (append-nil cables)
-
-cables_in_again : (m : RotorParts) → IsLegalRotor m → cables_in (rotor_table m) ≡ Ok (map single_first m.cables)
-unfolding cables_in
-cables_in_again m legal = grind (arith, common_steps, cables_again, thirteen_again)
-
 rotor_parts_again : (m : RotorParts) → IsLegalRotor m
     → rotor_parts_in m.model (rotor_table m) ≡ Ok (record m { cables = map single_first m.cables })
-unfolding rotor_parts_in reflector_in letters_at
+unfolding rotor_parts_in reflector_in letters_at cables_in
 rotor_parts_again m legal =
     let has = (has_reflector-Decides (reflectors_of m.model) m.reflector).1 legal.reflector in
-    let seated = seats_in_again keys.Slots m.model (rotor_table m) m.slots refl (λ k d within. may_stand
-    (get_or m.slots k d)) (record { count = legal.slots; allowed = legal.allowed; apart = legal.apart }) in
-    grind (arith, then_read, reflector_again, capitals_again, cables_in_again)
+    let seated = seats_in_again keys.Slots m.model (rotor_table m) m.slots refl (λ k d within.
+    grind arith) (record { count = legal.slots; allowed = legal.allowed; apart = legal.apart }) in
+    grind (arith, common_steps, then_read, reflector_again, capitals_again, cables_again, append-nil)
 
 by_model : (model : Model) (reflector : Reflector) (table : Members) (m : RotorParts)
     → has_reflector (reflectors_of model) reflector ≡ true → rotor_parts_in model table ≡ Ok m
@@ -538,7 +457,7 @@ pin_table m =
 pin_read : (m : PinParts) → IsLegalPin m → document_of (machine_text (Pin m)) ≡ Ok (pin_table m)
 unfolding machine_text define along_header along_dots at_key
 pin_read m legal =
-    let all_pins : AllByRecursion IsPlain (pin_texts m.pins) = grind (arith, pins_plain, rings_below) in
+    let all_pins : AllByRecursion IsPlain (pin_texts m.pins) = grind (arith, pins_plain, recursion_from_All, ring_letters) in
     let all : AllByRecursion IsWritten (pin_entries m) =
     search (rules, are_plain, all_pins, letters_below, legal.letters) in
     file_read (pin_entries m) (pin_table m) all refl

@@ -1,30 +1,31 @@
 //! How the bars of the Converter's drum stand, and what a sheet wants them to read as.
 ghost use Rattle.std.specs.Prelude.{◌≡◌, ◌+◌, is_some, IfSome};
 ghost use Rattle.std.specs.Option.{option_and_then};
-ghost use Rattle.toml.specs.Data.{as_str};
-ghost use Rattle.toml.specs.View.{view, table_view};
+ghost use Rattle.toml.specs.{Data.{as_str}, View.{view, table_view}};
 ghost use Rattle.kd_sheet.specs.Bars.{standing_for, bars_in, is_figure, may_read, row_of_text, row_for, rows_in};
+ghost use Rattle.kd_sheet.specs.Names.{standing_by_text};
 
 use super::fault::SheetFault;
-use super::items::{ItemReader, read_each};
+use super::items::{FromItem, read_each};
 use super::key::Key;
-use super::names::standing_of_item;
 use kd_tables::{Reading, Standing};
 use toml::{Table, Value};
 
 /// How many bars the drum has.
 const BARS: usize = 27;
 
-/// Reads how the bars stand.
-#[derive(Clone, Copy)]
-struct BarReader;
+/// The standing of an item's text.
+fn standing_of_item(item: &Value) -> Option<Standing>
+    ensures { result ≡ option_and_then standing_by_text (as_str (view item.now)) }
+{
+    Standing::from_text(item.as_str()?.as_bytes())
+}
 
-impl ItemReader<Standing> for BarReader {
-    ghost room = { λ _. 27 };
-
+/// How a bar stands.
+impl FromItem<()> for Standing {
     ghost reading = { λ _. standing_for };
 
-    fn read(&self, before: &[Standing], item: &Value) -> Result<Standing, SheetFault> {
+    fn read(_given: &(), before: &[Self], item: &Value) -> Result<Self, SheetFault> {
         standing_of_item(item).ok_or(SheetFault::BadRow(before.len() as u8 + 1))
     }
 }
@@ -34,7 +35,7 @@ impl ItemReader<Standing> for BarReader {
 pub fn bars_in(table: &Table) -> Result<[Standing; BARS], SheetFault>
     ensures { result ≡ bars_in (table_view table.now) }
 {
-    let bars = read_each(table, Key::Bars, BARS, &BarReader)?;
+    let bars = read_each(table, Key::Bars, BARS, &())?;
     Ok(bars.into_inner().ok().unwrap())
 }
 
@@ -54,25 +55,17 @@ fn figure(byte: u8) -> Option<u8>
 fn row_of_item(item: &Value) -> Option<Reading>
     ensures { result ≡ option_and_then row_of_text (as_str (view item.now)) }
 {
-    let [one, dash, other] = item.as_str()?.as_bytes() else {
-        return None;
-    };
-    if *dash != b'-' {
-        return None;
+    match item.as_str()?.as_bytes() {
+        [one, b'-', other] => Reading::new(figure(*one)?, figure(*other)?),
+        _ => None,
     }
-    Reading::new(figure(*one)?, figure(*other)?)
 }
 
-/// Reads what the rows say.
-#[derive(Clone, Copy)]
-struct RowReader;
-
-impl ItemReader<Reading> for RowReader {
-    ghost room = { λ _. 27 };
-
+/// What a row says.
+impl FromItem<()> for Reading {
     ghost reading = { λ _. row_for };
 
-    fn read(&self, before: &[Reading], item: &Value) -> Result<Reading, SheetFault> {
+    fn read(_given: &(), before: &[Self], item: &Value) -> Result<Self, SheetFault> {
         row_of_item(item).ok_or(SheetFault::BadRow(before.len() as u8 + 1))
     }
 }
@@ -82,6 +75,6 @@ impl ItemReader<Reading> for RowReader {
 pub fn rows_in(table: &Table) -> Result<[Reading; BARS], SheetFault>
     ensures { result ≡ rows_in (table_view table.now) }
 {
-    let rows = read_each(table, Key::Rows, BARS, &RowReader)?;
+    let rows = read_each(table, Key::Rows, BARS, &())?;
     Ok(rows.into_inner().ok().unwrap())
 }

@@ -1,22 +1,29 @@
-//! The cables of a machine, one after another.
+//! What is plugged: the cables of a machine, and the pairs of a sheet, one after another.
 ghost use Rattle.std.specs.Prelude.{◌≡◌, ◌≤◌, Some, None, length, IfSome};
-ghost use Rattle.std.specs.Option.{option_map, option_and_then};
-ghost use Rattle.toml.specs.Data.{as_str};
-ghost use Rattle.toml.specs.View.{view, table_view};
-ghost use Rattle.kd_state.specs.Machine.{cable_letters};
+ghost use Rattle.std.specs.{List.{flat_map}, Option.{option_map, option_and_then}};
+ghost use Rattle.toml.specs.{Data.{as_str}, View.{view, table_view}};
+ghost use Rattle.kd_state.specs.{Machine.{cable_letters}, Setting.{has_letter}};
 ghost use Rattle.kd_sheet.specs.Cables.{letters_in_cable, cable_of, cable_for, thirteen, cables_in};
+ghost use Rattle.kd_sheet.specs.{Cables.{pair_letters, pair_for, pairs_in}, Document.{result_map}};
 
-use super::document::find_at;
+use super::document::{find_at, value_at};
 use super::fault::SheetFault;
-use super::items::{ItemReader, read_up_to};
+use super::items::{FromItem, read_up_to};
 use super::key::Key;
-use super::letters::capital_letters;
+use super::letters::{capital_letters, letters_of_item};
 use arrayvec::ArrayVec;
 use kd_state::{Cable, is_new};
+use kd_tables::Letter;
 use toml::{Table, Value};
 
 /// How many cables a plugboard takes.
 const CABLES: usize = 13;
+
+/// Two letters that are exchanged.
+type Pair = (Letter, Letter);
+
+/// The pairs that are plugged, in the sheet's order.
+pub type Pairs = ArrayVec<Pair, CABLES>;
 
 /// The cable with the letters of an item's text.
 #[tactic(auto, unfolding(crate::specs::Cables::letters_in_cable))]
@@ -35,23 +42,17 @@ fn cable_of_item(item: &Value) -> Option<Cable>
     Some((letters.first().copied(), letters.get(1).copied()))
 }
 
-/// Reads the cables, of which none has a letter of another.
-#[derive(Clone, Copy)]
-struct CableReader;
-
-impl ItemReader<Cable> for CableReader {
-    ghost room = { λ _. 13 };
-
+/// A cable, which has no letter of those before it.
+impl FromItem<()> for Cable {
     ghost reading = { λ _. cable_for };
 
     #[tactic(auto, unfolding(crate::specs::Cables::cable_for))]
-    fn read(&self, before: &[Cable], item: &Value) -> Result<Cable, SheetFault> {
+    fn read(_given: &(), before: &[Self], item: &Value) -> Result<Self, SheetFault> {
         let cable = cable_of_item(item).ok_or(SheetFault::BadValue(Key::Cables))?;
-        if is_new(&cable, before) {
-            Ok(cable)
-        } else {
-            Err(SheetFault::LetterTwice)
+        if !is_new(&cable, before) {
+            return Err(SheetFault::LetterTwice);
         }
+        Ok(cable)
     }
 }
 
@@ -71,8 +72,42 @@ pub fn cables_in(table: &Table) -> Result<[Cable; CABLES], SheetFault>
     ensures { result ≡ cables_in (table_view table.now) }
 {
     let cables: ArrayVec<Cable, CABLES> = match find_at(table, Key::Cables) {
-        Some(value) => read_up_to(value, Key::Cables, &CableReader)?,
+        Some(value) => read_up_to(value, Key::Cables)?,
         None => ArrayVec::new(),
     };
     Ok(thirteen(cables.as_slice()))
+}
+
+/// Whether the letter lies in one of the pairs.
+fn is_plugged(pairs: &[Pair], letter: Letter) -> bool
+    ensures { result ≡ has_letter (flat_map pair_letters pairs.now) letter }
+{
+    match pairs {
+        [(one, other), rest @ ..] => {
+            *one == letter || *other == letter || is_plugged(rest, letter)
+        }
+        [] => false,
+    }
+}
+
+/// A pair, which has no letter of those before it.
+impl FromItem<()> for Pair {
+    ghost reading = { λ _. pair_for };
+
+    #[tactic(auto, unfolding(crate::specs::Cables::pair_for))]
+    fn read(_given: &(), before: &[Self], item: &Value) -> Result<Self, SheetFault> {
+        let [one, other] = letters_of_item::<2>(item).ok_or(SheetFault::BadValue(Key::Plugs))?;
+        if one == other || is_plugged(before, one) || is_plugged(before, other) {
+            return Err(SheetFault::LetterTwice);
+        }
+        Ok((one, other))
+    }
+}
+
+/// The sheet's pairs.
+#[tactic(auto, unfolding(crate::specs::Cables::pairs_in))]
+pub fn pairs_in(table: &Table) -> Result<Pairs, SheetFault>
+    ensures { result_map (λ pairs. pairs.items) result ≡ pairs_in (table_view table.now) }
+{
+    read_up_to(value_at(table, Key::Plugs)?, Key::Plugs)
 }

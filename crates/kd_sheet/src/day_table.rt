@@ -1,23 +1,23 @@
 //! A day of a key sheet, which its table says key by key.
-ghost use Rattle.std.specs.Prelude.{◌≡◌, ◌≤◌, ◌<◌, ◌⊎◌, length, All, IsSome};
+ghost use Rattle.std.specs.Prelude.{◌≡◌, ◌≤◌, ◌<◌, ◌+◌, ◌++◌, length};
 ghost use Rattle.toml.specs.View.{view, table_view};
-ghost use Rattle.kd_tables.specs.Tables.{slots_of};
-ghost use Rattle.kd_state.specs.SheetDay.{IsDayNumber};
-ghost use Rattle.kd_sheet.specs.Letters.{letters_at};
+ghost use Rattle.{kd_tables.specs.Tables.{slots_of}, kd_state.specs.SheetDay.{IsDayNumber}};
+ghost use Rattle.kd_sheet.specs.{Document.{result_map}, Letters.{letters_at}};
+ghost use Rattle.kd_sheet.specs.SheetFile.{rings_of, rings_in, group_for, groups_in, sheet_wheels};
+ghost use Rattle.kd_sheet.specs.SheetFile.{rotor_day_in, pin_day_in, model_day_in};
 ghost use Rattle.kd_sheet.specs.declared.key.Key.TheVariants as keys;
-ghost use Rattle.kd_sheet.specs.SheetFile.{rings_of, rings_in, sheet_wheels, rotor_day_in, pin_day_in, model_day_in};
 
 use super::bars::rows_in;
-use super::document::{text_at, value_at};
+use super::cables::pairs_in;
+use super::document::{find_at, text_at, value_at};
 use super::fault::SheetFault;
-use super::groups::groups_in;
+use super::items::{FromItem, read_up_to};
 use super::key::Key;
-use super::letters::{letters_of_text, slot_letters};
+use super::letters::{letters_of_item, letters_of_text, numbered_slots, slot_letters};
 use super::machine_file::reflector_in;
-use super::numbers::numbered_slots;
 use super::pin_wheels::{pins_in, shown_in};
-use super::plugs::pairs_in;
 use super::seats::seats_in;
+use arrayvec::ArrayVec;
 use kd_state::{PerSlot, SheetDay, SheetWheel};
 use kd_tables::{Letter, Model, Wheel};
 use toml::{Table, Value};
@@ -53,6 +53,27 @@ fn window_in(table: &Table, model: Model) -> Result<PerSlot<Letter>, SheetFault>
     slot_letters(model, text.as_bytes()).ok_or(SheetFault::BadValue(Key::Window))
 }
 
+/// A group of a day's messages.
+impl FromItem<()> for [Letter; 3] {
+    ghost reading = { λ _. group_for };
+
+    #[tactic(auto, unfolding(crate::specs::SheetFile::group_of_item))]
+    fn read(_given: &(), _before: &[Self], item: &Value) -> Result<Self, SheetFault> {
+        letters_of_item(item).ok_or(SheetFault::BadValue(Key::Groups))
+    }
+}
+
+/// The groups, at most four: none where the day does not speak of them.
+#[tactic(auto, unfolding(crate::specs::SheetFile::groups_in))]
+fn groups_in(table: &Table) -> Result<ArrayVec<[Letter; 3], 4>, SheetFault>
+    ensures { result_map (λ groups. groups.items) result ≡ groups_in (table_view table.now) }
+{
+    match find_at(table, Key::Groups) {
+        Some(value) => read_up_to(value, Key::Groups),
+        None => Ok(ArrayVec::new()),
+    }
+}
+
 /// The two letters of the key list.
 #[tactic(auto, unfolding(crate::specs::Letters::letters_at))]
 fn list_in(table: &Table) -> Result<[Letter; 2], SheetFault>
@@ -62,35 +83,31 @@ fn list_in(table: &Table) -> Result<[Letter; 2], SheetFault>
     letters_of_text(text.as_bytes()).ok_or(SheetFault::BadValue(Key::List))
 }
 
-/// The wheels in their slots, each with its ring and the letter in its window.
-fn sheet_wheels(slots: &[Option<Wheel>], rings: &[Letter], window: &[Letter]) -> PerSlot<SheetWheel>
-    requires few { (length slots.now ≡ 3) ⊎ (length slots.now ≡ 4) }
-    requires filled { All IsSome slots.now }
-    requires rings { length rings.now ≡ length slots.now }
-    requires window { length window.now ≡ length slots.now }
-    ensures { result ≡ sheet_wheels slots.now rings.now window.now }
+/// Puts the wheels in their slots, each with its ring and the letter in its window.
+fn push_wheels(
+    wheels: &mut ArrayVec<SheetWheel, 4>,
+    slots: &[Option<Wheel>],
+    rings: &[Letter],
+    window: &[Letter],
+)
+    requires { length wheels.old.items + length slots.now ≤ 4 }
+    ensures { wheels.new.items ≡ wheels.old.items ++ sheet_wheels slots.now rings.now window.now }
 {
-    let blank = SheetWheel {
-        wheel: Wheel::I,
-        ring: Letter::A,
-        letter: Letter::A,
-    };
-    let mut wheels = [blank; 4];
-    for (place, slot) in slots.iter().enumerate() {
-        let wheel = slot.unwrap();
-        let ring = rings[place];
-        let letter = window[place];
-        wheels[place] = SheetWheel {
-            wheel,
-            ring,
-            letter,
-        };
+    match (slots, rings, window) {
+        ([Some(wheel), slots @ ..], [ring, rings @ ..], [letter, window @ ..]) => {
+            wheels.push(SheetWheel {
+                wheel: *wheel,
+                ring: *ring,
+                letter: *letter,
+            });
+            push_wheels(wheels, slots, rings, window);
+        }
+        _ => {}
     }
-    PerSlot::new(&wheels[..slots.len()]).unwrap()
 }
 
 /// The day of a rotor model.
-#[tactic(auto, using(crate::proofs::Seating::seats_in_fill, crate::proofs::Bounds::rings_in_letters, crate::proofs::Bounds::letters_at_are), unfolding(crate::specs::SheetFile::rotor_day_in))]
+#[tactic(auto, unfolding(crate::specs::SheetFile::rotor_day_in))]
 fn rotor_day_in(table: &Table, day: u8, model: Model) -> Result<SheetDay, SheetFault>
     requires slots { 0 < slots_of model }
     requires day { IsDayNumber day }
@@ -102,7 +119,13 @@ fn rotor_day_in(table: &Table, day: u8, model: Model) -> Result<SheetDay, SheetF
     let window = window_in(table, model)?;
     let pairs = pairs_in(table)?;
     let groups = groups_in(table)?;
-    let wheels = sheet_wheels(slots.as_slice(), rings.as_slice(), window.as_slice());
+    let mut wheels = ArrayVec::new();
+    push_wheels(
+        &mut wheels,
+        slots.as_slice(),
+        rings.as_slice(),
+        window.as_slice(),
+    );
     let new = SheetDay::rotor(
         day,
         model,

@@ -12,7 +12,7 @@ use toml::value::Array;
 use toml::{Table, Value};
 
 /// The table of a document.
-#[tactic(auto, using(crate::proofs::Documents::document_parsed, crate::proofs::Documents::document_refused))]
+#[tactic(auto, using(crate::proofs::ReadBack::Described::Values::InTurn::document_parsed, crate::proofs::ReadBack::Described::Values::InTurn::document_refused))]
 pub fn document(alloc: Global, bytes: &[u8]) -> Result<Table, SheetFault>
     ensures { Answers (result_map table_view result) (document_of bytes.now) }
 {
@@ -48,7 +48,7 @@ pub fn text_at(table: &Table, key: Key) -> Result<&str, SheetFault>
 }
 
 /// The items of the array that a key's value has to be.
-#[tactic(auto, using(crate::proofs::Documents::items_in_found))]
+#[tactic(auto, using(crate::proofs::ReadBack::Described::Values::InTurn::items_in_found))]
 pub fn items_in(value: &Value, key: Key) -> Result<&Array, SheetFault>
     ensures { result_map (λ items. map view items.now.items) result
         ≡ items_in key (view value.now) }

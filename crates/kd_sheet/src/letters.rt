@@ -1,11 +1,11 @@
-//! Texts of capital letters.
-ghost use Rattle.std.specs.Prelude.{◌≡◌, ◌<◌, ◌≤◌, length, IfSome, option_map};
+//! Texts of capital letters, and the letters that numbers stand for.
+ghost use Rattle.std.specs.Prelude.{◌≡◌, ◌<◌, ◌≤◌, length, map, IfSome, option_map};
 ghost use Rattle.std.specs.Option.{option_and_then};
-ghost use Rattle.toml.specs.Data.{as_str};
-ghost use Rattle.toml.specs.View.{view};
+ghost use Rattle.toml.specs.{Data.{as_str}, View.{view}};
 ghost use Rattle.kd_tables.specs.Tables.{slots_of};
-ghost use Rattle.kd_sheet.specs.Letters.{capital_letters};
+ghost use Rattle.kd_sheet.specs.{Letters.{capital_letters}, Numbers.{numbered_letter, numbered_letters}};
 
+use super::numbers::number_to;
 use arrayvec::ArrayVec;
 use kd_state::PerSlot;
 use kd_tables::{Letter, Model};
@@ -51,5 +51,27 @@ pub fn slot_letters(model: Model, text: &[u8]) -> Option<PerSlot<Letter>>
     ensures { result ≡ capital_letters (slots_of model) text.now }
 {
     let letters = capital_letters::<4>(text, usize::from(model.slots()))?;
+    PerSlot::new(letters.as_slice())
+}
+
+/// The letter that a number from 1 to 26 stands for. 1 is A.
+fn numbered_letter(item: &Value) -> Option<Letter>
+    ensures { result ≡ numbered_letter (view item.now) }
+{
+    Letter::new(number_to(item, 26)? - 1)
+}
+
+/// The letters that numbers stand for, one for each of the model's slots.
+pub fn numbered_slots(model: Model, items: &[Value]) -> Option<PerSlot<Letter>>
+    requires { 0 < slots_of model }
+    ensures { result ≡ numbered_letters (slots_of model) (map view items.now) }
+{
+    if items.len() != usize::from(model.slots()) {
+        return None;
+    }
+    let mut letters = ArrayVec::<Letter, 4>::new();
+    for item in items {
+        letters.push(numbered_letter(item)?);
+    }
     PerSlot::new(letters.as_slice())
 }

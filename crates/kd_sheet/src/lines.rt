@@ -62,9 +62,10 @@ fn push_rest<T: ItemText>(text: &mut Text, items: &[T])
         (λ text. codes ", " ++ quoted text) (map T.item_text items.now) }
     ensures len { array_string_len text.new ≤ array_string_len text.old + 36 * length items.now }
 {
-    for item in items {
+    if let [first, rest @ ..] = items {
         text.push_str(", ");
-        push_quoted(text, item.item_text().as_str());
+        push_quoted(text, first.item_text().as_str());
+        push_rest(text, rest);
     }
 }
 

@@ -3,7 +3,7 @@ ghost use Rattle.std.specs.Prelude.{◌≡◌, ◌≤◌, ◌<◌, length};
 ghost use Rattle.toml.specs.View.{table_view};
 ghost use Rattle.kd_tables.specs.Tables.{box_of, slots_of};
 ghost use Rattle.kd_sheet.specs.Document.{Answers};
-ghost use Rattle.kd_sheet.specs.Letters.{letters_at};
+ghost use Rattle.kd_sheet.specs.{Letters.{letters_at}, Names.{reflector_by_name}};
 ghost use Rattle.kd_sheet.specs.MachineFile.{model_in, reflector_in, rotor_parts_in, pin_parts_in, parts_in, machine_in, machine_of};
 
 use super::bars::bars_in;
@@ -12,7 +12,6 @@ use super::document::{document, text_at};
 use super::fault::SheetFault;
 use super::key::Key;
 use super::letters::capital_letters;
-use super::names::{model_by_name, reflector_by_name};
 use super::numbers::number_at;
 use super::pin_wheels::{pins_in, shown_in};
 use super::seats::seats_in;
@@ -29,7 +28,21 @@ const VERSION: u8 = 2;
 pub fn model_in(table: &Table) -> Result<Model, SheetFault>
     ensures { result ≡ model_in (table_view table.now) }
 {
-    model_by_name(text_at(table, Key::Model)?).ok_or(SheetFault::UnknownModel)
+    let name = text_at(table, Key::Model)?;
+    Model::from_text(name.as_bytes()).ok_or(SheetFault::UnknownModel)
+}
+
+/// The model's reflector of that name.
+#[tactic(auto, unfolding(crate::specs::Names::reflector_by_name))]
+fn reflector_by_name(model: Model, name: &str) -> Option<Reflector>
+    ensures { result ≡ reflector_by_name model name.now }
+{
+    for reflector in model.reflectors() {
+        if reflector.text().as_str() == name {
+            return Some(*reflector);
+        }
+    }
+    None
 }
 
 /// The model's reflector whose name stands in the table.
@@ -60,18 +73,13 @@ fn rotor_parts_in(table: &Table, model: Model) -> Result<RotorParts, SheetFault>
     requires { 0 < slots_of model }
     ensures { result ≡ rotor_parts_in model (table_view table.now) }
 {
-    let reflector = reflector_in(table, model)?;
-    let slots = seats_in(table, Key::Slots, model)?;
-    let rings = box_letters_in(table, Key::Rings, model)?;
-    let letters = box_letters_in(table, Key::Letters, model)?;
-    let cables = cables_in(table)?;
     Ok(RotorParts {
         model,
-        slots,
-        reflector,
-        rings,
-        letters,
-        cables,
+        reflector: reflector_in(table, model)?,
+        slots: seats_in(table, Key::Slots, model)?,
+        rings: box_letters_in(table, Key::Rings, model)?,
+        letters: box_letters_in(table, Key::Letters, model)?,
+        cables: cables_in(table)?,
     })
 }
 
@@ -80,29 +88,22 @@ fn rotor_parts_in(table: &Table, model: Model) -> Result<RotorParts, SheetFault>
 fn pin_parts_in(table: &Table) -> Result<PinParts, SheetFault>
     ensures { result ≡ pin_parts_in (table_view table.now) }
 {
-    let letters = shown_in(table, Key::Letters)?;
-    let pins = pins_in(table)?;
-    let bars = bars_in(table)?;
     Ok(PinParts {
-        pins,
-        letters,
-        bars,
+        letters: shown_in(table, Key::Letters)?,
+        pins: pins_in(table)?,
+        bars: bars_in(table)?,
     })
 }
 
 /// The machine of a model that the table describes.
-#[tactic(auto, using(crate::proofs::Legal::rotor_parts_legal, crate::proofs::Legal::pin_parts_legal), unfolding(crate::specs::MachineFile::parts_in))]
+#[tactic(auto, using(crate::proofs::ReadBack::Described::rotor_parts_legal, crate::proofs::ReadBack::Described::pin_parts_legal), unfolding(crate::specs::MachineFile::parts_in))]
 fn parts_in(table: &Table, model: Model) -> Result<Machine, SheetFault>
     ensures { result ≡ parts_in model (table_view table.now) }
 {
     match model {
-        Model::M209 => {
-            let parts = pin_parts_in(table)?;
-            Ok(Machine::pin(parts).unwrap())
-        }
+        Model::M209 => Ok(Machine::pin(pin_parts_in(table)?).unwrap()),
         Model::EnigmaI | Model::M3 | Model::M4 => {
-            let parts = rotor_parts_in(table, model)?;
-            Ok(Machine::rotor(parts).unwrap())
+            Ok(Machine::rotor(rotor_parts_in(table, model)?).unwrap())
         }
     }
 }
@@ -125,6 +126,5 @@ fn machine_in(table: &Table) -> Result<Machine, SheetFault>
 pub fn read_machine(alloc: Global, bytes: &[u8]) -> Result<Machine, SheetFault>
     ensures { Answers result (machine_of bytes.now) }
 {
-    let table = document(alloc, bytes)?;
-    machine_in(&table)
+    machine_in(&document(alloc, bytes)?)
 }

@@ -1,41 +1,36 @@
 //! The letters of the Converter's six wheels, and which of their pins are effective.
-ghost use Rattle.std.specs.Prelude.{◌≡◌, [], ◌∷◌, map, ok_or, Ok};
-ghost use Rattle.std.specs.Option.{option_and_then};
-ghost use Rattle.toml.specs.Data.{as_str};
-ghost use Rattle.toml.specs.View.{view, table_view};
-ghost use Rattle.kd_state.specs.Pins.{pin_set};
-ghost use Rattle.kd_state.specs.Setting.{has_letter};
+ghost use Rattle.std.specs.Prelude.{◌≡◌, ◌+◌, ◌<◌, [], ◌∷◌, length, map, ok_or, Ok};
+ghost use Rattle.std.specs.{List.{enumerate_from, list_all}, Option.{option_and_then}};
+ghost use Rattle.toml.specs.{Data.{as_str}, View.{view, table_view}};
+ghost use Rattle.kd_tables.specs.Rings.{ring_of};
+ghost use Rattle.kd_state.specs.{Pins.{pin_set}, Setting.{has_letter}};
 ghost use Rattle.kd_sheet.specs.Document.{◌>>=◌ as ◌followed_by◌, in_turn};
+ghost use Rattle.kd_sheet.specs.PinWheels.{letters_on_wheels, shown_in, is_on, stands_once};
+ghost use Rattle.kd_sheet.specs.PinWheels.{is_pin_text, has_capital, pins_of_text, pins_behind, pins_in};
 ghost use Rattle.kd_sheet.specs.declared.fault.SheetFault.TheVariants as faults;
 ghost use Rattle.kd_sheet.specs.declared.key.Key.TheVariants as keys;
-ghost use Rattle.kd_sheet.specs.PinWheels.{are_on_wheels, letters_on_wheels, shown_in, is_on, stands_once, is_pin_text, has_capital, pins_of_text, pins_behind, pins_in};
 
 use super::document::{items_at, text_at};
 use super::fault::SheetFault;
 use super::key::Key;
 use super::letters::letters_of_text;
 use kd_pins::PinSet;
-use kd_tables::{Letter, Ring, ring1, ring2, ring3, ring4, ring5, ring6};
+use kd_tables::{Letter, Ring, place_on_wheel, ring1, ring2, ring3, ring4, ring5, ring6};
 use toml::{Table, Value};
 
-/// Whether the letter is on the wheel.
-fn is_on_wheel<const N: usize>(ring: &Ring<N>, letter: Letter) -> bool
-    ensures { result ≡ has_letter ring.now letter }
+/// Whether each letter is on its wheel, from this wheel on.
+#[tactic(auto, using(kd_state::proofs::Slots::on_wheels))]
+fn are_on_wheels(wheel: u8, letters: &[Letter]) -> bool
+    requires { wheel + length letters.now < 256 }
+    ensures { result ≡ list_all (λ numbered. has_letter (ring_of numbered.0) numbered.1)
+        (enumerate_from wheel letters.now) }
 {
-    ring.letters().contains(&letter)
-}
-
-/// Whether each letter is on its wheel, from wheel 1 on.
-fn are_on_wheels(letters: &[Letter; 6]) -> bool
-    ensures { result ≡ are_on_wheels letters.now }
-{
-    let [one, two, three, four, five, six] = *letters;
-    is_on_wheel(&ring1(), one)
-        && is_on_wheel(&ring2(), two)
-        && is_on_wheel(&ring3(), three)
-        && is_on_wheel(&ring4(), four)
-        && is_on_wheel(&ring5(), five)
-        && is_on_wheel(&ring6(), six)
+    match letters {
+        [first, rest @ ..] => {
+            place_on_wheel(wheel, *first).is_some() && are_on_wheels(wheel + 1, rest)
+        }
+        [] => true,
+    }
 }
 
 /// The letters of a text of six capital letters, each on its wheel.
@@ -44,11 +39,7 @@ fn letters_on_wheels(text: &[u8]) -> Option<[Letter; 6]>
     ensures { result ≡ letters_on_wheels text.now }
 {
     let letters = letters_of_text(text)?;
-    if are_on_wheels(&letters) {
-        Some(letters)
-    } else {
-        None
-    }
+    are_on_wheels(1, &letters).then_some(letters)
 }
 
 /// A letter for each of the six wheels.
@@ -108,11 +99,7 @@ fn pins_of_item<const N: usize>(ring: &Ring<N>, item: &Value) -> Option<[bool; N
 {
     let text = item.as_str()?.as_bytes();
     let letters = ring.letters();
-    if is_pin_text(&letters, text) {
-        Some(letters_in(&letters, text))
-    } else {
-        None
-    }
+    is_pin_text(&letters, text).then_some(letters_in(&letters, text))
 }
 
 /// The effective pins of the six wheels, an item for each.
@@ -141,18 +128,12 @@ fn pins_of_six(
         (view one.now ∷ view two.now ∷ view three.now ∷ view four.now ∷ view five.now ∷ view six.now ∷ [])
         followed_by (λ pins. Ok (pin_set pins))) }
 {
-    let w1 = pins_of_item(&ring1(), one)?;
-    let w2 = pins_of_item(&ring2(), two)?;
-    let w3 = pins_of_item(&ring3(), three)?;
-    let w4 = pins_of_item(&ring4(), four)?;
-    let w5 = pins_of_item(&ring5(), five)?;
-    let w6 = pins_of_item(&ring6(), six)?;
     Some(PinSet {
-        w1,
-        w2,
-        w3,
-        w4,
-        w5,
-        w6,
+        w1: pins_of_item(&ring1(), one)?,
+        w2: pins_of_item(&ring2(), two)?,
+        w3: pins_of_item(&ring3(), three)?,
+        w4: pins_of_item(&ring4(), four)?,
+        w5: pins_of_item(&ring5(), five)?,
+        w6: pins_of_item(&ring6(), six)?,
     })
 }

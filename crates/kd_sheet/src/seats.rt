@@ -1,73 +1,56 @@
 //! Which wheels the items of an array seat, slot by slot from the left.
-ghost use Rattle.std.specs.Prelude.{◌≡◌, ◌+◌, ◌<◌, length};
+ghost use Rattle.std.specs.Prelude.{◌≡◌, ◌<◌, length};
 ghost use Rattle.toml.specs.View.{table_view};
-ghost use Rattle.kd_tables.specs.Tables.{slots_of, wheels_for};
-ghost use Rattle.kd_state.specs.ToldApart.{has_wheel};
-ghost use Rattle.kd_sheet.specs.Seats.{is_seated, wheel_for, seat_of_item, seats_in};
+ghost use Rattle.kd_tables.specs.Tables.{slots_of};
+ghost use Rattle.kd_sheet.specs.{Names.{wheel_by_name}, Seats.{wheel_for, seat_of_item, seats_in}};
 
 use super::fault::SheetFault;
-use super::items::{ItemReader, read_each};
+use super::items::{FromItem, read_each};
 use super::key::Key;
-use super::names::wheel_by_name;
 use kd_state::PerSlot;
 use kd_tables::{Model, Wheel, allowed};
 use toml::{Table, Value};
 
-/// Whether the wheel may be seated in the slot behind these.
-fn is_allowed_behind(model: Model, slots: &[Option<Wheel>], wheel: Wheel) -> bool
-    requires { length slots.now < slots_of model }
-    ensures { result ≡ has_wheel (wheels_for model (length slots.now + 1)) wheel }
+/// The wheel of that name.
+fn wheel_by_name(name: &str) -> Option<Wheel>
+    ensures { result ≡ wheel_by_name name.now }
 {
-    allowed(model, slots.len() as u8 + 1, wheel)
-}
-
-/// Whether the wheel is seated in one of the slots.
-fn is_seated(slots: &[Option<Wheel>], wheel: Wheel) -> bool
-    ensures { result ≡ is_seated slots.now wheel }
-{
-    slots.contains(&Some(wheel))
+    Wheel::from_text(name.as_bytes())
 }
 
 /// The wheel of that name, for the slot behind these. The key is the one under which the name stands.
-#[tactic(auto, unfolding(crate::specs::Seats::wheel_for))]
+#[tactic(auto, using(crate::proofs::ReadBack::Described::Values::seating), unfolding(crate::specs::Seats::wheel_for))]
 fn wheel_for(
     key: Key,
     model: Model,
     slots: &[Option<Wheel>],
     name: &str,
 ) -> Result<Wheel, SheetFault>
-    requires { length slots.now < slots_of model }
+    requires { length slots.now < 27 }
     ensures { result ≡ wheel_for key model slots.now name.now }
 {
     let wheel = wheel_by_name(name).ok_or(SheetFault::BadValue(key))?;
-    if !is_allowed_behind(model, slots, wheel) {
+    if !allowed(model, slots.len() as u8 + 1, wheel) {
         return Err(SheetFault::WheelNotAllowed);
     }
-    if is_seated(slots, wheel) {
+    if slots.contains(&Some(wheel)) {
         return Err(SheetFault::WheelTwice);
     }
     Ok(wheel)
 }
 
 /// Reads the seats of a model's slots, of an array at a key. The empty text seats nothing, where it may stand.
-#[derive(Clone, Copy)]
-struct SeatReader {
-    key: Key,
-    model: Model,
-}
-
-impl ItemReader<Option<Wheel>> for SeatReader {
-    ghost room = { λ reader. slots_of reader.model };
-
-    ghost reading = { λ reader. seat_of_item reader.key reader.model };
+impl FromItem<(Key, Model)> for Option<Wheel> {
+    ghost reading = { λ given. seat_of_item given.0 given.1 };
 
     #[tactic(auto, unfolding(crate::specs::Seats::seat_of_item, crate::specs::Seats::seat_for))]
-    fn read(&self, before: &[Option<Wheel>], item: &Value) -> Result<Option<Wheel>, SheetFault> {
-        let name = item.as_str().ok_or(SheetFault::BadValue(self.key))?;
-        if matches!(self.key, Key::Slots) && name.is_empty() {
+    fn read(given: &(Key, Model), before: &[Self], item: &Value) -> Result<Self, SheetFault> {
+        let (key, model) = *given;
+        let name = item.as_str().ok_or(SheetFault::BadValue(key))?;
+        if matches!(key, Key::Slots) && name.is_empty() {
             return Ok(None);
         }
-        Ok(Some(wheel_for(self.key, self.model, before, name)?))
+        Ok(Some(wheel_for(key, model, before, name)?))
     }
 }
 
@@ -77,7 +60,7 @@ pub fn seats_in(table: &Table, key: Key, model: Model) -> Result<PerSlot<Option<
     requires { 0 < slots_of model }
     ensures { result ≡ seats_in key model (table_view table.now) }
 {
-    let reader = SeatReader { key, model };
-    let slots = read_each::<_, _, 4>(table, key, usize::from(model.slots()), &reader)?;
+    let count = usize::from(model.slots());
+    let slots = read_each::<_, _, 4>(table, key, count, &(key, model))?;
     Ok(PerSlot::new(slots.as_slice()).unwrap())
 }

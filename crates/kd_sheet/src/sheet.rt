@@ -1,5 +1,5 @@
-ghost use Rattle.std.specs.Prelude.{◌≡◌, option_copied, slice_set, ◌-◌, IfSome, [], Some};
-ghost use Rattle.kd_state.specs.SheetDay.{day_number};
+ghost use Rattle.std.specs.Prelude.{◌≡◌, option_copied, slice_set, ◌-◌, IfSome, List, [], Option, Some};
+ghost use Rattle.kd_state.specs.SheetDay.{Day, day_number};
 ghost use Rattle.kd_sheet.specs.Sheet.{day_of, month_of, IsMonth};
 
 use kd_state::SheetDay;
@@ -16,10 +16,6 @@ pub struct Sheet {
 }
 
 impl Model for Sheet {
-    ghost use Rattle.std.specs.Prelude.{List, Option};
-    ghost use Rattle.kd_state.specs.SheetDay.{Day};
-    ghost use Rattle.kd_sheet.specs.Sheet.{IsMonth};
-
     ghost Value = { List (Option Day) };
 
     ghost view = { λ sheet. sheet.days };
@@ -29,7 +25,7 @@ impl Model for Sheet {
 
 impl Sheet {
     /// The sheet without days.
-    #[tactic(auto, using(crate::proofs::Months::blank_month, crate::proofs::Months::empty_month))]
+    #[tactic(auto, using(crate::proofs::ReadBack::Described::blank_month, crate::proofs::ReadBack::Described::empty_month))]
     pub(crate) fn new() -> Self
         ensures { result ≡ month_of [] }
     {
@@ -39,45 +35,22 @@ impl Sheet {
     }
 
     /// The day of that number, if the sheet has one.
-    #[tactic(auto, using(crate::proofs::Months::found_number))]
     pub fn day(&self, number: u8) -> Option<&SheetDay>
         ensures value { option_copied result ≡ day_of self.now number }
         ensures number { IfSome result (λ day. day_number day.now ≡ number) }
     {
-        self.find(number)
+        let place = usize::from(number).checked_sub(1)?;
+        self.days.get(place)?.as_ref()
     }
 
     /// The day of that number, if the sheet has one, given away.
-    #[tactic(auto, using(crate::proofs::Months::number_of_found))]
     pub fn into_day(self, number: u8) -> Option<SheetDay>
         ensures value { result ≡ day_of self number }
         ensures number { IfSome result (λ day. day_number day ≡ number) }
     {
-        self.take(number)
-    }
-
-    /// The day at that number, given away.
-    fn take(self, number: u8) -> Option<SheetDay>
-        ensures value { result ≡ day_of self number }
-        ensures month { IsMonth self }
-    {
         let Sheet { mut days } = self;
-        if number == 0 {
-            return None;
-        }
-        days.get_mut(usize::from(number) - 1)?.take()
-    }
-
-    /// The day at that number.
-    fn find(&self, number: u8) -> Option<&SheetDay>
-        ensures value { option_copied result ≡ day_of self.now number }
-        ensures month { IsMonth self.now }
-    {
-        let days = &self.days;
-        if number == 0 {
-            return None;
-        }
-        days.get(usize::from(number) - 1)?.as_ref()
+        let place = usize::from(number).checked_sub(1)?;
+        days.get_mut(place)?.take()
     }
 
     /// Puts the day at its number.

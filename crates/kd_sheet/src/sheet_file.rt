@@ -18,7 +18,7 @@ use std::alloc::Global;
 use toml::{Table, Value};
 
 /// The day's number, which no day of the sheet has.
-#[tactic(auto, using(crate::proofs::Months::taken), unfolding(crate::specs::SheetFile::new_number_in, crate::specs::SheetFile::number_in))]
+#[tactic(auto, using(crate::proofs::ReadBack::Described::taken), unfolding(crate::specs::SheetFile::new_number_in, crate::specs::SheetFile::number_in))]
 fn new_number_in(sheet: &Sheet, table: &Table) -> Result<u8, SheetFault>
     ensures value { (days : List Day) → sheet.now ≡ month_of days
         → result ≡ new_number_in days (table_view table.now) }
@@ -26,10 +26,9 @@ fn new_number_in(sheet: &Sheet, table: &Table) -> Result<u8, SheetFault>
 {
     let number = number_at(table, Key::Day, DAYS)?;
     if sheet.day(number).is_some() {
-        Err(SheetFault::DayTwice(number))
-    } else {
-        Ok(number)
+        return Err(SheetFault::DayTwice(number));
     }
+    Ok(number)
 }
 
 /// The day of an item behind the days of the sheet, or its first fault.
@@ -39,12 +38,11 @@ fn day_for(sheet: &Sheet, item: &Value) -> Result<SheetDay, SheetFault>
 {
     let table = item.as_table().ok_or(SheetFault::BadValue(Key::Day))?;
     let number = new_number_in(sheet, table)?;
-    let model = model_in(table)?;
-    model_day_in(table, number, model)
+    model_day_in(table, number, model_in(table)?)
 }
 
 /// The month with the days of the items.
-#[tactic(auto, using(crate::proofs::Months::first_month, crate::proofs::InTurn::on_all))]
+#[tactic(auto, using(crate::proofs::ReadBack::Described::first_month, crate::proofs::ReadBack::Described::Values::InTurn::on_all))]
 fn month(items: &[Value]) -> Result<Sheet, SheetFault>
     ensures { result ≡ result_map month_of (in_turn day_for (map view items.now)) }
 {

@@ -7,7 +7,7 @@ ghost use Rattle.kd_tables.specs.Writing.{Writes};
 ghost use Rattle.kd_tables.specs.Text.{letters_text};
 ghost use Rattle.kd_state.specs.Machine.{IsLegalRotor, IsLegalPin};
 ghost use Rattle.kd_sheet.specs.MachineFile.{machine_of};
-ghost use Rattle.kd_sheet.specs.MachineText.{quoted, key_line, version_of, pin_text, pins_text, pin_texts, head_lines, machine_text};
+ghost use Rattle.kd_sheet.specs.MachineText.{quoted, key_line, version_of, pins_text, pin_texts, head_lines, machine_text};
 
 use super::item_text::Item;
 use super::key::Key;
@@ -41,26 +41,17 @@ fn push_letters_line(text: &mut Text, key: Key, letters: &[Letter])
     push_text_line(text, key, letters_text(letters).as_str());
 }
 
-/// Puts the letter of a pin, if it is effective.
-fn push_pin(text: &mut Item, letter: Letter, effective: bool)
-    requires { array_string_len text.old < 32 }
-    ensures bytes { text.new.bytes ≡ text.old.bytes ++ pin_text letter effective }
-    ensures len { array_string_len text.new ≤ array_string_len text.old + 1 }
-{
-    if effective {
-        push_letter(text, letter);
-    }
-}
-
 /// Puts the letters of the pins that are effective.
 fn push_pins(text: &mut Item, letters: &[Letter], pins: &[bool])
     requires room { array_string_len text.old + length letters.now ≤ 32 }
     requires pins { length pins.now ≡ length letters.now }
     ensures { text.new.bytes ≡ text.old.bytes ++ pins_text letters.now pins.now }
 {
-    for (place, letter) in letters.iter().enumerate() {
-        let effective = pins[place];
-        push_pin(text, *letter, effective);
+    if let ([letter, letters @ ..], [effective, pins @ ..]) = (letters, pins) {
+        if *effective {
+            push_letter(text, *letter);
+        }
+        push_pins(text, letters, pins);
     }
 }
 

@@ -1,4 +1,4 @@
-use Rattle.{kd_sheet.proofs.Prelude.{None, ap, length, ◌++◌}, std.proofs.lemmas.List.drop-replicate}
+use Rattle.std.proofs.{Common.{None, ap, length, ◌++◌}, lemmas.List.drop-replicate}
 use Rattle.kd_sheet.proofs.cables.thirteen.Goals as goal
 
 pub returns : goal.returns

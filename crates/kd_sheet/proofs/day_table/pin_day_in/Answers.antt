@@ -1,4 +1,4 @@
-use Rattle.kd_sheet.proofs.{Prelude.{arith, common_steps, pin_day_in, OfPins, table_view}, Legal.pin_day}
+use Rattle.kd_sheet.proofs.ReadBack.Described.{OfPins, arith, common_steps, pin_day, pin_day_in, table_view}
 use Rattle.kd_sheet.proofs.day_table.pin_day_in.Goals as goal
 
 pub unwrap-requires : goal.unwrap-requires

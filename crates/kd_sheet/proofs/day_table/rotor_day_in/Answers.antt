@@ -1,4 +1,4 @@
-use Rattle.kd_sheet.proofs.{Prelude.{arith, common_steps, rotor_day_in, OfRotors, table_view}, Legal.rotor_day}
+use Rattle.kd_sheet.proofs.ReadBack.Described.{OfRotors, arith, common_steps, rotor_day, rotor_day_in, table_view}
 use Rattle.kd_sheet.proofs.day_table.rotor_day_in.Goals as goal
 
 pub unwrap-requires : goal.unwrap-requires

@@ -1,10 +1,10 @@
-use Rattle.kd_sheet.proofs.{Prelude.{drop, length, map, ◌≡◌, in_turn, view}, InTurn.on}
+use Rattle.kd_sheet.proofs.ReadBack.Described.Values.InTurn.{drop, in_turn, length, map, on, view, ◌≡◌}
 use Rattle.kd_sheet.proofs.items.read_items.Given as goal
 
 -- what is read of all items is read on behind the values so far
 abbrev pub invariant-loop-item : goal.invariant-loop-item
 invariant-loop-item g l = record {
   count : length l.values.items ≡ l.item-index;
-  read : in_turn (g.R.ItemReader.reading l.reader) (map view l.items)
-      ≡ on (g.R.ItemReader.reading l.reader) l.values.items (drop l.item-index (map view l.items));
+  read : in_turn (g.T.FromItem.reading l.given) (map view l.items)
+      ≡ on (g.T.FromItem.reading l.given) l.values.items (drop l.item-index (map view l.items));
 }

@@ -1,4 +1,4 @@
-use Rattle.kd_sheet.proofs.{Legal.described, Months.days_are_the_entries, Prelude.[], ReadBack.legal_is_described}
+use Rattle.kd_sheet.proofs.ReadBack.{[], days_are_the_entries, described, legal_is_described}
 use Rattle.kd_sheet.proofs.laws.days_are_the_entries.Goals as goal
 
 pub returns : goal.returns

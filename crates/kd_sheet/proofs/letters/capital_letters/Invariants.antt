@@ -1,4 +1,5 @@
-use Rattle.kd_sheet.proofs.Prelude.{length, take, true, ◌≡◌, list_all, letters_of, is_capital}
+use Rattle.{kd_tables.specs.{Tables.letters_of, Text.is_capital}, std.proofs.Common.{length, take, true, ◌≡◌}}
+use Rattle.std.specs.List.{list_all}
 use Rattle.kd_sheet.proofs.letters.capital_letters.Given as goal
 
 -- the bytes so far are capital letters, and these are their letters

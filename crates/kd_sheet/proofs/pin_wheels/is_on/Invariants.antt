@@ -1,4 +1,4 @@
-use Rattle.kd_sheet.proofs.Prelude.{drop, ◌≡◌, is_on}
+use Rattle.{kd_sheet.specs.PinWheels.is_on, std.proofs.Common.{drop, ◌≡◌}}
 use Rattle.kd_sheet.proofs.pin_wheels.is_on.Given as goal
 
 abbrev pub invariant-loop-letter : goal.invariant-loop-letter

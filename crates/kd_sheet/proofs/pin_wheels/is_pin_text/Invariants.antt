@@ -1,4 +1,4 @@
-use Rattle.kd_sheet.proofs.Prelude.{drop, ◌&&◌, ◌≡◌, list_all, is_on, stands_once}
+use Rattle.{kd_sheet.specs.PinWheels.{is_on, stands_once}, std.{proofs.Common.{drop, ◌&&◌, ◌≡◌}, specs.List.list_all}}
 use Rattle.kd_sheet.proofs.pin_wheels.is_pin_text.Given as goal
 
 abbrev pub invariant-loop-byte : goal.invariant-loop-byte

@@ -1,4 +1,4 @@
-use Rattle.kd_sheet.proofs.Prelude.{length, map, take, ◌≡◌, has_capital}
+use Rattle.{kd_sheet.specs.PinWheels.has_capital, std.proofs.Common.{length, map, take, ◌≡◌}}
 use Rattle.kd_sheet.proofs.pin_wheels.letters_in.Given as goal
 
 -- the letters so far are found where the text has them

@@ -1,4 +1,4 @@
-use Rattle.kd_sheet.proofs.{InTurn.read_stops, Prelude.{rules, ◌∙◌, day_for}, Months.next_month}
+use Rattle.kd_sheet.proofs.ReadBack.Described.{day_for, next_month, read_stops, rules, ◌∙◌}
 use Rattle.kd_sheet.proofs.sheet_file.month.Goals as goal
 
 pub loop-item-preserved : goal.loop-item-preserved

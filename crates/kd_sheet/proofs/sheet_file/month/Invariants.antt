@@ -1,4 +1,4 @@
-use Rattle.kd_sheet.proofs.{Months.IsMonthOf, Prelude.drop, Prelude.map, Prelude.view}
+use Rattle.kd_sheet.proofs.ReadBack.Described.{IsMonthOf, drop, map, view}
 use Rattle.kd_sheet.proofs.sheet_file.month.Given as goal
 
 abbrev pub invariant-loop-item : goal.invariant-loop-item

@@ -1,4 +1,4 @@
-use Rattle.kd_sheet.proofs.Prelude.{take, ◌≡◌, letters_text}
+use Rattle.{kd_tables.specs.Text.letters_text, std.proofs.Common.{take, ◌≡◌}}
 use Rattle.kd_sheet.proofs.write.letters_text.Given as goal
 
 abbrev pub invariant-loop-letter : goal.invariant-loop-letter

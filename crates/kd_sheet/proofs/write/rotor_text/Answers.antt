@@ -1,4 +1,4 @@
-use Rattle.kd_sheet.proofs.Prelude.{append_assoc, arith, append-nil, machine_text}
+use Rattle.{kd_sheet.specs.MachineText.machine_text, std.proofs.{Common.{append_assoc, arith}, lemmas.List.append-nil}}
 use Rattle.kd_sheet.proofs.write.rotor_text.Goals as goal
 
 pub returns : goal.returns

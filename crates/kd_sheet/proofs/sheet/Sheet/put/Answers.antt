@@ -1,4 +1,4 @@
-use Rattle.{kd_sheet.proofs.Months.put_day, std.proofs.Common.arith}
+use Rattle.kd_sheet.proofs.ReadBack.Described.{arith, put_day}
 use Rattle.kd_sheet.proofs.sheet.Sheet.put.Goals as goal
 
 pub invariant_of-self : goal.invariant_of-self

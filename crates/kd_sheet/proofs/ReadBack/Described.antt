@@ -1,0 +1,345 @@
+-- The machine and the day that a table describes are legal; and the days that a sheet's entries describe are a month, each
+-- at its number.
+pub mod Values
+unfoldable pub use Values.*
+use Rattle.toml.specs.Data as toml
+
+-- ---- reflectors
+
+reflector_there : (model : Model) (table : Members) → Gives (reflector_in model table) (Contains (reflectors_of model))
+unfolding reflector_in reflector_by_name
+reflector_there model table reflector e = grind (arith, given, there_was, found_there)
+
+-- ---- groups, rows and bars
+
+-- so many of them, and each is one
+abbrev Each : {A : Type 0} → (A → Type 0) → ℕ → List A → Type 0
+Each P count xs = (length xs ≡ count) × All P xs
+
+groups_in_groups : (table : Members)
+    → Gives (groups_in table) (λ groups. (length groups ≤ 4) × All (AreLetters 3) groups)
+unfolding groups_in group_of_item
+groups_in_groups table groups e =
+    let read = some_read group_for (All (AreLetters 3)) (each_is group_for (AreLetters 3) (λ earlier item group e.
+    grind (arith, there_was, capitals_are_letters, none-some))) keys.Groups 4 in
+    grind (arith, read, All-nil (AreLetters 3))
+
+rows_in_rows : (table : Members) → Gives (rows_in table) (Each IsReading 27)
+unfolding rows_in row_of_text
+rows_in_rows table = each_read row_for (All IsReading) (each_is row_for IsReading (λ earlier item row e.
+    grind (arith, there_was, some_if, nat_tests, leb-true, none-some))) keys.Rows 27 table
+
+abbrev IsStanding : Place × Place → Type 0
+IsStanding bar = IsBefore bar.0 bar.1
+
+bars_in_bars : (table : Members) → Gives (bars_in table) (Each IsStanding 27)
+unfolding bars_in
+bars_in_bars table = each_read standing_for (All IsStanding) (each_is standing_for IsStanding (λ earlier item bar e.
+    grind (arith, there_was, standing_read, none-some))) keys.Bars 27 table
+
+-- ---- pins, and the letters that pin wheels show
+
+text_pins : (ring : List ℕ) (item : Data) (pins : List Bool) → pins_of_item ring item ≡ Ok pins
+    → length pins ≡ length ring
+unfolding pins_of_item pins_of_text
+text_pins ring item pins e = grind (arith, common_steps, there_was, some_if, none-some)
+
+-- each list has as many pins as its wheel has letters
+abbrev Fit : List (List Bool) → Type 0
+Fit lists = (place : ℕ) (d : List Bool) → place < length lists
+    → length (get_or lists place d) ≡ length (ring_of (place + 1))
+
+all_fit : (items : List Data) → Gives (in_turn pins_behind items) Fit
+all_fit items lists e place d within =
+    let few : place ≤ length lists = omega arith in
+    let read = read_at pins_behind items lists e place nothing d (omega (arith, as_many pins_behind items lists e)) in
+    rw length-take-le at (text_pins _ (get_or items place nothing) (get_or lists place d) read)
+
+pins_in_fit : (table : Members) → Gives (pins_in table) HasAllPins
+unfolding pins_in ring_of
+pins_in_fit table =
+    after _ _ _ _ (each_read pins_behind Fit all_fit keys.Pins 6 table)
+    (λ lists all. done HasAllPins _ (grind (arith, all.1)))
+
+letters_shown : (key : Key) (table : Members) → Gives (shown_in key table) AreOnWheels
+unfolding shown_in letters_on_wheels
+letters_shown key table letters e = grind (arith, common_steps, there_was, some_if, on_wheels, capitals_are_letters)
+
+-- ---- machines
+
+pub rotor_parts_legal : (model : Model) (table : Members) → Gives (rotor_parts_in model table) IsLegalRotor
+unfolding rotor_parts_in
+rotor_parts_legal model table =
+    after _ _ _ _ (reflector_there model table) (λ reflector there.
+    after _ _ _ _ (seats_in_fill keys.Slots model table) (λ slots fill.
+    after _ _ _ _ (letters_at_are keys.Rings (length (box_of model)) table) (λ rings are_rings.
+    after _ _ _ _ (letters_at_are keys.Letters (length (box_of model)) table) (λ letters are_letters.
+    after _ _ _ _ (are_cables table) (λ cables are. done IsLegalRotor _ (record {
+      slots = fill.0;
+      allowed = fill.1.allowed;
+      apart = fill.1.apart;
+      reflector = there;
+      rings = are_rings;
+      letters = are_letters;
+      cables = are;
+    }))))))
+
+pub pin_parts_legal : (table : Members) → Gives (pin_parts_in table) IsLegalPin
+unfolding pin_parts_in
+pin_parts_legal table =
+    after _ _ _ _ (letters_shown keys.Letters table) (λ letters shown.
+    after _ _ _ _ (pins_in_fit table) (λ pins fit.
+    after _ _ _ _ (bars_in_bars table) (λ bars are.
+    done IsLegalPin _ (record { pins = fit; letters = shown; bars = are.0; apart = are.1 }))))
+
+-- ---- days
+
+-- the day is legal, and has the number
+abbrev pub IsDay : ℕ → Day → Type 0
+IsDay number day = IsLegalDay day × (day_number day ≡ number)
+
+pub rotor_day : (number : ℕ) (model : Model) (table : Members) → IsDayNumber number
+    → Gives (rotor_day_in number model table) (IsDay number)
+unfolding rotor_day_in
+rotor_day number model table is =
+    after _ _ _ _ (reflector_there model table) (λ reflector there.
+    after _ _ _ _ (seats_in_fill keys.Wheels model table) (λ slots fill.
+    after _ _ _ _ (rings_in_letters model table) (λ rings are_rings.
+    after _ _ _ _ (letters_at_are keys.Window (slots_of model) table) (λ window are_letters.
+    after _ _ _ _ (are_pairs table) (λ pairs are_pairs.
+    after _ _ _ _ (groups_in_groups table) (λ groups are_groups.
+    let seated = seats-sheet_wheels slots rings window (recursion_from_All IsSome _ (fill.1.filled refl))
+    (are_rings.count ∙ sym fill.0) (are_letters.count ∙ sym fill.0) in done (IsDay number) _ (
+      record {
+        day = is;
+        reflector = there;
+        wheels = rw seated (record { count = fill.0; allowed = fill.1.allowed; apart = fill.1.apart });
+        letters = grind (arith, All-from_recursion, wheels_have_letters, recursion_from_All);
+        pairs = are_pairs;
+        few_groups = are_groups.0;
+        groups = are_groups.1;
+      },
+      refl,
+    )))))))
+
+pub pin_day : (number : ℕ) (table : Members) → IsDayNumber number → Gives (pin_day_in number table) (IsDay number)
+unfolding pin_day_in
+pin_day number table is day e = grind (arith, given, rows_in_rows, pins_in_fit, letters_shown, letters_at_are)
+
+model_day : (number : ℕ) (model : Model) (table : Members) → IsDayNumber number
+    → Gives (model_day_in number model table) (IsDay number)
+unfolding model_day_in
+model_day number M209 table is = pin_day number table is
+model_day number model table is = rotor_day number model table is
+
+pub day_again : (number : ℕ) (model : Model) (table : Members) (day : Day) → number_in table ≡ Ok number
+    → model_in table ≡ Ok model → model_day_in number model table ≡ Ok day → day_in [] table ≡ Ok day
+unfolding day_in new_number_in
+day_again number model table day is of_model rest = grind (arith, then_read, number_in)
+
+-- what a table tells that describes a day behind others
+pub record Tells (days : List Day) (table : Members) (day : Day) : Type 0 where
+  pub legal : IsLegalDay day
+  pub number : IsDayNumber (day_number day)
+  pub free : list_any (λ other. day_number other == day_number day) days ≡ false
+  pub alone : day_in [] table ≡ Ok day
+
+abbrev IsNew : List Day → ℕ → Type 0
+IsNew days number = list_any (λ other. day_number other == number) days ≡ false
+
+new_number : (days : List Day) (table : Members)
+    → Gives (new_number_in days table) (λ number. (number_in table ≡ Ok number) × IsDayNumber number × IsNew days number)
+unfolding new_number_in
+new_number days table number e = grind (arith, given, day_number_within, not-true)
+
+pub described : (days : List Day) (table : Members) (day : Day) → day_in days table ≡ Ok day → Tells days table day
+unfolding day_in
+described days table day e =
+    let number = given (new_number_in days table) _ day e in
+    let model = given (model_in table) _ day number.2 in
+    let new = new_number days table number.0 number.1 in
+    let is = model_day number.0 model.0 table new.1 day model.2 in
+    let alone = day_again number.0 model.0 table day new.0 model.1 model.2 in
+    record { legal = is.0; number = rw is.1 new.1; free = rw is.1 new.2; alone = alone }
+
+-- the day has the number
+abbrev has : ℕ → Day → Bool
+has number day = day_number day == number
+
+-- ---- the days of a month, by their numbers
+
+month_size : (days : List Day) → length (month_of days) ≡ 31
+month_size days = length-map-range_with_len (λ n. find (has n) days) 1 31
+
+month_at : (days : List Day) (place : ℕ) (d : Option Day) → place < 31
+    → get_or (month_of days) place d ≡ find (has (suc place)) days
+month_at days place d within = get_or-map-range_with_len (λ n. find (has n) days) 1 31 place (suc place) d within
+    (omega arith)
+
+-- the month's day of a number is the first of the days that has it
+pub day_of_month : (days : List Day) (number : ℕ) → IsDayNumber number
+    → day_of (month_of days) number ≡ find (has number) days
+day_of_month days zero is = let first = is.first in absurd (omega arith)
+day_of_month days (suc place) is =
+    let last = is.last in
+    ap (option_and_then (λ d. d)) (slice_get-get_or (month_of days) place None (omega (arith, month_size days)))
+    ∙ month_at days place None (omega arith)
+
+-- one of the days has the number where one is found
+any_found : (days : List Day) (number : ℕ) → is_some (find (has number) days) ≡ list_any (has number) days
+any_found [] number = refl
+any_found (day ∷ days) number = grind (arith, cases_Bool, has, any_found days number)
+
+pub taken : (days : List Day) (number : ℕ) → IsDayNumber number
+    → is_some (day_of (month_of days) number) ≡ list_any (has number) days
+taken days number is = rw (day_of_month days number is) (any_found days number)
+
+-- a month has no day but at its numbers
+within_month : (days : List Day) (number : ℕ) (day : Day) → day_of (month_of days) number ≡ Some day
+    → IsDayNumber number
+within_month days zero day e = absurd (none-some day e)
+within_month days (suc place) day e = grind (arith, slice_get_cases (month_of days) place)
+
+-- there is no day in an empty month
+pub empty_month : IsMonth (month_of [])
+empty_month = record { count = refl; each = λ number day e. grind (arith, within_month [] number day, day_of_month []) }
+
+-- 31 places without a day
+pub blank_month : (month : List (Option Day)) → AllOfLen (λ day. day ≡ None) month 31 → month ≡ month_of []
+blank_month month blank = grind (arith, same_lists, blank.at, get_or-map-range_with_len)
+
+-- a day is put at its number
+pub put_day : (month : List (Option Day)) (place : ℕ) (new : Day) → IsMonth month → place + 1 ≡ day_number new → place < 31
+    → IsMonth (set month place (Some new))
+put_day month place new before here left =
+    let at : day_number new - 1 ≡ place = omega arith in
+    rw (← at) (record {
+      count = length-set month (day_number new - 1) (Some new) ∙ before.count;
+      each = λ number day e.
+          grind (arith, cases_eq number (day_number new), numbered_here, numbered_other, same_Some, before.count, before.each);
+    })
+
+-- the day at a place has its number
+pub number_at : (month : List (Option Day)) (number place : ℕ) (found : Option Day) → IsMonth month
+    → place < length month → number ≡ suc place → found ≡ get_or month place found
+    → IfSome found (λ day. day_number day ≡ number)
+number_at month number place None is within same here = tt
+number_at month number place (Some day) is within same here = is.each number day (grind (arith, slice_get-get_or))
+
+-- one more day, of a number that none has
+found_more : (days : List Day) (new : Day) (number : ℕ) → list_any (has (day_number new)) days ≡ false
+    → find (has number) (days ++ new ∷ []) ≡ cond (nat_eq (day_number new) number) (Some new) (find (has number) days)
+found_more days new number free = grind (arith, nat_tests, find-append, any_found days number)
+
+month_more : (days : List Day) (new : Day) → IsDayNumber (day_number new) → list_any (has (day_number new)) days ≡ false
+    → set (month_of days) (day_number new - 1) (Some new) ≡ month_of (days ++ new ∷ [])
+month_more days new is free =
+    let at = day_number new - 1 in
+    let first = is.first in
+    let last = is.last in
+    let size = length-set (month_of days) at (Some new) ∙ month_size days in
+    same_lists _ _ (size ∙ sym (month_size (days ++ new ∷ []))) (λ k d within.
+    let inside : k < 31 = omega (arith, size) in
+    rw (month_at (days ++ new ∷ []) k d inside, found_more days new (suc k) free) (elim (cases_eq (day_number new)
+    (suc k)) [
+      | inl same ↦ rw (eq-eqb _ _ same) (get_or-set_at (month_of days) at k (Some new) d (omega arith) (omega
+          (arith, month_size days)))
+      | inr differs ↦ rw (ne_eqb _ _ differs)
+          (get_or-set_other (month_of days) at k (Some new) d (λ e. differs (omega arith)) ∙ month_at days k d inside)
+    ]))
+
+-- ---- the days of entries
+
+-- an item that is read is the table of an entry
+record IsEntry (days : List Day) (item : Data) (day : Day) : Type 0 where
+  entry : Members
+  is : item ≡ toml.table entry
+  tells : Tells days entry day
+
+entry_read : (days : List Day) (item : Data) (day : Day) → day_for days item ≡ Ok day → IsEntry days item day
+unfolding day_for
+entry_read days item day e =
+    let members = given (ok_or (as_table item) (BadValue keys.Day)) _ day e in
+    record {
+      entry = members.0;
+      is = data_of_table item members.0 (there_was (as_table item) _ members.0 members.1);
+      tells = described days members.0 day members.2;
+    }
+
+-- an entry among the items describes the day of that number
+abbrev IsTold : List Data → ℕ → Day → Type 0
+IsTold items number day = (entry : Members) × Contains items (toml.table entry) × (day_in [] entry ≡ Ok day)
+    × (day_number day ≡ number)
+
+-- what is found passes; and what passes is found, where nothing before it does
+first_found : {X : Type 0} (p : X → Bool) (xs : List X) (k : ℕ) (d : X) → k < length xs → p (get_or xs k d) ≡ true
+    → list_any p (take k xs) ≡ false → find p xs ≡ Some (get_or xs k d)
+first_found p [] k d within here none = absurd (omega arith)
+first_found p (x ∷ xs) zero d within here none = rw here refl
+first_found p (x ∷ xs) (suc k) d within here none = grind (arith, nat_tests, first_found p xs k d)
+
+-- what is found among the days is what an entry among the items describes
+module _ (items : List Data) (days : List Day) (read : in_turn day_for items ≡ Ok days) where
+  day_at : (k : ℕ) (e : Data) (d : Day) → k < length days
+      → (k < length items) × IsEntry (take k days) (get_or items k e) (get_or days k d)
+  day_at k e d within =
+      let left : k < length items = omega (arith, as_many day_for items days read) in
+      (left, entry_read (take k days) (get_or items k e) (get_or days k d) (read_at day_for items days read k e d left))
+
+  found_told : (number : ℕ) (day : Day) → find (has number) days ≡ Some day → IsTold items number day
+  found_told number day e =
+      let there = found_there (has number) days day e in
+      let here = day_at there.0 nothing day there.1 in (
+        here.1.entry,
+        rw here.1.is at (Contains-get_or items there.0 nothing here.0),
+        rw there.2 at here.1.tells.alone,
+        eqb-true (day_number day) number (passes (has number) days day e),
+      )
+
+  told_found : (number : ℕ) (day : Day) → IsTold items number day → find (has number) days ≡ Some day
+  told_found number day told =
+      let place = told.1.0 in
+      let within : place < length days = omega (arith, as_many day_for items days read, told.1.1) in
+      let here = (day_at place (toml.table told.0) day within).1 in
+      let entry : told.0 ≡ here.entry = cc (told.1.2, here.is) in
+      let same : day ≡ get_or days place day = same_found _ _ (sym told.2 ∙ ap (day_in []) entry ∙ here.tells.alone) in
+      first_found (has number) days place day within (eq-eqb _ _ (ap day_number (sym same) ∙ told.3))
+      (rw (ap day_number (sym same) ∙ told.3) at here.tells.free) ∙ ap Some (sym same)
+
+pub days_are_the_entries : DaysAreTheEntries
+unfolding sheet_in
+days_are_the_entries members items month number day at e =
+    let all = given (items_at keys.Day members) _ month e in
+    let days = given (in_turn day_for all.0) _ month all.2 in
+    let read = subst (λ xs. in_turn day_for xs ≡ Ok days.0) (same_found _ _ (sym all.1 ∙ at)) days.1 in
+    let same : month ≡ month_of days.0 = same_found _ _ (sym days.2) in rw same (
+      λ found. found_told items days.0 read number day
+          (sym (day_of_month days.0 number (within_month days.0 number day found)) ∙ found),
+      λ told. day_of_month days.0 number (subst IsDayNumber told.3 (described [] told.0 day told.2).number)
+          ∙ told_found items days.0 read number day told,
+    )
+
+-- ---- a sheet that is read
+
+-- the sheet has the days that were read so far, and what is read of all items is read on behind them
+pub record IsMonthOf (items : List Data) (sheet : List (Option Day)) (rest : List Data) : Type 0 where
+  pub days : List Day
+  pub read : in_turn day_for items ≡ on day_for days rest
+  pub month : sheet ≡ month_of days
+
+pub first_month : (sheet : List (Option Day)) (items : List Data) → sheet ≡ month_of [] → IsMonthOf items sheet items
+first_month sheet items e = record { days = []; read = on_none day_for items; month = e }
+
+pub next_month : (sheet after : List (Option Day)) (items : List Value) (place : ℕ) (item : Value) (new : Day)
+    → place < length items → item ≡ get_or items place item
+    → (so_far : IsMonthOf (map view items) sheet (drop place (map view items)))
+    → Ok new ≡ day_for so_far.days (view item) → after ≡ set sheet (day_number new - 1) (Some new)
+    → IsMonthOf (map view items) after (drop (place + 1) (map view items))
+next_month sheet after items place item new left here so_far found put =
+    let entry = entry_read so_far.days (view item) new (sym found) in
+    record {
+      days = so_far.days ++ new ∷ [];
+      read = so_far.read ∙ read_more day_for items place item left here so_far.days new found;
+      month = put ∙ ap (λ month. set month (day_number new - 1) (Some new)) so_far.month
+          ∙ month_more so_far.days new entry.tells.number entry.tells.free;
+    }

@@ -1,0 +1,422 @@
+-- What the values of keys say: names, numbers and letters, wheels in their slots, cables and pairs, and pins.
+pub mod InTurn
+unfoldable pub use InTurn.*
+use Rattle.std.{proofs.lemmas.List.Folds.find_at, specs.List.position_or_len}
+
+-- ---- names
+
+-- a list has nothing of a name that none has
+find_unnamed : {A : Type 0} (text_of : A → List ℕ) (name : List ℕ) → ((x : A) → text_of x ≢ name) → (xs : List A)
+    → find (λ x. bytes_eq (text_of x) name) xs ≡ None
+find_unnamed text_of name none [] = refl
+find_unnamed text_of name none (x ∷ xs) =
+    grind (arith, cases_Bool, none, bytes_eq-Decides, find_unnamed text_of name none xs)
+
+-- what has the name is what the list finds, where the list finds each by its own name
+pub find_named : {A : Type 0} (text_of : A → List ℕ) (xs : List A)
+    → ((x : A) → find (λ y. bytes_eq (text_of y) (text_of x)) xs ≡ Some x) → (name : List ℕ) (found : Option A)
+    → MatchOption found ((x : A) → text_of x ≢ name) (λ x. text_of x ≡ name)
+    → found ≡ find (λ x. bytes_eq (text_of x) name) xs
+find_named text_of xs own name None none = sym (find_unnamed text_of name none xs)
+find_named text_of xs own name (Some x) named = sym (own x) ∙ ap (λ text. find (λ y. bytes_eq (text_of y) text) xs) named
+
+-- each model is the one of its name
+pub model_by_name-text : (model : Model) → model_by_name (model_text model) ≡ Some model
+unfolding model_by_name
+model_by_name-text model = grind arith
+
+-- each wheel is the one of its name
+pub wheel_by_name-text : (wheel : Wheel) → wheel_by_name (wheel_text wheel) ≡ Some wheel
+unfolding wheel_by_name
+wheel_by_name-text wheel = grind arith
+
+-- what is found is there, and passes
+pub found_there : {X : Type 0} (p : X → Bool) (xs : List X) (x : X) → find p xs ≡ Some x → Contains xs x
+found_there p xs x e =
+    let at = sym (find_at p xs) ∙ e in
+    (position_or_len p xs, slice_get_within xs _ x at, get_or_from_slice_get xs _ x x at)
+
+pub passes : {X : Type 0} (p : X → Bool) (xs : List X) (x : X) → find p xs ≡ Some x → p x ≡ true
+passes p [] x e = absurd (none-some x e)
+passes p (y ∷ xs) x e = grind (arith, cases_Bool, same_Some, passes p xs x)
+
+-- each standing is the one of its text
+pub standing_again : (bar : Place × Place) → IsBefore bar.0 bar.1 → standing_by_text (standing_text bar) ≡ Some bar
+unfolding standing_by_text
+standing_again bar before = grind arith
+
+pub standing_read : (text : List ℕ) (bar : Place × Place) → standing_by_text text ≡ Some bar → IsBefore bar.0 bar.1
+unfolding standing_by_text
+standing_read text bar e =
+    ltb-true _ _ (All-contains (λ bar. nat_lt (place_rank bar.0) (place_rank bar.1) ≡ true) standings bar
+    (AllPass-from_list_all (λ bar. nat_lt (place_rank bar.0) (place_rank bar.1)) standings refl) (found_there (λ standing. bytes_eq (standing_text standing) text) standings bar e))
+
+no_standing : (text : List ℕ) → ((bar : Place × Place) → IsBefore bar.0 bar.1 → standing_text bar ≢ text)
+    → (found : Option (Place × Place)) → standing_by_text text ≡ found → None ≡ found
+unfolding standing_by_text
+no_standing text none None e = refl
+no_standing text none (Some bar) e =
+    absurd (none bar (standing_read text bar e) (grind (arith, bytes_eq-Decides, passes (λ s. bytes_eq (standing_text s) text) standings bar e)))
+
+pub standing_told : (text : List ℕ) (found : Option (Place × Place))
+    → MatchOption found ((bar : Place × Place) → IsBefore bar.0 bar.1 → standing_text bar ≢ text) (λ bar. standing_text bar ≡ text)
+    → IfSome found (λ bar. IsBefore bar.0 bar.1) → found ≡ standing_by_text text
+standing_told text None none before = no_standing text none (standing_by_text text) refl
+standing_told text (Some bar) named before = sym (standing_again bar before) ∙ ap standing_by_text named
+
+-- ---- numbers and letters
+
+number_within : (last : ℕ) (value : Data) (number : ℕ) → number_to last value ≡ Some number
+    → (1 ≤ number) × (number ≤ last)
+number_within last value number e = grind (arith, some_if, leb-true, none-some)
+
+pub day_number_within : (table : Members) → Gives (number_in table) IsDayNumber
+unfolding number_in
+day_number_within table number e = grind (arith, given, value_at, number_within, there_was)
+
+capitals_within : (text : List ℕ) → list_all is_capital text ≡ true
+    → AllByRecursion (λ letter. letter < 26) (letters_of text)
+capitals_within [] e = tt
+capitals_within (byte ∷ text) e = grind (arith, nat_tests, leb-true, capitals_within text)
+
+pub letters_read : (text : List ℕ) → list_all is_capital text ≡ true → AreLetters (length text) (letters_of text)
+letters_read text e =
+    record { count = length-map text _; within = All-from_recursion (λ letter. letter < 26) _ (capitals_within text e) }
+
+pub capitals_are_letters : (count : ℕ) (text letters : List ℕ) → capital_letters count text ≡ Some letters
+    → AreLetters count letters
+capitals_are_letters count text letters e = grind (arith, some_if, eqb-true, letters_read)
+
+numbered_letters_within : (items : List Data) → list_all (λ item. is_some (numbered_letter item)) items ≡ true
+    → AllByRecursion (λ letter. letter < 26) (filter_map numbered_letter items)
+    × (length (filter_map numbered_letter items) ≡ length items)
+numbered_letters_within [] e = (tt, refl)
+numbered_letters_within (item ∷ items) e = grind (arith, nat_tests, number_within, numbered_letters_within items)
+
+pub rings_in_letters : (model : Model) (table : Members) → Gives (rings_in model table) (AreLetters (slots_of model))
+unfolding rings_in
+rings_in_letters model table rings e =
+    grind (arith, nat_tests, given, there_was, some_if, capitals_are_letters, numbered_letters_within, All-from_recursion)
+
+pub letters_at_are : (key : Key) (count : ℕ) (table : Members) → Gives (letters_at key count table) (AreLetters count)
+unfolding letters_at
+letters_at_are key count table letters e = grind (arith, given, there_was, capitals_are_letters)
+
+-- ---- one seat
+
+-- some slot seats the wheel
+pub is_seated-Decides : (slots : List (Option Wheel)) (wheel : Wheel)
+    → Decides (is_seated slots wheel) (Contains slots (Some wheel))
+unfolding is_seated
+is_seated-Decides slots wheel =
+    Decides-contains slots (Some wheel) _ (Decides-by_or (holds wheel) (λ seat. seat ≡ Some wheel)
+    (list_any (holds wheel)) (λ seat. grind (arith, Decides-like, same_Some, same_wheel-Decides)) refl (λ _ _. refl) slots)
+
+pub not_seated : (slots : List (Option Wheel)) (wheel : Wheel) → ¬ Contains slots (Some wheel) → is_seated slots wheel ≡ false
+not_seated slots wheel free = grind (arith, is_seated-Decides slots wheel)
+
+pub ruleset seating = (not_seated, has_wheel-Decides)
+
+record CanBeSeated (model : Model) (slots : List (Option Wheel)) (wheel : Wheel) : Type 0 where
+  allowed : IsAllowed model (length slots + 1) wheel
+  free : ¬ Contains slots (Some wheel)
+
+wheel_read : (key : Key) (model : Model) (slots : List (Option Wheel)) (name : List ℕ)
+    → Gives (wheel_for key model slots name) (CanBeSeated model slots)
+unfolding wheel_for
+wheel_read key model slots name wheel e = grind (arith, given, passed, has_wheel-Decides, is_seated-Decides, not-true)
+
+-- what an item seats behind these slots
+record IsSeat (key : Key) (model : Model) (slots : List (Option Wheel)) (seat : Option Wheel) : Type 0 where
+  free : IfSome seat (CanBeSeated model slots)
+  filled : may_be_empty key ≡ false → IsSome seat
+
+seat_read : (key : Key) (model : Model) (slots : List (Option Wheel)) (item : Data) (seat : Option Wheel)
+    → seat_of_item key model slots item ≡ Ok seat → IsSeat key model slots seat
+unfolding seat_of_item seat_for
+seat_read key model slots item seat e = record { free = grind (arith, wheel_read); filled = grind (arith, none-some) }
+
+-- ---- the slots that an array fills
+
+-- a wheel that stands in a slot is free behind the slots before it
+stands_free : (key : Key) (model : Model) (items : List Data) (slots : List (Option Wheel))
+    → in_turn (seat_of_item key model) items ≡ Ok slots → (place : ℕ) (wheel : Wheel) → StandsAt slots place wheel
+    → (place < length slots) × CanBeSeated model (take place slots) wheel
+stands_free key model items slots e place wheel stands =
+    let within = slice_get_within slots place (Some wheel) stands in
+    let here = get_or_from_slice_get slots place (Some wheel) (Some wheel) stands in (
+      within,
+      (seat_read key model (take place slots) (get_or items place nothing) (Some wheel) (
+          rw here at (read_at _ items slots e place nothing (Some wheel) (omega (arith, as_many _ items slots e)))
+          )).free,
+    )
+
+-- a wheel that stands further left isn't free
+not_free : (model : Model) (slots : List (Option Wheel)) (place other : ℕ) (wheel : Wheel) → StandsAt slots place wheel
+    → CanBeSeated model (take other slots) wheel → other ≤ length slots → other ≤ place
+not_free model slots place other wheel stands free within = grind (arith, common_steps, gets, cases_lt place other)
+
+-- each wheel stands where it may, and none in two slots
+pub record FillsSlots (key : Key) (model : Model) (slots : List (Option Wheel)) : Type 0 where
+  pub allowed : AreAllowed model slots
+  pub apart : AreApart slots
+  pub filled : may_be_empty key ≡ false → All IsSome slots
+
+fill_slots : (key : Key) (model : Model) (items : List Data)
+    → Gives (in_turn (seat_of_item key model) items) (FillsSlots key model)
+fill_slots key model items slots e =
+    let free = stands_free key model items slots e in
+    record {
+      allowed = λ place wheel stands. grind (arith, free place wheel stands, length-take-le);
+      apart = λ place other wheel stands again.
+          let one = free place wheel stands in
+          let two = free other wheel again in
+          let first = not_free model slots place other wheel stands two.1 (omega (arith, two.0)) in
+          omega (arith, first, not_free model slots other place wheel again one.1 (omega (arith, one.0)));
+      filled = λ full. each_is (seat_of_item key model) IsSome
+          (λ before item seat is. (seat_read key model before item seat is).filled full) items slots e;
+    }
+
+pub seats_in_fill : (key : Key) (model : Model) (table : Members)
+    → Gives (seats_in key model table) (λ slots. (length slots ≡ slots_of model) × FillsSlots key model slots)
+unfolding seats_in
+seats_in_fill key model table = each_read _ (FillsSlots key model) (fill_slots key model) key (slots_of model) table
+
+-- ---- the wheels of a day
+
+-- the seats of the wheels are the slots
+pub seats-sheet_wheels : (slots : List (Option Wheel)) (rings letters : List ℕ) → AllByRecursion IsSome slots
+    → length rings ≡ length slots → length letters ≡ length slots → seats (sheet_wheels slots rings letters) ≡ slots
+seats-sheet_wheels [] rings letters filled same equal = refl
+seats-sheet_wheels (Some w ∷ slots) (r ∷ rings) (l ∷ letters) filled same equal =
+    ap (λ rest. Some w ∷ rest) (seats-sheet_wheels slots rings letters filled.1 (omega arith) (omega arith))
+seats-sheet_wheels (seat ∷ slots) rings letters filled same equal = grind (arith, false≢true)
+
+pub wheels_have_letters : (slots : List (Option Wheel)) (rings letters : List ℕ)
+    → AllByRecursion (λ letter. letter < 26) rings → AllByRecursion (λ letter. letter < 26) letters
+    → AllByRecursion HasLetters (sheet_wheels slots rings letters)
+wheels_have_letters (Some wheel ∷ slots) (ring ∷ rings) (letter ∷ letters) within also =
+    (record { ring = within.0; letter = also.0 }, wheels_have_letters slots rings letters within.1 also.1)
+wheels_have_letters slots rings letters within also = tt
+
+-- ---- what is plugged, each with letters of its own
+
+pub apart_behind : (plugged letters : List ℕ) → IsDistinct nat_eq (plugged ++ letters)
+    ↔ ((are_new letters plugged ≡ true) × IsDistinct nat_eq plugged)
+apart_behind plugged letters = (
+  λ apart. (new_tells letters plugged).0
+      (IsDistinct-IsPermutation nat_eq eqb_flips _ _ (IsPermutation-append_comm plugged letters) apart),
+  λ new. IsDistinct-IsPermutation nat_eq eqb_flips _ _ (IsPermutation-append_comm letters plugged)
+      ((new_tells letters plugged).1 new),
+)
+
+pub all_parts : {X : Type 0} (P : X → Type 0) (xs ys : List X) → AllByRecursion P (xs ++ ys)
+    → AllByRecursion P xs × AllByRecursion P ys
+all_parts P [] ys all = (tt, all)
+all_parts P (x ∷ xs) ys all = let rest = all_parts P xs ys all.1 in ((all.0, rest.0), rest.1)
+
+-- letters of the alphabet, of which none lies in what is plugged before
+pub record IsFree {X : Type 0} (letters_in : X → List ℕ) (before : List X) (x : X) : Type 0 where
+  pub within : All (λ letter. letter < 26) (letters_in x)
+  pub new : are_new (letters_in x) (flat_map letters_in before) ≡ true
+
+pub record AreFree {X : Type 0} (letters_in : X → List ℕ) (plugged : List X) : Type 0 where
+  pub within : All (λ letter. letter < 26) (flat_map letters_in plugged)
+  pub apart : IsDistinct nat_eq (flat_map letters_in plugged)
+
+module _ {X : Type 0} (letters_in : X → List ℕ) where
+  one_more : (plugged : List X) (x : X) → AreFree letters_in plugged → IsFree letters_in plugged x
+      → AreFree letters_in (plugged ++ x ∷ [])
+  one_more plugged x so_far free =
+      let now : flat_map letters_in (plugged ++ x ∷ []) ≡ flat_map letters_in plugged ++ letters_in x =
+      rw (flat_map-append, append-nil) refl in
+      record {
+        within = rw now (All-append (λ letter. letter < 26) _ _ so_far.within free.within);
+        apart = rw now ((apart_behind _ _).1 (free.new, so_far.apart));
+      }
+
+  -- of so many items at most
+  pub all_free : (reading : List X → Data → Result X SheetFault)
+      → ((before : List X) (item : Data) (x : X) → reading before item ≡ Ok x → IsFree letters_in before x)
+      → (key : Key) (count : ℕ) (value : Data)
+      → Gives (up_to key count reading value) (λ plugged. (length plugged ≤ count) × AreFree letters_in plugged)
+  all_free reading free =
+      some_read reading (AreFree letters_in) (keeps reading (AreFree letters_in)
+      (record { within = All-nil (λ letter. letter < 26); apart = no_letters })
+      (λ plugged item x so_far is. one_more plugged x so_far (free plugged item x is)))
+
+  -- each is free behind those before it
+  pub free_at : (plugged : List X) (k : ℕ) (x : X) → AreFree letters_in plugged → slice_get plugged k ≡ Some x
+      → IsFree letters_in (take k plugged) x
+  free_at plugged k x free at =
+      let within = slice_get_within plugged k x at in
+      let front = flat_map letters_in (take k plugged) in
+      let rest = flat_map letters_in (drop (k + 1) plugged) in
+      let here : plugged ≡ take k plugged ++ x ∷ drop (k + 1) plugged =
+      sym (take-append-drop k plugged) ∙ ap (λ more. take k plugged ++ more) (drop_more plugged k x within
+      ∙ ap (λ y. y ∷ drop (k + 1) plugged) (get_or_from_slice_get plugged k x x at)) in
+      let letters : flat_map letters_in plugged ≡ front ++ (letters_in x ++ rest) =
+      ap (flat_map letters_in) here ∙ flat_map-append letters_in (take k plugged) (x ∷ drop (k + 1) plugged) in
+      let low = recursion_from_All (λ letter. letter < 26) (front ++ (letters_in x ++ rest)) (rw
+      (← letters) free.within) in
+      let lie = all_parts (λ letter. letter < 26) front (letters_in x ++ rest) low in
+      let apart : IsDistinct nat_eq ((front ++ letters_in x) ++ rest) = rw (append_assoc, ← letters) free.apart in
+      let alone = ((apart_behind (front ++ letters_in x) rest).0 apart).1 in
+      record {
+        within = All-from_recursion (λ letter. letter < 26) (letters_in x)
+            (all_parts (λ letter. letter < 26) (letters_in x) rest lie.1).0;
+        new = ((apart_behind front (letters_in x)).0 alone).0;
+      }
+
+-- ---- cables
+
+pub two_letters : (letters : List ℕ) → length letters ≤ 2 → cable_letters (cable_of letters) ≡ letters
+two_letters (one ∷ other ∷ third ∷ letters) few = absurd (omega arith)
+two_letters letters few = refl
+
+none_in : (n : ℕ) → plugged_letters (replicate n (None, None)) ≡ []
+none_in zero = refl
+none_in (suc n) = none_in n
+
+-- with empty cables behind them
+filled_up : (cables : List (Option ℕ × Option ℕ)) → length cables ≤ 13 → AreFree cable_letters cables
+    → AreCables (thirteen cables)
+filled_up cables few free =
+    let letters : plugged_letters (thirteen cables) ≡ plugged_letters cables =
+    rw (flat_map-append, none_in _, append-nil) refl in
+    record { count = grind (arith, common_steps); within = rw letters free.within; apart = rw letters free.apart }
+
+pub are_cables : (table : Members) → Gives (cables_in table) AreCables
+unfolding cables_in cable_for letters_in_cable
+are_cables table =
+    after _ _ _ _ (if_there (get_member (key_name keys.Cables) table) _ _ _ (all_free cable_letters cable_for
+    (λ cables item cable e. grind (arith, some_if, letters_read, two_letters, leb-true, none-some)) keys.Cables 13)
+    (omega arith, record { within = All-nil (λ letter. letter < 26); apart = no_letters }))
+    (λ cables free. done AreCables _ (filled_up cables free.0 free.1))
+
+-- ---- pairs
+
+two_of : (letters : List ℕ) → AreLetters 2 letters
+    → pair_letters (slice_index letters 0, slice_index letters 1) ≡ letters
+two_of (one ∷ other ∷ []) are = refl
+two_of letters are = absurd (omega (arith, are.count))
+
+pub are_pairs : (table : Members) → Gives (pairs_in table) ArePairs
+unfolding pairs_in pair_for
+are_pairs table =
+    after_any (value_at keys.Plugs table) (up_to keys.Plugs 13 pair_for) ArePairs (λ value pairs e.
+    let free = all_free pair_letters pair_for (λ pairs item pair e.
+    grind (arith, there_was, capitals_are_letters, two_of, none-some)) keys.Plugs 13 value pairs e in
+    record { few = free.0; within = free.1.within; apart = free.1.apart })
+
+-- ---- the letters of the pin wheels, and of their effective pins
+
+abbrev is_own : ℕ × ℕ → Bool
+is_own numbered = has_letter (ring_of numbered.0) numbered.1
+
+-- letters that pass the test are on their wheels
+pub on_wheels : (letters : List ℕ) → length letters ≡ 6 → are_on_wheels letters ≡ true → AreOnWheels letters
+on_wheels letters long all =
+    on_all_wheels letters long (λ wheel low high.
+    let within : wheel - 1 < length letters = omega arith in
+    let here = AllPass-from_list_all is_own (enumerate_from 1 letters) all (wheel - 1) (0, 0)
+    (omega (arith, length-enumerate_from 1 letters)) in
+    let same : 1 + (wheel - 1) ≡ wheel = omega arith in
+    (has_letter-Decides _ _).0 (subst (λ ring. has_letter (ring_of ring) (get_or letters (wheel - 1) 0) ≡ true) same
+    (rw (get_or-enumerate_from 1 letters (wheel - 1) (0, 0) within) at here)))
+
+-- and letters on their wheels pass it
+pub are_own : (letters : List ℕ) → AreOnWheels letters → are_on_wheels letters ≡ true
+are_own letters are =
+    list_all-from_AllPass is_own (enumerate_from 1 letters) (λ place d within.
+    let inside : place < length letters = omega (arith, length-enumerate_from 1 letters) in
+    let wheel : 1 + place ≡ suc place = omega arith in
+    rw (get_or-enumerate_from 1 letters place d inside, wheel)
+    ((has_letter-Decides (ring_of (suc place)) (get_or letters place d.1)).1 (are.each (suc place) _
+    (slice_get-get_or letters place d.1 inside))))
+
+ring_below : (wheel : ℕ) → list_all (λ letter. nat_lt letter 26) (ring_of wheel) ≡ true
+unfolding ring_of
+ring_below wheel = grind arith
+
+pub ring_letters : (wheel : ℕ) → All (λ letter. letter < 26) (ring_of wheel)
+ring_letters wheel place d within =
+    ltb-true _ _ (AllPass-from_list_all (λ letter. nat_lt letter 26) (ring_of wheel) (ring_below wheel) place d within)
+
+pub letters_below : (letters : List ℕ) → AreOnWheels letters → All (λ letter. letter < 26) letters
+letters_below letters are place d within =
+    All-contains (λ letter. letter < 26) _ _ (ring_letters (suc place)) (are.each (suc place) _ (slice_get-get_or letters place d within))
+
+-- none of the letters comes again
+abbrev are_apart : List ℕ → Bool
+are_apart [] = true
+are_apart (letter ∷ letters) = not (has_letter letters letter) && are_apart letters
+
+letters_apart : (wheel : ℕ) → are_apart (ring_of wheel) ≡ true
+unfolding ring_of
+letters_apart wheel = grind arith
+
+letter_there : (ring : List ℕ) (k d : ℕ) → k < length ring → has_letter ring (get_or ring k d) ≡ true
+letter_there ring k d within = (has_letter-Decides ring (get_or ring k d)).1 (Contains-get_or ring k d within)
+
+-- how often the text of the pins has a letter
+abbrev counted : List ℕ → ℕ → ℕ
+counted text letter = count_by (λ byte. byte == letter + 65) text
+
+has_counted : (text : List ℕ) (letter : ℕ) → has_capital text letter ≡ nat_lt 0 (counted text letter)
+has_counted [] letter = refl
+has_counted (byte ∷ text) letter =
+    let more : counted (byte ∷ text) letter
+    ≡ cond (byte == letter + 65) 1 0 + counted text letter = sum_by-cons _ byte text in
+    rw more (grind (arith, nat_tests, has_counted text letter))
+
+first_counted : (x : ℕ) (ring : List ℕ) (pin : Bool) (pins : List Bool) (letter : ℕ)
+    → counted (pins_text (x ∷ ring) (pin ∷ pins)) letter
+    ≡ cond (pin && x + 65 == letter + 65) 1 0 + counted (pins_text ring pins) letter
+first_counted x ring true pins letter = sum_by-cons _ (x + 65) (pins_text ring pins)
+first_counted x ring false pins letter = omega arith
+
+none_counted : (ring : List ℕ) (pins : List Bool) (letter : ℕ) → has_letter ring letter ≡ false
+    → counted (pins_text ring pins) letter ≡ 0
+none_counted [] pins letter absent = refl
+none_counted (x ∷ ring) [] letter absent = refl
+none_counted (x ∷ ring) (pin ∷ pins) letter absent =
+    grind (arith, nat_tests, sum_by-cons, none_counted ring pins letter)
+
+-- a letter of the wheel stands once in the text where its pin is effective, and else not
+once_counted : (ring : List ℕ) (pins : List Bool) (k d : ℕ) (e : Bool) → are_apart ring ≡ true
+    → length pins ≡ length ring → k < length ring
+    → counted (pins_text ring pins) (get_or ring k d) ≡ cond (get_or pins k e) 1 0
+once_counted (x ∷ ring) (pin ∷ pins) zero d e apart same within =
+    rw first_counted (grind (arith, nat_tests, none_counted ring pins x))
+once_counted (x ∷ ring) (pin ∷ pins) (suc k) d e apart same within =
+    rw first_counted (grind (arith, nat_tests, once_counted ring pins k d e, letter_there ring k d))
+once_counted ring pins k d e apart same within = absurd (omega arith)
+
+-- what holds of the letters of effective pins, holds of the text
+all_of_pins : (test : ℕ → Bool) (ring : List ℕ) (pins : List Bool) → length pins ≡ length ring
+    → ((k : ℕ) → k < length ring → get_or pins k false ≡ true → test (get_or ring k 0 + 65) ≡ true)
+    → list_all test (pins_text ring pins) ≡ true
+all_of_pins test [] pins same each = refl
+all_of_pins test (x ∷ ring) [] same each = refl
+all_of_pins test (x ∷ ring) (pin ∷ pins) same each =
+    grind (arith, nat_tests, each 0, all_of_pins test ring pins (omega arith) (λ k within. each (suc k) (omega arith)))
+
+is_on_ring : (ring : List ℕ) (letter : ℕ) → has_letter ring letter ≡ true → is_on ring (letter + 65) ≡ true
+is_on_ring [] letter has = has
+is_on_ring (x ∷ ring) letter has = grind (arith, cases_Bool)
+
+pub pins_back : (wheel : ℕ) (pins : List Bool) → length pins ≡ length (ring_of wheel)
+    → pins_of_text (ring_of wheel) (pins_text (ring_of wheel) pins) ≡ Some pins
+unfolding pins_of_text
+pins_back wheel pins same =
+    let ring = ring_of wheel in
+    let text = pins_text ring pins in
+    let once : (k d : ℕ) (e : Bool) → k < length ring → counted text (get_or ring k d) ≡ cond (get_or pins k e) 1 0 =
+    λ k d e. once_counted ring pins k d e (letters_apart wheel) same in
+    let proper = all_of_pins (λ byte. is_on ring byte && stands_once text byte) ring pins same (λ k within effective.
+    rw (is_on_ring ring (get_or ring k 0) (letter_there ring k 0 within), once k 0 false within, effective) refl) in
+    let read : map (has_capital text) ring ≡ pins = same_lists _ _ (length-map ring _ ∙ sym same) (λ k e within.
+    let here : k < length ring = omega (arith, length-map ring (has_capital text)) in
+    get_or-map (has_capital text) ring k 0 e here ∙ rw (has_counted, once k 0 e here) (grind arith)) in
+    rw (proper, read) refl

@@ -1,0 +1,267 @@
+-- What is read of a document, and of items one after another, each given what those before it are; and what a reading
+-- that succeeds has found on its way.
+pub use Rattle.{kd_pins.specs.declared.pin_set.PinSet.PinSet, kd_sheet.specs.Bars.{row_for, standing_for}}
+pub use Rattle.kd_sheet.specs.{Cables.{cable_of, pair_letters, thirteen}, Document.{demand, each_at, in_turn, items_at}}
+pub use Rattle.kd_sheet.specs.{Document.{items_in, list_of, result_map, up_to, value_at, ◌>>=◌, ◌>>◌}, Key.key_name}
+pub use Rattle.kd_sheet.specs.{Laws.{DaysAreTheEntries, LegalPartsAreReadBack}, Letters.capital_letters}
+pub use Rattle.kd_sheet.specs.MachineText.{cable_text, key_line, listed, pin_texts, pins_text, quoted, seat_text}
+pub use Rattle.kd_sheet.specs.{MachineText.version_of, Names.{every_model, every_wheel}, Numbers.number_to}
+pub use Rattle.kd_sheet.specs.{Numbers.numbered_letter, PinWheels.{are_on_wheels, has_capital, is_on, pins_behind}}
+pub use Rattle.kd_sheet.specs.{PinWheels.stands_once, Seats.{holds, may_be_empty}, Sheet.{IsMonth, day_of, month_of}}
+pub use Rattle.kd_sheet.specs.{SheetFile.{group_for, sheet_wheels}, declared.fault.SheetFault.SheetFault}
+pub use Rattle.kd_sheet.specs.declared.{fault.SheetFault.TheVariants.{BadValue, NotToml, UnknownModel}, key.Key.Key}
+pub use Rattle.kd_state.proofs.{Cables.{eqb_flips, new_tells, no_letters}, Slots.all_pins}
+pub use Rattle.kd_state.proofs.Slots.{are_on_wheels as on_all_wheels, has_letter-Decides, numbered_here, numbered_other}
+pub use Rattle.kd_state.proofs.Wheels.{has_reflector-Decides, has_wheel-Decides, same_wheel-Decides}
+pub use Rattle.kd_state.specs.Machine.{AreAllowed, AreApart, AreCables, AreLetters, AreOnWheels, HasAllPins, IsLegalPin}
+pub use Rattle.kd_state.specs.Machine.{IsLegalRotor, StandsAt, cable_letters, cables_ordered, ordered, plugged_letters}
+pub use Rattle.kd_state.specs.{Setting.{are_new, has_letter}, SheetDay.{ArePairs, AreSeated, Day, HasLetters}}
+pub use Rattle.kd_state.specs.SheetDay.{IsDayNumber, IsLegalDay, IsLegalPinDay, IsLegalRotorDay, OfPins, OfRotors}
+pub use Rattle.kd_state.specs.{SheetDay.{PinDay, RotorDay, day_number, seats}, ToldApart.{has_reflector, numbered}}
+pub use Rattle.kd_state.specs.declared.machine.parts.Parts.{Parts, TheVariants.{Pin, Rotor}}
+pub use Rattle.kd_state.specs.declared.machine.{pin_parts.PinParts.PinParts, rotor_parts.RotorParts.RotorParts}
+pub use Rattle.{kd_state.specs.declared.sheet_day.rotor_entry.SheetWheel.SheetWheel, kd_tables.specs.Places.IsBefore}
+pub use Rattle.kd_tables.specs.Places.{IsReading, figure, place_rank, reading_text, standing_text, standings}
+pub use Rattle.kd_tables.specs.Tables.{IsAllowed, box_of, letters_of, model_text, reflector_text, reflectors_of}
+pub use Rattle.kd_tables.specs.{Tables.{slots_of, wheel_text, wheels_for}, Text.{is_capital, letters_text}}
+pub use Rattle.kd_tables.specs.declared.{model.Model.{Model, TheVariants.M209}, place.Place.Place}
+pub use Rattle.{kd_tables.specs.declared.{reflector.Reflector.Reflector, wheel.Wheel.Wheel}, std.proofs.Common.All}
+pub use Rattle.std.proofs.Common.{Bool, Bor, Contains, Decides, Err, Global, IfSome, IsSome, IsUtf8, List, MatchOption}
+pub use Rattle.std.proofs.Common.{None, Ok, Option, Result, Some, Vec, [], ap, append_assoc, arith, bytes_eq, codes}
+pub use Rattle.std.proofs.Common.{cond, drop, false, filter_map, find, get_or, inl, inr, is_some, length, length-set}
+pub use Rattle.std.proofs.Common.{map, nat_eq, nat_le, nat_lt, not, ok_or, option_map, pos, refl, replicate, rules, set}
+pub use Rattle.std.proofs.Common.{slice_get, slice_index, subst, suc, sym, take, true, zero, ℕ, ◌&&◌, ◌++◌, ◌+◌, ◌-◌}
+pub use Rattle.std.proofs.{Common.{◌<◌, ◌==◌, ◌||◌, ◌↔◌, ◌∙◌, ◌∷◌, ◌≡◌, ◌≢◌, ◌≤◌}, Math.Bool.{and-false, or-true}}
+pub use Rattle.std.proofs.lemmas.Bool.{cases_Bool, cases_eq, cases_lt, eq-eqb, eqb-false, eqb-true, false_from_ne_true}
+pub use Rattle.std.proofs.lemmas.Bool.{false≢true, le-leb, leb-true, ltb-true, ne_eqb, not-true, Decides.Decides-by_or}
+pub use Rattle.std.proofs.lemmas.{Bool.Decides.{Decides-like, nat_tests, not_from_Decides}, Grind.common_steps}
+pub use Rattle.std.proofs.lemmas.{Grind.get_or-set_at, List.{append-nil, drop_all, drop_more, get_or-map}}
+pub use Rattle.std.proofs.lemmas.List.{get_or-set_other, length-map, length-take-le, same_lists, take-append-drop}
+pub use Rattle.std.proofs.lemmas.List.{Concat.flat_map-append, Elements.{All-append, All-contains, All-from_recursion}}
+pub use Rattle.std.proofs.lemmas.List.Elements.{All-map, All-nil, All-weaker, Contains-get_or, Decides-contains}
+pub use Rattle.std.proofs.lemmas.List.{Elements.recursion_from_All, Folds.{find-append, list_all-append}}
+pub use Rattle.std.proofs.lemmas.List.FromFn.{get_or-enumerate_from, get_or-map-range_with_len, length-enumerate_from}
+pub use Rattle.std.proofs.lemmas.List.{FromFn.length-map-range_with_len, Sorted.IsPermutation-append_comm}
+pub use Rattle.std.proofs.lemmas.List.Sums.{AllPass-from_list_all, list_all-from_AllPass, sum_by-cons}
+pub use Rattle.std.proofs.lemmas.{Map.Keys.IsDistinct-IsPermutation, Option.{get_or_from_slice_get, gets, none-some}}
+pub use Rattle.std.proofs.lemmas.Option.{same_Some, slice_get-get_or, slice_get_cases, slice_get_within}
+pub use Rattle.std.proofs.lemmas.{Slice.Eq.bytes_eq-Decides, Str.{IsUtf8-from_ascii, IsUtf8-from_is_utf8}}
+pub use Rattle.std.{proofs.lemmas.Str.{is_utf8-from_IsUtf8, Ascii.IsAscii-from_all}, specs.Array.AllOfLen}
+pub use Rattle.std.specs.List.{AllByRecursion, concat, count_by, enumerate_from, flat_map, list_all, list_any}
+pub use Rattle.{std.specs.Option.{option_and_then, option_map_or}, toml.proofs.Lines.data_of_table}
+pub use Rattle.toml.{proofs.ReadLines.{AllPrinted, read_lines, run}, specs.Data.{Data, Members, array, as_array}}
+pub use Rattle.toml.specs.Data.{as_table, depth, get_member, has_valid_dates, integer, items_depth}
+pub use Rattle.toml.specs.{Data.{items_have_valid_dates, member, no_members, string}, Tables.{Expression, close}}
+pub use Rattle.toml.specs.{Tables.{key_value, no_nodes}, Text.{IsItemsText, IsLinesText, IsValueText}, View.array_view}
+pub use Rattle.toml.specs.{View.{items_of, table_view, view}, declared.value.Value.{Value, the_lemmas}}
+unfoldable pub use Rattle.kd_sheet.specs.{Bars.{bars_in, row_of_text, rows_in}, Cables.{cable_for, cables_in}}
+unfoldable pub use Rattle.kd_sheet.specs.{Cables.{letters_in_cable, pair_for, pairs_in}, Document.document_of}
+unfoldable pub use Rattle.kd_sheet.specs.{Letters.letters_at, MachineFile.{known_model_in, machine_in, model_in}}
+unfoldable pub use Rattle.kd_sheet.specs.MachineFile.{parts_in, pin_parts_in, reflector_in, rotor_parts_in, version_in}
+unfoldable pub use Rattle.kd_sheet.specs.{MachineText.machine_text, Names.{model_by_name, reflector_by_name}}
+unfoldable pub use Rattle.kd_sheet.specs.{Names.{standing_by_text, wheel_by_name}, PinWheels.letters_on_wheels}
+unfoldable pub use Rattle.kd_sheet.specs.{PinWheels.{pins_in, pins_of_item, pins_of_text, shown_in}, Seats.is_seated}
+unfoldable pub use Rattle.kd_sheet.specs.{Seats.{seat_for, seat_of_item, seats_in, wheel_for}, SheetFile.day_for}
+unfoldable pub use Rattle.kd_sheet.specs.SheetFile.{day_in, group_of_item, groups_in, model_day_in, new_number_in}
+unfoldable pub use Rattle.kd_sheet.specs.SheetFile.{number_in, pin_day_in, rings_in, rotor_day_in, sheet_in}
+unfoldable pub use Rattle.{kd_tables.specs.Rings.ring_of, std.specs.{Fmt.digits, List.IsDistinct}}
+unfoldable pub use Rattle.toml.specs.{Parse.{parse_document, skip_bom}, Tables.{along_dots, along_header, at_key}}
+unfoldable pub use Rattle.{toml.specs.Tables.define, toml_writer.specs.Text.{encoding_of, escaped, key_text}}
+unfoldable pub use Rattle.toml_writer.specs.Text.{needs_escape, quotes_after, string_text}
+pub use Rattle.kd_sheet.specs.declared.key.Key.TheVariants as keys
+
+-- ---- a document
+
+-- bytes that were parsed
+pub document_parsed : (bytes : List ℕ) (table : Members) → IsUtf8 bytes → parse_document bytes ≡ Some table → document_of bytes ≡ Ok table
+unfolding document_of
+document_parsed bytes table text parsed = rw (is_utf8-from_IsUtf8 bytes text, parsed)
+
+-- bytes that are no text or that the parser refuses
+pub document_refused : (bytes : List ℕ) → (IsUtf8 bytes → parse_document bytes ≡ None) → document_of bytes ≡ Err NotToml
+unfolding document_of
+document_refused bytes refused = grind (arith, cases_Bool, bytes, refused, IsUtf8-from_is_utf8)
+
+-- a list's items, in order
+pub list_of-items_of : (items : List Data) → list_of (items_of items) ≡ items
+list_of-items_of [] = refl
+list_of-items_of (first ∷ rest) = ap (λ more. first ∷ more) (list_of-items_of rest)
+
+-- the items of an array, as a call found them
+pub items_in_found : (key : Key) (value : Data) (found : Option (Bor (Vec Value Global))) → option_map (λ v. array_view v.now) found ≡ as_array value
+    → result_map (λ items. map view items.now.items) (ok_or found (BadValue key)) ≡ items_in key value
+items_in_found key value found e = grind (arith, option_map, list_of-items_of)
+
+-- ---- on the way of a reading
+
+abbrev found : {A : Type 0} → A → Result A SheetFault
+found x = Ok x
+
+pub same_found : {A : Type 0} (x y : A) → found x ≡ found y → x ≡ y
+same_found x y e = cc
+
+-- what was read before it
+pub given : {A B : Type 0} (first : Result A SheetFault) (next : A → Result B SheetFault) (value : B)
+    → (first >>= next) ≡ Ok value → (x : A) × (first ≡ Ok x) × (next x ≡ Ok value)
+given first next value e = grind arith
+
+-- a test that passed
+pub passed : {B : Type 0} (test : Bool) (fault : SheetFault) (next : Result B SheetFault) (value : B)
+    → (demand test fault >> next) ≡ Ok value → (test ≡ true) × (next ≡ Ok value)
+passed test fault next value e = grind arith
+
+-- what holds of what is read, where something is
+abbrev pub Gives : {A : Type 0} → Result A SheetFault → (A → Type 0) → Type 0
+Gives answer P = (x : _) → answer ≡ Ok x → P x
+
+pub done : {A : Type 0} (P : A → Type 0) (x : A) → P x → Gives (Ok x) P
+done P x holds y e = subst P (same_found x y e) holds
+
+-- of what is read first, and then of what is read by it
+pub after : {A B : Type 0} (first : Result A SheetFault) (next : A → Result B SheetFault) (P : A → Type 0)
+    (Q : B → Type 0) → Gives first P → ((x : A) → P x → Gives (next x) Q) → Gives (first >>= next) Q
+after first next P Q here rest y e =
+    let before = given first next y e in rest before.0 (here before.0 before.1) y before.2
+
+pub after_any : {A B : Type 0} (first : Result A SheetFault) (next : A → Result B SheetFault) (Q : B → Type 0)
+    → ((x : A) → Gives (next x) Q) → Gives (first >>= next) Q
+after_any first next Q rest y e = let before = given first next y e in rest before.0 y before.2
+
+-- of what is read once a test has passed
+pub tested : {B : Type 0} (test : Bool) (fault : SheetFault) (next : Result B SheetFault) (Q : B → Type 0)
+    → (test ≡ true → Gives next Q) → Gives (demand test fault >> next) Q
+tested test fault next Q rest y e = let both = passed test fault next y e in rest both.0 y both.1
+
+-- of what may be absent
+pub if_there : {A : Type 0} (there : Option Data) (reading : Data → Result A SheetFault) (none : A) (P : A → Type 0)
+    → ((value : Data) → Gives (reading value) P) → P none → Gives (option_map_or reading there (Ok none)) P
+if_there None reading none P each holds = done P none holds
+if_there (Some value) reading none P each holds = each value
+
+-- what there was
+pub there_was : {A : Type 0} (thing : Option A) (fault : SheetFault) (value : A) → ok_or thing fault ≡ Ok value
+    → thing ≡ Some value
+there_was thing fault value e = grind (arith, same_found)
+
+pub some_if : {A : Type 0} (test : Bool) (x value : A) → cond test (Some x) None ≡ Some value
+    → (test ≡ true) × (x ≡ value)
+some_if test x value e = grind (arith, same_Some, none-some)
+
+-- and what is read on, where all goes well
+pub then_read : {A B : Type 0} (first : Result A SheetFault) (next : A
+    → Result B SheetFault) (x : A) (result : Result B SheetFault) → first ≡ Ok x
+    → next x ≡ result → (first >>= next) ≡ result
+then_read first next x result is rest = ap (λ answer. answer >>= next) is ∙ rest
+
+pub passing : {B : Type 0} (test : Bool) (fault : SheetFault) (next result : Result B SheetFault) → test ≡ true
+    → next ≡ result → (demand test fault >> next) ≡ result
+passing test fault next result e d = grind arith
+
+-- ---- items, one after another
+
+-- what is read for an item past the end
+abbrev pub nothing : Data
+nothing = string []
+
+module _ {A : Type 0} where
+  -- the values of some items, and what is read of more behind them
+  abbrev pub on : (List A → Data → Result A SheetFault) → List A → List Data → Result (List A) SheetFault
+  on reading values items = in_turn (λ more. reading (values ++ more)) items >>= (λ more. Ok (values ++ more))
+
+  pub on_none : (reading : List A → Data → Result A SheetFault) (items : List Data)
+      → in_turn reading items ≡ on reading [] items
+  on_none reading items = grind arith
+
+  pub on_all : (reading : List A → Data → Result A SheetFault) (values : List A) (items : List Data) (place : ℕ)
+      → length items ≤ place → on reading values (drop place items) ≡ Ok values
+  on_all reading values items place past = rw drop_all (ap Ok (append-nil values))
+
+  module _ (reading : List A → Data → Result A SheetFault) (items : List Value) (place : ℕ) (item : Value)
+      (left : place < length items) (here : item ≡ get_or items place item) (values : List A) where
+    next : drop place (map view items) ≡ view item ∷ drop (place + 1) (map view items)
+    next =
+        let viewed = get_or-map view items place item (view item) left ∙ ap view (sym here) in
+        rw (drop_more (map view items) place (view item) (omega (arith, length-map items view)), viewed) refl
+
+    -- one item more
+    pub read_more : (value : A) → Ok value ≡ reading values (view item)
+        → on reading values (drop place (map view items))
+        ≡ on reading (values ++ value ∷ []) (drop (place + 1) (map view items))
+    read_more value is = rw (next, append-nil, ← is) (simp append_assoc (grind arith))
+
+    -- the first fault
+    pub read_stops : (fault : SheetFault) → Err fault ≡ reading values (view item)
+        → on reading values (drop place (map view items)) ≡ Err fault
+    read_stops fault is = rw (next, append-nil, ← is) refl
+
+  -- as many values as items, and each is read of its item behind the earlier ones
+  pub as_many : (reading : List A → Data → Result A SheetFault) (items : List Data)
+      → Gives (in_turn reading items) (λ values. length values ≡ length items)
+  as_many reading [] values e = ap length (sym (same_found _ _ e))
+  as_many reading (item ∷ items) values e =
+      let first = given (reading [] item) _ values e in
+      let more = given (in_turn (λ earlier. reading (first.0 ∷ earlier)) items) _ values first.2 in
+      ap length (sym (same_found _ _ more.2))
+      ∙ ap suc (as_many (λ earlier. reading (first.0 ∷ earlier)) items more.0 more.1)
+
+  pub read_at : (reading : List A → Data → Result A SheetFault) (items : List Data) (values : List A)
+      → in_turn reading items ≡ Ok values → (k : ℕ) (d : Data) (e : A) → k < length items
+      → reading (take k values) (get_or items k d) ≡ Ok (get_or values k e)
+  read_at reading [] values is k d e within = absurd (omega arith)
+  read_at reading (item ∷ items) values is zero d e within = grind (arith, given)
+  read_at reading (item ∷ items) values is (suc k) d e within =
+      let first = given (reading [] item) _ values is in
+      let more = given (in_turn (λ earlier. reading (first.0 ∷ earlier)) items) _ values first.2 in
+      subst (λ vs. reading (take (suc k) vs) (get_or items k d) ≡ Ok (get_or vs (suc k) e)) (same_found _ _ more.2)
+      (read_at (λ earlier. reading (first.0 ∷ earlier)) items more.0 more.1 k d e (omega arith))
+
+  -- what holds of each value that is read
+  pub each_is : (reading : List A → Data → Result A SheetFault) (P : A → Type 0)
+      → ((earlier : List A) (item : Data) (x : A) → reading earlier item ≡ Ok x → P x)
+      → (items : List Data) → Gives (in_turn reading items) (All P)
+  each_is reading P has items values e k d within =
+      has (take k values) (get_or items k nothing) (get_or values k d)
+      (read_at reading items values e k nothing d (omega (arith, as_many reading items values e)))
+
+  -- what holds of no values, and with each one that is read of one more, holds of all
+  pub keeps : (reading : List A → Data → Result A SheetFault) (Holds : List A → Type 0) → Holds []
+      → ((done : List A) (item : Data) (value : A) → Holds done → reading done item ≡ Ok value
+      → Holds (done ++ value ∷ []))
+      → (items : List Data) → Gives (in_turn reading items) Holds
+  keeps reading Holds start more [] = done Holds [] start
+  keeps reading Holds start more (item ∷ items) =
+      after (reading [] item) _ _ _ (λ value. more [] item value start) (λ value so_far.
+      after (in_turn (λ done. reading (value ∷ done)) items) _ _ _
+      (keeps (λ done. reading (value ∷ done)) (λ ys. Holds (value ∷ ys)) so_far (λ done. more (value ∷ done)) items)
+      (λ values all. done Holds (value ∷ values) all))
+
+  -- what is so read of an array of which the number of items is told
+  module _ (reading : List A → Data → Result A SheetFault) (Holds : List A → Type 0)
+      (all : (items : List Data) → Gives (in_turn reading items) Holds) (key : Key) (count : ℕ) where
+    pub each_read : (table : Members)
+        → Gives (each_at key count reading table) (λ values. (length values ≡ count) × Holds values)
+    each_read table =
+        after_any (items_at key table) _ _ (λ items. tested (length items == count) _ _ _ (λ same values e. (
+          as_many reading items values e ∙ eqb-true _ _ same,
+          all items values e,
+        )))
+
+    pub some_read : (value : Data)
+        → Gives (up_to key count reading value) (λ values. (length values ≤ count) × Holds values)
+    some_read value =
+        after_any (items_in key value) _ _ (λ items. tested (nat_le (length items) count) _ _ _ (λ few values e. (
+          omega (arith, as_many reading items values e, leb-true _ _ few),
+          all items values e,
+        )))
+
+  -- things that are read again, by their texts
+  pub again : (reading : List A → Data → Result A SheetFault) (text_of : A → List ℕ) (all : List A)
+      → ((k : ℕ) (x : A) → slice_get all k ≡ Some x → reading (take k all) (string (text_of x)) ≡ Ok x)
+      → in_turn reading (map string (map text_of all)) ≡ Ok all
+  again reading text_of [] each = refl
+  again reading text_of (x ∷ all) each =
+      rw (each 0 x refl, again (λ done. reading (x ∷ done)) text_of all (λ k. each (suc k))) refl
+
+-- what stands at a place has what all have
+pub held : {X : Type 0} (P : X → Type 0) (xs : List X) (k : ℕ) (x : X) → All P xs → slice_get xs k ≡ Some x → P x
+held P xs k x all at = grind (arith, common_steps, gets, slice_get_within)

@@ -1,0 +1,13 @@
+use Rattle.{kd_sheet.specs.Numbers.numbered_letter, std.proofs.Common.{drop, filter_map, is_some, length, map, ◌++◌}}
+use Rattle.{std.{proofs.Common.◌≡◌, specs.List.list_all}, toml.specs.View.view}
+use Rattle.kd_sheet.proofs.letters.numbered_slots.Given as goal
+
+-- the letters so far are those of the items so far, and the others are those of the rest
+abbrev pub invariant-loop-item : goal.invariant-loop-item
+invariant-loop-item l = record {
+  count : length l.letters.items ≡ l.item-index;
+  numbers : list_all (λ item. is_some (numbered_letter item)) (map view l.items)
+      ≡ list_all (λ item. is_some (numbered_letter item)) (map view (drop l.item-index l.items));
+  letters : filter_map numbered_letter (map view l.items)
+      ≡ l.letters.items ++ filter_map numbered_letter (map view (drop l.item-index l.items));
+}

@@ -1,7 +1,0 @@
-use Rattle.kd_sheet.proofs.Prelude.{bytes_eq, drop, find, ◌≡◌, reflector_text}
-use Rattle.kd_sheet.proofs.names.reflector_by_name.Given as goal
-
-abbrev pub invariant-loop-reflector : goal.invariant-loop-reflector
-invariant-loop-reflector l =
-    find (λ reflector. bytes_eq (reflector_text reflector) l.name) (drop l.reflector-index l.reflectors)
-    ≡ find (λ reflector. bytes_eq (reflector_text reflector) l.name) l.reflectors

@@ -1,7 +1,0 @@
-use Rattle.kd_sheet.proofs.{Prelude.{wheel_by_name, every_wheel, wheel_text}, Namings.{find_named, wheel_by_name-text}}
-use Rattle.kd_sheet.proofs.names.wheel_by_name.Goals as goal
-
-pub returns : goal.returns
-unfolding wheel_by_name
-returns c = rw (← c.as_bytes.ensures.value)
-    (find_named wheel_text every_wheel wheel_by_name-text _ _ c.from_text.ensures)
