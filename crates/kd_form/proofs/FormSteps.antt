@@ -259,22 +259,7 @@ module _ (s : Day) (r : FormReader) (form text : List ℕ) (h : HoldsForm s r fo
   -- a byte more of the same part
   pub grows : (stage : Stage) (made : List ℕ) (byte : ℕ) → made ≡ [] → cut (h.last ++ byte ∷ []) ≡ (h.last ++ byte ∷ [], [])
       → HoldsStage s stage r.number r.expected (h.last ++ byte ∷ []) → HoldsForm s (behind r stage) (form ++ byte ∷ []) (text ++ made)
-  grows stage made byte none one there = record {
-    front = h.front;
-    last = h.last ++ byte ∷ [];
-    parts = h.parts;
-    letters = h.letters;
-    joined = ap (λ l. l ++ byte ∷ []) h.joined ∙ append_assoc h.front h.last (byte ∷ []);
-    cuts = λ more. ap parts_of (append_assoc form (byte ∷ []) more) ∙ h.cuts (byte ∷ more)
-        ∙ ap (λ l. h.parts ++ parts_of l) (sym (append_assoc h.last (byte ∷ []) more));
-    alone = ap (λ c. c.1) one;
-    begun = h.begun;
-    first = h.first;
-    read = h.read;
-    is = ap (λ m. text ++ m) none ∙ append-nil text ∙ h.is;
-    counted = omega (arith, h.counted, length-append form (byte ∷ []));
-    stage = there;
-  }
+  grows stage made byte none one there = grind (arith, append_assoc, append-nil, length-append)
 
   -- with more bytes a part is refused
   pub refused_at : (fault : FormFault) (more part : List ℕ) (others : List (List ℕ)) → cut (h.last ++ more) ≡ (part, others)
@@ -356,13 +341,7 @@ module _ (s : Day) (r : FormReader) (form text : List ℕ) (h : HoldsForm s r fo
     mine = in_stage (stages.Body b) stage
 
     pub next_last : IsNext s b r.number r.expected h.last mine.body []
-    next_last = record {
-      has = body_heading s b h.last mine.body mine.holds;
-      numbered = mine.numbered;
-      due = mine.due;
-      allowed = mine.holds.allowed;
-      kept = mine.holds.kept ∙ ap (take 525) (sym (append-nil (letters_from None mine.body)));
-    }
+    next_last = grind (arith, body_heading, append-nil, letters_from)
 
     module _ (given : List ℕ) (told : IsSaid b 0 (λ letters. IsBodyGiven s b.heading letters given)) where
       -- the last part is read, and then this is so

@@ -15,8 +15,7 @@ by_length : (size : ℕ) (P : List ℕ → Type 0) → 0 < size → P [] → ((l
 by_length size P large none more most [] few = none
 by_length size P large none more zero (l ∷ letters) few = absurd (omega arith)
 by_length size P large none more (suc most) (l ∷ letters) few =
-    more (l ∷ letters) (omega arith)
-    (by_length size P large none more most (drop size (l ∷ letters)) (omega (arith, length-drop size (l ∷ letters))))
+    grind (arith, length-drop, by_length size P large none more most (drop size (l ∷ letters)))
 
 -- ---- the letters that a body gives, and its bytes
 
@@ -26,10 +25,7 @@ pub record Gives (text letters : List ℕ) : Type 0 where
   pub gives : letters_from None text ≡ letters
 
 gives_both : (one other letters more : List ℕ) → Gives one letters → Gives other more → Gives (one ++ other) (letters ++ more)
-gives_both one other letters more a b = record {
-  allowed = All-append (λ b. IsTrue (is_text_byte b)) one other a.allowed b.allowed;
-  gives = cc (filter_map-append (letter_of_byte None) one other, a.gives, b.gives);
-}
+gives_both one other letters more a b = grind (arith, common_steps, All-append, filter_map-append)
 
 gives_none : Gives [] []
 gives_none = record { allowed = All-nil (λ b. IsTrue (is_text_byte b)); gives = refl }

@@ -140,8 +140,7 @@ first_done (byte ∷ bytes) some = elim (cut_or_not byte bytes) [
 pub cut_behind : (line bytes : List ℕ) → IsWithout 10 line → cut (line ++ bytes) ≡ (line ++ (cut bytes).0, (cut bytes).1)
 cut_behind [] bytes unbroken = refl
 cut_behind (byte ∷ line) bytes unbroken =
-    no_cut byte (line ++ bytes) (λ is. absurd (All-head (λ b. b ≢ 10) byte line unbroken is))
-    ∙ rw (cut_behind line bytes (All-tail (λ b. b ≢ 10) byte line unbroken)) refl
+    grind (arith, no_cut, All-head, All-tail, cut_behind line bytes (All-tail (λ b. b ≢ 10) byte line unbroken))
 
 pub one_byte : (byte : ℕ) → cut (byte ∷ []) ≡ (byte ∷ [], [])
 one_byte byte = no_cut byte [] (λ is begun. omega (arith, heading_size [] begun))
@@ -175,8 +174,7 @@ first_ends (x ∷ front) more digit none low high =
 
 -- fewer than six bytes of what begins a heading may stand in a body
 few_allowed : (bytes more : List ℕ) → length bytes < 6 → BeginsHeading (bytes ++ more) → AreAllowed bytes
-few_allowed bytes more few begun =
-    grind (arith, common_steps, All-same, bytes, few_begin, All-take, AllPass-from_list_all)
+few_allowed bytes more few begun = grind (arith, common_steps, All-same, few_begin, All-take, AllPass-from_list_all)
 
 -- with more bytes the first bad one stays where it is, in the same part
 stays : (front rest more : List ℕ) (byte : ℕ) → AreAllowed front → IsFalse (is_text_byte byte)
@@ -319,13 +317,7 @@ letters_word : (letters : List ℕ) → 1 ≤ length letters → IsWord (letters
 letters_word letters some = grind (arith, common_steps, word_by_bytes, lower, letters_from)
 
 fraction_word : (part parts : ℕ) → part < 2 ^ 64 → parts < 2 ^ 64 → IsWord (fraction part parts)
-fraction_word part parts small few =
-    word_by_bytes (fraction part parts) (λ none. omega (
-      arith,
-      ap length none,
-      length-append (decimal part ++ codes "/") (decimal parts),
-      length-append (decimal part) (codes "/"),
-    )) (lower 47 33 (fraction part parts) (omega arith) (fraction_from part parts small few))
+fraction_word part parts small few = grind (arith, word_by_bytes, length-append {A = ℕ}, lower, fraction_from)
 
 line_words : (s : Day) (found : Option ℕ) (h : Heading) (line : List ℕ) → MatchOption found (HasPins s) (HasSlots s)
     → IsHeading s h → line_of (heading_words h) ≡ line → words_of line ≡ heading_words h
@@ -370,19 +362,11 @@ ended_heading s front body h unbroken is text =
 -- what stands before the first LF is the heading, and the body follows it
 pub heading_there : (s : Day) (front body : List ℕ) (h : Heading) (rest : List ℕ) → IsWithout 10 front
     → HasHeading s (front ++ 10 ∷ body) h rest → IsLineText front (line_of (heading_words h)) × (rest ≡ body)
-heading_there s front body h rest unbroken has = elim has.first [
-  | inl (line, first, text) ↦
-      let same = texts_tell_first_parts 10 front line body rest unbroken first.without first.joined in
-      (rw (← same.0) at text, sym same.1)
-  | inr (none, whole, nil) ↦ absurd (has_byte 10 front body none)
-]
+heading_there s front body h rest unbroken has = grind (arith, texts_tell_first_parts, has_byte)
 
 -- without an LF, the heading is all there is
 bare_heading : (s : Day) (part : List ℕ) (h : Heading) (rest : List ℕ) → IsWithout 10 part → HasHeading s part h rest → line_of (heading_words h) ≡ part
-bare_heading s part h rest unbroken has = elim has.first [
-  | inl (line, first, text) ↦ absurd (has_byte 10 line rest (rw first.joined at unbroken))
-  | inr (none, whole, nil) ↦ sym whole
-]
+bare_heading s part h rest unbroken has = grind (arith, has_byte)
 
 -- a line has one text
 one_line_text : (line text other : List ℕ) → IsLineText line text → IsLineText line other → text ≡ other
@@ -447,14 +431,8 @@ same_heading s h other is also same = grind (arith, are_small, one_number, appen
 
 one_first_line : (text line other rest more : List ℕ) → HasFirstLine text line rest → HasFirstLine text other more
     → (line ≡ other) × (rest ≡ more)
-one_first_line text line other rest more (inl (shown, first, is)) (inl (alike, same, also)) =
-    let both = texts_tell_first_parts 10 shown alike rest more first.without same.without (sym first.joined ∙ same.joined) in
-    (one_line_text shown line other is (rw (← both.0) at also), both.1)
-one_first_line text line other rest more (inl (shown, first, is)) (inr (none, whole, nil)) =
-    absurd (has_byte 10 shown rest (rw first.joined at none))
-one_first_line text line other rest more (inr (none, whole, nil)) (inl (shown, first, is)) =
-    absurd (has_byte 10 shown more (rw first.joined at none))
-one_first_line text line other rest more (inr (none, whole, nil)) (inr (nor, same, null)) = (sym whole ∙ same, nil ∙ sym null)
+one_first_line text line other rest more a b =
+    grind (arith, common_steps, texts_tell_first_parts, one_line_text, has_byte)
 
 pub one_heading : (s : Day) (part : List ℕ) (h other : Heading) (body rest : List ℕ) → HasHeading s part h body
     → HasHeading s part other rest → (h ≡ other) × (body ≡ rest)

@@ -93,8 +93,7 @@ line_open pattern bytes none =
 -- a byte doesn't fit its mark
 pub line_off : (mark byte : ℕ) (marks rest pattern bytes : List ℕ) → pattern ≡ mark ∷ marks → bytes ≡ byte ∷ rest → fits mark byte ≡ false
     → BreaksOff (IsPatternLine pattern) bytes Off
-line_off mark byte marks rest pattern bytes first next unfit =
-    rw (first, next) (λ more line. false≢true (sym unfit ∙ (line_less mark byte marks line.0 (rest ++ more) line.1).0))
+line_off mark byte marks rest pattern bytes first next unfit = grind (arith, false≢true, line_less)
 
 -- or it does, and the line goes on as what is left of the pattern does
 pub line_on : (mark byte : ℕ) (marks rest pattern bytes old now new : List ℕ) (answer : Result (Unit {0}) Unread) → pattern ≡ mark ∷ marks → bytes ≡ byte ∷ rest
@@ -149,13 +148,10 @@ rotor_blanks : (slots : ℕ) → blanks (rotor_pattern slots) ≡ slots + (slots
 rotor_blanks slots = grind (arith, blanks-places)
 
 letters_joined : {m n : ℕ} {one other : List ℕ} → AreLetters m one → AreLetters n other → AreLetters (m + n) (one ++ other)
-letters_joined {one = one} {other = other} a b =
-    grind (arith, length-append one other, All-append (λ l. l < 26) one other)
+letters_joined a b = grind (arith, common_steps, length-append, All-append)
 
 letters_cut : (m n : ℕ) (letters : List ℕ) → AreLetters (m + n) letters → AreLetters m (take m letters) × AreLetters n (drop m letters)
-letters_cut m n letters are =
-    let few : (ℕ → Type 0) = λ l. l < 26 in
-    grind (arith, length-take-le m letters, length-drop m letters, All-take few m letters, All-drop few m letters)
+letters_cut m n letters are = grind (arith, common_steps, length-take-le, length-drop, All-take, All-drop)
 
 -- ---- any letters make keys
 
@@ -240,8 +236,7 @@ module _ {P : List ℕ → Type 0} (Q : List ℕ → Type 0) (s : Day) (more : L
       → BeginsWithKeys s keys P bytes → BeginsWithKeys s (keys ++ others) Q (bytes ++ more)
   lines_more [] others bytes on is = on bytes is
   lines_more (k ∷ keys) others bytes on (line, rest, are, is, later, joined) =
-      let all = lines_more keys others rest on later in
-      (line, rest ++ more, are, is, all, ap (λ b. b ++ more) joined ∙ append_assoc line rest more)
+      grind (arith, append_assoc, lines_more keys others rest on later)
 
 pub text_line : (last : List ℕ) → IsEnded (codes "TEXT") last → IsPatternLine (codes "TEXT") last
 text_line last ended = ([], record { are_letters = no_letters; ended = ended })

@@ -81,10 +81,7 @@ module _ (letters : List ℕ) (wheel start : ℕ) (inside : start < length lette
   -- it isn't: a pick begins later
   later : (places : List ℕ) → ¬ (Contains (ring_of wheel) (slice_index letters start)) → Picks letters wheel start places → Picks letters wheel (start + 1) places
   later [] off picks = picks
-  later (place ∷ places) off (after, within, on, more) = elim (cases_eq place start) [
-    | inl same ↦ absurd (off (rw same at on))
-    | inr apart ↦ (omega (arith, after, apart), within, on, more)
-  ]
+  later (place ∷ places) off picks = grind (arith, cases_eq)
 
 -- So far these letters are picked, and the next place is this one or a later one. What is the first pick for the wheels that
 -- are left makes the first pick for all, and where there is none, there is none for all.
@@ -152,9 +149,7 @@ picks_of letters wheel start (place ∷ places) (after, inside, rising) count ea
     )
 
 picks_from_picked : (letters places picked : List ℕ) → ArePicked letters places picked → Picks letters 1 0 places
-picks_from_picked letters places picked are =
-    picks_of letters 1 0 places are.rising (omega (arith, length-map places (λ p. slice_index letters p), ap length are.taken, are.on_wheels.count))
-    (λ i letter is. subst (λ w. Contains (ring_of w) letter) (omega arith) (are.on_wheels.each (suc i) letter (ap (λ xs. slice_get xs i) are.taken ∙ is)))
+picks_from_picked letters places picked are = grind (arith, picks_of, length-map)
 
 pub key_picked : (letters done : List ℕ) (start : ℕ) → IsPicking letters start done → length done ≡ 6 → IsInternalKey letters done
 key_picked letters done start picking six =

@@ -96,9 +96,7 @@ behind s (k ∷ keys) (j ∷ others) bytes head text more (line, rest, are, is, 
 
 only_text : (s : Day) (keys : List Keys) (line last text more : List ℕ) → IsEnded (codes "TEXT") line
     → BeginsWithKeys s keys (IsEnded (codes "TEXT")) last → line ++ text ≡ last ++ more → (keys ≡ []) × (text ≡ more)
-only_text s [] line last text more ended end same =
-    let plain = plain_text (codes "TEXT") refl in
-    (refl, (same_line (codes "TEXT") (codes "TEXT") line last text more plain plain ended end same).2)
+only_text s [] line last text more ended end same = grind (arith, plain_text, same_line)
 only_text s (k ∷ keys) line last text more ended (first, rest, are, is, later, joined) same =
     absurd (grind (arith, text_front, key_first, append_assoc))
 
@@ -184,8 +182,7 @@ one_bad_byte text place other a b =
 -- behind bytes that are allowed
 pub bad_behind : (front rest : List ℕ) (byte : ℕ) → All (λ b. IsTrue (is_text_byte b)) front → IsFalse (is_text_byte byte)
     → IsBadAt (front ++ byte ∷ rest) (length front)
-bad_behind front rest byte allowed bad =
-    record { before = front; byte = byte; rest = rest; joined = refl; size = refl; allowed = allowed; bad = bad }
+bad_behind front rest byte allowed bad = grind arith
 
 pub bad_longer : (text more : List ℕ) (place : ℕ) → IsBadAt text place → IsBadAt (text ++ more) place
 bad_longer text more place bad = grind (arith, append_assoc {A = ℕ})

@@ -82,10 +82,7 @@ module _ (s : Day) (count : ℕ) where
       → BreaksOff (IsAnyKeyLine s) line why → BreaksOff (IsHeadLine s count) line why
   next_keys line unread.Open first room (more, some, key) = (more, some, inl (key, room))
   next_keys [] unread.Off first room off = absurd (omega (arith, first))
-  next_keys (byte ∷ line) unread.Off first room off = λ more next. elim next [
-    | inl key ↦ off more key.0
-    | inr text ↦ omega (arith, first, text_front (byte ∷ line ++ more) [] text)
-  ]
+  next_keys (byte ∷ line) unread.Off first room off = grind (arith, off, text_front)
 
   pub next_text : (line : List ℕ) (why : Unread) → (get_or line 0 0 ≡ 80 → 99 ≤ count)
       → BreaksOff (IsPatternLine (codes "TEXT")) line why → BreaksOff (IsHeadLine s count) line why
@@ -125,8 +122,7 @@ pub head_next : (s : Day) (count : ℕ) (keys : List Keys) (bytes : List ℕ) �
     → BeginsWithKeys s keys (IsEnded (codes "TEXT")) bytes
     → (line rest : List ℕ) × IsHeadLine s count line × (bytes ≡ line ++ rest)
 head_next s count [] bytes few ended = (bytes, [], inr ended, sym (append-nil bytes))
-head_next s count (k ∷ keys) bytes few (line, rest, are, is, later, joined) =
-    (line, rest, inl (record { keys = k; of_the_day = are; keyed = is }, omega arith), joined)
+head_next s count (k ∷ keys) bytes few (line, rest, are, is, later, joined) = grind arith
 
 module _ (s : Day) (keys : List Keys) (line order : List ℕ) (is : IsHeadRead s keys line order) where
   pub line_short : length (key_pattern s) ≤ 21 → length line < 25
@@ -141,8 +137,7 @@ module _ (s : Day) (keys : List Keys) (line order : List ℕ) (is : IsHeadRead s
   -- behind one line of keys more
   pub one_more : (Q : List ℕ → Type 0) (k : Keys) (more end : List ℕ) → AreKeys s k → IsKeyLine k (line ++ more) → Q end
       → BeginsWithKeys s (keys ++ k ∷ []) Q (order ++ (more ++ end))
-  one_more Q k more end are keyed holds = lines_more Q s (more ++ end) keys (k ∷ []) order
-      (λ rest same. (line ++ more, end, are, keyed, holds, rw same (sym (append_assoc line more end)))) is.lines
+  one_more Q k more end are keyed holds = grind (arith, lines_more, append_assoc)
 
   pub goes_on : BreaksOff (IsAnyHead s) order unread.Open
   goes_on = let (more, some, next) = is.begins in elim next [
@@ -282,15 +277,7 @@ module _ (s : Day) where
     -- the end
     pub text_ends : (made : List ℕ) (answer : Result (Unit {0}) FormFault)
         → IsLastTaken s keys (text_letters s text.text) sent made answer → Closes (orders s) order (sent ++ made) answer
-    text_ends made (Ok done) (some, counted, is) = record {
-      keys = keys;
-      head = text.head;
-      text = text.text;
-      sendable = text.sendable;
-      some = some;
-      counted = counted;
-      made = is;
-    }
+    text_ends made (Ok done) (some, counted, is) = grind arith
     text_ends made (Err fault) (nothing, inl (none, is)) =
         (inr (NoLetter _ _ _ text.sendable none is), rw (nothing, append-nil sent) (text_sent _ _ _ _ text))
     text_ends made (Err fault) (nothing, inr (some, other, is)) =
