@@ -212,11 +212,7 @@ by_lines s b part body holds =
 pub goes_on : (s : Day) (b : PartBody) (part body : List ℕ) (byte : ℕ) → HoldsBody s b part body → (cut part).1 ≡ [] → ¬ (IsDigitDue b byte)
     → cut (part ++ byte ∷ []) ≡ (part ++ byte ∷ [], [])
 goes_on s b part body byte holds none not =
-    let last = holds.last in
-    let split = by_lines s b part body holds in
-    let whole : part ++ byte ∷ [] ≡ last.front ++ 10 ∷ (last.tail ++ byte ∷ []) =
-    ap (λ l. l ++ byte ∷ []) split ∙ append_assoc last.front (10 ∷ last.tail) (byte ∷ []) in
-    rw whole (first_more last.front last.tail byte last.unbroken (rw split at none) (λ is low high. not (last.kept ∙ ap (take 6) is, low, high)))
+    grind (arith, by_lines s b part body holds, append_assoc, first_more holds.last.front holds.last.tail byte)
 
 -- the body without these five bytes, and their letters
 record Settled (s : Day) (b : PartBody) (number : ℕ) (expected : Option ℕ) (part : List ℕ) (mine : HoldsPart s b number expected part) : Type 0 where
@@ -288,9 +284,7 @@ module _ (s : Day) (r : FormReader) (form text : List ℕ) (h : HoldsForm s r fo
     four_letters = omega (arith, ap length ended.next.kept, length-take {A = ℕ}, length-append {A = ℕ})
 
     cut_off : (more : List ℕ) → cut (h.last ++ byte ∷ more) ≡ (whole, parts_of (codes "PART " ++ byte ∷ more))
-    cut_off more =
-        ap (λ l. cut (l ++ byte ∷ more)) ended.split ∙ ap cut (append_assoc front (10 ∷ codes "PART ") (byte ∷ more))
-        ∙ first_ends front more byte (rw ended.split at h.alone) digit.1 digit.2
+    cut_off more = grind (arith, ended.split, append_assoc, first_ends front more byte)
 
     pub part_refused : (fault : FormFault) → IsSaid b 4 (λ letters. SaysBody s b.heading.part b.heading letters (Err fault))
         → IsRefused (form_message s) (form ++ byte ∷ []) text fault

@@ -46,8 +46,7 @@ gives_word (l ∷ letters) are =
 gives_after : (byte : ℕ) (word letters rest more : List ℕ) → IsTrue (is_text_byte byte) → letters_from None (byte ∷ []) ≡ [] → Gives word letters
     → Gives rest more → Gives (word ++ byte ∷ rest) (letters ++ more)
 gives_after byte word letters rest more allowed none a b =
-    gives_both word (byte ∷ rest) letters more a (gives_both (byte ∷ []) rest [] more
-    (record { allowed = All-cons (λ b. IsTrue (is_text_byte b)) byte [] allowed (All-nil (λ b. IsTrue (is_text_byte b))); gives = none }) b)
+    gives_both word (byte ∷ rest) letters more a (grind (arith, common_steps, All-cons))
 
 gives_words : (word letters : List ℕ) (words : List (List ℕ)) (more : List ℕ) → Gives word letters → Gives (line_of words) more
     → Gives (line_of (word ∷ words)) (letters ++ more)
@@ -83,9 +82,8 @@ gives_body =
 lines_end : (items : List (List ℕ)) → (front : List ℕ) × (10 ∷ flat_map (λ line. with_line (groups_of line) []) items ≡ front ++ 10 ∷ [])
 lines_end [] = ([], refl)
 lines_end (item ∷ items) =
-    let line : List ℕ = line_of (groups_of item) in
     let (front, is) = lines_end items in
-    (10 ∷ (line ++ front), ap (λ t. 10 ∷ t) (append_assoc line (10 ∷ []) _ ∙ ap (λ t. line ++ t) is ∙ sym (append_assoc line front (10 ∷ []))))
+    (10 ∷ (line_of (groups_of item) ++ front), grind (arith, append_assoc, is))
 
 -- -------- a part as it is written: its heading, and where it ends in what it begins
 
@@ -216,7 +214,4 @@ forms_give_their_orders s order form given legal is due =
     }
 
 pub orders_give_letters : OrdersGiveLetters
-orders_give_letters s order form is = (
-  given_text s (sent_letters s (text_letters s is.text)),
-  record { keys = is.keys; head = is.head; text = is.text; is_order = is.sendable.is_order; is = refl },
-)
+orders_give_letters s order form is = (given_text s (sent_letters s (text_letters s is.text)), grind arith)

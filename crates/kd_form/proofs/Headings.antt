@@ -50,10 +50,7 @@ may_begin bytes (inl (count, few, is)) = (
 may_begin bytes (inr begun) = ([], rw (append-nil bytes) begun)
 
 fits_there : (bytes : List ℕ) (place : ℕ) → BeginsHeading bytes → FitsAt place (get_or bytes place 0)
-fits_there bytes place begun = (
-  (λ less. sym (get_or-take 5 bytes place 0 less) ∙ ap (λ l. get_or l place 0) (told bytes begun).0),
-  (λ same. rw same ((told bytes begun).1, (told bytes begun).2)),
-)
+fits_there bytes place begun = grind (arith, common_steps, told bytes begun, get_or-take 5 bytes place 0)
 
 -- a byte that fits may follow them
 pub follows : (part line : List ℕ) (byte : ℕ) → line ≡ take 64 part → HasBegun part → FitsAt (length line) byte → HasBegun (part ++ byte ∷ [])
@@ -113,26 +110,8 @@ pub record IsDone (form : List ℕ) : Type 0 where
 
 pub first_done : (form : List ℕ) → (cut form).1 ≢ [] → IsDone form
 first_done [] some = absurd (some refl)
-first_done (byte ∷ bytes) some = elim (cut_or_not byte bytes) [
-  | inl (is, begun) ↦ rw is (record {
-    rest = bytes;
-    long = omega (arith, heading_size bytes begun);
-    joined = rw (ap (λ c. c.0) (at_cut bytes begun)) refl;
-    others = ap (λ c. c.1) (at_cut bytes begun);
-    grows = λ more. at_cut (bytes ++ more) (begins_more bytes more begun) ∙ cc (at_cut bytes begun);
-  })
-  | inr not ↦
-      let whole : cut (byte ∷ bytes) ≡ (byte ∷ (cut bytes).0, (cut bytes).1) = no_cut byte bytes not in
-      let done = first_done bytes (λ none. some (ap (λ c. c.1) whole ∙ none)) in
-      record {
-        rest = done.rest;
-        long = omega (arith, done.long);
-        joined = ap (λ l. byte ∷ l) done.joined ∙ ap (λ (c : List ℕ × List (List ℕ)). c.0 ++ done.rest) (sym whole);
-        others = ap (λ c. c.1) whole ∙ done.others;
-        grows = λ more. no_cut byte (bytes ++ more) (λ is begun. not is (sym (begins_front bytes more done.long) ∙ begun))
-            ∙ ap (λ (c : List ℕ × List (List ℕ)). (byte ∷ c.0, c.1)) (done.grows more) ∙ ap (λ (c : List ℕ × List (List ℕ)). (c.0, parts_of (done.rest ++ more))) (sym whole);
-      }
-]
+first_done (byte ∷ bytes) some =
+    grind (arith, cut_or_not byte bytes, heading_size, at_cut, begins_more, no_cut, first_done bytes, begins_front)
 
 -- ---- a byte more of the last part
 
@@ -158,19 +137,14 @@ pub first_more : (front tail : List ℕ) (byte : ℕ) → IsWithout 10 tail → 
     → ((tail ≡ codes "PART ") → (48 ≤ byte) → (byte ≤ 57) → ⊥) → cut (front ++ 10 ∷ (tail ++ byte ∷ [])) ≡ (front ++ 10 ∷ (tail ++ byte ∷ []), [])
 first_more [] tail byte unbroken none not = grind (arith, uncut, no_cut, last_digit, begins_front, one_more)
 first_more (x ∷ front) tail byte unbroken none not =
-    let is = uncut x (front ++ 10 ∷ tail) none in
-    no_cut x (front ++ 10 ∷ (tail ++ byte ∷ [])) (λ e begun. is.0 e (begins_more front (10 ∷ tail) (before_break front (tail ++ byte ∷ []) begun)))
-    ∙ rw (first_more front tail byte unbroken is.1 not) refl
+    grind (arith, uncut, no_cut, begins_more, before_break, append_assoc, first_more front tail byte unbroken)
 
 -- the digit of a heading ends the part before it
 pub first_ends : (front more : List ℕ) (digit : ℕ) → (cut (front ++ 10 ∷ codes "PART ")).1 ≡ [] → 48 ≤ digit → digit ≤ 57
     → cut (front ++ 10 ∷ (codes "PART " ++ digit ∷ more)) ≡ (front ++ 10 ∷ [], parts_of (codes "PART " ++ digit ∷ more))
 first_ends [] more digit none low high = at_cut (codes "PART " ++ digit ∷ more) (begins digit more low high)
 first_ends (x ∷ front) more digit none low high =
-    let is = uncut x (front ++ 10 ∷ codes "PART ") none in
-    no_cut x (front ++ 10 ∷ (codes "PART " ++ digit ∷ more))
-    (λ e begun. is.0 e (begins_more front (10 ∷ codes "PART ") (before_break front (codes "PART " ++ digit ∷ more) begun)))
-    ∙ rw (first_ends front more digit is.1 low high) refl
+    grind (arith, uncut, no_cut, begins_more, before_break, append_assoc, first_ends front more digit)
 
 -- fewer than six bytes of what begins a heading may stand in a body
 few_allowed : (bytes more : List ℕ) → length bytes < 6 → BeginsHeading (bytes ++ more) → AreAllowed bytes
@@ -288,9 +262,7 @@ pub record AreSpelled (word : List ℕ) (index : ℕ) (letters : List ℕ) : Typ
 pub capital_at : (word others : List ℕ) (index : ℕ) → index < length word → AreFewLetters others → letters_text others ≡ word
     → (65 ≤ get_or word index 0) × (get_or word index 0 ≤ 90)
 capital_at word others index inside are same =
-    let within : index < length others = omega (arith, ap length same, length-map others (λ l. l + 65)) in
-    let byte = get_or-map (λ l. l + 65) others index 0 0 within in
-    omega (arith, All-get_or (λ l. l < 26) others index 0 within are.within, ap (λ w. get_or w index 0) same, byte)
+    grind (arith, length-map, get_or-map, All-get_or (λ l. l < 26) others index 0)
 
 -- -------- the line of a heading, and its words
 

@@ -25,9 +25,7 @@ made_more : (s : Day) (part parts : ℕ) (keys : List Keys) (k : Keys) (texts : 
     → AreMadeTexts s part parts (keys ++ k ∷ []) (texts ++ piece ∷ []) (bytes ++ one)
 made_more s part parts [] k [] piece bytes one made is = grind (arith, append-nil one)
 made_more s part parts (first ∷ keys) k (text ∷ texts) piece bytes one (begun, others, is_first, made, joined) is =
-    let behind : part + length (first ∷ keys) ≡ part + 1 + length keys = omega arith in
-    let more = made_more s (part + 1) parts keys k texts piece others one made (rw behind at is) in
-    (begun, others ++ one, is_first, more, ap (λ b. b ++ one) joined ∙ append_assoc begun others one)
+    grind (arith, made_more s (part + 1) parts keys k texts piece others one made, append_assoc)
 made_more s part parts _ k _ piece bytes one made is = absurd made
 
 last_number : (size parts letters written : ℕ) → 0 < size → 0 < letters → CanBeWritten size parts letters written
@@ -36,10 +34,8 @@ last_number : (size parts letters written : ℕ) → 0 < size → 0 < letters �
 last_number size zero letters written large some can needed = grind (arith, div_ceil_times)
 last_number size (suc other) letters written large some can needed =
     let (most, least) = rw needed at (div_ceil_times letters size large) in
-    let low : other ≤ written = can.most other (omega arith) (omega arith) in
-    let same : other ≡ written = grind arith in
-    let product : size * other ≡ size * written = ap (λ n. size * n) same in
-    (omega arith, omega arith, omega arith)
+    let same : other ≡ written = grind (arith, can.most other (omega arith) (omega arith)) in
+    grind (arith, ap (λ n. size * n) same)
 
 module _ (s : Day) (keys : List Keys) (w : PartWriter) (k : Keys) (letters sent one : List ℕ)
     (is : AreTaken s keys w letters sent) (found : slice_get keys w.written ≡ Some k)
@@ -48,28 +44,18 @@ module _ (s : Day) (keys : List Keys) (w : PartWriter) (k : Keys) (letters sent 
   pub part_more : part_size s * w.written < length letters → length letters ≤ part_size s * w.written + part_size s
       → AreMadeTexts s 1 (length keys) (take (w.written + 1) keys) (pieces (part_size s) letters) (sent ++ one)
   part_more some few =
-      let rest : List ℕ = drop (part_size s * w.written) letters in
       let inside : w.written < length keys = slice_get_within keys w.written k found in
-      let count : 1 + length (take w.written keys) ≡ w.written + 1 =
-      omega (arith, inside, length-take-le w.written keys (omega (arith, inside))) in
-      let own : w.letters.items ≡ rest =
-      is.kept ∙ take_all (part_size s) rest (omega (arith, length-drop (part_size s * w.written) letters)) in
+      let own : w.letters.items ≡ drop (part_size s * w.written) letters = grind (arith, take_all, length-drop) in
       rw (take_more keys w.written k inside, get_or_from_slice_get keys w.written k k found)
-      (rw (pieces_more (part_size s) w.written letters (size_some s) some few)
-      (made_more s 1 (length keys) (take w.written keys) k _ rest sent one is.made (rw (count, ← own) made)))
+      (grind (arith, pieces_more (part_size s) w.written letters, size_some s, made_more, is.made, length-take-le))
 
   -- the end shows that it is the last one
   pub last_written : w.count ≢ 0 → div_ceil w.count (part_size s) ≡ length keys
       → (letters ≢ []) × (parts_needed s (length letters) ≡ length keys)
       × AreMadeTexts s 1 (length keys) keys (pieces (part_size s) letters) (sent ++ one)
   last_written counted needed =
-      let parts : div_ceil (length letters) (part_size s) ≡ length keys = rw is.counted at needed in
-      let (last, some, few) = last_number (part_size s) (length keys) (length letters) w.written (size_some s)
-      (omega (arith, counted, is.counted)) is.written parts in (
-        λ none. counted (is.counted ∙ ap length none),
-        parts,
-        rw (take_all (w.written + 1) keys (omega (arith, last))) at (part_more some few),
-      )
+      let last = last_number (part_size s) (length keys) (length letters) w.written (size_some s) in
+      grind (arith, last, part_more, take_all)
 
 -- -------- an order up to its text, byte by byte
 
@@ -129,10 +115,7 @@ module _ (s : Day) (keys : List Keys) (line order : List ℕ) (is : IsHeadRead s
   line_short few = grind (arith, short_line s few, length-append {A = ℕ})
 
   pub text_head : (more : List ℕ) → IsEnded (codes "TEXT") (line ++ more) → IsHead s keys (order ++ more)
-  text_head more ended =
-      let lines = rw (append-nil keys) at
-      (lines_more (IsEnded (codes "TEXT")) s more keys [] order (λ rest same. rw same ended) is.lines) in
-      record { lines = lines; few = is.few }
+  text_head more ended = grind (arith, append-nil keys, lines_more)
 
   -- behind one line of keys more
   pub one_more : (Q : List ℕ → Type 0) (k : Keys) (more end : List ℕ) → AreKeys s k → IsKeyLine k (line ++ more) → Q end
@@ -141,39 +124,21 @@ module _ (s : Day) (keys : List Keys) (line order : List ℕ) (is : IsHeadRead s
 
   pub goes_on : BreaksOff (IsAnyHead s) order unread.Open
   goes_on = let (more, some, next) = is.begins in elim next [
-    | inl (key, room) ↦ (
-      more ++ codes "TEXT\n",
-      (λ none. omega (arith, ap length none, length-append more (codes "TEXT\n"))),
-      (
-        keys ++ key.keys ∷ [],
-        record {
-          lines = one_more (IsEnded (codes "TEXT")) key.keys more (codes "TEXT\n") key.of_the_day key.keyed (inl refl);
-          few = omega (arith, length-append keys (key.keys ∷ []));
-        },
-      ),
-    )
+    | inl (key, room) ↦
+        let text : List ℕ = codes "TEXT\n" in
+        let lines = one_more (IsEnded (codes "TEXT")) key.keys more text key.of_the_day key.keyed (inl refl) in
+        let few : length (keys ++ key.keys ∷ []) ≤ 99 = omega (arith, length-append keys (key.keys ∷ [])) in
+        (more ++ text, grind (arith, length-append more), (keys ++ key.keys ∷ [], record { lines = lines; few = few }))
     | inr text ↦ (more, some, (keys, text_head more text))
   ]
 
   pub head_cut : IsHeadFault s order (length order + 1)
-  head_cut = record {
-    before = order;
-    rest = [];
-    joined = sym (append-nil order);
-    size = refl;
-    begins = goes_on;
-    stops = λ byte after other none. absurd (cc);
-  }
+  head_cut = grind (arith, append-nil, goes_on)
 
   -- the line goes on
   pub head_open : (byte : ℕ) → BreaksOff (IsHeadLine s (length keys)) (line ++ byte ∷ []) unread.Open
       → IsHeadRead s keys (line ++ byte ∷ []) (order ++ byte ∷ [])
-  head_open byte begins = record {
-    lines = rw (append-nil keys) at
-        (lines_more (λ l. l ≡ line ++ byte ∷ []) s (byte ∷ []) keys [] order (λ rest same. rw same refl) is.lines);
-    few = is.few;
-    begins = begins;
-  }
+  head_open byte begins = grind (arith, append-nil keys, lines_more)
 
 -- -------- what the reader of an order shows: what is refused, and what is sent by then
 

@@ -105,19 +105,13 @@ pub record SoFar (m : Message) (holds : List ℕ → List ℕ → Type 0) (sourc
 pub SoFar-room : (m : Message) (holds : List ℕ → List ℕ → Type 0) (source sink : Port) (count room : ℕ) → SoFar m holds
     source sink count
     → room ≤ read_limit → HasRoom m holds room
-SoFar-room m holds source sink count room before few = record {
-  bytes = before.read;
-  text = before.text;
-  held = before.held;
-  within = omega (arith, before.counted, before.within, few);
-}
+SoFar-room m holds source sink count room before few = grind arith
 
 -- the answer where a read stops, by the ports since an earlier time, since which they didn't fail
 stopped : (m : Message) (new : List ℕ → List ℕ → Type 0) (read text : List ℕ) (had has next took taken wrote : Option (List ℕ)) (a b c d e f : Bool) (stop : Stop)
     → b ≡ a → e ≡ d → length read ≤ read_limit → IsStopped m new (over has next b c) (over taken wrote e f) read text stop
     → Answers m (over had next a c) (over took wrote d f) read text (Err (fault_of stop))
-stopped m new read text had has next took taken wrote a b c d e f stop p q few (AtSource open' fails is) =
-    rw is (SourceFails few open' (record { failed = fails.failed; well = fails.well ∙ q }) refl)
+stopped m new read text had has next took taken wrote a b c d e f stop p q few (AtSource open' fails is) = grind arith
 stopped m new read text had has next took taken wrote a b c d e f (stops.Refused fault) p q few (InFeeding is well up) =
     Stands fault few (subst (λ b. m.stands b fault) (append-nil read) (is.stands []))
     (subst (λ b. m.before (Some fault) b text) (append-nil read) (is.written [])) (well ∙ p, well_now e f up ∙ q) refl
