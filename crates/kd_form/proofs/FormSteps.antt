@@ -212,11 +212,7 @@ by_lines s b part body holds =
 pub goes_on : (s : Day) (b : PartBody) (part body : List ℕ) (byte : ℕ) → HoldsBody s b part body → (cut part).1 ≡ [] → ¬ (IsDigitDue b byte)
     → cut (part ++ byte ∷ []) ≡ (part ++ byte ∷ [], [])
 goes_on s b part body byte holds none not =
-    let last = holds.last in
-    let split = by_lines s b part body holds in
-    let whole : part ++ byte ∷ [] ≡ last.front ++ 10 ∷ (last.tail ++ byte ∷ []) =
-    ap (λ l. l ++ byte ∷ []) split ∙ append_assoc last.front (10 ∷ last.tail) (byte ∷ []) in
-    rw whole (first_more last.front last.tail byte last.unbroken (rw split at none) (λ is low high. not (last.kept ∙ ap (take 6) is, low, high)))
+    grind (arith, by_lines s b part body holds, append_assoc, first_more holds.last.front holds.last.tail byte)
 
 -- the body without these five bytes, and their letters
 record Settled (s : Day) (b : PartBody) (number : ℕ) (expected : Option ℕ) (part : List ℕ) (mine : HoldsPart s b number expected part) : Type 0 where
@@ -259,22 +255,7 @@ module _ (s : Day) (r : FormReader) (form text : List ℕ) (h : HoldsForm s r fo
   -- a byte more of the same part
   pub grows : (stage : Stage) (made : List ℕ) (byte : ℕ) → made ≡ [] → cut (h.last ++ byte ∷ []) ≡ (h.last ++ byte ∷ [], [])
       → HoldsStage s stage r.number r.expected (h.last ++ byte ∷ []) → HoldsForm s (behind r stage) (form ++ byte ∷ []) (text ++ made)
-  grows stage made byte none one there = record {
-    front = h.front;
-    last = h.last ++ byte ∷ [];
-    parts = h.parts;
-    letters = h.letters;
-    joined = ap (λ l. l ++ byte ∷ []) h.joined ∙ append_assoc h.front h.last (byte ∷ []);
-    cuts = λ more. ap parts_of (append_assoc form (byte ∷ []) more) ∙ h.cuts (byte ∷ more)
-        ∙ ap (λ l. h.parts ++ parts_of l) (sym (append_assoc h.last (byte ∷ []) more));
-    alone = ap (λ c. c.1) one;
-    begun = h.begun;
-    first = h.first;
-    read = h.read;
-    is = ap (λ m. text ++ m) none ∙ append-nil text ∙ h.is;
-    counted = omega (arith, h.counted, length-append form (byte ∷ []));
-    stage = there;
-  }
+  grows stage made byte none one there = grind (arith, append_assoc, append-nil, length-append)
 
   -- with more bytes a part is refused
   pub refused_at : (fault : FormFault) (more part : List ℕ) (others : List (List ℕ)) → cut (h.last ++ more) ≡ (part, others)
@@ -303,9 +284,7 @@ module _ (s : Day) (r : FormReader) (form text : List ℕ) (h : HoldsForm s r fo
     four_letters = omega (arith, ap length ended.next.kept, length-take {A = ℕ}, length-append {A = ℕ})
 
     cut_off : (more : List ℕ) → cut (h.last ++ byte ∷ more) ≡ (whole, parts_of (codes "PART " ++ byte ∷ more))
-    cut_off more =
-        ap (λ l. cut (l ++ byte ∷ more)) ended.split ∙ ap cut (append_assoc front (10 ∷ codes "PART ") (byte ∷ more))
-        ∙ first_ends front more byte (rw ended.split at h.alone) digit.1 digit.2
+    cut_off more = grind (arith, ended.split, append_assoc, first_ends front more byte)
 
     pub part_refused : (fault : FormFault) → IsSaid b 4 (λ letters. SaysBody s b.heading.part b.heading letters (Err fault))
         → IsRefused (form_message s) (form ++ byte ∷ []) text fault
@@ -356,13 +335,7 @@ module _ (s : Day) (r : FormReader) (form text : List ℕ) (h : HoldsForm s r fo
     mine = in_stage (stages.Body b) stage
 
     pub next_last : IsNext s b r.number r.expected h.last mine.body []
-    next_last = record {
-      has = body_heading s b h.last mine.body mine.holds;
-      numbered = mine.numbered;
-      due = mine.due;
-      allowed = mine.holds.allowed;
-      kept = mine.holds.kept ∙ ap (take 525) (sym (append-nil (letters_from None mine.body)));
-    }
+    next_last = grind (arith, body_heading, append-nil, letters_from)
 
     module _ (given : List ℕ) (told : IsSaid b 0 (λ letters. IsBodyGiven s b.heading letters given)) where
       -- the last part is read, and then this is so

@@ -15,8 +15,7 @@ by_length : (size : ℕ) (P : List ℕ → Type 0) → 0 < size → P [] → ((l
 by_length size P large none more most [] few = none
 by_length size P large none more zero (l ∷ letters) few = absurd (omega arith)
 by_length size P large none more (suc most) (l ∷ letters) few =
-    more (l ∷ letters) (omega arith)
-    (by_length size P large none more most (drop size (l ∷ letters)) (omega (arith, length-drop size (l ∷ letters))))
+    grind (arith, length-drop, by_length size P large none more most (drop size (l ∷ letters)))
 
 -- ---- the letters that a body gives, and its bytes
 
@@ -26,10 +25,7 @@ pub record Gives (text letters : List ℕ) : Type 0 where
   pub gives : letters_from None text ≡ letters
 
 gives_both : (one other letters more : List ℕ) → Gives one letters → Gives other more → Gives (one ++ other) (letters ++ more)
-gives_both one other letters more a b = record {
-  allowed = All-append (λ b. IsTrue (is_text_byte b)) one other a.allowed b.allowed;
-  gives = cc (filter_map-append (letter_of_byte None) one other, a.gives, b.gives);
-}
+gives_both one other letters more a b = grind (arith, common_steps, All-append, filter_map-append)
 
 gives_none : Gives [] []
 gives_none = record { allowed = All-nil (λ b. IsTrue (is_text_byte b)); gives = refl }
@@ -50,8 +46,7 @@ gives_word (l ∷ letters) are =
 gives_after : (byte : ℕ) (word letters rest more : List ℕ) → IsTrue (is_text_byte byte) → letters_from None (byte ∷ []) ≡ [] → Gives word letters
     → Gives rest more → Gives (word ++ byte ∷ rest) (letters ++ more)
 gives_after byte word letters rest more allowed none a b =
-    gives_both word (byte ∷ rest) letters more a (gives_both (byte ∷ []) rest [] more
-    (record { allowed = All-cons (λ b. IsTrue (is_text_byte b)) byte [] allowed (All-nil (λ b. IsTrue (is_text_byte b))); gives = none }) b)
+    gives_both word (byte ∷ rest) letters more a (grind (arith, common_steps, All-cons))
 
 gives_words : (word letters : List ℕ) (words : List (List ℕ)) (more : List ℕ) → Gives word letters → Gives (line_of words) more
     → Gives (line_of (word ∷ words)) (letters ++ more)
@@ -87,9 +82,8 @@ gives_body =
 lines_end : (items : List (List ℕ)) → (front : List ℕ) × (10 ∷ flat_map (λ line. with_line (groups_of line) []) items ≡ front ++ 10 ∷ [])
 lines_end [] = ([], refl)
 lines_end (item ∷ items) =
-    let line : List ℕ = line_of (groups_of item) in
     let (front, is) = lines_end items in
-    (10 ∷ (line ++ front), ap (λ t. 10 ∷ t) (append_assoc line (10 ∷ []) _ ∙ ap (λ t. line ++ t) is ∙ sym (append_assoc line front (10 ∷ []))))
+    (10 ∷ (line_of (groups_of item) ++ front), grind (arith, append_assoc, is))
 
 -- -------- a part as it is written: its heading, and where it ends in what it begins
 
@@ -220,7 +214,4 @@ forms_give_their_orders s order form given legal is due =
     }
 
 pub orders_give_letters : OrdersGiveLetters
-orders_give_letters s order form is = (
-  given_text s (sent_letters s (text_letters s is.text)),
-  record { keys = is.keys; head = is.head; text = is.text; is_order = is.sendable.is_order; is = refl },
-)
+orders_give_letters s order form is = (given_text s (sent_letters s (text_letters s is.text)), grind arith)

@@ -50,10 +50,7 @@ may_begin bytes (inl (count, few, is)) = (
 may_begin bytes (inr begun) = ([], rw (append-nil bytes) begun)
 
 fits_there : (bytes : List ℕ) (place : ℕ) → BeginsHeading bytes → FitsAt place (get_or bytes place 0)
-fits_there bytes place begun = (
-  (λ less. sym (get_or-take 5 bytes place 0 less) ∙ ap (λ l. get_or l place 0) (told bytes begun).0),
-  (λ same. rw same ((told bytes begun).1, (told bytes begun).2)),
-)
+fits_there bytes place begun = grind (arith, common_steps, told bytes begun, get_or-take 5 bytes place 0)
 
 -- a byte that fits may follow them
 pub follows : (part line : List ℕ) (byte : ℕ) → line ≡ take 64 part → HasBegun part → FitsAt (length line) byte → HasBegun (part ++ byte ∷ [])
@@ -113,26 +110,8 @@ pub record IsDone (form : List ℕ) : Type 0 where
 
 pub first_done : (form : List ℕ) → (cut form).1 ≢ [] → IsDone form
 first_done [] some = absurd (some refl)
-first_done (byte ∷ bytes) some = elim (cut_or_not byte bytes) [
-  | inl (is, begun) ↦ rw is (record {
-    rest = bytes;
-    long = omega (arith, heading_size bytes begun);
-    joined = rw (ap (λ c. c.0) (at_cut bytes begun)) refl;
-    others = ap (λ c. c.1) (at_cut bytes begun);
-    grows = λ more. at_cut (bytes ++ more) (begins_more bytes more begun) ∙ cc (at_cut bytes begun);
-  })
-  | inr not ↦
-      let whole : cut (byte ∷ bytes) ≡ (byte ∷ (cut bytes).0, (cut bytes).1) = no_cut byte bytes not in
-      let done = first_done bytes (λ none. some (ap (λ c. c.1) whole ∙ none)) in
-      record {
-        rest = done.rest;
-        long = omega (arith, done.long);
-        joined = ap (λ l. byte ∷ l) done.joined ∙ ap (λ (c : List ℕ × List (List ℕ)). c.0 ++ done.rest) (sym whole);
-        others = ap (λ c. c.1) whole ∙ done.others;
-        grows = λ more. no_cut byte (bytes ++ more) (λ is begun. not is (sym (begins_front bytes more done.long) ∙ begun))
-            ∙ ap (λ (c : List ℕ × List (List ℕ)). (byte ∷ c.0, c.1)) (done.grows more) ∙ ap (λ (c : List ℕ × List (List ℕ)). (c.0, parts_of (done.rest ++ more))) (sym whole);
-      }
-]
+first_done (byte ∷ bytes) some =
+    grind (arith, cut_or_not byte bytes, heading_size, at_cut, begins_more, no_cut, first_done bytes, begins_front)
 
 -- ---- a byte more of the last part
 
@@ -140,8 +119,7 @@ first_done (byte ∷ bytes) some = elim (cut_or_not byte bytes) [
 pub cut_behind : (line bytes : List ℕ) → IsWithout 10 line → cut (line ++ bytes) ≡ (line ++ (cut bytes).0, (cut bytes).1)
 cut_behind [] bytes unbroken = refl
 cut_behind (byte ∷ line) bytes unbroken =
-    no_cut byte (line ++ bytes) (λ is. absurd (All-head (λ b. b ≢ 10) byte line unbroken is))
-    ∙ rw (cut_behind line bytes (All-tail (λ b. b ≢ 10) byte line unbroken)) refl
+    grind (arith, no_cut, All-head, All-tail, cut_behind line bytes (All-tail (λ b. b ≢ 10) byte line unbroken))
 
 pub one_byte : (byte : ℕ) → cut (byte ∷ []) ≡ (byte ∷ [], [])
 one_byte byte = no_cut byte [] (λ is begun. omega (arith, heading_size [] begun))
@@ -159,24 +137,18 @@ pub first_more : (front tail : List ℕ) (byte : ℕ) → IsWithout 10 tail → 
     → ((tail ≡ codes "PART ") → (48 ≤ byte) → (byte ≤ 57) → ⊥) → cut (front ++ 10 ∷ (tail ++ byte ∷ [])) ≡ (front ++ 10 ∷ (tail ++ byte ∷ []), [])
 first_more [] tail byte unbroken none not = grind (arith, uncut, no_cut, last_digit, begins_front, one_more)
 first_more (x ∷ front) tail byte unbroken none not =
-    let is = uncut x (front ++ 10 ∷ tail) none in
-    no_cut x (front ++ 10 ∷ (tail ++ byte ∷ [])) (λ e begun. is.0 e (begins_more front (10 ∷ tail) (before_break front (tail ++ byte ∷ []) begun)))
-    ∙ rw (first_more front tail byte unbroken is.1 not) refl
+    grind (arith, uncut, no_cut, begins_more, before_break, append_assoc, first_more front tail byte unbroken)
 
 -- the digit of a heading ends the part before it
 pub first_ends : (front more : List ℕ) (digit : ℕ) → (cut (front ++ 10 ∷ codes "PART ")).1 ≡ [] → 48 ≤ digit → digit ≤ 57
     → cut (front ++ 10 ∷ (codes "PART " ++ digit ∷ more)) ≡ (front ++ 10 ∷ [], parts_of (codes "PART " ++ digit ∷ more))
 first_ends [] more digit none low high = at_cut (codes "PART " ++ digit ∷ more) (begins digit more low high)
 first_ends (x ∷ front) more digit none low high =
-    let is = uncut x (front ++ 10 ∷ codes "PART ") none in
-    no_cut x (front ++ 10 ∷ (codes "PART " ++ digit ∷ more))
-    (λ e begun. is.0 e (begins_more front (10 ∷ codes "PART ") (before_break front (codes "PART " ++ digit ∷ more) begun)))
-    ∙ rw (first_ends front more digit is.1 low high) refl
+    grind (arith, uncut, no_cut, begins_more, before_break, append_assoc, first_ends front more digit)
 
 -- fewer than six bytes of what begins a heading may stand in a body
 few_allowed : (bytes more : List ℕ) → length bytes < 6 → BeginsHeading (bytes ++ more) → AreAllowed bytes
-few_allowed bytes more few begun =
-    grind (arith, common_steps, All-same, bytes, few_begin, All-take, AllPass-from_list_all)
+few_allowed bytes more few begun = grind (arith, common_steps, All-same, few_begin, All-take, AllPass-from_list_all)
 
 -- with more bytes the first bad one stays where it is, in the same part
 stays : (front rest more : List ℕ) (byte : ℕ) → AreAllowed front → IsFalse (is_text_byte byte)
@@ -290,9 +262,7 @@ pub record AreSpelled (word : List ℕ) (index : ℕ) (letters : List ℕ) : Typ
 pub capital_at : (word others : List ℕ) (index : ℕ) → index < length word → AreFewLetters others → letters_text others ≡ word
     → (65 ≤ get_or word index 0) × (get_or word index 0 ≤ 90)
 capital_at word others index inside are same =
-    let within : index < length others = omega (arith, ap length same, length-map others (λ l. l + 65)) in
-    let byte = get_or-map (λ l. l + 65) others index 0 0 within in
-    omega (arith, All-get_or (λ l. l < 26) others index 0 within are.within, ap (λ w. get_or w index 0) same, byte)
+    grind (arith, length-map, get_or-map, All-get_or (λ l. l < 26) others index 0)
 
 -- -------- the line of a heading, and its words
 
@@ -319,13 +289,7 @@ letters_word : (letters : List ℕ) → 1 ≤ length letters → IsWord (letters
 letters_word letters some = grind (arith, common_steps, word_by_bytes, lower, letters_from)
 
 fraction_word : (part parts : ℕ) → part < 2 ^ 64 → parts < 2 ^ 64 → IsWord (fraction part parts)
-fraction_word part parts small few =
-    word_by_bytes (fraction part parts) (λ none. omega (
-      arith,
-      ap length none,
-      length-append (decimal part ++ codes "/") (decimal parts),
-      length-append (decimal part) (codes "/"),
-    )) (lower 47 33 (fraction part parts) (omega arith) (fraction_from part parts small few))
+fraction_word part parts small few = grind (arith, word_by_bytes, length-append {A = ℕ}, lower, fraction_from)
 
 line_words : (s : Day) (found : Option ℕ) (h : Heading) (line : List ℕ) → MatchOption found (HasPins s) (HasSlots s)
     → IsHeading s h → line_of (heading_words h) ≡ line → words_of line ≡ heading_words h
@@ -370,19 +334,11 @@ ended_heading s front body h unbroken is text =
 -- what stands before the first LF is the heading, and the body follows it
 pub heading_there : (s : Day) (front body : List ℕ) (h : Heading) (rest : List ℕ) → IsWithout 10 front
     → HasHeading s (front ++ 10 ∷ body) h rest → IsLineText front (line_of (heading_words h)) × (rest ≡ body)
-heading_there s front body h rest unbroken has = elim has.first [
-  | inl (line, first, text) ↦
-      let same = texts_tell_first_parts 10 front line body rest unbroken first.without first.joined in
-      (rw (← same.0) at text, sym same.1)
-  | inr (none, whole, nil) ↦ absurd (has_byte 10 front body none)
-]
+heading_there s front body h rest unbroken has = grind (arith, texts_tell_first_parts, has_byte)
 
 -- without an LF, the heading is all there is
 bare_heading : (s : Day) (part : List ℕ) (h : Heading) (rest : List ℕ) → IsWithout 10 part → HasHeading s part h rest → line_of (heading_words h) ≡ part
-bare_heading s part h rest unbroken has = elim has.first [
-  | inl (line, first, text) ↦ absurd (has_byte 10 line rest (rw first.joined at unbroken))
-  | inr (none, whole, nil) ↦ sym whole
-]
+bare_heading s part h rest unbroken has = grind (arith, has_byte)
 
 -- a line has one text
 one_line_text : (line text other : List ℕ) → IsLineText line text → IsLineText line other → text ≡ other
@@ -447,14 +403,8 @@ same_heading s h other is also same = grind (arith, are_small, one_number, appen
 
 one_first_line : (text line other rest more : List ℕ) → HasFirstLine text line rest → HasFirstLine text other more
     → (line ≡ other) × (rest ≡ more)
-one_first_line text line other rest more (inl (shown, first, is)) (inl (alike, same, also)) =
-    let both = texts_tell_first_parts 10 shown alike rest more first.without same.without (sym first.joined ∙ same.joined) in
-    (one_line_text shown line other is (rw (← both.0) at also), both.1)
-one_first_line text line other rest more (inl (shown, first, is)) (inr (none, whole, nil)) =
-    absurd (has_byte 10 shown rest (rw first.joined at none))
-one_first_line text line other rest more (inr (none, whole, nil)) (inl (shown, first, is)) =
-    absurd (has_byte 10 shown more (rw first.joined at none))
-one_first_line text line other rest more (inr (none, whole, nil)) (inr (nor, same, null)) = (sym whole ∙ same, nil ∙ sym null)
+one_first_line text line other rest more a b =
+    grind (arith, common_steps, texts_tell_first_parts, one_line_text, has_byte)
 
 pub one_heading : (s : Day) (part : List ℕ) (h other : Heading) (body rest : List ℕ) → HasHeading s part h body
     → HasHeading s part other rest → (h ≡ other) × (body ≡ rest)

@@ -32,9 +32,7 @@ pub plain_more : (word text : List ℕ) → IsPlain word → IsPlain text → Is
 plain_more word text one other = All-append (λ b. 32 ≤ b) word (32 ∷ text) one (All-cons (λ b. 32 ≤ b) 32 text (omega arith) other)
 
 pub plain_keys : (k : Keys) → IsPlain (line_of (key_words k))
-plain_keys (Rotor k) =
-    plain_more (codes "PART") _ (plain_text (codes "PART") refl) (plain_more (letters_text k.start) _ (plain_letters k.start)
-    (plain_more (letters_text k.key) _ (plain_letters k.key) (plain_more (letters_text k.fillers) _ (plain_letters k.fillers) (plain_letters k.group))))
+plain_keys (Rotor k) = search (arith, plain_more, plain_letters, plain_text (codes "PART") refl)
 plain_keys (Pin k) = grind (arith, plain_more, plain_text, plain_letters)
 
 pub without : (byte : ℕ) (text : List ℕ) → byte < 32 → IsPlain text → IsWithout byte text
@@ -71,10 +69,8 @@ line_more mark byte pattern letters bytes fit is = grind (arith, nat_tests, case
 
 line_less : (mark byte : ℕ) (pattern letters bytes : List ℕ) → IsFilledLine (mark ∷ pattern) letters (byte ∷ bytes)
     → (fits mark byte ≡ true) × IsPatternLine pattern bytes
-line_less mark byte pattern letters bytes is = elim (cases_Bool (mark == 95)) [
-  | inl one ↦ (grind (arith, nat_tests), (drop 1 letters, grind (arith, nat_tests, All-drop (λ l. l < 26) 1 letters)))
-  | inr other ↦ (grind (arith, nat_tests), (letters, grind (arith, nat_tests)))
-]
+line_less mark byte pattern letters bytes is =
+    grind (arith, nat_tests, cases_Bool (mark == 95), All-drop (λ l. l < 26) 1 letters)
 
 no_letters : AreLetters 0 []
 no_letters = record { count = refl; within = All-nil (λ l. l < 26) }
@@ -93,8 +89,7 @@ line_open pattern bytes none =
 -- a byte doesn't fit its mark
 pub line_off : (mark byte : ℕ) (marks rest pattern bytes : List ℕ) → pattern ≡ mark ∷ marks → bytes ≡ byte ∷ rest → fits mark byte ≡ false
     → BreaksOff (IsPatternLine pattern) bytes Off
-line_off mark byte marks rest pattern bytes first next unfit =
-    rw (first, next) (λ more line. false≢true (sym unfit ∙ (line_less mark byte marks line.0 (rest ++ more) line.1).0))
+line_off mark byte marks rest pattern bytes first next unfit = grind (arith, false≢true, line_less)
 
 -- or it does, and the line goes on as what is left of the pattern does
 pub line_on : (mark byte : ℕ) (marks rest pattern bytes old now new : List ℕ) (answer : Result (Unit {0}) Unread) → pattern ≡ mark ∷ marks → bytes ≡ byte ∷ rest
@@ -149,13 +144,10 @@ rotor_blanks : (slots : ℕ) → blanks (rotor_pattern slots) ≡ slots + (slots
 rotor_blanks slots = grind (arith, blanks-places)
 
 letters_joined : {m n : ℕ} {one other : List ℕ} → AreLetters m one → AreLetters n other → AreLetters (m + n) (one ++ other)
-letters_joined {one = one} {other = other} a b =
-    grind (arith, length-append one other, All-append (λ l. l < 26) one other)
+letters_joined a b = grind (arith, common_steps, length-append, All-append)
 
 letters_cut : (m n : ℕ) (letters : List ℕ) → AreLetters (m + n) letters → AreLetters m (take m letters) × AreLetters n (drop m letters)
-letters_cut m n letters are =
-    let few : (ℕ → Type 0) = λ l. l < 26 in
-    grind (arith, length-take-le m letters, length-drop m letters, All-take few m letters, All-drop few m letters)
+letters_cut m n letters are = grind (arith, common_steps, length-take-le, length-drop, All-take, All-drop)
 
 -- ---- any letters make keys
 
@@ -169,23 +161,13 @@ keys_exist (OfRotors s) letters are =
     (Rotor _, record { start = start; key = key; fillers = fillers; group = group }, simp take-append-drop)
 keys_exist (OfPins s) [] are = absurd (omega (arith, are.count))
 keys_exist (OfPins s) (l ∷ letters) are =
-    let (one, external) = letters_cut 1 6 (l ∷ letters) are in
-    let chosen = All-head (λ x. x < 26) l letters are.within in
-    (Pin (record { chosen = l; external = letters }), record { chosen = chosen; external = external }, refl)
+    (Pin (record { chosen = l; external = letters }), grind (arith, letters_cut 1 6 (l ∷ letters), All-head), refl)
 
 pub as_key_line : (s : Day) (line : List ℕ) → IsPatternLine (key_pattern s) line → IsAnyKeyLine s line
-as_key_line s line is =
-    let (keys, are, same) = keys_exist s is.0 is.1.are_letters in
-    record { keys = keys; of_the_day = are; keyed = rw (key_line s keys are) at (rw (← same) at is.1.ended) }
+as_key_line s line is = grind (arith, keys_exist s is.0 is.1.are_letters, key_line)
 
 pub as_form_line : (s : Day) (line : List ℕ) → IsAnyKeyLine s line → IsPatternLine (key_pattern s) line
-as_form_line s line is = (
-  key_letters is.keys,
-  record {
-    are_letters = grind (arith, rotor_blanks, letters_joined, All-cons);
-    ended = subst (λ text. IsEnded text line) (sym (key_line s is.keys is.of_the_day)) is.keyed;
-  },
-)
+as_form_line s line is = (key_letters is.keys, grind (arith, rotor_blanks, letters_joined, All-cons, key_line))
 
 pub keys_broken : (s : Day) (bytes : List ℕ) (why : Unread) → BreaksOff (IsPatternLine (key_pattern s)) bytes why
     → BreaksOff (IsAnyKeyLine s) bytes why
@@ -222,16 +204,13 @@ pub same_line : (text other line end rest more : List ℕ) → IsPlain text → 
 same_line text other line end rest more one two a b same =
     let (tail, ended, joined) = ended_tail text line a in
     let (close, ending, linked) = ended_tail other end b in
-    let alike : text ++ (tail ++ rest) ≡ other ++ (close ++ more) = cc (append_assoc text tail rest, append_assoc other close more) in
-    let both = same_front (λ b. 32 ≤ b) text other (tail ++ rest) (close ++ more) one two (grind arith) (grind arith) alike in
-    grind arith
+    grind (arith, same_front (λ b. 32 ≤ b) text other (tail ++ rest) (close ++ more), append_assoc)
 
 pub key_first : (k : Keys) (line more : List ℕ) → IsKeyLine k line → get_or (line ++ more) 0 0 ≡ 80
 key_first k line more ended = grind arith
 
 pub text_front : (last text : List ℕ) → IsEnded (codes "TEXT") last → get_or (last ++ text) 0 0 ≡ 84
-text_front last text (inl short) = ap (λ l. get_or (l ++ text) 0 0) short
-text_front last text (inr long) = ap (λ l. get_or (l ++ text) 0 0) long
+text_front last text ended = grind arith
 
 module _ {P : List ℕ → Type 0} (Q : List ℕ → Type 0) (s : Day) (more : List ℕ) where
   -- with more bytes the lines may be followed by other ones
@@ -240,8 +219,7 @@ module _ {P : List ℕ → Type 0} (Q : List ℕ → Type 0) (s : Day) (more : L
       → BeginsWithKeys s keys P bytes → BeginsWithKeys s (keys ++ others) Q (bytes ++ more)
   lines_more [] others bytes on is = on bytes is
   lines_more (k ∷ keys) others bytes on (line, rest, are, is, later, joined) =
-      let all = lines_more keys others rest on later in
-      (line, rest ++ more, are, is, all, ap (λ b. b ++ more) joined ∙ append_assoc line rest more)
+      grind (arith, append_assoc, lines_more keys others rest on later)
 
 pub text_line : (last : List ℕ) → IsEnded (codes "TEXT") last → IsPatternLine (codes "TEXT") last
 text_line last ended = ([], record { are_letters = no_letters; ended = ended })

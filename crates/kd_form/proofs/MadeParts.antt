@@ -6,8 +6,7 @@ use Rattle.kd_enigma.specs.Cipher.{product, path}
 use Rattle.{kd_state.specs.TwoCiphers.{EngineKey, key_left, key_with_window}, kd_form.specs.Making.IsTurnedFrom}
 
 pub enciphered_length : (s : Day) (window text : List ℕ) → length (cipher_from s window text) ≡ length text
-enciphered_length (OfRotors s) window text = length-map (enumerate_from 1 text) _ ∙ length-enumerate_from 1 text
-enciphered_length (OfPins s) window text = length-map (enumerate_from 0 text) _ ∙ length-enumerate_from 0 text
+enciphered_length s window text = grind (arith, length-map, length-enumerate_from)
 
 -- a table of letters has a letter at each place, since what stands past its end is read as the first
 pub letter_read : (table : List ℕ) (place : ℕ) → All (λ letter. letter < 26) table → slice_index table place < 26
@@ -38,8 +37,7 @@ own_at_first (OfPins s) key is = (_, is)
 
 pub own_when_turned : (s : Day) (key : EngineKey) (window : List ℕ) → IsTurnedFrom s key
     → (key_with_window key window ≡ key_with_window (sheet_key s) window) × (IsWindow key window ≡ IsWindow (sheet_key s) window)
-own_when_turned (OfRotors s) key window (shown, is) = (ap (λ k. key_with_window k window) is, ap (λ k. IsWindow k window) is)
-own_when_turned (OfPins s) key window (shown, is) = (ap (λ k. key_with_window k window) is, ap (λ k. IsWindow k window) is)
+own_when_turned s key window turned = grind arith
 
 pub own_when_left : (s : Day) (key left : EngineKey) (window : List ℕ) (count : ℕ) → IsTurnedFrom s key → left ≡ key_left (key_with_window key window) count
     → IsTurnedFrom s left
@@ -69,10 +67,10 @@ module _ (letters : List ℕ) (wheel start : ℕ) (inside : start < length lette
   -- it is on the wheel: a pick begins there or later, and goes on behind that
   first_on : (places : List ℕ) → wheel < 7 → Contains (ring_of wheel) (slice_index letters start) → IsFirstPick letters (wheel + 1) (start + 1) places
       → IsFirstPick letters wheel start (start ∷ places)
-  first_on places less on first = record { picks = (omega arith, inside, on, first.picks); first = first_there } where
-    first_there : (others : List ℕ) → Picks letters wheel start others → ComesFirst (start ∷ places) others
-    first_there [] picks = omega arith
-    first_there (other ∷ others) picks = grind (arith, cases_eq, first.first)
+  first_on places less on first = record {
+    picks = grind (arith, first.picks);
+    first = λ others picks. grind (arith, cases_eq, first.first);
+  }
 
   none_on : wheel < 7 → HasNoPick letters (wheel + 1) (start + 1) → HasNoPick letters wheel start
   none_on less none [] picks = omega arith
@@ -81,10 +79,7 @@ module _ (letters : List ℕ) (wheel start : ℕ) (inside : start < length lette
   -- it isn't: a pick begins later
   later : (places : List ℕ) → ¬ (Contains (ring_of wheel) (slice_index letters start)) → Picks letters wheel start places → Picks letters wheel (start + 1) places
   later [] off picks = picks
-  later (place ∷ places) off (after, within, on, more) = elim (cases_eq place start) [
-    | inl same ↦ absurd (off (rw same at on))
-    | inr apart ↦ (omega (arith, after, apart), within, on, more)
-  ]
+  later (place ∷ places) off picks = grind (arith, cases_eq)
 
 -- So far these letters are picked, and the next place is this one or a later one. What is the first pick for the wheels that
 -- are left makes the first pick for all, and where there is none, there is none for all.
@@ -152,27 +147,11 @@ picks_of letters wheel start (place ∷ places) (after, inside, rising) count ea
     )
 
 picks_from_picked : (letters places picked : List ℕ) → ArePicked letters places picked → Picks letters 1 0 places
-picks_from_picked letters places picked are =
-    picks_of letters 1 0 places are.rising (omega (arith, length-map places (λ p. slice_index letters p), ap length are.taken, are.on_wheels.count))
-    (λ i letter is. subst (λ w. Contains (ring_of w) letter) (omega arith) (are.on_wheels.each (suc i) letter (ap (λ xs. slice_get xs i) are.taken ∙ is)))
+picks_from_picked letters places picked are = grind (arith, picks_of, length-map)
 
 pub key_picked : (letters done : List ℕ) (start : ℕ) → IsPicking letters start done → length done ≡ 6 → IsInternalKey letters done
 key_picked letters done start picking six =
-    let best = picking.made [] (record { picks = omega (arith, six); first = λ others picks. tt }) in
-    let picks : Picks letters 1 0 picking.places = rw (append-nil picking.places) at best.picks in
-    let all = on_wheels letters 1 0 picking.places picks in
-    record {
-      places = picking.places;
-      picked = record {
-        rising = all.0;
-        taken = picking.taken;
-        on_wheels = rw picking.taken (record {
-          count = omega (arith, length-map picking.places (λ p. slice_index letters p), all.1);
-          each = grind arith;
-        });
-      };
-      first = λ others other are. rw (append-nil picking.places) at (best.first others (picks_from_picked letters others other are));
-    }
+    grind (arith, picking.made [], append-nil, on_wheels, length-map, picks_from_picked)
 
 none_left : (letters : List ℕ) (wheel : ℕ) → wheel < 7 → HasNoPick letters wheel (length letters)
 none_left letters wheel less [] picks = omega arith
@@ -209,8 +188,7 @@ pub first_pieces : (size n : ℕ) (letters front rest : List ℕ) → 0 < size �
     → n ≡ min (length letters) size → front ≡ take n letters → rest ≡ drop n letters
     → pieces size letters ≡ front ∷ pieces size rest
 first_pieces size n letters front rest large some is one other =
-    let same : n ≡ min size (length letters) = omega arith in
-    cc (pieces-next size letters large some, same, take_min size letters, drop_min size letters)
+    grind (arith, pieces-next size letters, take_min size letters, drop_min size letters)
 
 pub heading_line : (front whole : List ℕ) (h : Heading)
     → whole ≡ (((((((front ++ codes "PART ") ++ decimal h.part) ++ codes "/") ++ decimal h.parts) ++ codes " ") ++ decimal h.letters)

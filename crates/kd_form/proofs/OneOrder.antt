@@ -31,9 +31,7 @@ same_places (x ∷ places) (y ∷ others) one other = grind (arith, same_places 
 same_places _ _ one other = search
 
 pub one_internal_key : (letters : List ℕ) → IsOnly (IsInternalKey letters)
-one_internal_key letters key other a b =
-    let same = same_places a.places b.places (a.first b.places other b.picked) (b.first a.places key a.picked) in
-    a.picked.taken ∙ ap (map (λ place. slice_index letters place)) same ∙ sym b.picked.taken
+one_internal_key letters key other a b = grind (arith, same_places a.places b.places)
 
 one_part : (s : Day) (part parts : ℕ) (k : Keys) (text : List ℕ) → IsOnly (IsMadeText s part parts k text)
 one_part s part parts (Rotor k) text one other (made, is, bytes) (again, also, written) = cc
@@ -62,13 +60,9 @@ same_word letters others rest more same =
 
 same_keys : (s : Day) (k other : Keys) → AreKeys s k → AreKeys s other → line_of (key_words k) ≡ line_of (key_words other) → k ≡ other
 same_keys s (Rotor k) (Rotor other) are also same =
-    let one = same_word k.start other.start _ _ (ap (drop 5) same) in
-    let two = same_word k.key other.key _ _ one.1 in
-    let three = same_word k.fillers other.fillers _ _ two.1 in
-    grind (arith, one.0, two.0, three.0, same_letters k.group other.group three.1)
+    grind (arith, same_word k.start, same_word k.key, same_word k.fillers, same_letters k.group)
 same_keys s (Pin k) (Pin other) are also same =
-    let one = same_word (k.chosen ∷ []) (other.chosen ∷ []) _ _ (ap (drop 5) same) in
-    grind (arith, one.0, same_letters k.external other.external one.1)
+    grind (arith, same_word (k.chosen ∷ []) (other.chosen ∷ []), same_letters k.external)
 same_keys (OfRotors s) _ _ are also same = search
 same_keys (OfPins s) _ _ are also same = search
 
@@ -85,8 +79,7 @@ pub behind : {P : List ℕ → Type 0} (s : Day) (keys others : List Keys) (byte
     → bytes ++ text ≡ head ++ more → (after : List Keys) × (rest last : List ℕ) × (others ≡ keys ++ after) × P rest
     × BeginsWithKeys s after (IsEnded (codes "TEXT")) last × (rest ++ text ≡ last ++ more)
 behind s [] others bytes head text more mine yours same = (others, bytes, head, refl, mine, yours, same)
-behind s (k ∷ keys) [] bytes head text more (line, rest, are, is, mine, joined) ended same =
-    absurd (grind (arith, text_front, key_first, append_assoc))
+behind s (k ∷ keys) [] bytes head text more all ended same = absurd (grind (arith, text_front, key_first, append_assoc))
 behind s (k ∷ keys) (j ∷ others) bytes head text more (line, rest, are, is, mine, e) (end, left, all, so, its, d) same =
     let whole : line ++ (rest ++ text) ≡ end ++ (left ++ more) =
     cc (same, append_assoc line rest text, append_assoc end left more) in
@@ -96,11 +89,8 @@ behind s (k ∷ keys) (j ∷ others) bytes head text more (line, rest, are, is, 
 
 only_text : (s : Day) (keys : List Keys) (line last text more : List ℕ) → IsEnded (codes "TEXT") line
     → BeginsWithKeys s keys (IsEnded (codes "TEXT")) last → line ++ text ≡ last ++ more → (keys ≡ []) × (text ≡ more)
-only_text s [] line last text more ended end same =
-    let plain = plain_text (codes "TEXT") refl in
-    (refl, (same_line (codes "TEXT") (codes "TEXT") line last text more plain plain ended end same).2)
-only_text s (k ∷ keys) line last text more ended (first, rest, are, is, later, joined) same =
-    absurd (grind (arith, text_front, key_first, append_assoc))
+only_text s [] line last text more ended end same = grind (arith, plain_text, same_line)
+only_text s (k ∷ keys) line last text more ended end same = absurd (grind (arith, text_front, key_first, append_assoc))
 
 pub one_order : (s : Day) (order : List ℕ) (keys others : List Keys) (head other text more : List ℕ)
     → IsOrder s order keys head text → IsOrder s order others other more
@@ -108,8 +98,7 @@ pub one_order : (s : Day) (order : List ℕ) (keys others : List Keys) (head oth
 one_order s order keys others head other text more a b =
     let (after, rest, last, are, ended, end, same) =
     behind s keys others head other text more a.is_head.lines b.is_head.lines (sym a.joined ∙ b.joined) in
-    let (none, texts) = only_text s after rest last text more ended end same in
-    (cc (none, are, append-nil keys), append_cancel_right head other text (cc (a.joined, b.joined, texts)), texts)
+    grind (arith, only_text, append-nil, append_cancel_right)
 
 -- -------- an order has a form, or one fault
 
@@ -184,8 +173,7 @@ one_bad_byte text place other a b =
 -- behind bytes that are allowed
 pub bad_behind : (front rest : List ℕ) (byte : ℕ) → All (λ b. IsTrue (is_text_byte b)) front → IsFalse (is_text_byte byte)
     → IsBadAt (front ++ byte ∷ rest) (length front)
-bad_behind front rest byte allowed bad =
-    record { before = front; byte = byte; rest = rest; joined = refl; size = refl; allowed = allowed; bad = bad }
+bad_behind front rest byte allowed bad = grind arith
 
 pub bad_longer : (text more : List ℕ) (place : ℕ) → IsBadAt text place → IsBadAt (text ++ more) place
 bad_longer text more place bad = grind (arith, append_assoc {A = ℕ})
@@ -226,10 +214,7 @@ only_order s order =
     (λ v w a b. no_head_fault s order b.0.0 b.0.1 b.0.2 a.0 b.1 a.1)
 
 pub form_answer : (s : Day) (order form : List ℕ) → IsFormOf s order form → IsOrderAnswer s order (Ok form)
-form_answer s order form a =
-    let is = a.sendable in
-    let size = inr (a.some, inr (a.counted, (form, a.made, refl))) in
-    inr ((a.keys, a.head, a.text), is.is_order, inr (is.suited, inr (is.allowed, size)))
+form_answer s order form a = inr ((a.keys, a.head, a.text), a.sendable.is_order, grind arith)
 
 pub fault_answer : (s : Day) (order : List ℕ) (fault : FormFault) → IsSendFault s order fault → IsOrderAnswer s order (Err fault)
 fault_answer s order fault (inl (InHead position is few e)) = inl (position, is, ap Err e)

@@ -71,15 +71,13 @@ module _ (s : Day) where
   part_fault : {number : ℕ} {expected : Option ℕ} {start : ℕ} {part : List ℕ} {fault : FormFault} → IsPartFault s number expected start part fault
       → IsPartAnswer number expected start part (Err fault)
   part_fault (inl (InHeading none is)) = inl (none, ap Err is)
-  part_fault (inl (InNumber h body has other is)) =
-      inr ((h, body), has, inl (λ both. elim other [ inl part ↦ part both.0 | inr parts ↦ parts both.1 ], ap Err is))
+  part_fault (inl (InNumber h body has other is)) = inr ((h, body), has, inl (grind arith))
   part_fault (inl (InBody h body place has numbered due bad is)) = inr ((h, body), has, inr ((numbered, due), inl (place, bad, ap Err is)))
   part_fault (inr a) = inr ((a.heading, a.body), a.has, inr ((a.numbered, a.due), inr (a.allowed, a.found)))
 
   part_read : {number parts : ℕ} {part text : List ℕ} → (expected : Option ℕ) (start : ℕ) → IsPartRead s number parts part text → IsExpected expected parts
       → IsPartAnswer number expected start part (Ok text)
-  part_read expected start a due =
-      inr ((a.heading, a.body), a.has, inr ((a.numbered, rw (a.so_many) due), inr (a.allowed, a.read)))
+  part_read expected start a due = inr ((a.heading, a.body), a.has, grind arith)
 
   -- a part is read as one of so many, and as one text
   one_text : {number parts others : ℕ} {part text other : List ℕ} → IsPartRead s number parts part text → IsPartRead s number others part other
@@ -202,9 +200,8 @@ early_as_well s number expected start line body other fault unbroken bad (InNumb
     InNumber h other (ended_heading s line other h unbroken has.is_heading (heading_there s line body h rest unbroken has).0) wrong is
 early_as_well s number expected start line body other fault unbroken bad (InBody h rest place has numbered due at is) =
     let there = heading_there s line body h rest unbroken has in
-    let same : (start + (length (line ++ 10 ∷ body) - length rest)) + place + 1 ≡ (start + (length (line ++ 10 ∷ other) - length other)) + place + 1 =
-    omega (arith, ap length there.1, length-append line (10 ∷ body), length-append line (10 ∷ other)) in
-    InBody h other place (ended_heading s line other h unbroken has.is_heading there.0) numbered due (bad place (subst (λ x. IsBadAt x place) there.1 at)) (is ∙ ap BadByte same)
+    InBody h other place (ended_heading s line other h unbroken has.is_heading there.0) numbered due
+    (grind (arith, there.1, bad)) (grind (arith, there.1, length-append line))
 
 -- what refuses a part for good does so with more bytes
 stands_on : (s : Day) (fault : FormFault) (more : List ℕ) → (p : Place) (rest : List ℕ)

@@ -25,9 +25,7 @@ made_more : (s : Day) (part parts : ℕ) (keys : List Keys) (k : Keys) (texts : 
     → AreMadeTexts s part parts (keys ++ k ∷ []) (texts ++ piece ∷ []) (bytes ++ one)
 made_more s part parts [] k [] piece bytes one made is = grind (arith, append-nil one)
 made_more s part parts (first ∷ keys) k (text ∷ texts) piece bytes one (begun, others, is_first, made, joined) is =
-    let behind : part + length (first ∷ keys) ≡ part + 1 + length keys = omega arith in
-    let more = made_more s (part + 1) parts keys k texts piece others one made (rw behind at is) in
-    (begun, others ++ one, is_first, more, ap (λ b. b ++ one) joined ∙ append_assoc begun others one)
+    grind (arith, made_more s (part + 1) parts keys k texts piece others one made, append_assoc)
 made_more s part parts _ k _ piece bytes one made is = absurd made
 
 last_number : (size parts letters written : ℕ) → 0 < size → 0 < letters → CanBeWritten size parts letters written
@@ -36,10 +34,8 @@ last_number : (size parts letters written : ℕ) → 0 < size → 0 < letters �
 last_number size zero letters written large some can needed = grind (arith, div_ceil_times)
 last_number size (suc other) letters written large some can needed =
     let (most, least) = rw needed at (div_ceil_times letters size large) in
-    let low : other ≤ written = can.most other (omega arith) (omega arith) in
-    let same : other ≡ written = grind arith in
-    let product : size * other ≡ size * written = ap (λ n. size * n) same in
-    (omega arith, omega arith, omega arith)
+    let same : other ≡ written = grind (arith, can.most other (omega arith) (omega arith)) in
+    grind (arith, ap (λ n. size * n) same)
 
 module _ (s : Day) (keys : List Keys) (w : PartWriter) (k : Keys) (letters sent one : List ℕ)
     (is : AreTaken s keys w letters sent) (found : slice_get keys w.written ≡ Some k)
@@ -48,28 +44,18 @@ module _ (s : Day) (keys : List Keys) (w : PartWriter) (k : Keys) (letters sent 
   pub part_more : part_size s * w.written < length letters → length letters ≤ part_size s * w.written + part_size s
       → AreMadeTexts s 1 (length keys) (take (w.written + 1) keys) (pieces (part_size s) letters) (sent ++ one)
   part_more some few =
-      let rest : List ℕ = drop (part_size s * w.written) letters in
       let inside : w.written < length keys = slice_get_within keys w.written k found in
-      let count : 1 + length (take w.written keys) ≡ w.written + 1 =
-      omega (arith, inside, length-take-le w.written keys (omega (arith, inside))) in
-      let own : w.letters.items ≡ rest =
-      is.kept ∙ take_all (part_size s) rest (omega (arith, length-drop (part_size s * w.written) letters)) in
+      let own : w.letters.items ≡ drop (part_size s * w.written) letters = grind (arith, take_all, length-drop) in
       rw (take_more keys w.written k inside, get_or_from_slice_get keys w.written k k found)
-      (rw (pieces_more (part_size s) w.written letters (size_some s) some few)
-      (made_more s 1 (length keys) (take w.written keys) k _ rest sent one is.made (rw (count, ← own) made)))
+      (grind (arith, pieces_more (part_size s) w.written letters, size_some s, made_more, is.made, length-take-le))
 
   -- the end shows that it is the last one
   pub last_written : w.count ≢ 0 → div_ceil w.count (part_size s) ≡ length keys
       → (letters ≢ []) × (parts_needed s (length letters) ≡ length keys)
       × AreMadeTexts s 1 (length keys) keys (pieces (part_size s) letters) (sent ++ one)
   last_written counted needed =
-      let parts : div_ceil (length letters) (part_size s) ≡ length keys = rw is.counted at needed in
-      let (last, some, few) = last_number (part_size s) (length keys) (length letters) w.written (size_some s)
-      (omega (arith, counted, is.counted)) is.written parts in (
-        λ none. counted (is.counted ∙ ap length none),
-        parts,
-        rw (take_all (w.written + 1) keys (omega (arith, last))) at (part_more some few),
-      )
+      let last = last_number (part_size s) (length keys) (length letters) w.written (size_some s) in
+      grind (arith, last, part_more, take_all)
 
 -- -------- an order up to its text, byte by byte
 
@@ -82,10 +68,7 @@ module _ (s : Day) (count : ℕ) where
       → BreaksOff (IsAnyKeyLine s) line why → BreaksOff (IsHeadLine s count) line why
   next_keys line unread.Open first room (more, some, key) = (more, some, inl (key, room))
   next_keys [] unread.Off first room off = absurd (omega (arith, first))
-  next_keys (byte ∷ line) unread.Off first room off = λ more next. elim next [
-    | inl key ↦ off more key.0
-    | inr text ↦ omega (arith, first, text_front (byte ∷ line ++ more) [] text)
-  ]
+  next_keys (byte ∷ line) unread.Off first room off = grind (arith, off, text_front)
 
   pub next_text : (line : List ℕ) (why : Unread) → (get_or line 0 0 ≡ 80 → 99 ≤ count)
       → BreaksOff (IsPatternLine (codes "TEXT")) line why → BreaksOff (IsHeadLine s count) line why
@@ -125,60 +108,37 @@ pub head_next : (s : Day) (count : ℕ) (keys : List Keys) (bytes : List ℕ) �
     → BeginsWithKeys s keys (IsEnded (codes "TEXT")) bytes
     → (line rest : List ℕ) × IsHeadLine s count line × (bytes ≡ line ++ rest)
 head_next s count [] bytes few ended = (bytes, [], inr ended, sym (append-nil bytes))
-head_next s count (k ∷ keys) bytes few (line, rest, are, is, later, joined) =
-    (line, rest, inl (record { keys = k; of_the_day = are; keyed = is }, omega arith), joined)
+head_next s count (k ∷ keys) bytes few (line, rest, are, is, later, joined) = grind arith
 
 module _ (s : Day) (keys : List Keys) (line order : List ℕ) (is : IsHeadRead s keys line order) where
   pub line_short : length (key_pattern s) ≤ 21 → length line < 25
   line_short few = grind (arith, short_line s few, length-append {A = ℕ})
 
   pub text_head : (more : List ℕ) → IsEnded (codes "TEXT") (line ++ more) → IsHead s keys (order ++ more)
-  text_head more ended =
-      let lines = rw (append-nil keys) at
-      (lines_more (IsEnded (codes "TEXT")) s more keys [] order (λ rest same. rw same ended) is.lines) in
-      record { lines = lines; few = is.few }
+  text_head more ended = grind (arith, append-nil keys, lines_more)
 
   -- behind one line of keys more
   pub one_more : (Q : List ℕ → Type 0) (k : Keys) (more end : List ℕ) → AreKeys s k → IsKeyLine k (line ++ more) → Q end
       → BeginsWithKeys s (keys ++ k ∷ []) Q (order ++ (more ++ end))
-  one_more Q k more end are keyed holds = lines_more Q s (more ++ end) keys (k ∷ []) order
-      (λ rest same. (line ++ more, end, are, keyed, holds, rw same (sym (append_assoc line more end)))) is.lines
+  one_more Q k more end are keyed holds = grind (arith, lines_more, append_assoc)
 
   pub goes_on : BreaksOff (IsAnyHead s) order unread.Open
   goes_on = let (more, some, next) = is.begins in elim next [
-    | inl (key, room) ↦ (
-      more ++ codes "TEXT\n",
-      (λ none. omega (arith, ap length none, length-append more (codes "TEXT\n"))),
-      (
-        keys ++ key.keys ∷ [],
-        record {
-          lines = one_more (IsEnded (codes "TEXT")) key.keys more (codes "TEXT\n") key.of_the_day key.keyed (inl refl);
-          few = omega (arith, length-append keys (key.keys ∷ []));
-        },
-      ),
-    )
+    | inl (key, room) ↦
+        let text : List ℕ = codes "TEXT\n" in
+        let lines = one_more (IsEnded (codes "TEXT")) key.keys more text key.of_the_day key.keyed (inl refl) in
+        let few : length (keys ++ key.keys ∷ []) ≤ 99 = omega (arith, length-append keys (key.keys ∷ [])) in
+        (more ++ text, grind (arith, length-append more), (keys ++ key.keys ∷ [], record { lines = lines; few = few }))
     | inr text ↦ (more, some, (keys, text_head more text))
   ]
 
   pub head_cut : IsHeadFault s order (length order + 1)
-  head_cut = record {
-    before = order;
-    rest = [];
-    joined = sym (append-nil order);
-    size = refl;
-    begins = goes_on;
-    stops = λ byte after other none. absurd (cc);
-  }
+  head_cut = grind (arith, append-nil, goes_on)
 
   -- the line goes on
   pub head_open : (byte : ℕ) → BreaksOff (IsHeadLine s (length keys)) (line ++ byte ∷ []) unread.Open
       → IsHeadRead s keys (line ++ byte ∷ []) (order ++ byte ∷ [])
-  head_open byte begins = record {
-    lines = rw (append-nil keys) at
-        (lines_more (λ l. l ≡ line ++ byte ∷ []) s (byte ∷ []) keys [] order (λ rest same. rw same refl) is.lines);
-    few = is.few;
-    begins = begins;
-  }
+  head_open byte begins = grind (arith, append-nil keys, lines_more)
 
 -- -------- what the reader of an order shows: what is refused, and what is sent by then
 
@@ -282,15 +242,7 @@ module _ (s : Day) where
     -- the end
     pub text_ends : (made : List ℕ) (answer : Result (Unit {0}) FormFault)
         → IsLastTaken s keys (text_letters s text.text) sent made answer → Closes (orders s) order (sent ++ made) answer
-    text_ends made (Ok done) (some, counted, is) = record {
-      keys = keys;
-      head = text.head;
-      text = text.text;
-      sendable = text.sendable;
-      some = some;
-      counted = counted;
-      made = is;
-    }
+    text_ends made (Ok done) (some, counted, is) = grind arith
     text_ends made (Err fault) (nothing, inl (none, is)) =
         (inr (NoLetter _ _ _ text.sendable none is), rw (nothing, append-nil sent) (text_sent _ _ _ _ text))
     text_ends made (Err fault) (nothing, inr (some, other, is)) =

@@ -29,11 +29,7 @@ starts_longer bytes more front starts =
 -- less of what was made was put, so less of what was due
 pub short_of : (text made : List ℕ) (count : ℕ) → count < length made
     → FallsShort (text ++ made) (text ++ take count made)
-short_of text made count less = record {
-  missing = drop count made;
-  some = λ none. omega (arith, less, ap length none, length-drop count made);
-  joined = ap (λ l. text ++ l) (sym (take-append-drop count made)) ∙ sym (append_assoc text (take count made) (drop count made));
-}
+short_of text made count less = grind (arith, length-drop {A = ℕ}, take-append-drop {A = ℕ}, append_assoc {A = ℕ})
 
 -- ---- byte after byte
 
@@ -74,14 +70,7 @@ fed_whole m old new front whole sink answer same fed = subst (λ all. FeedsAll m
 -- once it stopped, it says so of all bytes
 pub fed_up_to : (m : Message) (old new : List ℕ → List ℕ → Type 0) (front more : List ℕ) (sink : Port) (stop : Stop) → FeedsAll m old new front sink (Err stop)
     → FeedsAll m old new (front ++ more) sink (Err stop)
-fed_up_to m old new front more sink stop fed bytes text held =
-    let one = fed bytes text held in
-    record {
-      made = one.made;
-      written = one.written;
-      fed = subst (λ b. FedTo m new b (text ++ one.made) (Err stop)) (append_assoc bytes front more)
-          (grind (arith, starts_longer, append_assoc {A = ℕ}));
-    }
+fed_up_to m old new front more sink stop fed bytes text held = grind (arith, append_assoc, starts_longer)
 
 -- ---- a read
 
@@ -116,19 +105,13 @@ pub record SoFar (m : Message) (holds : List ℕ → List ℕ → Type 0) (sourc
 pub SoFar-room : (m : Message) (holds : List ℕ → List ℕ → Type 0) (source sink : Port) (count room : ℕ) → SoFar m holds
     source sink count
     → room ≤ read_limit → HasRoom m holds room
-SoFar-room m holds source sink count room before few = record {
-  bytes = before.read;
-  text = before.text;
-  held = before.held;
-  within = omega (arith, before.counted, before.within, few);
-}
+SoFar-room m holds source sink count room before few = grind arith
 
 -- the answer where a read stops, by the ports since an earlier time, since which they didn't fail
 stopped : (m : Message) (new : List ℕ → List ℕ → Type 0) (read text : List ℕ) (had has next took taken wrote : Option (List ℕ)) (a b c d e f : Bool) (stop : Stop)
     → b ≡ a → e ≡ d → length read ≤ read_limit → IsStopped m new (over has next b c) (over taken wrote e f) read text stop
     → Answers m (over had next a c) (over took wrote d f) read text (Err (fault_of stop))
-stopped m new read text had has next took taken wrote a b c d e f stop p q few (AtSource open' fails is) =
-    rw is (SourceFails few open' (record { failed = fails.failed; well = fails.well ∙ q }) refl)
+stopped m new read text had has next took taken wrote a b c d e f stop p q few (AtSource open' fails is) = grind arith
 stopped m new read text had has next took taken wrote a b c d e f (stops.Refused fault) p q few (InFeeding is well up) =
     Stands fault few (subst (λ b. m.stands b fault) (append-nil read) (is.stands []))
     (subst (λ b. m.before (Some fault) b text) (append-nil read) (is.written [])) (well ∙ p, well_now e f up ∙ q) refl
@@ -161,11 +144,7 @@ module _ (m : Message) (old new : List ℕ → List ℕ → Type 0) (had has nex
 pub closed_in_part : (m : Message) (old : List ℕ → List ℕ → Type 0) (made : List ℕ) (took wrote : Option (List ℕ)) (d f : Bool) (answer : Result (Unit {0}) FormFault)
     → MessageEnds m old made answer → TakesFront took wrote made
     → ClosesAt m old (over took wrote d f) (Err stops.Device)
-closed_in_part m old made took wrote d f answer ends part bytes text held = record {
-  made = take part.0 made;
-  written = part.2;
-  ended = (text ++ made, answer, ends bytes text held, short_of text made part.0 part.1);
-}
+closed_in_part m old made took wrote d f answer ends part bytes text held = grind (arith, short_of)
 
 closed : (m : Message) (holds : List ℕ → List ℕ → Type 0) (read text made : List ℕ) (source : Port) (took taken wrote : Option (List ℕ)) (d e f : Bool)
     (told : Result (Unit {0}) Stop) → Held m holds read text → length read ≤ read_limit → IsAtEnd source.has → IsWell source → e ≡ d

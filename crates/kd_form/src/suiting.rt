@@ -12,6 +12,7 @@ use kd_state::SheetDay;
 
 /// Refuses the first keys that don't suit the day. It stands apart, as each byte of an order would make room for what it keeps.
 #[inline(never)]
+#[tactic(auto, using(crate::proofs::Prelude::err_is, crate::proofs::Lines::unsuited))]
 pub(crate) fn check_keys(day: &SheetDay, keys: &[Keys]) -> Result<(), FormFault>
     requires keys { All (AreKeys day.now) keys.now }
     requires few { length keys.now ≤ 99 }

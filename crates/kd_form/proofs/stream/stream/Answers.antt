@@ -40,9 +40,3 @@ returns-then-not-branch g c =
       answers = TooLong before.read ends.0 refl (omega (arith, before.counted, before.within, c.loop-read-test.false)) before.held.open_yet
           (well_now _ _ c.in_ok-is_at_end.ensures.failed ∙ before.well.0, before.well.1) refl;
     }
-
-pub read_next-requires-clause-room : goal.read_next-requires-clause-room
-read_next-requires-clause-room g c = SoFar-room _ _ _ _ _ _ c.loop-read.invariant (omega arith)
-
-pub close-requires-2 : goal.close-requires-2
-close-requires-2 g c = SoFar-room _ _ _ _ _ 0 c.loop-read.invariant (omega arith)

@@ -58,9 +58,6 @@ returns-then-not-ends_before c = λ form text so_far.
       due = rw c.push.ensures.heading there.due;
     }))
 
-pub overflow_add-self : goal.overflow_add-self
-overflow_add-self c = omega (arith, c.requires.room.held.is.counted, c.requires.room.within)
-
 pub overflow_add-self-in-Body : goal.overflow_add-self-in-Body
 overflow_add-self-in-Body c = grind (arith, in_stage)
 

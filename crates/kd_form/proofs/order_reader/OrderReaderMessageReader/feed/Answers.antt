@@ -4,9 +4,7 @@ use Rattle.kd_form.specs.SendStream as stream
 use Rattle.kd_form.proofs.order_reader.OrderReaderMessageReader.feed.Goals as goal
 
 pub check_keys-requires-clause-keys : goal.check_keys-requires-clause-keys
-check_keys-requires-clause-keys c =
-    let here = rw c.in-Head.is at c.requires.room.held.is.stage in
-    rw c.keys.ensures (all_of_the_day _ _ _ _ (c.in-Text-take.ensures c.requires.room.bytes here.0).is_head.lines)
+check_keys-requires-clause-keys c = grind (arith, all_of_the_day)
 
 pub returns-then-not-is_text_byte : goal.returns-then-not-is_text_byte
 returns-then-not-is_text_byte c bytes text held =

@@ -16,12 +16,7 @@ loop-byte-preserved g c = record {
 }
 
 pub loop-byte-init : goal.loop-byte-init
-loop-byte-init g c = record {
-  room = room_for _ _ _ _ (omega arith) c.requires;
-  fed = fed_none _ _ _ _;
-  empty = c.new-made.ensures;
-  well = refl;
-}
+loop-byte-init g c = grind (arith, room_for, fed_none)
 
 pub feed_one-requires-clause-room : goal.feed_one-requires-clause-room
 feed_one-requires-clause-room g c = room_for _ _ _ 1 (omega (arith, c.loop-byte-test.true)) c.loop-byte.invariant.room

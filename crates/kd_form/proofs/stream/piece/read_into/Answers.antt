@@ -1,4 +1,4 @@
-use Rattle.kd_form.proofs.Streaming.{err_is, read_failed, read_stopped, rules}
+use Rattle.kd_form.proofs.Streaming.{err_is, read_failed, read_stopped, arith, rules}
 use Rattle.kd_form.proofs.stream.piece.read_into.Goals as goal
 
 pub returns-in_err-read : goal.returns-in_err-read
@@ -7,5 +7,4 @@ returns-in_err-read g c bytes text held few =
     c.in-Ok.ensures.bytes.given c.in-Ok.ensures.failed c.in_err-read.ensures.fed c.in_err-read.ensures.failed)
 
 pub returns-in_default : goal.returns-in_default
-returns-in_default g c bytes text held few =
-    read_failed _ _ bytes text _ _ _ _ _ _ _ held few c.in_default.ensures.bytes.refused c.in_default.ensures.failed
+returns-in_default g c = grind (arith, read_failed)

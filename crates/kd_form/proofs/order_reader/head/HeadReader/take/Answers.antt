@@ -14,9 +14,7 @@ returns-in-Ok-Some c order is =
 
 -- the line TEXT is whole
 pub returns-in-Ok-None : goal.returns-in-Ok-None
-returns-in-Ok-None c order is =
-    let ended = rw (c.in-Ok-None.field-0-is, c.as_slice.ensures.value, c.push.ensures.items) at c.in-Ok-None.ensures in
-    record { joined = sym (append-nil (order ++ c.args.byte ∷ [])); is_head = text_head _ _ _ order is (c.args.byte ∷ []) ended }
+returns-in-Ok-None c = grind (arith, append-nil, text_head)
 
 -- no head goes on so
 pub returns-in-Err-Off : goal.returns-in-Err-Off
@@ -40,6 +38,4 @@ returns-in-Err-Off c order is =
 
 -- more has to follow
 pub returns-in-Err-Open : goal.returns-in-Err-Open
-returns-in-Err-Open c order is =
-    let begins = rw (c.len.ensures.value, c.as_slice.ensures.value, c.push.ensures.items) at c.in-Err-Open.ensures in
-    rw c.push.ensures.items (head_open _ _ _ order is c.args.byte (rw c.in-Err-Open.field-0-is at begins))
+returns-in-Err-Open c = grind (arith, head_open)
