@@ -67,7 +67,7 @@ least_at_most : (n : ℕ) (xs : List ℕ) → fold min n xs ≤ n
 least_at_most n [] = omega arith
 least_at_most n (x ∷ xs) = omega (arith, least_at_most (min n x) xs)
 
-pub bar_cost_at_most : (bar : Place × Place) (row : ℕ × ℕ) → bar_cost bar row ≤ 2
+bar_cost_at_most : (bar : Place × Place) (row : ℕ × ℕ) → bar_cost bar row ≤ 2
 bar_cost_at_most bar row = omega (arith, least_at_most 2 (map (lugs_moved bar) (standings_as row)))
 
 -- what a pairing costs, by the table
@@ -79,24 +79,27 @@ table_cost cost columns d (x ∷ all) (j ∷ to) size within =
     simp sum_by-cons (omega (arith, get_or-map (cost x) columns j d 0 within.0, table_cost cost columns d all to (omega arith) within.1))
 table_cost cost columns d _ _ size within = absurd (omega arith)
 
+pub all_within : (to : List ℕ) (n : ℕ) → length to ≡ n → IsOneToOne to → AllByRecursion (λ j. j < n) to
+all_within to n count h = recursion_from_All (λ j. j < n) to (λ k d lt. omega (arith, h.in_range k d lt))
+
 -- ---- the planned lines of any pairing lead to the day, and a planned card proves itself.
 -- What the lines lead to, and how many of them there are.
 good : (m : Parts) (s : Day) (to : List ℕ) → IsMachine m → IsLegalDay s → model_of m ≡ day_model s → length to ≡ table_size m → IsOneToOne to
     → LeadsToTheDay m s (planned_lines m s to) × AreCounted (planned_lines m s to) (loose_count m s) (assignment_cost (cost_table m s) to)
 good (Rotor m) (OfRotors s) to machine legal same count one_to_one =
-    let within = recursion_from_All (λ j. j < length (columns_of s.pairs)) to (λ k d lt. omega (arith, one_to_one.in_range k d lt, count, thirteen_columns s.pairs legal.pairs.few)) in
+    let within = all_within to (length (columns_of s.pairs)) (count ∙ sym (thirteen_columns s.pairs legal.pairs.few)) one_to_one in
     let cost = table_cost cable_cost (columns_of s.pairs) None m.cables to (machine.legal.cables.count ∙ sym count) within in
     let cables = besides m.cables s.pairs to in
-    let moves = λ (direction : Direction). counted_each (moves_of direction) (λ z. 0) (moved direction) cables 1
-    (λ k n z e at. counted_moves direction n z) in
-    let all = simp sum_none at (counted-append _ _ (counted-append _ _ (all_counted (Rotor m) (OfRotors s) legal same) (moves Out)) (moves In)) in
+    let moves = λ (d : Direction). counted_each (moves_of d) (λ z. 0) (moved d) (counted_moves d) cables 1 in
+    let loose = all_counted (Rotor m) (OfRotors s) machine legal same in
+    let all = simp sum_none at (counted-append _ _ (counted-append _ _ loose (moves Out)) (moves In)) in
     let sums = cable_sums s.pairs cables (are_pluggable m s machine legal same to count one_to_one) in
     (rotors_lead m s machine legal same to count one_to_one, record { count = omega (arith, all.count, sums, cost); priced = omega (arith, all.priced, sums, cost) })
 good (Pin m) (OfPins s) to machine legal same count one_to_one =
-    let within = recursion_from_All (λ j. j < length s.rows) to (λ k d lt. omega (arith, one_to_one.in_range k d lt, count, legal.count)) in
+    let within = all_within to (length s.rows) (count ∙ sym legal.count) one_to_one in
     let cost = table_cost bar_cost s.rows (0, 0) m.bars to (machine.legal.bars ∙ sym count) within in
     let lugs = counted_lines (bars_beside m.bars s.rows to) 1 (are_movable m s to machine legal count one_to_one) in
-    let all = counted-append _ _ (all_counted (Pin m) (OfPins s) legal refl) lugs in
+    let all = counted-append _ _ (all_counted (Pin m) (OfPins s) machine legal refl) lugs in
     (pin_machine_leads m s to machine legal count one_to_one, record { count = omega (arith, all.count, cost); priced = omega (arith, all.priced, cost) })
 good (Rotor m) (OfPins s) to machine legal same count one_to_one = absurd (no_rotors m.model m.reflector same machine.legal.reflector)
 good (Pin m) (OfRotors s) to machine legal same count one_to_one = absurd (no_rotors s.model s.reflector (sym same) legal.reflector)
@@ -141,16 +144,25 @@ due_are free costs total rows columns number e d g h o =
     grind (arith, common_steps, get_or-replicate, none_due, eqb-true, All-append, All-replicate)
 
 -- no cost is above the greatest
-pub table_at_most : {A B : Type 0} (cost : A → B → ℕ) (most : ℕ) → most ≤ 4 → ((x : A) (y : B) → cost x y ≤ most)
+table_at_most : {A B : Type 0} (cost : A → B → ℕ) (most : ℕ) → most ≤ 4 → ((x : A) (y : B) → cost x y ≤ most)
     → (costs : List (List ℕ)) (xs : List A) (ys : List B) → costs ≡ map (λ x. map (cost x) ys) xs → CostsAtMost 4 costs
 table_at_most cost most few h costs xs ys e =
     rw e (All-map (All (λ c. c ≤ 4)) (λ x. map (cost x) ys) xs
     (λ k d lt. All-map (λ c. c ≤ 4) (cost _) ys (λ j e lt'. omega (arith, few, h (get_or xs k d) (get_or ys j e)))))
 
+pub four_at_most : (costs : List (List ℕ)) (cables : List Cable) (pairs : List (ℕ × ℕ)) → costs ≡ cable_costs cables pairs
+    → CostsAtMost 4 costs
+four_at_most costs cables pairs = table_at_most cable_cost 4 (omega arith) at_most_four costs cables (columns_of pairs)
+
+pub two_at_most : (costs : List (List ℕ)) (bars : List (Place × Place)) (rows : List (ℕ × ℕ)) → costs ≡ bar_costs bars rows
+    → CostsAtMost 4 costs
+two_at_most costs bars rows = table_at_most bar_cost 2 (omega arith) bar_cost_at_most costs bars rows
+
 -- two letters, each of which is put unless it is held
-pub two_put : (held : ℕ → Bool) (n x y : ℕ) → option_to_list (unless_so (held x) (Put n x)) ++ option_to_list (unless_so (held y) (Put n y))
-    ≡ map (λ letter. Put n letter) (filter (λ letter. not (held letter)) (x ∷ y ∷ []))
-two_put held n x y = grind arith
+pub two_put : (cable : Cable) (n x y : ℕ)
+    → option_to_list (unless_so (holds cable x) (Put n x)) ++ option_to_list (unless_so (holds cable y) (Put n y))
+    ≡ map (λ letter. Put n letter) (letters_apart (x ∷ y ∷ []) (cable_letters cable))
+two_put cable n x y = grind arith
 
 pub planned : (m : Parts) (s : Day) (costs : List (List ℕ)) (to : List ℕ) (settings : List Setting) (prices : PriceParts) (total : ℕ) (rows columns : List ℤ)
     → model_of m ≡ day_model s → costs ≡ cost_table m s → AreOfKind m prices → length to ≡ table_size m → IsOneToOne to → settings ≡ planned_lines m s to

@@ -24,7 +24,7 @@ pub use Rattle.kd_state.proofs.Slots.{has_letter-Decides, is_some-place_on, set_
 pub use Rattle.kd_state.proofs.Wheels.{allowed_in_box, days_wheels_have_their_places, has_reflector-Decides}
 pub use Rattle.kd_state.proofs.Wheels.{has_wheel-Decides, place_within, same_reflector-Decides, same_wheel-Decides}
 pub use Rattle.kd_state.proofs.{Telling.letters_have_places, Wheels.{same_wheel_differs, same_wheel_self}}
-pub use Rattle.kd_state.specs.Costs.{bar_cost, cable_cost, column_letters, columns_of, cost_table, differ, loose_count}
+pub use Rattle.kd_state.specs.Costs.{bar_cost, bar_costs, cable_cost, cable_costs, column_letters, columns_of, cost_table, differ, loose_count}
 pub use Rattle.kd_state.specs.Costs.{loose_rings, lugs_moved, reads_as_row, unless_same}
 pub use Rattle.kd_state.specs.{Entry.rotor_values, Machine.AreOnWheels, Machine.HasAllPins}
 pub use Rattle.kd_state.specs.Machine.{IsMachine, StandsAt, cable_letters, model_of, plugged_letters, ring_at}
@@ -533,7 +533,7 @@ module _ (m : RotorParts) (s : RotorDay) (machine : IsMachine (Rotor m)) (legal 
       let wanted = λ (column : Column). cond {A = ℕ} (wants column y) 1 0 in
       let moved = sum_by-IsPermutation wanted (columns_of s.pairs) columns order in
       let once = once_of_distinct (letters_plugged s.pairs) legal.pairs.apart y in
-      omega (arith, beside_each wanted m.cables columns (omega (arith, sizes)), once_wanted y s.pairs (13 - length s.pairs))
+      omega (arith, beside_each wanted m.cables columns sizes, once_wanted y s.pairs (13 - length s.pairs))
 
   pub are_the_pairs : AreThePairs (map once_put zs) s.pairs
   are_the_pairs = record {
