@@ -1,15 +1,20 @@
 -- How many lines there are, and how many of them the prices speak of; and that each loose thing has one.
-use Rattle.kd_card.proofs.Prelude.{◌≡◌, ◌≢◌, ℕ, zero, suc, ◌+◌, ◌≤◌, nat_eq, not, Bool, true, cond, List, [], ◌∷◌, ◌++◌, length, get_or_from_slice_get, slice_get, zip, count_by, sum_by, refl, sym, ap, arith, AllByRecursion, Contains, All, Some, option_map_or, recursion_from_All, length-append, sum_by-append, sum_by-cons, sum-map, differ, loose_count, same_wheel, same_reflector, place_in_box, is_priced, priced_count, Model, Setting, SeatReflector, Parts, Rotor, Pin, model_of, Day, RotorDay, OfRotors, OfPins, IsLegalDay, PinDay, RotorParts, PinParts, unwrap_or-slice_get, subst, day_model, days_wheels_have_their_places, ring_at}
-use Rattle.kd_card.proofs.Falling.{HaveTheirPlaces}
-use Rattle.kd_card.specs.Loose.{loose_lines, lines_from, unless_so, seat_of, ring_lines, ring_of_wheel, turn_of, pin_lines, pin_of, pin_turn_of, wheel_pin_lines}
+use Rattle.kd_card.proofs.{Counts.count_by-cons, Falling.HaveTheirPlaces}
+use Rattle.kd_card.proofs.Prelude.{AllByRecursion, Contains, All, Bool, Day, IsLegalDay, IsMachine, List, Model, OfPins}
+use Rattle.kd_card.proofs.Prelude.{OfRotors, Parts, Pin, PinDay, PinParts, Rotor, RotorDay, RotorParts, SeatReflector}
+use Rattle.kd_card.proofs.Prelude.{Setting, [], ap, arith, cond, count_by, day_model, days_wheels_have_their_places}
+use Rattle.kd_card.proofs.Prelude.{differ, is_priced, length, length-append, length-zip, loose_count, model_of, nat_eq}
+use Rattle.kd_card.proofs.Prelude.{not, option_map_or, place_in_box, priced_count, recursion_from_All, refl, ring_at}
+use Rattle.kd_card.proofs.Prelude.{same_reflector, same_wheel, seconds-zip, subst, suc, sum_by, sum_by-append}
+use Rattle.kd_card.proofs.Prelude.{sum_by-cons, sym, true, zero, zip, ℕ, ◌++◌, ◌+◌, ◌∙◌, ◌∷◌, ◌≡◌, ◌≢◌, ◌≤◌}
+use Rattle.kd_card.specs.Loose.{lines_from, loose_lines, pin_lines, pin_of, pin_turn_of, ring_lines, ring_of_wheel}
+use Rattle.kd_card.specs.Loose.{seat_of, turn_of, unless_so, wheel_pin_lines}
 use Rattle.kd_state.proofs.Wheels.{allowed_in_box, has_wheel-Decides, same_wheel-Decides, same_wheel_differs}
-use Rattle.kd_state.specs.{Machine.HasAllPins, SheetDay.AreSeated, SheetDay.seats, ToldApart.has_wheel}
-use Rattle.kd_pins.specs.{PinWheels.pins_of, declared.pin_set.PinSet.PinSet}
-use Rattle.kd_state.specs.declared.sheet_day.rotor_entry.SheetWheel.{SheetWheel}
+use Rattle.kd_state.specs.{Machine.HasAllPins, Pins.wheel_pins, SheetDay.AreSeated, SheetDay.seats}
+use Rattle.kd_state.specs.{ToldApart.has_wheel, declared.sheet_day.rotor_entry.SheetWheel.SheetWheel}
 use Rattle.kd_tables.specs.{Rings.ring_of, Tables.box_of, declared.wheel.Wheel.Wheel}
 use Rattle.std.proofs.Common.{◌&&◌, false, find, flat_map, option_to_list}
-use Rattle.std.proofs.lemmas.List.{get_or_default}
-use Rattle.std.proofs.lemmas.{Option.slice_get-get_or, Option.slice_get-map, Option.slice_get_within, Slice.Zip.get_or-zip, Slice.Zip.length-zip}
+use Rattle.std.proofs.lemmas.{List.Folds.fold-map, List.Sums.sum_by-le, Option.slice_get-get_or, Option.slice_get-map}
 
 -- so many lines beside those of cables and bars, and so many of these
 pub record AreCounted (lines : List Setting) (loose cost : ℕ) : Type 0 where
@@ -26,32 +31,29 @@ counted_loose : (so : Bool) (x : Setting) → is_priced x ≡ false
 counted_loose so x e = grind arith
 
 -- lines of things by their numbers
-pub counted_each : {Z : Type 0} (lines : ℕ → Z → List Setting) (f g : Z → ℕ) (zs : List Z) (number : ℕ)
-    → ((k n : ℕ) (z : Z) → n ≡ number + k → slice_get zs k ≡ Some z → AreCounted (lines n z) (f z) (g z))
-    → AreCounted (lines_from lines number zs) (sum_by f zs) (sum_by g zs)
-counted_each lines f g [] number h = record { count = refl; priced = refl }
-counted_each lines f g (z ∷ zs) number h =
-    rw (sum_by-cons f, sum_by-cons g) (counted-append _ _ (h zero number z (omega arith) refl)
-    (counted_each lines f g zs (number + 1) (λ k n v e at. h (suc k) n v (omega arith) at)))
+pub counted_each : {Z : Type 0} (lines : ℕ → Z → List Setting) (f g : Z → ℕ)
+    → ((number : ℕ) (z : Z) → AreCounted (lines number z) (f z) (g z))
+    → (zs : List Z) (number : ℕ) → AreCounted (lines_from lines number zs) (sum_by f zs) (sum_by g zs)
+counted_each lines f g h [] number = record { count = refl; priced = refl }
+counted_each lines f g h (z ∷ zs) number =
+    rw (sum_by-cons f, sum_by-cons g) (counted-append _ _ (h number z) (counted_each lines f g h zs (number + 1)))
 
 pub sum_none : {Z : Type 0} (zs : List Z) → sum_by (λ z. 0) zs ≡ 0
-sum_none [] = refl
-sum_none (z ∷ zs) = simp sum_by-cons (omega (arith, sum_none zs))
+sum_none zs = omega (arith, sum_by-le (λ z. 0) 0 zs (λ k d lt. omega arith))
 
-pub sums_add : {X : Type 0} (f g h : X → ℕ) → ((x : X) → f x + g x ≡ h x) → (xs : List X) → sum_by f xs + sum_by g xs ≡ sum_by h xs
+pub sums_add : {X : Type 0} (f g h : X → ℕ) → ((x : X) → f x + g x ≡ h x) → (xs : List X)
+    → sum_by f xs + sum_by g xs ≡ sum_by h xs
 sums_add f g h e [] = refl
 sums_add f g h e (x ∷ xs) = simp sum_by-cons (omega (arith, e x, sums_add f g h e xs))
 
--- things beside others, which are no more
-pub beside_each : {A B : Type 0} (f : B → ℕ) (xs : List A) (ys : List B) → length ys ≤ length xs
+-- things beside others, which are as many
+pub beside_each : {A B : Type 0} (f : B → ℕ) (xs : List A) (ys : List B) → length ys ≡ length xs
     → sum_by (λ (z : A × B). f z.1) (zip xs ys) ≡ sum_by f ys
-beside_each f [] [] few = refl
-beside_each f [] (y ∷ ys) few = absurd (omega arith)
-beside_each f (x ∷ xs) [] few = refl
-beside_each f (x ∷ xs) (y ∷ ys) few = simp sum_by-cons (omega (arith, beside_each f xs ys (omega arith)))
+beside_each f xs ys same = sym (fold-map _ (λ z. z.1) 0 (zip xs ys)) ∙ ap (sum_by f) (seconds-zip xs ys same)
 
 -- lines that don't go by numbers
-pub lines_of_each : {X : Type 0} (f : X → List Setting) (xs : List X) (number : ℕ) → flat_map f xs ≡ lines_from (λ n x. f x) number xs
+pub lines_of_each : {X : Type 0} (f : X → List Setting) (xs : List X) (number : ℕ)
+    → flat_map f xs ≡ lines_from (λ n x. f x) number xs
 lines_of_each f [] number = refl
 lines_of_each f (x ∷ xs) number = ap (λ lines. f x ++ lines) (lines_of_each f xs (number + 1))
 
@@ -72,11 +74,13 @@ finds test wheels wheel = option_map_or test (find (λ w. same_wheel wheel w.whe
 none_found : (test : SheetWheel → Bool) (wheel : Wheel) (wheels : List SheetWheel)
     → AllByRecursion (λ w. wheel ≢ w.wheel) wheels → finds test wheels wheel ≡ false
 none_found test wheel [] h = refl
-none_found test wheel (w ∷ wheels) h = grind (arith, same_wheel_differs wheel w.wheel h.0, none_found test wheel wheels h.1)
+none_found test wheel (w ∷ wheels) h =
+    grind (arith, same_wheel_differs wheel w.wheel h.0, none_found test wheel wheels h.1)
 
 finds_first : (test : SheetWheel → Bool) (w : SheetWheel) (wheels : List SheetWheel) (b : Wheel)
     → finds test wheels w.wheel ≡ false
-    → cond {A = ℕ} (same_wheel b w.wheel && test w) 1 0 + cond (finds test wheels b) 1 0 ≡ cond (finds test (w ∷ wheels) b) 1 0
+    → cond {A = ℕ} (same_wheel b w.wheel && test w) 1 0 + cond (finds test wheels b) 1 0
+    ≡ cond (finds test (w ∷ wheels) b) 1 0
 finds_first test w wheels b none = grind (arith, same_wheel-Decides b w.wheel)
 
 found_once : (test : SheetWheel → Bool) (model : Model) (wheels : List SheetWheel)
@@ -87,9 +91,10 @@ found_once test model (w ∷ wheels) there apart =
     let others = recursion_from_All (λ (v : SheetWheel). w.wheel ≢ v.wheel) wheels
     (λ k d lt same. apart zero (suc k) d (omega arith) (omega arith) (ap (place_in_box model) same)) in
     let none = none_found test w.wheel wheels others in
-    let rest = found_once test model wheels there.1 (λ i j d before lt. apart (suc i) (suc j) d (omega arith) (omega arith)) in
+    let rest = found_once test model wheels there.1
+    (λ i j d before lt. apart (suc i) (suc j) d (omega arith) (omega arith)) in
     let both = sums_add _ _ _ (λ b. finds_first test w wheels b none) (box_of model) in
-    omega (arith, once_in_box model w.wheel (test w) there.0, rest, both, sum_by-cons (λ v. cond {A = ℕ} (test v) 1 0) w wheels)
+    omega (arith, once_in_box model w.wheel (test w) there.0, rest, both, count_by-cons test w wheels)
 
 -- ---- all lines
 module _ (m : RotorParts) (s : RotorDay) where
@@ -98,60 +103,58 @@ module _ (m : RotorParts) (s : RotorDay) where
 
   counted_rings : AreCounted (ring_lines m s.wheels) (count_by (finds wrong s.wheels) (box_of m.model)) 0
   counted_rings =
-      let all = counted_each (λ n wheel. ring_of_wheel m s.wheels wheel) (λ wheel. cond (finds wrong s.wheels wheel) 1 0)
-      (λ z. 0) (box_of m.model) 1 (λ k n z e at. grind (arith, counted_loose)) in
-      rw (lines_of_each (ring_of_wheel m s.wheels) (box_of m.model) 1) (rw sum_none at all)
+      rw (lines_of_each (ring_of_wheel m s.wheels) (box_of m.model) 1) (rw sum_none at
+      (counted_each (λ n wheel. ring_of_wheel m s.wheels wheel) (λ wheel. cond (finds wrong s.wheels wheel) 1 0) (λ z. 0)
+      (λ n wheel. grind (arith, counted_loose)) (box_of m.model) 1))
 
   rotor_counted : AreSeated m.model (seats s.wheels)
       → AreCounted (loose_lines (Rotor m) (OfRotors s)) (loose_count (Rotor m) (OfRotors s)) 0
   rotor_counted seated =
+      let there = in_box m.model s.wheels seated in
       let found = found_once wrong m.model s.wheels
-      (recursion_from_All _ s.wheels (λ k d lt. (has_wheel-Decides (box_of m.model) _).1 (in_box m.model s.wheels seated k d lt)))
+      (recursion_from_All _ s.wheels (λ k d lt. (has_wheel-Decides (box_of m.model) _).1 (there k d lt)))
       (days_wheels_have_their_places m.model s.wheels seated) in
-      let seats = counted_each seat_of _ (λ z. 0) (zip m.slots s.wheels) 1 (λ k n z e at. counted_loose _ _ refl) in
+      let seats = counted_each seat_of _ (λ z. 0) (λ n z. counted_loose _ _ refl) (zip m.slots s.wheels) 1 in
       let reflector = counted_loose (same_reflector m.reflector s.reflector) (SeatReflector s.reflector) refl in
-      let turns = counted_each (turn_of m) _ (λ z. 0) s.wheels 1 (λ k n z e at. counted_loose _ _ refl) in
-      let all = simp sum_none at (counted-append _ _ (counted-append _ _ (counted-append _ _ seats reflector) counted_rings) turns) in
+      let turns = counted_each (turn_of m) _ (λ z. 0) (λ n w. counted_loose _ _ refl) s.wheels 1 in
+      let all = simp sum_none at (counted-append _ _ (counted-append _ _ (counted-append _ _ seats reflector)
+      counted_rings) turns) in
       record { count = grind (arith, all.count, found); priced = all.priced }
 
--- a wheel's pins, which are as many as its letters
-counted_wheel : (number : ℕ) (pins : List Bool × List Bool) → length pins.1 ≡ length (ring_of number)
-    → AreCounted (wheel_pin_lines number (ring_of number) pins.0 pins.1) (count_by (λ (pin : Bool × Bool). differ pin.0 pin.1) (zip pins.0 pins.1)) 0
-counted_wheel number pins size =
-    let cells = zip (ring_of number) (zip pins.0 pins.1) in
-    let differs = λ (pin : Bool × Bool). cond {A = ℕ} (differ pin.0 pin.1) 1 0 in
-    let all = rw sum_none at (counted_each (λ n cell. pin_of number cell) (λ cell. differs cell.1) (λ z. 0) cells 1
-    (λ k n z e at. grind (arith, counted_loose))) in
-    let each = beside_each differs (ring_of number) (zip pins.0 pins.1) (omega (arith, length-zip pins.0 pins.1)) in
-    rw (lines_of_each (pin_of number) cells 1, ← each) all
+-- PIN, of a wheel that has a pin for each letter, as the day's has
+module _ (m : PinParts) (s : PinDay) (machine : HasAllPins m.pins) (legal : HasAllPins s.pins) where
+  counted_wheel : (number : ℕ) → let present = wheel_pins m.pins number in let wanted = wheel_pins s.pins number in
+      AreCounted (wheel_pin_lines number (ring_of number) present wanted)
+      (count_by (λ (pin : Bool × Bool). differ pin.0 pin.1) (zip present wanted)) 0
+  counted_wheel number =
+      let pins = zip (wheel_pins m.pins number) (wheel_pins s.pins number) in
+      let differs = λ (pin : Bool × Bool). cond {A = ℕ} (differ pin.0 pin.1) 1 0 in
+      let all = rw sum_none at (counted_each (λ n cell. pin_of number cell) (λ cell. differs cell.1) (λ z. 0)
+      (λ n cell. grind (arith, counted_loose)) (zip (ring_of number) pins) 1) in
+      let size = length-zip (wheel_pins m.pins number) (wheel_pins s.pins number) in
+      let each = beside_each differs (ring_of number) pins (omega (arith, size, machine number, legal number)) in
+      rw (lines_of_each (pin_of number) (zip (ring_of number) pins) 1, ← each) all
 
-has_all : (one other : PinSet) → HasAllPins other → (k n : ℕ) (z : List Bool × List Bool) → n ≡ 1 + k
-    → slice_get (zip (pins_of one) (pins_of other)) k ≡ Some z → length z.1 ≡ length (ring_of n)
-has_all one other has k n z e at =
-    let within = slice_get_within (zip (pins_of one) (pins_of other)) k z at in
-    let is = get_or_from_slice_get (zip (pins_of one) (pins_of other)) k z z at in
-    grind (arith, get_or-zip (pins_of one) (pins_of other) k z within within, has (suc k), unwrap_or-slice_get, get_or_default)
+  pin_counted : AreCounted (loose_lines (Pin m) (OfPins s)) (loose_count (Pin m) (OfPins s)) 0
+  pin_counted =
+      let none : AreCounted [] 0 0 = record { count = refl; priced = refl } in
+      let pins = counted-append _ _ (counted_wheel 1) (counted-append _ _ (counted_wheel 2) (counted-append _ _
+      (counted_wheel 3) (counted-append _ _ (counted_wheel 4) (counted-append _ _ (counted_wheel 5)
+      (counted-append _ _ (counted_wheel 6) none))))) in
+      let turns = counted_each pin_turn_of _ (λ z. 0) (λ n z. counted_loose _ _ refl) (zip m.letters s.window) 1 in
+      let all = simp sum_none at (counted-append (pin_lines m.pins s.pins) _ pins turns) in
+      record { count = omega (arith, all.count); priced = all.priced }
 
-pin_counted : (m : PinParts) (s : PinDay) → HasAllPins s.pins
-    → AreCounted (loose_lines (Pin m) (OfPins s)) (loose_count (Pin m) (OfPins s)) 0
-pin_counted m s has =
-    let wheels = zip (pins_of m.pins) (pins_of s.pins) in
-    let pins = counted_each (λ n z. wheel_pin_lines n (ring_of n) z.0 z.1) _ (λ z. 0) wheels 1
-    (λ k n z e at. counted_wheel n z (has_all m.pins s.pins has k n z e at)) in
-    let turns = counted_each pin_turn_of _ (λ z. 0) (zip m.letters s.window) 1 (λ k n z e at. counted_loose _ _ refl) in
-    let all = simp sum_none at (counted-append (pin_lines m.pins s.pins) _ pins turns) in
-    let same = sum-map (λ (z : List Bool × List Bool). count_by (λ (pin : Bool × Bool). differ pin.0 pin.1) (zip z.0 z.1)) wheels in
-    record { count = omega (arith, all.count); priced = all.priced }
-
-pub all_counted : (m : Parts) (s : Day) → IsLegalDay s → model_of m ≡ day_model s → AreCounted (loose_lines m s) (loose_count m s) 0
-all_counted (Rotor m) (OfRotors s) legal same =
+pub all_counted : (m : Parts) (s : Day) → IsMachine m → IsLegalDay s → model_of m ≡ day_model s
+    → AreCounted (loose_lines m s) (loose_count m s) 0
+all_counted (Rotor m) (OfRotors s) machine legal same =
     rotor_counted m s (subst (λ model. AreSeated model (seats s.wheels)) (sym same) legal.wheels)
-all_counted (Pin m) (OfPins s) legal same = pin_counted m s legal.pins
-all_counted m s legal same = record { count = refl; priced = refl }
+all_counted (Pin m) (OfPins s) machine legal same = pin_counted m s machine.legal.pins legal.pins
+all_counted m s machine legal same = record { count = refl; priced = refl }
 
-pub as_many : (m : Parts) (s : Day) (xs : List Setting) → IsLegalDay s → model_of m ≡ day_model s → xs ≡ loose_lines m s
-    → length xs ≡ loose_count m s
-as_many m s xs legal same e = rw e (omega (arith, (all_counted m s legal same).count))
+pub as_many : (m : Parts) (s : Day) (xs : List Setting) → IsMachine m → IsLegalDay s → model_of m ≡ day_model s
+    → xs ≡ loose_lines m s → length xs ≡ loose_count m s
+as_many m s xs machine legal same e = rw e (omega (arith, (all_counted m s machine legal same).count))
 
 -- ---- there is room for all of them
 pub few_in_box : (model : Model) → length (box_of model) ≤ 10

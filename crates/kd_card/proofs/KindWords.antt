@@ -1,5 +1,5 @@
 -- The words of kinds' lines, and the looks that they tell.
-use Rattle.kd_card.proofs.Prelude.{same_place, ltb, codes, ◌≡◌, ◌≢◌, ℕ, ◌<◌, true, List, [], ◌∷◌, ◌++◌, get_or, drop, subst, ℤ, Option, sym, ap, ◌∙◌, append_assoc, length-append, arith, decimal, All, list_all, decimal_injective, signed_decimal_injective, All-append, All-weaker, All-from_recursion, Place, One, place_text, place_rank, places, standing_text, IsWord, IsWithout, Look, Cable, Pair, Bar, Name, PricedKind, look_name, name_text, look_text, look_rank, ends_rank, pair_rank, kind_words, AreEnds, IsPairInOrder, IsInForm, IsPricedKind, kinds_text, HasKindWords, RanksTellLooks, signed_decimal, append-nil, HasWords, BeginsWithWord, EndsGroup, AtNothing, AtOther, IsNextKind, HasNoNext, common_steps, numbers_are_words, texts_tell_first_parts, word_by_bytes, word_by_test, named, told, EndsAt, IsBadAt}
+use Rattle.kd_card.proofs.Prelude.{same_place, ltb, codes, ◌≡◌, ◌≢◌, ℕ, ◌<◌, true, List, [], ◌∷◌, ◌++◌, get_or, drop, subst, ℤ, Option, sym, ap, ◌∙◌, append_assoc, length-append, arith, decimal, All, list_all, decimal_injective, signed_decimal_injective, All-append, All-weaker, All-from_recursion, Place, One, place_text, place_rank, places, standing_text, IsWord, IsWithout, Look, Cable, Pair, Bar, Name, PricedKind, look_name, name_text, look_text, look_rank, ends_rank, pair_rank, kind_words, AreEnds, IsPairInOrder, IsInForm, IsPricedKind, kinds_text, HasKindWords, RanksTellLooks, signed_decimal, append-nil, HasWords, BeginsWithWord, EndsGroup, AtNothing, AtOther, IsNextKind, HasNoNext, common_steps, numbers_are_words, texts_tell_first_parts, word_by_bytes, word_by_test, EndsAt, IsBadAt}
 use Rattle.kd_card.proofs.Lines.{bytes_above, same_words, some_bytes, bytes_are_word, signed_word, small}
 
 -- ---- names and places by their texts

@@ -289,26 +289,29 @@ counted_lines (z ∷ zs) number h =
     (counted_both _ _ _ _ _ refl refl)) (counted_lines zs (number + 1) h.1))
 
 -- all planned lines, of a rotor machine and of a Converter M-209
-pub rotor_counted : (m : RotorParts) (s : RotorDay) (to : List ℕ) → IsLegalRotorDay s → m.model ≡ s.model
-    → AllByRecursion (IsPluggable s.pairs) (besides m.cables s.pairs to)
+pub rotor_counted : (m : RotorParts) (s : RotorDay) (to : List ℕ) → IsMachine (Rotor m) → IsLegalRotorDay s
+    → m.model ≡ s.model → AllByRecursion (IsPluggable s.pairs) (besides m.cables s.pairs to)
     → AreCounted (planned_lines (Rotor m) (OfRotors s) to) (loose_count (Rotor m) (OfRotors s))
     (sum_by (λ z. cable_cost z.0 z.1) (besides m.cables s.pairs to))
-rotor_counted m s to legal same pluggable =
+rotor_counted m s to machine legal same pluggable =
     let cables = besides m.cables s.pairs to in
-    let loose = all_counted (Rotor m) (OfRotors s) legal same in
-    let moves = λ (direction : Direction). counted_each (moves_of direction) (λ z. 0) (moved direction) cables 1 (λ k n z e at. counted_moves direction n z) in
+    let moves = λ (d : Direction). counted_each (moves_of d) (λ z. 0) (moved d) (counted_moves d) cables 1 in
+    let loose = all_counted (Rotor m) (OfRotors s) machine legal same in
     let all = simp sum_none at (counted-append _ _ (counted-append _ _ loose (moves Out)) (moves In)) in
     let sums = cable_sums s.pairs cables pluggable in
     record { count = omega (arith, all.count, sums); priced = omega (arith, all.priced, sums) }
 
-pub pin_counted : (m : PinParts) (s : PinDay) (to : List ℕ) → IsLegalPinDay s → AllByRecursion IsMovable (bars_beside m.bars s.rows to)
+pub pin_counted : (m : PinParts) (s : PinDay) (to : List ℕ) → IsMachine (Pin m) → IsLegalPinDay s
+    → AllByRecursion IsMovable (bars_beside m.bars s.rows to)
     → AreCounted (planned_lines (Pin m) (OfPins s) to) (loose_count (Pin m) (OfPins s))
     (sum_by (λ z. bar_cost z.0 z.1) (bars_beside m.bars s.rows to))
-pin_counted m s to legal movable =
-    let all = counted-append _ _ (all_counted (Pin m) (OfPins s) legal refl) (counted_lines (bars_beside m.bars s.rows to) 1 movable) in
+pin_counted m s to machine legal movable =
+    let lugs = counted_lines (bars_beside m.bars s.rows to) 1 movable in
+    let all = counted-append _ _ (all_counted (Pin m) (OfPins s) machine legal refl) lugs in
     record { count = omega (arith, all.count); priced = omega (arith, all.priced) }
 
 -- two letters, each of which is put unless it is held
-pub two_put : (held : ℕ → Bool) (n x y : ℕ) → option_to_list (unless_so (held x) (Put n x)) ++ option_to_list (unless_so (held y) (Put n y))
-    ≡ map (λ letter. Put n letter) (filter (λ letter. not (held letter)) (x ∷ y ∷ []))
-two_put held n x y = grind arith
+pub two_put : (cable : Cable) (n x y : ℕ)
+    → option_to_list (unless_so (holds cable x) (Put n x)) ++ option_to_list (unless_so (holds cable y) (Put n y))
+    ≡ map (λ letter. Put n letter) (letters_apart (x ∷ y ∷ []) (cable_letters cable))
+two_put cable n x y = grind arith

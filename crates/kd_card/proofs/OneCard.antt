@@ -1,5 +1,5 @@
 -- Bytes are one card, or have one fault.
-use Rattle.kd_card.proofs.Prelude.{not_longer, same_end, text_of_more, Bool, true, false, codes, ◌≡◌, ◌≢◌, ℕ, ◌+◌, ◌*◌, ◌^◌, ◌<◌, ◌≤◌, List, [], ◌∷◌, ◌++◌, length, map, get_or, Result, Ok, Err, refl, sym, ap, subst, ◌∙◌, arith, ℤ, unsigned_abs, append_assoc, AllByRecursion, signed_decimal, decimal_injective, signed_decimal_injective, append-nil, recursion_from_All, Setting, IsWord, setting_line, list_text, IsInRange, BeginsWith, BeginsWithNoLine, PriceParts, Cables, Bars, CableKinds, BarKinds, Version, ByNumber, ByKind, Group, OfCables, OfBars, Name, PricedKind, Trailing, Then, Refused, Found, Only, Demands, look_rank, name_text, kinds_text, AreKinds, AreCalled, version_of, row_kinds, column_kinds, price_sum, AreWithinReach, ArePrices, group_of, row_word, column_word, row_name, column_name, price_count, version_text, settings_words, price_words, sum_words, lines_text, price_lines, card_text, IsGroup, IsCard, with_line, SaysValue, SaysFirst, BeginsWithHead, BeginsWithSettings, SaysSettings, SaysPriceLine, SaysNumbered, BeginsWithWord, EndsGroup, AtOther, IsNextKind, floor_behind, SaysGroup, SaysKinded, SaysAllPrices, SaysBehind, SaysCard, TextsTellCards, NoCardBeginsAnother, CardsHaveNoFault, OneCardFault, common_steps, word_by_test, BeginsWithKinds, CardsAreSaid, IsOnly, only_demands, only_finds, only_only, only_takes, only_then, passed, same_ok, CardFault, head_words, kind_words}
+use Rattle.kd_card.proofs.Prelude.{not_longer, same_end, Bool, true, false, codes, ◌≡◌, ◌≢◌, ℕ, ◌+◌, ◌*◌, ◌^◌, ◌<◌, ◌≤◌, List, [], ◌∷◌, ◌++◌, length, map, get_or, Result, Ok, Err, refl, sym, ap, subst, ◌∙◌, arith, ℤ, unsigned_abs, append_assoc, AllByRecursion, signed_decimal, decimal_injective, signed_decimal_injective, append-nil, recursion_from_All, Setting, IsWord, setting_line, list_text, BeginsWith, BeginsWithNoLine, PriceParts, Cables, Bars, CableKinds, BarKinds, Version, ByNumber, ByKind, Group, OfCables, OfBars, Name, PricedKind, Trailing, Then, Refused, Found, Only, Demands, look_rank, name_text, kinds_text, AreKinds, AreCalled, version_of, row_kinds, column_kinds, price_sum, AreWithinReach, ArePrices, group_of, row_word, column_word, row_name, column_name, price_count, version_text, settings_words, price_words, sum_words, lines_text, price_lines, card_text, IsGroup, IsCard, with_line, SaysValue, SaysFirst, BeginsWithHead, BeginsWithSettings, SaysSettings, SaysPriceLine, SaysNumbered, BeginsWithWord, EndsGroup, AtOther, IsNextKind, floor_behind, SaysGroup, SaysKinded, SaysAllPrices, SaysBehind, SaysCard, TextsTellCards, NoCardBeginsAnother, CardsHaveNoFault, OneCardFault, common_steps, word_by_test, BeginsWithKinds, CardsAreSaid, IsOnly, only_demands, only_finds, only_only, only_takes, only_then, passed, same_ok, CardFault, head_words, kind_words}
 use Rattle.kd_card.specs.CardFault.{numbered}
 use Rattle.kd_card.proofs.Lines.{line_has_words, value_line, same_words, two_lines, card_and_more, small, numeral_word, signed_word, head_has_words, first_is_word, prices_are_words, number_text, signed_text, price_sum_is_small, value_says, value_said, first_says, HasPrices, line_said, group_said}
 use Rattle.kd_card.proofs.KindWords.{kind_is_words, kind_begins, end_has_no_next, same_kind}

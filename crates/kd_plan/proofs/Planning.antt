@@ -10,10 +10,11 @@ pub use Rattle.kd_card.specs.{Proving.{LeadsToTheDay, AreOfKind, Proves, Same}, 
 pub use Rattle.kd_plan.specs.Planned.{IsPlanned, Plans, table_size}
 pub use Rattle.kd_plan.specs.{Due.prices_due, Laws.{PlannedCardsProve, PlannedLinesLead}}
 pub use Rattle.kd_state.proofs.CostTable.{at_most_four, thirteen_columns}
-pub use Rattle.kd_state.specs.Costs.{bar_cost, cable_cost, columns_of, loose_count, lugs_moved, cost_table}
+pub use Rattle.kd_state.specs.Costs.{bar_cost, bar_costs, cable_cost, cable_costs, columns_of, loose_count, lugs_moved}
+pub use Rattle.kd_state.specs.Costs.{cost_table}
 pub use Rattle.kd_state.specs.declared.machine.parts.Parts.{Parts, TheVariants.{Pin, Rotor}}
 pub use Rattle.kd_state.specs.{Machine.{IsMachine, model_of}, SheetDay.{OfPins, OfRotors, Day, IsLegalDay, day_model}}
-pub use Rattle.std.proofs.Common.{All, AllPairs, Bool, Contains, IsPermutation, List, None, [], ap, arith, cond}
+pub use Rattle.std.proofs.Common.{All, AllPairs, Bool, Contains, IsPermutation, List, None, Option, [], ap, arith, cond}
 pub use Rattle.std.proofs.Common.{eqb-true, fold, get_or, length, map, min, nat_eq, refl, replicate, subst, suc, sum_by}
 pub use Rattle.std.proofs.Common.{sym, zero, zip, ℕ, ◌++◌, ◌+◌, ◌-◌, ◌<◌, ◌∙◌, ◌∷◌, ◌≡◌, ◌≢◌, ◌≤◌, pos, remove, ℤ, ◌+ℤ◌}
 pub use Rattle.std.proofs.lemmas.List.Elements.{All-map, recursion_from_All, All-append, All-replicate}
@@ -59,7 +60,7 @@ least_at_most : (n : ℕ) (xs : List ℕ) → fold min n xs ≤ n
 least_at_most n [] = omega arith
 least_at_most n (x ∷ xs) = omega (arith, least_at_most (min n x) xs)
 
-pub bar_cost_at_most : (bar : Place × Place) (row : ℕ × ℕ) → bar_cost bar row ≤ 2
+bar_cost_at_most : (bar : Place × Place) (row : ℕ × ℕ) → bar_cost bar row ≤ 2
 bar_cost_at_most bar row = omega (arith, least_at_most 2 (map (lugs_moved bar) (standings_as row)))
 
 -- what a pairing costs, by the table
@@ -71,21 +72,24 @@ table_cost cost columns d (x ∷ all) (j ∷ to) size within =
     simp sum_by-cons (omega (arith, get_or-map (cost x) columns j d 0 within.0, table_cost cost columns d all to (omega arith) within.1))
 table_cost cost columns d _ _ size within = absurd (omega arith)
 
+pub all_within : (to : List ℕ) (n : ℕ) → length to ≡ n → IsOneToOne to → AllByRecursion (λ j. j < n) to
+all_within to n count h = recursion_from_All (λ j. j < n) to (λ k d lt. omega (arith, h.in_range k d lt))
+
 -- ---- the planned lines of any pairing lead to the day, and a planned card proves itself.
 -- What the lines lead to, and how many of them there are.
 good : (m : Parts) (s : Day) (to : List ℕ) → IsMachine m → IsLegalDay s → model_of m ≡ day_model s → length to ≡ table_size m → IsOneToOne to
     → LeadsToTheDay m s (planned_lines m s to) × AreCounted (planned_lines m s to) (loose_count m s) (assignment_cost (cost_table m s) to)
 good (Rotor m) (OfRotors s) to machine legal same count one_to_one =
-    let within = recursion_from_All (λ j. j < length (columns_of s.pairs)) to (λ k d lt. omega (arith, one_to_one.in_range k d lt, count, thirteen_columns s.pairs legal.pairs.few)) in
+    let within = all_within to (length (columns_of s.pairs)) (count ∙ sym (thirteen_columns s.pairs legal.pairs.few)) one_to_one in
     let cost = table_cost cable_cost (columns_of s.pairs) None m.cables to (machine.legal.cables.count ∙ sym count) within in
     let order = paired None (columns_of s.pairs) to (count ∙ sym (thirteen_columns s.pairs legal.pairs.few)) one_to_one in
-    let counted = rotor_counted m s to legal same (are_pluggable m s machine legal same to count order) in
+    let counted = rotor_counted m s to machine legal same (are_pluggable m s machine legal same to count order) in
     (rotors_lead m s machine legal same to count order, rw cost counted)
 good (Pin m) (OfPins s) to machine legal same count one_to_one =
-    let within = recursion_from_All (λ j. j < length s.rows) to (λ k d lt. omega (arith, one_to_one.in_range k d lt, count, legal.count)) in
+    let within = all_within to (length s.rows) (count ∙ sym legal.count) one_to_one in
     let cost = table_cost bar_cost s.rows (0, 0) m.bars to (machine.legal.bars ∙ sym count) within in
     let order = paired (0, 0) s.rows to (count ∙ sym legal.count) one_to_one in
-    let counted = pin_counted m s to legal (are_movable m s machine legal to count within order) in
+    let counted = pin_counted m s to machine legal (are_movable m s machine legal to count within order) in
     (pin_machine_leads m s machine legal to count within order, rw cost counted)
 good (Rotor m) (OfPins s) to machine legal same count one_to_one = absurd (no_rotors m.model m.reflector same machine.legal.reflector)
 good (Pin m) (OfRotors s) to machine legal same count one_to_one = absurd (no_rotors s.model s.reflector (sym same) legal.reflector)
@@ -130,11 +134,19 @@ due_are free costs total rows columns number e d g h o =
     grind (arith, common_steps, get_or-replicate, none_due, eqb-true, All-append, All-replicate)
 
 -- no cost is above the greatest
-pub table_at_most : {A B : Type 0} (cost : A → B → ℕ) (most : ℕ) → most ≤ 4 → ((x : A) (y : B) → cost x y ≤ most)
+table_at_most : {A B : Type 0} (cost : A → B → ℕ) (most : ℕ) → most ≤ 4 → ((x : A) (y : B) → cost x y ≤ most)
     → (costs : List (List ℕ)) (xs : List A) (ys : List B) → costs ≡ map (λ x. map (cost x) ys) xs → CostsAtMost 4 costs
 table_at_most cost most few h costs xs ys e =
     rw e (All-map (All (λ c. c ≤ 4)) (λ x. map (cost x) ys) xs
     (λ k d lt. All-map (λ c. c ≤ 4) (cost _) ys (λ j e lt'. omega (arith, few, h (get_or xs k d) (get_or ys j e)))))
+
+pub four_at_most : (costs : List (List ℕ)) (cables : List (Option ℕ × Option ℕ)) (pairs : List (ℕ × ℕ)) → costs ≡ cable_costs cables pairs
+    → CostsAtMost 4 costs
+four_at_most costs cables pairs = table_at_most cable_cost 4 (omega arith) at_most_four costs cables (columns_of pairs)
+
+pub two_at_most : (costs : List (List ℕ)) (bars : List (Place × Place)) (rows : List (ℕ × ℕ)) → costs ≡ bar_costs bars rows
+    → CostsAtMost 4 costs
+two_at_most costs bars rows = table_at_most bar_cost 2 (omega arith) bar_cost_at_most costs bars rows
 
 pub planned : (m : Parts) (s : Day) (costs : List (List ℕ)) (to : List ℕ) (settings : List Setting) (prices : PriceParts) (total : ℕ) (rows columns : List ℤ)
     → model_of m ≡ day_model s → costs ≡ cost_table m s → AreOfKind m prices → length to ≡ table_size m → IsOneToOne to → settings ≡ planned_lines m s to

@@ -41,7 +41,7 @@ fn planned_card(machine: &Machine, day: &SheetDay) -> Option<Card>
 }
 
 /// The card of a rotor machine.
-#[tactic(auto, using(crate::proofs::Planning::planned))]
+#[tactic(auto, using(crate::proofs::Planning::planned, crate::proofs::Planning::four_at_most, crate::proofs::Planning::all_within))]
 fn rotor_card(machine: &Machine, day: &SheetDay, parts: &RotorParts, entry: &RotorEntry) -> Card
     requires parts { machine.now ≡ Parts.Rotor parts.now }
     requires entry { day.now ≡ OfRotors (rotor_values entry.now) }
@@ -62,7 +62,7 @@ fn rotor_card(machine: &Machine, day: &SheetDay, parts: &RotorParts, entry: &Rot
 }
 
 /// The card of a Converter M-209.
-#[tactic(auto, using(crate::proofs::Planning::planned))]
+#[tactic(auto, using(crate::proofs::Planning::planned, crate::proofs::Planning::two_at_most, crate::proofs::Planning::all_within))]
 fn pin_card(machine: &Machine, day: &SheetDay, parts: &PinParts, entry: &PinEntry) -> Card
     requires parts { machine.now ≡ Parts.Pin parts.now }
     requires entry { day.now ≡ OfPins (pin_values entry.now) }

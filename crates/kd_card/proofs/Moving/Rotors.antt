@@ -488,7 +488,7 @@ module _ (m : RotorParts) (s : RotorDay) (machine : IsMachine (Rotor m)) (legal 
       let wanted = λ (column : Column). cond {A = ℕ} (wants column y) 1 0 in
       let moved = sum_by-IsPermutation wanted (columns_of s.pairs) columns order in
       let once = once_of_distinct (letters_plugged s.pairs) legal.pairs.apart y in
-      omega (arith, beside_each wanted m.cables columns (omega (arith, sizes)), once_wanted y s.pairs (13 - length s.pairs))
+      omega (arith, beside_each wanted m.cables columns sizes, once_wanted y s.pairs (13 - length s.pairs))
 
   pub are_the_pairs : AreThePairs (map once_put zs) s.pairs
   are_the_pairs = record {
