@@ -2,8 +2,8 @@
 ghost use Rattle.std.specs.Prelude.{◌≡◌, ◌≢◌, ◌↔◌, ℕ, ◌+◌, ◌<◌, [], ◌∷◌, IsTrue, MatchOption, Some};
 ghost use Rattle.kd_state.specs.Machine.{cable_letters};
 ghost use Rattle.kd_tables.specs.Places as places;
-ghost use Rattle.kd_card.specs.Kinds.{name_text, look_name, look_text, look_rank, letters_text, standing_rank};
-ghost use Rattle.kd_card.specs.Kinds.{reading_rank, AreEnds, IsPairInOrder, IsInForm, HasLook};
+ghost use Rattle.kd_card.specs.Kinds.{name_text, look_name, look_text, look_rank, letters_text};
+ghost use Rattle.kd_card.specs.Kinds.{IsInForm, HasLook};
 
 use arrayvec::ArrayString;
 use kd_state::push_letter;

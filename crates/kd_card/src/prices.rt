@@ -1,6 +1,6 @@
 ghost use Rattle.std.specs.Prelude.{◌≡◌, ◌↔◌, ◌+◌, ◌*◌, ◌<◌, ◌≤◌, length, map, fold, unsigned_abs, ◌+ℤ◌};
 ghost use Rattle.std.specs.Prelude.{IsTrue, MatchOption};
-ghost use Rattle.kd_card.specs.Prices.{price_sum, how_many, version_of, row_kinds, column_kinds};
+ghost use Rattle.kd_card.specs.Prices.{price_sum, version_of, row_kinds, column_kinds};
 ghost use Rattle.kd_card.specs.Prices.{row_prices, column_prices};
 ghost use Rattle.kd_card.specs.Kinds.{counted, AreKinds};
 ghost use Rattle.kd_card.specs.CardFault.{numbered};

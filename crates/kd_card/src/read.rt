@@ -1,5 +1,5 @@
 //! Cards, read off their text.
-ghost use Rattle.std.specs.Prelude.{codes, ◌≡◌, ◌≢◌, ℕ, ◌<◌, ◌≤◌, [], ◌∷◌, List, MatchOption, MatchResult, Ok, Err};
+ghost use Rattle.std.specs.Prelude.{codes, ◌≡◌, ◌≢◌, ℕ, ◌<◌, ◌≤◌, ◌∷◌, List, MatchOption, MatchResult, Ok, Err};
 ghost use Rattle.kd_state.specs.Words.{IsWord, words_of};
 ghost use Rattle.kd_state.specs.SheetDay.{IsDayNumber};
 ghost use Rattle.kd_card.specs.CardText.{IsCard, head_words, version_text};

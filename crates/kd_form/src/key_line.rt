@@ -29,7 +29,7 @@ pub(crate) fn slots_of(day: &SheetDay) -> Option<usize>
         (HasSlots day.now) }
 {
     match day.entry() {
-        Entry::Rotor(entry) => Some(entry.wheels.len()),
+        Entry::Rotor(entry) => Some(entry.wheels.as_slice().len()),
         Entry::Pin(_) => None,
     }
 }

@@ -75,7 +75,7 @@ fn indicator_of(own: &mut OwnMachine, keys: &RotorKeys) -> Indicator
     ensures day { own.new ≡ own.old }
     ensures value { result ≡ indicator_of own.old keys.now }
 {
-    prove!(keys.key.len() <= 4);
+    prove!(keys.key.as_slice().len() <= 4);
     let key = own.enciphered::<4>(keys.start.as_slice(), keys.key.as_slice());
     Indicator {
         start: keys.start,

@@ -32,7 +32,7 @@ fn read_rotor_letters(
         (λ text. SaysRotor day.now part indicator.now letters.now (Ok text.items))
         (λ fault. SaysRotor day.now part indicator.now letters.now (Err fault)) }
 {
-    prove!(indicator.key.len() <= 4);
+    prove!(indicator.key.as_slice().len() <= 4);
     let group = <[Letter; 3]>::try_from(&letters[2..5]).unwrap();
     if !day.has_group(group) {
         return Err(FormFault::WrongGroup(part));

@@ -1,5 +1,5 @@
 //! Whether prices fit a table of costs.
-ghost use Rattle.std.specs.Prelude.{◌≡◌, ◌↔◌, ℕ, ◌<◌, length, MatchOption, IsTrue, pos, ◌+ℤ◌, ◌≤ℤ◌};
+ghost use Rattle.std.specs.Prelude.{◌≡◌, ◌↔◌, ℕ, ◌<◌, length, MatchOption, IsTrue};
 ghost use Rattle.kd_prices.specs.Doubt.{IsFirstWithout};
 ghost use Rattle.kd_prices.specs.Fitting.{AreWithin, IsWithin, IsFirstPlaceWithout};
 

@@ -1,15 +1,14 @@
 //! What the cables or bars of a machine look like, and the pairs and nothings or the rows of a day.
-ghost use Rattle.std.specs.Prelude.{◌≡◌, ◌≤◌, length, map, None};
+ghost use Rattle.std.specs.Prelude.{◌≡◌};
 ghost use Rattle.kd_card.specs.declared.look.Look.TheVariants as look;
 ghost use Rattle.kd_card.specs.Proving.{row_looks, column_looks, pair_in_order};
-ghost use Rattle.kd_state.specs.Costs.{columns_of};
 ghost use Rattle.kd_state.specs.Machine.{IsMachine};
 ghost use Rattle.kd_state.specs.SheetDay.{IsLegalDay};
 
 use arrayvec::ArrayVec;
 use kd_card::Look;
 use kd_state::{Entry, Machine, Parts, SheetDay, column_at, letters_in_order};
-use kd_tables::{Letter, Reading, Standing};
+use kd_tables::Letter;
 
 /// The looks of the machine's cables, or of its bars.
 pub(crate) fn row_looks(machine: &Machine) -> ArrayVec<Look, 27>

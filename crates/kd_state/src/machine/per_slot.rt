@@ -45,17 +45,6 @@ impl<T: Copy> PerSlot<T> {
         Some(PerSlot { values })
     }
 
-    /// How many values there are: three or four.
-    pub fn len(&self) -> usize
-        ensures value { result ≡ length self.now }
-        ensures either { (result ≡ 3) ⊎ (result ≡ 4) }
-    {
-        match &self.values {
-            Slots::Three(_) => 3,
-            Slots::Four(_) => 4,
-        }
-    }
-
     /// The values, from the left.
     pub fn as_slice(&self) -> &[T]
         ensures value { result.now ≡ self.now }
