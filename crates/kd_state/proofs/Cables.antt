@@ -62,10 +62,7 @@ without_ordered letter one other = grind (arith, cond_both, in_order)
 -- a letter that is taken out of its cable, before those that stay
 pub without_moves : (letter : ℕ) (one other : Option ℕ) → has_letter (cable_letters (one, other)) letter ≡ true
     → IsPermutation (cable_letters (one, other)) (letter ∷ cable_letters (cable_without letter (one, other)))
-without_moves letter None None h = absurd (true≢false (sym h))
-without_moves letter None (Some end) h = grind arith
-without_moves letter (Some end) None h = grind (arith, eq-eqb)
-without_moves letter (Some end) (Some other) h = grind (arith, Some, IsPermutation-append_comm (end ∷ []) (letter ∷ []))
+without_moves letter one other h = grind (arith, true≢false, eq-eqb, Some, IsPermutation-append_comm (cable_letters (one, None)) (letter ∷ []))
 
 -- a letter that is put into a loose end
 after_end : (letter end : ℕ) → IsPermutation (letter ∷ end ∷ []) (cable_letters (ordered (Some end) (Some letter)))
@@ -108,9 +105,7 @@ pairs_of cables = filter_map (λ cable. both_ends cable.0 cable.1) cables
 
 letters_of_pairs : (cables : List (Option ℕ × Option ℕ)) → AllByRecursion (λ cable. length (cable_letters cable) ≢ 1) cables → plugged_letters cables ≡ letters_plugged (pairs_of cables)
 letters_of_pairs [] h = refl
-letters_of_pairs ((None, None) ∷ cables) h = letters_of_pairs cables h.1
-letters_of_pairs ((Some letter, Some other) ∷ cables) h = ap (λ letters. letter ∷ other ∷ letters) (letters_of_pairs cables h.1)
-letters_of_pairs (cable ∷ cables) h = absurd (h.0 refl)
+letters_of_pairs (cable ∷ cables) h = grind (arith, letters_of_pairs cables)
 
 pub no_letter_twice : (cables : List (Option ℕ × Option ℕ)) → AreCables cables → All (λ cable. length (cable_letters cable) ≢ 1) cables → NoLetterTwice (pairs_of cables)
 no_letter_twice cables h whole = grind (arith, letters_of_pairs, recursion_from_All)
@@ -134,9 +129,7 @@ apart_at (pair ∷ pairs) (suc k) d h below = apart_at pairs k d h.1.1 (omega ar
 one_letter : (pairs : List (ℕ × ℕ)) (cable : Option ℕ × Option ℕ) (letter : ℕ) → NoLetterTwice pairs → ((x : ℕ) → Contains (cable_letters cable) x → x ≡ letter) → Any (Joins cable) pairs → ⊥
 one_letter pairs cable letter apart only there =
     let pair = there.1 in
-    let first = only pair.0 ((there.4.letters pair.0).1 (0, omega arith, refl)) in
-    let second = only pair.1 ((there.4.letters pair.1).1 (1, omega arith, refl)) in
-    apart_at pairs there.0 pair apart there.2 (ap (λ (p : ℕ × ℕ). p.0) there.3 ∙ first ∙ sym second ∙ sym (ap (λ (p : ℕ × ℕ). p.1) there.3))
+    grind (arith, only pair.0, only pair.1, there.4.letters pair.0, there.4.letters pair.1, apart_at pairs there.0 pair apart there.2)
 
 whole_cable : (pairs : List (ℕ × ℕ)) (cable : Option ℕ × Option ℕ) → NoLetterTwice pairs → IsPaired pairs cable → length (cable_letters cable) ≢ 1
 whole_cable pairs (Some a, None) apart paired one = one_letter pairs (Some a, None) a apart (of_one a) (paired.joins (λ none. cc))

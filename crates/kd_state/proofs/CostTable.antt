@@ -46,19 +46,17 @@ column_holds_two : (column : Option (ℕ × ℕ)) → length (column_letters col
 column_holds_two column = grind arith
 
 pub at_most_four : (cable : Option ℕ × Option ℕ) (column : Option (ℕ × ℕ)) → cable_cost cable column ≤ 4
-at_most_four cable column = grind (arith, joined_counts, differ_fits, at_most_all, cable_holds_two, column_holds_two)
+at_most_four cable column = grind (arith, joined_counts, differ_fits, at_most_all)
 
 -- ---- a day's pairs, and then nothings; and letters by the tests that hold of them
 
 nothings : (number place : ℕ) → get_or (replicate {A = Option (ℕ × ℕ)} number None) place None ≡ None
 nothings zero place = refl
-nothings (suc number) zero = refl
-nothings (suc number) (suc place) = nothings number place
+nothings (suc number) place = grind (arith, common_steps, nothings number)
 
 pairs_at : (pairs : List (ℕ × ℕ)) (number place : ℕ) → get_or (map Some pairs ++ replicate number None) place None ≡ slice_get pairs place
 pairs_at [] number place = nothings number place
-pairs_at (pair ∷ pairs) number zero = refl
-pairs_at (pair ∷ pairs) number (suc place) = pairs_at pairs number place
+pairs_at (pair ∷ pairs) number place = grind (arith, pairs_at pairs number)
 
 pub columns_are_the_pairs : ColumnsAreThePairs
 columns_are_the_pairs pairs place = pairs_at pairs (13 - length pairs) place

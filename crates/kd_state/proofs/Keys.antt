@@ -66,11 +66,10 @@ rotor_key : (m : RotorParts) (s : RotorDay) (window : List ℕ) → AreCables m.
     → key_with_window (physical_key (Rotor m)) window ≡ key_with_window (sheet_key (OfRotors s)) window
 rotor_key m s window cables legal h =
     let wheels = wheels_of_slots m s.wheels h.slots in
-    let rings = ap (filter_map (ring_at m)) wheels
-    ∙ read_all (ring_at m) (λ w. w.ring) s.wheels (recursion_from_All (λ (w : SheetWheel). ring_at m w.wheel ≡ Some w.ring) s.wheels h.rings) in
+    let rings = read_all (ring_at m) (λ w. w.ring) s.wheels (recursion_from_All (λ (w : SheetWheel). ring_at m w.wheel ≡ Some w.ring) s.wheels h.rings) in
     let whole = whole_cables m.cables s.pairs legal.pairs.apart h.cables in
     let plugs = same_pairs_exchange_alike (plugged_pairs m) s.pairs (no_letter_twice m.cables cables whole) legal.pairs.apart (pairs_joined m.cables s.pairs whole h.cables) in
-    λ i. OfWheels (record { wheels = wheels i; rings = rings i; window = window; reflector = h.reflector i; plugs = plugs i })
+    grind (arith, wheels, rings, h.reflector, plugs)
 
 -- bars that read as the same rows in another order are met as often
 converter_alike : (pins : List (List Bool)) (letters : List ℕ) (rows others : List (ℕ × ℕ)) (text : List ℕ) → IsPermutation rows others
@@ -80,10 +79,7 @@ converter_alike pins letters rows others text moved = grind (arith, sum_by-IsPer
 key_on_key : (m : Parts) (s : Day) (window text : List ℕ) → IsMachine m → IsLegalDay s → OnKey m s
     → cipher (key_with_window (physical_key m) window) text ≡ cipher (key_with_window (sheet_key s) window) text
 key_on_key (Rotor m) (OfRotors s) window text machine legal h = ap (λ key. cipher key text) (rotor_key m s window machine.legal.cables legal h)
-key_on_key (Pin m) (OfPins s) window text machine legal h =
-    ap (λ pins. converter_cipher (record { pins = pins_of pins; letters = window; rows = map (λ bar. reading_of bar.0 bar.1) m.bars }) text) h.pins
-    ∙ converter_alike (pins_of s.pins) window (map (λ bar. reading_of bar.0 bar.1) m.bars) s.rows text h.rows
-key_on_key m s window text machine legal h = absurd h
+key_on_key m s window text machine legal h = grind (arith, converter_alike)
 
 pub on_key_cipher : OnKeyIsItsCipher
 on_key_cipher m s text machine legal h =
@@ -110,16 +106,11 @@ equally_set m n s text machine other legal h k same letters =
 
 -- turned to other letters
 pub turned_on_key : TurnedIsOnKey
-turned_on_key (Rotor m) (Rotor n) (OfRotors s) window turned h =
-    subst (λ (k : RotorParts). IsRotorOnKey k s) (sym turned.0) (record { model = h.model; slots = h.slots; rings = h.rings; reflector = h.reflector; cables = h.cables })
-turned_on_key (Pin m) (Pin n) (OfPins s) window turned h = subst (λ (k : PinParts). IsPinOnKey k s) (sym turned) (record { pins = h.pins; rows = h.rows })
 turned_on_key m n s window turned h = grind arith
 
 -- the key of the turned machine, but for the letters that it shows
 pub turned_key : TurnedHasItsKey
-turned_key (Rotor m) (Rotor n) window turned = grind (arith, Rotor)
-turned_key (Pin m) (Pin n) window turned = ap (λ (k : PinParts). physical_key (Pin k)) turned
-turned_key m n window turned = absurd turned
+turned_key m n window turned = grind (arith, Rotor, Pin)
 
 -- so an engine with the machine's key, turned to other letters, enciphers as the turned machine
 pub turned_engine : TurnedEngineIsTheTurnedMachine

@@ -25,10 +25,10 @@ use Rattle.kd_state.proofs.Wheels.{named, told, one_wheel, one_reflector}
 -- ---- the part before a byte
 
 none_is : (byte : ℕ) (text : List ℕ) → IsWithout byte text → All (λ b. eqb b byte ≡ false) text
-none_is byte text h = All-weaker (λ b. b ≢ byte) (λ b. eqb b byte ≡ false) (λ b. ne_eqb b byte) text h
+none_is byte text h = grind (arith, All-weaker, ne_eqb)
 
 split_off : (byte : ℕ) (part rest : List ℕ) → IsWithout byte part → slice_split (λ b. eqb b byte) (part ++ byte ∷ rest) ≡ part ∷ slice_split (λ b. eqb b byte) rest
-split_off byte part rest h = slice_split_at (λ b. eqb b byte) part byte rest (none_is byte part h) (eq-eqb byte byte refl)
+split_off byte part rest h = grind (arith, slice_split_at, none_is, eq-eqb)
 
 pub texts_tell_first_parts : TextsTellFirstParts
 texts_tell_first_parts byte first other rest more a b e =
@@ -37,8 +37,8 @@ texts_tell_first_parts byte first other rest more a b e =
 -- ---- words
 
 split_line : (word : List ℕ) (words : List (List ℕ)) → AllByRecursion IsWord (word ∷ words) → words_of (line_of (word ∷ words)) ≡ word ∷ words
-split_line word [] a = slice_split_none (λ b. eqb b 32) word (none_is 32 word a.0.spaceless)
-split_line word (next ∷ words) a = split_off 32 word (line_of (next ∷ words)) a.0.spaceless ∙ ap (λ parts. word ∷ parts) (split_line next words a.1)
+split_line word [] a = grind (arith, slice_split_none, none_is)
+split_line word (next ∷ words) a = grind (arith, split_off 32 word (line_of (next ∷ words)), split_line next words a.1)
 
 pub lines_split_into_words : LinesSplitIntoWords
 lines_split_into_words [] filled a = absurd (filled refl)
@@ -69,7 +69,7 @@ words_make_one_line words a = one_line words (recursion_from_All IsWord words a)
 -- what is appended to a list of texts, is to what they hold
 pub appended : (words more : List (Bor (List ℕ))) (word : Bor (List ℕ)) → more ≡ words ++ word ∷ []
     → map (λ (w : Bor (List ℕ)). w.now) more ≡ map (λ (w : Bor (List ℕ)). w.now) words ++ word.now ∷ []
-appended words more word e = ap (map (λ (w : Bor (List ℕ)). w.now)) e ∙ map_push (λ (w : Bor (List ℕ)). w.now) words word
+appended words more word e = grind (arith, map_push)
 
 -- words that are taken and the words of the rest are those of the line
 pub record AreTaken (line rest : List ℕ) (taken : List (List ℕ)) : Type 0 where
@@ -84,7 +84,7 @@ one_more_taken line text word rest taken a first = record {
 }
 
 pub last_taken : (line rest : List ℕ) (taken : List (List ℕ)) → AreTaken line rest taken → IsWithout 32 rest → taken ++ rest ∷ [] ≡ words_of line
-last_taken line rest taken a without = ap (λ words. taken ++ words) (sym (slice_split_none (λ b. eqb b 32) rest (none_is 32 rest without))) ∙ a.joined
+last_taken line rest taken a without = grind (arith, slice_split_none, none_is)
 
 pub more_words : (line rest : List ℕ) (taken : List (List ℕ)) → AreTaken line rest taken → length taken < length (words_of line)
 more_words line rest taken a = search (rules, length-append, length-slice_split)
@@ -128,10 +128,7 @@ pub only_number : {E : Type 0} (bs : List ℕ) (r : Result ℕ E) (m : ℕ) (tes
     → Decides test (decimal m ≡ bs)
     → MatchOption (then_some test m) ((number : ℕ) → number < 2 ^ 16 → decimal number ≢ bs) (λ number. decimal number ≡ bs)
 only_number bs r m true h some d = d.0 refl
-only_number bs r m false h some d = λ number small e.
-    let read : r ≡ Ok number = parse-decimal 16 number bs r small (omega arith) (sym e) h in
-    let is : m ≡ number = cc in
-    false≢true (d.1 (ap decimal is ∙ e))
+only_number bs r m false h some d = λ number small e. grind (arith, parse-decimal 16 number bs r small, d)
 
 pub ruleset splitting = (common_steps, eqb-true, more_words, appended, one_more_taken, last_taken)
 
@@ -147,19 +144,19 @@ same_pin : (x y : Bool) → pin_text x ≡ pin_text y → x ≡ y
 same_pin x y e = grind arith
 
 wheel_is_word : (x : Wheel) → IsWord (wheel_text x)
-wheel_is_word x = elim x as (λ w. IsWord (wheel_text w)) [ I ↦ word_by_test _ _ refl | _ ↦ word_by_test _ _ refl ]
+wheel_is_word x = grind (arith, word_by_test)
 
 reflector_is_word : (x : Reflector) → IsWord (reflector_text x)
-reflector_is_word x = elim x as (λ r. IsWord (reflector_text r)) [ A ↦ word_by_test _ _ refl | _ ↦ word_by_test _ _ refl ]
+reflector_is_word x = grind (arith, word_by_test)
 
 place_is_word : (x : Place) → IsWord (place_text x)
-place_is_word x = elim x as (λ p. IsWord (place_text p)) [ One ↦ word_by_test _ _ refl | _ ↦ word_by_test _ _ refl ]
+place_is_word x = grind (arith, word_by_test)
 
 lug_is_word : (x : Lug) → IsWord (lug_text x)
-lug_is_word x = elim x as (λ l. IsWord (lug_text l)) [ Left ↦ word_by_test _ _ refl | _ ↦ word_by_test _ _ refl ]
+lug_is_word x = grind (arith, word_by_test)
 
 pin_is_word : (x : Bool) → IsWord (pin_text x)
-pin_is_word x = elim x as (λ p. IsWord (pin_text p)) [ true ↦ word_by_test _ _ refl | _ ↦ word_by_test _ _ refl ]
+pin_is_word x = grind (arith, word_by_test)
 
 byte_is_word : (n : ℕ) → n < 2 ^ 8 → IsWord (decimal n)
 byte_is_word n small = numbers_are_words n (omega arith)
@@ -174,10 +171,10 @@ pub setting_words_are_words : (x : Setting) → IsInRange x → All IsWord (sett
 setting_words_are_words x r = All-from_recursion IsWord (setting_words x) (words_are_words x r)
 
 same_number : (m n : ℕ) → m < 2 ^ 8 → n < 2 ^ 8 → decimal m ≡ decimal n → m ≡ n
-same_number m n small other e = decimal_injective m n (omega arith) (omega arith) e
+same_number m n small other e = grind (arith, decimal_injective)
 
 same_letter : (l m : ℕ) → letter_text l ≡ letter_text m → l ≡ m
-same_letter l m e = let places : l + 65 ≡ m + 65 = cc in omega arith
+same_letter l m e = grind arith
 
 pub same_settings : (x y : Setting) → IsInRange x → IsInRange y → setting_words x ≡ setting_words y → x ≡ y
 same_settings x y e d g =
@@ -186,7 +183,7 @@ same_settings x y e d g =
 -- ---- what the words of a form are
 
 pub setting_has_words : (x : Setting) → (2 ≤ length (setting_words x)) × (length (setting_words x) ≤ 4)
-setting_has_words x = elim x as (λ y. (2 ≤ length (setting_words y)) × (length (setting_words y) ≤ 4)) [ Pull c l ↦ (omega arith, omega arith) | _ ↦ (omega arith, omega arith) ]
+setting_has_words x = grind arith
 
 -- ---- the words of a text that is a setting's line
 
@@ -194,7 +191,7 @@ words_of_line : (x : Setting) (text : List ℕ) → IsInRange x → setting_line
 words_of_line x text r e = grind (arith, setting_has_words, lines_split_into_words, setting_words_are_words)
 
 pub too_many_words : (text : List ℕ) → 4 < length (words_of text) → (x : Setting) → IsInRange x → setting_line x ≢ text
-too_many_words text many x r e = omega (arith, (setting_has_words x).1, ap length (words_of_line x text r e), many)
+too_many_words text many x r e = grind (arith, setting_has_words, words_of_line)
 
 pub read_by_words : (text : List ℕ) (words : List (List ℕ)) (r : Option Setting) → words ≡ words_of text → IsReadOff words r
     → MatchOption r ((x : Setting) → IsInRange x → setting_line x ≢ text) (λ x. setting_line x ≡ text)
@@ -212,7 +209,7 @@ pub text_of_more : (x : Setting) (xs : List Setting) (rest : List ℕ) → list_
 text_of_more x xs rest = grind (arith, append_assoc)
 
 nothing_begins : BeginsWithNoLine []
-nothing_begins x rest r e = omega (arith, length-append (setting_line x) (10 ∷ rest), ap length e)
+nothing_begins x rest r e = grind (arith, length-append, ap length e)
 
 -- one line at the front
 same_first : (x y : Setting) (xs ys : List Setting) (rest more : List ℕ) → IsInRange x → IsInRange y → list_text (x ∷ xs) ++ rest ≡ list_text (y ∷ ys) ++ more
@@ -234,9 +231,8 @@ same_lists (x ∷ xs) (y ∷ ys) rest more r s e none nor = grind (arith, same_f
 longest : (xs ys : List Setting) (rest more : List ℕ) → AllByRecursion IsInRange xs → AllByRecursion IsInRange ys → list_text xs ++ rest ≡ list_text ys ++ more
     → BeginsWithNoLine rest → length ys ≤ length xs
 longest xs [] rest more r s e none = omega arith
-longest [] (y ∷ ys) rest more r s e none = absurd (none y (list_text ys ++ more) s.0 (e ∙ text_of_more y ys more))
-longest (x ∷ xs) (y ∷ ys) rest more r s e none =
-    omega (arith, longest xs ys rest more r.1 s.1 (same_first x y xs ys rest more r.0 s.0 e).1 none)
+longest [] (y ∷ ys) rest more r s e none = grind (arith, none, text_of_more)
+longest (x ∷ xs) (y ∷ ys) rest more r s e none = grind (arith, same_first, longest xs ys rest more r.1 s.1)
 
 -- ---- what is read, line by line
 
@@ -246,8 +242,7 @@ one_more bytes xs rest x after b l = grind (arith, common_steps, text_of_more, a
 
 pub no_line_without_break : (bytes : List ℕ) → IsWithout 10 bytes → BeginsWithNoLine bytes
 no_line_without_break bytes without x rest r e =
-    without (length (setting_line x)) 0 (omega (arith, length-append (setting_line x) (10 ∷ rest), ap length e))
-    (ap (λ t. get_or t (length (setting_line x)) 0) e ∙ get_or_at (setting_line x) 10 rest 0 (length (setting_line x)) refl)
+    grind (arith, common_steps, length-append, get_or_at, without (length (setting_line x)) 0)
 
 pub no_line_by_first : (bytes line rest : List ℕ) → IsFirstPart 10 bytes line rest → ((x : Setting) → IsInRange x → setting_line x ≢ line) → BeginsWithNoLine bytes
 no_line_by_first bytes line rest first none x other r e = grind (arith, texts_tell_first_parts, line_has_no_break, none)
@@ -255,7 +250,7 @@ no_line_by_first bytes line rest first none x other r e = grind (arith, texts_te
 -- ---- laws
 
 begins : (bytes : List ℕ) (xs : List Setting) → IsList bytes xs → BeginsWith bytes xs []
-begins bytes xs l = record { lines = l.text ∙ sym (append-nil (list_text xs)); in_range = l.in_range }
+begins bytes xs l = grind (arith, append-nil)
 
 pub same_end : (bytes : List ℕ) (xs ys : List Setting) (rest more : List ℕ) → BeginsWith bytes xs rest → BeginsWith bytes ys more
     → BeginsWithNoLine rest → BeginsWithNoLine more → (xs ≡ ys) × (rest ≡ more)

@@ -33,16 +33,13 @@ is_seat m (Some wheel) w e =
 
 pub are_seats : (m : RotorParts) (slots : List (Option Wheel)) (wheels : List SheetWheel) → map Some wheels ≡ map (seated_wheel m) slots → AreSeats m slots wheels
 are_seats m [] [] e = record { slots = refl; rings = tt; letters = tt }
-are_seats m (seat ∷ slots) (w ∷ wheels) e =
-    let here = is_seat m seat w cc in
-    let rest = are_seats m slots wheels cc in
-    record { slots = λ i. here.wheel i ∷ rest.slots i; rings = (here.ring, rest.rings); letters = (here.letter, rest.letters) }
+are_seats m (seat ∷ slots) (w ∷ wheels) e = grind (arith, is_seat, are_seats m slots wheels)
 are_seats m slots wheels e = cc
 
 -- filled slots
 pub wheels_seated : (wheels : List SheetWheel) → filter_map (λ (seated : Option Wheel). seated) (seats wheels) ≡ map (λ w. w.wheel) wheels
 wheels_seated [] = refl
-wheels_seated (w ∷ wheels) = ap (λ rest. w.wheel ∷ rest) (wheels_seated wheels)
+wheels_seated (w ∷ wheels) = grind (arith, filter_map, wheels_seated wheels)
 
 pub all_seated : (slots : List (Option Wheel)) (wheels : List SheetWheel) → slots ≡ seats wheels → All (λ seated. IsSome seated) slots
 all_seated slots wheels e =
@@ -55,7 +52,7 @@ read_all f view [] h = refl
 read_all f view (w ∷ wheels) h = grind (arith, filter_map, read_all f view wheels h.1)
 
 pub wheels_of_slots : (m : RotorParts) (wheels : List SheetWheel) → m.slots ≡ seats wheels → seated_wheels m ≡ map (λ w. w.wheel) wheels
-wheels_of_slots m wheels e = ap (filter_map (λ (seated : Option Wheel). seated)) e ∙ wheels_seated wheels
+wheels_of_slots m wheels e = grind (arith, wheels_seated)
 
 pub key_of_seats : (m : RotorParts) (wheels : List SheetWheel) → AreSeats m m.slots wheels
     → physical_key (Rotor m) ≡ OfWheels (key_of_wheels wheels m.reflector (exchange (plugged_pairs m)))
@@ -124,8 +121,7 @@ module _ (place : Wheel → ℕ) where
 each_standing : (Q : Wheel → Type 0) (slots : List (Option Wheel)) → ((k : ℕ) (wheel : Wheel) → StandsAt slots k wheel → Q wheel)
     → AllByRecursion Q (filter_map (λ seated. seated) slots)
 each_standing Q [] h = tt
-each_standing Q (None ∷ slots) h = each_standing Q slots (λ k. h (suc k))
-each_standing Q (Some wheel ∷ slots) h = (h zero wheel refl, each_standing Q slots (λ k. h (suc k)))
+each_standing Q (seat ∷ slots) h = grind (arith, filter_map, each_standing Q slots (λ k. h (suc k)), h zero)
 
 places_apart : (model : Model) (slots : List (Option Wheel)) → AreApart slots → ((k : ℕ) (wheel : Wheel) → StandsAt slots k wheel → Contains (box_of model) wheel)
     → HavePlaces (place_in_box model) (filter_map (λ seated. seated) slots)

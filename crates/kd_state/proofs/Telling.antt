@@ -11,9 +11,8 @@ use Rattle.std.proofs.{Common.IfSome, lemmas.List.FromFn.get_or-map-range_with_l
 
 same_slices : {X : Type 0} (xs ys : List X) → ((place : ℕ) → slice_get xs place ≡ slice_get ys place) → xs ≡ ys
 same_slices [] [] same = refl
-same_slices [] (y ∷ ys) same = absurd (none-some y (same 0))
-same_slices (x ∷ xs) [] same = absurd (none-some x (sym (same 0)))
 same_slices (x ∷ xs) (y ∷ ys) same = grind (arith, same 0, same_slices xs ys (λ place. same (suc place)))
+same_slices xs ys same = grind (arith, same 0)
 
 same_numbered : {X : Type 0} (xs ys : List X) → ((number : ℕ) → numbered xs number ≡ numbered ys number) → xs ≡ ys
 same_numbered xs ys same = same_slices xs ys (λ place. same (suc place))
@@ -94,10 +93,7 @@ kept_alike m n o thing = grind arith
 -- two machines are alike that differ from a third at one thing at most, and are alike there
 alike_but : (thing : Thing) (m n o : Parts) → SetsOnly thing m n → SetsOnly thing m o → IsKept o n thing
     → (other : Thing) → IsKept o n other
-alike_but thing m n o one two here other = elim (cases_thing thing other) [
-  | inl e ↦ subst (IsKept o n) (sym e) here
-  | inr ne ↦ kept_alike m n o other (one.others other ne) (two.others other ne)
-]
+alike_but thing m n o one two here other = grind (arith, cases_thing thing other, kept_alike m n o other, one.others, two.others, here)
 
 -- ---- a cable is told by the letters in it
 
@@ -128,7 +124,6 @@ same_cable : (cable other : Option ℕ × Option ℕ) → IsInOrder cable → Is
     → ((letter : ℕ) → has_letter (cable_letters cable) letter ≡ has_letter (cable_letters other) letter) → cable ≡ other
 same_cable (None, Some x) other one two same = absurd (first_is_some x one.ordered)
 same_cable cable (None, Some y) one two same = absurd (first_is_some y two.ordered)
-same_cable (None, None) (None, None) one two same = refl
 same_cable (None, None) (Some y, end) one two same = let at = same y in absurd (grind (arith, nat_tests))
 same_cable (Some x, end) (None, None) one two same = let at = same x in absurd (grind (arith, nat_tests))
 same_cable cable other one two same = grind (arith, common_steps, in_turn, same)
@@ -136,9 +131,8 @@ same_cable cable other one two same = grind (arith, common_steps, in_turn, same)
 by_found : (found other : Option (Option ℕ × Option ℕ)) → is_none found ≡ is_none other → IfSome found IsInOrder
     → IfSome other IsInOrder
     → SameLetters (option_map_or cable_letters found []) (option_map_or cable_letters other []) → found ≡ other
-by_found None None size one two same = refl
 by_found (Some cable) (Some other) size one two same = ap Some (same_cable cable other one two ((tests_tell_letters _ _).0 same))
-by_found found other size one two same = absurd (cc)
+by_found found other size one two same = grind arith
 
 no_converter : (m : RotorParts) → IsLegalRotor m → m.model ≡ M209 → ⊥
 no_converter m l e = let none = subst (λ model. Contains (reflectors_of model) m.reflector) e l.reflector in omega (arith, none.1)
@@ -158,22 +152,9 @@ cases_held wheel held = grind (arith, cases_wheel)
 
 seats_alike : (m n o : Parts) (slot : ℕ) (wheel : Wheel) → Seats m slot wheel n → Seats m slot wheel o
     → (thing : Thing) → IsKept o n thing
-seats_alike m n o slot wheel one two (TheSlot other) = elim (cases_eq other slot) [
-  | inl e ↦ rw e (one.here ∙ sym two.here)
-  | inr ne ↦ elim (cases_held wheel (slot_in m other)) [
-    | inl held ↦ one.left other ne held ∙ sym (two.left other ne held)
-    | inr not_held ↦
-        let free : ¬ (IsSeatOf m slot wheel (TheSlot other)) = λ touched. elim touched [
-          | inl e ↦ ne cc
-          | inr (place, e, held) ↦ not_held (let same : other ≡ place = cc in rw same held)
-        ]
-        in
-        kept_alike m n o (TheSlot other) (one.others.others (TheSlot other) free) (two.others.others (TheSlot other) free)
-  ]
-]
-seats_alike m n o slot wheel one two thing =
-    let free : ¬ (IsSeatOf m slot wheel thing) = λ touched. elim touched [ inl e ↦ cc | inr (place, e, held) ↦ cc ] in
-    kept_alike m n o thing (one.others.others thing free) (two.others.others thing free)
+seats_alike m n o slot wheel one two (TheSlot other) =
+    grind (arith, cases_eq other slot, cases_held wheel (slot_in m other), one.left other, two.left other, kept_alike m n o (TheSlot other), one.others.others (TheSlot other), two.others.others (TheSlot other))
+seats_alike m n o slot wheel one two thing = grind (arith, kept_alike m n o thing, one.others.others thing, two.others.others thing)
 
 turns_alike : (m n o : Parts) (slot letter : ℕ) → Turns m slot letter n → Turns m slot letter o → (thing : Thing)
     → IsKept o n thing
@@ -189,7 +170,7 @@ bar_alike : (lug : Lug) (bar other : Option (Place × Place))
 bar_alike lug bar other moved stays = grind (arith, same_Some)
 
 both_ways_same : {A B C : Type 0} → A ↔ B → C ↔ B → A ↔ C
-both_ways_same one two = (λ a. two.1 (one.0 a), λ c. one.1 (two.0 c))
+both_ways_same one two = grind arith
 
 made_alike : (m n o : Parts) (x : Setting) → IsMachine n → IsMachine o → Makes m x n → Makes m x o → (thing : Thing)
     → IsKept o n thing

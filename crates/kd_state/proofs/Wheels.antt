@@ -21,14 +21,14 @@ abbrev pub named : {T : Type 0} → (T → List ℕ) → List T → T → List �
 named name all d text = unwrap_or (find (λ x. bytes_eq (name x) text) all) d
 
 pub told : {T : Type 0} (name : T → List ℕ) (back : List ℕ → T) → ((x : T) → back (name x) ≡ x) → (x y : T) → name x ≡ name y → x ≡ y
-told name back undone x y e = sym (undone x) ∙ ap back e ∙ undone y
+told name back undone x y e = grind (arith, undone)
 
 wheels : List Wheel
 wheels = I ∷ II ∷ III ∷ IV ∷ V ∷ VI ∷ VII ∷ VIII ∷ Beta ∷ Gamma ∷ []
 
 pub one_wheel : (x y : Wheel) → wheel_text x ≡ wheel_text y → x ≡ y
 unfolding wheels
-one_wheel = told wheel_text (named wheel_text wheels I) (λ x. elim x as (λ w. named wheel_text wheels I (wheel_text w) ≡ w) [ I ↦ refl | _ ↦ refl ])
+one_wheel = grind (arith, told)
 
 all_reflectors : List Reflector
 all_reflectors = reflectors.A ∷ reflectors.B ∷ reflectors.C ∷ reflectors.ThinB ∷ reflectors.ThinC ∷ []
@@ -45,10 +45,10 @@ pub same_reflector-Decides : (reflector other : Reflector) → Decides (same_ref
 same_reflector-Decides reflector other = grind (arith, Decides-like, one_reflector, bytes_eq-Decides)
 
 pub same_wheel_self : (wheel : Wheel) → same_wheel wheel wheel ≡ true
-same_wheel_self wheel = (same_wheel-Decides wheel wheel).1 refl
+same_wheel_self wheel = grind (arith, same_wheel-Decides)
 
 pub same_wheel_differs : (wheel other : Wheel) → wheel ≢ other → same_wheel wheel other ≡ false
-same_wheel_differs wheel other h = false_from_ne_true (same_wheel wheel other) (λ e. h ((same_wheel-Decides wheel other).0 e))
+same_wheel_differs wheel other h = grind (arith, false_from_ne_true, same_wheel-Decides)
 
 -- the wheel is one of these, and the reflector is
 pub has_wheel-Decides : (wheels : List Wheel) (wheel : Wheel) → Decides (has_wheel wheels wheel) (Contains wheels wheel)
@@ -67,7 +67,7 @@ first_nowhere p [] h = refl
 first_nowhere p (x ∷ xs) h = grind (arith, cases_Bool, first_nowhere p xs)
 
 pub place_within : (model : Model) (wheel : Wheel) → Contains (box_of model) wheel → place_in_box model wheel < length (box_of model)
-place_within model wheel h = first_within (same_wheel wheel) (box_of model) ((has_wheel-Decides (box_of model) wheel).1 h)
+place_within model wheel h = grind (arith, first_within, has_wheel-Decides)
 
 pub place_nowhere : (model : Model) (wheel : Wheel) → ¬ (Contains (box_of model) wheel) → place_in_box model wheel ≡ length (box_of model)
 place_nowhere model wheel h = grind (arith, first_nowhere, false_from_ne_true, has_wheel-Decides)
@@ -91,11 +91,10 @@ placed_in_m4 false slot wheel e h = grind (arith, in_some, lies_in_both, Contain
 
 pub placed : (model : Model) (slot : ℕ) (wheel : Wheel) → IsAllowed model slot wheel → IsPlaced model slot wheel
 placed M4 slot wheel h = placed_in_m4 (slot == 1) slot wheel refl h
-placed M209 slot wheel h = absurd (omega (arith, h.1))
 placed model slot wheel h = grind (arith, in_some, lies_in_both)
 
 pub lacks_wheel : (wheels : List Wheel) (wheel : Wheel) → ¬ (Contains wheels wheel) → has_wheel wheels wheel ≡ false
-lacks_wheel wheels wheel h = false_from_ne_true _ (λ e. h ((has_wheel-Decides wheels wheel).0 e))
+lacks_wheel wheels wheel h = grind (arith, false_from_ne_true, has_wheel-Decides)
 
 -- what `==` of the program says of a wheel of the box
 pub same_tested : (wheel other : Wheel) (b : Bool) → sameb the_type other wheel ≡ b → same_wheel wheel other ≡ b
@@ -120,7 +119,7 @@ pub places_tell_wheels : PlacesTellWheels
 places_tell_wheels model wheel other h k e = at_its_place model wheel h ∙ ap (λ place. get_or (box_of model) place I) e ∙ sym (at_its_place model other k)
 
 seated : (wheels : List SheetWheel) (i : ℕ) (d : SheetWheel) → i < length wheels → StandsAt (seats wheels) i (get_or wheels i d).wheel
-seated wheels i d lt = slice_get-map (λ w. Some w.wheel) wheels i ∙ ap (option_map (λ w. Some w.wheel)) (slice_get-get_or wheels i d lt)
+seated wheels i d lt = grind (arith, slice_get-map, slice_get-get_or)
 
 pub days_wheels_have_their_places : DaysWheelsHaveTheirPlaces
 days_wheels_have_their_places model wheels h i j d before within same =
@@ -134,11 +133,11 @@ seat_Decides : (one other : Option Wheel) → Decides (option_eq (sameb the_type
 seat_Decides one other = grind (arith, wheel_tested, same_Some)
 
 pub seats_Decides : (slots others : List (Option Wheel)) → Decides (pointwise (option_eq (sameb the_type)) slots others) (slots ≡ others)
-seats_Decides slots others = pointwise_decides seat_Decides slots others
+seats_Decides = grind (arith, pointwise_decides, seat_Decides)
 
 -- what a test goes by that goes along a list
 pub all_tested : {X : Type 0} (P : X → Type 0) (xs ys : List X) (b : Bool) → Decides b (AllByRecursion P xs) → xs ≡ ys → Decides b (All P ys)
-all_tested P xs ys b d e = (λ yes. subst (All P) e (All-from_recursion P xs (d.0 yes)), λ all. d.1 (recursion_from_All P xs (subst (All P) (sym e) all)))
+all_tested P xs ys b d e = grind (arith, All-from_recursion, recursion_from_All)
 
 -- the letters that the pin wheels show
 pub pin_letters_show : (p : Parts) (m : PinParts) (s : Day) (r : PinDay) → p ≡ Pin m → s ≡ OfPins r → (m.letters ≡ r.window) ↔ ShowsWindow p s

@@ -23,8 +23,7 @@ carries_to_one m n o x one other = one.made ∙ sym other.made
 
 pub leads_to_one : (m n o : Parts) (xs : List Setting) → Leads m xs n → Leads m xs o → n ≡ o
 leads_to_one m n o [] one other = one ∙ sym other
-leads_to_one m n o (x ∷ xs) one other =
-    leads_to_one one.0 n o xs one.2 (subst (λ (between : Parts). Leads between xs o) (carries_to_one m other.0 one.0 x other.1 one.1) other.2)
+leads_to_one m n o (x ∷ xs) one other = grind (arith, leads_to_one one.0 n o xs one.2, carries_to_one)
 
 -- a refusal by one test alone
 pub by_one_test : {P : Type 0} (may : Bool) (why : Why) → Decides may P → (first_reason ((not may, why) ∷ []) ≡ None) ↔ P
@@ -119,7 +118,7 @@ moved lug place found = grind (arith, none-some, no_reason, still_before, same_S
 -- ---- each setting
 
 never : {P : Type 0} → ¬ P → (first_reason ((true, OtherModel) ∷ []) ≡ None) ↔ P
-never other = (λ e. absurd (none-some _ (sym e)), λ may. absurd (other may))
+never other = grind (arith, none-some)
 
 pub refusals_are_told : RefusalsAreTold
 refusals_are_told (Rotor m) (Pull cable letter) h = pulled (numbered m.cables cable) letter

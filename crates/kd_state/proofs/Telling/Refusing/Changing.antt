@@ -36,8 +36,7 @@ first_reason reasons = option_map (λ reason. reason.1) (find (λ reason. reason
 -- where nothing is refused, no reason holds
 pub no_reason : (reasons : List (Bool × Why)) → first_reason reasons ≡ None → AllByRecursion (λ reason. reason.0 ≡ false) reasons
 no_reason [] e = tt
-no_reason ((false, why) ∷ rest) e = (refl, no_reason rest e)
-no_reason ((true, why) ∷ rest) e = absurd (none-some why (sym e))
+no_reason ((holds, why) ∷ rest) e = grind (arith, none-some, no_reason rest)
 
 -- the setting changes what it says, and makes a machine
 record IsCarried (m : Parts) (x : Setting) : Type 0 where
@@ -86,11 +85,7 @@ with_cable m cable new h o free = grind (arith, length-set, rotor_machine, map-s
 pub ordered_parts : (m : RotorParts) → IsLegalRotor m → IsMachine (cables_ordered (Rotor m))
 ordered_parts m l =
     let free = moved_free _ _ (all_ordered_move m.cables) (record { within = l.cables.within; apart = l.cables.apart }) in
-    let count = length-map m.cables (λ (cable : Option ℕ × Option ℕ). ordered cable.0 cable.1) ∙ l.cables.count in
-    let cables : AreCables (all_ordered m.cables) = record { count = count; within = free.within; apart = free.apart } in
-    rotor_machine (record m { cables = all_ordered m.cables })
-    (record { slots = l.slots; allowed = l.allowed; apart = l.apart; reflector = l.reflector; rings = l.rings; letters = l.letters; cables = cables })
-    (all_ordered_again m.cables)
+    grind (arith, rotor_machine, length-map, all_ordered_again)
 
 -- ---- slots
 
@@ -108,11 +103,7 @@ left_standing wheel other held e = grind (arith, same_Some, cases_Bool, none-som
 seat_cases : (slots : List (Option Wheel)) (at : ℕ) (wheel : Wheel) (place : ℕ) (other : Wheel) → StandsAt (set (map (without wheel) slots) at (Some wheel)) place other
     → ((place ≡ at) × (other ≡ wheel)) ⊎ (StandsAt slots place other × (other ≢ wheel))
 seat_cases slots at wheel place other stands =
-    let left = map (without wheel) slots in
-    elim (cases_eq place at) [
-      | inl e ↦ grind (arith, slice_get_within, stands, length-set, set_here, same_Some)
-      | inr ne ↦ inr (left_standing wheel other (slice_get slots place) (sym (slice_get-map (without wheel) slots place) ∙ sym (set_other left at place (Some wheel) ne) ∙ stands))
-    ]
+    grind (arith, cases_eq place at, slice_get_within, length-set, set_here, same_Some, left_standing, set_other, slice_get-map)
 
 -- ---- rings and window letters
 
