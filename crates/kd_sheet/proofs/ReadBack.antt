@@ -67,8 +67,7 @@ seat_again key model slots (Some wheel) may allowed apart k at =
     let before : length (take k slots) ≡ k = length-take-le k slots (omega arith) in
     let among_them = (has_wheel-Decides (wheels_for model (length (take k slots) + 1)) wheel).1 (rw before
     (allowed k wheel at)) in
-    let free : is_seated (take k slots) wheel ≡ false = false_from_ne_true _ (λ seated.
-    let among = (is_seated-Decides (take k slots) wheel).0 seated in
+    let free = not_seated (take k slots) wheel (λ among.
     let stands : slice_get slots among.0 ≡ Some (Some wheel) = grind (arith, common_steps, gets) in
     omega (arith, apart among.0 k wheel stands at, among.1)) in
     let named : (length (wheel_text wheel) == 0) ≡ false = grind arith in

@@ -240,19 +240,11 @@ module _ {A : Type 0} where
       (all : (items : List Data) → Gives (in_turn reading items) Holds) (key : Key) (count : ℕ) where
     pub each_read : (table : Members)
         → Gives (each_at key count reading table) (λ values. (length values ≡ count) × Holds values)
-    each_read table =
-        after_any (items_at key table) _ _ (λ items. tested (length items == count) _ _ _ (λ same values e. (
-          as_many reading items values e ∙ eqb-true _ _ same,
-          all items values e,
-        )))
+    each_read table values e = grind (arith, given, passed, eqb-true, as_many, all)
 
     pub some_read : (value : Data)
         → Gives (up_to key count reading value) (λ values. (length values ≤ count) × Holds values)
-    some_read value =
-        after_any (items_in key value) _ _ (λ items. tested (nat_le (length items) count) _ _ _ (λ few values e. (
-          omega (arith, as_many reading items values e, leb-true _ _ few),
-          all items values e,
-        )))
+    some_read value values e = grind (arith, given, passed, leb-true, as_many, all)
 
   -- things that are read again, by their texts
   pub again : (reading : List A → Data → Result A SheetFault) (text_of : A → List ℕ) (all : List A)
