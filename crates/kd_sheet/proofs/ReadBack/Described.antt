@@ -51,9 +51,7 @@ Fit lists = (place : ℕ) (d : List Bool) → place < length lists
 
 all_fit : (items : List Data) → Gives (in_turn pins_behind items) Fit
 all_fit items lists e place d within =
-    let few : place ≤ length lists = omega arith in
-    let read = read_at pins_behind items lists e place nothing d (omega (arith, as_many pins_behind items lists e)) in
-    rw length-take-le at (text_pins _ (get_or items place nothing) (get_or lists place d) read)
+    grind (arith, as_many, read_at pins_behind items lists e place nothing d, length-take-le, text_pins)
 
 pins_in_fit : (table : Members) → Gives (pins_in table) HasAllPins
 unfolding pins_in ring_of

@@ -127,11 +127,6 @@ pub after_any : {A B : Type 0} (first : Result A SheetFault) (next : A → Resul
     → ((x : A) → Gives (next x) Q) → Gives (first >>= next) Q
 after_any first next Q rest y e = let before = given first next y e in rest before.0 y before.2
 
--- of what is read once a test has passed
-pub tested : {B : Type 0} (test : Bool) (fault : SheetFault) (next : Result B SheetFault) (Q : B → Type 0)
-    → (test ≡ true → Gives next Q) → Gives (demand test fault >> next) Q
-tested test fault next Q rest y e = let both = passed test fault next y e in rest both.0 y both.1
-
 -- of what may be absent
 pub if_there : {A : Type 0} (there : Option Data) (reading : Data → Result A SheetFault) (none : A) (P : A → Type 0)
     → ((value : Data) → Gives (reading value) P) → P none → Gives (option_map_or reading there (Ok none)) P
@@ -220,8 +215,7 @@ module _ {A : Type 0} where
       → ((earlier : List A) (item : Data) (x : A) → reading earlier item ≡ Ok x → P x)
       → (items : List Data) → Gives (in_turn reading items) (All P)
   each_is reading P has items values e k d within =
-      has (take k values) (get_or items k nothing) (get_or values k d)
-      (read_at reading items values e k nothing d (omega (arith, as_many reading items values e)))
+      grind (arith, as_many, read_at reading items values e k nothing d, has)
 
   -- what holds of no values, and with each one that is read of one more, holds of all
   pub keeps : (reading : List A → Data → Result A SheetFault) (Holds : List A → Type 0) → Holds []
