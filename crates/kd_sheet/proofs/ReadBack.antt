@@ -456,7 +456,8 @@ pin_table m =
 pin_read : (m : PinParts) → IsLegalPin m → document_of (machine_text (Pin m)) ≡ Ok (pin_table m)
 unfolding machine_text define along_header along_dots at_key
 pin_read m legal =
-    let all_pins : AllByRecursion IsPlain (pin_texts m.pins) = grind (arith, pins_plain, recursion_from_All, ring_letters) in
+    let all_pins : AllByRecursion IsPlain (pin_texts m.pins) =
+    grind (arith, pins_plain, recursion_from_All, ring_letters) in
     let all : AllByRecursion IsWritten (pin_entries m) =
     search (rules, are_plain, all_pins, letters_below, legal.letters) in
     file_read (pin_entries m) (pin_table m) all refl
