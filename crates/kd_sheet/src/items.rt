@@ -10,7 +10,7 @@ use super::key::Key;
 use arrayvec::ArrayVec;
 use toml::{Table, Value};
 
-/// What an item of an array can be read as. `Given` is what else has to be known for it, as the array's key and the model.
+/// What an item of an array is read as. `Given` is what a reading has to know beside the items.
 pub trait FromItem<Given> {
     /// What an item is, given what the items before it are.
     ghost reading: { Given → List Self → Data → Result Self SheetFault };
