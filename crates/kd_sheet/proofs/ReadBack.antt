@@ -67,8 +67,7 @@ seat_again key model slots (Some wheel) may allowed apart k at =
     let before : length (take k slots) ≡ k = length-take-le k slots (omega arith) in
     let among_them = (has_wheel-Decides (wheels_for model (length (take k slots) + 1)) wheel).1 (rw before
     (allowed k wheel at)) in
-    let free : is_seated (take k slots) wheel ≡ false = false_from_ne_true _ (λ seated.
-    let among = (is_seated-Decides (take k slots) wheel).0 seated in
+    let free = not_seated (take k slots) wheel (λ among.
     let stands : slice_get slots among.0 ≡ Some (Some wheel) = grind (arith, common_steps, gets) in
     omega (arith, apart among.0 k wheel stands at, among.1)) in
     let named : (length (wheel_text wheel) == 0) ≡ false = grind arith in
@@ -457,7 +456,8 @@ pin_table m =
 pin_read : (m : PinParts) → IsLegalPin m → document_of (machine_text (Pin m)) ≡ Ok (pin_table m)
 unfolding machine_text define along_header along_dots at_key
 pin_read m legal =
-    let all_pins : AllByRecursion IsPlain (pin_texts m.pins) = grind (arith, pins_plain, recursion_from_All, ring_letters) in
+    let all_pins : AllByRecursion IsPlain (pin_texts m.pins) =
+    grind (arith, pins_plain, recursion_from_All, ring_letters) in
     let all : AllByRecursion IsWritten (pin_entries m) =
     search (rules, are_plain, all_pins, letters_below, legal.letters) in
     file_read (pin_entries m) (pin_table m) all refl

@@ -1,6 +1,5 @@
 //! How the bars of the Converter's drum stand, and what a sheet wants them to read as.
-ghost use Rattle.std.specs.Prelude.{◌≡◌, ◌+◌, is_some, IfSome};
-ghost use Rattle.std.specs.Option.{option_and_then};
+ghost use Rattle.std.specs.{Prelude.{◌≡◌, ◌+◌, is_some, IfSome}, Option.{option_and_then}};
 ghost use Rattle.toml.specs.{Data.{as_str}, View.{view, table_view}};
 ghost use Rattle.kd_sheet.specs.Bars.{standing_for, bars_in, is_figure, may_read, row_of_text, row_for, rows_in};
 ghost use Rattle.kd_sheet.specs.Names.{standing_by_text};

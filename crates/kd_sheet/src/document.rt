@@ -1,7 +1,6 @@
 //! The table of a document, and what stands in it at a key.
 ghost use Rattle.std.specs.Prelude.{◌≡◌, map, option_map};
-ghost use Rattle.toml.specs.Data.{get_member};
-ghost use Rattle.toml.specs.View.{view, table_view};
+ghost use Rattle.toml.specs.{Data.{get_member}, View.{view, table_view}};
 ghost use Rattle.kd_sheet.specs.Document.{Answers, result_map, document_of, value_at, text_at, items_in, items_at};
 ghost use Rattle.kd_sheet.specs.Key.{key_name};
 

@@ -10,7 +10,7 @@ use super::key::Key;
 use arrayvec::ArrayVec;
 use toml::{Table, Value};
 
-/// What the items of an array are read as, where it is given what holds of the whole array.
+/// What an item of an array is read as. `Given` is what a reading has to know beside the items.
 pub trait FromItem<Given> {
     /// What an item is, given what the items before it are.
     ghost reading: { Given → List Self → Data → Result Self SheetFault };

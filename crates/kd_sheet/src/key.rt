@@ -1,4 +1,5 @@
 ghost use Rattle.std.specs.Prelude.{◌≡◌, ◌≤◌, length};
+ghost use Rattle.kd_sheet.specs.Key.{key_name};
 
 /// A key of the files.
 #[derive(Clone, Copy, Debug, PartialEq, Eq)]
@@ -22,8 +23,6 @@ pub enum Key {
 }
 
 impl Key {
-    ghost use Rattle.kd_sheet.specs.Key.{key_name};
-
     /// The key as a file writes it.
     pub fn name(self) -> &'static str
         ensures value { result.now ≡ key_name self }

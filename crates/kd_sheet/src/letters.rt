@@ -1,6 +1,5 @@
 //! Texts of capital letters, and the letters that numbers stand for.
-ghost use Rattle.std.specs.Prelude.{◌≡◌, ◌<◌, ◌≤◌, length, map, IfSome, option_map};
-ghost use Rattle.std.specs.Option.{option_and_then};
+ghost use Rattle.std.specs.{Prelude.{◌≡◌, ◌<◌, ◌≤◌, length, map, IfSome, option_map}, Option.{option_and_then}};
 ghost use Rattle.toml.specs.{Data.{as_str}, View.{view}};
 ghost use Rattle.kd_tables.specs.Tables.{slots_of};
 ghost use Rattle.kd_sheet.specs.{Letters.{capital_letters}, Numbers.{numbered_letter, numbered_letters}};

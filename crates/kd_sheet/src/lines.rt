@@ -1,9 +1,7 @@
 //! The lines of a machine file, each with a key and its value.
-ghost use Rattle.std.specs.Prelude.{codes, ◌≡◌, ◌+◌, ◌*◌, ◌≤◌, ◌++◌, map, length};
-ghost use Rattle.std.specs.List.{flat_map, join_by};
+ghost use Rattle.std.specs.{Prelude.{codes, ◌≡◌, ◌+◌, ◌*◌, ◌≤◌, ◌++◌, map, length}, List.{flat_map, join_by}};
 ghost use Rattle.arrayvec.specs.ArrayString.{array_string_len};
-ghost use Rattle.kd_sheet.specs.Key.{key_name};
-ghost use Rattle.kd_sheet.specs.MachineText.{quoted, listed, key_line};
+ghost use Rattle.kd_sheet.specs.{Key.{key_name}, MachineText.{quoted, listed, key_line}};
 
 use super::item_text::ItemText;
 use super::key::Key;

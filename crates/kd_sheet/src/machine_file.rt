@@ -67,7 +67,7 @@ fn box_letters_in(table: &Table, key: Key, model: Model) -> Result<PerWheel<Lett
     Ok(PerWheel::new(letters.as_slice()).unwrap())
 }
 
-/// The parts of a rotor machine.
+/// The parts of a rotor machine, read in the order in which their keys are tested.
 #[tactic(auto, unfolding(crate::specs::MachineFile::rotor_parts_in))]
 fn rotor_parts_in(table: &Table, model: Model) -> Result<RotorParts, SheetFault>
     requires { 0 < slots_of model }
@@ -83,7 +83,7 @@ fn rotor_parts_in(table: &Table, model: Model) -> Result<RotorParts, SheetFault>
     })
 }
 
-/// The parts of a Converter M-209.
+/// The parts of a Converter M-209, read in the order in which their keys are tested.
 #[tactic(auto, unfolding(crate::specs::MachineFile::pin_parts_in))]
 fn pin_parts_in(table: &Table) -> Result<PinParts, SheetFault>
     ensures { result ≡ pin_parts_in (table_view table.now) }

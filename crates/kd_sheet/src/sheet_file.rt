@@ -2,8 +2,7 @@
 ghost use Rattle.std.specs.Prelude.{◌≡◌, map, List, IfOk};
 ghost use Rattle.toml.specs.View.{view, table_view};
 ghost use Rattle.kd_state.specs.SheetDay.{Day, IsDayNumber};
-ghost use Rattle.kd_sheet.specs.Document.{Answers, in_turn, result_map};
-ghost use Rattle.kd_sheet.specs.Sheet.{month_of};
+ghost use Rattle.kd_sheet.specs.{Document.{Answers, in_turn, result_map}, Sheet.{month_of}};
 ghost use Rattle.kd_sheet.specs.SheetFile.{new_number_in, day_for, sheet_of};
 
 use super::day_table::model_day_in;

@@ -1,13 +1,10 @@
 //! Writing the file of a machine.
-ghost use Rattle.std.specs.Prelude.{◌≡◌, ◌+◌, ◌<◌, ◌≤◌, ◌||◌, ◌++◌, map, length, is_err, Ok};
-ghost use Rattle.std.specs.List.{concat};
+ghost use Rattle.std.specs.{Prelude.{◌≡◌, ◌+◌, ◌<◌, ◌≤◌, ◌||◌, ◌++◌, map, length, is_err, Ok}, List.{concat}};
 ghost use Rattle.arrayvec.specs.ArrayString.{array_string_len};
-ghost use Rattle.kd_tables.specs.Places.{figure};
-ghost use Rattle.kd_tables.specs.Writing.{Writes};
-ghost use Rattle.kd_tables.specs.Text.{letters_text};
+ghost use Rattle.kd_tables.specs.{Places.{figure}, Writing.{Writes}, Text.{letters_text}};
 ghost use Rattle.kd_state.specs.Machine.{IsLegalRotor, IsLegalPin};
-ghost use Rattle.kd_sheet.specs.MachineFile.{machine_of};
-ghost use Rattle.kd_sheet.specs.MachineText.{quoted, key_line, version_of, pins_text, pin_texts, head_lines, machine_text};
+ghost use Rattle.kd_sheet.specs.{MachineFile.{machine_of}, MachineText.{quoted, key_line, version_of, pins_text}};
+ghost use Rattle.kd_sheet.specs.MachineText.{pin_texts, head_lines, machine_text};
 
 use super::item_text::Item;
 use super::key::Key;

@@ -1,5 +1,5 @@
--- The machine and the day that a table describes are legal; and the days that a sheet's entries describe are a month, each
--- at its number.
+-- The machine and the day that a table describes are legal; and the days that the entries of a sheet describe are a
+-- month, each at its number.
 pub mod Values
 unfoldable pub use Values.*
 use Rattle.toml.specs.Data as toml
@@ -51,9 +51,7 @@ Fit lists = (place : ℕ) (d : List Bool) → place < length lists
 
 all_fit : (items : List Data) → Gives (in_turn pins_behind items) Fit
 all_fit items lists e place d within =
-    let few : place ≤ length lists = omega arith in
-    let read = read_at pins_behind items lists e place nothing d (omega (arith, as_many pins_behind items lists e)) in
-    rw length-take-le at (text_pins _ (get_or items place nothing) (get_or lists place d) read)
+    grind (arith, as_many, read_at pins_behind items lists e place nothing d, length-take-le, text_pins)
 
 pins_in_fit : (table : Members) → Gives (pins_in table) HasAllPins
 unfolding pins_in ring_of
@@ -148,7 +146,7 @@ abbrev IsNew : List Day → ℕ → Type 0
 IsNew days number = list_any (λ other. day_number other == number) days ≡ false
 
 new_number : (days : List Day) (table : Members)
-    → Gives (new_number_in days table) (λ number. (number_in table ≡ Ok number) × IsDayNumber number × IsNew days number)
+    → Gives (new_number_in days table) (λ n. (number_in table ≡ Ok n) × IsDayNumber n × IsNew days n)
 unfolding new_number_in
 new_number days table number e = grind (arith, given, day_number_within, not-true)
 
@@ -216,7 +214,7 @@ put_day month place new before here left =
     rw (← at) (record {
       count = length-set month (day_number new - 1) (Some new) ∙ before.count;
       each = λ number day e.
-          grind (arith, cases_eq number (day_number new), numbered_here, numbered_other, same_Some, before.count, before.each);
+          grind (arith, cases_eq number (day_number new), numbered_here, numbered_other, same_Some, before.each);
     })
 
 -- the day at a place has its number

@@ -96,7 +96,7 @@ numbered_letters_within (item ∷ items) e = grind (arith, nat_tests, number_wit
 pub rings_in_letters : (model : Model) (table : Members) → Gives (rings_in model table) (AreLetters (slots_of model))
 unfolding rings_in
 rings_in_letters model table rings e =
-    grind (arith, nat_tests, given, there_was, some_if, capitals_are_letters, numbered_letters_within, All-from_recursion)
+    grind (arith, given, there_was, some_if, capitals_are_letters, numbered_letters_within, All-from_recursion)
 
 pub letters_at_are : (key : Key) (count : ℕ) (table : Members) → Gives (letters_at key count table) (AreLetters count)
 unfolding letters_at
@@ -110,9 +110,10 @@ pub is_seated-Decides : (slots : List (Option Wheel)) (wheel : Wheel)
 unfolding is_seated
 is_seated-Decides slots wheel =
     Decides-contains slots (Some wheel) _ (Decides-by_or (holds wheel) (λ seat. seat ≡ Some wheel)
-    (list_any (holds wheel)) (λ seat. grind (arith, Decides-like, same_Some, same_wheel-Decides)) refl (λ _ _. refl) slots)
+    (list_any (holds wheel)) (λ s. grind (arith, Decides-like, same_Some, same_wheel-Decides)) refl (λ _ _. refl) slots)
 
-pub not_seated : (slots : List (Option Wheel)) (wheel : Wheel) → ¬ Contains slots (Some wheel) → is_seated slots wheel ≡ false
+pub not_seated : (slots : List (Option Wheel)) (wheel : Wheel) → ¬ Contains slots (Some wheel)
+    → is_seated slots wheel ≡ false
 not_seated slots wheel free = grind (arith, is_seated-Decides slots wheel)
 
 pub ruleset seating = (not_seated, has_wheel-Decides)

@@ -32,28 +32,28 @@ pub use Rattle.std.proofs.Common.{cond, drop, false, filter_map, find, get_or, i
 pub use Rattle.std.proofs.Common.{map, nat_eq, nat_le, nat_lt, not, ok_or, option_map, pos, refl, replicate, rules, set}
 pub use Rattle.std.proofs.Common.{slice_get, slice_index, subst, suc, sym, take, true, zero, ℕ, ◌&&◌, ◌++◌, ◌+◌, ◌-◌}
 pub use Rattle.std.proofs.{Common.{◌<◌, ◌==◌, ◌||◌, ◌↔◌, ◌∙◌, ◌∷◌, ◌≡◌, ◌≢◌, ◌≤◌}, Math.Bool.{and-false, or-true}}
-pub use Rattle.std.proofs.lemmas.Bool.{cases_Bool, cases_eq, cases_lt, eq-eqb, eqb-false, eqb-true, false_from_ne_true}
-pub use Rattle.std.proofs.lemmas.Bool.{false≢true, le-leb, leb-true, ltb-true, ne_eqb, not-true, Decides.Decides-by_or}
-pub use Rattle.std.proofs.lemmas.{Bool.Decides.{Decides-like, nat_tests, not_from_Decides}, Grind.common_steps}
-pub use Rattle.std.proofs.lemmas.{Grind.get_or-set_at, List.{append-nil, drop_all, drop_more, get_or-map}}
-pub use Rattle.std.proofs.lemmas.List.{get_or-set_other, length-map, length-take-le, same_lists, take-append-drop}
-pub use Rattle.std.proofs.lemmas.List.{Concat.flat_map-append, Elements.{All-append, All-contains, All-from_recursion}}
-pub use Rattle.std.proofs.lemmas.List.Elements.{All-map, All-nil, All-weaker, Contains-get_or, Decides-contains}
-pub use Rattle.std.proofs.lemmas.List.{Elements.recursion_from_All, Folds.{find-append, list_all-append}}
-pub use Rattle.std.proofs.lemmas.List.FromFn.{get_or-enumerate_from, get_or-map-range_with_len, length-enumerate_from}
-pub use Rattle.std.proofs.lemmas.List.{FromFn.length-map-range_with_len, Sorted.IsPermutation-append_comm}
-pub use Rattle.std.proofs.lemmas.List.Sums.{AllPass-from_list_all, list_all-from_AllPass, sum_by-cons}
-pub use Rattle.std.proofs.lemmas.{Map.Keys.IsDistinct-IsPermutation, Option.{get_or_from_slice_get, gets, none-some}}
-pub use Rattle.std.proofs.lemmas.Option.{same_Some, slice_get-get_or, slice_get_cases, slice_get_within}
-pub use Rattle.std.proofs.lemmas.{Slice.Eq.bytes_eq-Decides, Str.{IsUtf8-from_ascii, IsUtf8-from_is_utf8}}
-pub use Rattle.std.{proofs.lemmas.Str.{is_utf8-from_IsUtf8, Ascii.IsAscii-from_all}, specs.Array.AllOfLen}
-pub use Rattle.std.specs.List.{AllByRecursion, concat, count_by, enumerate_from, flat_map, list_all, list_any}
-pub use Rattle.{std.specs.Option.{option_and_then, option_map_or}, toml.proofs.Lines.data_of_table}
-pub use Rattle.toml.{proofs.ReadLines.{AllPrinted, read_lines, run}, specs.Data.{Data, Members, array, as_array}}
-pub use Rattle.toml.specs.Data.{as_table, depth, get_member, has_valid_dates, integer, items_depth}
-pub use Rattle.toml.specs.{Data.{items_have_valid_dates, member, no_members, string}, Tables.{Expression, close}}
-pub use Rattle.toml.specs.{Tables.{key_value, no_nodes}, Text.{IsItemsText, IsLinesText, IsValueText}, View.array_view}
-pub use Rattle.toml.specs.{View.{items_of, table_view, view}, declared.value.Value.{Value, the_lemmas}}
+pub use Rattle.std.proofs.lemmas.Bool.{cases_Bool, cases_eq, cases_lt, eq-eqb, eqb-true, false≢true, le-leb, leb-true}
+pub use Rattle.std.proofs.lemmas.Bool.{ltb-true, ne_eqb, not-true, Decides.{Decides-by_or, Decides-like, nat_tests}}
+pub use Rattle.std.proofs.lemmas.{Grind.{common_steps, get_or-set_at}, List.{append-nil, drop_all, drop_more}}
+pub use Rattle.std.proofs.lemmas.List.{get_or-map, get_or-set_other, length-map, length-take-le, same_lists}
+pub use Rattle.std.proofs.lemmas.List.{take-append-drop, Concat.flat_map-append, Elements.{All-append, All-contains}}
+pub use Rattle.std.proofs.lemmas.List.Elements.{All-from_recursion, All-map, All-nil, All-weaker, Contains-get_or}
+pub use Rattle.std.proofs.lemmas.List.{Elements.{Decides-contains, recursion_from_All}, Folds.find-append}
+pub use Rattle.std.proofs.lemmas.List.{Folds.list_all-append, FromFn.{get_or-enumerate_from, get_or-map-range_with_len}}
+pub use Rattle.std.proofs.lemmas.List.FromFn.{length-enumerate_from, length-map-range_with_len}
+pub use Rattle.std.proofs.lemmas.List.{Sorted.IsPermutation-append_comm, Sums.AllPass-from_list_all}
+pub use Rattle.std.proofs.lemmas.{List.Sums.{list_all-from_AllPass, sum_by-cons}, Map.Keys.IsDistinct-IsPermutation}
+pub use Rattle.std.proofs.lemmas.Option.{get_or_from_slice_get, gets, none-some, same_Some, slice_get-get_or}
+pub use Rattle.std.proofs.lemmas.{Option.{slice_get_cases, slice_get_within}, Slice.Eq.bytes_eq-Decides}
+pub use Rattle.std.proofs.lemmas.Str.{IsUtf8-from_ascii, IsUtf8-from_is_utf8, is_utf8-from_IsUtf8}
+pub use Rattle.std.{proofs.lemmas.Str.Ascii.IsAscii-from_all, specs.{Array.AllOfLen, List.{AllByRecursion, concat}}}
+pub use Rattle.std.specs.{List.{count_by, enumerate_from, flat_map, list_all, list_any}, Option.option_and_then}
+pub use Rattle.{std.specs.Option.option_map_or, toml.proofs.{Lines.data_of_table, ReadLines.{AllPrinted, read_lines}}}
+pub use Rattle.toml.{proofs.ReadLines.run, specs.Data.{Data, Members, array, as_array, as_table, depth, get_member}}
+pub use Rattle.toml.specs.Data.{has_valid_dates, integer, items_depth, items_have_valid_dates, member, no_members}
+pub use Rattle.toml.specs.{Data.string, Tables.{Expression, close, key_value, no_nodes}, Text.IsItemsText}
+pub use Rattle.toml.specs.{Text.{IsLinesText, IsValueText}, View.{array_view, items_of, table_view, view}}
+pub use Rattle.toml.specs.declared.value.Value.{Value, the_lemmas}
 unfoldable pub use Rattle.kd_sheet.specs.{Bars.{bars_in, row_of_text, rows_in}, Cables.{cable_for, cables_in}}
 unfoldable pub use Rattle.kd_sheet.specs.{Cables.{letters_in_cable, pair_for, pairs_in}, Document.document_of}
 unfoldable pub use Rattle.kd_sheet.specs.{Letters.letters_at, MachineFile.{known_model_in, machine_in, model_in}}
@@ -126,11 +126,6 @@ after first next P Q here rest y e =
 pub after_any : {A B : Type 0} (first : Result A SheetFault) (next : A → Result B SheetFault) (Q : B → Type 0)
     → ((x : A) → Gives (next x) Q) → Gives (first >>= next) Q
 after_any first next Q rest y e = let before = given first next y e in rest before.0 y before.2
-
--- of what is read once a test has passed
-pub tested : {B : Type 0} (test : Bool) (fault : SheetFault) (next : Result B SheetFault) (Q : B → Type 0)
-    → (test ≡ true → Gives next Q) → Gives (demand test fault >> next) Q
-tested test fault next Q rest y e = let both = passed test fault next y e in rest both.0 y both.1
 
 -- of what may be absent
 pub if_there : {A : Type 0} (there : Option Data) (reading : Data → Result A SheetFault) (none : A) (P : A → Type 0)
@@ -220,8 +215,7 @@ module _ {A : Type 0} where
       → ((earlier : List A) (item : Data) (x : A) → reading earlier item ≡ Ok x → P x)
       → (items : List Data) → Gives (in_turn reading items) (All P)
   each_is reading P has items values e k d within =
-      has (take k values) (get_or items k nothing) (get_or values k d)
-      (read_at reading items values e k nothing d (omega (arith, as_many reading items values e)))
+      grind (arith, as_many, read_at reading items values e k nothing d, has)
 
   -- what holds of no values, and with each one that is read of one more, holds of all
   pub keeps : (reading : List A → Data → Result A SheetFault) (Holds : List A → Type 0) → Holds []
@@ -240,19 +234,11 @@ module _ {A : Type 0} where
       (all : (items : List Data) → Gives (in_turn reading items) Holds) (key : Key) (count : ℕ) where
     pub each_read : (table : Members)
         → Gives (each_at key count reading table) (λ values. (length values ≡ count) × Holds values)
-    each_read table =
-        after_any (items_at key table) _ _ (λ items. tested (length items == count) _ _ _ (λ same values e. (
-          as_many reading items values e ∙ eqb-true _ _ same,
-          all items values e,
-        )))
+    each_read table values e = grind (arith, given, passed, eqb-true, as_many, all)
 
     pub some_read : (value : Data)
         → Gives (up_to key count reading value) (λ values. (length values ≤ count) × Holds values)
-    some_read value =
-        after_any (items_in key value) _ _ (λ items. tested (nat_le (length items) count) _ _ _ (λ few values e. (
-          omega (arith, as_many reading items values e, leb-true _ _ few),
-          all items values e,
-        )))
+    some_read value values e = grind (arith, given, passed, leb-true, as_many, all)
 
   -- things that are read again, by their texts
   pub again : (reading : List A → Data → Result A SheetFault) (text_of : A → List ℕ) (all : List A)
