@@ -166,9 +166,8 @@ no_keys_fault s keys fault all is = grind (arith, same_front (Suits s) keys is.b
 
 pub one_bad_byte : (text : List ℕ) → IsOnly (IsBadAt text)
 one_bad_byte text place other a b =
-    let same = same_front (λ x. IsTrue (is_text_byte x)) a.before b.before (a.byte ∷ a.rest) (b.byte ∷ b.rest) a.allowed b.allowed (λ is. false≢true (sym a.bad ∙ is))
-    (λ is. false≢true (sym b.bad ∙ is)) (sym a.joined ∙ b.joined) in
-    a.size ∙ ap length same.0 ∙ sym b.size
+    let same = same_front (λ x. IsTrue (is_text_byte x)) a.before b.before (a.byte ∷ a.rest) (b.byte ∷ b.rest) in
+    grind (arith, same, false≢true, a.bad, b.bad, a.joined, b.joined, a.size, b.size)
 
 -- behind bytes that are allowed
 pub bad_behind : (front rest : List ℕ) (byte : ℕ) → All (λ b. IsTrue (is_text_byte b)) front → IsFalse (is_text_byte byte)

@@ -202,15 +202,12 @@ module _ (m : Parts) where
       → IsFalse (is_text_byte byte)
       → IsRefused (texts (physical_cipher m)) (front ++ byte ∷ rest) text (BadByte (length front + 1))
   refused_there t front rest text byte typed bad =
-      let longer : (more : List ℕ) → (front ++ byte ∷ rest) ++ more ≡ front ++ byte ∷ (rest ++ more) = λ more. append_assoc front (byte ∷ rest) more in
-      let fault = BadByte (length front + 1) in
-      let stands : (more : List ℕ) → IsTextFault ((front ++ byte ∷ rest) ++ more) fault = λ more.
-      subst (λ l. IsTextFault l fault) (sym (longer more))
-      (length front, bad_behind front (rest ++ more) byte typed.allowed bad, refl) in
+      let stands : (more : List ℕ) → IsTextFault ((front ++ byte ∷ rest) ++ more) (BadByte (length front + 1)) = λ more.
+      rw append_assoc (length front, bad_behind front (rest ++ more) byte typed.allowed bad, refl) in
       record {
         stands = stands;
         refused = stands;
-        written = λ more. (front, rw (longer more) (grind arith), text_is t front text typed);
+        written = λ more. (front, rw append_assoc (grind arith), text_is t front text typed);
       }
 
   -- ---- a piece more
@@ -227,25 +224,19 @@ module _ (m : Parts) where
 
     pub read_whole : (took wrote : Option (List ℕ)) (d f : Bool) → Appends took wrote lamps → length more ≤ n
         → FeedsAll (texts (physical_cipher m)) (IsTypedTo m old) (IsTypedTo m new) more (over took wrote d f) (Ok tt)
-    read_whole took wrote d f wrote_all all bytes text held = record {
-      made = lamps;
-      written = wrote_all;
-      fed = typed_held new (bytes ++ more) (text ++ lamps) (subst (λ l. IsTypedTo m new (bytes ++ l) (text ++ lamps)) (take_all n more all) (typed_on bytes text held.is));
-    }
+    read_whole took wrote d f wrote_all all bytes text held =
+        let typed = typed_held new (bytes ++ take n more) (text ++ lamps) (typed_on bytes text held.is) in
+        record { made = lamps; written = wrote_all; fed = rw (take_all n more all) at typed }
 
     pub read_refused : (took wrote : Option (List ℕ)) (d f : Bool) → Appends took wrote lamps → n < length more
         → FeedsAll (texts (physical_cipher m)) (IsTypedTo m old) (IsTypedTo m new) more (over took wrote d f) (Err (stops.Refused (BadByte (new.read + 1))))
     read_refused took wrote d f wrote_all inside bytes text held =
         let typed = typed_on bytes text held.is in
         let rest = drop (suc n) more in
-        let byte = get_or more n 0 in
-        let joined : (bytes ++ take n more) ++ byte ∷ rest ≡ bytes ++ more =
-        append_assoc bytes (take n more) (byte ∷ rest) ∙ ap (λ l. bytes ++ l) (sym (append_assoc (take n more) (byte ∷ []) rest) ∙ up_to more n inside) in
-        record {
-          made = lamps;
-          written = wrote_all;
-          fed = rw (typed.counted, ← joined) (refused_there new (bytes ++ take n more) rest (text ++ lamps) byte typed (front.next inside));
-        }
+        let there = refused_there new (bytes ++ take n more) rest (text ++ lamps) (get_or more n 0) typed in
+        let fed = there (front.next inside) in
+        let joined = up_to more n in
+        record { made = lamps; written = wrote_all; fed = grind (arith, fed, append_assoc, joined, typed.counted) }
 
     pub read_in_part : (took wrote : Option (List ℕ)) (d f : Bool) → TakesFront took wrote lamps
         → FeedsAll (texts (physical_cipher m)) (IsTypedTo m old) (IsTypedTo m new) more (over took wrote d f) (Err stops.Device)
