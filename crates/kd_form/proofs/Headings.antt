@@ -275,17 +275,13 @@ are_small s h is = omega (arith, is.number.in_order, is.number.few, at_most s h.
 
 -- ---- the words of a heading
 
-letters_word : (letters : List ℕ) → 1 ≤ length letters → IsWord (letters_text letters)
-letters_word letters some = grind (arith, common_steps, word_by_bytes, lower, letters_from)
-
-fraction_word : (part parts : ℕ) → part < 2 ^ 64 → parts < 2 ^ 64 → IsWord (fraction part parts)
-fraction_word part parts small few = grind (arith, word_by_bytes, length-append {A = ℕ}, lower, fraction_from)
+ruleset as_words = (word_by_bytes, lower, letters_from, fraction_from, numbers_are_words)
 
 line_words : (s : Day) (found : Option ℕ) (h : Heading) (line : List ℕ) → MatchOption found (HasPins s) (HasSlots s)
     → IsHeading s h → line_of (heading_words h) ≡ line → words_of line ≡ heading_words h
 line_words s found h line has is same =
     ap words_of (sym same) ∙ lines_split_into_words (heading_words h) (λ none. cc)
-    (grind (arith, are_small, All-cons, letters_word, fraction_word, numbers_are_words, All-nil))
+    (grind (arith, common_steps, are_small, as_words, length-append {A = ℕ}, All-cons, All-nil))
 
 pub too_many_words : (s : Day) (found : Option ℕ) (h : Heading) (line : List ℕ) → MatchOption found (HasPins s) (HasSlots s)
     → IsHeading s h → 5 < length (words_of line) → line_of (heading_words h) ≢ line
@@ -326,10 +322,6 @@ pub heading_there : (s : Day) (front body : List ℕ) (h : Heading) (rest : List
     → HasHeading s (front ++ 10 ∷ body) h rest → IsLineText front (line_of (heading_words h)) × (rest ≡ body)
 heading_there s front body h rest unbroken has = grind (arith, texts_tell_first_parts, has_byte)
 
--- without an LF, the heading is all there is
-bare_heading : (s : Day) (part : List ℕ) (h : Heading) (rest : List ℕ) → IsWithout 10 part → HasHeading s part h rest → line_of (heading_words h) ≡ part
-bare_heading s part h rest unbroken has = grind (arith, has_byte)
-
 -- a line has one text
 one_line_text : (line text other : List ℕ) → IsLineText line text → IsLineText line other → text ≡ other
 one_line_text line text other e d = grind (arith, append_cancel_right)
@@ -348,9 +340,9 @@ pub open_told : (s : Day) (found : Option ℕ) (part line : List ℕ) (answer : 
     → IsWithout 10 part → line ≡ take 64 part
     → MatchOption answer ((h : Heading) (body : List ℕ) → ¬ (HasHeading s part h body)) (λ h. HasHeading s part h [])
 open_told s found part line None has told unbroken kept = λ h body there.
-    let is : line_of (heading_words h) ≡ part = bare_heading s part h body unbroken there in
-    let size : length (line_of (heading_words h)) ≤ 50 = heading_length s found h has there.is_heading in
-    told h there.is_heading (is ∙ sym (kept ∙ take_all 64 part (omega (arith, ap length is))))
+    let is : line_of (heading_words h) ≡ part = grind (arith, has_byte) in
+    let size = heading_length s found h has there.is_heading in
+    told h there.is_heading (is ∙ sym (kept ∙ take_all 64 part (omega (arith, ap length is, size))))
 open_told s found part line (Some h) has told unbroken kept =
     let size = heading_length s found h has told.0 in
     let whole : line ≡ part = whole_line 64 part line kept (grind (arith, told.1, size)) in
@@ -382,9 +374,6 @@ one_end s count found None None small little has had same = (decimal_injective c
 one_end (OfRotors s) count found _ _ small little has had same = search
 one_end (OfPins s) count found _ _ small little has had same = search
 
-same_heading : (s : Day) (h other : Heading) → IsHeading s h → IsHeading s other → line_of (heading_words h) ≡ line_of (heading_words other) → h ≡ other
-same_heading s h other is also same = grind (arith, are_small, one_number, append_assoc, one_end)
-
 -- ---- the line and the body
 
 one_first_line : (text line other rest more : List ℕ) → HasFirstLine text line rest → HasFirstLine text other more
@@ -396,7 +385,7 @@ pub one_heading : (s : Day) (part : List ℕ) (h other : Heading) (body rest : L
     → HasHeading s part other rest → (h ≡ other) × (body ≡ rest)
 one_heading s part h other body rest a b =
     let same = one_first_line part _ _ body rest a.first b.first in
-    (same_heading s h other a.is_heading b.is_heading same.0, same.1)
+    (grind (arith, same, are_small, one_number, append_assoc, one_end), same.1)
 
 -- the line begins with PART, a space and a digit
 pub words_begin : (s : Day) (h : Heading) (more : List ℕ) → IsHeading s h → BeginsHeading (line_of (heading_words h) ++ more)

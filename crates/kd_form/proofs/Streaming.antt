@@ -179,13 +179,9 @@ SoFar-ended m holds had has next sink a b c count before end is ends well = grin
 
 -- -------- what a piece of a text lights up, and what was typed so far
 
--- no letters light no lamp
-cipher_text-nil : (key : EngineKey) → cipher_text (cipher key) [] ≡ []
-cipher_text-nil key = grind arith
-
 module _ (m : Parts) where
   text_is : (t : Typist) (bytes text : List ℕ) → IsTypedTo m t bytes text → text ≡ cipher_text (physical_cipher m) bytes
-  text_is t bytes text typed = grind (arith, append-nil text, cipher_text-nil t.engine, append-nil bytes, bytes)
+  text_is t bytes text typed = grind (arith, append-nil text, append-nil bytes, bytes)
 
   pub typed_held : (t : Typist) (bytes text : List ℕ) → IsTypedTo m t bytes text
       → Held (texts (physical_cipher m)) (IsTypedTo m t) bytes text
