@@ -1,5 +1,5 @@
 -- The reader of a form, byte by byte, and at the end.
-pub use Rattle.kd_form.proofs.Prelude.{err_is, [], ◌≡◌, ◌≢◌, ◌⊎◌, inl, inr, ℕ, ◌+◌, ◌-◌, ◌≤◌, List, ◌∷◌, ◌++◌, length, take, refl, sym, ap, subst, ◌∙◌, append_assoc, length-append, Ok, Err, arith, codes, All, IsTrue, Option, Some, None, MatchOption, option_to_list, take-append_seam, cases_lt, cases_eq, append-nil, take_all, take-take, take-append-le, length-take, length-take-le, filter_map-append, All-nil, All-push, ArrayVec, is_text_byte, Day, line_of, IsFirstPart, FormFault, Heading, IsLineText, heading_words, letter_of_byte, letters_from, IsHeading, BeginsHeading, Answer, SaysBody, HasHeading, IsExpected, IsEarlyFault, InHeading, InNumber, InBody, IsPartFault, HoldsBody, IsBodyGiven, HasBegun, HoldsPart, HoldsStage, HoldsForm, IsHeadingOff, Missing, Other, IsPartRead, PartOrder, given_letters, IsRefusedForGood, NoHeading, form_message, IsRefusedAtEnd, IsRefused, Closes, Held, OfRest, ReadsTo, IsReadTo, StandsAt, EndsAt, IsComplete, IsLast, AtPart, cut, parts_of, Place, at_first, place_behind, HasTail, place_of, map-append, given_byte, blank_of, BadHeading, BadByte, false≢true, All-take}
+pub use Rattle.kd_form.proofs.Prelude.{err_is, [], ◌≡◌, ◌≢◌, ◌⊎◌, inl, inr, ℕ, ◌+◌, ◌-◌, ◌≤◌, List, ◌∷◌, ◌++◌, length, take, refl, sym, ap, subst, ◌∙◌, append_assoc, length-append, Ok, Err, arith, codes, All, IsTrue, Option, Some, None, MatchOption, option_to_list, take-append_seam, cases_lt, cases_eq, append-nil, take_all, take-take, take-append-le, length-take, length-take-le, filter_map-append, All-nil, All-push, ArrayVec, is_text_byte, Day, line_of, IsFirstPart, FormFault, Heading, IsLineText, heading_words, letter_of_byte, letters_from, IsHeading, BeginsHeading, Answer, SaysBody, HasHeading, IsExpected, IsEarlyFault, InHeading, InNumber, InBody, IsPartFault, HoldsBody, IsBodyGiven, HasBegun, HoldsPart, HoldsStage, HoldsForm, IsHeadingOff, Missing, Other, IsPartRead, PartOrder, given_letters, IsRefusedForGood, NoHeading, form_message, IsRefused, Closes, Held, OfRest, ReadsTo, IsReadTo, StandsAt, EndsAt, IsComplete, IsLast, AtPart, cut, parts_of, Place, at_first, place_behind, HasTail, place_of, map-append, given_byte, blank_of, BadHeading, BadByte, false≢true, All-take}
 use Rattle.kd_form.specs.declared.{part_body.PartBody.PartBody, form_reader.{FormReader.FormReader, Stage.Stage}}
 pub use Rattle.kd_form.proofs.Headings.{at_most, has_byte, one_heading, begins_there, as_parts, begins, begins_more, first_ends, first_more, may_begin, one_more, single, follows, not_begun, ended_heading, whole_line, no_bad_byte, bad_behind}
 use Rattle.kd_form.proofs.Lines.{letters_first, head_unbroken}

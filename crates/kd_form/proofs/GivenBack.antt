@@ -1,5 +1,5 @@
 -- The text of a part, and that the form that an order becomes gives the order's letters back.
-pub use Rattle.kd_form.proofs.Prelude.{OrdersGiveLetters, append-nil, take-append-drop, IsWithout, ◌≡◌, ℕ, zero, suc, ◌+◌, ◌<◌, ◌≤◌, List, [], ◌∷◌, ◌++◌, length, take, drop, refl, sym, ap, subst, ◌∙◌, append_assoc, length-drop, arith, map, All, IsTrue, Some, None, flat_map, cons_option, nat_tests, All-nil, All-cons, All-head, All-tail, All-append, All-take, All-drop, filter_map-append, is_text_byte, letters_text, line_of, pieces, groups_of, with_line, body_text, Part, heading_words, part_text, letter_of_byte, letters_from, Day, IsHeading, BeginsHeading, HasHeading, WithoutReturn, cut, common_steps, ◌≢◌, ◌%◌, inl, inr, length-append, Option, IfSome, cases_lt, take_all, drop_all, length-take, length-take-le, IsLegalDay, Keys, given_text, sent_letters, AreKeys, FormsGiveTheirOrders, Suits, part_size, filled, SaysBody, Ok, IsPartRead, blank_of, text_letters, parts_needed, AreMadeTexts, ReadsTo, at_first, IsComplete, IsExpected, take-append_seam, All-more}
+pub use Rattle.kd_form.proofs.Prelude.{OrdersGiveLetters, append-nil, take-append-drop, IsWithout, ◌≡◌, ℕ, zero, suc, ◌+◌, ◌<◌, ◌≤◌, List, [], ◌∷◌, ◌++◌, length, take, drop, refl, sym, ap, subst, ◌∙◌, append_assoc, length-drop, arith, map, All, IsTrue, Some, None, flat_map, cons_option, nat_tests, All-nil, All-cons, All-head, All-tail, All-append, All-take, All-drop, filter_map-append, is_text_byte, letters_text, line_of, pieces, groups_of, with_line, body_text, Part, heading_words, part_text, letter_of_byte, letters_from, Day, IsHeading, BeginsHeading, HasHeading, WithoutReturn, cut, common_steps, ◌≢◌, ◌%◌, inl, inr, length-append, Option, IfSome, cases_lt, take_all, drop_all, length-take, length-take-le, IsLegalDay, Keys, given_text, sent_letters, AreKeys, FormsGiveTheirOrders, Suits, part_size, filled, SaysBody, Ok, IsPartRead, blank_of, text_letters, AreMadeTexts, ReadsTo, at_first, IsComplete, IsExpected, take-append_seam, All-more}
 use Rattle.kd_form.proofs.Headings.{allowed_one, at_cut, cut_behind, ended_heading, has_byte, plain_heading, words_begin, one_byte}
 use Rattle.kd_form.proofs.MadeParts.{pieces-next, pieces-none, more_pieces, IsPiece, GivesBack, part_gives_back, size_some}
 use Rattle.kd_form.proofs.{Lines.AreAllowed, Lines.without, OneOrder.all_of_the_day, OneOrder.one_order}

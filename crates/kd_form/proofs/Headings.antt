@@ -1,5 +1,5 @@
 -- A form is cut into its parts, also as more of it comes; and the line of a heading, with which a part begins.
-pub use Rattle.kd_form.proofs.Prelude.{figures, common_steps, ◌≡◌, ◌≢◌, ◌⊎◌, inl, inr, ℕ, ◌<◌, ◌≤◌, List, [], ◌∷◌, ◌++◌, length, get_or, take, drop, refl, sym, ap, ◌∙◌, append_assoc, length-append, length-take, arith, codes, All-head, All-tail, All-get_or, IsTrue, nat_tests, cases_Bool, cases_eq, cases_lt, false≢true, append-nil, take-append-le, take-append-drop, take-append_seam, get_or-append, get_or-append_seam, get_or-take, get_or_past, BeginsHeading, cut, parts_of, FitsAt, HasBegun, IsWithout, IsBadAt, is_text_byte, AllPass-from_list_all, All-take, All-same, take-take, take_more, rules, ◌^◌, ◌+◌, decimal, All, Option, Some, None, MatchOption, IsInRange, All-from_get_or, All-cons, All-nil, All-append, All-map, All-push, All-weaker, IsFirstPart, line_of, words_of, IsWord, texts_tell_first_parts, numbers_are_words, lines_split_into_words, parts_make_lines, fraction, indicator_words, heading_words, length-map, append_cancel_right, take_all, get_or-map, letters_text, AreFewLetters, IsFraction, IsLetterCount, IsHeading, AreHeadingWords, HasFirstLine, IsLineText, Day, OfRotors, OfPins, Heading, Indicator, HasIndicator, HasSlots, HasPins, HasHeading, drop-cons, map, IsFalse, word_by_bytes}
+pub use Rattle.kd_form.proofs.Prelude.{figures, common_steps, ◌≡◌, ◌≢◌, ◌⊎◌, inl, inr, ℕ, ◌<◌, ◌≤◌, List, [], ◌∷◌, ◌++◌, length, get_or, take, drop, refl, sym, ap, ◌∙◌, append_assoc, length-append, length-take, arith, codes, All-head, All-tail, All-get_or, IsTrue, nat_tests, cases_Bool, cases_eq, cases_lt, false≢true, append-nil, take-append-le, take-append-drop, take-append_seam, get_or-append, get_or-append_seam, get_or-take, get_or_past, BeginsHeading, cut, parts_of, FitsAt, HasBegun, IsWithout, IsBadAt, is_text_byte, AllPass-from_list_all, All-take, All-same, take-take, take_more, rules, ◌^◌, ◌+◌, decimal, All, Option, Some, None, MatchOption, All-from_get_or, All-cons, All-nil, All-append, All-map, All-push, All-weaker, IsFirstPart, line_of, words_of, texts_tell_first_parts, numbers_are_words, lines_split_into_words, parts_make_lines, fraction, indicator_words, heading_words, length-map, append_cancel_right, take_all, get_or-map, letters_text, AreFewLetters, IsFraction, IsLetterCount, IsHeading, AreHeadingWords, HasFirstLine, IsLineText, Day, OfRotors, OfPins, Heading, Indicator, HasIndicator, HasSlots, HasPins, HasHeading, drop-cons, map, IsFalse, word_by_bytes}
 use Rattle.std.proofs.lemmas.Fmt.{digits_decimal, decimal_injective, length-decimal-le, decimal_nonempty}
 use Rattle.{kd_form.specs.FormParts.begins_heading, std.proofs.lemmas.Slice.Eq.bytes_eq-Decides}
 pub use Rattle.kd_form.proofs.OneOrder.{no_bad_byte, same_letters, same_word, bad_behind}
@@ -62,8 +62,8 @@ pub not_begun : (part line : List ℕ) (byte : ℕ) → line ≡ take 64 part �
 not_begun part line byte kept off =
     let short : length line < 6 = grind (arith, cases_lt (length line) 6) in
     let whole : line ≡ part = whole_line 64 part line kept (omega (arith, short)) in
-    (rw whole at short, λ more begun. off
-    (grind (arith, fits_there ((part ++ byte ∷ []) ++ more) (length part) begun, append_assoc, get_or-append_seam)))
+    let fits = λ (more : List ℕ). fits_there ((part ++ byte ∷ []) ++ more) (length part) in
+    (rw whole at short, λ more begun. off (grind (arith, fits more begun, append_assoc, get_or-append_seam)))
 
 cut_or_not : (byte : ℕ) (bytes : List ℕ) → ((byte ≡ 10) × BeginsHeading bytes) ⊎ ((byte ≡ 10) → ¬ (BeginsHeading bytes))
 cut_or_not byte bytes = grind (arith, cases_eq byte 10, cases_Bool (begins_heading bytes), false≢true)

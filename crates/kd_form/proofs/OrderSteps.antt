@@ -1,5 +1,5 @@
 -- The reader of an order, byte by byte, and at the end.
-pub use Rattle.kd_form.proofs.Prelude.{append-nil, length-take, [], ◌≡◌, ◌≢◌, ℕ, zero, suc, ◌+◌, ◌*◌, ◌<◌, ◌≤◌, inl, inr, List, ◌∷◌, ◌++◌, Some, length, take, drop, refl, sym, ap, ◌∙◌, append_assoc, length-append, length-drop, arith, get_or, Option, Result, Ok, Err, IsTrue, slice_get, codes, All, MatchResult, div_ceil, take_all, drop_all, drop-take, drop-drop, take-take, take_more, length-take-le, Day, Keys, pieces, IsMadeText, part_size, Suits, parts_needed, AreMadeTexts, letters_from, text_letters, IsFirstKeysFault, StandsInOrder, InHead, InKeys, InText, NoLetter, InParts, CanBeWritten, IsSendable, IsSentBefore, orders, AreSuitedKeys, AreTaken, IsHeadRead, IsHeadLine, IsTextRead, IsLastTaken, IsFresh, IsOpen, IsOrderRead, IsStageRead, All-nil, Unread, AreKeys, IsPatternLine, BreaksOff, key_pattern, key_words, line_of, IsEnded, IsKeyLine, BeginsWithKeys, IsAnyHead, IsHead, IsOrder, IsHeadFault, is_text_byte, FormFault, IsRefused, Closes, Held, IsAnyKeyLine, common_steps, BadByte, Cut, blank_of, All-push, filter_map-append, ◌-◌, cases_lt, drop_at, le_of_mul-le-mul_left, take_at}
+pub use Rattle.kd_form.proofs.Prelude.{append-nil, length-take, [], ◌≡◌, ◌≢◌, ℕ, zero, suc, ◌+◌, ◌*◌, ◌<◌, ◌≤◌, inl, inr, List, ◌∷◌, ◌++◌, Some, length, take, drop, refl, sym, ap, ◌∙◌, append_assoc, length-append, length-drop, arith, get_or, Option, Result, Ok, Err, IsTrue, slice_get, codes, All, MatchResult, div_ceil, take_all, drop_all, drop-take, drop-drop, take-take, take_more, length-take-le, Day, Keys, pieces, IsMadeText, part_size, Suits, parts_needed, AreMadeTexts, letters_from, text_letters, IsFirstKeysFault, StandsInOrder, InHead, InKeys, InText, NoLetter, InParts, CanBeWritten, IsSentBefore, orders, AreTaken, IsHeadRead, IsHeadLine, IsTextRead, IsLastTaken, IsFresh, IsOpen, IsOrderRead, IsStageRead, All-nil, Unread, AreKeys, IsPatternLine, BreaksOff, key_pattern, key_words, line_of, IsEnded, IsKeyLine, BeginsWithKeys, IsAnyHead, IsHead, IsOrder, IsHeadFault, is_text_byte, FormFault, IsRefused, Closes, Held, IsAnyKeyLine, common_steps, BadByte, Cut, blank_of, All-push, filter_map-append, ◌-◌, cases_lt, drop_at, le_of_mul-le-mul_left, take_at}
 use Rattle.std.proofs.lemmas.{Grind.div_ceil_times, Option.slice_get_within, Option.get_or_from_slice_get}
 use Rattle.kd_form.specs.declared.{order_reader.parts.PartWriter.PartWriter, order_reader.head.HeadReader.HeadReader}
 use Rattle.kd_form.specs.declared.{order_reader.OrderReader.OrderReader, order_reader.Stage.Stage}
