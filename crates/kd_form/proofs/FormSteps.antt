@@ -1,5 +1,5 @@
 -- The reader of a form, byte by byte, and at the end.
-pub use Rattle.kd_form.proofs.Prelude.{err_is, [], ◌≡◌, ◌≢◌, ◌⊎◌, inl, inr, ℕ, ◌+◌, ◌-◌, ◌≤◌, List, ◌∷◌, ◌++◌, length, take, refl, sym, ap, subst, ◌∙◌, append_assoc, length-append, Ok, Err, arith, codes, All, IsTrue, Option, Some, None, MatchOption, option_to_list, take-append_seam, cases_lt, cases_eq, append-nil, take_all, take-take, take-append-le, length-take, length-take-le, filter_map-append, All-nil, All-push, ArrayVec, is_text_byte, Day, line_of, IsFirstPart, FormFault, Heading, IsLineText, heading_words, letter_of_byte, letters_from, IsHeading, BeginsHeading, Answer, SaysBody, HasHeading, IsExpected, IsEarlyFault, InHeading, InNumber, InBody, IsPartFault, HoldsBody, IsBodyGiven, HasBegun, HoldsPart, HoldsStage, HoldsForm, IsHeadingOff, Missing, Other, IsPartRead, PartOrder, given_letters, IsRefusedForGood, NoHeading, form_message, IsRefusedAtEnd, IsRefused, Closes, Held, OfRest, ReadsTo, IsReadTo, StandsAt, EndsAt, IsComplete, IsLast, AtPart, cut, parts_of, Place, at_first, place_behind, HasTail, place_of, map-append, given_byte, blank_of, BadHeading, BadByte, false≢true, All-take}
+pub use Rattle.kd_form.proofs.Prelude.{err_is, [], ◌≡◌, ◌≢◌, ◌⊎◌, inl, inr, ℕ, ◌+◌, ◌-◌, ◌≤◌, List, ◌∷◌, ◌++◌, length, take, refl, sym, ap, subst, ◌∙◌, append_assoc, length-append, Ok, Err, arith, codes, All, IsTrue, Option, Some, None, MatchOption, option_to_list, take-append_seam, cases_lt, cases_eq, append-nil, take_all, take-take, take-append-le, length-take, length-take-le, filter_map-append, All-nil, All-push, ArrayVec, is_text_byte, Day, line_of, IsFirstPart, FormFault, Heading, IsLineText, heading_words, letter_of_byte, letters_from, IsHeading, BeginsHeading, Answer, SaysBody, HasHeading, IsExpected, IsEarlyFault, InHeading, InNumber, InBody, IsPartFault, HoldsBody, IsBodyGiven, HasBegun, HoldsPart, HoldsStage, HoldsForm, IsHeadingOff, Missing, Other, IsPartRead, PartOrder, given_letters, IsRefusedForGood, NoHeading, form_message, IsRefused, Closes, Held, OfRest, ReadsTo, IsReadTo, StandsAt, EndsAt, IsComplete, IsLast, AtPart, cut, parts_of, Place, at_first, place_behind, HasTail, place_of, map-append, given_byte, blank_of, BadHeading, BadByte, false≢true, All-take}
 use Rattle.kd_form.specs.declared.{part_body.PartBody.PartBody, form_reader.{FormReader.FormReader, Stage.Stage}}
 pub use Rattle.kd_form.proofs.Headings.{at_most, has_byte, one_heading, begins_there, as_parts, begins, begins_more, first_ends, first_more, may_begin, one_more, single, follows, not_begun, ended_heading, whole_line, no_bad_byte, bad_behind}
 use Rattle.kd_form.proofs.Lines.{letters_first, head_unbroken}
@@ -70,13 +70,8 @@ body_more s b new part body byte letter same told more ends longer allowed holds
 are_shown : (others : ℕ) (kept shown letters more : List ℕ) → others ≤ 4 → length more ≡ others → kept ≡ take 525 (letters ++ more)
     → shown ≡ take (length kept - others) kept → (shown ≡ letters) ⊎ ((521 ≤ length shown) × (521 ≤ length letters))
 are_shown others kept shown letters more few size is cut = elim (cases_lt 525 (length (letters ++ more))) [
-  | inl long ↦
-      let full : length kept ≡ 525 = ap length is ∙ length-take-le 525 (letters ++ more) (omega arith) in
-      inr (omega (arith, ap length cut, length-take (length kept - others) kept), omega (arith, length-append letters more))
-  | inr short ↦
-      let whole : kept ≡ letters ++ more = is ∙ take_all 525 (letters ++ more) short in
-      let count : length kept - others ≡ length letters = omega (arith, ap length whole, length-append letters more) in
-      inl (cut ∙ ap (λ n. take n kept) count ∙ ap (take (length letters)) whole ∙ take-append_seam letters more)
+  | inl long ↦ inr (grind (arith, length-take-le 525 (letters ++ more), length-take {A = ℕ}, length-append {A = ℕ}))
+  | inr short ↦ inl (grind (arith, take_all 525 (letters ++ more), take-append_seam letters, length-append letters))
 ]
 
 pub body_told : (s : Day) (h : Heading) (others : ℕ) (kept shown letters more : List ℕ) (v : Answer) → IsHeading s h → others ≤ 4
@@ -147,8 +142,7 @@ module _ (s : Day) (r : FormReader) (form text : List ℕ) (h : HoldsForm s r fo
       → ReadsTo s B here parts letters → made ≡ given_letters s letters → IsReadTo s B (form ++ more) (text ++ made)
   reaches B more made letters parts are reads given = (
     h.letters ++ letters,
-    subst (λ ps. ReadsTo s B at_first ps (h.letters ++ letters)) (sym (h.cuts more ∙ ap (λ ps. h.parts ++ ps) are))
-        (reads_then s here B at_first h.parts parts h.letters letters h.read reads),
+    grind (arith, h.cuts more, reads_then s here B at_first h.parts parts h.letters letters),
     cc (h.is, given, map-append (given_byte (blank_of s)) h.letters letters),
   )
 
@@ -289,32 +283,24 @@ module _ (s : Day) (r : FormReader) (form text : List ℕ) (h : HoldsForm s r fo
     pub part_refused : (fault : FormFault) → IsSaid b 4 (λ letters. SaysBody s b.heading.part b.heading letters (Err fault))
         → IsRefused (form_message s) (form ++ byte ∷ []) text fault
     part_refused fault told =
-        refused_at fault (byte ∷ []) whole (parts_of (codes "PART " ++ byte ∷ [])) (cut_off []) (next_refused s b _ _ whole _ _ ended.next fault told (length h.front))
+        let found = next_refused s b _ _ whole _ _ ended.next fault told (length h.front) in
+        refused_at fault (byte ∷ []) whole _ (cut_off []) found
 
     pub part_read : (made : List ℕ) (line : ArrayVec ℕ) → IsSaid b 4 (λ letters. IsBodyGiven s b.heading letters made) → line.items ≡ codes "PART " ++ byte ∷ []
         → HoldsForm s (record { position = r.position + 1; number = r.number + 1; expected = Some b.heading.parts; stage = stages.Heading line }) (form ++ byte ∷ []) (text ++ made)
     part_read made line told is_head =
         let heads : List ℕ = codes "PART " ++ byte ∷ [] in
+        let has = ended.next.has in
         let (one, read, given) = next_read s b _ _ whole _ _ ended.next made told in
         record {
           front = h.front ++ whole;
           last = heads;
           parts = h.parts ++ whole ∷ [];
           letters = h.letters ++ one;
-          joined = cc (
-            h.joined,
-            ended.split,
-            append_assoc h.front h.last (byte ∷ []),
-            append_assoc front (10 ∷ codes "PART ") (byte ∷ []),
-            append_assoc h.front whole heads,
-            append_assoc front (10 ∷ []) heads,
-          );
+          joined = grind (arith, h.joined, ended.split, append_assoc);
           cuts = grind (arith, append_assoc, as_parts, cut_off);
           alone = ap (λ c. c.1) (one_more (codes "PART ") byte head_unbroken);
-          begun = inr (elim h.begun [
-            | inl nil ↦ subst (λ f. BeginsHeading (f ++ whole)) (sym nil) (begins_there s whole b.heading there.holds.last.settled ended.next.has)
-            | inr begun ↦ begins_more h.front whole begun
-          ]);
+          begun = inr (grind (arith, h.begun, begins_there s whole b.heading _ has, begins_more h.front whole));
           first = λ same. absurd (omega (arith, same, there.numbered, there.holds.is_heading.number.first));
           read = grind (arith, reads_then, at_first, read, length-append, append-nil);
           is = cc (h.is, given, map-append (given_byte (blank_of s)) h.letters one);
@@ -346,15 +332,11 @@ module _ (s : Day) (r : FormReader) (form text : List ℕ) (h : HoldsForm s r fo
 
       pub closes : (made : List ℕ) → b.heading.parts ≡ r.number → made ≡ given ++ 10 ∷ [] → Closes (form_message s) form (text ++ made) (Ok tt)
       closes made same is =
-          let (letters, read, text_is) = ends_read IsComplete (b.heading.parts, refl, ap (λ n. n + 1) (sym same)) in record {
-            letters = letters;
-            read = read;
-            is = ap (λ m. text ++ m) is ∙ sym (append_assoc text given (10 ∷ [])) ∙ ap (λ t. t ++ 10 ∷ []) text_is;
-          }
+          let (letters, read, text_is) = ends_read IsComplete (b.heading.parts, refl, ap (λ n. n + 1) (sym same)) in
+          record { letters = letters; read = read; is = cc (is, text_is, append_assoc text given (10 ∷ [])) }
 
       pub closes_short : b.heading.parts ≢ r.number → Closes (form_message s) form (text ++ given) (Err PartOrder)
       closes_short other =
-          let few : r.number + 1 ≤ b.heading.parts =
-          omega (arith, mine.numbered, mine.holds.is_heading.number.in_order, other) in
+          let few : r.number + 1 ≤ b.heading.parts = omega (arith, mine.numbered, mine.holds.is_heading.number) in
           let ends = ends_read (EndsAt s PartOrder) (refl, b.heading.parts, refl, few) in
           ((text ++ given, inr ends), inr ends)

@@ -1,5 +1,5 @@
 -- The text of a part, and that the form that an order becomes gives the order's letters back.
-pub use Rattle.kd_form.proofs.Prelude.{OrdersGiveLetters, append-nil, take-append-drop, IsWithout, ◌≡◌, ℕ, zero, suc, ◌+◌, ◌<◌, ◌≤◌, List, [], ◌∷◌, ◌++◌, length, take, drop, refl, sym, ap, subst, ◌∙◌, append_assoc, length-drop, arith, map, All, IsTrue, Some, None, flat_map, cons_option, nat_tests, All-nil, All-cons, All-head, All-tail, All-append, All-take, All-drop, filter_map-append, is_text_byte, letters_text, line_of, pieces, groups_of, with_line, body_text, Part, heading_words, part_text, letter_of_byte, letters_from, Day, IsHeading, BeginsHeading, HasHeading, WithoutReturn, cut, common_steps, ◌≢◌, ◌%◌, inl, inr, length-append, Option, IfSome, cases_lt, take_all, drop_all, length-take, length-take-le, IsLegalDay, Keys, given_text, sent_letters, AreKeys, FormsGiveTheirOrders, Suits, part_size, filled, SaysBody, Ok, IsPartRead, blank_of, text_letters, parts_needed, AreMadeTexts, ReadsTo, at_first, IsComplete, IsExpected, take-append_seam, All-more}
+pub use Rattle.kd_form.proofs.Prelude.{OrdersGiveLetters, append-nil, take-append-drop, IsWithout, ◌≡◌, ℕ, zero, suc, ◌+◌, ◌<◌, ◌≤◌, List, [], ◌∷◌, ◌++◌, length, take, drop, refl, sym, ap, subst, ◌∙◌, append_assoc, length-drop, arith, map, All, IsTrue, Some, None, flat_map, cons_option, nat_tests, All-nil, All-cons, All-head, All-tail, All-append, All-take, All-drop, filter_map-append, is_text_byte, letters_text, line_of, pieces, groups_of, with_line, body_text, Part, heading_words, part_text, letter_of_byte, letters_from, Day, IsHeading, BeginsHeading, HasHeading, WithoutReturn, cut, common_steps, ◌≢◌, ◌%◌, inl, inr, length-append, Option, IfSome, cases_lt, take_all, drop_all, length-take, length-take-le, IsLegalDay, Keys, given_text, sent_letters, AreKeys, FormsGiveTheirOrders, Suits, part_size, filled, SaysBody, Ok, IsPartRead, blank_of, text_letters, AreMadeTexts, ReadsTo, at_first, IsComplete, IsExpected, take-append_seam, All-more}
 use Rattle.kd_form.proofs.Headings.{allowed_one, at_cut, cut_behind, ended_heading, has_byte, plain_heading, words_begin, one_byte}
 use Rattle.kd_form.proofs.MadeParts.{pieces-next, pieces-none, more_pieces, IsPiece, GivesBack, part_gives_back, size_some}
 use Rattle.kd_form.proofs.{Lines.AreAllowed, Lines.without, OneOrder.all_of_the_day, OneOrder.one_order}
@@ -66,15 +66,12 @@ gives_pieces size whole large none step letters =
     (rest (All-drop (λ l. l < 26) size letters are))))) (length letters) letters (omega arith)
 
 gives_line : (line : List ℕ) → AreOfTheAlphabet line → Gives (line_of (groups_of line)) line
-gives_line =
-    gives_pieces 5 (λ groups. line_of (map letters_text groups)) (omega arith) refl
-    (λ group groups more are rest. gives_words (letters_text group) group (map letters_text groups) more (gives_word group are) rest)
+gives_line = gives_pieces 5 (λ groups. line_of (map letters_text groups)) (omega arith) refl
+    (λ group groups more are. gives_words (letters_text group) group (map letters_text groups) _ (gives_word group are))
 
 pub gives_body : (letters : List ℕ) → AreOfTheAlphabet letters → Gives (body_text letters) letters
-gives_body =
-    gives_pieces 50 (flat_map (λ line. with_line (groups_of line) [])) (omega arith) refl
-    (λ line lines more are rest. rw (append_assoc (line_of (groups_of line)) (10 ∷ []) (flat_map (λ l. with_line (groups_of l) []) lines))
-    (gives_after 10 (line_of (groups_of line)) line (flat_map (λ l. with_line (groups_of l) []) lines) more refl refl (gives_line line are) rest))
+gives_body = gives_pieces 50 (flat_map (λ line. with_line (groups_of line) [])) (omega arith) refl
+    (λ line lines more are rest. rw append_assoc (gives_after 10 _ line _ more refl refl (gives_line line are) rest))
 
 -- ---- the lines of a body
 
@@ -143,11 +140,10 @@ are_pieces : (s : Day) (letters : List ℕ) → All (λ letter. letter < 26) let
 are_pieces s letters =
     by_length (part_size s) (λ letters. All (λ letter. letter < 26) letters → All (IsPiece s) (pieces (part_size s) letters)) (size_some s)
     (λ within. rw (pieces-none (part_size s) (size_some s)) (All-nil (IsPiece s)))
-    (λ letters some rest within. rw (pieces-next (part_size s) letters (size_some s) some) (All-cons (IsPiece s) (take (part_size s) letters) _ (record {
-      some = omega (arith, size_some s, length-take (part_size s) letters);
-      few = omega (arith, length-take (part_size s) letters);
-      within = All-take (λ letter. letter < 26) (part_size s) letters within;
-    }) (rest (All-drop (λ letter. letter < 26) (part_size s) letters within)))) (length letters) letters (omega arith)
+    (λ letters some rest within. rw (pieces-next (part_size s) letters (size_some s) some)
+    (All-cons (IsPiece s) (take (part_size s) letters) _
+    (grind (arith, size_some s, length-take (part_size s) letters, All-take (λ l. l < 26) (part_size s) letters))
+    (rest (All-drop (λ letter. letter < 26) (part_size s) letters within)))) (length letters) letters (omega arith)
 
 -- behind an LF the form is nothing but parts, which are read as the letters of the pieces
 record AreGivenBack (s : Day) (part parts count : ℕ) (pieces : List (List ℕ)) (form : List ℕ) : Type 0 where

@@ -1,5 +1,5 @@
 -- A form is cut into its parts, also as more of it comes; and the line of a heading, with which a part begins.
-pub use Rattle.kd_form.proofs.Prelude.{figures, common_steps, ◌≡◌, ◌≢◌, ◌⊎◌, inl, inr, ℕ, ◌<◌, ◌≤◌, List, [], ◌∷◌, ◌++◌, length, get_or, take, drop, refl, sym, ap, ◌∙◌, append_assoc, length-append, length-take, arith, codes, All-head, All-tail, All-get_or, IsTrue, nat_tests, cases_Bool, cases_eq, cases_lt, false≢true, append-nil, take-append-le, take-append-drop, take-append_seam, get_or-append, get_or-append_seam, get_or-take, get_or_past, BeginsHeading, cut, parts_of, FitsAt, HasBegun, IsWithout, IsBadAt, is_text_byte, AllPass-from_list_all, All-take, All-same, take-take, take_more, rules, ◌^◌, ◌+◌, decimal, All, Option, Some, None, MatchOption, IsInRange, All-from_get_or, All-cons, All-nil, All-append, All-map, All-push, All-weaker, IsFirstPart, line_of, words_of, IsWord, texts_tell_first_parts, numbers_are_words, lines_split_into_words, parts_make_lines, fraction, indicator_words, heading_words, length-map, append_cancel_right, take_all, get_or-map, letters_text, AreFewLetters, IsFraction, IsLetterCount, IsHeading, AreHeadingWords, HasFirstLine, IsLineText, Day, OfRotors, OfPins, Heading, Indicator, HasIndicator, HasSlots, HasPins, HasHeading, drop-cons, map, IsFalse, word_by_bytes}
+pub use Rattle.kd_form.proofs.Prelude.{figures, common_steps, ◌≡◌, ◌≢◌, ◌⊎◌, inl, inr, ℕ, ◌<◌, ◌≤◌, List, [], ◌∷◌, ◌++◌, length, get_or, take, drop, refl, sym, ap, ◌∙◌, append_assoc, length-append, length-take, arith, codes, All-head, All-tail, All-get_or, IsTrue, nat_tests, cases_Bool, cases_eq, cases_lt, false≢true, append-nil, take-append-le, take-append-drop, take-append_seam, get_or-append, get_or-append_seam, get_or-take, get_or_past, BeginsHeading, cut, parts_of, FitsAt, HasBegun, IsWithout, IsBadAt, is_text_byte, AllPass-from_list_all, All-take, All-same, take-take, take_more, rules, ◌^◌, ◌+◌, decimal, All, Option, Some, None, MatchOption, All-from_get_or, All-cons, All-nil, All-append, All-map, All-push, All-weaker, IsFirstPart, line_of, words_of, texts_tell_first_parts, numbers_are_words, lines_split_into_words, parts_make_lines, fraction, indicator_words, heading_words, length-map, append_cancel_right, take_all, get_or-map, letters_text, AreFewLetters, IsFraction, IsLetterCount, IsHeading, AreHeadingWords, HasFirstLine, IsLineText, Day, OfRotors, OfPins, Heading, Indicator, HasIndicator, HasSlots, HasPins, HasHeading, drop-cons, map, IsFalse, word_by_bytes}
 use Rattle.std.proofs.lemmas.Fmt.{digits_decimal, decimal_injective, length-decimal-le, decimal_nonempty}
 use Rattle.{kd_form.specs.FormParts.begins_heading, std.proofs.lemmas.Slice.Eq.bytes_eq-Decides}
 pub use Rattle.kd_form.proofs.OneOrder.{no_bad_byte, same_letters, same_word, bad_behind}
@@ -60,17 +60,10 @@ follows part line byte e d g = grind (arith, common_steps, begins_more, length-t
 pub not_begun : (part line : List ℕ) (byte : ℕ) → line ≡ take 64 part → ¬ (FitsAt (length line) byte)
     → (length part < 6) × ((more : List ℕ) → ¬ (BeginsHeading ((part ++ byte ∷ []) ++ more)))
 not_begun part line byte kept off =
-    let short : length line < 6 = elim (cases_lt (length line) 6) [
-      | inl less ↦ less
-      | inr long ↦ absurd (off ((λ less. absurd (omega (arith, long, less))), (λ same. absurd (omega (arith, long, same)))))
-    ] in
-    let whole : line ≡ part = whole_line 64 part line kept (omega (arith, short)) in (
-      rw whole at short,
-      λ more begun.
-          let seam : get_or ((part ++ byte ∷ []) ++ more) (length part) 0 ≡ byte =
-          ap (λ l. get_or l (length part) 0) (append_assoc part (byte ∷ []) more) ∙ get_or-append_seam part byte more 0 in
-          off (rw whole (rw seam at (fits_there ((part ++ byte ∷ []) ++ more) (length part) begun))),
-    )
+    let short : length line < 6 = grind (arith, cases_lt (length line) 6) in
+    let whole : line ≡ part = whole_line 64 part line kept (omega (arith, short)) in
+    let fits = λ (more : List ℕ). fits_there ((part ++ byte ∷ []) ++ more) (length part) in
+    (rw whole at short, λ more begun. off (grind (arith, fits more begun, append_assoc, get_or-append_seam)))
 
 cut_or_not : (byte : ℕ) (bytes : List ℕ) → ((byte ≡ 10) × BeginsHeading bytes) ⊎ ((byte ≡ 10) → ¬ (BeginsHeading bytes))
 cut_or_not byte bytes = grind (arith, cases_eq byte 10, cases_Bool (begins_heading bytes), false≢true)
@@ -236,9 +229,8 @@ fraction_from part parts small few = grind (arith, common_steps, All-append, All
 one_number : (number found byte : ℕ) (rest more : List ℕ) → number < 2 ^ 64 → found < 2 ^ 64 → byte < 48
     → decimal number ++ byte ∷ rest ≡ decimal found ++ byte ∷ more → (number ≡ found) × (rest ≡ more)
 one_number number found byte rest more small little low same =
-    let both = same_front (λ b. 48 ≤ b) (decimal number) (decimal found) (byte ∷ rest) (byte ∷ more) (number_from number small) (number_from found little)
-    (omega arith) (omega arith) same in
-    (decimal_injective number found small little both.0, ap (drop 1) both.1)
+    let both = same_front (λ b. 48 ≤ b) (decimal number) (decimal found) (byte ∷ rest) (byte ∷ more) in
+    grind (arith, both, number_from, decimal_injective number found)
 
 pub fraction_parts : (word one other : List ℕ) (part parts : ℕ) → IsFraction part parts → IsFirstPart 47 word one other
     → fraction part parts ≡ word → (decimal part ≡ one) × (decimal parts ≡ other)
@@ -247,10 +239,8 @@ fraction_parts word one other part parts number first is = search (rules, texts_
 pub same_fraction : (word one other : List ℕ) (part parts found last : ℕ) → IsFraction part parts → found < 2 ^ 8 → last < 2 ^ 8
     → IsFirstPart 47 word one other → decimal found ≡ one → decimal last ≡ other → fraction part parts ≡ word → (part ≡ found) × (parts ≡ last)
 same_fraction word one other part parts found last number small few first read also is =
-    let both = fraction_parts word one other part parts number first is in (
-      decimal_injective part found (omega (arith, number.in_order, number.few)) (omega arith) (both.0 ∙ sym read),
-      decimal_injective parts last (omega (arith, number.few)) (omega arith) (both.1 ∙ sym also),
-    )
+    let both = fraction_parts word one other part parts number first is in
+    grind (arith, both, decimal_injective part found, decimal_injective parts last)
 
 -- -------- words of letters, letter by letter
 
@@ -285,17 +275,13 @@ are_small s h is = omega (arith, is.number.in_order, is.number.few, at_most s h.
 
 -- ---- the words of a heading
 
-letters_word : (letters : List ℕ) → 1 ≤ length letters → IsWord (letters_text letters)
-letters_word letters some = grind (arith, common_steps, word_by_bytes, lower, letters_from)
-
-fraction_word : (part parts : ℕ) → part < 2 ^ 64 → parts < 2 ^ 64 → IsWord (fraction part parts)
-fraction_word part parts small few = grind (arith, word_by_bytes, length-append {A = ℕ}, lower, fraction_from)
+ruleset as_words = (word_by_bytes, lower, letters_from, fraction_from, numbers_are_words)
 
 line_words : (s : Day) (found : Option ℕ) (h : Heading) (line : List ℕ) → MatchOption found (HasPins s) (HasSlots s)
     → IsHeading s h → line_of (heading_words h) ≡ line → words_of line ≡ heading_words h
 line_words s found h line has is same =
     ap words_of (sym same) ∙ lines_split_into_words (heading_words h) (λ none. cc)
-    (grind (arith, are_small, All-cons, letters_word, fraction_word, numbers_are_words, All-nil))
+    (grind (arith, common_steps, are_small, as_words, length-append {A = ℕ}, All-cons, All-nil))
 
 pub too_many_words : (s : Day) (found : Option ℕ) (h : Heading) (line : List ℕ) → MatchOption found (HasPins s) (HasSlots s)
     → IsHeading s h → 5 < length (words_of line) → line_of (heading_words h) ≢ line
@@ -336,10 +322,6 @@ pub heading_there : (s : Day) (front body : List ℕ) (h : Heading) (rest : List
     → HasHeading s (front ++ 10 ∷ body) h rest → IsLineText front (line_of (heading_words h)) × (rest ≡ body)
 heading_there s front body h rest unbroken has = grind (arith, texts_tell_first_parts, has_byte)
 
--- without an LF, the heading is all there is
-bare_heading : (s : Day) (part : List ℕ) (h : Heading) (rest : List ℕ) → IsWithout 10 part → HasHeading s part h rest → line_of (heading_words h) ≡ part
-bare_heading s part h rest unbroken has = grind (arith, has_byte)
-
 -- a line has one text
 one_line_text : (line text other : List ℕ) → IsLineText line text → IsLineText line other → text ≡ other
 one_line_text line text other e d = grind (arith, append_cancel_right)
@@ -349,39 +331,35 @@ one_line_text line text other e d = grind (arith, append_cancel_right)
 heading_length : (s : Day) (found : Option ℕ) (h : Heading) → MatchOption found (HasPins s) (HasSlots s) → IsHeading s h
     → length (line_of (heading_words h)) ≤ 50
 heading_length s found h has is =
-    let small : IsSmall h = are_small s h is in
-    let most : h.letters ≤ 520 = at_most s h.letters is.letters in
-    let few : length (decimal h.letters) ≤ 3 = length-decimal-le 3 h.letters (omega arith) (omega arith) small.letters in
-    let one : length (decimal h.part) ≤ 2 = length-decimal-le 2 h.part (omega arith) (omega (arith, is.number.in_order, is.number.few)) small.part in
-    let all : length (decimal h.parts) ≤ 2 = length-decimal-le 2 h.parts (omega arith) (omega (arith, is.number.few)) small.parts in
-    grind (arith, length-append {A = ℕ}, length-map)
+    let count = length-decimal-le 3 h.letters in
+    let one = length-decimal-le 2 h.part in
+    let all = length-decimal-le 2 h.parts in
+    grind (arith, are_small s h is, at_most s h.letters is.letters, count, one, all, length-append {A = ℕ}, length-map)
 
 pub open_told : (s : Day) (found : Option ℕ) (part line : List ℕ) (answer : Option Heading) → MatchOption found (HasPins s) (HasSlots s) → IsTold s answer line
     → IsWithout 10 part → line ≡ take 64 part
     → MatchOption answer ((h : Heading) (body : List ℕ) → ¬ (HasHeading s part h body)) (λ h. HasHeading s part h [])
 open_told s found part line None has told unbroken kept = λ h body there.
-    let is : line_of (heading_words h) ≡ part = bare_heading s part h body unbroken there in
-    let size : length (line_of (heading_words h)) ≤ 50 = heading_length s found h has there.is_heading in
-    told h there.is_heading (is ∙ sym (kept ∙ take_all 64 part (omega (arith, ap length is))))
+    let is : line_of (heading_words h) ≡ part = grind (arith, has_byte) in
+    let size = heading_length s found h has there.is_heading in
+    told h there.is_heading (is ∙ sym (kept ∙ take_all 64 part (omega (arith, ap length is, size))))
 open_told s found part line (Some h) has told unbroken kept =
-    let size : length (line_of (heading_words h)) ≤ 50 = heading_length s found h has told.0 in
-    let whole : line ≡ part = whole_line 64 part line kept (omega (arith, ap length told.1)) in
-    record { is_heading = told.0; first = inr (unbroken, sym whole ∙ sym told.1, refl) }
+    let size = heading_length s found h has told.0 in
+    let whole : line ≡ part = whole_line 64 part line kept (grind (arith, told.1, size)) in
+    record { is_heading = told.0; first = inr (unbroken, cc (whole, told.1), refl) }
 
 pub ended_told : (s : Day) (found : Option ℕ) (part line text : List ℕ) (answer : Option Heading)
     → MatchOption found (HasPins s) (HasSlots s) → IsLineText line text → IsTold s answer text → IsWithout 10 part → line ≡ take 64 part
     → MatchOption answer ((h : Heading) (body : List ℕ) → ¬ (HasHeading s (part ++ 10 ∷ []) h body))
     (λ h. IsHeading s h × IsLineText part (line_of (heading_words h)))
 ended_told s found part line text None has cut told unbroken kept = λ h body there.
-    let words : List ℕ = line_of (heading_words h) in
-    let shown : IsLineText part words = (heading_there s part [] h body unbroken there).0 in
-    let size : length words ≤ 50 = heading_length s found h has there.is_heading in
-    let whole : line ≡ part = kept ∙ take_all 64 part (grind (arith, length-append {A = ℕ})) in
-    told h there.is_heading (one_line_text part words text shown (rw whole at cut))
+    let shown = (heading_there s part [] h body unbroken there).0 in
+    let size = heading_length s found h has there.is_heading in
+    let whole : line ≡ part = kept ∙ take_all 64 part (grind (arith, shown, size, length-append {A = ℕ})) in
+    told h there.is_heading (one_line_text part _ text shown (rw whole at cut))
 ended_told s found part line text (Some h) has cut told unbroken kept =
-    let size : length (line_of (heading_words h)) ≤ 50 = heading_length s found h has told.0 in
-    let whole : line ≡ part = whole_line 64 part line kept (grind (arith, length-append {A = ℕ})) in
-    (told.0, rw (whole, ← told.1) at cut)
+    let size = heading_length s found h has told.0 in
+    (told.0, rw (whole_line 64 part line kept (grind (arith, size, length-append {A = ℕ})), ← told.1) at cut)
 
 -- -------- a part has one heading, and one body
 
@@ -396,9 +374,6 @@ one_end s count found None None small little has had same = (decimal_injective c
 one_end (OfRotors s) count found _ _ small little has had same = search
 one_end (OfPins s) count found _ _ small little has had same = search
 
-same_heading : (s : Day) (h other : Heading) → IsHeading s h → IsHeading s other → line_of (heading_words h) ≡ line_of (heading_words other) → h ≡ other
-same_heading s h other is also same = grind (arith, are_small, one_number, append_assoc, one_end)
-
 -- ---- the line and the body
 
 one_first_line : (text line other rest more : List ℕ) → HasFirstLine text line rest → HasFirstLine text other more
@@ -410,7 +385,7 @@ pub one_heading : (s : Day) (part : List ℕ) (h other : Heading) (body rest : L
     → HasHeading s part other rest → (h ≡ other) × (body ≡ rest)
 one_heading s part h other body rest a b =
     let same = one_first_line part _ _ body rest a.first b.first in
-    (same_heading s h other a.is_heading b.is_heading same.0, same.1)
+    (grind (arith, same, are_small, one_number, append_assoc, one_end), same.1)
 
 -- the line begins with PART, a space and a digit
 pub words_begin : (s : Day) (h : Heading) (more : List ℕ) → IsHeading s h → BeginsHeading (line_of (heading_words h) ++ more)

@@ -1,7 +1,7 @@
 -- Fronts of a list that are told by what they have, text that is plain, and the lines of an order up to its text.
 use Rattle.{std.specs.Cmp.Lexicographic.pointwise_decides, kd_state.specs.Machine.AreLetters}
 use Rattle.kd_form.specs.declared.pattern_line.Unread.TheVariants.{Open, Off}
-pub use Rattle.kd_form.proofs.Prelude.{err_is, ◌≡◌, ◌≢◌, ℕ, ◌+◌, ◌≤◌, ◌<◌, true, List, [], ◌∷◌, ◌++◌, refl, subst, length-append, arith, take, ap, ◌∙◌, length, sym, codes, All, nat_le, IsTrue, is_text_byte, list_all, nat_tests, get_or_append_left, take_all, length-take, AllPass-from_list_all, All-append, All-cons, All-map, All-weaker, All-head, All-tail, letters_text, line_of, IsWithout, Option, option_to_list, letter_of_byte, letters_from, Keys, Rotor, Pin, key_words, common_steps, zero, suc, inl, inr, false, get_or, drop, replicate, append_assoc, length-drop, ◌==◌, AllWithin, cases_Bool, get_or-take, take-append-drop, length-replicate, length-take-le, append-nil, drop_more, All-nil, All-replicate, All-take, All-drop, Unread, IsEnded, IsKeyLine, filled_in, blanks, fits, letters_at, IsFilledLine, IsPatternLine, AreAppended, BreaksOff, Result, Ok, Err, MatchResult, Day, OfRotors, OfPins, AreKeys, places_for, rotor_pattern, key_pattern, key_letters, IsAnyKeyLine, FormFault, Suits, IsKeysFault, IsFirstKeysFault, BeginsWithKeys, nil_from_length, false≢true}
+pub use Rattle.kd_form.proofs.Prelude.{err_is, ◌≡◌, ◌≢◌, ℕ, ◌+◌, ◌≤◌, ◌<◌, true, List, [], ◌∷◌, ◌++◌, refl, subst, length-append, arith, take, ap, ◌∙◌, length, sym, codes, All, nat_le, IsTrue, is_text_byte, list_all, nat_tests, take_all, length-take, AllPass-from_list_all, All-append, All-cons, All-map, All-weaker, All-head, All-tail, letters_text, line_of, IsWithout, Option, option_to_list, letter_of_byte, letters_from, Keys, Rotor, Pin, key_words, common_steps, zero, suc, inl, inr, false, get_or, drop, replicate, append_assoc, length-drop, ◌==◌, AllWithin, cases_Bool, get_or-take, take-append-drop, length-replicate, length-take-le, append-nil, drop_more, All-nil, All-replicate, All-take, All-drop, Unread, IsEnded, IsKeyLine, filled_in, blanks, fits, letters_at, IsFilledLine, IsPatternLine, AreAppended, BreaksOff, Result, Ok, Err, MatchResult, Day, OfRotors, OfPins, AreKeys, places_for, rotor_pattern, key_pattern, key_letters, IsAnyKeyLine, FormFault, Suits, IsKeysFault, IsFirstKeysFault, BeginsWithKeys, nil_from_length, false≢true}
 
 -- the list begins with nothing that has the property
 abbrev pub IsOff : {X : Type 0} → (X → Type 0) → List X → Type 0

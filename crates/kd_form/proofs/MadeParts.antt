@@ -1,5 +1,5 @@
 -- How a part of a form is made: ciphers and their letters, the internal key, and the letters in groups.
-pub use Rattle.kd_form.proofs.Prelude.{◌≡◌, ◌∙◌, ℕ, ◌<◌, List, [], ◌∷◌, length, get_or, arith, All, slice_index, enumerate_from, get_or-eq_default, cases_lt, length-map, All-get_or, All-from_get_or, All-map, Day, OfRotors, OfPins, cipher_from, ◌≢◌, suc, ◌+◌, ◌≤◌, inl, inr, ◌++◌, map, refl, ap, subst, append_assoc, length-append, slice_get, Some, Contains, cases_eq, append-nil, map_push, ComesFirst, ArePicked, IsInternalKey, HaveRunOut, IsTakenInTurn, OnWheel, OffWheel, ◌-◌, ◌%◌, take, drop, sym, length-drop, add-one, min, replicate, codes, decimal, Option, MatchOption, IsSome, option_map, div_ceil, join_with_byte, div-eq_of_lt, mod-eq_of_lt, take_min, drop_min, length-replicate, Heading, fraction, indicator_words, heading_words, pieces, behind_spaces, with_line, Part, pin_day, IsLegalDay, Keys, Rotor, Pin, PinKeys, Indicator, Suits, indicator_of, rotor_letters, enciphered_choice, pin_letters, list_letters, IsMade, part_size, pin_indicators, filled, sheet_key, IsWindow, take-append_seam, drop-append_seam, HasIndicator, message_key, HasIndicatorsAround, group_in, keys_in, list_in, text_in, SaysLetters, Ok, All-append, All-cons, All-replicate, twice_on_key, IsFraction, IsHeading, sent_letters, AreKeys, nat_tests, nil_from_length, AreRising}
+pub use Rattle.kd_form.proofs.Prelude.{◌≡◌, ◌∙◌, ℕ, ◌<◌, List, [], ◌∷◌, length, get_or, arith, All, slice_index, enumerate_from, get_or-eq_default, cases_lt, length-map, All-get_or, All-from_get_or, All-map, Day, OfRotors, OfPins, cipher_from, ◌≢◌, suc, ◌+◌, ◌≤◌, inl, inr, ◌++◌, map, refl, ap, subst, append_assoc, length-append, slice_get, Some, Contains, cases_eq, append-nil, map_push, ComesFirst, ArePicked, IsInternalKey, HaveRunOut, IsTakenInTurn, OnWheel, OffWheel, ◌-◌, ◌%◌, take, drop, sym, length-drop, add-one, min, replicate, codes, decimal, Option, option_map, div_ceil, join_with_byte, div-eq_of_lt, mod-eq_of_lt, take_min, drop_min, length-replicate, Heading, fraction, indicator_words, heading_words, pieces, behind_spaces, with_line, Part, pin_day, IsLegalDay, Keys, Rotor, Pin, PinKeys, Indicator, Suits, rotor_letters, enciphered_choice, pin_letters, list_letters, IsMade, part_size, pin_indicators, filled, sheet_key, IsWindow, take-append_seam, drop-append_seam, HasIndicator, message_key, HasIndicatorsAround, group_in, keys_in, list_in, text_in, SaysLetters, Ok, All-append, All-cons, All-replicate, twice_on_key, IsFraction, IsHeading, sent_letters, AreKeys, nat_tests, AreRising}
 use Rattle.std.proofs.lemmas.List.FromFn.{length-enumerate_from, length-range_with_len, get_or-range_with_len}
 use Rattle.kd_tables.specs.{Permutation.alphabet, Permutation.followed_by, Rings.ring_of}
 use Rattle.kd_enigma.specs.Cipher.{product, path}
@@ -138,13 +138,9 @@ picks_of : (letters : List ℕ) (wheel start : ℕ) (places : List ℕ) → AreR
     → Picks letters wheel start places
 picks_of letters wheel start [] rising count each = omega arith
 picks_of letters wheel start (place ∷ places) (after, inside, rising) count each =
-    let on = subst (λ w. Contains (ring_of w) (slice_index letters place)) (omega arith) (each 0 (slice_index letters place) refl) in (
-      after,
-      inside,
-      on,
-      picks_of letters (wheel + 1) (place + 1) places rising (omega arith)
-          (λ i letter is. subst (λ w. Contains (ring_of w) letter) (omega arith) (each (suc i) letter is)),
-    )
+    let on = each 0 (slice_index letters place) refl in
+    let rest = picks_of letters (wheel + 1) (place + 1) places rising (omega arith) in
+    (after, inside, grind (arith, on), rest (λ i letter is. grind (arith, each (suc i) letter is)))
 
 picks_from_picked : (letters places picked : List ℕ) → ArePicked letters places picked → Picks letters 1 0 places
 picks_from_picked letters places picked are = grind (arith, picks_of, length-map)
@@ -260,16 +256,14 @@ part_gives_back (OfRotors s) part parts (Rotor k) piece made legal are suits fra
     omega (arith, length-append {A = ℕ}, enciphered_length day k.key piece, are.fillers.count, are.group.count) in
     let key : cipher_from day k.start (cipher_from day k.start k.key) ≡ k.key = twice_on_key day k.start k.key legal are.key.within in
     let text : cipher_from day k.key enciphered ≡ piece = twice_on_key day k.key piece legal is.within in
+    let placed = rotor_places k.fillers k.group enciphered are.fillers.count are.group.count in
     rw makes (record {
       is_heading = grind (arith, count, enciphered_length day k.start k.key, enciphered_letters day k.start k.key);
       numbered = refl;
       so_many = refl;
-      within = All-append (λ letter. letter < 26) (k.fillers ++ k.group) enciphered
-          (All-append (λ letter. letter < 26) k.fillers k.group are.fillers.within are.group.within) (enciphered_letters day k.key piece);
+      within = grind (arith, All-append (λ letter. letter < 26), are, enciphered_letters day k.key piece);
       counted = refl;
-      read = let placed = rotor_places k.fillers k.group enciphered are.fillers.count are.group.count in
-          let is = sym text ∙ ap (λ window. cipher_from day window enciphered) (sym key) ∙ ap (cipher_from day (message_key day (indicator_of day k))) (sym placed.1) in
-          inr (rw (placed.0) suits, ap Ok is);
+      read = inr (rw (placed.0) suits, grind (arith, placed, key, text));
     })
 part_gives_back (OfPins s) part parts (Pin k) piece made legal are suits fraction is (internal, first, makes) =
     let day : Day = OfPins s in

@@ -1,5 +1,5 @@
 -- An order is read in one way, and becomes one form, or has one fault.
-pub use Rattle.kd_form.proofs.Prelude.{common_steps, ◌≡◌, ◌≢◌, ℕ, ◌+◌, inl, inr, List, [], ◌∷◌, ◌++◌, length, map, refl, sym, ap, subst, ◌∙◌, append_assoc, arith, Err, Ok, drop, ◌≤◌, ◌⊎◌, codes, All, slice_index, IsTrue, IsFalse, append_cancel_right, append-nil, All-cons, All-nil, All-map, letters_text, is_text_byte, line_of, Day, OfRotors, OfPins, Keys, Rotor, Pin, ComesFirst, IsInternalKey, key_words, AreKeys, IsEnded, BeginsWithKeys, IsOrder, IsHead, IsHeadFault, IsMadeText, enciphered_choice, part_size, Suits, pieces, AreMadeTexts, text_letters, parts_needed, IsBadAt, IsKeysFault, IsFirstKeysFault, StandsInOrder, InHead, InKeys, InText, Cut, NoLetter, InParts, IsSendFault, IsSendable, IsFormOf, Answer, IsCaught, IsFound, IsJudged, false≢true, FormFault, BadByte, EmptyText, PartKeys, nil_from_length, length-append}
+pub use Rattle.kd_form.proofs.Prelude.{common_steps, ◌≡◌, ◌≢◌, ℕ, ◌+◌, inl, inr, List, [], ◌∷◌, ◌++◌, length, refl, sym, ap, subst, ◌∙◌, append_assoc, arith, Err, Ok, drop, ◌≤◌, ◌⊎◌, codes, All, IsTrue, IsFalse, append_cancel_right, append-nil, All-cons, All-nil, All-map, letters_text, is_text_byte, line_of, Day, OfRotors, OfPins, Keys, Rotor, Pin, ComesFirst, IsInternalKey, key_words, AreKeys, IsEnded, BeginsWithKeys, IsOrder, IsHead, IsHeadFault, IsMadeText, enciphered_choice, part_size, Suits, pieces, AreMadeTexts, text_letters, parts_needed, IsBadAt, IsKeysFault, IsFirstKeysFault, StandsInOrder, InHead, InKeys, InText, Cut, NoLetter, InParts, IsSendFault, IsSendable, IsFormOf, Answer, IsCaught, IsFound, IsJudged, false≢true, FormFault, BadByte, EmptyText, PartKeys, nil_from_length, length-append}
 use Rattle.kd_form.proofs.Lines.{same_front, plain_keys, key_first, text_front, same_line, plain_text}
 
 -- there is one answer at most
@@ -166,9 +166,8 @@ no_keys_fault s keys fault all is = grind (arith, same_front (Suits s) keys is.b
 
 pub one_bad_byte : (text : List ℕ) → IsOnly (IsBadAt text)
 one_bad_byte text place other a b =
-    let same = same_front (λ x. IsTrue (is_text_byte x)) a.before b.before (a.byte ∷ a.rest) (b.byte ∷ b.rest) a.allowed b.allowed (λ is. false≢true (sym a.bad ∙ is))
-    (λ is. false≢true (sym b.bad ∙ is)) (sym a.joined ∙ b.joined) in
-    a.size ∙ ap length same.0 ∙ sym b.size
+    let same = same_front (λ x. IsTrue (is_text_byte x)) a.before b.before (a.byte ∷ a.rest) (b.byte ∷ b.rest) in
+    grind (arith, same, false≢true, a.bad, b.bad, a.joined, b.joined, a.size, b.size)
 
 -- behind bytes that are allowed
 pub bad_behind : (front rest : List ℕ) (byte : ℕ) → All (λ b. IsTrue (is_text_byte b)) front → IsFalse (is_text_byte byte)

@@ -1,5 +1,5 @@
 -- A form becomes one text, or has one fault; and what refuses it for good.
-pub use Rattle.kd_form.proofs.Prelude.{err_is, append-nil, ◌≡◌, ℕ, ◌+◌, ◌-◌, inl, inr, List, [], ◌∷◌, ◌++◌, length, Result, Ok, Err, refl, sym, ap, subst, ◌∙◌, append_assoc, arith, All, IsTrue, Option, Some, None, is_text_byte, Day, FormFault, BadByte, BadHeading, PartOrder, Heading, Indicator, enciphered_choice, letters_from, IsBadAt, keys_in, Answer, IsCaught, IsJudged, IsSought, SaysBody, SaysLetters, HasHeading, IsExpected, IsPartRead, IsPartFault, InHeading, InNumber, InBody, BeginsHeading, IsAt, OfRest, Place, at_first, place_behind, ReadsTo, IsComplete, StandsAt, EndsAt, AtPart, cut, parts_of, IsTextOf, NoHeading, IsReceiveFault, false, ◌⊎◌, length-append, Port, Fail, Parts, IsEarlyFault, form_message, IsKeyFault, orders, Answers, AreWell, is_device, is_off_key, texts, IsWithout, FormsBecomeOneText, FormsHaveOneFault, FormsStayRefused, ReceivedFormsHaveNoFault, Message, given_text, false≢true, Off, OffKey}
+pub use Rattle.kd_form.proofs.Prelude.{err_is, append-nil, ◌≡◌, ℕ, ◌+◌, ◌-◌, inl, inr, List, [], ◌∷◌, ◌++◌, length, Result, Ok, Err, refl, sym, ap, subst, ◌∙◌, append_assoc, arith, All, IsTrue, Option, Some, None, is_text_byte, Day, FormFault, BadByte, BadHeading, PartOrder, Heading, Indicator, enciphered_choice, letters_from, IsBadAt, keys_in, Answer, IsCaught, IsJudged, IsSought, SaysBody, SaysLetters, HasHeading, IsExpected, IsPartRead, IsPartFault, InHeading, InNumber, InBody, BeginsHeading, IsAt, OfRest, Place, at_first, place_behind, ReadsTo, IsComplete, StandsAt, EndsAt, AtPart, cut, parts_of, IsTextOf, NoHeading, IsReceiveFault, false, length-append, Port, Fail, Parts, IsEarlyFault, form_message, IsKeyFault, orders, Answers, AreWell, is_device, is_off_key, texts, IsWithout, FormsBecomeOneText, FormsHaveOneFault, FormsStayRefused, ReceivedFormsHaveNoFault, given_text, false≢true}
 use Rattle.kd_form.proofs.OneOrder.{only_this, only_either, only_found, only_judged, only_caught, one_internal_key, one_bad_byte, no_bad_byte, IsOnly}
 use Rattle.kd_form.proofs.Headings.{one_heading, begins_there, begins_more, first_there, ended_heading, heading_there, IsAlike, alike, as_parts, first_done, single}
 

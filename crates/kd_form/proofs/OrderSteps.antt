@@ -1,5 +1,5 @@
 -- The reader of an order, byte by byte, and at the end.
-pub use Rattle.kd_form.proofs.Prelude.{append-nil, length-take, [], ◌≡◌, ◌≢◌, ℕ, zero, suc, ◌+◌, ◌*◌, ◌<◌, ◌≤◌, inl, inr, List, ◌∷◌, ◌++◌, Some, length, take, drop, refl, sym, ap, ◌∙◌, append_assoc, length-append, length-drop, arith, get_or, Option, Result, Ok, Err, IsTrue, slice_get, codes, All, MatchResult, div_ceil, take_all, drop_all, drop-take, drop-drop, take-take, take_more, length-take-le, Day, Keys, pieces, IsMadeText, part_size, Suits, parts_needed, AreMadeTexts, letters_from, text_letters, IsFirstKeysFault, StandsInOrder, InHead, InKeys, InText, NoLetter, InParts, CanBeWritten, IsSendable, IsSentBefore, orders, AreSuitedKeys, AreTaken, IsHeadRead, IsHeadLine, IsTextRead, IsLastTaken, IsFresh, IsOpen, IsOrderRead, IsStageRead, All-nil, Unread, AreKeys, IsPatternLine, BreaksOff, key_pattern, key_words, line_of, IsEnded, IsKeyLine, BeginsWithKeys, IsAnyHead, IsHead, IsOrder, IsHeadFault, is_text_byte, FormFault, IsRefused, Closes, Held, IsAnyKeyLine, common_steps, BadByte, Cut, blank_of, All-push, filter_map-append, ◌-◌, cases_lt, drop_at, le_of_mul-le-mul_left, take_at}
+pub use Rattle.kd_form.proofs.Prelude.{append-nil, length-take, [], ◌≡◌, ◌≢◌, ℕ, zero, suc, ◌+◌, ◌*◌, ◌<◌, ◌≤◌, inl, inr, List, ◌∷◌, ◌++◌, Some, length, take, drop, refl, sym, ap, ◌∙◌, append_assoc, length-append, length-drop, arith, get_or, Option, Result, Ok, Err, IsTrue, slice_get, codes, All, MatchResult, div_ceil, take_all, drop_all, drop-take, drop-drop, take-take, take_more, length-take-le, Day, Keys, pieces, IsMadeText, part_size, Suits, parts_needed, AreMadeTexts, letters_from, text_letters, IsFirstKeysFault, StandsInOrder, InHead, InKeys, InText, NoLetter, InParts, CanBeWritten, IsSentBefore, orders, AreTaken, IsHeadRead, IsHeadLine, IsTextRead, IsLastTaken, IsFresh, IsOpen, IsOrderRead, IsStageRead, All-nil, Unread, AreKeys, IsPatternLine, BreaksOff, key_pattern, key_words, line_of, IsEnded, IsKeyLine, BeginsWithKeys, IsAnyHead, IsHead, IsOrder, IsHeadFault, is_text_byte, FormFault, IsRefused, Closes, Held, IsAnyKeyLine, common_steps, BadByte, Cut, blank_of, All-push, filter_map-append, ◌-◌, cases_lt, drop_at, le_of_mul-le-mul_left, take_at}
 use Rattle.std.proofs.lemmas.{Grind.div_ceil_times, Option.slice_get_within, Option.get_or_from_slice_get}
 use Rattle.kd_form.specs.declared.{order_reader.parts.PartWriter.PartWriter, order_reader.head.HeadReader.HeadReader}
 use Rattle.kd_form.specs.declared.{order_reader.OrderReader.OrderReader, order_reader.Stage.Stage}
@@ -59,9 +59,6 @@ module _ (s : Day) (keys : List Keys) (w : PartWriter) (k : Keys) (letters sent 
 
 -- -------- an order up to its text, byte by byte
 
-short_line : (s : Day) → length (key_pattern s) ≤ 21 → (line : List ℕ) → IsAnyKeyLine s line → length line ≤ 23
-short_line s few line is = grind (arith, common_steps, as_form_line, length-filled, length-append {A = ℕ})
-
 module _ (s : Day) (count : ℕ) where
   -- its first byte tells whether it is a line of keys
   pub next_keys : (line : List ℕ) (why : Unread) → get_or line 0 0 ≡ 80 → count < 99
@@ -112,7 +109,7 @@ head_next s count (k ∷ keys) bytes few (line, rest, are, is, later, joined) = 
 
 module _ (s : Day) (keys : List Keys) (line order : List ℕ) (is : IsHeadRead s keys line order) where
   pub line_short : length (key_pattern s) ≤ 21 → length line < 25
-  line_short few = grind (arith, short_line s few, length-append {A = ℕ})
+  line_short few = grind (arith, common_steps, as_form_line, length-filled, length-append {A = ℕ})
 
   pub text_head : (more : List ℕ) → IsEnded (codes "TEXT") (line ++ more) → IsHead s keys (order ++ more)
   text_head more ended = grind (arith, append-nil keys, lines_more)
@@ -221,12 +218,11 @@ module _ (s : Day) where
         stage = rw here (record {
           head = order;
           text = [];
-          sendable = record { is_order = is; suited = suited; allowed = All-nil (λ b. IsTrue (is_text_byte b)) };
+          sendable = grind (arith, All-nil);
           taken = record {
-            suited =
-                record { of_the_day = all_of_the_day _ _ _ _ is.is_head.lines; suited = suited; few = is.is_head.few };
+            suited = grind (arith, all_of_the_day, is.is_head.lines);
             counted = fresh.none;
-            written = rw fresh.unwritten (record { due = inl refl; most = λ n inside begun. omega (arith, begun) });
+            written = grind (arith, fresh.unwritten);
             kept = grind (arith, drop_all {X = ℕ}, take_all {A = ℕ});
             made = rw (fresh.unwritten, first, no_piece) nil;
           };

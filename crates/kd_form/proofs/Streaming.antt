@@ -1,5 +1,5 @@
 -- Bytes that are fed one after another, reads that follow one another, and texts that are typed so.
-pub use Rattle.kd_form.proofs.Prelude.{err_is, append-nil, take-append-drop, AtSource, InFeeding, IsStopped, [], ◌≡◌, ℕ, ◌+◌, ◌-◌, ◌≤◌, ◌<◌, Bool, true, false, ◌||◌, List, ◌++◌, Option, Some, Result, Ok, Err, length, take, drop, IsTrue, refl, sym, ap, subst, ◌∙◌, append_assoc, length-append, length-drop, arith, Appends, Consumes, Keeps, IsAtEnd, starts_with_of_append, read_limit, Port, IsWell, Ends, TakesFront, FormFault, Message, ByThen, ByTheEnd, Answers, Whole, Stands, AtEnd, SourceFails, SinkFails, IsStreamed, FallsShort, ClosesAt, Held, HasRoom, FedTo, IsFed, FeedsAll, EndsIn, ClosesAs, IsRead, ReadsNext, fault_of, answer_to, stops_at_device, length-take-le, ◌∷◌, IsFalse, get_or, suc, drop-cons, map-append, take_all, All-append, filter_map-append, is_text_byte, Parts, cipher_in_turn, engine_cipher, EngineKey, cipher, physical_cipher, BadByte, IsRefused, cipher_text, texts, IsTextFault, Lights, IsAllowedTo, IsTypedTo, take_more, rules, TooLong, port, All-nil, letters_text, typed_letters, false≢true, NotReady, Off}
+pub use Rattle.kd_form.proofs.Prelude.{err_is, append-nil, take-append-drop, AtSource, InFeeding, IsStopped, [], ◌≡◌, ℕ, ◌+◌, ◌-◌, ◌≤◌, ◌<◌, Bool, true, false, ◌||◌, List, ◌++◌, Option, Some, Result, Ok, Err, length, take, drop, IsTrue, refl, sym, ap, subst, ◌∙◌, append_assoc, length-append, length-drop, arith, Appends, Consumes, Keeps, IsAtEnd, starts_with_of_append, read_limit, Port, IsWell, Ends, TakesFront, FormFault, Message, ByThen, ByTheEnd, Answers, Whole, Stands, AtEnd, SinkFails, IsStreamed, FallsShort, ClosesAt, Held, HasRoom, IsFed, FeedsAll, EndsIn, ClosesAs, IsRead, ReadsNext, fault_of, answer_to, stops_at_device, length-take-le, ◌∷◌, IsFalse, get_or, suc, drop-cons, map-append, take_all, All-append, filter_map-append, is_text_byte, Parts, cipher_in_turn, engine_cipher, cipher, physical_cipher, BadByte, IsRefused, cipher_text, texts, IsTextFault, Lights, IsAllowedTo, IsTypedTo, take_more, rules, TooLong, port, All-nil, letters_text, typed_letters, false≢true, NotReady, Off}
 pub use Rattle.std.proofs.KnownBytes.{Consumes-nil, Consumes-kept, Consumes-trans, Appends-nil, Appends-trans, starts_with_rest}
 use Rattle.kd_form.specs.declared.{stream.stop.Stop.Stop, typing.Typist.Typist}
 use Rattle.kd_form.specs.StreamSteps.{Ends as MessageEnds}
@@ -179,13 +179,9 @@ SoFar-ended m holds had has next sink a b c count before end is ends well = grin
 
 -- -------- what a piece of a text lights up, and what was typed so far
 
--- no letters light no lamp
-cipher_text-nil : (key : EngineKey) → cipher_text (cipher key) [] ≡ []
-cipher_text-nil key = grind arith
-
 module _ (m : Parts) where
   text_is : (t : Typist) (bytes text : List ℕ) → IsTypedTo m t bytes text → text ≡ cipher_text (physical_cipher m) bytes
-  text_is t bytes text typed = grind (arith, append-nil text, cipher_text-nil t.engine, append-nil bytes, bytes)
+  text_is t bytes text typed = grind (arith, append-nil text, append-nil bytes, bytes)
 
   pub typed_held : (t : Typist) (bytes text : List ℕ) → IsTypedTo m t bytes text
       → Held (texts (physical_cipher m)) (IsTypedTo m t) bytes text
@@ -202,15 +198,12 @@ module _ (m : Parts) where
       → IsFalse (is_text_byte byte)
       → IsRefused (texts (physical_cipher m)) (front ++ byte ∷ rest) text (BadByte (length front + 1))
   refused_there t front rest text byte typed bad =
-      let longer : (more : List ℕ) → (front ++ byte ∷ rest) ++ more ≡ front ++ byte ∷ (rest ++ more) = λ more. append_assoc front (byte ∷ rest) more in
-      let fault = BadByte (length front + 1) in
-      let stands : (more : List ℕ) → IsTextFault ((front ++ byte ∷ rest) ++ more) fault = λ more.
-      subst (λ l. IsTextFault l fault) (sym (longer more))
-      (length front, bad_behind front (rest ++ more) byte typed.allowed bad, refl) in
+      let stands : (more : List ℕ) → IsTextFault ((front ++ byte ∷ rest) ++ more) (BadByte (length front + 1)) = λ more.
+      rw append_assoc (length front, bad_behind front (rest ++ more) byte typed.allowed bad, refl) in
       record {
         stands = stands;
         refused = stands;
-        written = λ more. (front, rw (longer more) (grind arith), text_is t front text typed);
+        written = λ more. (front, rw append_assoc (grind arith), text_is t front text typed);
       }
 
   -- ---- a piece more
@@ -227,25 +220,19 @@ module _ (m : Parts) where
 
     pub read_whole : (took wrote : Option (List ℕ)) (d f : Bool) → Appends took wrote lamps → length more ≤ n
         → FeedsAll (texts (physical_cipher m)) (IsTypedTo m old) (IsTypedTo m new) more (over took wrote d f) (Ok tt)
-    read_whole took wrote d f wrote_all all bytes text held = record {
-      made = lamps;
-      written = wrote_all;
-      fed = typed_held new (bytes ++ more) (text ++ lamps) (subst (λ l. IsTypedTo m new (bytes ++ l) (text ++ lamps)) (take_all n more all) (typed_on bytes text held.is));
-    }
+    read_whole took wrote d f wrote_all all bytes text held =
+        let typed = typed_held new (bytes ++ take n more) (text ++ lamps) (typed_on bytes text held.is) in
+        record { made = lamps; written = wrote_all; fed = rw (take_all n more all) at typed }
 
     pub read_refused : (took wrote : Option (List ℕ)) (d f : Bool) → Appends took wrote lamps → n < length more
         → FeedsAll (texts (physical_cipher m)) (IsTypedTo m old) (IsTypedTo m new) more (over took wrote d f) (Err (stops.Refused (BadByte (new.read + 1))))
     read_refused took wrote d f wrote_all inside bytes text held =
         let typed = typed_on bytes text held.is in
         let rest = drop (suc n) more in
-        let byte = get_or more n 0 in
-        let joined : (bytes ++ take n more) ++ byte ∷ rest ≡ bytes ++ more =
-        append_assoc bytes (take n more) (byte ∷ rest) ∙ ap (λ l. bytes ++ l) (sym (append_assoc (take n more) (byte ∷ []) rest) ∙ up_to more n inside) in
-        record {
-          made = lamps;
-          written = wrote_all;
-          fed = rw (typed.counted, ← joined) (refused_there new (bytes ++ take n more) rest (text ++ lamps) byte typed (front.next inside));
-        }
+        let there = refused_there new (bytes ++ take n more) rest (text ++ lamps) (get_or more n 0) typed in
+        let fed = there (front.next inside) in
+        let joined = up_to more n in
+        record { made = lamps; written = wrote_all; fed = grind (arith, fed, append_assoc, joined, typed.counted) }
 
     pub read_in_part : (took wrote : Option (List ℕ)) (d f : Bool) → TakesFront took wrote lamps
         → FeedsAll (texts (physical_cipher m)) (IsTypedTo m old) (IsTypedTo m new) more (over took wrote d f) (Err stops.Device)

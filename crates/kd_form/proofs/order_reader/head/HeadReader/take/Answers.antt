@@ -1,4 +1,4 @@
-use Rattle.kd_form.proofs.OrderSteps.{goes_on, head_open, head_next, no_next, one_more, text_head, ◌≡◌, ℕ, List, [], ◌∷◌, ◌++◌, ◌+◌, ◌≤◌, refl, inr, inl, ap, sym, append-nil, length, length-append, arith, codes, behind}
+use Rattle.kd_form.proofs.OrderSteps.{goes_on, head_open, head_next, no_next, one_more, text_head, ◌≡◌, ℕ, List, [], ◌∷◌, ◌++◌, ◌+◌, ◌≤◌, refl, inr, inl, ap, append-nil, length, length-append, arith, codes, behind}
 use Rattle.kd_form.proofs.order_reader.head.HeadReader.take.Goals as goal
 
 -- the line of keys is whole
