@@ -2,7 +2,6 @@
 //! both.
 #![tactic(auto)]
 
-mod appending;
 mod card;
 mod carrying;
 mod fault;
@@ -19,14 +18,13 @@ mod read;
 mod rotor_lines;
 mod write;
 
-pub use appending::{push_line, push_two};
 pub use card::Card;
 pub use carrying::{IllegalAt, carry_all};
 pub use fault::CardFault;
 pub use group::Group;
 pub use kinds::{BarKind, CableKind, PairKind, PricedKind, RowKind};
 pub use look::Look;
-pub use loose::loose_settings;
+pub use loose::{loose_settings, push_line};
 pub use prices::{PriceParts, Prices, Version};
 pub use read::read_card;
 pub use write::write_card;

@@ -9,7 +9,7 @@ ghost use Rattle.kd_state.specs.SheetDay.{OfRotors};
 ghost use Rattle.kd_state.specs.Entry.{rotor_values};
 ghost use Rattle.kd_card.specs.Loose.{unless_so, lines_from, seat_of, ring_of_wheel, turn_of, loose_lines};
 
-use super::appending::push_line;
+use super::loose::push_line;
 use arrayvec::ArrayVec;
 use kd_state::{Machine, RotorEntry, RotorParts, Setting, Settings, SheetWheel};
 use kd_tables::{Reflector, Wheel};
