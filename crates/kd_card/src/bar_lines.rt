@@ -7,7 +7,7 @@ ghost use Rattle.kd_state.specs.Setting.{is_at};
 ghost use Rattle.kd_card.specs.Loose.{unless_so, lines_from};
 ghost use Rattle.kd_card.specs.Moves.{lugs_to, lugs_of, bars_beside, target_of};
 
-use super::appending::push_two;
+use super::loose::push_line;
 use kd_state::{Setting, Settings, nearest_standing};
 use kd_tables::{Lug, Place, Reading, Standing};
 
@@ -31,7 +31,9 @@ pub(crate) fn push_lugs(
         && let [place, to @ ..] = to
     {
         let target = target_at(*bar, rows, *place);
-        push_two(settings, lugs(number, *bar, target));
+        let (one, other) = lugs(number, *bar, target);
+        push_line(settings, one);
+        push_line(settings, other);
         push_lugs(settings, number + 1, bars, rows, to);
     }
 }

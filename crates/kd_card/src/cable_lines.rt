@@ -8,7 +8,7 @@ ghost use Rattle.kd_state.specs.Costs.{column_letters};
 ghost use Rattle.kd_card.specs.Loose.{unless_so, lines_from};
 ghost use Rattle.kd_card.specs.Moves.{besides, letters_apart, moves_of};
 
-use super::appending::push_two;
+use super::loose::push_line;
 use kd_state::{Cable, Setting, Settings, column_at, letters_in_order, lies_in, lies_in_column};
 use kd_tables::Letter;
 
@@ -42,7 +42,9 @@ pub(crate) fn push_moves(
         && let [place, to @ ..] = to
     {
         let column = column_at(pairs, usize::from(*place));
-        push_two(settings, moves(direction, number, cable, &column));
+        let (one, other) = moves(direction, number, cable, &column);
+        push_line(settings, one);
+        push_line(settings, other);
         push_moves(settings, direction, number + 1, cables, pairs, to);
     }
 }

@@ -2,7 +2,6 @@
 //! both.
 #![tactic(auto)]
 
-mod appending;
 mod bar_lines;
 mod cable_lines;
 mod card;

@@ -7,7 +7,7 @@ ghost use Rattle.kd_state.specs.SheetDay.{OfPins};
 ghost use Rattle.kd_state.specs.Entry.{pin_values};
 ghost use Rattle.kd_card.specs.Loose.{unless_so, lines_from, wheel_pin_lines, pin_lines, pin_turn_of, loose_lines};
 
-use super::appending::push_line;
+use super::loose::push_line;
 use arrayvec::ArrayVec;
 use kd_pins::PinSet;
 use kd_state::{PinEntry, PinParts, Setting, Settings};

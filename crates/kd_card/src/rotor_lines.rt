@@ -9,7 +9,7 @@ ghost use Rattle.kd_state.specs.SheetDay.{OfRotors};
 ghost use Rattle.kd_state.specs.Entry.{rotor_values};
 ghost use Rattle.kd_card.specs.Loose.{unless_so, lines_from, seat_of, ring_of_wheel, turn_of, loose_lines};
 
-use super::appending::push_line;
+use super::loose::push_line;
 use arrayvec::ArrayVec;
 use kd_state::{Machine, RotorEntry, RotorParts, Setting, Settings, SheetWheel};
 use kd_tables::{Reflector, Wheel};
@@ -23,12 +23,10 @@ pub(crate) fn rotor_settings(machine: &Machine, parts: &RotorParts, entry: &Roto
     ensures few { length result.items ≤ 19 }
 {
     let wheels = entry.wheels.as_slice();
+    let reflector = reflector_line(parts.reflector, entry.reflector);
     let mut settings = ArrayVec::new();
     push_seats(&mut settings, 1, parts.slots.as_slice(), wheels);
-    push_line(
-        &mut settings,
-        reflector_line(parts.reflector, entry.reflector),
-    );
+    push_line(&mut settings, reflector);
     push_rings(&mut settings, machine, parts, parts.model.wheels(), wheels);
     push_turns(&mut settings, machine, parts, 1, wheels);
     settings
@@ -120,11 +118,8 @@ fn ring_line(machine: &Machine, wanted: Option<SheetWheel>) -> Option<Setting>
         let so = option_map_or (nat_eq seated.ring) (ring_in machine.now seated.wheel) false in
         unless_so so (Setting.RingTo seated.wheel seated.ring)) wanted }
 {
-    let SheetWheel {
-        wheel,
-        ring: letter,
-        ..
-    } = wanted?;
+    let seated = wanted?;
+    let (wheel, letter) = (seated.wheel, seated.ring);
     (machine.ring(wheel) != Some(letter)).then_some(Setting::RingTo { wheel, letter })
 }
 

@@ -21,26 +21,20 @@ pub fn check(machine: &Machine, day: &SheetDay, card: &Card) -> Result<(), Doubt
     ensures doubt { IfErr result
         (IsDoubt machine.now day.now card.now.settings.items card.now.prices) }
 {
-    judged(machine, day, card.settings.as_slice(), &card.prices)
+    judged(machine, day, card)
 }
 
-/// Whether settings and prices prove themselves, or the first doubt.
-fn judged(
-    machine: &Machine,
-    day: &SheetDay,
-    settings: &[Setting],
-    prices: &Prices,
-) -> Result<(), Doubt>
-    requires { length settings.now ≤ 192 }
-    ensures { SaysChecked machine.now day.now settings.now prices.now result }
+/// Whether the card proves itself, or the first doubt.
+fn judged(machine: &Machine, day: &SheetDay, card: &Card) -> Result<(), Doubt>
+    ensures { SaysChecked machine.now day.now card.now.settings.items card.now.prices result }
 {
-    if !are_of_one_model(machine, day, prices) {
+    if !are_of_one_model(machine, day, &card.prices) {
         return Err(Doubt::OtherModel);
     }
-    let Some(numbered) = expanded(machine, day, prices) else {
+    let Some(numbered) = expanded(machine, day, &card.prices) else {
         return Err(Doubt::PriceMissing);
     };
-    judged_by_number(machine, day, settings, &numbered)
+    judged_by_number(machine, day, card.settings.as_slice(), &numbered)
 }
 
 /// The same of prices by number.

@@ -17,4 +17,4 @@ judged_by_number-requires-clause-numbered c = grind (arith, are_numbered, c.are_
 pub returns : goal.returns
 returns c =
     Found tt (c.are_of_one_model.ensures.0 c.if-not-are_of_one_model.false)
-    (Found c.in-Some.numbered c.in-Some.ensures c.judged_by_number.ensures)
+    (Found c.in-Some.numbered c.in-Some.ensures (rw c.as_slice.ensures.value at c.judged_by_number.ensures))
