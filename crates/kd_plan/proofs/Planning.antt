@@ -28,7 +28,8 @@ abbrev moved : Direction → Beside → ℕ
 moved Out z = length (letters_apart (cable_letters z.0) (column_letters z.1))
 moved In z = length (letters_apart (letters_due z.1) (cable_letters z.0))
 
-counted_moves : (direction : Direction) (number : ℕ) (z : Beside) → AreCounted (moves_of direction number z) 0 (moved direction z)
+counted_moves : (direction : Direction) (number : ℕ) (z : Beside)
+    → AreCounted (moves_of direction number z) 0 (moved direction z)
 counted_moves Out number z = grind arith
 counted_moves In number z = grind arith
 
@@ -47,7 +48,8 @@ cable_sums : (pairs : List (ℕ × ℕ)) (zs : List Beside) → AllByRecursion (
 cable_sums pairs [] h = refl
 cable_sums pairs (z ∷ zs) h =
     let here = sum_by-cons (λ (z : Beside). cable_cost z.0 z.1) z zs in
-    omega (arith, sum_by-cons (moved Out) z zs, sum_by-cons (moved In) z zs, here, cable_lines z h.0, cable_sums pairs zs h.1)
+    let each = λ (direction : Direction). sum_by-cons (moved direction) z zs in
+    omega (arith, each Out, each In, here, cable_lines z h.0, cable_sums pairs zs h.1)
 
 -- a bar's lines are as many as lugs are moved, in either order
 counted_both : (first a b : Bool) (x y : Setting) → is_priced x ≡ true → is_priced y ≡ true
@@ -87,20 +89,25 @@ all_within to n count h = recursion_from_All (λ j. j < n) to (λ k d lt. omega 
 good : (m : Parts) (s : Day) (to : List ℕ) → IsMachine m → IsLegalDay s → model_of m ≡ day_model s → length to ≡ table_size m → IsOneToOne to
     → LeadsToTheDay m s (planned_lines m s to) × AreCounted (planned_lines m s to) (loose_count m s) (assignment_cost (cost_table m s) to)
 good (Rotor m) (OfRotors s) to machine legal same count one_to_one =
-    let within = all_within to (length (columns_of s.pairs)) (count ∙ sym (thirteen_columns s.pairs legal.pairs.few)) one_to_one in
+    let size = count ∙ sym (thirteen_columns s.pairs legal.pairs.few) in
+    let within = all_within to (length (columns_of s.pairs)) size one_to_one in
     let cost = table_cost cable_cost (columns_of s.pairs) None m.cables to (machine.legal.cables.count ∙ sym count) within in
     let cables = besides m.cables s.pairs to in
     let moves = λ (d : Direction). counted_each (moves_of d) (λ z. 0) (moved d) (counted_moves d) cables 1 in
     let loose = all_counted (Rotor m) (OfRotors s) machine legal same in
     let all = simp sum_none at (counted-append _ _ (counted-append _ _ loose (moves Out)) (moves In)) in
-    let sums = cable_sums s.pairs cables (are_pluggable m s machine legal same to count one_to_one) in
-    (rotors_lead m s machine legal same to count one_to_one, record { count = omega (arith, all.count, sums, cost); priced = omega (arith, all.priced, sums, cost) })
+    let sums = cable_sums s.pairs cables (are_pluggable m s machine legal same to count one_to_one) in (
+      rotors_lead m s machine legal same to count one_to_one,
+      record { count = omega (arith, all.count, sums, cost); priced = omega (arith, all.priced, sums, cost) },
+    )
 good (Pin m) (OfPins s) to machine legal same count one_to_one =
     let within = all_within to (length s.rows) (count ∙ sym legal.count) one_to_one in
     let cost = table_cost bar_cost s.rows (0, 0) m.bars to (machine.legal.bars ∙ sym count) within in
     let lugs = counted_lines (bars_beside m.bars s.rows to) 1 (are_movable m s to machine legal count one_to_one) in
-    let all = counted-append _ _ (all_counted (Pin m) (OfPins s) machine legal refl) lugs in
-    (pin_machine_leads m s to machine legal count one_to_one, record { count = omega (arith, all.count, cost); priced = omega (arith, all.priced, cost) })
+    let all = counted-append _ _ (all_counted (Pin m) (OfPins s) machine legal refl) lugs in (
+      pin_machine_leads m s to machine legal count one_to_one,
+      record { count = omega (arith, all.count, cost); priced = omega (arith, all.priced, cost) },
+    )
 good (Rotor m) (OfPins s) to machine legal same count one_to_one = absurd (no_rotors m.model m.reflector same machine.legal.reflector)
 good (Pin m) (OfRotors s) to machine legal same count one_to_one = absurd (no_rotors s.model s.reflector (sym same) legal.reflector)
 
@@ -150,12 +157,12 @@ table_at_most cost most few h costs xs ys e =
     rw e (All-map (All (λ c. c ≤ 4)) (λ x. map (cost x) ys) xs
     (λ k d lt. All-map (λ c. c ≤ 4) (cost _) ys (λ j e lt'. omega (arith, few, h (get_or xs k d) (get_or ys j e)))))
 
-pub four_at_most : (costs : List (List ℕ)) (cables : List Cable) (pairs : List (ℕ × ℕ)) → costs ≡ cable_costs cables pairs
-    → CostsAtMost 4 costs
+pub four_at_most : (costs : List (List ℕ)) (cables : List Cable) (pairs : List (ℕ × ℕ))
+    → costs ≡ cable_costs cables pairs → CostsAtMost 4 costs
 four_at_most costs cables pairs = table_at_most cable_cost 4 (omega arith) at_most_four costs cables (columns_of pairs)
 
-pub two_at_most : (costs : List (List ℕ)) (bars : List (Place × Place)) (rows : List (ℕ × ℕ)) → costs ≡ bar_costs bars rows
-    → CostsAtMost 4 costs
+pub two_at_most : (costs : List (List ℕ)) (bars : List (Place × Place)) (rows : List (ℕ × ℕ))
+    → costs ≡ bar_costs bars rows → CostsAtMost 4 costs
 two_at_most costs bars rows = table_at_most bar_cost 2 (omega arith) bar_cost_at_most costs bars rows
 
 -- two letters, each of which is put unless it is held

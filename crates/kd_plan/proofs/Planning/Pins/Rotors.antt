@@ -24,8 +24,8 @@ pub use Rattle.kd_state.proofs.Slots.{has_letter-Decides, is_some-place_on, set_
 pub use Rattle.kd_state.proofs.Wheels.{allowed_in_box, days_wheels_have_their_places, has_reflector-Decides}
 pub use Rattle.kd_state.proofs.Wheels.{has_wheel-Decides, place_within, same_reflector-Decides, same_wheel-Decides}
 pub use Rattle.kd_state.proofs.{Telling.letters_have_places, Wheels.{same_wheel_differs, same_wheel_self}}
-pub use Rattle.kd_state.specs.Costs.{bar_cost, bar_costs, cable_cost, cable_costs, column_letters, columns_of, cost_table, differ, loose_count}
-pub use Rattle.kd_state.specs.Costs.{loose_rings, lugs_moved, reads_as_row, unless_same}
+pub use Rattle.kd_state.specs.Costs.{bar_cost, bar_costs, cable_cost, cable_costs, column_letters, columns_of}
+pub use Rattle.kd_state.specs.Costs.{cost_table, differ, loose_count, lugs_moved, reads_as_row, unless_same}
 pub use Rattle.kd_state.specs.{Entry.rotor_values, Machine.AreOnWheels, Machine.HasAllPins}
 pub use Rattle.kd_state.specs.Machine.{IsMachine, StandsAt, cable_letters, model_of, plugged_letters, ring_at}
 pub use Rattle.kd_state.specs.OnKey.{AreThePairs, IsPaired, Joins, OnKey}
