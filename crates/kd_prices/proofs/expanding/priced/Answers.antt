@@ -1,4 +1,5 @@
-use Rattle.kd_prices.proofs.Prelude.{rules, [], ◌∷◌, FitsSigned, w16, to_z-of_z, arith, length-append, All-from_recursion, HasCount, AreExpanded}
+use Rattle.kd_prices.proofs.Prelude.{AreExpanded, All-from_recursion, FitsSigned, HasCount, [], arith, length-append}
+use Rattle.kd_prices.proofs.Prelude.{rules, to_z-of_z, w16, ◌∷◌}
 use Rattle.kd_prices.proofs.Meaning.{no_expansion, one_more_price, expanded_within}
 use Rattle.kd_prices.proofs.expanding.priced.Goals as goal
 
@@ -24,7 +25,7 @@ returns c =
     let are : AreExpanded c.args.looks.now c.args.kinds.now c.loop-look.prices.items = record {
       number = omega arith;
       each = λ place inside. c.loop-look.invariant.done place (omega arith);
-      counts = All-from_recursion (HasCount c.args.looks.now) c.args.kinds.now (c.are_counted.ensures.0 c.if-not-are_counted.false);
+      counts = All-from_recursion (HasCount c.args.looks.now) _ (c.are_counted.ensures.0 c.if-not-are_counted.false);
     }
     in
     (are, expanded_within _ _ _ c.requires.kinds are)
