@@ -1,4 +1,5 @@
 -- The letters in the cables, and cables that are a day's pairs.
+use Rattle.kd_state.proofs.Prelude.{common_steps}
 use Rattle.kd_state.proofs.Prelude.{NoLetterTwice, letters_plugged, AreCables, cable_letters, ordered, plugged_letters}
 use Rattle.kd_state.proofs.Prelude.{AreTheLetters, AreThePairs, IsJoined, IsPaired, Joins, SameLetters, are_new}
 use Rattle.kd_state.proofs.Prelude.{cable_with, cable_without, has_letter, both_ends, and_from, and_parts, cond_both}
@@ -83,13 +84,12 @@ pub set_moves : (out into : List ℕ) (cables : List (Option ℕ × Option ℕ))
 set_moves out into [] place cable new here moves = cc
 set_moves out into (first ∷ cables) zero cable new here moves =
     let e : first ≡ cable = cc in
-    rw (← append_assoc out (cable_letters first) (plugged_letters cables), ← append_assoc into (cable_letters new) (plugged_letters cables))
-    (IsPermutation-append_left (plugged_letters cables) (out ++ cable_letters first) (into ++ cable_letters new)
-    (subst (λ (c : Option ℕ × Option ℕ). IsPermutation (out ++ cable_letters c) (into ++ cable_letters new)) (sym e) moves))
+    rw (e, ← append_assoc out (cable_letters cable) (plugged_letters cables), ← append_assoc into (cable_letters new) (plugged_letters cables))
+    (IsPermutation-append_left (plugged_letters cables) (out ++ cable_letters cable) (into ++ cable_letters new) moves)
 set_moves out into (first ∷ cables) (suc place) cable new here moves =
     let rest = set_moves out into cables place cable new here moves in
     IsPermutation-trans _ _ _ (past out (cable_letters first) (plugged_letters cables))
-    (IsPermutation-trans _ _ _ (IsPermutation-append_right (cable_letters first) (out ++ plugged_letters cables) (into ++ plugged_letters (set cables place new)) rest)
+    (IsPermutation-trans _ _ _ (IsPermutation-append_right (cable_letters first) _ _ rest)
     (past (cable_letters first) into (plugged_letters (set cables place new))))
 
 -- the letters in the cables from a place on are apart where those of that cable are new before the rest
@@ -123,8 +123,7 @@ same_two a b pair same =
 apart_at : (pairs : List (ℕ × ℕ)) (k : ℕ) (d : ℕ × ℕ) → IsDistinct nat_eq (letters_plugged pairs) → k < length pairs → (get_or pairs k d).0 ≢ (get_or pairs k d).1
 unfolding IsDistinct
 apart_at [] k d h below = absurd (omega arith)
-apart_at (pair ∷ pairs) zero d h below = eqb-false pair.0 pair.1 h.0.0
-apart_at (pair ∷ pairs) (suc k) d h below = apart_at pairs k d h.1.1 (omega arith)
+apart_at (pair ∷ pairs) k d h below = grind (arith, common_steps, eqb-false, apart_at pairs)
 
 one_letter : (pairs : List (ℕ × ℕ)) (cable : Option ℕ × Option ℕ) (letter : ℕ) → NoLetterTwice pairs → ((x : ℕ) → Contains (cable_letters cable) x → x ≡ letter) → Any (Joins cable) pairs → ⊥
 one_letter pairs cable letter apart only there =
@@ -152,13 +151,6 @@ both_plugged (None, None) letter whole there = absurd (omega (arith, there.1))
 both_plugged (Some one, Some other) letter whole there = ((one, other), refl)
 both_plugged cable letter whole there = absurd (whole refl)
 
--- in either order
-either_way : (pairs : List (ℕ × ℕ)) (pair : ℕ × ℕ) (x y : ℕ) → Contains pairs pair → AreTheLetters x y pair → plugs.Joins pairs x y
-either_way pairs pair x y there same = grind (arith, pairs)
-
-swapped : {A B : Type 0} → A ⊎ B → B ⊎ A
-swapped e = grind arith
-
 cable_pairs : (pairs : List (ℕ × ℕ)) (cables : List (Option ℕ × Option ℕ)) → AllByRecursion (IsPaired pairs) cables → AllByRecursion (λ pair. plugs.Joins pairs pair.0 pair.1) (pairs_of cables)
 cable_pairs pairs [] h = tt
 cable_pairs pairs ((Some a, Some b) ∷ cables) h = search (rules, pairs, same_two, cable_pairs pairs cables h.1)
@@ -178,27 +170,19 @@ module _ (cables : List (Option ℕ × Option ℕ)) (pairs : List (ℕ × ℕ)) 
       let one = All-contains (λ (cable : Option ℕ × Option ℕ). length (cable_letters cable) ≢ 1) cables cable whole (joined.0, joined.2, joined.3) in
       let ends = both_plugged cable x one ((joined.4.letters x).1 (0, omega arith, refl)) in
       let pair = ends.0 in
-      let same : SameLetters (x ∷ y ∷ []) (pair.0 ∷ pair.1 ∷ []) =
-      λ letter. let both = subst (λ (c : Option ℕ × Option ℕ). Contains (cable_letters c) letter ↔ Contains (x ∷ y ∷ []) letter) ends.1 (joined.4.letters letter) in (both.1, both.0) in
-      either_way (pairs_of cables) pair x y (into_pairs cables joined.0 pair.0 pair.1 (at ∙ ap Some ends.1)) (same_two x y pair same)
+      let same = same_two x y pair (λ letter. let both = rw ends.1 at (joined.4.letters letter) in (both.1, both.0)) in
+      let into = into_pairs cables joined.0 pair.0 pair.1 (at ∙ ap Some ends.1) in
+      grind (arith, same, into)
 
   pub pairs_joined : (x y : ℕ) → plugs.Joins (pairs_of cables) x y ↔ plugs.Joins pairs x y
-  pairs_joined x y = (
-    λ joins. elim joins [ inl one ↦ cable_pair x y one | inr other ↦ swapped (cable_pair y x other) ],
-    λ joins. elim joins [ inl one ↦ day_pair x y one | inr other ↦ swapped (day_pair y x other) ],
-  )
+  pairs_joined x y = grind (arith, cable_pair x y, cable_pair y x, day_pair x y, day_pair y x)
 
 -- ---- when a cable's letters are a pair's
 
--- each letter of the pair lies in the cable, and each end of the cable is loose, or its letter is one of the pair
-same_tests : (cable : Option ℕ × Option ℕ) (p q letter : ℕ) → has_letter (cable_letters cable) p ≡ true → has_letter (cable_letters cable) q ≡ true
-    → option_map_or (has_letter (p ∷ q ∷ [])) cable.0 true ≡ true → option_map_or (has_letter (p ∷ q ∷ [])) cable.1 true ≡ true
-    → has_letter (cable_letters cable) letter ≡ has_letter (p ∷ q ∷ []) letter
-same_tests cable p q letter a b c d = grind (arith, nat_tests)
-
 pub joined_by_tests : (cable : Option ℕ × Option ℕ) (pair : ℕ × ℕ) → has_letter (cable_letters cable) pair.0 ≡ true → has_letter (cable_letters cable) pair.1 ≡ true
     → option_map_or (has_letter (pair.0 ∷ pair.1 ∷ [])) cable.0 true ≡ true → option_map_or (has_letter (pair.0 ∷ pair.1 ∷ [])) cable.1 true ≡ true → Joins cable pair
-joined_by_tests cable pair a b c d = record { letters = (tests_tell_letters (cable_letters cable) (pair.0 ∷ pair.1 ∷ [])).1 (λ letter. same_tests cable pair.0 pair.1 letter a b c d) }
+joined_by_tests cable pair a b c d =
+    record { letters = (tests_tell_letters (cable_letters cable) (pair.0 ∷ pair.1 ∷ [])).1 (λ letter. grind (arith, nat_tests, a, b, c, d)) }
 
 pub tests_of_joined : (cable : Option ℕ × Option ℕ) (pair : ℕ × ℕ) → Joins cable pair
     → (has_letter (cable_letters cable) pair.0 ≡ true) × (has_letter (cable_letters cable) pair.1 ≡ true)

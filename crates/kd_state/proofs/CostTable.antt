@@ -39,12 +39,6 @@ at_most_all : (letters : List ℕ) → count_by (has_letter letters) alphabet �
 at_most_all [] = omega arith
 at_most_all (letter ∷ letters) = search (rules, le-leb, counted_once, at_most_all letters)
 
-cable_holds_two : (cable : Option ℕ × Option ℕ) → length (cable_letters cable) ≤ 2
-cable_holds_two cable = grind arith
-
-column_holds_two : (column : Option (ℕ × ℕ)) → length (column_letters column) ≤ 2
-column_holds_two column = grind arith
-
 pub at_most_four : (cable : Option ℕ × Option ℕ) (column : Option (ℕ × ℕ)) → cable_cost cable column ≤ 4
 at_most_four cable column = grind (arith, joined_counts, differ_fits, at_most_all)
 
@@ -66,9 +60,7 @@ thirteen_columns pairs few = simp (length-append, length-map, length-replicate) 
 
 pub tests_tell_letters : TestsTellLetters
 tests_tell_letters xs ys = (
-  λ same letter. both_ways (has_letter xs letter) (has_letter ys letter)
-      (λ e. (has_letter-Decides ys letter).1 ((same letter).0 ((has_letter-Decides xs letter).0 e)))
-      (λ e. (has_letter-Decides xs letter).1 ((same letter).1 ((has_letter-Decides ys letter).0 e))),
+  λ same letter. grind (arith, same letter, has_letter-Decides xs letter, has_letter-Decides ys letter, both_ways),
   λ alike letter. (
     λ c. (has_letter-Decides ys letter).0 (sym (alike letter) ∙ (has_letter-Decides xs letter).1 c),
     λ c. (has_letter-Decides xs letter).0 (alike letter ∙ (has_letter-Decides ys letter).1 c),

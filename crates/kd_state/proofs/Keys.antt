@@ -33,14 +33,10 @@ counted p f (x ∷ xs) = grind (arith, common_steps, sum_by-cons, counted p f xs
 abbrev pin_key : PinParts → PinKey
 pin_key m = record { pins = pins_of m.pins; letters = m.letters; rows = map (λ bar. reading_of bar.0 bar.1) m.bars }
 
--- a lug is met exactly where the wheel of its place's number acts
-lug_met : (m : PinParts) (count : ℕ) (place : Place) → lug_is_met m count place ≡ acts_after (pin_key m) count (place_number place)
-lug_met m count place = grind arith
-
 bar_met : (m : PinParts) (count : ℕ) (bar : Place × Place)
     → (lug_is_met m count bar.0 || lug_is_met m count bar.1)
     ≡ (acts_after (pin_key m) count (reading_of bar.0 bar.1).0 || acts_after (pin_key m) count (reading_of bar.0 bar.1).1)
-bar_met m count bar = grind (arith, lug_met, in_either_order)
+bar_met m count bar = grind (arith, in_either_order)
 
 moved_as_met : (m : PinParts) (count : ℕ) → bars_met (pin_key m) count ≡ bars_moved m count
 moved_as_met m count =

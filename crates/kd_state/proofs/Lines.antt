@@ -77,11 +77,9 @@ pub record AreTaken (line rest : List ℕ) (taken : List (List ℕ)) : Type 0 wh
 
 pub one_more_taken : (line text word rest : List ℕ) (taken : List (List ℕ)) → AreTaken line text taken → IsFirstPart 32 text word rest
     → AreTaken line rest (taken ++ word ∷ [])
-one_more_taken line text word rest taken a first = record {
-  joined =
-      append_assoc taken (word ∷ []) (words_of rest)
-      ∙ ap (λ words. taken ++ words) (sym (ap words_of first.joined ∙ split_off 32 word rest first.without)) ∙ a.joined;
-}
+one_more_taken line text word rest taken a first =
+    let parts = split_off 32 word rest first.without in
+    record { joined = rw append_assoc (cc) }
 
 pub last_taken : (line rest : List ℕ) (taken : List (List ℕ)) → AreTaken line rest taken → IsWithout 32 rest → taken ++ rest ∷ [] ≡ words_of line
 last_taken line rest taken a without = grind (arith, slice_split_none, none_is)
@@ -102,10 +100,7 @@ figures = numerals_by_value (λ ds. (i : ℕ) → i < length ds → IsFigure 48 
 
 pub numbers_are_words : NumbersAreWords
 numbers_are_words number small =
-    word_by_bytes (decimal number)
-    (λ none. let some : 0 < length (decimal number) = decimal_nonempty number small in omega (arith, ap length none))
-    (All-from_get_or (λ b. 32 < b) (decimal number) 0
-    (λ i in_it. let figure : IsFigure 48 57 (get_or (decimal number) i 0) = digits_decimal figures number small i in_it in omega (arith, figure.0)))
+    grind (arith, word_by_bytes, decimal_nonempty number small, All-from_get_or (λ b. 32 < b) (decimal number) 0, digits_decimal figures number small, ap (length {A = ℕ}))
 
 pub letters_are_words : LettersAreWords
 letters_are_words letter = grind (arith, word_by_bytes, All-from_recursion)
@@ -137,12 +132,6 @@ pub ruleset splitting = (common_steps, eqb-true, more_words, appended, one_more_
 pub same_place : (x y : Place) → place_text x ≡ place_text y → x ≡ y
 same_place = told place_text (named place_text places One) (λ x. elim x as (λ p. named place_text places One (place_text p) ≡ p) [ One ↦ refl | _ ↦ refl ])
 
-same_lug : (x y : Lug) → lug_text x ≡ lug_text y → x ≡ y
-same_lug x y e = grind arith
-
-same_pin : (x y : Bool) → pin_text x ≡ pin_text y → x ≡ y
-same_pin x y e = grind arith
-
 wheel_is_word : (x : Wheel) → IsWord (wheel_text x)
 wheel_is_word x = grind (arith, word_by_test)
 
@@ -170,15 +159,8 @@ words_are_words x r =
 pub setting_words_are_words : (x : Setting) → IsInRange x → All IsWord (setting_words x)
 setting_words_are_words x r = All-from_recursion IsWord (setting_words x) (words_are_words x r)
 
-same_number : (m n : ℕ) → m < 2 ^ 8 → n < 2 ^ 8 → decimal m ≡ decimal n → m ≡ n
-same_number m n small other e = grind (arith, decimal_injective)
-
-same_letter : (l m : ℕ) → letter_text l ≡ letter_text m → l ≡ m
-same_letter l m e = grind arith
-
 pub same_settings : (x y : Setting) → IsInRange x → IsInRange y → setting_words x ≡ setting_words y → x ≡ y
-same_settings x y e d g =
-    grind (arith, same_number, same_letter, one_wheel, one_reflector, same_pin, same_lug, same_place)
+same_settings x y e d g = grind (arith, decimal_injective, one_wheel, one_reflector, same_place)
 
 -- ---- what the words of a form are
 
@@ -215,9 +197,8 @@ nothing_begins x rest r e = grind (arith, length-append, ap length e)
 same_first : (x y : Setting) (xs ys : List Setting) (rest more : List ℕ) → IsInRange x → IsInRange y → list_text (x ∷ xs) ++ rest ≡ list_text (y ∷ ys) ++ more
     → (x ≡ y) × (list_text xs ++ rest ≡ list_text ys ++ more)
 same_first x y xs ys rest more r s e =
-    let parts = texts_tell_first_parts 10 (setting_line x) (setting_line y) (list_text xs ++ rest) (list_text ys ++ more) (line_has_no_break x r) (line_has_no_break y s)
-    (sym (text_of_more x xs rest) ∙ e ∙ text_of_more y ys more) in
-    (lines_tell_settings x y r s parts.0, parts.1)
+    let parts = texts_tell_first_parts 10 (setting_line x) (setting_line y) (list_text xs ++ rest) (list_text ys ++ more) in
+    grind (arith, parts, line_has_no_break x, line_has_no_break y, text_of_more, lines_tell_settings x y)
 
 -- two lists after which no line follows are one
 same_lists : (xs ys : List Setting) (rest more : List ℕ) → AllByRecursion IsInRange xs → AllByRecursion IsInRange ys → list_text xs ++ rest ≡ list_text ys ++ more
@@ -271,11 +252,9 @@ lists_have_no_fault bytes xs TooMany a f =
 
 pub one_list_fault : OneListFault
 one_list_fault bytes (BadLine line) (BadLine other) f g =
-    let same = same_end bytes f.0 g.0 f.1 g.1 f.2 g.2 f.6 g.6 in
-    let lines : line ≡ other = omega (arith, f.4, g.4, ap length same.0) in
-    ap BadLine lines
+    let same = same_end bytes f.0 g.0 f.1 g.1 f.2 g.2 f.6 g.6 in cc
 one_list_fault bytes (BadLine line) TooMany f g =
-    let most = not_longer bytes f.0 g.0 f.1 g.1 f.2 g.2 f.6 in absurd (omega (arith, most, f.3, g.3))
+    absurd (omega (arith, not_longer bytes f.0 g.0 f.1 g.1 f.2 g.2 f.6, f.3, g.3))
 one_list_fault bytes TooMany (BadLine line) f g =
-    let most = not_longer bytes g.0 f.0 g.1 f.1 g.2 f.2 g.6 in absurd (omega (arith, most, g.3, f.3))
+    absurd (omega (arith, not_longer bytes g.0 f.0 g.1 f.1 g.2 f.2 g.6, g.3, f.3))
 one_list_fault bytes TooMany TooMany f g = refl

@@ -23,19 +23,11 @@ named name all d text = unwrap_or (find (λ x. bytes_eq (name x) text) all) d
 pub told : {T : Type 0} (name : T → List ℕ) (back : List ℕ → T) → ((x : T) → back (name x) ≡ x) → (x y : T) → name x ≡ name y → x ≡ y
 told name back undone x y e = grind (arith, undone)
 
-wheels : List Wheel
-wheels = I ∷ II ∷ III ∷ IV ∷ V ∷ VI ∷ VII ∷ VIII ∷ Beta ∷ Gamma ∷ []
-
 pub one_wheel : (x y : Wheel) → wheel_text x ≡ wheel_text y → x ≡ y
-unfolding wheels
-one_wheel = grind (arith, told)
-
-all_reflectors : List Reflector
-all_reflectors = reflectors.A ∷ reflectors.B ∷ reflectors.C ∷ reflectors.ThinB ∷ reflectors.ThinC ∷ []
+one_wheel x y e = grind arith
 
 pub one_reflector : (x y : Reflector) → reflector_text x ≡ reflector_text y → x ≡ y
-unfolding all_reflectors
-one_reflector = grind (arith, told)
+one_reflector x y e = grind arith
 
 -- no two wheels have one name, and no two reflectors
 pub same_wheel-Decides : (wheel other : Wheel) → Decides (same_wheel wheel other) (wheel ≡ other)
@@ -125,12 +117,8 @@ pub days_wheels_have_their_places : DaysWheelsHaveTheirPlaces
 days_wheels_have_their_places model wheels h i j d before within same =
     grind (arith, seated, places_tell_wheels, allowed_in_box, h.allowed, h.apart)
 
--- two wheels are one, and two seats
-wheel_tested : (wheel other : Wheel) (b : Bool) → sameb the_type wheel other ≡ b → Decides b (wheel ≡ other)
-wheel_tested wheel other b e = grind (arith, same_true, same_false)
-
 seat_Decides : (one other : Option Wheel) → Decides (option_eq (sameb the_type) one other) (one ≡ other)
-seat_Decides one other = grind (arith, wheel_tested, same_Some)
+seat_Decides one other = grind (arith, same_true, same_false, same_Some)
 
 pub seats_Decides : (slots others : List (Option Wheel)) → Decides (pointwise (option_eq (sameb the_type)) slots others) (slots ≡ others)
 seats_Decides = grind (arith, pointwise_decides, seat_Decides)

@@ -101,6 +101,7 @@ impl Engine {
     }
 
     /// The engine of a Converter M-209 with these pins, the letters that its wheels show, and what its bars read as.
+    #[tactic(auto, using(crate::proofs::Slots::stand_on_wheels))]
     fn of_drum(pins: PinSet, letters: [Letter; 6], rows: [Reading; 27]) -> Engine
         requires { AreOnWheels letters }
         ensures { result ≡ OfDrum (record { pins = pins_of pins; letters = letters; rows = rows }) }

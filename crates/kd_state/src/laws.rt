@@ -79,6 +79,7 @@ pub fn a_setting_is_refused_or_carried()
 
 /// A setting that is carried out changes what it says, and nothing else: as each reader of the machine tells it. Where they
 /// tell just that, and the setting isn't refused, it was carried out; and they tell what is refused.
+#[tactic(auto, using(crate::proofs::Telling::Refusing::Changing::settings_are_told, crate::proofs::Telling::telling_is_making, crate::proofs::Telling::Refusing::refusals_are_told))]
 pub fn readers_tell_what_settings_change()
     ensures told { SettingsAreTold }
     ensures made { TellingIsMaking }
@@ -145,6 +146,7 @@ pub fn pieces_are_enciphered_in_turn()
 
 /// A day has 13 columns: its pairs in their order, and then nothings. There are as many costs for each cable, or bar, as
 /// there are cables, or bars, and a cable costs four at most.
+#[tactic(auto, using(crate::proofs::CostTable::at_most_four, crate::proofs::CostTable::columns_are_the_pairs, crate::proofs::CostTable::cost_tables_are_square, crate::proofs::CostTable::thirteen_columns))]
 pub fn cost_tables_are_square()
     ensures count { ThirteenColumns }
     ensures pairs { ColumnsAreThePairs }

@@ -80,10 +80,6 @@ shown : {P Q : Type 0} (found : Option ℕ) (on : Bool) → Decides on P → ¬ 
     → (first_reason ((is_none found, SlotEmpty) ∷ (not on, NotOnWheel) ∷ []) ≡ None) ↔ (Q ⊎ (IsSome found × P))
 shown found on e d = grind (arith, none-some, by_one_test)
 
-is_some_first : {X Y : Type 0} (f : X → Option Y) (found : Option X) → IsSome (option_and_then f found)
-    → is_some found ≡ true
-is_some_first f found e = grind arith
-
 pin_told : (m : PinParts) (wheel letter : ℕ) → HasAllPins m.pins
     → Decides (has_letter (ring_of wheel) letter) (IsSome (pin_at m.pins wheel letter))
 pin_told m wheel letter all =
@@ -92,11 +88,8 @@ pin_told m wheel letter all =
       λ has.
           let there = place_there (ring_of wheel) letter ((has_letter-Decides (ring_of wheel) letter).0 has) in
           let on = position-Some (λ (l : ℕ). nat_eq l letter) (ring_of wheel) place 0 there in
-          let within : place < length pins = omega (arith, all wheel, on.0) in
-          subst IsSome (sym (ap (option_and_then (slice_get pins)) there
-          ∙ slice_get-get_or pins place false within)) refl,
-      λ some. sym (is_some-place_on (ring_of wheel) letter)
-          ∙ is_some_first (slice_get pins) (place_on (ring_of wheel) letter) some,
+          grind (arith, there, slice_get-get_or pins place false, all wheel, on),
+      λ some. grind (arith, is_some-place_on (ring_of wheel) letter),
     )
 
 apart_before : (lug : Lug) (place : Place) (bar : Place × Place) → Stands (with_lug lug place bar)

@@ -30,6 +30,7 @@ pub(crate) fn are_legal(model: Model, slots: &PerSlot<Option<Wheel>>) -> bool
 }
 
 /// Whether each wheel may stand in its slot.
+#[tactic(auto, using(crate::proofs::Prelude::gets, crate::proofs::Prelude::slice_get_within))]
 fn are_allowed(model: Model, slots: &[Option<Wheel>]) -> bool
     requires { length slots.now ≤ 4 }
     ensures { IsTrue result ↔ AreAllowed model slots.now }

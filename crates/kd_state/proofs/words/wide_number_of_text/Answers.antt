@@ -13,7 +13,4 @@ returns-in_err-number c = grind (arith, ok_part, no_number)
 pub returns : goal.returns
 returns c =
     let text = ok_part c.from_utf8.result c.in_ok-ok.field-0 _ _ c.from_utf8.ensures.cases c.in_ok-ok.ensures.value in
-    let parsed = subst (λ bs. ParsesUnsigned 16 10 bs c.parse.result) text.0 c.parse.ensures.value.0 in
-    let decided = subst (λ bs. Decides c.is_word.result (bs ≡ c.args.text.now)) c.format.ensures.text c.is_word.ensures in
-    rw c.then_some.ensures
-    (only_number c.args.text.now c.parse.result c.in_ok-number.number c.is_word.result parsed (sym c.in_ok-number.ensures.value) decided)
+    grind (arith, text, only_number c.args.text.now c.parse.result c.in_ok-number.number c.is_word.result)

@@ -1,3 +1,4 @@
+use Rattle.kd_state.proofs.Prelude.{arith}
 use Rattle.kd_state.proofs.{Prelude.refl, Prelude.sym, Seating.of_seated}
 use Rattle.kd_state.proofs.engine.ready.rotor_engine.Goals as goal
 
@@ -7,6 +8,4 @@ returns-clause-ready c =
     (λ _. record { slots = seated.1; cables = c.in_ok-plugs.ensures.ready.0 refl }, λ _. refl)
 
 pub returns-clause-key : goal.returns-clause-key
-returns-clause-key c =
-    let seated = of_seated c.args.parts.now c.in_ok-wheels.wheels.items c.in_ok-wheels.ensures in
-    rw (c.of_wheels.ensures, c.as_slice.ensures.value, c.in_ok-plugs.ensures.plugs) (sym seated.0)
+returns-clause-key c = grind (arith, of_seated)

@@ -4,7 +4,5 @@ use Rattle.kd_state.proofs.machine.seats.place_in_box.Goals as goal
 
 pub returns-then-eq : goal.returns-then-eq
 returns-then-eq c =
-    let box = c.wheels-other-items.result.now in
-    let is = c.wheels-other-items.ensures in
-    let here : same_wheel c.args.wheel (get_or box c.loop-place.place I) ≡ true = same_tested c.args.wheel _ true (sym c.eq.ensures ∙ c.if-eq.true) in
-    found_in_box c.args.model c.args.wheel c.loop-place.place (omega (arith, ap length is)) (λ k below. rw (sym is) (c.loop-place.invariant k below)) (rw (sym is) here)
+    let here = same_tested c.args.wheel _ true (sym c.eq.ensures ∙ c.if-eq.true) in
+    grind (arith, found_in_box c.args.model c.args.wheel c.loop-place.place, here)
