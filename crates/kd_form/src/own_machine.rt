@@ -64,7 +64,7 @@ impl<'day> OwnMachine<'day> {
     }
 
     /// What the machine makes of a text, if it shows these letters first.
-    #[tactic(auto, using(std::proofs::lemmas::Grind::common_steps, crate::proofs::MadeParts::enciphered_letters))]
+    #[tactic(auto, using(crate::proofs::MadeParts::stay_letters))]
     pub(crate) fn enciphered<const N: usize>(
         &mut self,
         window: &[Letter],
