@@ -1,17 +1,16 @@
 -- The letters in the cables, and cables that are a day's pairs.
-use Rattle.kd_state.proofs.Prelude.{common_steps}
-use Rattle.kd_state.proofs.Prelude.{NoLetterTwice, letters_plugged, AreCables, cable_letters, ordered, plugged_letters}
-use Rattle.kd_state.proofs.Prelude.{AreTheLetters, AreThePairs, IsJoined, IsPaired, Joins, SameLetters, are_new}
-use Rattle.kd_state.proofs.Prelude.{cable_with, cable_without, has_letter, both_ends, and_from, and_parts, cond_both}
-use Rattle.kd_state.proofs.Prelude.{eq-eqb, eqb-false, le-leb, leb-false, not-true, or_from, or_parts, true≢false}
-use Rattle.kd_state.proofs.Prelude.{nat_tests, append_assoc, drop_more, All-contains, All-from_recursion}
+use Rattle.kd_state.proofs.Prelude.{common_steps, NoLetterTwice, letters_plugged, AreCables, cable_letters, ordered}
+use Rattle.kd_state.proofs.Prelude.{plugged_letters, AreTheLetters, AreThePairs, IsJoined, IsPaired, Joins, SameLetters}
+use Rattle.kd_state.proofs.Prelude.{are_new, cable_with, cable_without, has_letter, both_ends, and_from, and_parts}
+use Rattle.kd_state.proofs.Prelude.{cond_both, eq-eqb, eqb-false, le-leb, leb-false, not-true, or_from, or_parts}
+use Rattle.kd_state.proofs.Prelude.{true≢false, nat_tests, append_assoc, drop_more, All-contains, All-from_recursion}
 use Rattle.kd_state.proofs.Prelude.{Contains-append_right, recursion_from_All, IsPermutation-append}
 use Rattle.kd_state.proofs.Prelude.{IsPermutation-append_comm, IsPermutation-append_left, IsPermutation-append_right}
 use Rattle.kd_state.proofs.Prelude.{IsPermutation-refl, IsPermutation-trans, none-some, same_Some, slice_get-get_or}
 use Rattle.kd_state.proofs.Prelude.{All, AllByRecursion, is_none, option_map_or, Contains, List, None, Option, Some, []}
-use Rattle.kd_state.proofs.Prelude.{ap, arith, drop, false, filter_map, get_or, inl, inr, length, map, nat_eq, not}
-use Rattle.kd_state.proofs.Prelude.{refl, rules, set, slice_get, subst, suc, sym, true, zero, ℕ, ◌++◌, ◌+◌, ◌<◌, ◌↔◌}
-use Rattle.kd_state.proofs.Prelude.{◌∙◌, ◌∷◌, ◌≡◌, ◌≢◌, ◌⊎◌, IsDistinct, IsPermutation, ◌&&◌}
+use Rattle.kd_state.proofs.Prelude.{ap, arith, drop, false, filter_map, get_or, length, map, nat_eq, not, refl, rules}
+use Rattle.kd_state.proofs.Prelude.{set, slice_get, suc, true, zero, ℕ, ◌++◌, ◌+◌, ◌<◌, ◌↔◌, ◌∙◌, ◌∷◌, ◌≡◌, ◌≢◌}
+use Rattle.kd_state.proofs.Prelude.{IsDistinct, IsPermutation, ◌&&◌}
 use Rattle.{kd_state.proofs.CostTable.tests_tell_letters, std.proofs.Common.Any}
 use Rattle.kd_enigma.specs.Plugs as plugs
 

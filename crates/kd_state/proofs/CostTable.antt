@@ -1,10 +1,10 @@
 -- What it costs to make of a cable a pair and of a bar a row: letters that are counted, columns, and the standings of a row.
-use Rattle.kd_state.proofs.Prelude.{bar_cost, cable_cost, column_letters, columns_of, differ, ColumnsAreThePairs}
-use Rattle.kd_state.proofs.Prelude.{CostTablesAreSquare, TestsTellLetters, ThirteenColumns, cable_letters, has_letter}
-use Rattle.kd_state.proofs.Prelude.{OfPins, OfRotors, Pin, Rotor, alphabet, IsReading, le-leb, length-append}
-use Rattle.kd_state.proofs.Prelude.{length-map, length-replicate, All-map, All-nil, sum_by_more, All, count_by}
-use Rattle.kd_state.proofs.Prelude.{range_with_len, Bool, List, None, Option, Some, [], ap, arith, get_or, length, map}
-use Rattle.kd_state.proofs.Prelude.{nat_eq, refl, rules, slice_get, suc, sym, zero, ℕ, ◌++◌, ◌+◌, ◌-◌, ◌<◌, ◌∙◌}
+use Rattle.kd_state.proofs.Prelude.{bar_cost, cable_cost, columns_of, differ, ColumnsAreThePairs, CostTablesAreSquare}
+use Rattle.kd_state.proofs.Prelude.{TestsTellLetters, ThirteenColumns, has_letter, OfPins, OfRotors, Pin, Rotor}
+use Rattle.kd_state.proofs.Prelude.{alphabet, IsReading, le-leb, length-append, length-map, length-replicate, All-map}
+use Rattle.kd_state.proofs.Prelude.{All-nil, sum_by_more, All, count_by, range_with_len, Bool, List, None, Option, Some}
+use Rattle.kd_state.proofs.Prelude.{[], ap, arith, get_or, length, map, nat_eq, refl, rules, slice_get, suc, sym, zero}
+use Rattle.kd_state.proofs.Prelude.{ℕ, ◌++◌, ◌+◌, ◌-◌, ◌<◌, ◌∙◌}
 use Rattle.kd_state.proofs.{Prelude.{◌∷◌, ◌≡◌, ◌≢◌, ◌≤◌, common_steps, take}, Slots.has_letter-Decides}
 use Rattle.kd_state.{proofs.SortedAlike.{count_by-cons, once}, specs.Costs.{across, place_at, standings_as}}
 use Rattle.{kd_tables.specs.declared.place.Place.TheVariants.{ZeroLeft, ZeroRight}, std.proofs.Common.replicate}

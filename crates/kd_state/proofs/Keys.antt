@@ -3,13 +3,13 @@ use Rattle.kd_state.proofs.Prelude.{PinKey, acts_after, bars_met, converter_ciph
 use Rattle.kd_state.proofs.Prelude.{EquallySetDecipher, KeyInTurn, OnKeyIsItsCipher, OnKeyIsReady, ReadingIsItsCipher}
 use Rattle.kd_state.proofs.Prelude.{ReadingIsReady, TheDayDeciphersItself, TurnedEngineIsTheTurnedMachine}
 use Rattle.kd_state.proofs.Prelude.{TurnedHasItsKey, TurnedHasTheDaysCipher, TurnedIsOnKey, AreCables, IsMachine}
-use Rattle.kd_state.proofs.Prelude.{letter_at, ring_at, IsPinOnKey, IsRotorOnKey, OnKey, Day, IsLegalDay}
-use Rattle.kd_state.proofs.Prelude.{IsLegalRotorDay, OfPins, OfRotors, RotorDay, EngineKey, OfDrum, OfWheels, cipher}
-use Rattle.kd_state.proofs.Prelude.{key_with_window, physical_cipher, physical_key, plugged_pairs, sheet_key, window_of}
-use Rattle.kd_state.proofs.Prelude.{Parts, Pin, Rotor, PinParts, RotorParts, SheetWheel, place_number, reading_of}
-use Rattle.kd_state.proofs.Prelude.{Place, recursion_from_All, sum_by-IsPermutation, sum_by-cons, count_by}
-use Rattle.kd_state.proofs.Prelude.{enumerate_from, pins_of, Bool, List, Some, [], ap, arith, filter_map, map, refl}
-use Rattle.kd_state.proofs.Prelude.{subst, sym, ℕ, ◌+◌, ◌-◌, ◌||◌, ◌∙◌, ◌∷◌, ◌≡◌, common_steps, IsPermutation}
+use Rattle.kd_state.proofs.Prelude.{letter_at, ring_at, IsRotorOnKey, OnKey, Day, IsLegalDay, IsLegalRotorDay, OfPins}
+use Rattle.kd_state.proofs.Prelude.{OfRotors, RotorDay, EngineKey, OfDrum, OfWheels, cipher, key_with_window}
+use Rattle.kd_state.proofs.Prelude.{physical_cipher, physical_key, plugged_pairs, sheet_key, window_of, Parts, Pin}
+use Rattle.kd_state.proofs.Prelude.{Rotor, PinParts, RotorParts, SheetWheel, reading_of, Place, recursion_from_All}
+use Rattle.kd_state.proofs.Prelude.{sum_by-IsPermutation, sum_by-cons, count_by, enumerate_from, pins_of, Bool, List}
+use Rattle.kd_state.proofs.Prelude.{Some, [], ap, arith, filter_map, map, refl, sym, ℕ, ◌+◌, ◌-◌, ◌||◌, ◌∙◌, ◌∷◌, ◌≡◌}
+use Rattle.kd_state.proofs.Prelude.{common_steps, IsPermutation}
 use Rattle.kd_state.proofs.{Cables.{no_letter_twice, pairs_joined, whole_cables}, Seating.{all_seated, read_all}}
 use Rattle.kd_state.proofs.Seating.{wheels_of_slots}
 use Rattle.{kd_state.specs.Lugs.{bars_moved, lug_is_met}, std.proofs.Common.{max, min, ◌%◌}, std.proofs.Math.Bool.or_comm}

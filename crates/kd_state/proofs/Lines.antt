@@ -1,22 +1,21 @@
 -- Lines: words are told by them, a text's part before a byte by the text, and settings by the words of their lines.
 use Rattle.kd_state.proofs.Prelude.{ListsHaveNoFault, OneListFault, TextsTellLists, BeginsWith, BeginsWithLine}
-use Rattle.kd_state.proofs.Prelude.{BeginsWithNoLine, IsInRange, IsList, IsReadOff, list_text, pin_text}
-use Rattle.kd_state.proofs.Prelude.{setting_line, setting_words, Setting, Pull, lug_text, place_text, places}
-use Rattle.kd_state.proofs.Prelude.{reflector_text, wheel_text, Lug, Left, Place, One, Reflector, Wheel, I, eq-eqb}
-use Rattle.kd_state.proofs.Prelude.{eqb-true, false≢true, ltb-true, ne_eqb, IsAscii-decimal, decimal_injective}
-use Rattle.kd_state.proofs.Prelude.{decimal_nonempty, digits_decimal, parse-decimal, append-nil, append_assoc}
-use Rattle.kd_state.proofs.Prelude.{append_cancel_left, get_or_at, length-append, map_push, All-append, All-cons}
-use Rattle.kd_state.proofs.Prelude.{All-from_get_or, All-from_recursion, All-nil, All-push, All-weaker}
-use Rattle.kd_state.proofs.Prelude.{recursion_from_All, AllPass-from_list_all, Decides, then_some, All, AllByRecursion}
-use Rattle.kd_state.proofs.Prelude.{list_all, slice_split, Bool, List, MatchOption, None, Option, Some, [], ap, arith}
-use Rattle.kd_state.proofs.Prelude.{false, get_or, length, map, refl, rules, sym, true, ℕ, ◌++◌, ◌+◌, ◌<◌, ◌∙◌, ◌∷◌}
-use Rattle.kd_state.proofs.Prelude.{◌≡◌, ◌≢◌, ◌≤◌, common_steps, ParsesUnsigned}
-use Rattle.kd_state.specs.Words.{LettersAreWords, letter_text}
+use Rattle.kd_state.proofs.Prelude.{BeginsWithNoLine, IsInRange, IsList, IsReadOff, list_text, pin_text, setting_line}
+use Rattle.kd_state.proofs.Prelude.{setting_words, Setting, lug_text, place_text, places, reflector_text, wheel_text}
+use Rattle.kd_state.proofs.Prelude.{Lug, Place, One, Reflector, Wheel, eq-eqb, eqb-true, ltb-true, ne_eqb}
+use Rattle.kd_state.proofs.Prelude.{IsAscii-decimal, decimal_injective, decimal_nonempty, digits_decimal, parse-decimal}
+use Rattle.kd_state.proofs.Prelude.{append-nil, append_assoc, append_cancel_left, get_or_at, length-append, map_push}
+use Rattle.kd_state.proofs.Prelude.{All-append, All-cons, All-from_get_or, All-from_recursion, All-nil, All-push}
+use Rattle.kd_state.proofs.Prelude.{All-weaker, recursion_from_All, AllPass-from_list_all, Decides, then_some, All}
+use Rattle.kd_state.proofs.Prelude.{AllByRecursion, list_all, slice_split, Bool, List, MatchOption, None, Option, Some}
+use Rattle.kd_state.proofs.Prelude.{[], ap, arith, false, get_or, length, map, refl, rules, sym, true, ℕ, ◌++◌, ◌+◌}
+use Rattle.kd_state.proofs.Prelude.{◌<◌, ◌∷◌, ◌≡◌, ◌≢◌, ◌≤◌, common_steps, ParsesUnsigned}
+use Rattle.kd_state.specs.Words.{LettersAreWords}
 use Rattle.kd_state.specs.declared.setting.list.ListFault.TheVariants.{BadLine, TooMany}
 use Rattle.{kd_tables.specs.declared.reflector.Reflector.TheVariants.A, std.proofs.lemmas.List.Concat.flat_map-append}
 use Rattle.std.proofs.lemmas.Str.{IsUtf8-from_ascii, Parse.{IsNumeralModel, numerals_by_value, tells_by_index}}
 use Rattle.std.specs.{Fmt.decimal, Result.result_ok, Str.IsUtf8, Str.Parse.digits_value}
-use Rattle.{std.proofs.Common.{Bor, Result, Ok, MatchResult, eqb, ltb, ◌*◌, ◌^◌}, std.specs.Int.IsInRange as IsFigure}
+use Rattle.{std.proofs.Common.{Bor, Result, MatchResult, eqb, ltb, ◌^◌}, std.specs.Int.IsInRange as IsFigure}
 use Rattle.std.proofs.lemmas.List.Splits.{length-slice_split, slice_split_none, slice_split_at, join_with_byte-slice_split}
 use Rattle.kd_state.specs.Words.{words_of, line_of, IsWithout, IsWord, IsFirstPart, LinesTellWords, LinesSplitIntoWords}
 use Rattle.kd_state.specs.Words.{PartsMakeLines, WordsMakeOneLine, TextsTellFirstParts, NumbersAreWords}

@@ -2,7 +2,7 @@
 pub use Rattle.kd_drum.specs.Converter.{OnWheels, PinKey, acts_after, bars_met, converter_cipher}
 pub use Rattle.kd_enigma.specs.Plugs.{NoLetterTwice, letters_plugged}
 pub use Rattle.kd_state.specs.ToldApart.{has_reflector, has_wheel, numbered, place_in_box, same_reflector, same_wheel}
-pub use Rattle.kd_state.specs.Changes.{Allows, IsKept, IsSeatOf, Makes, MovesLug, Seats, SetsOnly, TheBar, TheCable, TheLetter, ThePin, TheReflector, TheRing, TheShown, TheSlot, Thing, Turns, letters_in}
+pub use Rattle.kd_state.specs.Changes.{IsKept, IsSeatOf, Makes, MovesLug, Seats, SetsOnly, TheBar, TheCable, TheLetter, ThePin, TheReflector, TheRing, TheShown, TheSlot, Thing, Turns, letters_in}
 pub use Rattle.kd_state.specs.Costs.{bar_cost, cable_cost, column_letters, columns_of, differ, lies_in_one}
 pub use Rattle.kd_state.specs.Laws.{AllowedWheelsLieInTheBox, CipherInTurn, ColumnsAreThePairs, CostTablesAreSquare, DaysWheelsHaveTheirPlaces, EngineIsTheMachine, EquallySetDecipher, KeyInTurn, ListsHaveNoFault, MachinesCanBeTurned, OnKeyIsItsCipher, OnKeyIsReady, OneListFault, PlacesTellWheels, ReadingIsItsCipher, ReadingIsReady, RefusalsAreTold, SettingsAreTold, SettingsKeepMachines, TellingIsMaking, TestsTellLetters, TextsTellLists, TheDayDeciphersItself, ThirteenColumns, TurnedEngineIsTheTurnedMachine, TurnedHasItsKey, TurnedHasTheDaysCipher, TurnedIsOnKey}
 pub use Rattle.kd_state.specs.Line.{BeginsWith, BeginsWithLine, BeginsWithNoLine, IsInRange, IsList, IsReadOff, list_text, pin_text, setting_line, setting_words}
@@ -25,11 +25,11 @@ pub use Rattle.kd_tables.specs.declared.{lug.Lug.Lug, lug.Lug.TheVariants.Left, 
 pub use Rattle.kd_tables.specs.declared.{model.Model.TheVariants.M209, place.Place.TheVariants.One}
 pub use Rattle.kd_tables.specs.declared.{reflector.Reflector.Reflector, wheel.Wheel.Wheel}
 pub use Rattle.kd_tables.specs.declared.wheel.Wheel.TheVariants.{Beta, Gamma, I, II, III, IV, V, VI, VII, VIII}
-pub use Rattle.std.proofs.lemmas.Bool.{and_from, and_parts, both_ways, cases_Bool, cases_eq, cond_both, eq-eqb, eqb-false, eqb-true, false_from_ne_true, false≢true, iff_false, le-leb, le-ltb, leb-false, leb-true, lt-ltb, ltb-true, ne_eqb, not-false, not-true, or_from, or_parts, true_from_ne_false, true≢false}
+pub use Rattle.std.proofs.lemmas.Bool.{and_from, and_parts, both_ways, cases_Bool, cases_eq, cond_both, eq-eqb, eqb-false, eqb-true, false_from_ne_true, false≢true, le-leb, le-ltb, leb-false, leb-true, lt-ltb, ltb-true, ne_eqb, not-false, not-true, or_from, or_parts, true_from_ne_false, true≢false}
 pub use Rattle.std.proofs.lemmas.Bool.Decides.{Decides-and, Decides-eqb, Decides-like, nat_tests}
 pub use Rattle.std.proofs.lemmas.Fmt.{IsAscii-decimal, decimal_injective, decimal_nonempty, digits_decimal, parse-decimal}
-pub use Rattle.std.proofs.lemmas.List.{append-nil, append_assoc, append_cancel_left, drop_all, drop_more, get_or-map, get_or_at, get_or_default, length-append, length-map, length-replicate, length-set, length_push, map-set, map_push, take_more}
-pub use Rattle.std.proofs.lemmas.List.Elements.{All-append, All-cons, All-contains, All-from_all_within, All-from_get_or, All-from_recursion, All-head, All-map, All-nil, All-push, All-set, All-tail, All-weaker, AllWithin-more, AllWithin-upto, Contains-append_cases, Contains-append_left, Contains-append_right, Contains-get_or, at_read, filter_map-append, recursion_from_All}
+pub use Rattle.std.proofs.lemmas.List.{append-nil, append_assoc, append_cancel_left, drop_all, drop_more, get_or-map, get_or_at, get_or_default, length-append, length-map, length-replicate, length-set, length_push, map-set, map_push}
+pub use Rattle.std.proofs.lemmas.List.Elements.{All-append, All-cons, All-contains, All-from_get_or, All-from_recursion, All-head, All-map, All-nil, All-push, All-set, All-tail, All-weaker, Contains-append_cases, Contains-append_left, Contains-append_right, Contains-get_or, recursion_from_All}
 pub use Rattle.std.proofs.lemmas.{Grind.common_steps, List.Quantifiers.position-Some}
 pub use Rattle.std.proofs.lemmas.List.Sorted.{All-permutation, Contains-permutation, IsPermutation-append, IsPermutation-append_comm, IsPermutation-append_left, IsPermutation-append_right, IsPermutation-refl, IsPermutation-sym, IsPermutation-trans, ranks_by, sorted_far, sum_by-IsPermutation}
 pub use Rattle.std.proofs.lemmas.List.Sums.{AllPass-from_list_all, passes_at_first, position_or_len_is, sum_by-cons, sum_by-le, sum_by_more}

@@ -2,15 +2,14 @@
 use Rattle.kd_state.proofs.Prelude.{has_reflector, has_wheel, place_in_box, same_reflector, same_wheel}
 use Rattle.kd_state.proofs.Prelude.{AllowedWheelsLieInTheBox, DaysWheelsHaveTheirPlaces, PlacesTellWheels, StandsAt}
 use Rattle.kd_state.proofs.Prelude.{ShowsWindow, Day, OfPins, PinDay, AllByRecursion, All-from_recursion}
-use Rattle.kd_state.proofs.Prelude.{recursion_from_All, subst, seats, Parts, Pin, PinParts, SheetWheel, IsAllowed}
-use Rattle.kd_state.proofs.Prelude.{box_of, lies_in, reflector_text, slots_of, wheel_text, wheels_for, Model, Reflector}
-use Rattle.kd_state.proofs.Prelude.{Wheel, Beta, Gamma, I, II, III, IV, V, VI, VII, VIII, cases_Bool, eqb-true}
-use Rattle.kd_state.proofs.Prelude.{false_from_ne_true, leb-true, Decides-like, Contains-append_left}
-use Rattle.kd_state.proofs.Prelude.{Contains-append_right, Contains-get_or, passes_at_first, position_or_len_is}
-use Rattle.kd_state.proofs.Prelude.{is_member-Decides, same_Some, slice_get-get_or, slice_get-map, Decides}
-use Rattle.kd_state.proofs.Prelude.{pointwise_decides, All, list_any, position_or_len, option_eq, option_map, unwrap_or}
-use Rattle.kd_state.proofs.Prelude.{M209, Bool, Contains, List, Option, Some, [], ap, arith, false, find, get_or}
-use Rattle.kd_state.proofs.Prelude.{length, refl, rules, sym, true, ℕ, ◌<◌, ◌↔◌, ◌∙◌, ◌∷◌, ◌≡◌, ◌≢◌, ◌≤◌, pointwise}
+use Rattle.kd_state.proofs.Prelude.{recursion_from_All, seats, Parts, Pin, PinParts, SheetWheel, IsAllowed, box_of}
+use Rattle.kd_state.proofs.Prelude.{lies_in, reflector_text, slots_of, wheel_text, wheels_for, Model, Reflector, Wheel}
+use Rattle.kd_state.proofs.Prelude.{I, cases_Bool, eqb-true, false_from_ne_true, leb-true, Decides-like}
+use Rattle.kd_state.proofs.Prelude.{Contains-append_left, Contains-append_right, Contains-get_or, passes_at_first}
+use Rattle.kd_state.proofs.Prelude.{position_or_len_is, is_member-Decides, same_Some, slice_get-get_or, slice_get-map}
+use Rattle.kd_state.proofs.Prelude.{Decides, pointwise_decides, All, list_any, position_or_len, option_eq, unwrap_or}
+use Rattle.kd_state.proofs.Prelude.{Bool, Contains, List, Option, [], ap, arith, false, find, get_or, length, refl}
+use Rattle.kd_state.proofs.Prelude.{rules, sym, true, ℕ, ◌<◌, ◌↔◌, ◌∙◌, ◌∷◌, ◌≡◌, ◌≢◌, ◌≤◌, pointwise}
 use Rattle.{kd_tables.specs.contracts.wheel.Wheel.the_type, kd_tables.specs.declared.model.Model.TheVariants.M4}
 use Rattle.{std.proofs.Common.{cond, ◌==◌}, std.proofs.lemmas.Slice.Eq.bytes_eq-Decides, std.specs.Str.bytes_eq}
 use denote.Enum.Bare.{sameb, same_true, same_false}

@@ -256,12 +256,7 @@ carried (Rotor m) (Seat slot wheel) h allowed =
     }
 carried (Rotor m) (SeatReflector reflector) h allowed =
     let may = (has_reflector-Decides (reflectors_of m.model) reflector).0 (not-false _ allowed.0) in
-    let others : (thing : Thing) → Keeps TheReflector (Rotor m) (Rotor (record m { reflector = reflector })) thing =
-    λ thing. elim thing as (Keeps TheReflector (Rotor m) (Rotor (record m { reflector = reflector }))) [ TheReflector ↦ λ free. absurd (free refl) | _ ↦ λ _. refl ] in
-    record {
-      told = (refl, record { model = refl; others = others });
-      kept = grind (arith, rotor_machine, in_their_order);
-    }
+    record { told = grind arith; kept = grind (arith, rotor_machine, in_their_order) }
 carried (Rotor m) (RingTo wheel letter) h allowed =
     let l = h.legal in
     let place = place_in_box m.model wheel in

@@ -1,4 +1,4 @@
-use Rattle.kd_state.proofs.Prelude.{Decides, arith, subst, sym, ◌∙◌, ◌≡◌, ParsesUnsigned}
+use Rattle.kd_state.proofs.Prelude.{arith, sym, ◌∙◌}
 use Rattle.kd_state.proofs.Lines.{no_text, no_number, only_number, ok_part}
 use Rattle.kd_state.proofs.words.wide_number_of_text.Goals as goal
 

@@ -1,4 +1,4 @@
-use Rattle.kd_state.proofs.Prelude.{ordered, get_or_default, Option, ap, arith, get_or, set, ℕ, ◌∙◌}
+use Rattle.kd_state.proofs.Prelude.{ordered, get_or_default, Option, arith, ℕ}
 use Rattle.std.proofs.lemmas.List.Edits.{map_over_more}
 use Rattle.kd_state.proofs.machine.cable.put_in_order.Goals as goal
 

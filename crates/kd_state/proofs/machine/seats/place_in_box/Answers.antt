@@ -1,4 +1,4 @@
-use Rattle.kd_state.proofs.Prelude.{same_wheel, I, ap, arith, get_or, length, sym, true, ◌∙◌, ◌≡◌}
+use Rattle.kd_state.proofs.Prelude.{arith, sym, true, ◌∙◌}
 use Rattle.kd_state.proofs.Wheels.{same_tested, found_in_box}
 use Rattle.kd_state.proofs.machine.seats.place_in_box.Goals as goal
 

@@ -1,4 +1,4 @@
-use Rattle.kd_state.proofs.{Prelude.{numbered, IsSome, SomeIff, Option, Some, ap, arith, sym, ◌∙◌}, Slots.seated_in_box}
+use Rattle.kd_state.proofs.{Prelude.{arith}, Slots.seated_in_box}
 use Rattle.kd_state.proofs.machine.rotor_parts.RotorParts.turn.Goals as goal
 
 pub unwrap-place-requires : goal.unwrap-place-requires
