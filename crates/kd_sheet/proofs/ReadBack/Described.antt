@@ -96,6 +96,11 @@ pin_parts_legal table =
 abbrev pub IsDay : ℕ → Day → Type 0
 IsDay number day = IsLegalDay day × (day_number day ≡ number)
 
+-- what is made where a thing is legal, and not else, is there
+pub legal_is_some : {A P : Type 0} (Q : A → Type 0) (made : Option A) → MatchOption made (P → ⊥) Q → P → IsSome made
+legal_is_some Q None none legal = absurd (none legal)
+legal_is_some Q (Some x) some legal = refl
+
 pub rotor_day : (number : ℕ) (model : Model) (table : Members) → IsDayNumber number
     → Gives (rotor_day_in number model table) (IsDay number)
 unfolding rotor_day_in
