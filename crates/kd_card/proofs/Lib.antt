@@ -9,4 +9,3 @@ pub mod Duality
 pub mod Falling
 pub mod Counting
 pub mod Shortest
-pub mod Moving

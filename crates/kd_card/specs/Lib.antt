@@ -7,5 +7,4 @@ pub mod CardFault
 pub mod Reading
 pub mod Proving
 pub mod Loose
-pub mod Moves
 pub mod Laws

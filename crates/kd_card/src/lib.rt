@@ -2,8 +2,6 @@
 //! both.
 #![tactic(auto)]
 
-mod bar_lines;
-mod cable_lines;
 mod card;
 mod carrying;
 mod fault;
@@ -13,7 +11,6 @@ mod kinds;
 pub mod laws;
 mod look;
 mod loose;
-mod paired;
 mod pin_lines;
 mod price_text;
 mod prices;
@@ -27,8 +24,7 @@ pub use fault::CardFault;
 pub use group::Group;
 pub use kinds::{BarKind, CableKind, PairKind, PricedKind, RowKind};
 pub use look::Look;
-pub use loose::loose_settings;
-pub use paired::paired_settings;
+pub use loose::{loose_settings, push_line};
 pub use prices::{PriceParts, Prices, Version};
 pub use read::read_card;
 pub use write::write_card;

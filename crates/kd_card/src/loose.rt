@@ -27,8 +27,8 @@ pub fn loose_settings(machine: &Machine, day: &SheetDay) -> Settings
     }
 }
 
-/// Appends a line, if there is one.
-pub(crate) fn push_line(settings: &mut Settings, line: Option<Setting>)
+/// Appends the setting of a line, if there is one.
+pub fn push_line(settings: &mut Settings, line: Option<Setting>)
     requires { array_vec_len settings.old + 1 ≤ 192 }
     ensures items { settings.new.items ≡ settings.old.items ++ option_to_list line }
     ensures few { array_vec_len settings.new ≤ array_vec_len settings.old + 1 }

@@ -123,7 +123,6 @@ fn push_prices<const N: usize>(text: &mut ArrayString<N>, prices: &Prices)
 }
 
 /// Appends the line of a word and prices.
-#[tactic(auto, using(crate::proofs::Lines::prices_written))]
 fn push_price_line<const N: usize>(text: &mut ArrayString<N>, word: &str, prices: &[i16])
     requires room { array_string_len text.old + length word.now + 6 * length prices.now + 1 ≤ N }
     requires reach { AreWithinReach prices.now }

@@ -1,14 +1,14 @@
 -- The planned lines of a pairing, what they cost, and the card that is made of them.
 pub use Rattle.kd_assign.specs.Assignment.{IsOneToOne, assignment_cost}
 pub use Rattle.kd_assign.specs.Prices.{CostsAtMost, Fits, cost_at, price_at, price_sum, sum_of}
-pub use Rattle.kd_card.proofs.Moving.Rotors.{are_pluggable, rotors_lead}
-pub use Rattle.kd_card.proofs.Moving.{are_movable, pin_counted, pin_machine_leads, rotor_counted}
+pub use Rattle.kd_plan.proofs.Moving.Rotors.{are_pluggable, rotors_lead}
+pub use Rattle.kd_plan.proofs.Moving.{are_movable, pin_counted, pin_machine_leads, rotor_counted}
 pub use Rattle.kd_card.proofs.Shortest.{no_rotors, as_few_are_needed, proving_cards_are_shortest}
 pub use Rattle.kd_card.proofs.{Counting.AreCounted, Duality.{fold_of_both, sum_of as card_sum}}
-pub use Rattle.kd_card.specs.{Moves.planned_lines, Prices.{ArePrices, column_prices, how_many, row_prices}}
+pub use Rattle.kd_card.specs.Prices.{ArePrices, column_prices, how_many, row_prices}
 pub use Rattle.kd_card.specs.{Proving.{LeadsToTheDay, AreOfKind, Proves, Same}, declared.prices.PriceParts.PriceParts}
 pub use Rattle.kd_plan.specs.Planned.{IsPlanned, Plans, table_size}
-pub use Rattle.kd_plan.specs.{Due.prices_due, Laws.{PlannedCardsProve, PlannedLinesLead}}
+pub use Rattle.kd_plan.specs.{Due.prices_due, Laws.{PlannedCardsProve, PlannedLinesLead}, Moves.planned_lines}
 pub use Rattle.kd_state.proofs.CostTable.{at_most_four, thirteen_columns}
 pub use Rattle.kd_state.specs.Costs.{bar_cost, bar_costs, cable_cost, cable_costs, columns_of, loose_count, lugs_moved}
 pub use Rattle.kd_state.specs.Costs.{cost_table}

@@ -1,3 +1,4 @@
+pub mod Moves
 pub mod Planned
 pub mod Due
 pub mod Laws

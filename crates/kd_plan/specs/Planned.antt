@@ -9,7 +9,7 @@ use Rattle.kd_state.specs.SheetDay.{Day, day_model}
 use Rattle.kd_state.specs.Costs.{cost_table}
 use Rattle.kd_card.specs.declared.prices.PriceParts.{PriceParts}
 use Rattle.kd_card.specs.Prices.{row_prices, column_prices, Fits, price_sum}
-use Rattle.kd_card.specs.Moves.{planned_lines}
+use Rattle.kd_plan.specs.Moves.{planned_lines}
 use Rattle.kd_card.specs.Proving.{AreOfKind, LeadsToTheDay, ProvesByNumber, IsShortest}
 use Rattle.kd_assign.specs.Assignment.{IsOneToOne, assignment_cost}
 

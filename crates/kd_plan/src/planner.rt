@@ -6,8 +6,9 @@ ghost use Rattle.kd_plan.specs.Planned.{IsPlanned, Plans};
 
 use super::card_prices::prices_due;
 use super::other_model::OtherModel;
+use super::paired::paired_settings;
 use kd_assign::{Solution, assign};
-use kd_card::{Card, Prices, Version, paired_settings};
+use kd_card::{Card, Prices, Version};
 use kd_state::{
     Machine, OneModel, Parts, PinEntry, PinParts, RotorEntry, RotorParts, SheetDay, bar_costs,
     cable_costs,

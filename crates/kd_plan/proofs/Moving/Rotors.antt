@@ -4,10 +4,9 @@ pub use Rattle.kd_card.proofs.Counting.{AreCounted, all_counted, beside_each, co
 pub use Rattle.kd_card.proofs.{Counting.{lines_of_each, sum_none, sums_add}, Counts.{once_of_distinct, times}}
 pub use Rattle.kd_card.specs.Loose.{lines_from, pin_lines, pin_of, pin_turn_lines, pin_turn_of, reflector_lines}
 pub use Rattle.kd_card.specs.Loose.{ring_lines, ring_of_wheel, seat_lines, seat_of, turn_lines, turn_of, unless_so}
-pub use Rattle.kd_card.specs.Moves.{bars_beside, besides, letters_apart, letters_due, lugs_of, moves_of, planned_lines}
-pub use Rattle.kd_card.specs.declared.cable_lines.Direction.TheVariants.{In, Out}
-pub use Rattle.kd_card.specs.{Proving.{LeadsToTheDay, is_priced}, declared.cable_lines.Direction.Direction}
-pub use Rattle.kd_card.{proofs.Leading.leads_join, specs.Loose.wheel_pin_lines, specs.Moves.target_of}
+pub use Rattle.kd_plan.specs.Moves.{bars_beside, besides, letters_apart, letters_due, lugs_of, moves_of, planned_lines}
+pub use Rattle.kd_plan.specs.{Moves.target_of, declared.cable_lines.Direction.{Direction, TheVariants.{In, Out}}}
+pub use Rattle.kd_card.{proofs.Leading.leads_join, specs.{Loose.wheel_pin_lines, Proving.{LeadsToTheDay, is_priced}}}
 pub use Rattle.kd_state.proofs.CostTable.{columns_are_the_pairs, no_zero, one_zero, tests_tell_letters, zeros}
 pub use Rattle.kd_state.proofs.Slots.{has_letter-Decides, is_some-place_on, set_here, set_other}
 pub use Rattle.kd_state.proofs.Wheels.{days_wheels_have_their_places, has_reflector-Decides, has_wheel-Decides}
@@ -51,7 +50,7 @@ pub use Rattle.std.proofs.{Common.{◌<◌, ◌||◌, ◌∙◌, ◌∷◌, ◌�
 pub use Rattle.std.specs.{List.{AllByRecursion, range_with_len}, Option.option_map_or}
 pub use Rattle.{kd_enigma.specs.Plugs.letters_plugged, kd_pins.specs.PinWheels.pins_of}
 pub use Rattle.{kd_pins.specs.declared.pin_set.PinSet.PinSet, kd_state.proofs.Cables.free_tells}
-unfoldable pub use Rattle.{kd_card.specs.Moves.lugs_to, kd_state.specs.Costs.standings_as}
+unfoldable pub use Rattle.{kd_plan.specs.Moves.lugs_to, kd_state.specs.Costs.standings_as}
 unfoldable pub use Rattle.{kd_tables.specs.Rings.ring_of, std.specs.List.IsDistinct}
 
 -- the element in the middle

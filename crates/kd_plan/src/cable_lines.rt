@@ -6,9 +6,9 @@ ghost use Rattle.kd_state.specs.Machine.{cable_letters};
 ghost use Rattle.kd_state.specs.Setting.{has_letter};
 ghost use Rattle.kd_state.specs.Costs.{column_letters};
 ghost use Rattle.kd_card.specs.Loose.{unless_so, lines_from};
-ghost use Rattle.kd_card.specs.Moves.{besides, letters_apart, moves_of};
+ghost use Rattle.kd_plan.specs.Moves.{besides, letters_apart, moves_of};
 
-use super::loose::push_line;
+use kd_card::push_line;
 use kd_state::{Cable, Setting, Settings, column_at, letters_in_order, lies_in, lies_in_column};
 use kd_tables::Letter;
 

@@ -5,9 +5,9 @@ ghost use Rattle.std.specs.Option.{option_to_list};
 ghost use Rattle.arrayvec.specs.ArrayVec.{array_vec_len};
 ghost use Rattle.kd_state.specs.Setting.{is_at};
 ghost use Rattle.kd_card.specs.Loose.{unless_so, lines_from};
-ghost use Rattle.kd_card.specs.Moves.{lugs_to, lugs_of, bars_beside, target_of};
+ghost use Rattle.kd_plan.specs.Moves.{lugs_to, lugs_of, bars_beside, target_of};
 
-use super::loose::push_line;
+use kd_card::push_line;
 use kd_state::{Setting, Settings, nearest_standing};
 use kd_tables::{Lug, Place, Reading, Standing};
 

@@ -1,0 +1,8 @@
+use Rattle.kd_card.proofs.{Prelude.{arith, common_steps, flat_map-append, take_all}, Lines.all_prices}
+use Rattle.kd_card.proofs.write.push_price_line.Goals as goal
+
+pub loop-price-preserved : goal.loop-price-preserved
+loop-price-preserved g c = record { bytes = grind (arith, common_steps); len = omega arith }
+
+pub returns-clause-bytes : goal.returns-clause-bytes
+returns-clause-bytes g c = grind (arith, all_prices, take_all)
