@@ -1,5 +1,5 @@
 -- Lines of words as they are written and as they are split; prices by their texts; and what stands in a card's lines.
-use Rattle.kd_card.proofs.Prelude.{figures, ◌≡◌, ◌≢◌, ℕ, ◌<◌, true, false, eqb, ltb, List, [], ◌∷◌, ◌++◌, length, refl, sym, ap, ◌∙◌, append_assoc, length-append, arith, ℤ, All, list_all, flat_map, signed_decimal, ne_eqb, ltb-true, append-nil, get_or_at, take_all, flat_map-append, AllPass-from_list_all, All-weaker, All-from_recursion, flat_map-map, Setting, words_of, line_of, IsWord, IsWithout, IsFirstPart, setting_line, list_text, PriceParts, Version, version_of, price_sum, head_words, settings_words, price_words, sum_words, lines_text, price_lines, card_text, with_line, HasWords, common_steps, lines_split_into_words, texts_tell_first_parts, words_make_one_line, map, setting_words, suc, ◌^◌, ◌≤◌, Bool, get_or, Option, Some, None, MatchOption, Result, Ok, Err, MatchResult, Decides, Bor, ◌↔◌, IsTrue, is_some, subst, pos, negsuc, unsigned_abs, FitsSigned, w16, to_z, of_z, then_some, IsUtf8, ParsesSigned, AllByRecursion, false≢true, fits_signed_from_abs, to_z-of_z, get_or-map, length-map, recursion_from_All, All-map, IsPriceText, SaysPrices, BadLine, PriceMissing, Refused, Found, parse-signed_decimal, IsAscii-signed, length-decimal-le, AreWithinReach, codes, zero, ◌+◌, ◌*◌, inl, inr, fold, decimal, not, pointwise, not-false, Decides-eqb, slice_eq-Decides, err_from_is_err_and, ◌+ℤ◌, digits_value, decimal_nonempty, digits_decimal, decimal_digit, first_decimal, All-cons, All-append, All-from_get_or, how_many, ArePrices, Group, Name, PricedKind, CountWrong, BeginsWithHead, kinds_text, row_word, column_word, version_text, IsGroup, IsDigit, IsNumberText, IsNumeral, SaysValue, SaysLine, SaysFirst, SaysPriceLine, SaysGroup, nil_from_length, numbers_are_words, word_by_bytes, word_by_test, passed, CardFault}
+use Rattle.kd_card.proofs.Prelude.{figures, ◌≡◌, ◌≢◌, ℕ, ◌<◌, true, false, eqb, ltb, List, [], ◌∷◌, ◌++◌, length, refl, sym, ap, ◌∙◌, append_assoc, length-append, arith, ℤ, All, list_all, flat_map, signed_decimal, ne_eqb, ltb-true, append-nil, get_or_at, take_all, flat_map-append, AllPass-from_list_all, All-weaker, All-from_recursion, flat_map-map, Setting, words_of, line_of, IsWord, IsWithout, IsFirstPart, setting_line, list_text, PriceParts, Version, version_of, price_sum, head_words, settings_words, price_words, sum_words, lines_text, price_lines, card_text, with_line, HasWords, common_steps, lines_split_into_words, texts_tell_first_parts, words_make_one_line, map, setting_words, suc, ◌^◌, ◌≤◌, Bool, get_or, Option, Some, None, MatchOption, Result, Ok, Err, MatchResult, Decides, Bor, ◌↔◌, IsTrue, is_some, subst, pos, negsuc, unsigned_abs, FitsSigned, w16, to_z, of_z, then_some, IsUtf8, ParsesSigned, AllByRecursion, false≢true, fits_signed_from_abs, to_z-of_z, get_or-map, length-map, recursion_from_All, All-map, IsPriceText, SaysPrices, BadLine, PriceMissing, Refused, Found, parse-signed_decimal, IsAscii-signed, AreWithinReach, codes, zero, ◌+◌, ◌*◌, inl, inr, fold, decimal, not, pointwise, not-false, Decides-eqb, slice_eq-Decides, err_from_is_err_and, ◌+ℤ◌, digits_value, decimal_nonempty, digits_decimal, decimal_digit, first_decimal, All-cons, All-append, All-from_get_or, how_many, ArePrices, Group, Name, PricedKind, CountWrong, BeginsWithHead, kinds_text, row_word, column_word, version_text, IsGroup, IsDigit, IsNumberText, IsNumeral, SaysValue, SaysLine, SaysFirst, SaysPriceLine, SaysGroup, nil_from_length, numbers_are_words, word_by_bytes, word_by_test, passed, CardFault}
 use Rattle.std.proofs.lemmas.List.Splits.{slice_split_none, slice_split_at, join_with_byte-slice_split}
 use Rattle.std.specs.{Result.result_ok, Result.IsErrAnd, Int.Signed.mag}
 use Rattle.std.proofs.lemmas.Str.{IsUtf8-from_ascii}
@@ -118,14 +118,6 @@ written_price text p e within = e ∙ ap signed_decimal (to_z-of_z w16 p (fits p
 
 pub small : (p : ℤ) → unsigned_abs p ≤ 9999 → mag p < 2 ^ 63
 small p e = grind arith
-
-short_price : (p : ℤ) → unsigned_abs p ≤ 9999 → length (signed_decimal p) ≤ 5
-short_price (pos n) within = omega (arith, length-decimal-le 4 n (omega arith) (omega arith) (omega arith))
-short_price (negsuc n) within = omega (arith, length-decimal-le 4 (suc n) (omega arith) (omega arith) (omega arith))
-
-pub short_text : (text : List ℕ) (p : ℤ) → text ≡ signed_decimal (to_z w16 (of_z w16 p)) → unsigned_abs p ≤ 9999
-    → length text ≤ 5
-short_text text p e within = omega (arith, ap length (written_price text p e within), short_price p within)
 
 pub no_text : {S E : Type 0} (bs : List ℕ) (r : Result S E) (P : S → Type 0) (Q : E → Type 0)
     → MatchResult r P (λ e. ¬ (IsUtf8 bs) × Q e) → result_ok r ≡ None → (price : ℤ) → unsigned_abs price ≤ 9999 → signed_decimal price ≢ bs

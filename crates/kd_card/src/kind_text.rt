@@ -116,10 +116,10 @@ pub(crate) fn read_kinds<'a>(
 
 /// Appends a line for each kind.
 pub(crate) fn push_kinds<const N: usize>(text: &mut ArrayString<N>, kinds: &[PricedKind])
-    requires room { array_string_len text.old + 24 * length kinds.now ≤ N }
+    requires room { array_string_len text.old + 26 * length kinds.now ≤ N }
     requires kinds { All IsPricedKind kinds.now }
     ensures bytes { text.new.bytes ≡ text.old.bytes ++ kinds_text kinds.now }
-    ensures len { array_string_len text.new ≤ array_string_len text.old + 24 * length kinds.now }
+    ensures len { array_string_len text.new ≤ array_string_len text.old + 26 * length kinds.now }
 {
     for kind in kinds {
         push_kind(text, kind);
@@ -127,12 +127,11 @@ pub(crate) fn push_kinds<const N: usize>(text: &mut ArrayString<N>, kinds: &[Pri
 }
 
 /// Appends the line of the kind.
-#[tactic(auto, using(crate::proofs::KindWords::line_in_pieces, crate::proofs::Lines::written_price))]
 fn push_kind<const N: usize>(text: &mut ArrayString<N>, kind: &PricedKind)
-    requires room { array_string_len text.old + 24 ≤ N }
+    requires room { array_string_len text.old + 26 ≤ N }
     requires kind { IsPricedKind kind.now }
     ensures bytes { text.new.bytes ≡ text.old.bytes ++ kinds_text (kind.now ∷ []) }
-    ensures len { array_string_len text.new ≤ array_string_len text.old + 24 }
+    ensures len { array_string_len text.new ≤ array_string_len text.old + 26 }
 {
     let mut buffer = Buffer::new();
     text.push_str(kind.look.name().text());

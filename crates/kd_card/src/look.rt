@@ -1,5 +1,5 @@
 //! What alike things have in common, and its text.
-ghost use Rattle.std.specs.Prelude.{◌≡◌, ◌≢◌, ◌↔◌, ℕ, ◌+◌, ◌<◌, [], ◌∷◌, IsTrue, MatchOption, Some};
+ghost use Rattle.std.specs.Prelude.{◌≡◌, ◌≢◌, ◌↔◌, ℕ, ◌+◌, ◌<◌, [], ◌∷◌, ◌≤◌, length, IsTrue, MatchOption, Some};
 ghost use Rattle.kd_state.specs.Machine.{cable_letters};
 ghost use Rattle.kd_tables.specs.Places as places;
 ghost use Rattle.kd_card.specs.Kinds.{name_text, look_name, look_text, look_rank, letters_text};
@@ -21,7 +21,8 @@ pub(crate) enum Name {
 impl Name {
     /// The first word of a kind's line.
     pub(crate) fn text(self) -> &'static str
-        ensures { result.now ≡ name_text self }
+        ensures value { result.now ≡ name_text self }
+        ensures few { length result.now ≤ 5 }
     {
         match self {
             Name::Cable => "CABLE",

@@ -100,11 +100,10 @@ fn push_count<const N: usize>(text: &mut ArrayString<N>, count: usize)
 }
 
 /// Appends the lines of the prices.
-#[tactic(auto, using(crate::proofs::KindPrices::all_kinds, crate::proofs::Prelude::append_assoc, crate::proofs::KindPrices::text_by_kind))]
 fn push_prices<const N: usize>(text: &mut ArrayString<N>, prices: &Prices)
-    requires { array_string_len text.old + 1296 ≤ N }
+    requires { array_string_len text.old + 1404 ≤ N }
     ensures bytes { text.new.bytes ≡ text.old.bytes ++ lines_text (price_lines prices.now) }
-    ensures len { array_string_len text.new ≤ array_string_len text.old + 1296 }
+    ensures len { array_string_len text.new ≤ array_string_len text.old + 1404 }
 {
     match prices.parts() {
         PriceParts::Cables(cables, pairs) => {
@@ -124,12 +123,12 @@ fn push_prices<const N: usize>(text: &mut ArrayString<N>, prices: &Prices)
 
 /// Appends the line of a word and prices.
 fn push_price_line<const N: usize>(text: &mut ArrayString<N>, word: &str, prices: &[i16])
-    requires room { array_string_len text.old + length word.now + 6 * length prices.now + 1 ≤ N }
+    requires room { array_string_len text.old + length word.now + 7 * length prices.now + 1 ≤ N }
     requires reach { AreWithinReach prices.now }
     ensures bytes { text.new.bytes
         ≡ text.old.bytes ++ with_line (price_words word.now prices.now) [] }
     ensures len { array_string_len text.new
-        ≤ array_string_len text.old + length word.now + 6 * length prices.now + 1 }
+        ≤ array_string_len text.old + length word.now + 7 * length prices.now + 1 }
 {
     text.push_str(word);
     for price in prices {
@@ -140,10 +139,10 @@ fn push_price_line<const N: usize>(text: &mut ArrayString<N>, word: &str, prices
 
 /// Appends a space and a price.
 fn push_price<const N: usize>(text: &mut ArrayString<N>, price: i16)
-    requires room { array_string_len text.old + 6 ≤ N }
+    requires room { array_string_len text.old + 7 ≤ N }
     requires reach { unsigned_abs price ≤ 9999 }
     ensures bytes { text.new.bytes ≡ text.old.bytes ++ (32 ∷ signed_decimal price) }
-    ensures len { array_string_len text.new ≤ array_string_len text.old + 6 }
+    ensures len { array_string_len text.new ≤ array_string_len text.old + 7 }
 {
     let mut buffer = Buffer::new();
     text.push_str(" ");

@@ -17,11 +17,11 @@ pub returns-then-not-is_word : goal.returns-then-not-is_word
 returns-then-not-is_word c =
     ends_at c.args.floor
     (AtOther c.in_ok-first.first.now (record { behind = _; rest = _; has = (passed c.in_ok-first.ensures).next })
-    (λ e. untrue c.is_word.ensures c.if-not-is_word.true (e ∙ sym c.text.ensures)))
+    (λ e. untrue c.is_word.ensures c.if-not-is_word.true (e ∙ sym c.text.ensures.value)))
 
 pub returns-in_default : goal.returns-in_default
 returns-in_default c =
-    let word = c.is_word.ensures.0 c.if-not-is_word.false ∙ c.text.ensures in
+    let word = c.is_word.ensures.0 c.if-not-is_word.false ∙ c.text.ensures.value in
     let has =
     subst (λ w. HasWords c.args.text.now (w ∷ words_behind (option_copied c.in_ok-first.behind)) c.in_ok-first.rest.now) word (passed c.in_ok-first.ensures).next in (
       no_kind c.args.floor (record { behind = _; rest = _; has = has }) (elim c.in_default.branch [
