@@ -1,5 +1,6 @@
 -- Lines of words as they are written and as they are split; prices by their texts; and what stands in a card's lines.
-use Rattle.kd_card.proofs.Prelude.{figures, ◌≡◌, ◌≢◌, ℕ, ◌<◌, true, false, eqb, ltb, List, [], ◌∷◌, ◌++◌, length, refl, sym, ap, ◌∙◌, append_assoc, length-append, arith, ℤ, All, list_all, flat_map, signed_decimal, ne_eqb, ltb-true, append-nil, get_or_at, take_all, flat_map-append, AllPass-from_list_all, All-weaker, All-from_recursion, flat_map-map, Setting, words_of, line_of, IsWord, IsWithout, IsFirstPart, setting_line, list_text, PriceParts, Version, version_of, price_sum, head_words, settings_words, price_words, sum_words, lines_text, price_lines, card_text, with_line, HasWords, common_steps, lines_split_into_words, texts_tell_first_parts, words_make_one_line, map, setting_words, suc, ◌^◌, ◌≤◌, Bool, get_or, Option, Some, None, MatchOption, Result, Ok, Err, MatchResult, Decides, Bor, ◌↔◌, IsTrue, is_some, subst, pos, negsuc, unsigned_abs, FitsSigned, w16, to_z, of_z, then_some, IsUtf8, ParsesSigned, AllByRecursion, false≢true, fits_signed_from_abs, to_z-of_z, get_or-map, length-map, recursion_from_All, All-map, IsPriceText, SaysPrices, BadLine, PriceMissing, Refused, Found, parse-signed_decimal, IsAscii-signed, AreWithinReach, codes, zero, ◌+◌, ◌*◌, inl, inr, fold, decimal, not, pointwise, not-false, Decides-eqb, slice_eq-Decides, err_from_is_err_and, ◌+ℤ◌, digits_value, decimal_nonempty, digits_decimal, decimal_digit, first_decimal, All-cons, All-append, All-from_get_or, how_many, ArePrices, Group, Name, PricedKind, CountWrong, BeginsWithHead, kinds_text, row_word, column_word, version_text, IsGroup, IsDigit, IsNumberText, IsNumeral, SaysValue, SaysLine, SaysFirst, SaysPriceLine, SaysGroup, nil_from_length, numbers_are_words, word_by_bytes, word_by_test, passed, CardFault}
+use Rattle.kd_card.proofs.Prelude.{figures, ◌≡◌, ◌≢◌, ℕ, ◌<◌, true, false, eqb, ltb, List, [], ◌∷◌, ◌++◌, length, refl, sym, ap, ◌∙◌, append_assoc, length-append, append_cancel_left, arith, ℤ, All, list_all, flat_map, signed_decimal, ne_eqb, ltb-true, append-nil, get_or_at, take_all, flat_map-append, AllPass-from_list_all, All-weaker, All-from_recursion, flat_map-map, Setting, words_of, line_of, IsWord, IsWithout, IsFirstPart, setting_line, list_text, PriceParts, Version, version_of, price_sum, head_words, settings_words, price_words, sum_words, lines_text, price_lines, card_text, with_line, HasWords, common_steps, lines_split_into_words, texts_tell_first_parts, words_make_one_line, map, setting_words, suc, ◌^◌, ◌≤◌, Bool, get_or, Option, Some, None, MatchOption, Result, Ok, Err, MatchResult, Decides, Bor, ◌↔◌, IsTrue, is_some, subst, pos, negsuc, unsigned_abs, FitsSigned, w16, to_z, of_z, then_some, IsUtf8, ParsesSigned, AllByRecursion, false≢true, fits_signed_from_abs, to_z-of_z, get_or-map, length-map, recursion_from_All, All-map, IsPriceText, SaysPrices, BadLine, PriceMissing, Refused, Found, parse-signed_decimal, IsAscii-signed, AreWithinReach, codes, zero, ◌+◌, ◌*◌, inl, inr, fold, decimal, not, pointwise, not-false, Decides-eqb, slice_eq-Decides, err_from_is_err_and, ◌+ℤ◌, digits_value, decimal_nonempty, digits_decimal, decimal_digit, first_decimal, All-cons, All-append, All-from_get_or, how_many, ArePrices, Group, Name, PricedKind, CountWrong, BeginsWithHead, kinds_text, row_word, column_word, version_text, IsGroup, IsDigit, IsNumberText, IsNumeral, SaysValue, SaysLine, SaysFirst, SaysPriceLine, SaysGroup, nil_from_length, numbers_are_words, word_by_bytes, word_by_test, passed, CardFault}
+use Rattle.kd_card.specs.Reading.{text_behind}
 use Rattle.std.proofs.lemmas.List.Splits.{slice_split_none, slice_split_at, join_with_byte-slice_split}
 use Rattle.std.specs.{Result.result_ok, Result.IsErrAnd, Int.Signed.mag}
 use Rattle.std.proofs.lemmas.Str.{IsUtf8-from_ascii}
@@ -61,6 +62,18 @@ two_lines a b rest = simp (append_assoc, append-nil)
 pub no_first_part : {byte : ℕ} {text part rest : List ℕ} → IsFirstPart byte text part rest → ¬ (IsWithout byte text)
 no_first_part {byte} {text} {part} {rest} first without =
     grind (arith, without, length-append part (byte ∷ rest), get_or_at part byte rest 0 (length part) refl)
+
+-- what is in front of the first LF behind a front
+pub value_split : (text front behind : List ℕ) (r : Option (Bor (List ℕ) × Bor (List ℕ))) → text ≡ front ++ behind
+    → MatchOption r (IsWithout 10 behind) (λ parts. IsFirstPart 10 behind parts.0.now parts.1.now)
+    → MatchOption r
+    ((value rest : List ℕ) → IsWithout 10 value → text ≢ front ++ value ++ 10 ∷ rest)
+    (λ found. (text ≡ front ++ found.0.now ++ 10 ∷ found.1.now) × IsWithout 10 found.0.now)
+value_split text front behind None e none = λ value rest free d.
+    let same : front ++ behind ≡ front ++ (value ++ 10 ∷ rest) = sym e ∙ d ∙ append_assoc front value (10 ∷ rest) in
+    no_first_part (record { joined = append_cancel_left front behind (value ++ 10 ∷ rest) same; without = free }) none
+value_split text front behind (Some found) e first =
+    (e ∙ ap (λ b. front ++ b) first.joined ∙ sym (append_assoc front found.0.now (10 ∷ found.1.now)), first.without)
 
 -- ---- texts without LF
 
@@ -186,8 +199,6 @@ module _ (number line : ℕ) {words : List (List ℕ)} where
       Refused (BadLine line)
       ((λ prices are. none (subst (All IsPriceText) (sym are.0) (all_price_texts prices are.1))), refl) refl
 
--- ---- the words of a card's lines
-
 -- ---- answers
 
 -- a step's fault is handed on
@@ -233,13 +244,13 @@ signed_word (negsuc n) small = below_zero (decimal (suc n)) (numbers_are_words (
 version_is_word : (version : Version) → IsWord (version_text version)
 version_is_word version = grind (arith, word_by_test)
 
-pub head_is_words : (version : Version) (day : ℕ) → day ≤ 31 → All IsWord (head_words version day)
-head_is_words version day small = grind (arith, All-from_recursion, word_by_test, version_is_word, numbers_are_words)
+-- a head, as what stands behind its first word, which has no LF
+pub head_text : (version : Version) (day : ℕ) (rest : List ℕ)
+    → with_line (head_words version day) rest ≡ codes "CARD " ++ text_behind version day ++ 10 ∷ rest
+head_text version day rest = simp append_assoc
 
-pub head_has_words : {bytes : List ℕ} (version : Version) (day : ℕ) (rest : List ℕ)
-    → BeginsWithHead bytes version day rest → HasWords bytes (head_words version day) rest
-head_has_words version day rest head =
-    line_has_words (head_words version day) rest (λ none. cc) (head_is_words version day head.of_month.last) head.text
+pub head_unbroken : (version : Version) (day : ℕ) → day ≤ 31 → IsWithout 10 (text_behind version day)
+head_unbroken version day month = grind (arith, All-append, All-from_recursion, version_is_word, numbers_are_words)
 
 pub first_is_word : (kind : Group) → IsWord (row_word kind) × IsWord (column_word kind)
 first_is_word kind = grind (arith, word_by_test)
@@ -293,23 +304,30 @@ price_sum_is_small prices p =
 
 -- ---- a name and a value
 
-module _ (signed : Bool) (name due : List ℕ) (line : ℕ) where
-  pub value_says : {bytes rest : List ℕ} → IsNumeral signed due → bytes ≡ with_line (name ∷ due ∷ []) rest
-      → SaysValue signed name due line bytes (Ok rest)
+module _ (signed : Bool) (front due : List ℕ) (line : ℕ) where
+  pub value_says : {bytes rest : List ℕ} → IsNumeral signed due → bytes ≡ front ++ due ++ 10 ∷ rest
+      → SaysValue signed front due line bytes (Ok rest)
   value_says {rest} form e = Found (due, rest) (form, e) (Found tt refl refl)
 
-  pub other_value : {bytes : List ℕ} (value rest : List ℕ) → IsNumeral signed value → bytes ≡ with_line (name ∷ value ∷ []) rest
-      → value ≢ due → SaysValue signed name due line bytes (Err CountWrong)
+  pub other_value : {bytes : List ℕ} (value rest : List ℕ) → IsNumeral signed value → bytes ≡ front ++ value ++ 10 ∷ rest
+      → value ≢ due → SaysValue signed front due line bytes (Err CountWrong)
   other_value value rest form e differs =
       Found (value, rest) (form, e) (Refused CountWrong ((λ same is. differs is), refl) refl)
 
-  pub no_value : {bytes : List ℕ} → ((value rest : List ℕ) → IsNumeral signed value → bytes ≢ with_line (name ∷ value ∷ []) rest)
-      → SaysValue signed name due line bytes (Err (BadLine line))
+  pub no_value : {bytes : List ℕ} → ((value rest : List ℕ) → IsNumeral signed value → bytes ≢ front ++ value ++ 10 ∷ rest)
+      → SaysValue signed front due line bytes (Err (BadLine line))
   no_value none = Refused (BadLine line) ((λ found is. none found.0 found.1 is.0 is.1), refl) refl
 
-  pub value_said : {bytes rest : List ℕ} → SaysValue signed name due line bytes (Ok rest)
-      → bytes ≡ with_line (name ∷ due ∷ []) rest
+  pub value_said : {bytes rest : List ℕ} → SaysValue signed front due line bytes (Ok rest)
+      → bytes ≡ front ++ due ++ 10 ∷ rest
   value_said says = grind (arith, passed)
+
+-- a value behind a front is told by the text, and so is what follows
+pub same_values : {bytes : List ℕ} (front : List ℕ) {value other rest more : List ℕ} → IsWithout 10 value → IsWithout 10 other
+    → bytes ≡ front ++ value ++ 10 ∷ rest → bytes ≡ front ++ other ++ 10 ∷ more → (value ≡ other) × (rest ≡ more)
+same_values front {value} {other} {rest} {more} free clear e d =
+    texts_tell_first_parts 10 value other rest more free clear (append_cancel_left front (value ++ 10 ∷ rest) (other ++ 10 ∷ more)
+    (sym (append_assoc front value (10 ∷ rest)) ∙ sym e ∙ d ∙ append_assoc front other (10 ∷ more)))
 
 -- ---- a first word, and prices
 

@@ -1,7 +1,7 @@
 -- Bytes are one card, or have one fault.
 use Rattle.kd_card.proofs.Prelude.{not_longer, same_end, Bool, true, false, codes, ◌≡◌, ◌≢◌, ℕ, ◌+◌, ◌*◌, ◌^◌, ◌<◌, ◌≤◌, List, [], ◌∷◌, ◌++◌, length, map, get_or, Result, Ok, Err, refl, sym, ap, subst, ◌∙◌, arith, ℤ, unsigned_abs, append_assoc, AllByRecursion, signed_decimal, decimal_injective, signed_decimal_injective, append-nil, recursion_from_All, Setting, IsWord, setting_line, list_text, BeginsWith, BeginsWithNoLine, PriceParts, Cables, Bars, CableKinds, BarKinds, Version, ByNumber, ByKind, Group, OfCables, OfBars, Name, PricedKind, Trailing, Then, Refused, Found, Only, Demands, look_rank, name_text, kinds_text, AreKinds, AreCalled, version_of, row_kinds, column_kinds, price_sum, AreWithinReach, ArePrices, group_of, row_word, column_word, row_name, column_name, price_count, version_text, settings_words, price_words, sum_words, lines_text, price_lines, card_text, IsGroup, IsCard, with_line, SaysValue, SaysFirst, BeginsWithHead, BeginsWithSettings, SaysSettings, SaysPriceLine, SaysNumbered, BeginsWithWord, EndsGroup, AtOther, IsNextKind, floor_behind, SaysGroup, SaysKinded, SaysAllPrices, SaysBehind, SaysCard, TextsTellCards, NoCardBeginsAnother, CardsHaveNoFault, OneCardFault, common_steps, word_by_test, BeginsWithKinds, CardsAreSaid, IsOnly, only_demands, only_finds, only_only, only_takes, only_then, passed, same_ok, CardFault, head_words, kind_words}
 use Rattle.kd_card.specs.CardFault.{numbered}
-use Rattle.kd_card.proofs.Lines.{line_has_words, value_line, same_words, two_lines, card_and_more, small, numeral_word, signed_word, head_has_words, first_is_word, prices_are_words, number_text, signed_text, price_sum_is_small, value_says, value_said, first_says, HasPrices, line_said, group_said}
+use Rattle.kd_card.proofs.Lines.{line_has_words, value_line, same_words, two_lines, card_and_more, small, numeral_word, signed_word, head_text, head_unbroken, first_is_word, prices_are_words, number_text, signed_text, price_sum_is_small, value_says, value_said, same_values, first_says, HasPrices, line_said, group_said}
 use Rattle.kd_card.proofs.KindWords.{kind_is_words, kind_begins, end_has_no_next, same_kind}
 use Rattle.kd_card.proofs.KindPrices.{text_of_more_kinds, text_by_kind, both_groups, size_of, of_two_groups, same_kind_parts, some_and_few}
 
@@ -89,9 +89,9 @@ card_said {bytes} x says =
     let are = all_said head.found.0 _ all.found all.says in
     let xs = list.found.0 in
     let prices = all.found.0 in
-    let last = value_said true (codes "SUM") _ _ sum.says ∙ ap (with_line (sum_words (price_sum prices))) end.says in
+    let last = value_said true (codes "SUM ") _ _ sum.says ∙ ap (with_line (sum_words (price_sum prices))) end.says in
     let behind = are.text ∙ ap (λ t. lines_text (price_lines prices) ++ t) last in
-    let counted = value_said false (codes "SETTINGS") _ _ number.says ∙ ap (with_line (settings_words (length xs))) behind in
+    let counted = value_said false (codes "SETTINGS ") _ _ number.says ∙ ap (with_line (settings_words (length xs))) behind in
     let body = list.says.lines.lines ∙ ap (λ t. list_text xs ++ t) counted in
     subst (λ (y : ℕ × List Setting × PriceParts). IsCard bytes y.0 y.1 y.2) (sym (same_ok end.next)) (record {
       text =
@@ -253,18 +253,16 @@ all_say (BarKinds row col) line rest are ends e = by_kind_says line (BarKinds ro
 one_head : (bytes : List ℕ) (head other : Version × ℕ × List ℕ) → BeginsWithHead bytes head.0 head.1 head.2
     → BeginsWithHead bytes other.0 other.1 other.2 → head ≡ other
 one_head bytes (version, day, rest) (by, other, more) a b =
-    let same = same_words (head_has_words version day rest a) (head_has_words by other more b) in
+    let same = same_values (codes "CARD ") (head_unbroken version day a.of_month.last) (head_unbroken by other b.of_month.last)
+    (a.text ∙ head_text version day rest) (b.text ∙ head_text by other more) in
     grind (arith, common_steps, same_version, decimal_injective)
 
-only_value : (signed : Bool) (name due : List ℕ) (line : ℕ) (bytes : List ℕ) → IsWord name
-    → IsOnly (SaysValue signed name due line bytes)
-only_value signed name due line bytes named =
+only_value : (signed : Bool) (front due : List ℕ) (line : ℕ) (bytes : List ℕ) → IsOnly (SaysValue signed front due line bytes)
+only_value signed front due line bytes =
     only_then
     (only_finds _ (λ x y a b.
-    let first = value_line name x.0 x.1 named (numeral_word signed x.0 a.0) a.1 in
-    let other = value_line name y.0 y.1 named (numeral_word signed y.0 b.0) b.1 in
-    let same = same_words first other in
-    same_pair x y (ap (λ w. get_or w 1 []) same.0) same.1))
+    let same = same_values front (numeral_word signed x.0 a.0).unbroken (numeral_word signed y.0 b.0).unbroken a.1 b.1 in
+    same_pair x y same.0 same.1))
     (λ found says. only_then (only_demands _ _) (λ due is. only_only _))
 
 -- the line of the sum ends the kinds
@@ -297,9 +295,9 @@ card_says {day} {xs} {prices} rest card end =
       few = few;
       none_more = λ x more r e. no_setting x more (sym (ap first_and_third e));
     })
-    (Found behind (value_says false (codes "SETTINGS") _ _ (number_text (length xs) (omega arith)) refl)
+    (Found behind (value_says false (codes "SETTINGS ") _ _ (number_text (length xs) (omega arith)) refl)
     (Found (prices, sum) (all_say prices _ sum card.are_prices (sum_ends (price_sum prices) rest near) refl)
-    (Found rest (value_says true (codes "SUM") _ _ (signed_text (price_sum prices) near) refl) end))))
+    (Found rest (value_says true (codes "SUM ") _ _ (signed_text (price_sum prices) near) refl) end))))
 
 -- where no line of a setting follows the first settings, there are no more of them, and no others
 lists_meet : {body : List ℕ} {xs ys : List Setting} {rest more : List ℕ} → BeginsWithSettings body xs rest
@@ -321,9 +319,9 @@ only_card : (bytes : List ℕ) → IsOnly (SaysCard bytes)
 only_card bytes =
     only_then (only_finds _ (one_head bytes))
     (λ head found. only_then (only_settings head.2)
-    (λ list begins. only_then (only_value false (codes "SETTINGS") _ _ _ (word_by_test _ _ refl))
+    (λ list begins. only_then (only_value false (codes "SETTINGS ") _ _ _)
     (λ rest number. only_then (only_all_prices head.0 (length list.0 + 3) rest)
-    (λ prices all. only_then (only_value true (codes "SUM") _ _ _ (word_by_test _ _ refl))
+    (λ prices all. only_then (only_value true (codes "SUM ") _ _ _)
     (λ end sum. only_then (only_demands _ _) (λ none is. only_only _))))))
 
 says_itself : {bytes : List ℕ} {day : ℕ} {xs : List Setting} {prices : PriceParts} → IsCard bytes day xs prices

@@ -8,7 +8,7 @@ pub use Rattle.std.proofs.lemmas.{Int.to_z-of_z, List.Folds.flat_map-map, Option
 pub use Rattle.std.proofs.lemmas.{Option.unwrap_or-slice_get, Slice.Eq.bytes_eq-Decides, Slice.Eq.slice_eq-Decides}
 pub use Rattle.std.proofs.lemmas.{Map.Made.Contains-tail, Map.Made.IsDistinct-from_count}
 pub use Rattle.std.proofs.lemmas.Fmt.{IsAscii-signed, decimal_digit, decimal_injective, decimal_nonempty, digits_decimal, first_decimal, parse-signed_decimal, signed_decimal_injective}
-pub use Rattle.std.proofs.lemmas.List.{append-nil, get_or-map, get_or_at, get_or_default, length-map, length-replicate, length-set, length-take-le, map-id, nil_from_length, take-append-drop, take_all, take_more}
+pub use Rattle.std.proofs.lemmas.List.{append-nil, append_cancel_left, get_or-map, get_or_at, get_or_default, length-map, length-replicate, length-set, length-take-le, map-id, nil_from_length, take-append-drop, take_all, take_more}
 pub use Rattle.std.proofs.lemmas.List.Elements.{All-append, All-cons, All-contains, All-from_get_or, All-from_recursion, All-map, All-more, All-nil, All-replicate, All-set, All-weaker, recursion_from_All, All-head, All-tail, Contains-append_right, Contains-get_or}
 pub use Rattle.std.proofs.lemmas.List.Sorted.{All-permutation, Contains-permutation, IsPermutation-cons, IsPermutation-keeps, IsPermutation-refl, IsPermutation-remove, IsPermutation-swap, IsPermutation-sym, IsPermutation-trans, length_permutation, sum_by-IsPermutation, IsPermutation-map}
 pub use Rattle.std.proofs.lemmas.List.Sums.{AllPass-from_list_all, fold-append, get_or-le-sum_by, sum-map, sum_by-append, sum_by-cons}

@@ -51,10 +51,10 @@ pub record HasWords (bytes : List ℕ) (words : List (List ℕ)) (rest : List �
   pub first : IsFirstPart 10 bytes line rest
   pub parts : words_of line ≡ words
 
--- the line is due that has this name and this number behind it, as it might have others
+-- the line is due that has this front and this number behind it, as it might have others
 abbrev pub SaysValue : Bool → List ℕ → List ℕ → ℕ → List ℕ → Says CardFault (List ℕ)
-SaysValue signed name due line bytes = do
-  found ← Finds (λ (found : List ℕ × List ℕ). IsNumeral signed found.0 × (bytes ≡ with_line (name ∷ found.0 ∷ []) found.1)) (BadLine line)
+SaysValue signed front due line bytes = do
+  found ← Finds (λ (found : List ℕ × List ℕ). IsNumeral signed found.0 × (bytes ≡ front ++ found.0 ++ 10 ∷ found.1)) (BadLine line)
   _ ← Demands (found.0 ≡ due) CountWrong
   Only found.1
 
@@ -88,7 +88,7 @@ SaysSettings bytes (Err fault) =
     ((settings : List Setting) × (rest : List ℕ) × BeginsWith bytes settings rest × (length settings ≡ 193)) × (fault ≡ TooMany)
 
 abbrev pub SaysNumber : ℕ → List ℕ → Says CardFault (List ℕ)
-SaysNumber number bytes = SaysValue false (codes "SETTINGS") (decimal number) (number + 2) bytes
+SaysNumber number bytes = SaysValue false (codes "SETTINGS ") (decimal number) (number + 2) bytes
 
 -- ---- prices by number: two lines
 
@@ -181,7 +181,7 @@ SaysAllPrices ByNumber line bytes = SaysNumbered line bytes
 SaysAllPrices ByKind line bytes = SaysKinded line bytes
 
 abbrev pub SaysSum : ℤ → ℕ → List ℕ → Says CardFault (List ℕ)
-SaysSum sum line bytes = SaysValue true (codes "SUM") (signed_decimal sum) line bytes
+SaysSum sum line bytes = SaysValue true (codes "SUM ") (signed_decimal sum) line bytes
 
 -- what follows so many settings: their number, the prices and their sum
 abbrev pub SaysBehind : Version → ℕ → List Setting → ℕ → List ℕ → Says CardFault (ℕ × List Setting × PriceParts)

@@ -10,23 +10,27 @@ ghost use Rattle.kd_card.specs.Reading.{words_behind, EndsAt, IsBadAt};
 use super::fault::CardFault;
 use super::kinds::PricedKind;
 use super::look::{Look, Name};
-use super::price_text::{is_word, price_of_text, split_first, three_words};
+use super::price_text::{is_word, price_of_text, split_first};
 use arrayvec::{ArrayString, ArrayVec};
 use itoa::Buffer;
-use kd_state::{number_of_text, push_number};
+use kd_state::{number_of_text, push_number, split_words};
 
 /// No group has more kinds in order, each once: their ranks are below this.
 const MOST: usize = 703;
 
 /// The kind of things of that name whose line has these words behind its first one, which is the name.
+#[tactic(auto, using(crate::proofs::Lines::words_in_place))]
 fn kind_behind(name: Name, behind: Option<&[u8]>) -> Option<PricedKind>
     ensures { let words = name_text name ∷ words_behind (option_copied behind.entry) in
         MatchOption result
         ((kind : _) → ¬ (HasKindWords name words kind))
         (λ kind. HasKindWords name words kind) }
 {
-    let (look, count, price) = three_words(behind?)?;
-    kind_of_parts(name, look, count, price)
+    let words = split_words::<3>(behind?)?;
+    match words.as_slice() {
+        [look, count, price] => kind_of_parts(name, look, count, price),
+        _ => None,
+    }
 }
 
 /// The kind, of things of that name, of this look, count and price.

@@ -60,20 +60,6 @@ pub(crate) fn is_word(text: &[u8], word: &str) -> bool
     text == word.as_bytes()
 }
 
-/// The three words of the text; none where it has another number of them.
-#[tactic(auto, using(crate::proofs::Lines::words_in_place))]
-pub(crate) fn three_words(text: &[u8]) -> Option<(&[u8], &[u8], &[u8])>
-    ensures { MatchOption result
-        ((one two three : List ℕ) → words_of text.now ≢ one ∷ two ∷ three ∷ [])
-        (λ words. words_of text.now ≡ words.0.now ∷ words.1.now ∷ words.2.now ∷ []) }
-{
-    let words = split_words::<3>(text)?;
-    match words.as_slice() {
-        [one, two, three] => Some((one, two, three)),
-        _ => None,
-    }
-}
-
 /// The first word of the first line of the text, what stands behind the space after it, and what follows the line.
 pub(crate) fn first_word(text: &[u8]) -> Option<(&[u8], Option<&[u8]>, &[u8])>
     ensures { MatchOption result

@@ -1,21 +1,20 @@
 //! Cards, read off their text.
-ghost use Rattle.std.specs.Prelude.{codes, ◌≡◌, ◌≢◌, ℕ, ◌<◌, ◌≤◌, ◌∷◌, List, MatchOption, MatchResult, Ok, Err};
-ghost use Rattle.kd_state.specs.Words.{IsWord, words_of};
+ghost use Rattle.std.specs.Prelude.{◌≡◌, ◌≢◌, ℕ, ◌<◌, ◌≤◌, ◌∷◌, ◌++◌, List, MatchOption, MatchResult, Ok, Err};
+ghost use Rattle.kd_state.specs.Words.{IsWithout};
 ghost use Rattle.kd_state.specs.SheetDay.{IsDayNumber};
-ghost use Rattle.kd_card.specs.CardText.{IsCard, head_words, version_text};
-ghost use Rattle.kd_card.specs.CardFault.{HasWords, BeginsWithHead, SaysValue, SaysNumber, SaysPriceLine};
+ghost use Rattle.kd_card.specs.CardText.{IsCard};
+ghost use Rattle.kd_card.specs.CardFault.{BeginsWithHead, SaysValue, SaysNumber, SaysPriceLine};
 ghost use Rattle.kd_card.specs.CardFault.{SaysNumbered, SaysKinded, SaysAllPrices, SaysSum, IsCardFault};
+ghost use Rattle.kd_card.specs.Reading.{text_behind};
 
 use super::card::Card;
 use super::fault::CardFault;
 use super::kind_text::read_kinds;
-use super::price_text::{
-    first_group, first_word, is_numeral, is_word, prices_behind, split_first, three_words,
-};
+use super::price_text::{first_group, first_word, is_numeral, is_word, prices_behind, split_first};
 use super::prices::{Prices, Version};
 use arrayvec::ArrayVec;
 use itoa::Buffer;
-use kd_state::{day_of_text, split_settings};
+use kd_state::{day_of_text, split_once, split_settings};
 
 /// The card whose text this is, and its day.
 pub fn read_card(text: &[u8]) -> Result<(u8, Card), CardFault>
@@ -39,62 +38,44 @@ pub fn read_card(text: &[u8]) -> Result<(u8, Card), CardFault>
     Ok((day, Card { settings, prices }))
 }
 
-/// What stands behind the name, as the first word of the first line of the text, and what follows that line.
-#[tactic(auto, using(kd_state::proofs::Lines::texts_tell_first_parts))]
-fn split_value<'a>(text: &'a [u8], name: &str) -> Option<(&'a [u8], &'a [u8])>
+/// What stands behind the front in the first line of the text, and what follows that line.
+fn split_value<'a>(text: &'a [u8], front: &str) -> Option<(&'a [u8], &'a [u8])>
     ensures { MatchOption result
-        ((word : List ℕ) (words : List (List ℕ)) (rest : List ℕ) →
-        ¬ (HasWords text.now (name.now ∷ word ∷ words) rest))
-        (λ found. HasWords text.now (name.now ∷ words_of found.0.now) found.1.now) }
+        ((value rest : List ℕ) → IsWithout 10 value → text.now ≢ front.now ++ value ++ 10 ∷ rest)
+        (λ found. (text.now ≡ front.now ++ found.0.now ++ 10 ∷ found.1.now)
+        × IsWithout 10 found.0.now) }
 {
-    let (first, behind, rest) = first_word(text)?;
-    if !is_word(first, name) {
-        return None;
-    }
-    Some((behind?, rest))
+    let behind = text.strip_prefix(front.as_bytes())?;
+    split_once(behind, b'\n')
 }
 
 /// What the prices are by, and the day, of the card whose head is the first line; and what follows that line.
-#[tactic(auto, using(crate::proofs::Lines::is_line))]
 fn read_head(text: &[u8]) -> Option<(Version, u8, &[u8])>
     ensures { MatchOption result
         ((version : _) (day : ℕ) (rest : List ℕ) → ¬ (BeginsWithHead text.now version day rest))
         (λ found. BeginsWithHead text.now found.0 found.1 found.2.now) }
 {
-    let (behind, rest) = split_value(text, "CARD")?;
+    let (behind, rest) = split_value(text, "CARD ")?;
     let (version, day) = head_behind(behind)?;
     Some((version, day, rest))
 }
 
-/// What the prices are by, and the day, of the card whose head has these words behind its first one.
-#[tactic(auto, using(crate::proofs::Lines::untrue))]
+/// What the prices are by, and the day, of the card whose head has this behind its first word.
 fn head_behind(behind: &[u8]) -> Option<(Version, u8)>
     ensures { MatchOption result
-        ((version : _) (day : ℕ) → IsDayNumber day →
-        head_words version day ≢ codes "CARD" ∷ words_of behind.now)
-        (λ head. (head_words head.0 head.1 ≡ codes "CARD" ∷ words_of behind.now) × IsDayNumber head.1) }
+        ((version : _) (day : ℕ) → IsDayNumber day → behind.now ≢ text_behind version day)
+        (λ head. (behind.now ≡ text_behind head.0 head.1) × IsDayNumber head.1) }
 {
-    let (version, name, day) = three_words(behind)?;
-    if !is_word(name, "DAY") {
-        return None;
-    }
-    Some((version_of_text(version)?, day_of_text(day)?))
-}
-
-/// What the prices are by, by the number of the card's version.
-fn version_of_text(text: &[u8]) -> Option<Version>
-    ensures { MatchOption result
-        ((version : _) → version_text version ≢ text.now) (λ version. version_text version ≡ text.now) }
-{
-    match text {
-        b"1" => Some(Version::ByNumber),
-        b"2" => Some(Version::ByKind),
-        _ => None,
-    }
+    let (version, named) = match behind {
+        [b'1', named @ ..] => (Version::ByNumber, named),
+        [b'2', named @ ..] => (Version::ByKind, named),
+        _ => return None,
+    };
+    let day = named.strip_prefix(b" DAY ")?;
+    Some((version, day_of_text(day)?))
 }
 
 /// What follows the line with that number of settings.
-#[tactic(auto, using(kd_state::proofs::Lines::word_by_test))]
 fn read_count(text: &[u8], count: usize) -> Result<&[u8], CardFault>
     requires { count ≤ 192 }
     ensures { MatchResult result
@@ -102,33 +83,31 @@ fn read_count(text: &[u8], count: usize) -> Result<&[u8], CardFault>
         (λ fault. SaysNumber count text.now (Err fault)) }
 {
     let mut buffer = Buffer::new();
-    read_value(text, "SETTINGS", buffer.format(count), false, count + 2)
+    read_value(text, "SETTINGS ", buffer.format(count), false, count + 2)
 }
 
 /// What follows the line with that sum, which is that of this number.
-#[tactic(auto, using(kd_state::proofs::Lines::word_by_test))]
 fn read_sum(text: &[u8], sum: i32, line: usize) -> Result<&[u8], CardFault>
     ensures { MatchResult result
         (λ rest. SaysSum sum line text.now (Ok rest.now))
         (λ fault. SaysSum sum line text.now (Err fault)) }
 {
     let mut buffer = Buffer::new();
-    read_value(text, "SUM", buffer.format(sum), true, line)
+    read_value(text, "SUM ", buffer.format(sum), true, line)
 }
 
-/// What follows the line with that name and that number, as it is written; the line is that of this number.
+/// What follows the line with that front and that number, as it is written; the line is that of this number.
 fn read_value<'a>(
     text: &'a [u8],
-    name: &str,
+    front: &str,
     due: &str,
     signed: bool,
     line: usize,
 ) -> Result<&'a [u8], CardFault>
-    requires { IsWord name.now }
-    ensures { let says = SaysValue signed name.now due.now line text.now in
+    ensures { let says = SaysValue signed front.now due.now line text.now in
         MatchResult result (λ rest. says (Ok rest.now)) (λ fault. says (Err fault)) }
 {
-    let Some((number, rest)) = split_value(text, name) else {
+    let Some((number, rest)) = split_value(text, front) else {
         return Err(CardFault::BadLine(line));
     };
     if !is_numeral(number, signed) {
