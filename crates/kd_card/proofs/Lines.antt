@@ -1,6 +1,7 @@
 -- Lines of words as they are written and as they are split; prices by their texts; and what stands in a card's lines.
 use Rattle.kd_card.proofs.Prelude.{figures, ◌≡◌, ◌≢◌, ℕ, ◌<◌, true, false, eqb, ltb, List, [], ◌∷◌, ◌++◌, length, refl, sym, ap, ◌∙◌, append_assoc, length-append, append_cancel_left, arith, ℤ, All, list_all, flat_map, signed_decimal, ne_eqb, ltb-true, append-nil, get_or_at, take_all, flat_map-append, AllPass-from_list_all, All-weaker, All-from_recursion, flat_map-map, Setting, words_of, line_of, IsWord, IsWithout, IsFirstPart, setting_line, list_text, PriceParts, Version, version_of, price_sum, head_words, settings_words, price_words, sum_words, lines_text, price_lines, card_text, with_line, HasWords, common_steps, lines_split_into_words, texts_tell_first_parts, words_make_one_line, map, setting_words, suc, ◌^◌, ◌≤◌, Bool, get_or, Option, Some, None, MatchOption, Result, Ok, Err, MatchResult, Decides, Bor, ◌↔◌, IsTrue, is_some, subst, pos, negsuc, unsigned_abs, FitsSigned, w16, to_z, of_z, then_some, IsUtf8, ParsesSigned, AllByRecursion, false≢true, fits_signed_from_abs, to_z-of_z, get_or-map, length-map, recursion_from_All, All-map, IsPriceText, SaysPrices, BadLine, PriceMissing, Refused, Found, parse-signed_decimal, IsAscii-signed, AreWithinReach, codes, zero, ◌+◌, ◌*◌, inl, inr, fold, decimal, not, pointwise, not-false, Decides-eqb, slice_eq-Decides, err_from_is_err_and, ◌+ℤ◌, digits_value, decimal_nonempty, digits_decimal, decimal_digit, first_decimal, All-cons, All-append, All-from_get_or, how_many, ArePrices, Group, Name, PricedKind, CountWrong, BeginsWithHead, kinds_text, row_word, column_word, version_text, IsGroup, IsDigit, IsNumberText, IsNumeral, SaysValue, SaysLine, SaysFirst, SaysPriceLine, SaysGroup, nil_from_length, numbers_are_words, word_by_bytes, word_by_test, passed, CardFault}
-use Rattle.kd_card.specs.Reading.{text_behind}
+use Rattle.kd_card.specs.Reading.{head_front}
+use Rattle.kd_state.specs.SheetDay.{IsDayNumber}
 use Rattle.std.proofs.lemmas.List.Splits.{slice_split_none, slice_split_at, join_with_byte-slice_split}
 use Rattle.std.specs.{Result.result_ok, Result.IsErrAnd, Int.Signed.mag}
 use Rattle.std.proofs.lemmas.Str.{IsUtf8-from_ascii}
@@ -244,13 +245,13 @@ signed_word (negsuc n) small = below_zero (decimal (suc n)) (numbers_are_words (
 version_is_word : (version : Version) → IsWord (version_text version)
 version_is_word version = grind (arith, word_by_test)
 
--- a head, as what stands behind its first word, which has no LF
-pub head_text : (version : Version) (day : ℕ) (rest : List ℕ)
-    → with_line (head_words version day) rest ≡ codes "CARD " ++ text_behind version day ++ 10 ∷ rest
-head_text version day rest = simp append_assoc
+-- a head, as what stands in front of the day, and the day
+pub head_text : {front : List ℕ} (version : Version) (day : ℕ) (rest : List ℕ) → front ≡ head_front version
+    → front ++ decimal day ++ 10 ∷ rest ≡ with_line (head_words version day) rest
+head_text version day rest e = rw e (grind arith)
 
-pub head_unbroken : (version : Version) (day : ℕ) → day ≤ 31 → IsWithout 10 (text_behind version day)
-head_unbroken version day month = grind (arith, All-append, All-from_recursion, version_is_word, numbers_are_words)
+pub day_unbroken : (day : ℕ) → IsDayNumber day → IsWithout 10 (decimal day)
+day_unbroken day month = let last = month.last in (numbers_are_words day (omega arith)).unbroken
 
 pub first_is_word : (kind : Group) → IsWord (row_word kind) × IsWord (column_word kind)
 first_is_word kind = grind (arith, word_by_test)

@@ -1,7 +1,7 @@
 -- Bytes are one card, or have one fault.
-use Rattle.kd_card.proofs.Prelude.{not_longer, same_end, Bool, true, false, codes, ◌≡◌, ◌≢◌, ℕ, ◌+◌, ◌*◌, ◌^◌, ◌<◌, ◌≤◌, List, [], ◌∷◌, ◌++◌, length, map, get_or, Result, Ok, Err, refl, sym, ap, subst, ◌∙◌, arith, ℤ, unsigned_abs, append_assoc, AllByRecursion, signed_decimal, decimal_injective, signed_decimal_injective, append-nil, recursion_from_All, Setting, IsWord, setting_line, list_text, BeginsWith, BeginsWithNoLine, PriceParts, Cables, Bars, CableKinds, BarKinds, Version, ByNumber, ByKind, Group, OfCables, OfBars, Name, PricedKind, Trailing, Then, Refused, Found, Only, Demands, look_rank, name_text, kinds_text, AreKinds, AreCalled, version_of, row_kinds, column_kinds, price_sum, AreWithinReach, ArePrices, group_of, row_word, column_word, row_name, column_name, price_count, version_text, settings_words, price_words, sum_words, lines_text, price_lines, card_text, IsGroup, IsCard, with_line, SaysValue, SaysFirst, BeginsWithHead, BeginsWithSettings, SaysSettings, SaysPriceLine, SaysNumbered, BeginsWithWord, EndsGroup, AtOther, IsNextKind, floor_behind, SaysGroup, SaysKinded, SaysAllPrices, SaysBehind, SaysCard, TextsTellCards, NoCardBeginsAnother, CardsHaveNoFault, OneCardFault, common_steps, word_by_test, BeginsWithKinds, CardsAreSaid, IsOnly, only_demands, only_finds, only_only, only_takes, only_then, passed, same_ok, CardFault, head_words, kind_words}
-use Rattle.kd_card.specs.CardFault.{numbered}
-use Rattle.kd_card.proofs.Lines.{line_has_words, value_line, same_words, two_lines, card_and_more, small, numeral_word, signed_word, head_text, head_unbroken, first_is_word, prices_are_words, number_text, signed_text, price_sum_is_small, value_says, value_said, same_values, first_says, HasPrices, line_said, group_said}
+use Rattle.kd_card.proofs.Prelude.{not_longer, same_end, Bool, true, false, codes, ◌≡◌, ◌≢◌, ℕ, ◌+◌, ◌*◌, ◌^◌, ◌<◌, ◌≤◌, List, [], ◌∷◌, ◌++◌, length, map, get_or, Result, Ok, Err, refl, sym, ap, subst, ◌∙◌, arith, ℤ, unsigned_abs, append_assoc, AllByRecursion, signed_decimal, decimal_injective, signed_decimal_injective, append-nil, recursion_from_All, Setting, IsWord, setting_line, list_text, BeginsWith, BeginsWithNoLine, PriceParts, Cables, Bars, CableKinds, BarKinds, Version, ByNumber, ByKind, Group, OfCables, OfBars, Name, PricedKind, Trailing, Then, Refused, Found, Only, Demands, look_rank, name_text, kinds_text, AreKinds, AreCalled, version_of, row_kinds, column_kinds, price_sum, AreWithinReach, ArePrices, group_of, row_word, column_word, row_name, column_name, price_count, settings_words, price_words, sum_words, lines_text, price_lines, card_text, IsGroup, IsCard, with_line, SaysValue, SaysFirst, BeginsWithHead, BeginsWithSettings, SaysSettings, SaysPriceLine, SaysNumbered, BeginsWithWord, EndsGroup, AtOther, IsNextKind, floor_behind, SaysGroup, SaysKinded, SaysAllPrices, SaysBehind, SaysCard, TextsTellCards, NoCardBeginsAnother, CardsHaveNoFault, OneCardFault, common_steps, word_by_test, BeginsWithKinds, CardsAreSaid, IsOnly, only_demands, only_finds, only_only, only_takes, only_then, passed, same_ok, CardFault, head_words, kind_words}
+use Rattle.kd_card.specs.{CardFault.numbered, Reading.head_front}
+use Rattle.kd_card.proofs.Lines.{line_has_words, value_line, same_words, two_lines, card_and_more, small, numeral_word, signed_word, head_text, day_unbroken, first_is_word, prices_are_words, number_text, signed_text, price_sum_is_small, value_says, value_said, same_values, first_says, HasPrices, line_said, group_said}
 use Rattle.kd_card.proofs.KindWords.{kind_is_words, kind_begins, end_has_no_next, same_kind}
 use Rattle.kd_card.proofs.KindPrices.{text_of_more_kinds, text_by_kind, both_groups, size_of, of_two_groups, same_kind_parts, some_and_few}
 
@@ -9,9 +9,6 @@ use Rattle.kd_card.proofs.KindPrices.{text_of_more_kinds, text_by_kind, both_gro
 
 same_pair : {A B : Type 0} (x y : A × B) → x.0 ≡ y.0 → x.1 ≡ y.1 → x ≡ y
 same_pair (a, b) (c, d) e f = cc
-
-same_version : (version other : Version) → version_text version ≡ version_text other → version ≡ other
-same_version version other e = grind arith
 
 same_prices : (ps qs : List ℤ) → AllByRecursion (λ p. unsigned_abs p ≤ 9999) ps
     → AllByRecursion (λ p. unsigned_abs p ≤ 9999) qs → map signed_decimal ps ≡ map signed_decimal qs → ps ≡ qs
@@ -250,12 +247,18 @@ all_say (BarKinds row col) line rest are ends e = by_kind_says line (BarKinds ro
 
 -- ---- the head, and a name and a value
 
+same_day : {bytes : List ℕ} {version : Version} {day other : ℕ} {rest more : List ℕ} → BeginsWithHead bytes version day rest
+    → BeginsWithHead bytes version other more → (day ≡ other) × (rest ≡ more)
+same_day {version} {day} {other} {rest} {more} a b =
+    let same = same_values (head_front version) (day_unbroken day a.of_month) (day_unbroken other b.of_month)
+    (a.text ∙ sym (head_text version day rest refl)) (b.text ∙ sym (head_text version other more refl)) in
+    grind (arith, decimal_injective)
+
 one_head : (bytes : List ℕ) (head other : Version × ℕ × List ℕ) → BeginsWithHead bytes head.0 head.1 head.2
     → BeginsWithHead bytes other.0 other.1 other.2 → head ≡ other
-one_head bytes (version, day, rest) (by, other, more) a b =
-    let same = same_values (codes "CARD ") (head_unbroken version day a.of_month.last) (head_unbroken by other b.of_month.last)
-    (a.text ∙ head_text version day rest) (b.text ∙ head_text by other more) in
-    grind (arith, common_steps, same_version, decimal_injective)
+one_head bytes (ByNumber, day, rest) (ByNumber, other, more) a b = cc ((same_day a b).0, (same_day a b).1)
+one_head bytes (ByKind, day, rest) (ByKind, other, more) a b = cc ((same_day a b).0, (same_day a b).1)
+one_head bytes (_, _, _) (_, _, _) a b = absurd (omega (arith, ap (λ text. get_or text 5 0) (sym a.text ∙ b.text)))
 
 only_value : (signed : Bool) (front due : List ℕ) (line : ℕ) (bytes : List ℕ) → IsOnly (SaysValue signed front due line bytes)
 only_value signed front due line bytes =

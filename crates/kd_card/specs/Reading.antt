@@ -1,9 +1,9 @@
 -- What the steps of reading a card find. The contracts of the crate's public calls don't speak of it.
-use Rattle.std.specs.Prelude.{codes, decimal, ℕ, List, [], ◌++◌, Option, Some, None}
+use Rattle.std.specs.Prelude.{codes, ℕ, List, [], Option, Some, None}
 use Rattle.kd_state.specs.Words.{words_of}
 use Rattle.kd_card.specs.declared.look.Name.{Name}
 use Rattle.kd_card.specs.declared.prices.Version.{Version}
-use Rattle.kd_card.specs.CardText.{version_text}
+use Rattle.kd_card.specs.declared.prices.Version.TheVariants.{ByNumber, ByKind}
 use Rattle.kd_card.specs.CardFault.{EndsGroup, HasNoNext}
 
 -- the words behind the first one of a line: of the text behind its space, if there is one
@@ -11,9 +11,10 @@ abbrev pub words_behind : Option (List ℕ) → List (List ℕ)
 words_behind None = []
 words_behind (Some text) = words_of text
 
--- what stands in a card's head behind its first word and a space
-abbrev pub text_behind : Version → ℕ → List ℕ
-text_behind version day = version_text version ++ codes " DAY " ++ decimal day
+-- what stands in a card's head in front of the day
+abbrev pub head_front : Version → List ℕ
+head_front ByNumber = codes "CARD 1 DAY "
+head_front ByKind = codes "CARD 2 DAY "
 
 -- a group of kinds ends there; or it doesn't, and no kind follows that may
 pub record EndsAt (name : Name) (floor : ℕ) (bytes : List ℕ) : Type 0 where

@@ -14,7 +14,6 @@ use kd_state::{Machine, OneModel, Setting, Settings, SheetDay};
 /// A setting for each thing of the machine that isn't as the day has it, cables and bars apart, in the order in
 /// which they are made: wheels and reflector, rings and letters, or pins and letters. Machine and day have to be
 /// of one model.
-#[tactic(auto, using(crate::proofs::Counting::as_many))]
 pub fn loose_settings(machine: &Machine, day: &SheetDay) -> Settings
     requires { model_of machine.now ≡ day_model day.now }
     ensures lines { result.items ≡ loose_lines machine.now day.now }

@@ -6,7 +6,7 @@ ghost use Rattle.std.specs.Fmt.{signed_decimal};
 ghost use Rattle.kd_state.specs.Words.{words_of};
 ghost use Rattle.kd_card.specs.Prices.{AreWithinReach};
 ghost use Rattle.kd_card.specs.CardFault.{IsNumberText, IsNumeral, IsPriceText, SaysPrices};
-ghost use Rattle.kd_card.specs.CardFault.{HasWords, SaysLine, SaysFirst, first_text};
+ghost use Rattle.kd_card.specs.CardFault.{SaysLine, SaysFirst, first_text};
 ghost use Rattle.kd_card.specs.Reading.{words_behind};
 
 use super::fault::CardFault;
@@ -60,20 +60,8 @@ pub(crate) fn is_word(text: &[u8], word: &str) -> bool
     text == word.as_bytes()
 }
 
-/// The first word of the first line of the text, what stands behind the space after it, and what follows the line.
-pub(crate) fn first_word(text: &[u8]) -> Option<(&[u8], Option<&[u8]>, &[u8])>
-    ensures { MatchOption result
-        ((words : List (List ℕ)) (rest : List ℕ) → ¬ (HasWords text.now words rest))
-        (λ found. HasWords text.now (found.0.now ∷ words_behind (option_copied found.1)) found.2.now) }
-{
-    let (line, rest) = split_once(text, b'\n')?;
-    match split_once(line, b' ') {
-        Some((first, behind)) => Some((first, Some(behind), rest)),
-        None => Some((line, None, rest)),
-    }
-}
-
-/// The same of a line of prices, which is that of this number.
+/// The first word of the first line of the text, what stands behind the space after it, and what follows the line, which is
+/// one of prices and that of this number.
 pub(crate) fn split_first(
     text: &[u8],
     line: usize,
@@ -86,9 +74,12 @@ pub(crate) fn split_first(
     if text.is_empty() {
         return Err(CardFault::PriceMissing);
     }
-    match first_word(text) {
-        Some(found) => Ok(found),
-        None => Err(CardFault::BadLine(line)),
+    let Some((words, rest)) = split_once(text, b'\n') else {
+        return Err(CardFault::BadLine(line));
+    };
+    match split_once(words, b' ') {
+        Some((first, behind)) => Ok((first, Some(behind), rest)),
+        None => Ok((words, None, rest)),
     }
 }
 

@@ -4,6 +4,7 @@ ghost use Rattle.kd_card.specs.Prices.{price_sum, version_of, row_kinds, column_
 ghost use Rattle.kd_card.specs.Prices.{row_prices, column_prices};
 ghost use Rattle.kd_card.specs.Kinds.{counted, AreKinds};
 ghost use Rattle.kd_card.specs.CardFault.{numbered};
+ghost use Rattle.kd_card.specs.Reading.{head_front};
 ghost use Rattle.kd_card.specs.Prices.{AreWithinReach, ArePrices};
 ghost use Rattle.kd_card.specs.CardText.{row_name, column_name, price_count, price_lines, group_of, IsGroup, HaveKinds};
 
@@ -22,6 +23,19 @@ pub enum Version {
     ByNumber,
     /// Each kind of them has one.
     ByKind,
+}
+
+impl Version {
+    /// How the head of a card begins, up to its day.
+    pub(crate) fn front(self) -> &'static str
+        ensures value { result.now ≡ head_front self }
+        ensures few { length result.now ≡ 11 }
+    {
+        match self {
+            Version::ByNumber => "CARD 1 DAY ",
+            Version::ByKind => "CARD 2 DAY ",
+        }
+    }
 }
 
 /// The prices of a card: of the cables and of the pairs and nothings, or of the bars and of the sheet's rows; or of the

@@ -1,16 +1,14 @@
 //! Cards, read off their text.
 ghost use Rattle.std.specs.Prelude.{◌≡◌, ◌≢◌, ℕ, ◌<◌, ◌≤◌, ◌∷◌, ◌++◌, List, MatchOption, MatchResult, Ok, Err};
 ghost use Rattle.kd_state.specs.Words.{IsWithout};
-ghost use Rattle.kd_state.specs.SheetDay.{IsDayNumber};
 ghost use Rattle.kd_card.specs.CardText.{IsCard};
 ghost use Rattle.kd_card.specs.CardFault.{BeginsWithHead, SaysValue, SaysNumber, SaysPriceLine};
 ghost use Rattle.kd_card.specs.CardFault.{SaysNumbered, SaysKinded, SaysAllPrices, SaysSum, IsCardFault};
-ghost use Rattle.kd_card.specs.Reading.{text_behind};
 
 use super::card::Card;
 use super::fault::CardFault;
 use super::kind_text::read_kinds;
-use super::price_text::{first_group, first_word, is_numeral, is_word, prices_behind, split_first};
+use super::price_text::{first_group, is_numeral, is_word, prices_behind, split_first};
 use super::prices::{Prices, Version};
 use arrayvec::ArrayVec;
 use itoa::Buffer;
@@ -55,24 +53,21 @@ fn read_head(text: &[u8]) -> Option<(Version, u8, &[u8])>
         ((version : _) (day : ℕ) (rest : List ℕ) → ¬ (BeginsWithHead text.now version day rest))
         (λ found. BeginsWithHead text.now found.0 found.1 found.2.now) }
 {
-    let (behind, rest) = split_value(text, "CARD ")?;
-    let (version, day) = head_behind(behind)?;
-    Some((version, day, rest))
+    if let Some((day, rest)) = read_day(text, Version::ByNumber) {
+        return Some((Version::ByNumber, day, rest));
+    }
+    let (day, rest) = read_day(text, Version::ByKind)?;
+    Some((Version::ByKind, day, rest))
 }
 
-/// What the prices are by, and the day, of the card whose head has this behind its first word.
-fn head_behind(behind: &[u8]) -> Option<(Version, u8)>
+/// The day of the card whose head, for prices by that, is the first line, and what follows that line.
+fn read_day(text: &[u8], version: Version) -> Option<(u8, &[u8])>
     ensures { MatchOption result
-        ((version : _) (day : ℕ) → IsDayNumber day → behind.now ≢ text_behind version day)
-        (λ head. (behind.now ≡ text_behind head.0 head.1) × IsDayNumber head.1) }
+        ((day : ℕ) (rest : List ℕ) → ¬ (BeginsWithHead text.now version day rest))
+        (λ found. BeginsWithHead text.now version found.0 found.1.now) }
 {
-    let (version, named) = match behind {
-        [b'1', named @ ..] => (Version::ByNumber, named),
-        [b'2', named @ ..] => (Version::ByKind, named),
-        _ => return None,
-    };
-    let day = named.strip_prefix(b" DAY ")?;
-    Some((version, day_of_text(day)?))
+    let (day, rest) = split_value(text, version.front())?;
+    Some((day_of_text(day)?, rest))
 }
 
 /// What follows the line with that number of settings.

@@ -55,10 +55,7 @@ fn push_head<const N: usize>(text: &mut ArrayString<N>, version: Version, day: u
     ensures bytes { text.new.bytes ≡ text.old.bytes ++ with_line (head_words version day) [] }
     ensures len { array_string_len text.new ≤ array_string_len text.old + 15 }
 {
-    match version {
-        Version::ByNumber => text.push_str("CARD 1 DAY "),
-        Version::ByKind => text.push_str("CARD 2 DAY "),
-    }
+    text.push_str(version.front());
     push_number(text, day);
     text.push_str("\n");
 }
