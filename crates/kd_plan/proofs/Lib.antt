@@ -1,2 +1,1 @@
-pub mod Moving
 pub mod Planning

@@ -1,33 +1,21 @@
 -- The planned lines of a pairing, what they cost, and the card that is made of them.
-pub use Rattle.kd_assign.specs.Assignment.{IsOneToOne, assignment_cost}
-pub use Rattle.kd_assign.specs.Prices.{CostsAtMost, Fits, cost_at, price_at, price_sum, sum_of}
-pub use Rattle.kd_plan.proofs.Moving.Rotors.{are_pluggable, rotors_lead}
-pub use Rattle.kd_plan.proofs.Moving.{are_movable, pin_counted, pin_machine_leads, rotor_counted}
-pub use Rattle.kd_card.proofs.Shortest.{no_rotors, as_few_are_needed, proving_cards_are_shortest}
-pub use Rattle.kd_card.proofs.{Counting.AreCounted, Duality.{fold_of_both, sum_of as card_sum}}
-pub use Rattle.kd_card.specs.Prices.{ArePrices, column_prices, how_many, row_prices}
-pub use Rattle.kd_card.specs.{Proving.{LeadsToTheDay, AreOfKind, Proves, Same}, declared.prices.PriceParts.PriceParts}
-pub use Rattle.kd_plan.specs.Planned.{IsPlanned, Plans, table_size}
-pub use Rattle.kd_plan.specs.{Due.prices_due, Laws.{PlannedCardsProve, PlannedLinesLead}, Moves.planned_lines}
-pub use Rattle.kd_state.proofs.CostTable.{at_most_four, thirteen_columns}
-pub use Rattle.kd_state.specs.Costs.{bar_cost, bar_costs, cable_cost, cable_costs, columns_of, loose_count, lugs_moved}
-pub use Rattle.kd_state.specs.Costs.{cost_table}
-pub use Rattle.kd_state.specs.declared.machine.parts.Parts.{Parts, TheVariants.{Pin, Rotor}}
-pub use Rattle.kd_state.specs.{Machine.{IsMachine, model_of}, SheetDay.{OfPins, OfRotors, Day, IsLegalDay, day_model}}
-pub use Rattle.std.proofs.Common.{All, AllPairs, Bool, Contains, IsPermutation, List, None, Option, [], ap, arith, cond}
-pub use Rattle.std.proofs.Common.{eqb-true, fold, get_or, length, map, min, nat_eq, refl, replicate, subst, suc, sum_by}
-pub use Rattle.std.proofs.Common.{sym, zero, zip, ℕ, ◌++◌, ◌+◌, ◌-◌, ◌<◌, ◌∙◌, ◌∷◌, ◌≡◌, ◌≢◌, ◌≤◌, pos, remove, ℤ, ◌+ℤ◌}
-pub use Rattle.std.proofs.lemmas.List.Elements.{All-map, recursion_from_All, All-append, All-replicate}
-pub use Rattle.std.proofs.lemmas.List.FromFn.{fill_by_all, get_or-range_with_len, length-range_with_len}
-pub use Rattle.std.proofs.lemmas.List.Quantifiers.{all_pairs_remove}
-pub use Rattle.std.proofs.lemmas.List.Sorted.{Contains-permutation, IsPermutation-cons, IsPermutation-map}
-pub use Rattle.std.proofs.lemmas.List.Sorted.{IsPermutation-refl, IsPermutation-remove, IsPermutation-trans}
-pub use Rattle.std.proofs.lemmas.List.{get_or-map, get_or-replicate, Edits.length-remove}
-pub use Rattle.std.proofs.lemmas.{List.Sums.sum_by-cons, Map.Made.Contains-tail}
-pub use Rattle.std.proofs.{Common.◌≤ℤ◌, lemmas.Grind.common_steps, lemmas.Int.ints}
-pub use Rattle.std.specs.List.{AllByRecursion, range_with_len}
-pub use Rattle.{kd_state.specs.declared.setting.Setting.Setting, kd_tables.specs.declared.place.Place.Place}
-unfoldable pub use Rattle.kd_state.specs.Costs.{standings_as}
+pub mod Moving
+unfoldable pub use Moving.*
+use Rattle.kd_assign.specs.{Assignment.{IsOneToOne, assignment_cost}, Prices.{CostsAtMost, Fits, cost_at, price_at}}
+use Rattle.kd_assign.specs.Prices.{price_sum, sum_of}
+use Rattle.kd_card.proofs.Shortest.{no_rotors, as_few_are_needed, proving_cards_are_shortest}
+use Rattle.kd_card.proofs.Duality.{fold_of_both, sum_of as card_sum}
+use Rattle.kd_card.specs.Prices.{ArePrices, column_prices, how_many, row_prices}
+use Rattle.kd_card.specs.{Proving.{AreOfKind, Proves, Same}, declared.prices.PriceParts.PriceParts}
+use Rattle.kd_plan.specs.{Due.prices_due, Laws.{PlannedCardsProve, PlannedLinesLead}}
+use Rattle.kd_plan.specs.Planned.{IsPlanned, Plans, table_size}
+use Rattle.kd_state.proofs.CostTable.{at_most_four, thirteen_columns}
+use Rattle.kd_state.specs.Costs.{bar_costs, cable_costs, cost_table}
+use Rattle.kd_state.specs.{Machine.model_of, SheetDay.{Day, IsLegalDay, day_model}}
+use Rattle.std.proofs.{Common.{pos, remove, ℤ, ◌+ℤ◌, ◌≤ℤ◌}, lemmas.{Int.ints, Map.Made.Contains-tail}}
+use Rattle.std.proofs.lemmas.List.{Edits.length-remove, Elements.{All-append, All-replicate}, get_or-replicate}
+use Rattle.std.proofs.lemmas.List.Sorted.{IsPermutation-cons, IsPermutation-map, IsPermutation-refl}
+use Rattle.std.proofs.lemmas.List.Sorted.{IsPermutation-remove, IsPermutation-trans}
 
 -- as many different ones of some numbers as there are, are all of them in another order
 reordered : (js xs : List ℕ) → AllPairs (λ j k. j ≢ k) js → All (Contains xs) js → length js ≡ length xs

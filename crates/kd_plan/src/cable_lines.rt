@@ -50,7 +50,7 @@ pub(crate) fn push_moves(
 }
 
 /// The moves of one cable: PULL for each of its letters, or PUT for each of the pair's in alphabetical order.
-#[tactic(auto, using(crate::proofs::Moving::two_put))]
+#[tactic(auto, using(crate::proofs::Planning::Moving::two_put))]
 fn moves(
     direction: Direction,
     number: u8,
