@@ -310,15 +310,6 @@ module _ (signed : Bool) (front due : List ℕ) (line : ℕ) where
       → SaysValue signed front due line bytes (Ok rest)
   value_says {rest} form e = Found (due, rest) (form, e) (Found tt refl refl)
 
-  pub other_value : {bytes : List ℕ} (value rest : List ℕ) → IsNumeral signed value → bytes ≡ front ++ value ++ 10 ∷ rest
-      → value ≢ due → SaysValue signed front due line bytes (Err CountWrong)
-  other_value value rest form e differs =
-      Found (value, rest) (form, e) (Refused CountWrong ((λ same is. differs is), refl) refl)
-
-  pub no_value : {bytes : List ℕ} → ((value rest : List ℕ) → IsNumeral signed value → bytes ≢ front ++ value ++ 10 ∷ rest)
-      → SaysValue signed front due line bytes (Err (BadLine line))
-  no_value none = Refused (BadLine line) ((λ found is. none found.0 found.1 is.0 is.1), refl) refl
-
   pub value_said : {bytes rest : List ℕ} → SaysValue signed front due line bytes (Ok rest)
       → bytes ≡ front ++ due ++ 10 ∷ rest
   value_said says = grind (arith, passed)

@@ -2,9 +2,10 @@
 ghost use Rattle.std.specs.Prelude.{◌≡◌, ◌↔◌, ◌+◌, ◌<◌, ◌≤◌, ◌++◌, length, map, replicate, IsTrue};
 ghost use Rattle.arrayvec.specs.ArrayVec.{array_vec_len};
 ghost use Rattle.kd_card.specs.declared.look.Name.{Name};
+ghost use Rattle.kd_card.specs.declared.look.Name.TheVariants as names;
 ghost use Rattle.kd_card.specs.declared.kinds.PricedKind.{PricedKind};
 ghost use Rattle.kd_card.specs.Kinds.{look_name, look_rank, counted, prices_of_kinds, IsPricedKind};
-ghost use Rattle.kd_card.specs.Kinds.{AreKinds, AreCalled};
+ghost use Rattle.kd_card.specs.Kinds.{cable_kind, pair_kind, bar_kind, row_kind, AreKinds, AreCalled};
 
 use super::look::{Look, Name};
 use arrayvec::ArrayVec;
@@ -78,9 +79,6 @@ pub(crate) trait AsKind: Copy + Default {
 }
 
 impl AsKind for CableKind {
-    ghost use Rattle.kd_card.specs.declared.look.Name.TheVariants as names;
-    ghost use Rattle.kd_card.specs.Kinds.{cable_kind};
-
     ghost name = { names.Cable };
 
     ghost kind = { cable_kind };
@@ -99,9 +97,6 @@ impl AsKind for CableKind {
 }
 
 impl AsKind for PairKind {
-    ghost use Rattle.kd_card.specs.declared.look.Name.TheVariants as names;
-    ghost use Rattle.kd_card.specs.Kinds.{pair_kind};
-
     ghost name = { names.Pair };
 
     ghost kind = { pair_kind };
@@ -120,9 +115,6 @@ impl AsKind for PairKind {
 }
 
 impl AsKind for BarKind {
-    ghost use Rattle.kd_card.specs.declared.look.Name.TheVariants as names;
-    ghost use Rattle.kd_card.specs.Kinds.{bar_kind};
-
     ghost name = { names.Bar };
 
     ghost kind = { bar_kind };
@@ -145,9 +137,6 @@ impl AsKind for BarKind {
 }
 
 impl AsKind for RowKind {
-    ghost use Rattle.kd_card.specs.declared.look.Name.TheVariants as names;
-    ghost use Rattle.kd_card.specs.Kinds.{row_kind};
-
     ghost name = { names.Row };
 
     ghost kind = { row_kind };

@@ -1,11 +1,5 @@
 use Rattle.kd_card.proofs.Prelude.{arith, common_steps}
 use Rattle.kd_card.proofs.kinds.kinds_of.Goals as goal
 
-pub push-requires : goal.push-requires
-push-requires g c = grind (arith, common_steps)
-
 pub loop-kind-preserved : goal.loop-kind-preserved
 loop-kind-preserved g c = grind (arith, common_steps)
-
-pub returns : goal.returns
-returns g c = grind (arith, common_steps)

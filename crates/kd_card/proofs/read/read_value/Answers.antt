@@ -1,23 +1,27 @@
-use Rattle.kd_card.proofs.Prelude.{◌∷◌, ◌++◌, ◌∙◌, ap, subst, IsNumeral}
-use Rattle.kd_card.proofs.Lines.{same_values, untrue, numeral_word, value_says, other_value, no_value}
+use Rattle.kd_card.proofs.Prelude.{◌∷◌, ◌++◌, ◌∙◌, refl, ap, subst, IsNumeral, Refused, Found}
+use Rattle.kd_card.proofs.Lines.{same_values, untrue, numeral_word, value_says}
 use Rattle.kd_card.proofs.read.read_value.Goals as goal
 
 pub returns-in_default : goal.returns-in_default
 returns-in_default c =
-    no_value c.args.signed c.args.front.now c.args.due.now c.args.line
-    (λ value more form e. c.in_default.ensures value more (numeral_word c.args.signed value form).unbroken e)
+    Refused _
+    ((λ found is. c.in_default.ensures found.0 found.1 (numeral_word c.args.signed found.0 is.0).unbroken is.1), refl) refl
 
 pub returns-then-not-is_numeral : goal.returns-then-not-is_numeral
 returns-then-not-is_numeral c =
-    no_value c.args.signed c.args.front.now c.args.due.now c.args.line (λ value more form e.
-    let free = (numeral_word c.args.signed value form).unbroken in
-    let same = same_values c.args.front.now free c.in-Some.ensures.1 e c.in-Some.ensures.0 in
-    untrue c.is_numeral.ensures c.if-not-is_numeral.true (subst (IsNumeral c.args.signed) same.0 form))
+    Refused _ (
+      (λ found is.
+          let free = (numeral_word c.args.signed found.0 is.0).unbroken in
+          let same = same_values c.args.front.now free c.in-Some.ensures.1 is.1 c.in-Some.ensures.0 in
+          untrue c.is_numeral.ensures c.if-not-is_numeral.true (subst (IsNumeral c.args.signed) same.0 is.0)),
+      refl,
+    ) refl
 
 pub returns-then-not-is_word : goal.returns-then-not-is_word
 returns-then-not-is_word c =
-    other_value c.args.signed c.args.front.now c.args.due.now c.args.line c.in-Some.number.now c.in-Some.rest.now
-    (c.is_numeral.ensures.0 c.if-not-is_numeral.false) c.in-Some.ensures.0 (untrue c.is_word.ensures c.if-not-is_word.true)
+    Found (c.in-Some.number.now, c.in-Some.rest.now)
+    (c.is_numeral.ensures.0 c.if-not-is_numeral.false, c.in-Some.ensures.0)
+    (Refused _ ((λ same. untrue c.is_word.ensures c.if-not-is_word.true), refl) refl)
 
 pub returns : goal.returns
 returns c =
