@@ -1,10 +1,9 @@
 -- Lines of words as they are written and as they are split; prices by their texts; and what stands in a card's lines.
 use Rattle.kd_card.proofs.Prelude.{figures, ◌≡◌, ◌≢◌, ℕ, ◌<◌, true, false, eqb, ltb, List, [], ◌∷◌, ◌++◌, length, refl, sym, ap, ◌∙◌, append_assoc, length-append, append_cancel_left, arith, ℤ, All, list_all, flat_map, signed_decimal, ne_eqb, ltb-true, append-nil, get_or_at, take_all, flat_map-append, AllPass-from_list_all, All-weaker, All-from_recursion, flat_map-map, Setting, words_of, line_of, IsWord, IsWithout, IsFirstPart, setting_line, list_text, PriceParts, Version, version_of, price_sum, head_words, settings_words, price_words, sum_words, lines_text, price_lines, card_text, with_line, HasWords, common_steps, lines_split_into_words, texts_tell_first_parts, words_make_one_line, map, setting_words, suc, ◌^◌, ◌≤◌, Bool, get_or, Option, Some, None, MatchOption, Result, Ok, Err, MatchResult, Decides, Bor, ◌↔◌, IsTrue, is_some, subst, pos, negsuc, unsigned_abs, FitsSigned, w16, to_z, of_z, then_some, IsUtf8, ParsesSigned, AllByRecursion, false≢true, fits_signed_from_abs, to_z-of_z, get_or-map, length-map, recursion_from_All, All-map, IsPriceText, SaysPrices, BadLine, PriceMissing, Refused, Found, parse-signed_decimal, IsAscii-signed, AreWithinReach, codes, zero, ◌+◌, ◌*◌, inl, inr, fold, decimal, not, pointwise, not-false, Decides-eqb, slice_eq-Decides, err_from_is_err_and, ◌+ℤ◌, digits_value, decimal_nonempty, digits_decimal, decimal_digit, first_decimal, All-cons, All-append, All-from_get_or, how_many, ArePrices, Group, Name, PricedKind, CountWrong, BeginsWithHead, kinds_text, row_word, column_word, version_text, IsGroup, IsDigit, IsNumberText, IsNumeral, SaysValue, SaysLine, SaysFirst, SaysPriceLine, SaysGroup, nil_from_length, numbers_are_words, word_by_bytes, word_by_test, passed, CardFault}
+use Rattle.std.proofs.lemmas.List.Splits.{slice_split_none, slice_split_at, join_with_byte-slice_split}
+use Rattle.std.{proofs.lemmas.Str.IsUtf8-from_ascii, specs.{Result.{result_ok, IsErrAnd}, Int.Signed.mag}}
 use Rattle.kd_card.specs.Reading.{head_front}
 use Rattle.kd_state.specs.SheetDay.{IsDayNumber}
-use Rattle.std.proofs.lemmas.List.Splits.{slice_split_none, slice_split_at, join_with_byte-slice_split}
-use Rattle.std.specs.{Result.result_ok, Result.IsErrAnd, Int.Signed.mag}
-use Rattle.std.proofs.lemmas.Str.{IsUtf8-from_ascii}
 
 -- ---- writing
 
@@ -241,9 +240,6 @@ numeral_word signed text e = grind (arith, number_word, below_zero)
 pub signed_word : (z : ℤ) → unsigned_abs z < 2 ^ 64 → IsWord (signed_decimal z)
 signed_word (pos n) small = numbers_are_words n small
 signed_word (negsuc n) small = below_zero (decimal (suc n)) (numbers_are_words (suc n) small)
-
-version_is_word : (version : Version) → IsWord (version_text version)
-version_is_word version = grind (arith, word_by_test)
 
 -- a head, as what stands in front of the day, and the day
 pub head_text : {front : List ℕ} (version : Version) (day : ℕ) (rest : List ℕ) → front ≡ head_front version

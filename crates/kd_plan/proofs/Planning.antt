@@ -5,17 +5,16 @@ use Rattle.kd_assign.specs.{Assignment.{IsOneToOne, assignment_cost}, Prices.{Co
 use Rattle.kd_assign.specs.Prices.{price_sum, sum_of}
 use Rattle.kd_card.proofs.Shortest.{no_rotors, as_few_are_needed, proving_cards_are_shortest}
 use Rattle.kd_card.proofs.Duality.{fold_of_both, sum_of as card_sum}
-use Rattle.kd_card.specs.Prices.{ArePrices, column_prices, how_many, row_prices}
-use Rattle.kd_card.specs.{Proving.{AreOfKind, Proves, Same}, declared.prices.PriceParts.PriceParts}
-use Rattle.kd_plan.specs.{Due.prices_due, Laws.{PlannedCardsProve, PlannedLinesLead}}
-use Rattle.kd_plan.specs.Planned.{IsPlanned, Plans, table_size}
-use Rattle.kd_state.proofs.CostTable.{at_most_four, thirteen_columns}
-use Rattle.kd_state.specs.Costs.{bar_costs, cable_costs, cost_table}
-use Rattle.kd_state.specs.{Machine.model_of, SheetDay.{Day, IsLegalDay, day_model}}
-use Rattle.std.proofs.{Common.{pos, remove, ℤ, ◌+ℤ◌, ◌≤ℤ◌}, lemmas.{Int.ints, Map.Made.Contains-tail}}
-use Rattle.std.proofs.lemmas.List.{Edits.length-remove, Elements.{All-append, All-replicate}, get_or-replicate}
 use Rattle.std.proofs.lemmas.List.Sorted.{IsPermutation-cons, IsPermutation-map, IsPermutation-refl}
-use Rattle.std.proofs.lemmas.List.Sorted.{IsPermutation-remove, IsPermutation-trans}
+use Rattle.std.proofs.lemmas.List.{Sorted.{IsPermutation-remove, IsPermutation-trans}, Edits.length-remove}
+use Rattle.std.proofs.lemmas.{Map.Made.Contains-tail, List.get_or-replicate, Int.ints}
+use Rattle.std.proofs.{lemmas.List.Elements.{All-append, All-replicate}, Common.{pos, remove, ℤ, ◌+ℤ◌, ◌≤ℤ◌}}
+use Rattle.kd_card.specs.Prices.{ArePrices, column_prices, how_many, row_prices}
+use Rattle.kd_card.specs.{declared.prices.PriceParts.PriceParts, Proving.{AreOfKind, Proves, Same}}
+use Rattle.kd_plan.specs.Due.{prices_due}
+use Rattle.kd_plan.specs.{Laws.{PlannedCardsProve, PlannedLinesLead}, Planned.{IsPlanned, Plans, table_size}}
+use Rattle.kd_state.specs.{Costs.{bar_costs, cable_costs, cost_table}, SheetDay.{Day, IsLegalDay, day_model}}
+use Rattle.kd_state.{proofs.CostTable.{at_most_four, thirteen_columns}, specs.Machine.model_of}
 
 -- as many different ones of some numbers as there are, are all of them in another order
 reordered : (js xs : List ℕ) → AllPairs (λ j k. j ≢ k) js → All (Contains xs) js → length js ≡ length xs

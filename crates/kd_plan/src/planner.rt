@@ -1,8 +1,7 @@
 ghost use Rattle.std.specs.Prelude.{◌≡◌, ◌≢◌, ◌<◌, IfOk, IsErr, MatchOption, ◌↔◌};
-ghost use Rattle.kd_state.specs.Machine.{IsMachine, model_of};
-ghost use Rattle.kd_state.specs.SheetDay.{OfRotors, OfPins, IsLegalDay, day_model};
-ghost use Rattle.kd_state.specs.Entry.{rotor_values, pin_values};
 ghost use Rattle.kd_plan.specs.Planned.{IsPlanned, Plans};
+ghost use Rattle.kd_state.specs.SheetDay.{OfRotors, OfPins, IsLegalDay, day_model};
+ghost use Rattle.kd_state.specs.{Entry.{rotor_values, pin_values}, Machine.{IsMachine, model_of}};
 
 use super::card_prices::prices_due;
 use super::other_model::OtherModel;

@@ -1,7 +1,6 @@
-use Rattle.kd_card.proofs.Prelude.{rules, arith, eqb, IsPriceText}
-use Rattle.std.proofs.lemmas.Iterator.{cases_from_all, Search.true_from_All, Splits.YieldsList-from_slice_split}
+use Rattle.std.proofs.lemmas.Iterator.{Splits.YieldsList-from_slice_split, Search.true_from_All, cases_from_all}
+use Rattle.kd_card.proofs.{Prelude.{rules, arith, eqb, IsPriceText}, Lines.tells_price}
 use borrow.Author.Tests.{tests}
-use Rattle.kd_card.proofs.Lines.{tells_price}
 use Rattle.kd_card.proofs.price_text.are_prices.Goals as goal
 
 pub returns : goal.returns

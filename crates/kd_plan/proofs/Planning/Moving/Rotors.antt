@@ -1,55 +1,52 @@
 -- Settings carried out one after another; SEAT, REFLECTOR, RING, TURN, PULL and PUT; and that all lines of a rotor
 -- machine lead to the day.
-pub use Rattle.kd_card.proofs.Counting.{AreCounted, all_counted, beside_each, counted-append, counted_each, in_box}
-pub use Rattle.kd_card.proofs.{Counting.{lines_of_each, sum_none, sums_add}, Counts.{once_of_distinct, times}}
-pub use Rattle.kd_card.specs.Loose.{lines_from, pin_lines, pin_of, pin_turn_lines, pin_turn_of, reflector_lines}
-pub use Rattle.kd_card.specs.Loose.{ring_lines, ring_of_wheel, seat_lines, seat_of, turn_lines, turn_of, unless_so}
-pub use Rattle.kd_plan.specs.Moves.{bars_beside, besides, letters_apart, letters_due, lugs_of, moves_of, planned_lines}
-pub use Rattle.kd_plan.specs.{Moves.target_of, declared.cable_lines.Direction.{Direction, TheVariants.{In, Out}}}
-pub use Rattle.kd_card.{proofs.Leading.leads_join, specs.{Loose.wheel_pin_lines, Proving.{LeadsToTheDay, is_priced}}}
-pub use Rattle.kd_state.proofs.CostTable.{columns_are_the_pairs, no_zero, one_zero, tests_tell_letters, zeros}
-pub use Rattle.kd_state.proofs.Slots.{has_letter-Decides, is_some-place_on, set_here, set_other}
-pub use Rattle.kd_state.proofs.Wheels.{days_wheels_have_their_places, has_reflector-Decides, has_wheel-Decides}
-pub use Rattle.kd_state.proofs.Wheels.{place_within, same_reflector-Decides, same_wheel-Decides, same_wheel_differs}
-pub use Rattle.kd_state.proofs.{Telling.letters_have_places, Wheels.same_wheel_self}
-pub use Rattle.kd_state.specs.Costs.{bar_cost, cable_cost, column_letters, columns_of, differ, loose_count, lugs_moved}
-pub use Rattle.kd_state.specs.Machine.{AreOnWheels, HasAllPins, IsMachine, StandsAt, cable_letters, plugged_letters}
-pub use Rattle.kd_state.specs.Setting.{Leads, cable_with, cable_without, changed, has_letter, is_at, lug_place}
-pub use Rattle.kd_state.specs.SheetDay.{AreSeated, IsLegalPinDay, IsLegalRotorDay, OfPins, OfRotors, PinDay, RotorDay}
-pub use Rattle.kd_state.specs.declared.machine.{parts.Parts.TheVariants.{Pin, Rotor}, pin_parts.PinParts.PinParts}
-pub use Rattle.kd_state.specs.declared.setting.Setting.TheVariants.{LugTo, Put}
-pub use Rattle.kd_state.specs.declared.sheet_day.rotor_entry.SheetWheel.{SheetWheel}
-pub use Rattle.kd_state.specs.declared.{machine.rotor_parts.RotorParts.RotorParts, setting.Setting.Setting}
-pub use Rattle.kd_state.specs.{Costs.{reads_as_row, unless_same}, Machine.ring_at}
-pub use Rattle.kd_state.specs.{OnKey.{AreThePairs, IsPaired, Joins, OnKey}, Pins.{pin_set, with_pin}}
-pub use Rattle.kd_state.specs.{Setting.{why_refused, with_lug, without}, SheetDay.seats}
-pub use Rattle.kd_state.specs.{ToldApart.{has_wheel, place_in_box, same_wheel}, declared.machine.parts.Parts.Parts}
-pub use Rattle.kd_tables.specs.Permutation.{alphabet}
-pub use Rattle.kd_tables.specs.declared.{lug.Lug.TheVariants.{Left, Right}, model.Model.Model, place.Place.Place}
-pub use Rattle.kd_tables.specs.declared.{place.Place.TheVariants.One, reflector.Reflector.Reflector, wheel.Wheel.Wheel}
-pub use Rattle.kd_tables.specs.{Places.{IsBefore, IsReading, place_rank, places, reading_of, standings}, Rings.place_on}
-pub use Rattle.kd_tables.specs.{Tables.{IsAllowed, box_of, reflectors_of}, declared.lug.Lug.Lug}
 pub use Rattle.std.proofs.Common.{All, AllPairs, Any, Bool, Contains, IsPermutation, List, None, Option, Some, [], ap}
 pub use Rattle.std.proofs.Common.{append_assoc, arith, cond, count_by, drop, drop-cons, eqb-true, false, filter, find}
 pub use Rattle.std.proofs.Common.{fold, get_or, inl, inr, is_some, length, length-append, ltb-false, ltb-true, map, max}
 pub use Rattle.std.proofs.Common.{min, nat_eq, nat_le, nat_lt, not, option_to_list, refl, replicate, set, slice_get}
 pub use Rattle.std.proofs.Common.{subst, suc, sum_by, sym, take, true, unwrap_or, zero, zip, ℕ, ◌&&◌, ◌++◌, ◌+◌, ◌-◌}
 pub use Rattle.std.proofs.lemmas.List.Elements.{All-filter, All-from_recursion, All-map, Contains-append_left}
-pub use Rattle.std.proofs.lemmas.List.Elements.{filter_passes, recursion_from_All}
-pub use Rattle.std.proofs.lemmas.List.Folds.{list_any-append, sum_by-replicate}
 pub use Rattle.std.proofs.lemmas.List.FromFn.{fill_by_all, get_or-range_with_len, length-range_with_len}
 pub use Rattle.std.proofs.lemmas.List.Sorted.{Contains-permutation, IsPermutation-sym, sum_by-IsPermutation}
 pub use Rattle.std.proofs.lemmas.List.Sums.{AllPass-from_list_all, fold_push, length-filter, sum_by-append, sum_by-cons}
-pub use Rattle.std.proofs.lemmas.List.{Quantifiers.all_pairs_remove, Recursion.found_at}
+pub use Rattle.std.proofs.lemmas.List.{Elements.{filter_passes, recursion_from_All}, Quantifiers.all_pairs_remove}
 pub use Rattle.std.proofs.lemmas.List.{append-nil, get_or-map, get_or_at, length-map, length-set, map-append}
-pub use Rattle.std.proofs.lemmas.List.{set-get_or, set_at, take-append-drop}
+pub use Rattle.std.proofs.lemmas.List.{set-get_or, set_at, take-append-drop, Folds.{list_any-append, sum_by-replicate}}
 pub use Rattle.std.proofs.lemmas.Option.{get_or_from_slice_get, slice_get-get_or, slice_get-map, slice_get_within}
-pub use Rattle.std.proofs.lemmas.{Bool.Decides.nat_tests, Grind.{common_steps, flat_map-append}}
-pub use Rattle.std.proofs.lemmas.{Simd.map-map, Slice.Zip.{firsts-zip, length-zip, seconds-zip}}
-pub use Rattle.std.proofs.{Common.{◌<◌, ◌||◌, ◌∙◌, ◌∷◌, ◌≡◌, ◌≢◌, ◌≤◌}, lemmas.Bool.{cases_eq, cond_both}}
-pub use Rattle.std.specs.{List.{AllByRecursion, range_with_len}, Option.option_map_or}
-pub use Rattle.{kd_enigma.specs.Plugs.letters_plugged, kd_pins.specs.PinWheels.pins_of}
-pub use Rattle.{kd_pins.specs.declared.pin_set.PinSet.PinSet, kd_state.proofs.Cables.free_tells}
+pub use Rattle.std.proofs.lemmas.{Slice.Zip.{firsts-zip, length-zip, seconds-zip}, List.Recursion.found_at}
+pub use Rattle.std.proofs.{Common.{◌<◌, ◌||◌, ◌∙◌, ◌∷◌, ◌≡◌, ◌≢◌, ◌≤◌}, lemmas.Grind.{common_steps, flat_map-append}}
+pub use Rattle.std.{proofs.lemmas.{Bool.Decides.nat_tests, Simd.map-map}, specs.Option.option_map_or}
+pub use Rattle.std.{specs.List.{AllByRecursion, range_with_len}, proofs.lemmas.Bool.{cases_eq, cond_both}}
+pub use Rattle.kd_card.proofs.Counting.{AreCounted, all_counted, beside_each, counted-append, counted_each, in_box}
+pub use Rattle.kd_card.proofs.Leading.{leads_join}
+pub use Rattle.kd_card.specs.Loose.{lines_from, pin_lines, pin_of, pin_turn_lines, pin_turn_of, reflector_lines}
+pub use Rattle.kd_card.specs.Loose.{ring_lines, ring_of_wheel, seat_lines, seat_of, turn_lines, turn_of, unless_so}
+pub use Rattle.kd_card.{specs.Loose.wheel_pin_lines, proofs.Counting.{lines_of_each, sum_none, sums_add}}
+pub use Rattle.kd_card.{specs.Proving.{LeadsToTheDay, is_priced}, proofs.Counts.{once_of_distinct, times}}
+pub use Rattle.kd_enigma.specs.Plugs.{letters_plugged}
+pub use Rattle.kd_pins.specs.{declared.pin_set.PinSet.PinSet, PinWheels.pins_of}
+pub use Rattle.kd_plan.specs.Moves.{bars_beside, besides, letters_apart, letters_due, lugs_of, moves_of, planned_lines}
+pub use Rattle.kd_plan.specs.{Moves.target_of, declared.cable_lines.Direction.{TheVariants.{In, Out}, Direction}}
+pub use Rattle.kd_state.proofs.CostTable.{columns_are_the_pairs, no_zero, one_zero, tests_tell_letters, zeros}
+pub use Rattle.kd_state.proofs.Slots.{has_letter-Decides, is_some-place_on, set_here, set_other}
+pub use Rattle.kd_state.proofs.Wheels.{days_wheels_have_their_places, has_reflector-Decides, has_wheel-Decides}
+pub use Rattle.kd_state.proofs.Wheels.{place_within, same_reflector-Decides, same_wheel-Decides, same_wheel_differs}
+pub use Rattle.kd_state.specs.Costs.{bar_cost, cable_cost, column_letters, columns_of, differ, loose_count, lugs_moved}
+pub use Rattle.kd_state.specs.Machine.{AreOnWheels, HasAllPins, IsMachine, StandsAt, cable_letters, plugged_letters}
+pub use Rattle.kd_state.specs.Setting.{Leads, cable_with, cable_without, changed, has_letter, is_at, lug_place}
+pub use Rattle.kd_state.specs.SheetDay.{AreSeated, IsLegalPinDay, IsLegalRotorDay, OfPins, OfRotors, PinDay, RotorDay}
+pub use Rattle.kd_state.specs.declared.machine.{parts.Parts.TheVariants.{Pin, Rotor}, rotor_parts.RotorParts.RotorParts}
+pub use Rattle.kd_state.specs.declared.{setting.Setting.TheVariants.{LugTo, Put}, machine.pin_parts.PinParts.PinParts}
+pub use Rattle.kd_state.specs.declared.{sheet_day.rotor_entry.SheetWheel.SheetWheel, machine.parts.Parts.Parts}
+pub use Rattle.kd_state.specs.{OnKey.{AreThePairs, IsPaired, Joins, OnKey}, declared.setting.Setting.Setting}
+pub use Rattle.kd_state.specs.{Setting.{why_refused, with_lug, without}, Machine.ring_at, SheetDay.seats}
+pub use Rattle.kd_state.{proofs.Wheels.same_wheel_self, specs.Costs.{reads_as_row, unless_same}}
+pub use Rattle.kd_state.{specs.Pins.{pin_set, with_pin}, proofs.Cables.free_tells}
+pub use Rattle.kd_state.{specs.ToldApart.{has_wheel, place_in_box, same_wheel}, proofs.Telling.letters_have_places}
+pub use Rattle.kd_tables.specs.declared.{reflector.Reflector.Reflector, place.Place.TheVariants.One, model.Model.Model}
+pub use Rattle.kd_tables.specs.{Places.{IsBefore, IsReading, place_rank, places, reading_of, standings}, Rings.place_on}
+pub use Rattle.kd_tables.specs.{declared.lug.Lug.TheVariants.{Left, Right}, Tables.{IsAllowed, box_of, reflectors_of}}
+pub use Rattle.kd_tables.specs.{declared.{place.Place.Place, wheel.Wheel.Wheel, lug.Lug.Lug}, Permutation.alphabet}
 unfoldable pub use Rattle.{kd_plan.specs.Moves.lugs_to, kd_state.specs.Costs.standings_as}
 unfoldable pub use Rattle.{kd_tables.specs.Rings.ring_of, std.specs.List.IsDistinct}
 

@@ -1,5 +1,4 @@
-use Rattle.kd_prices.proofs.Prelude.{◌∙◌, sym}
-use Rattle.kd_prices.proofs.Meaning.{first_and_rest, other_price}
+use Rattle.kd_prices.proofs.{Meaning.{first_and_rest, other_price}, Prelude.{◌∙◌, sym}}
 use Rattle.kd_prices.proofs.expanding.+price_of.Goals as goal
 
 pub returns-in-len1-up-2 : goal.returns-in-len1-up-2
