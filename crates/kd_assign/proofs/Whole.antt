@@ -1,10 +1,9 @@
 -- An assignment of all rows.
-use Rattle.std.proofs.Common.{◌≡◌, ℕ, ◌*◌, ◌<◌, ◌≤◌, List, length, get_or, All, Option, ℤ, pos, ◌-ℤ◌, arith, refl}
-use Rattle.kd_assign.proofs.{Places.within, Sums.by_sums}
-use Rattle.kd_assign.{proofs.Sums.fitting_prices_bound_costs, specs.Cheapest.IsLeastCost}
+use Rattle.kd_assign.proofs.Prelude.{CostsAtMost, Fits, Has, IsOneToOne, IsSolvedTo, assignment_cost, cost_at}
+use Rattle.kd_assign.proofs.{Places.within, Prelude.{get_or_default, get_or_past, ints, price_at, price_sum}}
+use Rattle.kd_assign.{proofs.Sums.{by_sums, fitting_prices_bound_costs}, specs.Cheapest.IsLeastCost}
+use Rattle.std.proofs.Common.{All, List, Option, arith, get_or, length, pos, refl, ℕ, ℤ, ◌*◌, ◌-ℤ◌, ◌<◌, ◌≡◌, ◌≤◌}
 use Rattle.std.{proofs.lemmas.List.Elements.All-from_get_or, specs.Int.RustNames.unsigned_abs}
-use Rattle.kd_assign.proofs.Prelude.{ints, get_or_default, get_or_past, CostsAtMost, Fits, Has, IsOneToOne, IsSolvedTo}
-use Rattle.kd_assign.proofs.Prelude.{assignment_cost, cost_at, price_at, price_sum}
 
 -- no two rows have the same column
 pub one_to_one : (holders : List (Option ℕ)) (to : List ℕ) → length to ≡ length holders →

@@ -1,12 +1,12 @@
 -- How many lines there are, and how many of them the prices speak of; and that each loose thing has one.
-use Rattle.kd_card.proofs.{Counts.count_by-cons, Falling.HaveTheirPlaces}
+use Rattle.kd_card.proofs.{Prelude.count_by-cons, Falling.HaveTheirPlaces}
 use Rattle.kd_card.proofs.Prelude.{AllByRecursion, Contains, All, Bool, Day, IsLegalDay, IsMachine, List, Model, OfPins}
 use Rattle.kd_card.proofs.Prelude.{OfRotors, Parts, Pin, PinDay, PinParts, Rotor, RotorDay, RotorParts, SeatReflector}
 use Rattle.kd_card.proofs.Prelude.{Setting, [], ap, arith, cond, count_by, day_model, days_wheels_have_their_places}
 use Rattle.kd_card.proofs.Prelude.{differ, is_priced, length, length-append, length-zip, loose_count, model_of, nat_eq}
 use Rattle.kd_card.proofs.Prelude.{not, option_map_or, place_in_box, priced_count, recursion_from_All, refl, ring_at}
 use Rattle.kd_card.proofs.Prelude.{same_reflector, same_wheel, seconds-zip, subst, suc, sum_by, sum_by-append}
-use Rattle.kd_card.proofs.Prelude.{sum_by-cons, sym, true, zero, zip, ℕ, ◌++◌, ◌+◌, ◌∙◌, ◌∷◌, ◌≡◌, ◌≢◌, ◌≤◌}
+use Rattle.kd_card.proofs.Prelude.{sum_by-cons, sums_add, sym, true, zero, zip, ℕ, ◌++◌, ◌+◌, ◌∙◌, ◌∷◌, ◌≡◌, ◌≢◌, ◌≤◌}
 use Rattle.kd_card.specs.Loose.{lines_from, loose_lines, pin_lines, pin_of, pin_turn_of, ring_lines, ring_of_wheel}
 use Rattle.kd_card.specs.Loose.{seat_of, turn_of, unless_so, wheel_pin_lines}
 use Rattle.kd_state.proofs.Wheels.{allowed_in_box, has_wheel-Decides, same_wheel-Decides, same_wheel_differs}
@@ -40,11 +40,6 @@ counted_each lines f g h (z ∷ zs) number =
 
 pub sum_none : {Z : Type 0} (zs : List Z) → sum_by (λ z. 0) zs ≡ 0
 sum_none zs = omega (arith, sum_by-le (λ z. 0) 0 zs (λ k d lt. omega arith))
-
-pub sums_add : {X : Type 0} (f g h : X → ℕ) → ((x : X) → f x + g x ≡ h x) → (xs : List X)
-    → sum_by f xs + sum_by g xs ≡ sum_by h xs
-sums_add f g h e [] = refl
-sums_add f g h e (x ∷ xs) = simp sum_by-cons (omega (arith, e x, sums_add f g h e xs))
 
 -- things beside others, which are as many
 pub beside_each : {A B : Type 0} (f : B → ℕ) (xs : List A) (ys : List B) → length ys ≡ length xs

@@ -1,10 +1,6 @@
 -- How often letters are among others.
-use Rattle.kd_card.proofs.Prelude.{◌≡◌, ℕ, zero, suc, ◌+◌, ◌≤◌, nat_eq, set, get_or, zip, sum_by, Bool, false, cond, List, [], ◌∷◌, ◌++◌, count_by, refl, arith, AllByRecursion, IsDistinct, eqb_tells, sum_by-append, sum_by-cons, alphabet, IsDistinct-head, IsDistinct-tail, IsDistinct-from_count, common_steps}
+use Rattle.kd_card.proofs.Prelude.{◌≡◌, ℕ, zero, suc, ◌+◌, ◌≤◌, nat_eq, set, get_or, zip, sum_by, Bool, false, cond, List, [], ◌∷◌, ◌++◌, count_by, count_by-cons, refl, arith, AllByRecursion, IsDistinct, eqb_tells, sum_by-append, sum_by-cons, alphabet, IsDistinct-head, IsDistinct-tail, IsDistinct-from_count, common_steps}
 use Rattle.std.proofs.lemmas.Cmp.{nat_eq_equiv}
-
--- one more element to count
-pub count_by-cons : {X : Type 0} (p : X → Bool) (x : X) (xs : List X) → count_by p (x ∷ xs) ≡ cond (p x) 1 0 + count_by p xs
-count_by-cons p x xs = sum_by-cons (λ y. cond (p y) 1 0) x xs
 
 pub at_most_one : (b : Bool) → cond b 1 0 ≤ 1
 at_most_one b = grind arith

@@ -1,5 +1,5 @@
 -- Prices that fit bound from below what any pairing of rows and columns costs.
-use Rattle.kd_card.proofs.Prelude.{◌≡◌, ℕ, zero, suc, ◌<◌, List, [], ◌∷◌, ◌++◌, length, get_or, set, map, zip, fold, ℤ, pos, ◌+ℤ◌, ◌≤ℤ◌, ◌∙◌, ap, IsPermutation, refl, arith, All, AllZip, ints, fold-append, sum_by-cons, sum_by-IsPermutation, IsPermutation-keeps, IsPermutation-refl, IsPermutation-trans, IsPermutation-swap, AllZip-long, common_steps, All-head, All-tail, IsPermutation-map, seconds-zip}
+use Rattle.kd_card.proofs.Prelude.{◌≡◌, ℕ, zero, suc, ◌<◌, List, [], ◌∷◌, ◌++◌, length, get_or, set, map, zip, fold, ℤ, pos, ◌+ℤ◌, ◌≤ℤ◌, ◌∙◌, ap, IsPermutation, refl, arith, All, AllZip, ints, fold-append, sum_by-cons, sum_by-IsPermutation, IsPermutation-keeps, IsPermutation-refl, IsPermutation-trans, IsPermutation-swap, AllZip-long, All-head, All-tail, IsPermutation-map, seconds-zip}
 use Rattle.std.specs.List as lists
 use borrow.Author.Differences.{up, down}
 
@@ -21,7 +21,7 @@ fold_of_both rows columns =
 
 parts : (xs : List ℤ) → (sum_of xs +ℤ pos (lists.sum_by down xs)) ≡ pos (lists.sum_by up xs)
 parts [] = refl
-parts (x ∷ xs) = grind (arith, common_steps, parts xs, sum_by-cons)
+parts (x ∷ xs) = omega (arith, ints, parts xs, sum_by-cons up x xs, sum_by-cons down x xs)
 
 module _ {B : Type 0} where
   -- the prices that stand with columns
@@ -59,7 +59,11 @@ module _ {A C : Type 0} (R : A → C → Type 0) where
   Reordered ys xs = (zs : List C) × IsPermutation ys zs × AllZip R xs zs
 
   side_by_side-swap : (xs : List A) (zs : List C) (i j : ℕ) → i < length xs → j < length xs → AllZip R xs zs → AllZip R (lists.swap xs i j) (lists.swap zs i j)
-  side_by_side-swap xs zs i j e d g = grind (arith, side_by_side-set, side_by_side_at)
+  side_by_side-swap [] zs i j e d g = absurd (omega arith)
+  side_by_side-swap (x ∷ xs) [] i j e d g = absurd g
+  side_by_side-swap (x ∷ xs) (z ∷ zs) i j e d g =
+      side_by_side-set (set (x ∷ xs) i (get_or (x ∷ xs) j x)) (set (z ∷ zs) i (get_or (z ∷ zs) j z)) j _ _
+      (side_by_side-set (x ∷ xs) (z ∷ zs) i _ _ g (side_by_side_at (x ∷ xs) (z ∷ zs) j x z g d)) (side_by_side_at (x ∷ xs) (z ∷ zs) i x z g e)
 
   -- where the first kind is put in another order, so can the second be
   pub reordered : (xs others : List A) (ys : List C) → IsPermutation xs others → AllZip R xs ys → Reordered ys others

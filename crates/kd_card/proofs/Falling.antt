@@ -1,10 +1,10 @@
 -- What a pairing of cables with pairs, or of bars with rows, costs falls by at most one with each setting that changes a
 -- cable or a bar. Another one puts at most one loose thing right.
-use Rattle.kd_card.proofs.Prelude.{six_lists, ◌≡◌, ℕ, suc, ◌+◌, ◌-◌, ◌≤◌, nat_eq, min, Bool, false, inl, inr, List, [], ◌∷◌, get_or, set, map, fold, count_by, Option, None, unwrap_or, ℤ, sym, ◌∙◌, subst, arith, length, Place, alphabet, RotorParts, Parts, Rotor, Pin, Setting, Pull, Put, LugTo, cable_letters, plugged_letters, IsLegal, has_letter, reasons, why_refused, cable_at, cable_without, cable_with, with_lug, changed, Leads, differ, unless_same, column_letters, cable_cost, lugs_moved, bar_cost, All-set, length-set, numbered, common_steps, All, no_reason, still_before, IsPermutation, refl, true, ◌||◌, ◌⊎◌, not-false, Contains-permutation, IsPermutation-sym, IsDistinct-IsPermutation, IsDistinct-cons, IsDistinct-tail, get_or_from_slice_get, IsDistinct, eqb_flips, free_tells, set_moves, with_moves, without_moves, tests_tell_letters, stands, PinParts, Stands, with_lug_at, ◌≢◌, zero, not, cond, zip, sum, AllPairs, Some, slice_get, ap, AllByRecursion, sum_by, option_map_or, bytes_eq, cases_eq, eq-eqb, recursion_from_All, map-id, sum-map, sum_by-cons, unwrap_or-slice_get, bytes_eq-Decides, Model, wheel_text, reflector_text, Seat, SeatReflector, RingTo, Turn, PinTo, same_wheel, same_reflector, place_in_box, model_of, ring_at, letter_at, seated_in, without, with_letter, RotorDay, PinDay, Day, OfRotors, OfPins, IsLegalDay, day_model, ReadsAs, loose_slots, loose_reflector, loose_rings, loose_letters, loose_pins, loose_pin_letters, loose_count, is_priced, set_other, days_wheels_have_their_places, is_none}
+use Rattle.kd_card.proofs.Prelude.{count_by-cons, six_lists, ◌≡◌, ℕ, suc, ◌+◌, ◌-◌, ◌≤◌, nat_eq, min, Bool, false, inl, inr, List, [], ◌∷◌, get_or, set, map, fold, count_by, Option, None, unwrap_or, ℤ, sym, ◌∙◌, subst, arith, length, Place, alphabet, RotorParts, Parts, Rotor, Pin, Setting, Pull, Put, LugTo, cable_letters, plugged_letters, IsLegal, has_letter, reasons, why_refused, cable_at, cable_without, cable_with, with_lug, changed, Leads, differ, unless_same, column_letters, cable_cost, lugs_moved, bar_cost, All-set, length-set, numbered, common_steps, All, no_reason, still_before, IsPermutation, refl, true, ◌||◌, ◌⊎◌, not-false, Contains-permutation, IsPermutation-sym, IsDistinct-IsPermutation, IsDistinct-cons, IsDistinct-tail, get_or_from_slice_get, IsDistinct, eqb_flips, free_tells, set_moves, with_moves, without_moves, tests_tell_letters, stands, PinParts, Stands, with_lug_at, ◌≢◌, zero, not, cond, zip, sum, AllPairs, Some, slice_get, ap, AllByRecursion, sum_by, option_map_or, bytes_eq, cases_eq, eq-eqb, recursion_from_All, map-id, sum-map, sum_by-cons, unwrap_or-slice_get, bytes_eq-Decides, Model, wheel_text, reflector_text, Seat, SeatReflector, RingTo, Turn, PinTo, same_wheel, same_reflector, place_in_box, model_of, ring_at, letter_at, seated_in, without, with_letter, RotorDay, PinDay, Day, OfRotors, OfPins, IsLegalDay, day_model, ReadsAs, loose_slots, loose_reflector, loose_rings, loose_letters, loose_pins, loose_pin_letters, loose_count, is_priced, set_other, days_wheels_have_their_places, is_none}
 use Rattle.kd_state.specs.{Costs.standings_as, declared.sheet_day.rotor_entry.SheetWheel.SheetWheel}
 use Rattle.kd_state.specs.{Pins.wheel_pins, Pins.with_pin}
 use Rattle.kd_tables.specs.{declared.lug.Lug.Lug, declared.wheel.Wheel.Wheel, Rings.ring_of, Rings.place_on}
-use Rattle.kd_card.proofs.{Counts.{count_by-cons, zip_set, at_most_one, once_in_alphabet}, Duality.pairing_cost}
+use Rattle.kd_card.proofs.{Counts.{zip_set, at_most_one, once_in_alphabet}, Duality.pairing_cost}
 use Rattle.kd_pins.specs.{PinWheels.pins_of}
 
 pub not_differing : (b : Bool) → differ b b ≡ false

@@ -1,6 +1,5 @@
 pub mod Prelude
 pub mod Lines
-pub mod Leading
 pub mod KindWords
 pub mod KindPrices
 pub mod OneCard
@@ -8,4 +7,5 @@ pub mod Counts
 pub mod Duality
 pub mod Falling
 pub mod Counting
+pub mod Leading
 pub mod Shortest

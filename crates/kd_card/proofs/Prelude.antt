@@ -35,7 +35,7 @@ pub use Rattle.kd_card.specs.declared.prices.Version.TheVariants.{ByKind, ByNumb
 pub use Rattle.kd_enigma.specs.Plugs.{letters_plugged}
 pub use Rattle.kd_state.proofs.Cables.{eqb_flips, free_tells, set_moves, with_moves, without_moves}
 pub use Rattle.kd_state.proofs.{Telling.Refusing.Changing.{no_reason, six_lists, still_before}, Slots.set_other, Slots.stands}
-pub use Rattle.kd_state.proofs.CostTable.{tests_tell_letters, thirteen_columns}
+pub use Rattle.kd_state.proofs.{Cables.tests_tell_letters, CostTable.{sums_add, thirteen_columns}, SortedAlike.count_by-cons}
 pub use Rattle.kd_state.proofs.Lines.{figures, lines_split_into_words, not_longer, numbers_are_words, ok_part, same_end, same_place, text_of_more, parts_make_lines, texts_tell_first_parts, word_by_bytes, word_by_test, words_make_one_line}
 pub use Rattle.kd_state.proofs.Wheels.{days_wheels_have_their_places, named, told}
 pub use Rattle.kd_state.specs.ToldApart.{numbered, place_in_box, same_reflector, same_wheel}

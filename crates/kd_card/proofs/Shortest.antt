@@ -1,10 +1,10 @@
 -- On a machine that reads as the day cables and bars can be paired with its columns, each with one that costs nothing.
 -- So no list of settings that leads to the day has fewer than there are loose things and prices in sum, and a card that
 -- proves itself has as many.
-use Rattle.kd_card.proofs.Prelude.{◌≡◌, ◌≢◌, ℕ, zero, suc, ◌+◌, ◌-◌, ◌≤◌, nat_eq, cond, List, [], ◌∷◌, ◌++◌, length, get_or, map, zip, replicate, Contains, IsPermutation, count_by, remove, Option, Some, None, ℤ, refl, sym, ap, ◌∙◌, subst, arith, AllByRecursion, AllZip, flat_map, eq-eqb, All-contains, recursion_from_All, sum_by-cons, get_or-le-sum_by, sum_by-IsPermutation, Contains-permutation, IsPermutation-refl, IsPermutation-sym, IsPermutation-cons, IsPermutation-trans, IsPermutation-remove, Place, One, alphabet, reading_of, IsBefore, letters_plugged, cable_letters, plugged_letters, has_letter, SameLetters, IsPaired, IsJoined, AreThePairs, differ, cable_cost, bar_cost, columns_of, tests_tell_letters, thirteen_columns, rules, Contains-append_right, sum_by, Stands, Contains-tail, ◌<◌, Bool, pos, ◌+ℤ◌, ◌≤ℤ◌, ints, length_permutation, All-permutation, Model, reflectors_of, Parts, Rotor, Pin, Setting, model_of, IsMachine, Leads, changed, Day, OfRotors, OfPins, day_model, IsLegalDay, ReadsAs, cost_table, loose_count, PriceParts, Cables, Bars, ArePrices, Fits, AreTight, price_sum, is_priced, priced_count, AreOfKind, IsNeeded, AreNeeded, Same, Expanded, FittingPricesBoundLists, ProvingCardsAreAsLong, ProvingCardsAreShortest, ProvingPricesAreTight, get_or_default, get_or-map, length-zip, get_or-zip, AsFewAreNeeded, why_refused, IsTightAt, column_prices, cost_at, how_many, price_at, row_prices, All-from_get_or, Contains-get_or}
+use Rattle.kd_card.proofs.Prelude.{count_by-cons, ◌≡◌, ◌≢◌, ℕ, zero, suc, ◌+◌, ◌-◌, ◌≤◌, nat_eq, cond, List, [], ◌∷◌, ◌++◌, length, get_or, map, zip, replicate, Contains, IsPermutation, count_by, remove, Option, Some, None, ℤ, refl, sym, ap, ◌∙◌, subst, arith, AllByRecursion, AllZip, flat_map, eq-eqb, All-contains, recursion_from_All, sum_by-cons, get_or-le-sum_by, sum_by-IsPermutation, Contains-permutation, IsPermutation-refl, IsPermutation-sym, IsPermutation-cons, IsPermutation-trans, IsPermutation-remove, Place, One, alphabet, reading_of, IsBefore, letters_plugged, cable_letters, plugged_letters, has_letter, SameLetters, IsPaired, IsJoined, AreThePairs, differ, cable_cost, bar_cost, columns_of, tests_tell_letters, thirteen_columns, rules, Contains-append_right, sum_by, Stands, Contains-tail, ◌<◌, Bool, pos, ◌+ℤ◌, ◌≤ℤ◌, ints, length_permutation, All-permutation, Model, reflectors_of, Parts, Rotor, Pin, Setting, model_of, IsMachine, Leads, changed, Day, OfRotors, OfPins, day_model, IsLegalDay, ReadsAs, cost_table, loose_count, PriceParts, Cables, Bars, ArePrices, Fits, AreTight, price_sum, is_priced, priced_count, AreOfKind, IsNeeded, AreNeeded, Same, Expanded, FittingPricesBoundLists, ProvingCardsAreAsLong, ProvingCardsAreShortest, ProvingPricesAreTight, get_or_default, get_or-map, length-zip, get_or-zip, AsFewAreNeeded, why_refused, IsTightAt, column_prices, cost_at, how_many, price_at, row_prices, All-from_get_or, Contains-get_or}
 use Rattle.{kd_state.specs.Costs.standings_as, std.proofs.lemmas.List.Edits.length-remove}
 use Rattle.kd_card.proofs.Duality.{pairing_cost, reordered, fold_of_both, prices_moved, fitting_prices, tight_at, sum_of, prices_with, FitTogether, FitAll}
-use Rattle.kd_card.proofs.Counts.{count_by-cons, times, times-append, AreOnce, once_of_distinct}
+use Rattle.kd_card.proofs.Counts.{times, times-append, AreOnce, once_of_distinct}
 use Rattle.kd_card.proofs.Falling.{HasCables, HasBars, not_differing, machines_have_all, list_keeps, left, lowers, leaves, model_of-changed, nothing_loose}
 use Rattle.kd_tables.specs.declared.{model.Model.TheVariants.M209, reflector.Reflector.Reflector}
 

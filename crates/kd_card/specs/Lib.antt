@@ -1,6 +1,5 @@
 pub mod Kinds
 pub mod Prices
-pub mod Carrying
 pub mod CardText
 pub mod Steps
 pub mod CardFault

@@ -3,7 +3,6 @@
 #![tactic(auto)]
 
 mod card;
-mod carrying;
 mod fault;
 mod group;
 mod kind_text;
@@ -19,7 +18,6 @@ mod rotor_lines;
 mod write;
 
 pub use card::Card;
-pub use carrying::{IllegalAt, carry_all};
 pub use fault::CardFault;
 pub use group::Group;
 pub use kinds::{BarKind, CableKind, PairKind, PricedKind, RowKind};

@@ -1,17 +1,16 @@
 -- The cards and the files of a month.
+use Rattle.kd_desk.proofs.Prelude.{Applies, AreSettings, Carried, Day, DeskFault, Err, FindsDay, Found, IfOk, IsCard}
+use Rattle.kd_desk.proofs.Prelude.{IsLegalDay, IsMachine, IsTrue, LacksMemory, Leads, List, MatchResult, OfCard, Ok}
+use Rattle.kd_desk.proofs.Prelude.{Option, Parts, Port, PriceParts, Result, Setting, Some, [], ap, arith}
+use Rattle.kd_desk.proofs.Prelude.{begins_as_card, day_number, inl, inr, machine_of, refl, subst, sym, ℕ, ◌∙◌, ◌∷◌, ◌≡◌}
 use Rattle.kd_desk.proofs.{Applying.of_read, Days.on_day, Exclusions.one_list, Failing.in_whole, Printing.printed}
-use Rattle.kd_desk.specs.{Laws.MonthsSetTheMachine, Ports.WritesText, RunCard.Prints}
-use Rattle.{kd_desk.specs.RunCard.WritesCard, kd_plan.specs.Planned.Plans, kd_prices.specs.KindCards.IsByKind}
-use Rattle.kd_sheet.specs.{Laws.WrittenFilesAreReadBack, MachineText.machine_text, Sheet.day_of, SheetFile.sheet_of}
-use Rattle.{kd_sheet.specs.declared.fault.SheetFault.SheetFault, kd_tables.specs.declared.model.Model.Model}
-use Rattle.std.proofs.{Common.All, lemmas.List.Elements.All-tail}
-use Rattle.kd_desk.proofs.Prelude.{◌≡◌, ◌⊎◌, ℕ, List, [], ◌∷◌, Option, Some, Result, Ok, Err, IfOk, MatchResult, IsTrue}
-use Rattle.kd_desk.proofs.Prelude.{inl, inr, refl, sym, ap, ◌∙◌, subst, arith, Port, Parts, Setting, IsMachine, Leads}
-use Rattle.kd_desk.proofs.Prelude.{Day, IsLegalDay, day_number, PriceParts, IsCard, machine_of, DeskFault, FindsDay}
-use Rattle.kd_desk.proofs.Prelude.{Found, Applies, Carried, LacksMemory, begins_as_card, AreSettings, OfCard}
-use Rattle.kd_state.proofs.Telling.Refusing.{leads_to_one, lists_keep_machines}
+use Rattle.{kd_desk.proofs.Prelude.◌⊎◌, kd_plan.specs.Planned.Plans, kd_tables.specs.declared.model.Model.Model}
+use Rattle.kd_desk.specs.{Laws.MonthsSetTheMachine, Ports.WritesText, RunCard.{Prints, WritesCard}}
+use Rattle.kd_desk.specs.Month.{AreWritten, HasDayOf, HasPapers, HasPapersInTurn, Papers, SetTheMachine, taken, well}
+use Rattle.{kd_prices.specs.KindCards.IsByKind, kd_state.proofs.Telling.Refusing.{leads_to_one, lists_keep_machines}}
+use Rattle.kd_sheet.specs.{Laws.WrittenFilesAreReadBack, MachineText.machine_text, declared.fault.SheetFault.SheetFault}
+use Rattle.{kd_sheet.specs.{Sheet.day_of, SheetFile.sheet_of}, std.proofs.{Common.All, lemmas.List.Elements.All-tail}}
 use Rattle.kd_card.specs.declared.card.Card as declared
-use Rattle.kd_desk.specs.Month.{Papers, taken, well, AreWritten, SetTheMachine, HasDayOf, HasPapers, HasPapersInTurn}
 
 -- ---- whatever is written sets the machine
 

@@ -1,10 +1,9 @@
 -- What a card that was planned and written promises.
-use Rattle.kd_desk.proofs.Prelude.{◌≡◌, ℕ, List, Result, sym, subst, arith, Parts, IsMachine, Day, IsLegalDay}
-use Rattle.kd_desk.proofs.Prelude.{day_number, PriceParts, IsCard, DeskFault, Port}
+use Rattle.kd_desk.proofs.Prelude.{Day, DeskFault, IsCard, IsLegalDay, IsMachine, List, Parts, Port, PriceParts, Result}
+use Rattle.{kd_desk.proofs.Prelude.{arith, day_number, subst, sym, ℕ, ◌≡◌}, kd_prices.specs.KindCards.IsByKind}
+use Rattle.{kd_desk.specs.{Ports.WritesText, RunCard.{Card, Prints}}, kd_plan.specs.Planned.Plans}
 use Rattle.kd_state.proofs.{Keys.{equally_set, reading_cipher, reading_ready}, Telling.Refusing.lists_keep_machines}
 use Rattle.kd_card.specs.declared.card.Card as declared
-use Rattle.kd_desk.specs.{Ports.WritesText, RunCard.Card, RunCard.Prints}
-use Rattle.{kd_plan.specs.Planned.Plans, kd_prices.specs.KindCards.IsByKind}
 use Rattle.kd_desk.specs.Headline as headline
 
 module _ (m : Parts) (s : Day) (is_machine : IsMachine m) (legal : IsLegalDay s) where

@@ -3,8 +3,7 @@ use Rattle.std.specs.Prelude.{◌≡◌, ℕ, List}
 use Rattle.kd_state.specs.declared.machine.parts.Parts.{Parts}
 use Rattle.kd_state.specs.declared.setting.Setting.{Setting}
 use Rattle.kd_state.specs.declared.setting.why.Why.{Why}
-use Rattle.kd_state.specs.Setting.{Leads}
-use Rattle.kd_card.specs.Carrying.{IsFirstIllegal}
+use Rattle.kd_state.specs.Setting.{IsFirstIllegal, Leads}
 use Rattle.kd_desk.specs.declared.fault.DeskFault.{DeskFault}
 use Rattle.kd_desk.specs.Month.{Papers, AreWrittenInTurn, SetTheMachineInTurn}
 use Rattle.kd_desk.specs.Settings.{AreSettings, IsSettingsFault}

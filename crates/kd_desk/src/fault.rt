@@ -2,12 +2,12 @@ ghost use Rattle.std.specs.Prelude.{◌≡◌};
 ghost use Rattle.kd_desk.specs.Messages.{answer_to_message};
 
 use crate::files::FileFault;
-use kd_card::{CardFault, IllegalAt};
+use kd_card::CardFault;
 use kd_form::FormFault;
 use kd_plan::OtherModel;
 use kd_prices::Doubt;
 use kd_sheet::SheetFault;
-use kd_state::ListFault;
+use kd_state::{IllegalAt, ListFault};
 use kd_tables::Device;
 use std::alloc::AllocError;
 use thiserror::Error;

@@ -7,11 +7,11 @@ ghost use Rattle.kd_desk.specs.Laws.{TextsTellSettings, SettingsHaveNoFault, Set
 ghost use Rattle.kd_desk.specs.Month.{HasDayOf, HasPapers, HasPapersInTurn};
 
 use crate::run_card::in_kinds;
-use kd_card::{carry_all, write_card};
+use kd_card::write_card;
 use kd_plan::plan;
 use kd_sheet::Sheet;
 use kd_sheet::laws::written_files_are_read_back;
-use kd_state::{Entry, Machine, Parts, SheetDay};
+use kd_state::{Entry, Machine, Parts, SheetDay, carry_all};
 use kd_tables::MemorySink;
 
 /// Bytes say one list of settings at most, and if they say one, they have no fault; and they have one at most.

@@ -7,9 +7,8 @@ ghost use Rattle.kd_desk.specs.RunSteps.{LacksMemory, AnswersFault, is_device, i
 
 use crate::fault::DeskFault;
 use crate::list_or_card::read_settings;
-use kd_card::carry_all;
 use kd_sheet::{read_machine, write_machine};
-use kd_state::Machine;
+use kd_state::{Machine, carry_all};
 use kd_tables::Sink;
 use std::alloc::Global;
 

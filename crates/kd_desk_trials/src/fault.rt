@@ -1,4 +1,4 @@
-use kd_card::{CardFault, IllegalAt};
+use kd_card::CardFault;
 use kd_desk::DeskFault::{self, Card, Doubtful, File, Illegal, List, Message};
 use kd_form::FormFault::{
     self, BadHeading, EmptyText, IndicatorSpent, IndicatorsDiffer, KeyNotOnWheel, NotOnKey,
@@ -10,7 +10,7 @@ use kd_sheet::SheetFault::{
     self, BadRow, BadValue, DayTwice, LetterTwice, Missing, NotToml, UnknownModel, WheelNotAllowed,
     WheelTwice,
 };
-use kd_state::{ListFault, Why};
+use kd_state::{IllegalAt, ListFault, Why};
 use std::test::Fail;
 
 /// Each refusal that is printed, and its text: each number, with two places where it speaks of one, each key, and each

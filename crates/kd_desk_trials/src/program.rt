@@ -2,12 +2,11 @@ ghost use Rattle.std.specs.Prelude.{◌≡◌, []};
 
 use crate::memory_files::MemoryFiles;
 use crate::samples::{DAYS, FORM, MACHINE, ORDER, TEXT};
-use kd_card::IllegalAt;
 use kd_desk::Stop::{self, ReadFailed, Refused, Unread, Usage};
 use kd_desk::{Content, DeskFault, Exit, FileFault, Files, run_desk};
 use kd_form::FormFault;
 use kd_sheet::SheetFault::NotToml;
-use kd_state::Why;
+use kd_state::{IllegalAt, Why};
 use kd_tables::{MemorySink, MemorySource, Sink};
 use kd_trials::texts::{EMPTY_KINDS, M1, M1_WRITTEN, M209, NO_SETTINGS, SHEET, UNREADY};
 use std::alloc::{AllocError, Global};

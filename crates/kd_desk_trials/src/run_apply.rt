@@ -1,10 +1,10 @@
 use crate::calls::{Call, Cards, are_judged};
 use crate::run_check::{FAULTY_BARS, FAULTY_CABLES};
 use crate::samples::{CANCELLING, ENIGMA, ONE_BAR, PLUGGED, TWO_BARS};
-use kd_card::{CardFault, IllegalAt};
+use kd_card::CardFault;
 use kd_desk::DeskFault::{Card, Illegal, List};
 use kd_state::ListFault::BadLine;
-use kd_state::Why;
+use kd_state::{IllegalAt, Why};
 use kd_trials::named::TextName::{
     BarKinds, Empty, Higher, M1Written, M4, M209, NoPrices, NoSettings, OneLug, TenCablesWritten,
     TwoCableKinds, TwoCables,

@@ -1,9 +1,8 @@
 -- The Converter's cipher, letter by letter.
-use Rattle.std.proofs.Common.{zero, suc, add-one, ◌≡◌, ℕ, ◌+◌, ◌-◌, ◌%◌, ◌<◌, List, [], ◌∷◌, ◌++◌, length, map, get_or}
-use Rattle.std.proofs.Common.{set, take, drop, All, refl, sym, ap, ◌∙◌, arith, add-zero}
-use Rattle.kd_drum.{proofs.Starts.bars_met_sum, specs.Laws.{CipherInTurn, TwiceGivesBack}}
-use Rattle.std.{proofs.lemmas.List.Elements.All-head, proofs.lemmas.List.Elements.All-tail, specs.List.enumerate_from}
-use Rattle.kd_drum.specs.Converter.{PinKey, bars_met, converter_cipher, pin_key_after}
+use Rattle.std.proofs.Common.{All, List, [], add-one, add-zero, ap, arith, drop, get_or, length, map, refl, set, suc}
+use Rattle.kd_drum.{proofs.Starts.bars_met_sum, specs.Converter.{PinKey, bars_met, converter_cipher, pin_key_after}}
+use Rattle.{kd_drum.specs.Laws.{CipherInTurn, TwiceGivesBack}, std.proofs.lemmas.List.Elements.{All-head, All-tail}}
+use Rattle.std.{proofs.Common.{sym, take, zero, ℕ, ◌%◌, ◌++◌, ◌+◌, ◌-◌, ◌<◌, ◌∙◌, ◌∷◌, ◌≡◌}, specs.List.enumerate_from}
 
 -- what becomes of a letter where so many bars are met
 abbrev pub reversed_by : ℕ → ℕ → ℕ

@@ -1,17 +1,16 @@
 -- What cables do to the letters, pair by pair.
-use Rattle.std.proofs.Common.{◌≡◌, ◌≢◌, ◌⊎◌, ◌↔◌, inl, inr, ℕ, zero, suc, ◌+◌, ◌<◌, Bool, true, false, cond, List, []}
-use Rattle.std.proofs.Common.{◌∷◌, ◌++◌, All, Contains, eqb, length, get_or, set, take, drop, slice_index, refl, sym}
-use Rattle.{std.proofs.Common.{ap, ◌∙◌, subst, arith, rules, ◌≤◌}, kd_enigma.specs.Cipher.IsPlugboard}
-use Rattle.kd_enigma.specs.Laws.{PairsExchange, PairsMakeAPlugboard, SamePairsExchangeAlike}
-use Rattle.{kd_tables.specs.Permutation.{alphabet, exchange, exchanged}, std.proofs.lemmas.Bool.Decides.nat_tests}
-use Rattle.{std.proofs.lemmas.Grind.{common_steps, flat_map-append}, std.proofs.lemmas.List.Elements.All-append}
-use Rattle.{std.proofs.lemmas.List.Elements.{All-cons, All-nil}, std.proofs.lemmas.List.Folds.Any-from_list_any}
-use Rattle.{std.proofs.lemmas.List.Folds.{list_any-append, list_any_at}, std.specs.List.{AllByRecursion, IsDistinct}}
-use Rattle.{std.specs.List.list_any, std.proofs.lemmas.Bool.{cases_Bool, cases_eq, eq-eqb, eqb-true, ne_eqb}}
-use Rattle.{std.proofs.lemmas.Bool.{false_from_ne_true, false≢true}, std.proofs.lemmas.List.{drop_more, length-set}}
-use Rattle.std.proofs.lemmas.List.{map-id, take-append-drop, take_all, take_more}
+use Rattle.std.proofs.Common.{All, Bool, Contains, List, [], ap, arith, cond, drop, eqb, false, get_or, inl, inr}
+use Rattle.std.proofs.Common.{length, refl, rules, set, slice_index, subst, suc, sym, take, true, zero, ℕ, ◌++◌, ◌+◌}
+use Rattle.kd_enigma.{proofs.Ways.each_letter, specs.Plugs.{IsLeft, Joins, NoLetterTwice, letters_plugged}}
+use Rattle.kd_enigma.specs.{Cipher.IsPlugboard, Laws.{PairsExchange, PairsMakeAPlugboard, SamePairsExchangeAlike}}
+use Rattle.kd_tables.specs.Permutation.{alphabet, exchange, exchanged}
+use Rattle.std.proofs.Common.{◌<◌, ◌↔◌, ◌∙◌, ◌∷◌, ◌≡◌, ◌≢◌, ◌≤◌, ◌⊎◌}
+use Rattle.std.proofs.lemmas.Bool.{cases_Bool, cases_eq, eq-eqb, eqb-true, false_from_ne_true, false≢true, ne_eqb}
+use Rattle.std.proofs.lemmas.{Bool.Decides.nat_tests, List.Folds.{Any-from_list_any, list_any-append, list_any_at}}
+use Rattle.std.proofs.lemmas.{Grind.{common_steps, flat_map-append}, List.Elements.{All-append, All-cons, All-nil}}
+use Rattle.std.proofs.lemmas.List.{drop_more, length-set, map-id, take-append-drop, take_all, take_more}
 use Rattle.std.proofs.lemmas.List.FromFn.{fill_by_all, get_or-map-range_with_len, length-map-range_with_len}
-use Rattle.kd_enigma.{specs.Plugs.{IsLeft, letters_plugged, NoLetterTwice, Joins}, proofs.Ways.each_letter}
+use Rattle.std.specs.List.{AllByRecursion, IsDistinct, list_any}
 
 -- ---- the letters of pairs
 

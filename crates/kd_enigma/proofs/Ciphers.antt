@@ -1,11 +1,10 @@
 -- The cipher, letter by letter.
-use Rattle.std.proofs.Common.{zero, ◌≡◌, ℕ, suc, ◌+◌, ◌<◌, List, [], ◌∷◌, ◌++◌, length, map, get_or, set, take, drop}
-use Rattle.std.proofs.Common.{slice_index, All, refl, sym, ap, ◌∙◌, arith, add-zero, add-one, add-suc, rules}
-use Rattle.kd_enigma.specs.Laws.{CipherInTurn, KeyInTurn, TwiceGivesBack}
+use Rattle.std.proofs.Common.{All, List, [], add-one, add-suc, add-zero, ap, arith, drop, get_or, length, map, refl}
+use Rattle.kd_enigma.{proofs.Ways.path_exchanges, specs.Laws.{CipherInTurn, KeyInTurn, TwiceGivesBack}}
+use Rattle.kd_enigma.specs.Cipher.{IsPlugboard, RotorKey, enigma_cipher, key_after, key_turned, path}
 use Rattle.{kd_step.specs.Stepper.{next_window, window_after}, kd_tables.specs.declared.wheel.Wheel.Wheel}
-use Rattle.{std.proofs.lemmas.List.Elements.{All-head, All-tail}, std.specs.List.enumerate_from}
-use Rattle.kd_enigma.specs.Cipher.{RotorKey, IsPlugboard, key_turned, key_after, path, enigma_cipher}
-use Rattle.kd_enigma.proofs.Ways.{path_exchanges}
+use Rattle.std.proofs.Common.{rules, set, slice_index, suc, sym, take, zero, ℕ, ◌++◌, ◌+◌, ◌<◌, ◌∙◌, ◌∷◌, ◌≡◌}
+use Rattle.std.{proofs.lemmas.List.Elements.{All-head, All-tail}, specs.List.enumerate_from}
 
 -- what lights up for a letter after so many steps, and the cipher of a text that begins so many steps after the key
 abbrev lit : RotorKey → ℕ → ℕ → ℕ

@@ -1,14 +1,12 @@
 -- The way around through the wheels as they sit, slot by slot, and the path that it makes.
-use Rattle.std.proofs.Common.{◌≡◌, ℕ, zero, suc, ◌+◌, ◌-◌, ◌<◌, if◌then◌else◌, ltb, List, [], ◌∷◌, length, take, get_or}
-use Rattle.std.proofs.Common.{refl, ap, ◌∙◌, arith, rules}
-use Rattle.kd_enigma.specs.{Around.SeatedWheel, Around.around, Around.boarded, Cipher.IsPlugboard, Cipher.RotorKey}
-use Rattle.kd_enigma.specs.{Cipher.rotors, Rotor.rotor, Wired.IsWired, Wired.seats, Wired.slow}
-use Rattle.kd_tables.proofs.Products.{inverse_permutes, product_permutes, shift_permutes}
-use Rattle.kd_tables.specs.{Tables.reflector_of, declared.wheel.Wheel.Wheel}
-use Rattle.std.proofs.lemmas.{Bool.Decides.nat_tests, List.take_all}
-use Rattle.kd_tables.specs.Permutation.{alphabet, followed_by, shift, IsPermutation26}
-use Rattle.kd_enigma.proofs.Ways.{Exchanges, enclosed, nested, grouped, product-size, nothing_before, nothing_after}
-use Rattle.kd_enigma.proofs.Ways.{rotor_permutes, reflectors_exchange, wheel_exchanges, path_is}
+use Rattle.kd_enigma.proofs.Ways.{Exchanges, enclosed, grouped, nested, nothing_after, nothing_before, path_is}
+use Rattle.std.proofs.Common.{List, [], ap, arith, get_or, if◌then◌else◌, length, ltb, refl, rules, suc, take, zero, ℕ}
+use Rattle.kd_enigma.proofs.Ways.{product-size, reflectors_exchange, rotor_permutes, wheel_exchanges}
+use Rattle.kd_enigma.specs.{Around.{SeatedWheel, around, boarded}, Cipher.{IsPlugboard, RotorKey, rotors}, Rotor.rotor}
+use Rattle.kd_enigma.specs.Wired.{IsWired, seats, slow}
+use Rattle.kd_tables.{proofs.Products.{inverse_permutes, product_permutes, shift_permutes}, specs.Tables.reflector_of}
+use Rattle.kd_tables.specs.{Permutation.{IsPermutation26, alphabet, followed_by, shift}, declared.wheel.Wheel.Wheel}
+use Rattle.std.proofs.{Common.{◌+◌, ◌-◌, ◌<◌, ◌∙◌, ◌∷◌, ◌≡◌}, lemmas.{Bool.Decides.nat_tests, List.take_all}}
 
 -- one wheel more around the core
 pub around_more : (core : List ℕ) (seated : List SeatedWheel) (window : List ℕ) (slot : ℕ) (s : SeatedWheel) (letter : ℕ) → slot < length seated → length seated ≡ length window

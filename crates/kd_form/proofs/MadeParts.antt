@@ -1,9 +1,8 @@
 -- How a part of a form is made: ciphers and their letters, the internal key, and the letters in groups.
 pub use Rattle.kd_form.proofs.Prelude.{common_steps, ◌≡◌, ◌∙◌, ℕ, ◌<◌, List, [], ◌∷◌, length, get_or, arith, All, slice_index, enumerate_from, get_or-eq_default, cases_lt, length-map, All-get_or, All-from_get_or, All-map, Day, OfRotors, OfPins, cipher_from, ◌≢◌, suc, ◌+◌, ◌≤◌, inl, inr, ◌++◌, map, refl, ap, subst, append_assoc, length-append, slice_get, Some, Contains, cases_eq, append-nil, map_push, ComesFirst, ArePicked, IsInternalKey, HaveRunOut, IsTakenInTurn, OnWheel, OffWheel, ◌-◌, ◌%◌, take, drop, sym, length-drop, add-one, min, replicate, codes, decimal, Option, option_map, div_ceil, join_with_byte, div-eq_of_lt, mod-eq_of_lt, take_min, drop_min, length-replicate, Heading, fraction, indicator_words, heading_words, pieces, behind_spaces, with_line, Part, pin_day, IsLegalDay, Keys, Rotor, Pin, PinKeys, Indicator, Suits, rotor_letters, enciphered_choice, pin_letters, list_letters, IsMade, part_size, pin_indicators, filled, sheet_key, IsWindow, take-append_seam, drop-append_seam, HasIndicator, message_key, HasIndicatorsAround, group_in, keys_in, list_in, text_in, SaysLetters, Ok, All-append, All-cons, All-replicate, twice_on_key, IsFraction, IsHeading, sent_letters, AreKeys, nat_tests, AreRising}
-use Rattle.std.proofs.lemmas.List.FromFn.{length-enumerate_from, length-range_with_len, get_or-range_with_len}
-use Rattle.kd_tables.specs.{Permutation.alphabet, Permutation.followed_by, Rings.ring_of}
-use Rattle.kd_enigma.specs.Cipher.{product, path}
-use Rattle.{kd_state.specs.TwoCiphers.{EngineKey, key_left, key_with_window}, kd_form.specs.Making.IsTurnedFrom}
+use Rattle.{kd_enigma.specs.Cipher.{path, product}, kd_state.specs.TwoCiphers.{EngineKey, key_left, key_with_window}}
+use Rattle.{kd_form.specs.Making.IsTurnedFrom, kd_tables.specs.{Permutation.{alphabet, followed_by}, Rings.ring_of}}
+use Rattle.std.proofs.lemmas.List.FromFn.{get_or-range_with_len, length-enumerate_from, length-range_with_len}
 
 pub enciphered_length : (s : Day) (window text : List ℕ) → length (cipher_from s window text) ≡ length text
 enciphered_length s window text = grind (arith, length-map, length-enumerate_from)

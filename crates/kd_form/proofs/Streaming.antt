@@ -1,9 +1,8 @@
 -- Bytes that are fed one after another, reads that follow one another, and texts that are typed so.
 pub use Rattle.kd_form.proofs.Prelude.{err_is, append-nil, take-append-drop, AtSource, InFeeding, IsStopped, [], ◌≡◌, ℕ, ◌+◌, ◌-◌, ◌≤◌, ◌<◌, Bool, true, false, ◌||◌, List, ◌++◌, Option, Some, Result, Ok, Err, length, take, drop, IsTrue, refl, sym, ap, subst, ◌∙◌, append_assoc, length-append, length-drop, arith, Appends, Consumes, Keeps, IsAtEnd, starts_with_of_append, read_limit, Port, IsWell, Ends, TakesFront, FormFault, Message, ByThen, ByTheEnd, Answers, Whole, Stands, AtEnd, SinkFails, IsStreamed, FallsShort, ClosesAt, Held, HasRoom, IsFed, FeedsAll, EndsIn, ClosesAs, IsRead, ReadsNext, fault_of, answer_to, stops_at_device, length-take-le, ◌∷◌, IsFalse, get_or, suc, drop-cons, map-append, take_all, All-append, filter_map-append, is_text_byte, Parts, cipher_in_turn, engine_cipher, cipher, physical_cipher, BadByte, IsRefused, cipher_text, texts, IsTextFault, Lights, IsAllowedTo, IsTypedTo, take_more, rules, TooLong, port, All-nil, letters_text, typed_letters, false≢true, NotReady, Off}
 pub use Rattle.std.proofs.KnownBytes.{Consumes-nil, Consumes-kept, Consumes-trans, Appends-nil, Appends-trans, starts_with_rest}
-use Rattle.kd_form.specs.declared.{stream.stop.Stop.Stop, typing.Typist.Typist}
-use Rattle.kd_form.specs.StreamSteps.{Ends as MessageEnds}
-use Rattle.{std.specs.Io.StartsWith, kd_form.proofs.OneOrder.{bad_behind, no_bad_byte}}
+use Rattle.{kd_form.proofs.OneOrder.{bad_behind, no_bad_byte}, std.specs.Io.StartsWith}
+use Rattle.kd_form.specs.{StreamSteps.Ends as MessageEnds, declared.{stream.stop.Stop.Stop, typing.Typist.Typist}}
 use Rattle.kd_form.specs.declared.stream.stop.Stop.TheVariants as stops
 
 -- what is known of a port, in its order

@@ -1,8 +1,7 @@
 -- A wheel has each letter at most once, and so no more than there are.
-use Rattle.std.proofs.Common.{◌≡◌, ℕ, ◌<◌, ◌≤◌, true, eqb, List, [], ◌∷◌, All, ◌⊎◌, inl, inr, sym, subst, arith}
-use Rattle.std.proofs.lemmas.{Bool.eqb-true, Bool.false≢true, Bool.or_cases, List.Elements.All-head}
-use Rattle.std.{proofs.lemmas.{List.Elements.All-tail, Map.Steps.length-le_from_distinct_below}, specs.List.list_any}
-use Rattle.kd_tables.specs.Rings.{IsRing}
+use Rattle.{kd_tables.specs.Rings.IsRing, std.{proofs.lemmas.List.Elements.{All-head, All-tail}, specs.List.list_any}}
+use Rattle.std.proofs.Common.{All, List, [], arith, eqb, inl, inr, subst, sym, true, ℕ, ◌<◌, ◌∷◌, ◌≡◌, ◌≤◌, ◌⊎◌}
+use Rattle.std.proofs.lemmas.{Bool.{eqb-true, false≢true, or_cases}, Map.Steps.length-le_from_distinct_below}
 
 -- a number among numbers below 26 is below 26
 among : (letters : List ℕ) (q : ℕ) → All (λ letter. letter < 26) letters → list_any (eqb q) letters ≡ true → q < 26

@@ -1,20 +1,18 @@
 -- The planned lines of a pairing, what they cost, and the card that is made of them.
 pub mod Moving
 unfoldable pub use Moving.*
-use Rattle.kd_assign.specs.{Assignment.{IsOneToOne, assignment_cost}, Prices.{CostsAtMost, Fits, cost_at, price_at}}
-use Rattle.kd_assign.specs.Prices.{price_sum, sum_of}
-use Rattle.kd_card.proofs.Shortest.{no_rotors, as_few_are_needed, proving_cards_are_shortest}
-use Rattle.kd_card.proofs.Duality.{fold_of_both, sum_of as card_sum}
 use Rattle.std.proofs.lemmas.List.Sorted.{IsPermutation-cons, IsPermutation-map, IsPermutation-refl}
-use Rattle.std.proofs.lemmas.List.{Sorted.{IsPermutation-remove, IsPermutation-trans}, Edits.length-remove}
-use Rattle.std.proofs.lemmas.{Map.Made.Contains-tail, List.get_or-replicate, Int.ints}
-use Rattle.std.proofs.{lemmas.List.Elements.{All-append, All-replicate}, Common.{pos, remove, ℤ, ◌+ℤ◌, ◌≤ℤ◌}}
-use Rattle.kd_card.specs.Prices.{ArePrices, column_prices, how_many, row_prices}
-use Rattle.kd_card.specs.{declared.prices.PriceParts.PriceParts, Proving.{AreOfKind, Proves, Same}}
+use Rattle.{kd_assign.specs.Assignment.{IsOneToOne, assignment_cost}, std.proofs.Common.{pos, remove, ℤ, ◌+ℤ◌, ◌≤ℤ◌}}
+use Rattle.kd_assign.specs.Prices.{CostsAtMost, Fits, cost_at, price_at, price_sum, sum_of}
+use Rattle.kd_card.{proofs.Duality.{fold_of_both, sum_of as card_sum}, specs.declared.prices.PriceParts.PriceParts}
+use Rattle.kd_card.proofs.Shortest.{as_few_are_needed, no_rotors, proving_cards_are_shortest}
+use Rattle.kd_card.specs.{Prices.{ArePrices, column_prices, how_many, row_prices}, Proving.{AreOfKind, Proves, Same}}
 use Rattle.kd_plan.specs.Due.{prices_due}
 use Rattle.kd_plan.specs.{Laws.{PlannedCardsProve, PlannedLinesLead}, Planned.{IsPlanned, Plans, table_size}}
+use Rattle.kd_state.{proofs.CostTable.{at_most_four, bar_cost_at_most, thirteen_columns}, specs.Machine.model_of}
 use Rattle.kd_state.specs.{Costs.{bar_costs, cable_costs, cost_table}, SheetDay.{Day, IsLegalDay, day_model}}
-use Rattle.kd_state.{proofs.CostTable.{at_most_four, thirteen_columns}, specs.Machine.model_of}
+use Rattle.std.proofs.lemmas.{Int.ints, List.{Edits.length-remove, Sorted.{IsPermutation-remove, IsPermutation-trans}}}
+use Rattle.std.proofs.lemmas.{List.{Elements.{All-append, All-replicate}, get_or-replicate}, Map.Made.Contains-tail}
 
 -- as many different ones of some numbers as there are, are all of them in another order
 reordered : (js xs : List ℕ) → AllPairs (λ j k. j ≢ k) js → All (Contains xs) js → length js ≡ length xs
@@ -42,13 +40,6 @@ paired d xs to size h =
     (omega arith) in
     subst (λ all. IsPermutation all (map (λ j. get_or xs j d) to)) (sym (fill_by_all (λ j. get_or xs j d) xs (length xs) d refl (λ k lt. refl)))
     (IsPermutation-map (λ j. get_or xs j d) places to order)
-
-least_at_most : (n : ℕ) (xs : List ℕ) → fold min n xs ≤ n
-least_at_most n [] = omega arith
-least_at_most n (x ∷ xs) = omega (arith, least_at_most (min n x) xs)
-
-bar_cost_at_most : (bar : Place × Place) (row : ℕ × ℕ) → bar_cost bar row ≤ 2
-bar_cost_at_most bar row = omega (arith, least_at_most 2 (map (lugs_moved bar) (standings_as row)))
 
 -- what a pairing costs, by the table
 pub table_cost : {A B : Type 0} (cost : A → B → ℕ) (columns : List B) (d : B) (all : List A) (to : List ℕ) → length all ≡ length to

@@ -1,6 +1,6 @@
 -- A card that proves itself is in no doubt, and a card is in one doubt at most.
 use Rattle.kd_prices.proofs.Prelude.{◌≡◌, ℕ, List, [], ◌∷◌, ◌++◌, length, refl, sym, ap, ◌∙◌, subst, arith, ◌↔◌, cases_order, false≢true, Parts, Setting, Why, why_refused, Leads, Day, cost_table, leads_to_one, PriceParts, AreNeeded, Proves, IllegalAt, NeedlessLine, IsFirstWithout, IsFirstNeedless, Result, Ok, Err, IsOk, IfErr, Found, IsOnly, only_then, only_finds, only_demands, passed}
-use Rattle.{kd_card.specs.Carrying.IsFirstIllegal, kd_prices.proofs.Leading.needed_at}
+use Rattle.{kd_state.specs.Setting.IsFirstIllegal, kd_prices.proofs.Leading.needed_at}
 use Rattle.kd_prices.proofs.{Leading.not_refused, Meaning.are_numbered, Meaning.of_one_model, Meaning.one_expansion}
 use Rattle.kd_prices.specs.{declared.doubt.Doubt.Doubt, Doubt.{SaysCarried, SaysFits, SaysNeeded, SaysChecked, IsDoubt}}
 

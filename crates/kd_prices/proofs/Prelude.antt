@@ -9,7 +9,6 @@ pub use Rattle.std.proofs.lemmas.List.Elements.{All-cons, All-contains_itself, A
 pub use Rattle.std.proofs.lemmas.Option.{slice_get-get_or, slice_get_past, unwrap_or-slice_get}
 pub use Rattle.std.specs.{List.{All, AllByRecursion}, Prelude.{drop, map, take, ◌↔◌, Err, IfErr, IsOk, Ok, Result}}
 pub use Rattle.kd_card.proofs.{KindPrices.{few_kinds, size_of}, KindWords.{low_rank, ranks_tell_looks}}
-pub use Rattle.kd_card.proofs.Leading.{leads_join, leads_next, stops_at}
 pub use Rattle.kd_card.specs.CardText.{column_name, group_of, price_count, row_name}
 pub use Rattle.kd_card.specs.Kinds.{AreCalled, AreEnds, AreKinds, IsInForm, IsPricedKind, counted, look_name, look_rank}
 pub use Rattle.kd_card.proofs.Shortest.{no_rotors, proving_cards_are_shortest, proving_prices_are_tight}
@@ -26,7 +25,7 @@ pub use Rattle.kd_prices.specs.KindCards.{AreAlikePriced, AreByKind, AreKindsOf,
 pub use Rattle.kd_prices.specs.Laws.{AlikePricesAreEqual, AreEqualWhereAlike, RestIsShortest}
 pub use Rattle.kd_prices.specs.declared.doubt.Doubt.TheVariants.{IllegalAt, NeedlessLine, NotTheSheet, OtherModel, PriceMissing, PriceTooHigh, SumDiffers}
 pub use Rattle.kd_state.specs.Costs.{bar_cost, cable_cost, columns_of, cost_table}
-pub use Rattle.kd_state.proofs.{CostTable.{columns_are_the_pairs, tests_tell_letters, thirteen_columns}, Telling.Refusing.leads_to_one}
+pub use Rattle.kd_state.proofs.{Cables.tests_tell_letters, CostTable.{columns_are_the_pairs, thirteen_columns}, Telling.Refusing.{leads_join, leads_next, leads_to_one, stops_at}}
 pub use Rattle.kd_state.specs.Machine.{IsMachine, cable_letters, ordered, plugged_letters}
 pub use Rattle.kd_state.specs.{OnKey.{ReadsAs, SameLetters}, OneModel.AreParted, Setting.{Leads, changed, why_refused}}
 pub use Rattle.kd_state.specs.{SheetDay.{Day, IsLegalDay, OfPins, OfRotors}, declared.machine.parts.Parts.Parts}

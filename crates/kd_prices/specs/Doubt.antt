@@ -4,7 +4,7 @@ use Rattle.std.specs.Prelude.{◌≡◌, ◌⊎◌, ℕ, ◌+◌, ◌<◌, List,
 use Rattle.kd_state.specs.declared.machine.parts.Parts.{Parts}
 use Rattle.kd_state.specs.declared.setting.Setting.{Setting}
 use Rattle.kd_state.specs.Machine.{model_of}
-use Rattle.kd_state.specs.Setting.{Leads}
+use Rattle.kd_state.specs.Setting.{IsFirstIllegal, Leads}
 use Rattle.kd_state.specs.SheetDay.{Day, day_model}
 use Rattle.kd_state.specs.OnKey.{ReadsAs}
 use Rattle.kd_state.specs.Costs.{cost_table}
@@ -12,7 +12,6 @@ use Rattle.kd_card.specs.declared.prices.PriceParts.{PriceParts}
 use Rattle.kd_card.specs.Steps.{Says, ◌>>=◌, Finds, Demands}
 use Rattle.kd_card.specs.Prices.{Fits, FitsAt, how_many, price_sum}
 use Rattle.kd_card.specs.CardText.{group_of}
-use Rattle.kd_card.specs.Carrying.{IsFirstIllegal}
 use Rattle.kd_card.specs.Proving.{AreOfKind, Expands, group_of_machine, IsNeeded, AreNeeded, priced_count}
 use Rattle.kd_prices.specs.declared.doubt.Doubt.{Doubt}
 use Rattle.kd_prices.specs.declared.doubt.Doubt.TheVariants.{OtherModel, PriceMissing, IllegalAt, NotTheSheet, PriceTooHigh, SumDiffers, NeedlessLine}

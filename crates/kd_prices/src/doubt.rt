@@ -1,5 +1,4 @@
-use kd_card::IllegalAt;
-use kd_state::Why;
+use kd_state::{IllegalAt, Why};
 use thiserror::Error;
 
 /// Why a card doesn't prove itself. Lines are the settings, counted from 1.

@@ -18,7 +18,7 @@ pub(crate) struct Walk {
 }
 
 /// Carries the settings out, one after another, and judges each by what is loose before it and after it.
-#[tactic(auto, using(kd_card::proofs::Leading::stops_at))]
+#[tactic(auto, using(kd_state::proofs::Telling::Refusing::stops_at))]
 pub(crate) fn walked(machine: &Machine, day: &SheetDay, settings: &[Setting]) -> Result<Walk, Doubt>
     requires { model_of machine.now ≡ day_model day.now }
     ensures leads { IfOk result (λ walk. Leads machine.now settings.now walk.reached) }

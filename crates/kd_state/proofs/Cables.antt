@@ -10,8 +10,8 @@ use Rattle.kd_state.proofs.Prelude.{IsPermutation-refl, IsPermutation-trans, non
 use Rattle.kd_state.proofs.Prelude.{All, AllByRecursion, is_none, option_map_or, Contains, List, None, Option, Some, []}
 use Rattle.kd_state.proofs.Prelude.{ap, arith, drop, false, filter_map, get_or, length, map, nat_eq, not, refl, rules}
 use Rattle.kd_state.proofs.Prelude.{set, slice_get, suc, true, zero, ℕ, ◌++◌, ◌+◌, ◌<◌, ◌↔◌, ◌∙◌, ◌∷◌, ◌≡◌, ◌≢◌}
-use Rattle.kd_state.proofs.Prelude.{IsDistinct, IsPermutation, ◌&&◌}
-use Rattle.{kd_state.proofs.CostTable.tests_tell_letters, std.proofs.Common.Any}
+use Rattle.kd_state.proofs.Prelude.{IsDistinct, IsPermutation, TestsTellLetters, both_ways, sym, ◌&&◌}
+use Rattle.{kd_state.proofs.Slots.has_letter-Decides, std.proofs.Common.Any}
 use Rattle.kd_enigma.specs.Plugs as plugs
 
 pub eqb_flips : (x y : ℕ) → nat_eq x y ≡ nat_eq y x
@@ -21,6 +21,16 @@ eqb_flips x y = grind (arith, nat_tests)
 pub free_tells : (letters : List ℕ) (letter : ℕ) → (has_letter letters letter ≡ false) ↔ AllByRecursion (λ other. nat_eq letter other ≡ false) letters
 free_tells [] letter = (λ _. tt, λ _. refl)
 free_tells (other ∷ letters) letter = grind (arith, or_parts, or_from, eqb_flips, free_tells letters letter)
+
+-- letters are told by the tests that hold of them
+pub tests_tell_letters : TestsTellLetters
+tests_tell_letters xs ys = (
+  λ same letter. grind (arith, same letter, has_letter-Decides xs letter, has_letter-Decides ys letter, both_ways),
+  λ alike letter. (
+    λ c. (has_letter-Decides ys letter).0 (sym (alike letter) ∙ (has_letter-Decides xs letter).1 c),
+    λ c. (has_letter-Decides xs letter).0 (alike letter ∙ (has_letter-Decides ys letter).1 c),
+  ),
+)
 
 -- letters that are new before others
 pub new_tells : (letters others : List ℕ) → IsDistinct nat_eq (letters ++ others) ↔ ((are_new letters others ≡ true) × IsDistinct nat_eq others)

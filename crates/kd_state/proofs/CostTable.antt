@@ -1,14 +1,18 @@
 -- What it costs to make of a cable a pair and of a bar a row: letters that are counted, columns, and the standings of a row.
-use Rattle.kd_state.proofs.Prelude.{bar_cost, cable_cost, columns_of, differ, ColumnsAreThePairs, CostTablesAreSquare}
-use Rattle.kd_state.proofs.Prelude.{TestsTellLetters, ThirteenColumns, has_letter, OfPins, OfRotors, Pin, Rotor}
-use Rattle.kd_state.proofs.Prelude.{alphabet, IsReading, le-leb, length-append, length-map, length-replicate, All-map}
-use Rattle.kd_state.proofs.Prelude.{All-nil, sum_by_more, All, count_by, range_with_len, Bool, List, None, Option, Some}
-use Rattle.kd_state.proofs.Prelude.{[], ap, arith, get_or, length, map, nat_eq, refl, rules, slice_get, suc, sym, zero}
-use Rattle.kd_state.proofs.Prelude.{ℕ, ◌++◌, ◌+◌, ◌-◌, ◌<◌, ◌∙◌}
-use Rattle.kd_state.proofs.{Prelude.{◌∷◌, ◌≡◌, ◌≢◌, ◌≤◌, common_steps, take}, Slots.has_letter-Decides}
-use Rattle.kd_state.{proofs.SortedAlike.{count_by-cons, once}, specs.Costs.{across, place_at, standings_as}}
-use Rattle.{kd_tables.specs.declared.place.Place.TheVariants.{ZeroLeft, ZeroRight}, std.proofs.Common.replicate}
-use Rattle.{std.proofs.lemmas.List.FromFn.get_or-range_with_len, std.specs.Cmp.both_ways, std.specs.Prelude.nat_le}
+use Rattle.kd_state.proofs.Prelude.{All, All-map, All-nil, AllByRecursion, AllPass-from_list_all, Bool}
+use Rattle.kd_state.proofs.Prelude.{ColumnsAreThePairs, CostTablesAreSquare, IsBefore, IsDistinct, IsReading, List, None, OfPins}
+use Rattle.kd_state.proofs.Prelude.{OfRotors, Option, Pin, Place, Rotor, Some, ThirteenColumns, [], alphabet, ap, arith}
+use Rattle.kd_state.proofs.Prelude.{bar_cost, cable_cost, cable_letters, cases_eq, column_letters, columns_of}
+use Rattle.kd_state.proofs.Prelude.{common_steps, count_by, differ, find, get_or, has_letter, inl, inr, le-leb, length}
+use Rattle.kd_state.proofs.Prelude.{length-append, length-map, length-replicate, letters_plugged, ltb-true, map, nat_eq}
+use Rattle.kd_state.proofs.Prelude.{nat_tests, option_to_list, range_with_len, recursion_from_All, refl, rules}
+use Rattle.kd_state.proofs.Prelude.{slice_get, suc, sum_by-cons, sum_by_more, sym, take, true, unwrap_or, zero, ℕ, ◌&&◌}
+use Rattle.kd_state.proofs.{Cables.free_tells, Prelude.{◌++◌, ◌+◌, ◌-◌, ◌<◌, ◌||◌, ◌∙◌, ◌∷◌, ◌≡◌, ◌≢◌, ◌≤◌}}
+use Rattle.kd_state.proofs.SortedAlike.{count_by-cons, once}
+use Rattle.kd_state.specs.Costs.{across, lugs_moved, nearest_standing, place_at, reads_as_row, standings_as}
+use Rattle.kd_tables.specs.{Places.{place_rank, standings}, declared.place.Place.TheVariants.{ZeroLeft, ZeroRight}}
+use Rattle.std.{proofs.Common.{cond, fold, min, nat_lt, replicate, sum_by}, specs.Prelude.nat_le}
+use Rattle.std.proofs.lemmas.List.{Elements.{All-filter, filter_passes}, FromFn.get_or-range_with_len}
 
 -- ---- how many letters of the alphabet lie in lists of letters
 
@@ -39,10 +43,52 @@ at_most_all : (letters : List ℕ) → count_by (has_letter letters) alphabet �
 at_most_all [] = omega arith
 at_most_all (letter ∷ letters) = search (rules, le-leb, counted_once, at_most_all letters)
 
+-- letters of the alphabet, none of them twice
+pub record AreProper (letters : List ℕ) : Type 0 where
+  pub apart : IsDistinct nat_eq letters
+  pub within : AllByRecursion (λ x. x < 26) letters
+
+pub proper : (letters : List ℕ) → IsDistinct nat_eq letters → All (λ x. x < 26) letters → AreProper letters
+proper letters apart within = record { apart = apart; within = recursion_from_All (λ x. x < 26) letters within }
+
+pub cable_parts : (cable : Option ℕ × Option ℕ) (letters : List ℕ) → AreProper (cable_letters cable ++ letters)
+    → AreProper (cable_letters cable) × AreProper letters
+unfolding IsDistinct
+cable_parts cable letters h = grind arith
+
+pub pair_proper : (pairs : List (ℕ × ℕ)) (k : ℕ) → AreProper (letters_plugged pairs) → AreProper (column_letters (slice_get pairs k))
+unfolding IsDistinct
+pair_proper [] k h = h
+pair_proper (pair ∷ pairs) k h = grind (arith, pair_proper pairs)
+
+pub sums_add : {X : Type 0} (f g h : X → ℕ) → ((x : X) → f x + g x ≡ h x) → (xs : List X)
+    → sum_by f xs + sum_by g xs ≡ sum_by h xs
+sums_add f g h e [] = refl
+sums_add f g h e (x ∷ xs) = simp sum_by-cons (omega (arith, e x, sums_add f g h e xs))
+
+-- of the alphabet, as many pass a test and are among these as pass it of these
+once_among : (p : ℕ → Bool) (x first number : ℕ) → count_by (λ y. nat_eq x y && p y) (range_with_len first number)
+    ≡ cond (nat_le first x && (nat_lt x (first + number) && p x)) 1 0
+once_among p x first zero = grind (arith, nat_tests)
+once_among p x first (suc number) =
+    let more = count_by-cons (λ y. nat_eq x y && p y) first (range_with_len (first + 1) number) in
+    grind (arith, nat_tests, more, once_among p x (first + 1) number)
+
+pub counted_among : (p : ℕ → Bool) (xs : List ℕ) → AreProper xs → count_by (λ y. has_letter xs y && p y) alphabet ≡ count_by p xs
+unfolding IsDistinct
+counted_among p [] h = refl
+counted_among p (x ∷ xs) h =
+    let none = (free_tells xs x).1 h.apart.0 in
+    let first : count_by (λ y. nat_eq x y && p y) alphabet ≡ once (p x) = once_among p x 0 26 ∙ grind (arith, nat_tests, h.within.0) in
+    let rest = counted_among p xs (record { apart = h.apart.1; within = h.within.1 }) in
+    let both = sums_add (λ y. once (nat_eq x y && p y)) (λ y. once (has_letter xs y && p y))
+    (λ y. once ((nat_eq x y || has_letter xs y) && p y)) (λ y. grind (arith, nat_tests)) alphabet in
+    omega (arith, first, rest, both, count_by-cons p x xs)
+
 pub at_most_four : (cable : Option ℕ × Option ℕ) (column : Option (ℕ × ℕ)) → cable_cost cable column ≤ 4
 at_most_four cable column = grind (arith, joined_counts, differ_fits, at_most_all)
 
--- ---- a day's pairs, and then nothings; and letters by the tests that hold of them
+-- ---- a day's pairs, and then nothings
 
 nothings : (number place : ℕ) → get_or (replicate {A = Option (ℕ × ℕ)} number None) place None ≡ None
 nothings zero place = refl
@@ -57,15 +103,6 @@ columns_are_the_pairs pairs place = pairs_at pairs (13 - length pairs) place
 
 pub thirteen_columns : ThirteenColumns
 thirteen_columns pairs few = simp (length-append, length-map, length-replicate) (omega arith)
-
-pub tests_tell_letters : TestsTellLetters
-tests_tell_letters xs ys = (
-  λ same letter. grind (arith, same letter, has_letter-Decides xs letter, has_letter-Decides ys letter, both_ways),
-  λ alike letter. (
-    λ c. (has_letter-Decides ys letter).0 (sym (alike letter) ∙ (has_letter-Decides xs letter).1 c),
-    λ c. (has_letter-Decides xs letter).0 (alike letter ∙ (has_letter-Decides ys letter).1 c),
-  ),
-)
 
 -- ---- the table of costs is square
 
@@ -101,3 +138,48 @@ pub one_zero : (row : ℕ × ℕ) → row.0 ≡ 0 → 1 ≤ row.1 → row.1 ≤ 
 unfolding standings_as
 one_zero (zero, suc (suc (suc (suc (suc (suc zero)))))) none first last = refl
 one_zero row none first last = first_of (search rules, omega arith)
+
+-- ---- where a bar is to stand: a standing that reads as the row with no more lugs moved than must be
+
+pub at_most_two : (bar standing : Place × Place) → lugs_moved bar standing ≤ 2
+at_most_two bar standing = grind (arith, common_steps)
+
+least_at_most : (n : ℕ) (xs : List ℕ) → fold min n xs ≤ n
+least_at_most n [] = omega arith
+least_at_most n (x ∷ xs) = omega (arith, least_at_most (min n x) xs)
+
+pub bar_cost_at_most : (bar : Place × Place) (row : ℕ × ℕ) → bar_cost bar row ≤ 2
+bar_cost_at_most bar row = omega (arith, least_at_most 2 (map (lugs_moved bar) (standings_as row)))
+
+-- a standing of the row
+abbrev pub IsOfRow : ℕ × ℕ → Place × Place → Type 0
+IsOfRow row x = IsBefore x.0 x.1 × (reads_as_row row x ≡ true)
+
+of_row : (row : ℕ × ℕ) → All (IsOfRow row) (standings_as row)
+unfolding standings_as
+of_row row k d lt =
+    let before = λ (x : Place × Place). nat_lt (place_rank x.0) (place_rank x.1) in
+    let all = AllPass-from_list_all before standings refl in
+    (ltb-true _ _ (All-filter (reads_as_row row) (λ x. before x ≡ true) standings all k d lt), filter_passes (reads_as_row row) standings k d lt)
+
+-- a row has one standing, or two
+nearest : (bar x : Place × Place) (more : Option (Place × Place)) (xs : List (Place × Place)) (P : Place × Place → Type 0)
+    → xs ≡ x ∷ option_to_list more → AllByRecursion P xs
+    → let least = fold min 2 (map (lugs_moved bar) xs) in
+    let target = unwrap_or (find (λ y. nat_eq (lugs_moved bar y) least) xs) bar in
+    P target × (lugs_moved bar target ≡ least)
+nearest bar x None xs P e h = grind (arith, nat_tests, at_most_two bar x)
+nearest bar x (Some y) xs P e h = grind (arith, nat_tests, at_most_two bar x, at_most_two bar y)
+
+pub nearest_is : (bar : Place × Place) (row : ℕ × ℕ) → IsReading row
+    → let target = unwrap_or (nearest_standing bar row) bar in
+    IsOfRow row target × (lugs_moved bar target ≡ bar_cost bar row)
+nearest_is bar row h =
+    let all = recursion_from_All (IsOfRow row) (standings_as row) (of_row row) in
+    elim (cases_eq row.1 0) [
+      | inl e ↦ nearest bar _ None (standings_as row) (IsOfRow row) (zeros row h.ordered e) all
+      | inr some ↦ elim (cases_eq row.0 0) [
+        | inl e ↦ nearest bar _ (Some _) (standings_as row) (IsOfRow row) (one_zero row e (omega arith) h.within) all
+        | inr other ↦ nearest bar _ None (standings_as row) (IsOfRow row) (no_zero row h other) all
+      ]
+    ]

@@ -1,20 +1,19 @@
 -- The key of a machine that is on the key of a day, and its cipher.
-use Rattle.kd_state.proofs.Prelude.{PinKey, acts_after, bars_met, converter_cipher, CipherInTurn, EngineIsTheMachine}
-use Rattle.kd_state.proofs.Prelude.{EquallySetDecipher, KeyInTurn, OnKeyIsItsCipher, OnKeyIsReady, ReadingIsItsCipher}
-use Rattle.kd_state.proofs.Prelude.{ReadingIsReady, TheDayDeciphersItself, TurnedEngineIsTheTurnedMachine}
-use Rattle.kd_state.proofs.Prelude.{TurnedHasItsKey, TurnedHasTheDaysCipher, TurnedIsOnKey, AreCables, IsMachine}
-use Rattle.kd_state.proofs.Prelude.{letter_at, ring_at, IsRotorOnKey, OnKey, Day, IsLegalDay, IsLegalRotorDay, OfPins}
-use Rattle.kd_state.proofs.Prelude.{OfRotors, RotorDay, EngineKey, OfDrum, OfWheels, cipher, key_with_window}
-use Rattle.kd_state.proofs.Prelude.{physical_cipher, physical_key, plugged_pairs, sheet_key, window_of, Parts, Pin}
-use Rattle.kd_state.proofs.Prelude.{Rotor, PinParts, RotorParts, SheetWheel, reading_of, Place, recursion_from_All}
-use Rattle.kd_state.proofs.Prelude.{sum_by-IsPermutation, sum_by-cons, count_by, enumerate_from, pins_of, Bool, List}
-use Rattle.kd_state.proofs.Prelude.{Some, [], ap, arith, filter_map, map, refl, sym, ℕ, ◌+◌, ◌-◌, ◌||◌, ◌∙◌, ◌∷◌, ◌≡◌}
-use Rattle.kd_state.proofs.Prelude.{common_steps, IsPermutation}
-use Rattle.kd_state.proofs.{Cables.{no_letter_twice, pairs_joined, whole_cables}, Seating.{all_seated, read_all}}
-use Rattle.kd_state.proofs.Seating.{wheels_of_slots}
-use Rattle.{kd_state.specs.Lugs.{bars_moved, lug_is_met}, std.proofs.Common.{max, min, ◌%◌}, std.proofs.Math.Bool.or_comm}
-use Rattle.std.proofs.Math.Nat.{min-eq_left, min-eq_right, max-eq_left, max-eq_right}
+use Rattle.kd_state.proofs.Prelude.{AreCables, Bool, CipherInTurn, Day, EngineIsTheMachine, EngineKey}
+use Rattle.kd_state.proofs.Prelude.{EquallySetDecipher, IsLegalDay, IsLegalRotorDay, IsMachine, IsPermutation}
+use Rattle.kd_state.proofs.Prelude.{IsRotorOnKey, KeyInTurn, List, OfDrum, OfPins, OfRotors, OfWheels, OnKey}
+use Rattle.kd_state.proofs.Prelude.{OnKeyIsItsCipher, OnKeyIsReady, Parts, Pin, PinKey, PinParts, Place}
+use Rattle.kd_state.proofs.Prelude.{ReadingIsItsCipher, ReadingIsReady, Rotor, RotorDay, RotorParts, SheetWheel, Some}
+use Rattle.kd_state.proofs.Prelude.{TheDayDeciphersItself, TurnedEngineIsTheTurnedMachine, TurnedHasItsKey}
+use Rattle.kd_state.proofs.Prelude.{TurnedHasTheDaysCipher, TurnedIsOnKey, [], acts_after, ap, arith, bars_met, cipher}
+use Rattle.kd_state.proofs.Prelude.{common_steps, converter_cipher, count_by, enumerate_from, filter_map}
+use Rattle.kd_state.proofs.Prelude.{key_with_window, letter_at, map, physical_cipher, physical_key, pins_of}
+use Rattle.kd_state.proofs.Prelude.{plugged_pairs, reading_of, recursion_from_All, refl, ring_at, sheet_key}
 use Rattle.kd_enigma.proofs.Cables.{pairs_make_a_plugboard, same_pairs_exchange_alike}
+use Rattle.kd_state.{proofs.Cables.{no_letter_twice, pairs_joined, whole_cables}, specs.Lugs.{bars_moved, lug_is_met}}
+use Rattle.kd_state.proofs.Prelude.{sum_by-IsPermutation, sum_by-cons, sym, window_of, ℕ, ◌+◌, ◌-◌, ◌||◌, ◌∙◌, ◌∷◌, ◌≡◌}
+use Rattle.{kd_state.proofs.Seating.{all_seated, read_all, wheels_of_slots}, std.proofs.Common.{max, min, ◌%◌}}
+use Rattle.std.proofs.Math.{Bool.or_comm, Nat.{max-eq_left, max-eq_right, min-eq_left, min-eq_right}}
 use Rattle.kd_enigma.proofs.Ciphers as enigma
 use Rattle.kd_drum.proofs.Ciphers as drum
 use Rattle.kd_drum.proofs.Starts as starts

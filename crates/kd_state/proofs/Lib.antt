@@ -6,5 +6,5 @@ pub mod Lines
 pub mod CostTable
 pub mod Keys
 mod Seating
-mod SortedAlike
+pub mod SortedAlike
 pub mod Telling

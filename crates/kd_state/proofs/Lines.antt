@@ -1,25 +1,24 @@
 -- Lines: words are told by them, a text's part before a byte by the text, and settings by the words of their lines.
-use Rattle.kd_state.proofs.Prelude.{ListsHaveNoFault, OneListFault, TextsTellLists, BeginsWith, BeginsWithLine}
-use Rattle.kd_state.proofs.Prelude.{BeginsWithNoLine, IsInRange, IsList, IsReadOff, list_text, pin_text, setting_line}
-use Rattle.kd_state.proofs.Prelude.{setting_words, Setting, lug_text, place_text, places, reflector_text, wheel_text}
-use Rattle.kd_state.proofs.Prelude.{Lug, Place, One, Reflector, Wheel, eq-eqb, eqb-true, ltb-true, ne_eqb}
-use Rattle.kd_state.proofs.Prelude.{IsAscii-decimal, decimal_injective, decimal_nonempty, digits_decimal, parse-decimal}
-use Rattle.kd_state.proofs.Prelude.{append-nil, append_assoc, append_cancel_left, get_or_at, length-append, map_push}
-use Rattle.kd_state.proofs.Prelude.{All-append, All-cons, All-from_get_or, All-from_recursion, All-nil, All-push}
-use Rattle.kd_state.proofs.Prelude.{All-weaker, recursion_from_All, AllPass-from_list_all, Decides, then_some, All}
-use Rattle.kd_state.proofs.Prelude.{AllByRecursion, list_all, slice_split, Bool, List, MatchOption, None, Option, Some}
-use Rattle.kd_state.proofs.Prelude.{[], ap, arith, false, get_or, length, map, refl, rules, sym, true, ℕ, ◌++◌, ◌+◌}
-use Rattle.kd_state.proofs.Prelude.{◌<◌, ◌∷◌, ◌≡◌, ◌≢◌, ◌≤◌, common_steps, ParsesUnsigned}
-use Rattle.kd_state.specs.Words.{LettersAreWords}
-use Rattle.kd_state.specs.declared.setting.list.ListFault.TheVariants.{BadLine, TooMany}
-use Rattle.{kd_tables.specs.declared.reflector.Reflector.TheVariants.A, std.proofs.lemmas.List.Concat.flat_map-append}
-use Rattle.std.proofs.lemmas.Str.{IsUtf8-from_ascii, Parse.{IsNumeralModel, numerals_by_value, tells_by_index}}
-use Rattle.std.specs.{Fmt.decimal, Result.result_ok, Str.IsUtf8, Str.Parse.digits_value}
-use Rattle.{std.proofs.Common.{Bor, Result, MatchResult, eqb, ltb, ◌^◌}, std.specs.Int.IsInRange as IsFigure}
-use Rattle.std.proofs.lemmas.List.Splits.{length-slice_split, slice_split_none, slice_split_at, join_with_byte-slice_split}
-use Rattle.kd_state.specs.Words.{words_of, line_of, IsWithout, IsWord, IsFirstPart, LinesTellWords, LinesSplitIntoWords}
-use Rattle.kd_state.specs.Words.{PartsMakeLines, WordsMakeOneLine, TextsTellFirstParts, NumbersAreWords}
-use Rattle.kd_state.proofs.Wheels.{named, told, one_wheel, one_reflector}
+use Rattle.kd_state.proofs.Prelude.{All, All-append, All-cons, All-from_get_or, All-from_recursion, All-nil, All-push}
+use Rattle.kd_state.proofs.Prelude.{All-weaker, AllByRecursion, AllPass-from_list_all, BeginsWith, BeginsWithLine}
+use Rattle.kd_state.proofs.Prelude.{BeginsWithNoLine, Bool, Decides, IsAscii-decimal, IsInRange, IsList, IsReadOff}
+use Rattle.kd_state.proofs.Prelude.{List, ListsHaveNoFault, Lug, MatchOption, None, One, OneListFault, Option}
+use Rattle.kd_state.proofs.Prelude.{ParsesUnsigned, Place, Reflector, Setting, Some, TextsTellLists, Wheel, [], ap}
+use Rattle.kd_state.proofs.Prelude.{append-nil, append_assoc, append_cancel_left, arith, common_steps}
+use Rattle.kd_state.proofs.Prelude.{decimal_injective, decimal_nonempty, digits_decimal, eq-eqb, eqb-true, false}
+use Rattle.kd_state.proofs.Prelude.{get_or, get_or_at, length, length-append, list_all, list_text, ltb-true, lug_text}
+use Rattle.kd_state.proofs.Prelude.{map, map_push, ne_eqb, parse-decimal, pin_text, place_text, places}
+use Rattle.kd_state.proofs.Prelude.{recursion_from_All, refl, reflector_text, rules, setting_line, setting_words}
+use Rattle.kd_state.proofs.Prelude.{slice_split, sym, then_some, true, wheel_text, ℕ, ◌++◌, ◌+◌, ◌<◌, ◌∷◌, ◌≡◌, ◌≢◌}
+use Rattle.kd_state.specs.Words.{IsFirstPart, IsWithout, IsWord, LettersAreWords, LinesSplitIntoWords, LinesTellWords}
+use Rattle.kd_state.specs.Words.{NumbersAreWords, PartsMakeLines, TextsTellFirstParts, WordsMakeOneLine, line_of}
+use Rattle.std.proofs.lemmas.List.Splits.{join_with_byte-slice_split, length-slice_split, slice_split_at}
+use Rattle.kd_state.proofs.{Prelude.◌≤◌, Wheels.{named, one_reflector, one_wheel, told}}
+use Rattle.kd_state.specs.{Words.words_of, declared.setting.list.ListFault.TheVariants.{BadLine, TooMany}}
+use Rattle.std.proofs.Common.{Bor, MatchResult, Result, eqb, ltb, ◌^◌}
+use Rattle.std.proofs.lemmas.List.{Concat.flat_map-append, Splits.slice_split_none}
+use Rattle.std.proofs.lemmas.Str.{Parse.{IsNumeralModel, numerals_by_value, tells_by_index}, IsUtf8-from_ascii}
+use Rattle.std.specs.{Fmt.decimal, Int.IsInRange as IsFigure, Result.result_ok, Str.{Parse.digits_value, IsUtf8}}
 
 -- ---- the part before a byte
 

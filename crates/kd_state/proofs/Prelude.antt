@@ -40,11 +40,10 @@ pub use Rattle.std.specs.Cmp.{IsStrictWeakOrder, nat_cmp_total, on_total, then_t
 pub use Rattle.std.specs.List.{All, AllByRecursion, AllWithin, cons_option, count_by, enumerate_from, list_all, list_any, position_or_len, range_with_len, slice_split}
 pub use Rattle.std.specs.Option.{IsSome, SomeIff, is_none, is_some, option_and_then, option_eq, option_map, option_map_or, option_or, option_to_list, unwrap_or}
 pub use Rattle.kd_pins.specs.{PinWheels.pins_of, declared.pin_set.PinSet.PinSet}
-unfoldable pub use Rattle.kd_tables.specs.Rings.{ring_of}
+unfoldable pub use Rattle.{kd_tables.specs.Rings.ring_of, std.specs.List.IsDistinct}
 pub use Rattle.std.proofs.Common.{Bool, Contains, List, MatchOption, None, Option, Some, [], ap, arith, drop, false}
 pub use Rattle.std.proofs.Common.{filter_map, find, get_or, inl, inr, length, map, nat_eq, not, refl, rules, set}
 pub use Rattle.std.proofs.Common.{slice_get, subst, suc, sym, true, zero, ℕ, ◌++◌, ◌+◌, ◌-◌, ◌<◌, ◌||◌, ◌↔◌, ◌∙◌, ◌∷◌}
 pub use Rattle.std.proofs.Common.{◌≡◌, ◌≢◌, ◌≤◌, ◌⊎◌}
-unfoldable pub use Rattle.std.specs.List.{IsDistinct}
 pub use Rattle.std.specs.{Ordering.is_lt, Ordering.nat_cmp, Prelude.IsPermutation, Prelude.take, Prelude.◌&&◌}
 pub use lib.Pointwise.{pointwise}

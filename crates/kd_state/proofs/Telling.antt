@@ -4,7 +4,7 @@ unfoldable pub use Refusing.*
 use Rattle.kd_state.proofs.Prelude.{Seats, TheRing, TheShown, Turns, letters_in, TellingIsMaking, cable_in, letter_in}
 use Rattle.kd_state.proofs.Prelude.{model_of, slot_in, standing_in, SameLetters, are_new, leb-true, nat_tests}
 use Rattle.kd_state.proofs.Prelude.{get_or-map, slice_get_cases, slice_get_past, range_with_len, M209, get_or}
-use Rattle.kd_state.proofs.{Cables.new_tells, CostTable.tests_tell_letters}
+use Rattle.kd_state.proofs.{Cables.{new_tells, tests_tell_letters}}
 use Rattle.std.proofs.{Common.IfSome, lemmas.List.FromFn.get_or-map-range_with_len}
 
 -- ---- lists, by what stands at their places and by what has a place in them

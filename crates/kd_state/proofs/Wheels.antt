@@ -13,7 +13,6 @@ use Rattle.kd_state.proofs.Prelude.{rules, sym, true, ℕ, ◌<◌, ◌↔◌, �
 use Rattle.{kd_tables.specs.contracts.wheel.Wheel.the_type, kd_tables.specs.declared.model.Model.TheVariants.M4}
 use Rattle.{std.proofs.Common.{cond, ◌==◌}, std.proofs.lemmas.Slice.Eq.bytes_eq-Decides, std.specs.Str.bytes_eq}
 use denote.Enum.Bare.{sameb, same_true, same_false}
-use Rattle.kd_tables.specs.declared.reflector.Reflector.TheVariants as reflectors
 
 -- a name tells what has it, where it is found again by the name
 abbrev pub named : {T : Type 0} → (T → List ℕ) → List T → T → List ℕ → T

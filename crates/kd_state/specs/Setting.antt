@@ -1,5 +1,5 @@
 -- A single setting of a machine: why it is refused, and what it changes. And lists of them.
-use Rattle.std.specs.Prelude.{◌≡◌, ℕ, ◌-◌, nat_eq, nat_lt, Bool, true, false, not, ◌&&◌, List, [], ◌∷◌, ◌++◌, map, find, slice_set, Option, Some, None, is_none, unwrap_or, Result, MatchResult, ⊤, if◌then◌else◌}
+use Rattle.std.specs.Prelude.{◌≡◌, ℕ, ◌-◌, nat_eq, nat_lt, ◌+◌, Bool, true, false, not, ◌&&◌, List, [], ◌∷◌, ◌++◌, map, find, slice_set, length, Option, Some, None, is_none, unwrap_or, Result, MatchResult, ⊤, if◌then◌else◌}
 use Rattle.std.specs.List.{list_any}
 use Rattle.std.specs.Option.{option_map, option_map_or, option_or}
 use Rattle.kd_tables.specs.declared.wheel.Wheel.{Wheel}
@@ -168,3 +168,14 @@ Answers m x n answer = MatchResult answer (λ _. Carries m x n) (λ why. (why_re
 abbrev pub Leads : Parts → List Setting → Parts → Type 0
 Leads m [] n = n ≡ m
 Leads m (x ∷ xs) n = (between : Parts) × Carries m x between × Leads between xs n
+
+-- the line, counted from 1, is the first that the machine refuses in its turn, for this reason
+pub record IsFirstIllegal (m : Parts) (settings : List Setting) (line : ℕ) (why : Why) : Type 0 where
+  pub front : List Setting
+  pub setting : Setting
+  pub rest : List Setting
+  pub between : Parts
+  pub split : settings ≡ front ++ setting ∷ rest
+  pub number : line ≡ length front + 1
+  pub leads : Leads m front between
+  pub refused : why_refused between setting ≡ Some why

@@ -23,6 +23,7 @@ pub use machine::per_wheel::PerWheel;
 pub use machine::pin_parts::PinParts;
 pub use machine::rotor_parts::RotorParts;
 pub use setting::Setting;
+pub use setting::carrying::{IllegalAt, carry_all};
 pub use setting::list::{ListFault, Settings, read_list, split_settings};
 pub use setting::why::{Illegal, Why};
 pub use sheet_day::SheetDay;

@@ -1,3 +1,4 @@
+pub(crate) mod carrying;
 mod line;
 pub(crate) mod list;
 mod pin_settings;

@@ -4,8 +4,10 @@ unfoldable pub use Changing.*
 pub use Rattle.kd_state.proofs.Prelude.{RefusalsAreTold, HasAllPins, Carries, Leads, Stands, has_letter, is_plugged}
 pub use Rattle.kd_state.proofs.Prelude.{NoLooseEnd, NoSuchBar, NoSuchCable, NotOnWheel, NotThere, OtherModel}
 pub use Rattle.kd_state.proofs.Prelude.{PlaceTaken, SlotEmpty, SocketTaken, WheelNotAllowed, IsAllowed, Reflector}
-pub use Rattle.kd_state.proofs.Prelude.{false_from_ne_true, false≢true, All-head, slice_get-get_or, Decides, IsSome}
+pub use Rattle.kd_state.proofs.Prelude.{false_from_ne_true, false≢true, All-head, slice_get-get_or, take, get_or, ◌++◌, Decides, IsSome}
+pub use Rattle.std.proofs.{Math.Seq.drop-cons, lemmas.List.{length-take-le, take-append-drop, take_more}}
 pub use Rattle.kd_state.proofs.{Prelude.is_some, Prelude.MatchOption, Prelude.not, Slots.is_some-place_on}
+pub use Rattle.kd_state.specs.Setting.{IsFirstIllegal}
 
 pub lists_keep_machines : (m n : Parts) (xs : List Setting) → IsMachine m → All IsInRange xs → Leads m xs n → IsMachine n
 lists_keep_machines m n [] h r l = subst IsMachine (sym l) h
@@ -24,6 +26,26 @@ carries_to_one m n o x one other = one.made ∙ sym other.made
 pub leads_to_one : (m n o : Parts) (xs : List Setting) → Leads m xs n → Leads m xs o → n ≡ o
 leads_to_one m n o [] one other = one ∙ sym other
 leads_to_one m n o (x ∷ xs) one other = grind (arith, leads_to_one one.0 n o xs one.2, carries_to_one)
+
+-- ---- settings one after another, up to one of their places
+pub leads_join : (m between n : Parts) (front rest : List Setting) → Leads m front between → Leads between rest n
+    → Leads m (front ++ rest) n
+leads_join m between n [] rest first leads = subst (λ machine. Leads machine rest n) first leads
+leads_join m between n (x ∷ front) rest first leads =
+    (first.0, first.1, leads_join first.0 between n front rest first.2 leads)
+
+-- one more setting is carried out
+pub leads_next : (m n o : Parts) (xs : List Setting) (place : ℕ) (x : Setting) → place < length xs → get_or xs place x ≡ x
+    → Leads m (take place xs) n → Carries n x o → Leads m (take (place + 1) xs) o
+leads_next m n o xs place x within is leads carries =
+    grind (arith, take_more xs place x within, within, leads_join m n o (take place xs) (x ∷ []) leads (o, carries, refl))
+
+-- it is refused
+pub stops_at : (m n : Parts) (xs : List Setting) (place : ℕ) (x : Setting) (why : Why) → place < length xs
+    → get_or xs place x ≡ x
+    → Leads m (take place xs) n → why_refused n x ≡ Some why → IsFirstIllegal m xs (place + 1) why
+stops_at m n xs place x why within is leads refused =
+    grind (arith, take-append-drop place xs, drop-cons xs place x within, within, length-take-le place xs (omega arith))
 
 -- a refusal by one test alone
 pub by_one_test : {P : Type 0} (may : Bool) (why : Why) → Decides may P → (first_reason ((not may, why) ∷ []) ≡ None) ↔ P

@@ -1,5 +1,4 @@
-use Rattle.std.proofs.Common.{◌≡◌, ℕ, ◌<◌, ◌≤◌, length, ◌-ℤ◌}
-use Rattle.{kd_assign.proofs.Prelude.price_at, std.specs.Int.int_min}
+use Rattle.{kd_assign.proofs.Prelude.price_at, std.{proofs.Common.{length, ℕ, ◌-ℤ◌, ◌<◌, ◌≡◌, ◌≤◌}, specs.Int.int_min}}
 use Rattle.kd_assign.proofs.growth.lower.Given as goal
 
 abbrev pub invariant-loop-column : goal.invariant-loop-column

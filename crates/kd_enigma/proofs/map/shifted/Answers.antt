@@ -1,6 +1,5 @@
-use Rattle.std.proofs.Common.{◌≡◌, ◌+◌, ◌%◌, rules}
-use Rattle.{kd_enigma.proofs.Made.each_made, kd_tables.specs.Permutation.shift}
-use Rattle.std.proofs.lemmas.List.FromFn.{fill_by_all}
+use Rattle.{kd_enigma.proofs.Made.each_made, std.proofs.{Common.{rules, ◌%◌, ◌+◌, ◌≡◌}, lemmas.List.FromFn.fill_by_all}}
+use Rattle.kd_tables.specs.Permutation.{shift}
 use Rattle.kd_enigma.proofs.map.shifted.Goals as goal
 
 pub returns : goal.returns

@@ -1,6 +1,5 @@
-use Rattle.kd_prices.proofs.Prelude.{◌≡◌, sym, subst, ArePrices, Expands, group_of}
-use Rattle.{kd_card.specs.CardFault.numbered, kd_prices.proofs.Meaning.expands_kinds}
-use Rattle.kd_prices.proofs.Things.{columns_are_things, groups_meet, rows_are_things}
+use Rattle.{kd_card.specs.CardFault.numbered, kd_prices.proofs.Prelude.{ArePrices, Expands, group_of, subst, sym, ◌≡◌}}
+use Rattle.kd_prices.proofs.{Meaning.expands_kinds, Things.{columns_are_things, groups_meet, rows_are_things}}
 use Rattle.kd_prices.proofs.expanding.expanded_kinds.Goals as goal
 
 pub numbered-requires-clause-rows : goal.numbered-requires-clause-rows

@@ -1,5 +1,5 @@
 use Rattle.kd_state.proofs.Wheels.{place_within, allowed_in_box, places_tell_wheels, days_wheels_have_their_places}
-use Rattle.kd_state.proofs.{CostTable.tests_tell_letters, Wheels.{same_reflector-Decides, same_wheel-Decides}}
+use Rattle.kd_state.proofs.{Cables.tests_tell_letters, Wheels.{same_reflector-Decides, same_wheel-Decides}}
 use Rattle.kd_state.proofs.laws.parts_are_told_apart.Goals as goal
 
 pub returns : goal.returns

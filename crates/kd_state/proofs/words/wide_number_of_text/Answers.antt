@@ -1,5 +1,4 @@
-use Rattle.kd_state.proofs.Prelude.{arith, sym, ◌∙◌}
-use Rattle.kd_state.proofs.Lines.{no_text, no_number, only_number, ok_part}
+use Rattle.kd_state.proofs.{Lines.{no_number, no_text, ok_part, only_number}, Prelude.{arith, sym, ◌∙◌}}
 use Rattle.kd_state.proofs.words.wide_number_of_text.Goals as goal
 
 pub returns-in_err-ok : goal.returns-in_err-ok

@@ -1,5 +1,4 @@
-use Rattle.{kd_enigma.proofs.Seats.wired, kd_enigma.specs.Wired.key_in, std.proofs.Common.arith}
-use Rattle.std.proofs.Common.{rules}
+use Rattle.{kd_enigma.{proofs.Seats.wired, specs.Wired.key_in}, std.proofs.Common.{arith, rules}}
 use Rattle.kd_enigma.proofs.enigma.Enigma.turn_to.Goals as goal
 
 pub invariant_of-self : goal.invariant_of-self

@@ -1,7 +1,6 @@
+use Rattle.kd_enigma.proofs.{Cables.{can_plug, is_plugged_none, plugged_all, plugged_more}, Ways.no_shift}
 use Rattle.kd_enigma.specs.{Cipher.IsPlugboard, Plugs.NoLetterTwice}
-use Rattle.{kd_tables.specs.Permutation.exchange, std.proofs.Common.{refl, rules, ◌≡◌, ◌∙◌}}
-use Rattle.std.proofs.lemmas.{Bool.false≢true}
-use Rattle.kd_enigma.proofs.{Cables.{is_plugged_none, plugged_more, can_plug, plugged_all}, Ways.no_shift}
+use Rattle.{kd_tables.specs.Permutation.exchange, std.proofs.{Common.{refl, rules, ◌∙◌, ◌≡◌}, lemmas.Bool.false≢true}}
 use Rattle.kd_enigma.proofs.plugs.Plugs.from_pairs.Goals as goal
 
 pub loop-one-init : goal.loop-one-init

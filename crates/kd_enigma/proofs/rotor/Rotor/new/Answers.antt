@@ -1,7 +1,6 @@
-use Rattle.{std.proofs.Common.{◌≡◌, ℕ, [], arith, rules}, kd_enigma.specs.Rotor.{offset, rotor}}
-use Rattle.{kd_tables.specs.Permutation.{followed_by, inverse}, kd_tables.specs.Tables.wiring_of}
-use Rattle.{kd_tables.proofs.Wirings.wiring_permutes, std.proofs.lemmas.List.FromFn.fill_by_all}
-use Rattle.kd_enigma.proofs.{Made.each_made, Ways.turned_undone}
+use Rattle.kd_enigma.{proofs.{Made.each_made, Ways.turned_undone}, specs.Rotor.{offset, rotor}}
+use Rattle.kd_tables.{proofs.Wirings.wiring_permutes, specs.{Permutation.{followed_by, inverse}, Tables.wiring_of}}
+use Rattle.std.proofs.{Common.{[], arith, rules, ℕ, ◌≡◌}, lemmas.List.FromFn.fill_by_all}
 use Rattle.kd_enigma.proofs.rotor.Rotor.new.Goals as goal
 
 pub invariant_of-result : goal.invariant_of-result

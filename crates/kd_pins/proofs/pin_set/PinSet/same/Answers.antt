@@ -1,7 +1,6 @@
-use Rattle.std.proofs.Common.{◌≡◌, Bool, List, refl, ap, ◌∙◌}
-use Rattle.{kd_pins.specs.declared.pin_set.PinSet.PinSet, std.proofs.lemmas.Bool.Decides.Decides-and}
-use Rattle.std.proofs.lemmas.{Bool.Decides.Decides-at, Bool.Decides.Decides-like, Slice.Eq.slice_eq-Decides}
-use Rattle.std.specs.Cmp.{booleans_Decides}
+use Rattle.kd_pins.specs.declared.pin_set.PinSet.{PinSet}
+use Rattle.std.{proofs.Common.{Bool, List, ap, refl, ◌∙◌, ◌≡◌}, specs.Cmp.booleans_Decides}
+use Rattle.std.proofs.lemmas.{Bool.Decides.{Decides-and, Decides-at, Decides-like}, Slice.Eq.slice_eq-Decides}
 use Rattle.kd_pins.proofs.pin_set.PinSet.same.Goals as goal
 
 -- the six lists are the same

@@ -1,73 +1,70 @@
 -- What is read of a document, and of items one after another, each given what those before it are; and what a reading
 -- that succeeds has found on its way.
-pub use Rattle.{kd_pins.specs.declared.pin_set.PinSet.PinSet, kd_sheet.specs.Bars.{row_for, standing_for}}
-pub use Rattle.kd_sheet.specs.{Cables.{cable_of, pair_letters, thirteen}, Document.{demand, each_at, in_turn, items_at}}
-pub use Rattle.kd_sheet.specs.{Document.{items_in, list_of, result_map, up_to, value_at, ◌>>=◌, ◌>>◌}, Key.key_name}
-pub use Rattle.kd_sheet.specs.{Laws.{DaysAreTheEntries, LegalPartsAreReadBack}, Letters.capital_letters}
+pub use Rattle.kd_sheet.specs.Document.{demand, each_at, in_turn, items_at, items_in, list_of, result_map, up_to}
 pub use Rattle.kd_sheet.specs.MachineText.{cable_text, key_line, listed, pin_texts, pins_text, quoted, seat_text}
-pub use Rattle.kd_sheet.specs.{MachineText.version_of, Names.{every_model, every_wheel}, Numbers.number_to}
-pub use Rattle.kd_sheet.specs.{Numbers.numbered_letter, PinWheels.{are_on_wheels, has_capital, is_on, pins_behind}}
-pub use Rattle.kd_sheet.specs.{PinWheels.stands_once, Seats.{holds, may_be_empty}, Sheet.{IsMonth, day_of, month_of}}
-pub use Rattle.kd_sheet.specs.{SheetFile.{group_for, sheet_wheels}, declared.fault.SheetFault.SheetFault}
-pub use Rattle.kd_sheet.specs.declared.{fault.SheetFault.TheVariants.{BadValue, NotToml, UnknownModel}, key.Key.Key}
-pub use Rattle.kd_state.proofs.{Cables.{eqb_flips, new_tells, no_letters}, Slots.all_pins}
-pub use Rattle.kd_state.proofs.Slots.{are_on_wheels as on_all_wheels, has_letter-Decides, numbered_here, numbered_other}
-pub use Rattle.kd_state.proofs.Wheels.{has_reflector-Decides, has_wheel-Decides, same_wheel-Decides}
+pub use Rattle.kd_state.proofs.Slots.{all_pins, are_on_wheels as on_all_wheels, has_letter-Decides, numbered_here}
 pub use Rattle.kd_state.specs.Machine.{AreAllowed, AreApart, AreCables, AreLetters, AreOnWheels, HasAllPins, IsLegalPin}
-pub use Rattle.kd_state.specs.Machine.{IsLegalRotor, StandsAt, cable_letters, cables_ordered, ordered, plugged_letters}
-pub use Rattle.kd_state.specs.{Setting.{are_new, has_letter}, SheetDay.{ArePairs, AreSeated, Day, HasLetters}}
-pub use Rattle.kd_state.specs.SheetDay.{IsDayNumber, IsLegalDay, IsLegalPinDay, IsLegalRotorDay, OfPins, OfRotors}
-pub use Rattle.kd_state.specs.{SheetDay.{PinDay, RotorDay, day_number, seats}, ToldApart.{has_reflector, numbered}}
-pub use Rattle.kd_state.specs.declared.machine.parts.Parts.{Parts, TheVariants.{Pin, Rotor}}
-pub use Rattle.kd_state.specs.declared.machine.{pin_parts.PinParts.PinParts, rotor_parts.RotorParts.RotorParts}
-pub use Rattle.{kd_state.specs.declared.sheet_day.rotor_entry.SheetWheel.SheetWheel, kd_tables.specs.Places.IsBefore}
-pub use Rattle.kd_tables.specs.Places.{IsReading, figure, place_rank, reading_text, standing_text, standings}
+pub use Rattle.kd_state.specs.SheetDay.{ArePairs, AreSeated, Day, HasLetters, IsDayNumber, IsLegalDay, IsLegalPinDay}
 pub use Rattle.kd_tables.specs.Tables.{IsAllowed, box_of, letters_of, model_text, reflector_text, reflectors_of}
-pub use Rattle.kd_tables.specs.{Tables.{slots_of, wheel_text, wheels_for}, Text.{is_capital, letters_text}}
-pub use Rattle.kd_tables.specs.declared.{model.Model.{Model, TheVariants.M209}, place.Place.Place}
-pub use Rattle.{kd_tables.specs.declared.{reflector.Reflector.Reflector, wheel.Wheel.Wheel}, std.proofs.Common.All}
-pub use Rattle.std.proofs.Common.{Bool, Bor, Contains, Decides, Err, Global, IfSome, IsSome, IsUtf8, List, MatchOption}
-pub use Rattle.std.proofs.Common.{None, Ok, Option, Result, Some, Vec, [], ap, append_assoc, arith, bytes_eq, codes}
-pub use Rattle.std.proofs.Common.{cond, drop, false, filter_map, find, get_or, inl, inr, is_some, length, length-set}
-pub use Rattle.std.proofs.Common.{map, nat_eq, nat_le, nat_lt, not, ok_or, option_map, pos, refl, replicate, rules, set}
-pub use Rattle.std.proofs.Common.{slice_get, slice_index, subst, suc, sym, take, true, zero, ℕ, ◌&&◌, ◌++◌, ◌+◌, ◌-◌}
-pub use Rattle.std.proofs.{Common.{◌<◌, ◌==◌, ◌||◌, ◌↔◌, ◌∙◌, ◌∷◌, ◌≡◌, ◌≢◌, ◌≤◌}, Math.Bool.{and-false, or-true}}
+pub use Rattle.std.proofs.Common.{All, Bool, Bor, Contains, Decides, Err, Global, IfSome, IsSome, IsUtf8, List}
+pub use Rattle.std.proofs.Common.{MatchOption, None, Ok, Option, Result, Some, Vec, [], ap, append_assoc, arith}
+pub use Rattle.std.proofs.Common.{bytes_eq, codes, cond, drop, false, filter_map, find, get_or, inl, inr, is_some}
+pub use Rattle.std.proofs.Common.{length, length-set, map, nat_eq, nat_le, nat_lt, not, ok_or, option_map, pos, refl}
+pub use Rattle.std.proofs.Common.{replicate, rules, set, slice_get, slice_index, subst, suc, sym, take, true, zero, ℕ}
 pub use Rattle.std.proofs.lemmas.Bool.{cases_Bool, cases_eq, cases_lt, eq-eqb, eqb-true, false≢true, le-leb, leb-true}
-pub use Rattle.std.proofs.lemmas.Bool.{ltb-true, ne_eqb, not-true, Decides.{Decides-by_or, Decides-like, nat_tests}}
-pub use Rattle.std.proofs.lemmas.{Grind.{common_steps, get_or-set_at}, List.{append-nil, drop_all, drop_more}}
-pub use Rattle.std.proofs.lemmas.List.{get_or-map, get_or-set_other, length-map, length-take-le, same_lists}
-pub use Rattle.std.proofs.lemmas.List.{take-append-drop, Concat.flat_map-append, Elements.{All-append, All-contains}}
-pub use Rattle.std.proofs.lemmas.List.Elements.{All-from_recursion, All-map, All-nil, All-weaker, Contains-get_or}
-pub use Rattle.std.proofs.lemmas.List.{Elements.{Decides-contains, recursion_from_All}, Folds.find-append}
-pub use Rattle.std.proofs.lemmas.List.{Folds.list_all-append, FromFn.{get_or-enumerate_from, get_or-map-range_with_len}}
-pub use Rattle.std.proofs.lemmas.List.FromFn.{length-enumerate_from, length-map-range_with_len}
-pub use Rattle.std.proofs.lemmas.List.{Sorted.IsPermutation-append_comm, Sums.AllPass-from_list_all}
-pub use Rattle.std.proofs.lemmas.{List.Sums.{list_all-from_AllPass, sum_by-cons}, Map.Keys.IsDistinct-IsPermutation}
+pub use Rattle.std.proofs.lemmas.List.{append-nil, drop_all, drop_more, get_or-map, get_or-set_other, length-map}
+pub use Rattle.std.proofs.lemmas.List.Elements.{All-append, All-contains, All-from_recursion, All-map, All-nil}
+pub use Rattle.std.proofs.lemmas.List.FromFn.{get_or-enumerate_from, get_or-map-range_with_len, length-enumerate_from}
 pub use Rattle.std.proofs.lemmas.Option.{get_or_from_slice_get, gets, none-some, same_Some, slice_get-get_or}
-pub use Rattle.std.proofs.lemmas.{Option.{slice_get_cases, slice_get_within}, Slice.Eq.bytes_eq-Decides}
+pub use Rattle.toml.specs.Data.{Data, Members, array, as_array, as_table, depth, get_member, has_valid_dates, integer}
+pub use Rattle.{kd_pins.specs.declared.pin_set.PinSet.PinSet, kd_tables.specs.Tables.{slots_of, wheel_text, wheels_for}}
+pub use Rattle.kd_sheet.specs.{Bars.{row_for, standing_for}, Letters.capital_letters, Names.{every_model, every_wheel}}
+pub use Rattle.kd_sheet.specs.{Cables.{cable_of, pair_letters, thirteen}, SheetFile.{group_for, sheet_wheels}}
+pub use Rattle.kd_sheet.specs.{Document.{value_at, ◌>>=◌, ◌>>◌}, Sheet.{IsMonth, day_of, month_of}}
+pub use Rattle.kd_sheet.specs.{Key.key_name, PinWheels.{are_on_wheels, has_capital, is_on, pins_behind, stands_once}}
+pub use Rattle.kd_sheet.specs.{Laws.{DaysAreTheEntries, LegalPartsAreReadBack}, Numbers.{number_to, numbered_letter}}
+pub use Rattle.kd_sheet.specs.{MachineText.version_of, Seats.{holds, may_be_empty}, declared.key.Key.Key}
+pub use Rattle.kd_sheet.specs.declared.fault.SheetFault.{TheVariants.{BadValue, NotToml, UnknownModel}, SheetFault}
+pub use Rattle.kd_state.proofs.{Cables.{eqb_flips, new_tells, no_letters}, Slots.numbered_other}
+pub use Rattle.kd_state.proofs.Wheels.{has_reflector-Decides, has_wheel-Decides, same_wheel-Decides}
+pub use Rattle.kd_state.specs.Machine.{IsLegalRotor, StandsAt, cable_letters, cables_ordered, ordered, plugged_letters}
+pub use Rattle.kd_state.specs.{Setting.{are_new, has_letter}, declared.sheet_day.rotor_entry.SheetWheel.SheetWheel}
+pub use Rattle.kd_state.specs.SheetDay.{IsLegalRotorDay, OfPins, OfRotors, PinDay, RotorDay, day_number, seats}
+pub use Rattle.{kd_state.specs.ToldApart.{has_reflector, numbered}, std.proofs.Math.Bool.{and-false, or-true}}
+pub use Rattle.kd_state.specs.declared.machine.parts.Parts.{TheVariants.{Pin, Rotor}, Parts}
+pub use Rattle.kd_state.specs.declared.machine.{pin_parts.PinParts.PinParts, rotor_parts.RotorParts.RotorParts}
+pub use Rattle.kd_tables.specs.Places.{IsBefore, IsReading, figure, place_rank, reading_text, standing_text, standings}
+pub use Rattle.kd_tables.specs.{Text.{is_capital, letters_text}, declared.{place.Place.Place, wheel.Wheel.Wheel}}
+pub use Rattle.kd_tables.specs.declared.{model.Model.{TheVariants.M209, Model}, reflector.Reflector.Reflector}
+pub use Rattle.std.proofs.Common.{◌&&◌, ◌++◌, ◌+◌, ◌-◌, ◌<◌, ◌==◌, ◌||◌, ◌↔◌, ◌∙◌, ◌∷◌, ◌≡◌, ◌≢◌, ◌≤◌}
+pub use Rattle.std.proofs.lemmas.Bool.{Decides.{Decides-by_or, Decides-like, nat_tests}, ltb-true, ne_eqb, not-true}
+pub use Rattle.std.proofs.lemmas.{Grind.{common_steps, get_or-set_at}, Option.{slice_get_cases, slice_get_within}}
+pub use Rattle.std.proofs.lemmas.List.{FromFn.length-map-range_with_len, length-take-le, same_lists, take-append-drop}
+pub use Rattle.std.proofs.lemmas.{List.Concat.flat_map-append, Map.Keys.IsDistinct-IsPermutation}
+pub use Rattle.std.proofs.lemmas.List.Elements.{All-weaker, Contains-get_or, Decides-contains, recursion_from_All}
+pub use Rattle.std.proofs.lemmas.List.{Folds.{find-append, list_all-append}, Sorted.IsPermutation-append_comm}
+pub use Rattle.std.proofs.lemmas.List.Sums.{AllPass-from_list_all, list_all-from_AllPass, sum_by-cons}
+pub use Rattle.std.proofs.lemmas.{Slice.Eq.bytes_eq-Decides, Str.Ascii.IsAscii-from_all}
 pub use Rattle.std.proofs.lemmas.Str.{IsUtf8-from_ascii, IsUtf8-from_is_utf8, is_utf8-from_IsUtf8}
-pub use Rattle.std.{proofs.lemmas.Str.Ascii.IsAscii-from_all, specs.{Array.AllOfLen, List.{AllByRecursion, concat}}}
-pub use Rattle.std.specs.{List.{count_by, enumerate_from, flat_map, list_all, list_any}, Option.option_and_then}
-pub use Rattle.{std.specs.Option.option_map_or, toml.proofs.{Lines.data_of_table, ReadLines.{AllPrinted, read_lines}}}
-pub use Rattle.toml.{proofs.ReadLines.run, specs.Data.{Data, Members, array, as_array, as_table, depth, get_member}}
-pub use Rattle.toml.specs.Data.{has_valid_dates, integer, items_depth, items_have_valid_dates, member, no_members}
-pub use Rattle.toml.specs.{Data.string, Tables.{Expression, close, key_value, no_nodes}, Text.IsItemsText}
-pub use Rattle.toml.specs.{Text.{IsLinesText, IsValueText}, View.{array_view, items_of, table_view, view}}
-pub use Rattle.toml.specs.declared.value.Value.{Value, the_lemmas}
-unfoldable pub use Rattle.kd_sheet.specs.{Bars.{bars_in, row_of_text, rows_in}, Cables.{cable_for, cables_in}}
-unfoldable pub use Rattle.kd_sheet.specs.{Cables.{letters_in_cable, pair_for, pairs_in}, Document.document_of}
-unfoldable pub use Rattle.kd_sheet.specs.{Letters.letters_at, MachineFile.{known_model_in, machine_in, model_in}}
-unfoldable pub use Rattle.kd_sheet.specs.MachineFile.{parts_in, pin_parts_in, reflector_in, rotor_parts_in, version_in}
-unfoldable pub use Rattle.kd_sheet.specs.{MachineText.machine_text, Names.{model_by_name, reflector_by_name}}
-unfoldable pub use Rattle.kd_sheet.specs.{Names.{standing_by_text, wheel_by_name}, PinWheels.letters_on_wheels}
-unfoldable pub use Rattle.kd_sheet.specs.{PinWheels.{pins_in, pins_of_item, pins_of_text, shown_in}, Seats.is_seated}
-unfoldable pub use Rattle.kd_sheet.specs.{Seats.{seat_for, seat_of_item, seats_in, wheel_for}, SheetFile.day_for}
-unfoldable pub use Rattle.kd_sheet.specs.SheetFile.{day_in, group_of_item, groups_in, model_day_in, new_number_in}
-unfoldable pub use Rattle.kd_sheet.specs.SheetFile.{number_in, pin_day_in, rings_in, rotor_day_in, sheet_in}
-unfoldable pub use Rattle.{kd_tables.specs.Rings.ring_of, std.specs.{Fmt.digits, List.IsDistinct}}
-unfoldable pub use Rattle.toml.specs.{Parse.{parse_document, skip_bom}, Tables.{along_dots, along_header, at_key}}
-unfoldable pub use Rattle.{toml.specs.Tables.define, toml_writer.specs.Text.{encoding_of, escaped, key_text}}
-unfoldable pub use Rattle.toml_writer.specs.Text.{needs_escape, quotes_after, string_text}
+pub use Rattle.std.specs.{Array.AllOfLen, Option.{option_and_then, option_map_or}}
+pub use Rattle.std.specs.List.{AllByRecursion, concat, count_by, enumerate_from, flat_map, list_all, list_any}
+pub use Rattle.toml.proofs.{Lines.data_of_table, ReadLines.{AllPrinted, read_lines, run}}
+pub use Rattle.toml.specs.Data.{items_depth, items_have_valid_dates, member, no_members, string}
+pub use Rattle.toml.specs.{Tables.{Expression, close, key_value, no_nodes}, declared.value.Value.{Value, the_lemmas}}
+pub use Rattle.toml.specs.{Text.{IsItemsText, IsLinesText, IsValueText}, View.{array_view, items_of, table_view, view}}
+unfoldable pub use Rattle.kd_sheet.specs.MachineFile.{known_model_in, machine_in, model_in, parts_in, pin_parts_in}
+unfoldable pub use Rattle.kd_sheet.specs.SheetFile.{day_for, day_in, group_of_item, groups_in, model_day_in}
+unfoldable pub use Rattle.kd_sheet.specs.SheetFile.{new_number_in, number_in, pin_day_in, rings_in, rotor_day_in}
+unfoldable pub use Rattle.toml_writer.specs.Text.{encoding_of, escaped, key_text, needs_escape, quotes_after}
+unfoldable pub use Rattle.kd_sheet.specs.{Bars.{bars_in, row_of_text, rows_in}, MachineText.machine_text}
+unfoldable pub use Rattle.kd_sheet.specs.Cables.{cable_for, cables_in, letters_in_cable, pair_for, pairs_in}
+unfoldable pub use Rattle.kd_sheet.specs.{Document.document_of, MachineFile.{reflector_in, rotor_parts_in, version_in}}
+unfoldable pub use Rattle.{kd_sheet.specs.{Letters.letters_at, SheetFile.sheet_in}, toml_writer.specs.Text.string_text}
+unfoldable pub use Rattle.kd_sheet.specs.Names.{model_by_name, reflector_by_name, standing_by_text, wheel_by_name}
+unfoldable pub use Rattle.kd_sheet.specs.PinWheels.{letters_on_wheels, pins_in, pins_of_item, pins_of_text, shown_in}
+unfoldable pub use Rattle.kd_sheet.specs.Seats.{is_seated, seat_for, seat_of_item, seats_in, wheel_for}
+unfoldable pub use Rattle.{kd_tables.specs.Rings.ring_of, toml.specs.Tables.{along_dots, along_header, at_key, define}}
+unfoldable pub use Rattle.{std.specs.{Fmt.digits, List.IsDistinct}, toml.specs.Parse.{parse_document, skip_bom}}
 pub use Rattle.kd_sheet.specs.declared.key.Key.TheVariants as keys
 
 -- ---- a document

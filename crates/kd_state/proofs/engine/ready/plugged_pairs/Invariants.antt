@@ -1,5 +1,4 @@
-use Rattle.kd_state.proofs.Prelude.{drop, ◌++◌, ◌≡◌, ◌≤◌}
-use Rattle.{arrayvec.specs.ArrayVec.array_vec_len, kd_state.proofs.Cables.pairs_of}
+use Rattle.{arrayvec.specs.ArrayVec.array_vec_len, kd_state.proofs.{Cables.pairs_of, Prelude.{drop, ◌++◌, ◌≡◌, ◌≤◌}}}
 use Rattle.kd_state.proofs.engine.ready.plugged_pairs.Given as goal
 
 -- the pairs so far, and those of the other cables

@@ -1,5 +1,4 @@
-use Rattle.kd_state.proofs.Prelude.{arith}
-use Rattle.kd_state.proofs.{Prelude.refl, Seating.of_seated}
+use Rattle.kd_state.proofs.{Prelude.{arith, refl}, Seating.of_seated}
 use Rattle.kd_state.proofs.engine.ready.rotor_engine.Goals as goal
 
 pub returns-clause-ready : goal.returns-clause-ready

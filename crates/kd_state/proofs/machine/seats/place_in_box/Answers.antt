@@ -1,5 +1,4 @@
-use Rattle.kd_state.proofs.Prelude.{arith, sym, true, ◌∙◌}
-use Rattle.kd_state.proofs.Wheels.{same_tested, found_in_box}
+use Rattle.kd_state.proofs.{Prelude.{arith, sym, true, ◌∙◌}, Wheels.{found_in_box, same_tested}}
 use Rattle.kd_state.proofs.machine.seats.place_in_box.Goals as goal
 
 pub returns-then-eq : goal.returns-then-eq

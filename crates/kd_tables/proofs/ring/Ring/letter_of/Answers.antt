@@ -1,5 +1,4 @@
-use Rattle.{kd_tables.proofs.Rings.letter_leads_to_place, std.proofs.Common.arith}
-use Rattle.std.proofs.lemmas.List.{get_or_default}
+use Rattle.{kd_tables.proofs.Rings.letter_leads_to_place, std.proofs.{Common.arith, lemmas.List.get_or_default}}
 use Rattle.kd_tables.proofs.ring.Ring.letter_of.Goals as goal
 
 pub returns-clause-there_alone : goal.returns-clause-there_alone

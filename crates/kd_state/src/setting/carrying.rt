@@ -1,9 +1,10 @@
 //! Settings that are carried out one after another.
 ghost use Rattle.std.specs.Prelude.{IfErr, IfOk};
-ghost use Rattle.kd_state.specs.Setting.{Leads};
-ghost use Rattle.kd_card.specs.Carrying.{IsFirstIllegal};
+ghost use Rattle.kd_state.specs.Setting.{IsFirstIllegal, Leads};
 
-use kd_state::{Machine, Setting, Why};
+use crate::machine::Machine;
+use crate::setting::Setting;
+use crate::setting::why::Why;
 use thiserror::Error;
 
 /// A setting of a list that the machine refuses in its turn. Lines are the settings, counted from 1.
@@ -15,7 +16,7 @@ pub struct IllegalAt {
 }
 
 /// The machine to which the settings lead, carried out one after another, or the first that is refused.
-#[tactic(auto, using(crate::proofs::Leading::leads_next, crate::proofs::Leading::stops_at))]
+#[tactic(auto, using(crate::proofs::Telling::Refusing::leads_next, crate::proofs::Telling::Refusing::stops_at))]
 pub fn carry_all(machine: &Machine, settings: &[Setting]) -> Result<Machine, IllegalAt>
     ensures carried { IfOk result (λ n. Leads machine.now settings.now n) }
     ensures refused { IfErr result
