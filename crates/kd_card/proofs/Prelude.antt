@@ -18,7 +18,7 @@ pub use Rattle.std.specs.{Bool.then_some, Fmt.signed_decimal, Str.IsUtf8, Str.by
 pub use Rattle.std.specs.List.{All, AllByRecursion, AllZip, IsDistinct, flat_map, list_all, sum_by}
 pub use Rattle.std.specs.{Option.option_map_or, Option.option_copied, Str.Parse.ParsesSigned, Str.Parse.digits_value}
 pub use Rattle.arrayvec.specs.ArrayString.{array_string_len}
-pub use Rattle.kd_card.specs.CardFault.{AtNothing, AtOther, BeginsWithHead, BeginsWithKinds, BeginsWithWord, EndsGroup, HasNoNext, HasWords, IsDigit, IsNextKind, IsNumberText, IsPriceText, IsNumeral, SaysAllPrices, SaysBehind, SaysCard, SaysFirst, SaysGroup, SaysKinded, SaysLine, SaysNumbered, SaysPriceLine, SaysPrices, SaysSettings, SaysValue, floor_behind, with_line}
+pub use Rattle.kd_card.specs.CardFault.{AtNothing, AtOther, BeginsWithHead, BeginsWithKinds, BeginsWithWord, EndsGroup, HasNoNext, HasWords, IsDigit, IsNextKind, IsNumberText, IsNumeral, SaysAllPrices, SaysBehind, SaysCard, SaysFirst, SaysGroup, SaysKinded, SaysLine, SaysNumbered, SaysPriceLine, SaysPrices, SaysSettings, SaysValue, floor_behind, with_line}
 pub use Rattle.kd_card.specs.CardText.{HaveKinds, IsCard, IsGroup, card_text, column_name, column_word, group_of, head_words, lines_text, price_count, price_lines, price_words, row_name, row_word, settings_words, sum_words, version_text}
 pub use Rattle.kd_card.specs.Kinds.{AreCalled, AreEnds, AreKinds, HasKindWords, IsInForm, IsPairInOrder, IsPricedKind, bar_kind, cable_kind, counted, ends_rank, kind_words, kinds_text, look_name, look_rank, look_text, name_text, pair_kind, pair_rank, prices_of_kinds, row_kind}
 pub use Rattle.kd_card.specs.Laws.{CardsHaveNoFault, AsFewAreNeeded, FittingPricesBoundLists, NoCardBeginsAnother, OneCardFault, ProvingCardsAreAsLong, ProvingCardsAreShortest, ProvingPricesAreTight, RanksTellLooks, TextsTellCards, CardsAreSaid}
@@ -55,4 +55,4 @@ pub use Rattle.kd_tables.specs.Places.{IsBefore, place_rank, place_text, places,
 pub use Rattle.kd_tables.specs.Tables.{reflector_text, reflectors_of, wheel_text}
 pub use Rattle.kd_tables.specs.declared.place.Place.TheVariants.{One}
 pub use lib.Pointwise.{pointwise}
-pub use Rattle.kd_card.specs.{Reading.EndsAt, Reading.IsBadAt, Reading.words_behind, declared.fault.CardFault.CardFault}
+pub use Rattle.kd_card.specs.{Reading.EndsAt, Reading.IsBadAt, Reading.IsPriceText, Reading.words_behind, declared.fault.CardFault.CardFault}

@@ -1,5 +1,5 @@
 -- What bytes are as a card, or the first fault that they have. Lines are counted from 1.
-use Rattle.std.specs.Prelude.{codes, decimal, ◌≡◌, ◌≢◌, ℕ, ◌+◌, ◌≤◌, ◌⊎◌, List, [], ◌∷◌, ◌++◌, length, map, All, ℤ, unsigned_abs, Bool, true, false, Ok, Err}
+use Rattle.std.specs.Prelude.{codes, decimal, ◌≡◌, ◌≢◌, ℕ, ◌+◌, ◌≤◌, ◌⊎◌, List, [], ◌∷◌, ◌++◌, length, map, All, ℤ, Bool, true, false, Ok, Err}
 use Rattle.std.specs.Fmt.{signed_decimal}
 use Rattle.kd_state.specs.declared.setting.Setting.{Setting}
 use Rattle.kd_state.specs.Words.{words_of, line_of, IsFirstPart}
@@ -22,22 +22,18 @@ use Rattle.kd_card.specs.CardText.{row_word, column_word, row_name, column_name,
 
 -- ---- numbers and prices as they are written
 
--- a number's text, of whatever length: digits, of which no 0 stands in front of another
 abbrev pub IsDigit : ℕ → Type 0
 IsDigit byte = (48 ≤ byte) × (byte ≤ 57)
 
+-- a number's text, of whatever length: digits, the first of which is no 0 unless it is the only one
 abbrev pub IsNumberText : List ℕ → Type 0
 IsNumberText [] = ⊥
 IsNumberText (digit ∷ digits) = IsDigit digit × All IsDigit digits × ((digit ≡ 48) → (digits ≡ []))
 
--- the text of a number, or of a signed one: with a - in front, where it isn't 0
+-- the text of a number, or of a signed one: with a - in front where it is below 0
 abbrev pub IsNumeral : Bool → List ℕ → Type 0
 IsNumeral false text = IsNumberText text
 IsNumeral true text = IsNumberText text ⊎ ((digits : List ℕ) × (text ≡ 45 ∷ digits) × IsNumberText digits × (digits ≢ codes "0"))
-
--- the text of a price
-abbrev pub IsPriceText : List ℕ → Type 0
-IsPriceText word = (price : ℤ) × (unsigned_abs price ≤ 9999) × (signed_decimal price ≡ word)
 
 -- ---- lines
 
@@ -51,7 +47,7 @@ pub record HasWords (bytes : List ℕ) (words : List (List ℕ)) (rest : List �
   pub first : IsFirstPart 10 bytes line rest
   pub parts : words_of line ≡ words
 
--- the line is due that has this front and this number behind it, as it might have others
+-- a line is due of this front, a number's text and LF: another form is a bad line, and another number a wrong count
 abbrev pub SaysValue : Bool → List ℕ → List ℕ → ℕ → List ℕ → Says CardFault (List ℕ)
 SaysValue signed front due line bytes = do
   found ← Finds (λ (found : List ℕ × List ℕ). IsNumeral signed found.0 × (bytes ≡ front ++ found.0 ++ 10 ∷ found.1)) (BadLine line)

@@ -5,9 +5,9 @@ ghost use Rattle.std.specs.Option.{option_copied};
 ghost use Rattle.std.specs.Fmt.{signed_decimal};
 ghost use Rattle.kd_state.specs.Words.{words_of};
 ghost use Rattle.kd_card.specs.Prices.{AreWithinReach};
-ghost use Rattle.kd_card.specs.CardFault.{IsNumberText, IsNumeral, IsPriceText, SaysPrices};
+ghost use Rattle.kd_card.specs.CardFault.{IsNumberText, IsNumeral, SaysPrices};
 ghost use Rattle.kd_card.specs.CardFault.{SaysLine, SaysFirst, first_text};
-ghost use Rattle.kd_card.specs.Reading.{words_behind};
+ghost use Rattle.kd_card.specs.Reading.{IsPriceText, words_behind};
 
 use super::fault::CardFault;
 use super::group::Group;
