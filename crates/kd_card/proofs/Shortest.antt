@@ -2,6 +2,7 @@
 -- So no list of settings that leads to the day has fewer than there are loose things and prices in sum, and a card that
 -- proves itself has as many.
 use Rattle.kd_card.proofs.Prelude.{count_by-cons, ◌≡◌, ◌≢◌, ℕ, zero, suc, ◌+◌, ◌-◌, ◌≤◌, nat_eq, cond, List, [], ◌∷◌, ◌++◌, length, get_or, map, zip, replicate, Contains, IsPermutation, count_by, remove, Option, Some, None, ℤ, refl, sym, ap, ◌∙◌, subst, arith, AllByRecursion, AllZip, flat_map, eq-eqb, All-contains, recursion_from_All, sum_by-cons, get_or-le-sum_by, sum_by-IsPermutation, Contains-permutation, IsPermutation-refl, IsPermutation-sym, IsPermutation-cons, IsPermutation-trans, IsPermutation-remove, Place, One, alphabet, reading_of, IsBefore, letters_plugged, cable_letters, plugged_letters, has_letter, SameLetters, IsPaired, IsJoined, AreThePairs, differ, cable_cost, bar_cost, columns_of, tests_tell_letters, thirteen_columns, rules, Contains-append_right, sum_by, Stands, Contains-tail, ◌<◌, Bool, pos, ◌+ℤ◌, ◌≤ℤ◌, ints, length_permutation, All-permutation, Model, reflectors_of, Parts, Rotor, Pin, Setting, model_of, IsMachine, Leads, changed, Day, OfRotors, OfPins, day_model, IsLegalDay, ReadsAs, cost_table, loose_count, PriceParts, Cables, Bars, ArePrices, Fits, AreTight, price_sum, is_priced, priced_count, AreOfKind, IsNeeded, AreNeeded, Same, Expanded, FittingPricesBoundLists, ProvingCardsAreAsLong, ProvingCardsAreShortest, ProvingPricesAreTight, get_or_default, get_or-map, length-zip, get_or-zip, AsFewAreNeeded, why_refused, IsTightAt, column_prices, cost_at, how_many, price_at, row_prices, All-from_get_or, Contains-get_or}
+use Rattle.kd_card.proofs.Prelude.{AllZip-long, length-map}
 use Rattle.{kd_state.specs.Costs.standings_as, std.proofs.lemmas.List.Edits.length-remove}
 use Rattle.kd_card.proofs.Duality.{pairing_cost, reordered, fold_of_both, prices_moved, fitting_prices, tight_at, sum_of, prices_with, FitTogether, FitAll}
 use Rattle.kd_card.proofs.Counts.{times, times-append, AreOnce, once_of_distinct}
@@ -130,6 +131,7 @@ matched cables (pair ∷ pairs) nothings e h =
 pub record FreePairing {A B : Type 0} (cost : A → B → ℕ) (rows : List A) (columns : List B) (prices : List ℤ) : Type 0 where
   pub beside : List (B × ℤ)
   pub order : IsPermutation (zip columns prices) beside
+  pub count : length beside ≡ length rows
   pub free : pairing_cost cost rows beside ≡ 0
 
 module _ {A B : Type 0} (cost : A → B → ℕ) where
@@ -138,8 +140,8 @@ module _ {A B : Type 0} (cost : A → B → ℕ) where
   free_of_all [] ws h = refl
   free_of_all rows ws h = absurd h
 
-with_prices : {A B : Type 0} (R : A → B → Type 0) (xs : List A) (columns : List B) (prices : List ℤ) → length columns ≡ length prices → AllZip R xs columns
-    → AllZip (λ x (w : B × ℤ). R x w.0) xs (zip columns prices)
+pub with_prices : {A B C : Type 0} (R : A → B → Type 0) (xs : List A) (columns : List B) (prices : List C)
+    → length columns ≡ length prices → AllZip R xs columns → AllZip (λ x (w : B × C). R x w.0) xs (zip columns prices)
 with_prices R [] [] prices e h = tt
 with_prices R (x ∷ xs) (column ∷ columns) (price ∷ prices) e h = (h.0, with_prices R xs columns prices (omega arith) h.1)
 with_prices R (x ∷ xs) (column ∷ columns) [] e h = absurd (omega arith)
@@ -158,7 +160,8 @@ cables_paired cables pairs prices has once few count h =
     let there = matched cables pairs (13 - length pairs) (omega (arith, has.count)) matching in
     let beside = reordered (λ cable (w : Option (ℕ × ℕ) × ℤ). CostsNothing cable w.0) there.0 cables (zip (columns_of pairs) prices) (IsPermutation-sym cables there.0 there.1)
     (with_prices CostsNothing there.0 (columns_of pairs) prices (omega (arith, thirteen_columns pairs few)) there.2) in
-    record { beside = beside.0; order = beside.1; free = free_of_all cable_cost cables beside.0 beside.2 }
+    let many = AllZip-long _ cables beside.0 beside.2 in
+    record { beside = beside.0; order = beside.1; count = many; free = free_of_all cable_cost cables beside.0 beside.2 }
 
 -- a bar that stands costs nothing at its own row
 own_row : (left right : Place) → IsBefore left right → bar_cost (left, right) (reading_of left right) ≡ 0
@@ -170,9 +173,9 @@ own_row left right before = first_of (search rules, omega arith)
 abbrev reading : Place × Place → ℕ × ℕ
 reading bar = reading_of bar.0 bar.1
 
-alike_rows : (rows : List (ℕ × ℕ)) → AllZip (λ row (other : ℕ × ℕ). row ≡ other) rows rows
-alike_rows [] = tt
-alike_rows (row ∷ rows) = (refl, alike_rows rows)
+pub each_itself : {X : Type 0} (xs : List X) → AllZip (λ x (other : X). x ≡ other) xs xs
+each_itself [] = tt
+each_itself (x ∷ xs) = (refl, each_itself xs)
 
 free_rows : (bars : List (Place × Place)) (ws : List ((ℕ × ℕ) × ℤ)) → AllByRecursion Stands bars → AllZip (λ row (w : (ℕ × ℕ) × ℤ). row ≡ w.0) (map reading bars) ws
     → AllZip (λ bar (w : (ℕ × ℕ) × ℤ). bar_cost bar w.0 ≡ 0) bars ws
@@ -184,8 +187,10 @@ pub bars_paired : (bars : List (Place × Place)) (rows : List (ℕ × ℕ)) (pri
     → FreePairing bar_cost bars rows prices
 bars_paired bars rows prices has count h =
     let beside = reordered (λ row (w : (ℕ × ℕ) × ℤ). row ≡ w.0) rows (map reading bars) (zip rows prices) (IsPermutation-sym (map reading bars) rows h)
-    (with_prices (λ row (other : ℕ × ℕ). row ≡ other) rows rows prices count (alike_rows rows)) in
-    record { beside = beside.0; order = beside.1; free = free_of_all bar_cost bars beside.0 (free_rows bars beside.0 (recursion_from_All Stands bars has.stand) beside.2) }
+    (with_prices (λ row (other : ℕ × ℕ). row ≡ other) rows rows prices count (each_itself rows)) in
+    let many = AllZip-long _ (map reading bars) beside.0 beside.2 ∙ length-map bars reading in
+    let rows_free = free_rows bars beside.0 (recursion_from_All Stands bars has.stand) beside.2 in
+    record { beside = beside.0; order = beside.1; count = many; free = free_of_all bar_cost bars beside.0 rows_free }
 
 -- ---- each setting does one thing at most
 
@@ -212,9 +217,9 @@ placed xs ys i d order lt =
     (there.0, there.1, sym there.2 ∙ get_or_default xs there.0 (get_or ys i d) d there.1)
 
 -- what fitting prices tell of so many lines
-record AreBounds (costs : List (List ℕ)) (prices : PriceParts) (loose lines : ℕ) : Type 0 where
-  bound : (pos loose +ℤ price_sum prices) ≤ℤ pos lines
-  tight : pos lines ≡ (pos loose +ℤ price_sum prices) → AreTight costs prices
+pub record AreBounds (costs : List (List ℕ)) (prices : PriceParts) (loose lines : ℕ) : Type 0 where
+  pub bound : (pos loose +ℤ price_sum prices) ≤ℤ pos lines
+  pub tight : pos lines ≡ (pos loose +ℤ price_sum prices) → AreTight costs prices
 
 module _ {A B : Type 0} (a : A) (b : B) (cost : A → B → ℕ) (rows : List A) (columns : List B) (prices : PriceParts)
     (loose lines : ℕ) (rows_count : length rows ≡ how_many prices) (columns_count : length columns ≡ how_many prices)
@@ -285,7 +290,7 @@ module _ {A B : Type 0} (a : A) (b : B) (cost : A → B → ℕ) (rows : List A)
         let inside : there.0 < how_many prices = omega (arith, there.1, size) in
         (there.0, inside, tight_where there.0 j inside lt (sym there.2))
 
-  bounded : AreBounds costs prices loose lines
+  pub bounded : AreBounds costs prices loose lines
   bounded = record { bound = below; tight = λ exact. record { column_of = column_for exact; row_of = row_for exact } }
 
 -- ---- machines and days

@@ -1,6 +1,7 @@
 //! What holds of cards.
 ghost use Rattle.kd_card.specs.Laws.{RanksTellLooks, TextsTellCards, NoCardBeginsAnother, CardsAreSaid};
 ghost use Rattle.kd_card.specs.Laws.{CardsHaveNoFault, OneCardFault, FittingPricesBoundLists, AsFewAreNeeded};
+ghost use Rattle.kd_card.specs.Months.{CardsAreFewestInAll};
 ghost use Rattle.kd_card.specs.Laws.{ProvingCardsAreAsLong, ProvingCardsAreShortest, ProvingPricesAreTight};
 
 /// No two cards have one text, and no card's text is the front of another card's. A card's text has no fault, and no bytes
@@ -48,4 +49,11 @@ pub fn proving_cards_are_shortest()
 #[tactic(auto, using(crate::proofs::Shortest::proving_prices_are_tight))]
 pub fn proving_prices_are_tight()
     ensures { ProvingPricesAreTight }
+{}
+
+/// On a rotor machine the cards of days that follow one another have in total at most as many settings as any other
+/// lists that reach these days one after another, from the same machine.
+#[tactic(auto, using(crate::proofs::Months::cards_are_fewest_in_all))]
+pub fn cards_are_fewest_in_all()
+    ensures { CardsAreFewestInAll }
 {}
