@@ -3,6 +3,8 @@
 pub mod Values
 unfoldable pub use Values.*
 use Rattle.toml.specs.Data as toml
+use Rattle.kd_sheet.specs.{Document.document_of, MachineFile.machine_of, MachineFile.version_in, SheetFile.sheet_of}
+use Rattle.kd_state.{proofs.Telling.Refusing.Changing.ordered_parts, specs.Machine.IsMachine}
 
 -- ---- reflectors
 
@@ -346,3 +348,27 @@ next_month sheet after items place item new left here so_far found put =
       month = put ∙ ap (λ month. set month (day_number new - 1) (Some new)) so_far.month
           ∙ month_more so_far.days new entry.tells.number entry.tells.free;
     }
+
+-- ---- a machine file says a machine, and a sheet legal days
+
+parts_are_machine : (model : Model) (table : Members) → Gives (parts_in model table) IsMachine
+unfolding parts_in
+parts_are_machine M209 table =
+    after _ _ _ _ (pin_parts_legal table) (λ parts legal. done IsMachine _ (record { legal = legal; cables = refl }))
+parts_are_machine model table =
+    after _ _ _ _ (rotor_parts_legal model table) (λ parts legal. done IsMachine _ (ordered_parts parts legal))
+
+pub machine_of-IsMachine : (bytes : List ℕ) → Gives (machine_of bytes) IsMachine
+unfolding machine_in
+machine_of-IsMachine bytes =
+    after_any (document_of bytes) _ IsMachine (λ table. after_any (version_in table) _ IsMachine (λ version.
+    after_any (known_model_in version table) _ IsMachine (λ model. parts_are_machine model table)))
+
+pub sheet_of-legal : (bytes : List ℕ) (month : List (Option Day)) (number : ℕ) (day : Day) → sheet_of bytes ≡ Ok month
+    → day_of month number ≡ Some day → IsLegalDay day
+unfolding sheet_in
+sheet_of-legal bytes month number day e found =
+    let table = given (document_of bytes) _ month e in
+    let items = given (items_at keys.Day table.0) _ month table.2 in
+    let entry = (days_are_the_entries table.0 items.0 month number day items.1 table.2).0 found in
+    (described [] entry.0 day entry.2).legal
