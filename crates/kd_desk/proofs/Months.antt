@@ -5,11 +5,15 @@ use Rattle.kd_desk.proofs.Prelude.{Option, Parts, Port, PriceParts, Result, Sett
 use Rattle.kd_desk.proofs.Prelude.{begins_as_card, day_number, inl, inr, machine_of, refl, subst, sym, ℕ, ◌∙◌, ◌∷◌, ◌≡◌}
 use Rattle.kd_desk.proofs.{Applying.of_read, Days.on_day, Exclusions.one_list, Failing.in_whole, Printing.printed}
 use Rattle.{kd_desk.proofs.Prelude.◌⊎◌, kd_plan.specs.Planned.Plans, kd_tables.specs.declared.model.Model.Model}
-use Rattle.kd_desk.specs.{Laws.MonthsSetTheMachine, Ports.WritesText, RunCard.{Prints, WritesCard}}
+use Rattle.kd_desk.specs.{Laws.{MonthsAreFewest, MonthsSetTheMachine}, Ports.WritesText, RunCard.{Prints, WritesCard}}
 use Rattle.kd_desk.specs.Month.{AreWritten, HasDayOf, HasPapers, HasPapersInTurn, Papers, SetTheMachine, taken, well}
+use Rattle.kd_desk.specs.Month.{AreCardsOf, AreDaysOf, SetTheMachineInTurn}
+use Rattle.kd_card.{proofs.Months.cards_are_fewest_in_all, specs.Months.{DayAfterDay, IsProvedCard}}
+use Rattle.kd_sheet.proofs.ReadBack.Described.{machine_of-IsMachine, sheet_of-legal}
 use Rattle.{kd_prices.specs.KindCards.IsByKind, kd_state.proofs.Telling.Refusing.{leads_to_one, lists_keep_machines}}
 use Rattle.kd_sheet.specs.{Laws.WrittenFilesAreReadBack, MachineText.machine_text, declared.fault.SheetFault.SheetFault}
-use Rattle.{kd_sheet.specs.{Sheet.day_of, SheetFile.sheet_of}, std.proofs.{Common.All, lemmas.List.Elements.All-tail}}
+use Rattle.{kd_sheet.specs.{Sheet.day_of, SheetFile.sheet_of}, std.proofs.Common.All}
+use Rattle.std.proofs.lemmas.List.Elements.{All-cons, All-nil, All-tail}
 use Rattle.kd_card.specs.declared.card.Card as declared
 
 -- ---- whatever is written sets the machine
@@ -84,7 +88,12 @@ sets file sheet number papers are =
       of_card = says;
       shortest = card.plans.shortest;
       n = card.leaves.0;
-      leads = card.leaves.1;
+      proved = record {
+        reaches = record { leads = card.leaves.1; reads = card.leaves.2.reads };
+        prices = card.prices;
+        are_prices = card.card.are_prices;
+        proves = card.proves;
+      };
       of_next = ap machine_of written ∙ next.back ∙ ap Ok same;
       sheets = card.leaves.2;
     }
@@ -94,6 +103,27 @@ months_set_the_machine file sheet [] [] are = tt
 months_set_the_machine file sheet (number ∷ numbers) (papers ∷ more) are =
     grind (arith, sets, months_set_the_machine papers.file sheet numbers more are.1)
 months_set_the_machine file sheet numbers papers are = absurd are
+
+in_turn : (file sheet numbers : List ℕ) (papers : List Papers) (m : Parts) (month : List (Option Day))
+    (days : List Day) (cards : List (List Setting)) → machine_of file ≡ Ok m → sheet_of sheet ≡ Ok month
+    → AreDaysOf month numbers days → SetTheMachineInTurn file sheet numbers papers → AreCardsOf papers cards
+    → All IsLegalDay days × DayAfterDay IsProvedCard m days cards
+in_turn file sheet [] [] m month [] [] of_file of_sheet due are say = (All-nil IsLegalDay, tt)
+in_turn file sheet (number ∷ numbers) (paper ∷ papers) m month (s ∷ days) (card ∷ cards) of_file of_sheet due on say =
+    let here = on.0 in
+    let machine : here.m ≡ m = cc in
+    let day : here.s ≡ s = cc in
+    let proved = rw (machine, day, one_list paper.card here.settings card here.of_card say.0) at here.proved in
+    let n = here.n in
+    let rest = in_turn paper.file sheet numbers papers n month days cards here.of_next of_sheet due.1 on.1 say.1 in
+    (All-cons IsLegalDay s days (sheet_of-legal sheet month number s of_sheet due.0) rest.0, (n, proved, rest.1))
+in_turn file sheet numbers papers m month days cards of_file of_sheet due are say = grind arith
+
+pub months_are_fewest : MonthsAreFewest
+months_are_fewest file sheet numbers papers m month days cards lists of_file of_sheet rotor due written say reach =
+    let set = months_set_the_machine file sheet numbers papers written in
+    let are = in_turn file sheet numbers papers m month days cards of_file of_sheet due set say in
+    cards_are_fewest_in_all m days cards lists (machine_of-IsMachine file m of_file) rotor are.0 are.1 reach
 
 -- ---- and there is something to be written
 

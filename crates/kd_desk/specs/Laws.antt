@@ -1,11 +1,16 @@
 -- What holds of bytes that say settings, of a machine that carries settings out, and of a month's cards and files.
-use Rattle.std.specs.Prelude.{◌≡◌, ℕ, List}
+use Rattle.std.specs.Prelude.{◌≡◌, ◌≢◌, ◌≤◌, ℕ, List, Option, Ok}
+use Rattle.kd_tables.specs.declared.model.Model.TheVariants.{M209}
 use Rattle.kd_state.specs.declared.machine.parts.Parts.{Parts}
 use Rattle.kd_state.specs.declared.setting.Setting.{Setting}
 use Rattle.kd_state.specs.declared.setting.why.Why.{Why}
+use Rattle.kd_state.specs.Machine.{model_of}
 use Rattle.kd_state.specs.Setting.{IsFirstIllegal, Leads}
+use Rattle.kd_state.specs.SheetDay.{Day}
+use Rattle.kd_card.specs.Months.{DayAfterDay, ReachesDay, total_length}
+use Rattle.kd_sheet.specs.{MachineFile.machine_of, SheetFile.sheet_of}
 use Rattle.kd_desk.specs.declared.fault.DeskFault.{DeskFault}
-use Rattle.kd_desk.specs.Month.{Papers, AreWrittenInTurn, SetTheMachineInTurn}
+use Rattle.kd_desk.specs.Month.{Papers, AreWrittenInTurn, SetTheMachineInTurn, AreDaysOf, AreCardsOf}
 use Rattle.kd_desk.specs.Settings.{AreSettings, IsSettingsFault}
 
 -- bytes say one list of settings at most
@@ -32,3 +37,12 @@ abbrev pub MonthsSetTheMachine : Type 0
 MonthsSetTheMachine =
     (file sheet numbers : List ℕ) (papers : List Papers) → AreWrittenInTurn file sheet numbers papers
     → SetTheMachineInTurn file sheet numbers papers
+
+-- On a rotor machine the cards that are written for days of a sheet, one after another, have in total at most as many
+-- settings as any other lists that reach these days one after another, from the same machine.
+abbrev pub MonthsAreFewest : Type 0
+MonthsAreFewest =
+    (file sheet numbers : List ℕ) (papers : List Papers) (m : Parts) (month : List (Option Day)) (days : List Day)
+    (cards lists : List (List Setting)) → machine_of file ≡ Ok m → sheet_of sheet ≡ Ok month → model_of m ≢ M209
+    → AreDaysOf month numbers days → AreWrittenInTurn file sheet numbers papers → AreCardsOf papers cards
+    → DayAfterDay ReachesDay m days lists → total_length cards ≤ total_length lists

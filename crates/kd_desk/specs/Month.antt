@@ -1,11 +1,12 @@
 -- A month on one machine: for day after day of a sheet a card, and the machine's next file.
 use Rattle.std.specs.Prelude.{◌≡◌, ◌⊎◌, ℕ, List, [], ◌∷◌, false, Option, Some, Result, Ok, IfOk}
+use Rattle.std.specs.List.{AllZip}
 use Rattle.kd_tables.specs.declared.model.Model.{Model}
 use Rattle.kd_tables.specs.Ports.{Port}
 use Rattle.kd_state.specs.declared.machine.parts.Parts.{Parts}
 use Rattle.kd_state.specs.declared.setting.Setting.{Setting}
-use Rattle.kd_state.specs.Setting.{Leads}
 use Rattle.kd_state.specs.SheetDay.{Day, day_model, day_number}
+use Rattle.kd_card.specs.Months.{IsProvedCard}
 use Rattle.kd_card.specs.Proving.{IsShortest}
 use Rattle.kd_sheet.specs.MachineFile.{machine_of}
 use Rattle.kd_sheet.specs.Sheet.{day_of}
@@ -44,7 +45,7 @@ AreWrittenInTurn file sheet (number ∷ numbers) (papers ∷ more) =
 AreWrittenInTurn file sheet numbers papers = ⊥
 
 -- the card's settings lead the file's machine to that of the next file, which reads and enciphers as the sheet's day of
--- that number, and no settings whatever that lead to the day are fewer
+-- that number, the card's prices prove it, and no settings whatever that lead to the day are fewer
 pub record SetTheMachine (file sheet : List ℕ) (number : ℕ) (papers : Papers) : Type 0 where
   pub m : Parts
   pub of_file : machine_of file ≡ Ok m
@@ -56,7 +57,7 @@ pub record SetTheMachine (file sheet : List ℕ) (number : ℕ) (papers : Papers
   pub of_card : AreSettings papers.card settings
   pub shortest : IsShortest m s settings
   pub n : Parts
-  pub leads : Leads m settings n
+  pub proved : IsProvedCard m s settings n
   pub of_next : machine_of papers.file ≡ Ok n
   pub sheets : IsSheetsMachine n s
 
@@ -66,6 +67,14 @@ SetTheMachineInTurn file sheet [] [] = Unit {0}
 SetTheMachineInTurn file sheet (number ∷ numbers) (papers ∷ more) =
     SetTheMachine file sheet number papers × SetTheMachineInTurn papers.file sheet numbers more
 SetTheMachineInTurn file sheet numbers papers = ⊥
+
+-- the days of the month that have these numbers
+abbrev pub AreDaysOf : List (Option Day) → List ℕ → List Day → Type 0
+AreDaysOf month numbers days = AllZip (λ number s. day_of month number ≡ Some s) numbers days
+
+-- the settings of the cards, card by card
+abbrev pub AreCardsOf : List Papers → List (List Setting) → Type 0
+AreCardsOf papers cards = AllZip (λ paper settings. AreSettings paper.card settings) papers cards
 
 -- the month has a day of that number, and it is of the model
 pub record HasDayOf (model : Model) (month : List (Option Day)) (number : ℕ) : Type 0 where

@@ -3,7 +3,8 @@
 ghost use Rattle.std.specs.Prelude.{◌≡◌, All};
 ghost use Rattle.kd_state.specs.Machine.{model_of};
 ghost use Rattle.kd_state.specs.SheetDay.{day_model};
-ghost use Rattle.kd_desk.specs.Laws.{TextsTellSettings, SettingsHaveNoFault, SettingsHaveOneFault, LeadsOrRefuses, MonthsSetTheMachine};
+ghost use Rattle.kd_desk.specs.Laws.{TextsTellSettings, SettingsHaveNoFault, SettingsHaveOneFault, LeadsOrRefuses};
+ghost use Rattle.kd_desk.specs.Laws.{MonthsSetTheMachine, MonthsAreFewest};
 ghost use Rattle.kd_desk.specs.Month.{HasDayOf, HasPapers, HasPapersInTurn};
 
 use crate::run_card::in_kinds;
@@ -31,6 +32,13 @@ pub fn settings_lead_or_are_refused()
 /// are fewer.
 pub fn months_set_the_machine()
     ensures { MonthsSetTheMachine }
+{}
+
+/// On a rotor machine these cards have in total at most as many settings as any other lists that reach these days one
+/// after another, from the same machine.
+#[tactic(auto, using(crate::proofs::Months::months_are_fewest))]
+pub fn months_are_fewest()
+    ensures { MonthsAreFewest }
 {}
 
 /// And there are such cards and files for each machine, each sheet and all of its days that are of the machine's model.
