@@ -83,6 +83,7 @@ sets file sheet number papers are =
       settings = card.settings;
       of_card = says;
       shortest = card.plans.shortest;
+      spares = card.plans.spares;
       n = card.leaves.0;
       leads = card.leaves.1;
       of_next = ap machine_of written ∙ next.back ∙ ap Ok same;

@@ -4,6 +4,7 @@ ghost use Rattle.std.specs.Prelude.{◌≡◌, All};
 ghost use Rattle.kd_state.specs.Machine.{model_of};
 ghost use Rattle.kd_state.specs.SheetDay.{day_model};
 ghost use Rattle.kd_desk.specs.Laws.{TextsTellSettings, SettingsHaveNoFault, SettingsHaveOneFault, LeadsOrRefuses, MonthsSetTheMachine};
+ghost use Rattle.kd_desk.specs.FewCables.{FewCablesServeAMonth};
 ghost use Rattle.kd_desk.specs.Month.{HasDayOf, HasPapers, HasPapersInTurn};
 
 use crate::run_card::in_kinds;
@@ -31,6 +32,12 @@ pub fn settings_lead_or_are_refused()
 /// are fewer.
 pub fn months_set_the_machine()
     ensures { MonthsSetTheMachine }
+{}
+
+/// Whoever owns ten cables, say, never needs an eleventh: where a machine uses none but its first ten cables, and no day has
+/// more than ten pairs, no card of the month names another cable, and the machine uses none.
+pub fn few_cables_serve_a_month()
+    ensures { FewCablesServeAMonth }
 {}
 
 /// And there are such cards and files for each machine, each sheet and all of its days that are of the machine's model.
