@@ -12,3 +12,4 @@ mod Checking
 mod Receiving
 mod Streaming
 mod Months
+mod FewCables

@@ -87,6 +87,7 @@ sets file sheet number papers are =
       settings = card.settings;
       of_card = says;
       shortest = card.plans.shortest;
+      spares = card.plans.spares;
       n = card.leaves.0;
       proved = record {
         reaches = record { leads = card.leaves.1; reads = card.leaves.2.reads };

@@ -13,3 +13,4 @@ pub mod OnDay
 pub mod RunCard
 pub mod RunCheck
 pub mod Month
+pub mod FewCables

@@ -8,6 +8,7 @@ use Rattle.kd_state.specs.declared.setting.Setting.{Setting}
 use Rattle.kd_state.specs.SheetDay.{Day, day_model, day_number}
 use Rattle.kd_card.specs.Months.{IsProvedCard}
 use Rattle.kd_card.specs.Proving.{IsShortest}
+use Rattle.kd_plan.specs.Spares.{SparesStayFree}
 use Rattle.kd_sheet.specs.MachineFile.{machine_of}
 use Rattle.kd_sheet.specs.Sheet.{day_of}
 use Rattle.kd_sheet.specs.SheetFile.{sheet_of}
@@ -45,7 +46,8 @@ AreWrittenInTurn file sheet (number ∷ numbers) (papers ∷ more) =
 AreWrittenInTurn file sheet numbers papers = ⊥
 
 -- the card's settings lead the file's machine to that of the next file, which reads and enciphers as the sheet's day of
--- that number, the card's prices prove it, and no settings whatever that lead to the day are fewer
+-- that number, the card's prices prove it, no settings whatever that lead to the day are fewer, and spare cables stay
+-- free
 pub record SetTheMachine (file sheet : List ℕ) (number : ℕ) (papers : Papers) : Type 0 where
   pub m : Parts
   pub of_file : machine_of file ≡ Ok m
@@ -56,6 +58,7 @@ pub record SetTheMachine (file sheet : List ℕ) (number : ℕ) (papers : Papers
   pub settings : List Setting
   pub of_card : AreSettings papers.card settings
   pub shortest : IsShortest m s settings
+  pub spares : SparesStayFree m s settings
   pub n : Parts
   pub proved : IsProvedCard m s settings n
   pub of_next : machine_of papers.file ≡ Ok n

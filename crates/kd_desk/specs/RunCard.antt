@@ -16,9 +16,9 @@ use Rattle.kd_desk.specs.Headline.{LeavesTheSheetsMachine, EquallySetDecipher}
 use Rattle.kd_tables.specs.Ports.{Port}
 use Rattle.kd_desk.specs.Ports.{WritesText}
 
--- The text of a card for the day of that number was written, or a prefix of it where the device failed. The card has a price
--- for each kind; the prices by number that these mean prove it, and with them it is a planned one: no settings whatever that
--- reach the day are fewer. Its settings, carried out, leave a machine that is ready and enciphers as the day's own; and what a
+-- The text of a card for day `number` was written, or a prefix of it where the device failed. The card has a price for each
+-- kind; the prices by number that these mean prove it, and with them it is a planned card: no settings that reach the day are
+-- fewer, and spare cables stay free. Its settings leave a machine that is ready and enciphers as the day's own; and what a
 -- machine on the day's key enciphers an equally set one deciphers.
 pub record WritesCard (m : Parts) (s : Day) (number : ℕ) (sink : Port) (answer : Result (Unit {0}) DeskFault) : Type 0 where
   pub settings : List Setting

@@ -5,6 +5,7 @@ ghost use Rattle.kd_state.specs.Machine.{model_of};
 ghost use Rattle.kd_state.specs.SheetDay.{day_model};
 ghost use Rattle.kd_desk.specs.Laws.{TextsTellSettings, SettingsHaveNoFault, SettingsHaveOneFault, LeadsOrRefuses};
 ghost use Rattle.kd_desk.specs.Laws.{MonthsSetTheMachine, MonthsAreFewest};
+ghost use Rattle.kd_desk.specs.FewCables.{FewCablesServeAMonth};
 ghost use Rattle.kd_desk.specs.Month.{HasDayOf, HasPapers, HasPapersInTurn};
 
 use crate::run_card::in_kinds;
@@ -39,6 +40,12 @@ pub fn months_set_the_machine()
 #[tactic(auto, using(crate::proofs::Months::months_are_fewest))]
 pub fn months_are_fewest()
     ensures { MonthsAreFewest }
+{}
+
+/// Whoever owns ten cables, say, never needs an eleventh: where a machine uses none but its first ten cables, and no day has
+/// more than ten pairs, no card of the month names another cable, and the machine uses none.
+pub fn few_cables_serve_a_month()
+    ensures { FewCablesServeAMonth }
 {}
 
 /// And there are such cards and files for each machine, each sheet and all of its days that are of the machine's model.

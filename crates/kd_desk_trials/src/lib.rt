@@ -10,6 +10,8 @@ mod fault;
 #[cfg(test)]
 mod files;
 #[cfg(test)]
+mod large;
+#[cfg(test)]
 mod memory_files;
 #[cfg(test)]
 mod ports;

@@ -8,7 +8,7 @@ use kd_prices::Doubt::{
 use kd_state::Why;
 use kd_tables::MemorySource;
 use kd_trials::named::TextName::{
-    BarKinds, Empty, Higher, Highest, NoPrices, NoSettings, OneLug, TwoCableKinds, TwoCables,
+    BarKinds, Empty, Higher, Highest, M1, NoPrices, NoSettings, OneLug, TwoCableKinds, TwoCables,
 };
 use std::alloc::AllocError;
 
@@ -50,7 +50,7 @@ pub const FAULTY_BARS: &[Judged] = &[
 ];
 
 /// Cards that are checked. Their own faults come before another day, and that before the doubts.
-static CHECKED: [Cards; 17] = [
+static CHECKED: [Cards; 18] = [
     (
         Call::Check(8),
         PLUGGED,
@@ -85,6 +85,17 @@ static CHECKED: [Cards; 17] = [
         &[("DAY 11", "DAY 8", Err(Doubtful(NotTheSheet)))],
     ),
     (Call::Check(8), PLUGGED, NoSettings, FAULTY_CABLES),
+    // Six settings are needed, and the last of them once.
+    (
+        Call::Check(11),
+        (M1, "AAAAA", "BBBBB"),
+        NoSettings,
+        &[(
+            "SETTINGS 0",
+            "RING I A\nRING II A\nRING III A\nTURN 1 A\nTURN 2 A\nTURN 3 A\nTURN 3 A\nSETTINGS 7",
+            Err(Doubtful(NeedlessLine(7))),
+        )],
+    ),
     (
         Call::Check(9),
         TWO_BARS,

@@ -1,11 +1,14 @@
-ghost use Rattle.std.specs.Prelude.{◌≡◌, ◌≢◌, ◌<◌, IfOk, IsErr, MatchOption, ◌↔◌};
+//! The planner: what differs from the day, and an assignment of least cost for cables or bars.
+ghost use Rattle.std.specs.Prelude.{◌≡◌, ◌≢◌, ◌<◌, IfOk, IsErr, IfSome, MatchOption, ◌↔◌};
 ghost use Rattle.kd_plan.specs.Planned.{IsPlanned, Plans};
+ghost use Rattle.kd_plan.specs.Spares.{SparesStayFree};
 ghost use Rattle.kd_state.specs.SheetDay.{OfRotors, OfPins, IsLegalDay, day_model};
 ghost use Rattle.kd_state.specs.{Entry.{rotor_values, pin_values}, Machine.{IsMachine, model_of}};
 
 use super::card_prices::prices_due;
 use super::other_model::OtherModel;
 use super::paired::paired_settings;
+use super::spares::keep_spares_free;
 use kd_assign::{Solution, assign};
 use kd_card::{Card, Prices, Version};
 use kd_state::{
@@ -13,8 +16,10 @@ use kd_state::{
     cable_costs,
 };
 
-/// The card that leads the machine to the day by the fewest settings. Which of several shortest ones it is isn't promised,
-/// nor which prices prove it; but where cables and bars cost nothing, all prices are 0.
+/// Plans the card that sets the machine to the day by the fewest settings, and leaves spare cables free.
+///
+/// Which of several such cards it is isn't promised, nor which prices prove it; where cables and bars cost nothing, all
+/// prices are 0.
 #[tactic(auto, using(crate::proofs::Planning::plans))]
 pub fn plan(machine: &Machine, day: &SheetDay) -> Result<Card, OtherModel>
     ensures refused { IsErr result ↔ (model_of machine.now ≢ day_model day.now) }
@@ -31,6 +36,7 @@ fn planned_card(machine: &Machine, day: &SheetDay) -> Option<Card>
     ensures planned { MatchOption result
         (model_of machine.now ≢ day_model day.now)
         (λ card. IsPlanned machine.now day.now card.settings.items card.prices) }
+    ensures spares { IfSome result (λ card. SparesStayFree machine.now day.now card.settings.items) }
     ensures machine { IsMachine machine.now }
     ensures legal { IsLegalDay day.now }
 {
@@ -46,16 +52,21 @@ fn rotor_card(machine: &Machine, day: &SheetDay, parts: &RotorParts, entry: &Rot
     requires parts { machine.now ≡ Parts.Rotor parts.now }
     requires entry { day.now ≡ OfRotors (rotor_values entry.now) }
     requires model { model_of machine.now ≡ day_model day.now }
-    ensures { IsPlanned machine.now day.now result.settings.items result.prices }
+    requires machine { IsMachine machine.now }
+    requires legal { IsLegalDay day.now }
+    ensures planned { IsPlanned machine.now day.now result.settings.items result.prices }
+    ensures spares { SparesStayFree machine.now day.now result.settings.items }
 {
-    let costs = cable_costs(&parts.cables, entry.pairs.as_slice());
+    let pairs = entry.pairs.as_slice();
+    let costs = cable_costs(&parts.cables, pairs);
     let Solution {
-        to,
+        mut to,
         row,
         col,
         total,
         ..
     } = assign(&costs);
+    keep_spares_free(&parts.cables, pairs, &mut to);
     let prices = Prices::cables(prices_due(total, row), prices_due(total, col)).unwrap();
     let settings = paired_settings(machine, day, &to);
     Card { settings, prices }

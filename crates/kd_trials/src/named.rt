@@ -35,6 +35,12 @@ pub enum TextName {
     Unready,
     Farthest,
     Sheet,
+    UnlikeBars,
+    DayOfUnlikeBars,
+    NoLugs,
+    UnlikeBarKinds,
+    OneBarKind,
+    UnlikeCableKinds,
     Empty,
 }
 
@@ -73,6 +79,12 @@ impl TextName {
             TextName::Unready => texts::UNREADY,
             TextName::Farthest => texts::FARTHEST,
             TextName::Sheet => texts::SHEET,
+            TextName::UnlikeBars => texts::UNLIKE_BARS,
+            TextName::DayOfUnlikeBars => texts::DAY_OF_UNLIKE_BARS,
+            TextName::NoLugs => texts::NO_LUGS,
+            TextName::UnlikeBarKinds => texts::UNLIKE_BAR_KINDS,
+            TextName::OneBarKind => texts::ONE_BAR_KIND,
+            TextName::UnlikeCableKinds => texts::UNLIKE_CABLE_KINDS,
             TextName::Empty => "",
         }
     }

@@ -3,6 +3,8 @@ use crate::machines::{CABLES, ONE_BAR, PLAIN, TWO_BARS, TWO_MODELS, Told, keyed}
 use crate::named::TextName::{DayOfM4, DayWithoutPins, M1, M3, M4AsEnigma, PlainDay, WithoutPins};
 use kd_card::write_card;
 use kd_plan::{OtherModel, plan};
+use kd_prices::check;
+use kd_state::Setting;
 use kd_tables::MemorySink;
 use std::alloc::Global;
 use std::process::Abort;
@@ -117,6 +119,86 @@ fn is_planned(rt: &impl Abort, alloc: Global, (told, front, end): &Case) {
 fn cards_are_planned(rt: HostRuntime) {
     for case in &CASES {
         is_planned(&rt, rt.alloc(), case);
+    }
+}
+
+/// The cables of an Enigma I, the pairs of a day, and the spare cables that become pairs.
+type SpareCase = (&'static str, &'static str, &'static [u8]);
+
+static SPARES: [SpareCase; 9] = [
+    // As many pairs as cables in use, on letters of which each cable has none, one or both.
+    (
+        "version = 1\ncables = [\"AB\", \"CD\", \"EF\", \"GH\", \"IJ\", \"KL\", \"MN\", \"OP\", \"QR\", \"ST\"]",
+        "plugs = [\"AZ\", \"BY\", \"CX\", \"DW\", \"EV\", \"FU\", \"GT\", \"HS\", \"IR\", \"JQ\"]",
+        &[],
+    ),
+    (
+        "version = 1\ncables = [\"AB\", \"CD\", \"EF\", \"GH\", \"IJ\", \"KL\", \"MN\", \"OP\", \"QR\", \"ST\"]",
+        "plugs = [\"AC\", \"BD\", \"EG\", \"FH\", \"IK\", \"JL\", \"MO\", \"NP\", \"UV\", \"WX\"]",
+        &[],
+    ),
+    // Two pairs more than cables in use: the two spare cables with the lowest numbers.
+    (
+        "version = 1\ncables = [\"AB\", \"CD\", \"EF\", \"GH\", \"IJ\", \"KL\", \"MN\", \"OP\"]",
+        "plugs = [\"AZ\", \"BY\", \"CX\", \"DW\", \"EV\", \"FU\", \"GT\", \"HS\", \"IR\", \"JQ\"]",
+        &[9, 10],
+    ),
+    (
+        "version = 1\ncables = [\"AB\", \"\", \"EF\", \"GH\", \"\", \"KL\", \"MN\", \"\", \"OP\"]",
+        "plugs = [\"AZ\", \"BY\", \"CX\", \"DW\", \"EV\", \"FU\", \"GT\", \"HS\"]",
+        &[2, 5],
+    ),
+    // A cable with one letter is in use, wherever it lies.
+    ("version = 1\ncables = [\"A\"]", "plugs = [\"BC\"]", &[]),
+    (
+        "version = 1\ncables = [\"\", \"\", \"\", \"\", \"\", \"\", \"\", \"\", \"\", \"\", \"\", \"\", \"A\"]",
+        "plugs = [\"BC\"]",
+        &[],
+    ),
+    // Fewer pairs than cables in use.
+    (
+        "version = 1\ncables = [\"AB\", \"CD\", \"EF\"]",
+        "plugs = [\"YZ\", \"WX\"]",
+        &[],
+    ),
+    // All thirteen.
+    (
+        "version = 1\ncables = []",
+        "plugs = [\"AB\", \"CD\", \"EF\", \"GH\", \"IJ\", \"KL\", \"MN\", \"OP\", \"QR\", \"ST\", \"UV\", \"WX\", \"YZ\"]",
+        &[1, 2, 3, 4, 5, 6, 7, 8, 9, 10, 11, 12, 13],
+    ),
+    (
+        "version = 1\ncables = [\"\", \"CD\", \"EF\", \"GH\", \"IJ\", \"KL\", \"MN\", \"OP\", \"QR\", \"ST\", \"UV\", \"WX\", \"YZ\"]",
+        "plugs = [\"AC\", \"BD\", \"EG\", \"FH\", \"IK\", \"JL\", \"MO\", \"NP\", \"QS\", \"RT\", \"UW\", \"VX\", \"YZ\"]",
+        &[1],
+    ),
+];
+
+/// The card is shortest, and puts two letters into each of these spare cables, and none into another one.
+fn keeps_spares_free(rt: &impl Abort, alloc: Global, (cables, plugs, taken): &SpareCase) {
+    let told = (
+        (M1, "version = 1", *cables),
+        (PlainDay, "plugs = []", *plugs),
+    );
+    let (machine, day) = keyed(rt, alloc, &told);
+    let card = plan(&machine, &day).ok().expect(rt, "one model");
+    assert!(rt; check(&machine, &day, &card).is_ok());
+    let mut lines = 0_usize;
+    for setting in card.settings.as_slice() {
+        if let Setting::Put { cable, .. } = setting
+            && machine.cable(*cable) == Some((None, None))
+        {
+            assert!(rt; taken.contains(cable), "{cable}");
+            lines = lines.checked_add(1).expect(rt, "few lines");
+        }
+    }
+    assert!(rt; lines == 2 * taken.len());
+}
+
+#[test]
+fn spare_cables_stay_free(rt: HostRuntime) {
+    for case in &SPARES {
+        keeps_spares_free(&rt, rt.alloc(), case);
     }
 }
 

@@ -1,8 +1,9 @@
 //! Tests of the check of a card, and of prices by kind.
 use crate::machines::{CABLES, File, ONE_BAR, PLAIN, TWO_BARS, TWO_MODELS, Told, keyed};
 use crate::named::TextName::{
-    self, BarKinds, BothLugs, Higher, Highest, NoLine, NoPrices, NoSettings, OneLug, TwoCableKinds,
-    TwoCables, TwoLugs, TwoLugsByKind,
+    self, AllMet, BarKinds, BothLugs, DayOfAllMet, DayOfUnlikeBars, EmptyKinds, Higher, Highest,
+    M1, NoLine, NoLugs, NoPrices, NoSettings, OneBarKind, OneLug, PlainDay, TwoCableKinds,
+    TwoCables, TwoLugs, TwoLugsByKind, UnlikeBarKinds, UnlikeBars, UnlikeCableKinds,
 };
 use kd_card::{read_card, write_card};
 use kd_prices::{Doubt, by_kind, check};
@@ -14,7 +15,7 @@ use std::process::Abort;
 /// A machine and a day, a card, and what the check says of it.
 type Case = (Told, File, Result<(), Doubt>);
 
-static CASES: [Case; 22] = [
+static CASES: [Case; 29] = [
     (CABLES, (TwoCables, "", ""), Ok(())),
     (
         CABLES,
@@ -61,6 +62,13 @@ static CASES: [Case; 22] = [
         (BothLugs, "LUG 1 R 6\nLUG 1 L 3", "LUG 1 L 3\nLUG 1 R 6"),
         Err(Doubt::IllegalAt(1, Why::PlaceTaken)),
     ),
+    (PLAIN, (EmptyKinds, "", ""), Ok(())),
+    (FULL_CABLES, (UnlikeCableKinds, "", ""), Ok(())),
+    (FULL_CABLES, (EmptyKinds, "", ""), Err(Doubt::PriceMissing)),
+    (PLAIN, (UnlikeCableKinds, "", ""), Err(Doubt::PriceMissing)),
+    (ALIKE_BARS, (OneBarKind, "", ""), Ok(())),
+    (UNLIKE_BARS, (UnlikeBarKinds, "", ""), Ok(())),
+    (UNLIKE_BARS, (OneBarKind, "", ""), Err(Doubt::PriceMissing)),
 ];
 
 /// The check says that of the card.
@@ -84,12 +92,36 @@ fn cards_are_checked(rt: HostRuntime) {
 
 /// A machine and a day, a card, and its text with one price for each kind, if there is one: not where the prices are by
 /// kind, nor where those of two bars that are alike differ.
-static KINDS: [(Told, File, Option<TextName>); 4] = [
+static KINDS: [(Told, File, Option<TextName>); 8] = [
     (TWO_BARS, (OneLug, "", ""), Some(BarKinds)),
     (CABLES, (TwoCables, "", ""), Some(TwoCableKinds)),
     (TWO_BARS, (BarKinds, "", ""), None),
     (TWO_BARS, (OneLug, "BARS 1 1 0 0", "BARS 1 1 1 -1"), None),
+    // One kind of thirteen or of 27 things, and as many kinds as things.
+    (PLAIN, (NoSettings, "", ""), Some(EmptyKinds)),
+    (FULL_CABLES, (NoSettings, "", ""), Some(UnlikeCableKinds)),
+    (ALIKE_BARS, (NoLugs, "", ""), Some(OneBarKind)),
+    (UNLIKE_BARS, (NoLugs, "", ""), Some(UnlikeBarKinds)),
 ];
+
+/// An Enigma I with thirteen cables, on its day.
+const FULL_CABLES: Told = (
+    (
+        M1,
+        "version",
+        "cables = [\"AB\", \"CD\", \"EF\", \"GH\", \"IJ\", \"KL\", \"MN\", \"OP\", \"QR\", \"ST\", \"UV\", \"WX\", \"YZ\"]\nversion",
+    ),
+    (
+        PlainDay,
+        "[]",
+        "[\"ZY\", \"AB\", \"CD\", \"EF\", \"GH\", \"IJ\", \"KL\", \"MN\", \"OP\", \"QR\", \"ST\", \"UV\", \"WX\"]",
+    ),
+);
+
+/// A Converter whose bars all stand alike, and one whose bars all stand otherwise, on their days.
+const ALIKE_BARS: Told = ((AllMet, "", ""), (DayOfAllMet, "", ""));
+
+const UNLIKE_BARS: Told = ((UnlikeBars, "", ""), (DayOfUnlikeBars, "", ""));
 
 /// The card becomes that.
 fn becomes(
@@ -104,7 +136,7 @@ fn becomes(
         .ok()
         .expect(rt, "memory");
     let (number, card) = read_card(text.as_bytes()).ok().expect(rt, "a card");
-    let mut sink = MemorySink::<512>::new(512);
+    let mut sink = MemorySink::<1024>::new(1024);
     if let Some(other) = by_kind(&machine, &day, &card) {
         assert!(rt; write_card(&mut sink, number, &other).is_ok());
     }

@@ -5,6 +5,7 @@ use std::alloc::Global;
 mod cut;
 mod faults;
 mod files;
+mod first_faults;
 
 /// What a file is.
 enum Kind {

@@ -474,3 +474,132 @@ rings = \"AAAA\"
 window = \"AAAA\"
 plugs = []
 ";
+
+/// A Converter M-209 without effective pins, each of whose bars stands otherwise.
+pub const UNLIKE_BARS: &str = "version = 1
+model = \"M-209\"
+letters = \"AAAAAA\"
+pins = [\"\", \"\", \"\", \"\", \"\", \"\"]
+bars = [
+    \"1-0L\", \"1-2\", \"1-3\", \"1-4\", \"1-5\", \"1-0R\", \"1-6\", \"0L-2\", \"0L-3\",
+    \"0L-4\", \"0L-5\", \"0L-0R\", \"0L-6\", \"2-3\", \"2-4\", \"2-5\", \"2-0R\", \"2-6\",
+    \"3-4\", \"3-5\", \"3-0R\", \"3-6\", \"4-5\", \"4-0R\", \"4-6\", \"5-0R\", \"5-6\",
+]
+";
+
+/// A day with the settings of that Converter.
+pub const DAY_OF_UNLIKE_BARS: &str = "[[day]]
+day = 1
+model = \"M-209\"
+rows = [
+    \"0-1\", \"1-2\", \"1-3\", \"1-4\", \"1-5\", \"0-1\", \"1-6\", \"0-2\", \"0-3\",
+    \"0-4\", \"0-5\", \"0-0\", \"0-6\", \"2-3\", \"2-4\", \"2-5\", \"0-2\", \"2-6\",
+    \"3-4\", \"3-5\", \"0-3\", \"3-6\", \"4-5\", \"0-4\", \"4-6\", \"0-5\", \"5-6\",
+]
+pins = [\"\", \"\", \"\", \"\", \"\", \"\"]
+window = \"AAAAAA\"
+list = \"QV\"
+";
+
+/// No lug has to be moved, and all prices are 0.
+pub const NO_LUGS: &str = "CARD 1 DAY 1
+SETTINGS 0
+BARS 0 0 0 0 0 0 0 0 0 0 0 0 0 0 0 0 0 0 0 0 0 0 0 0 0 0 0
+ROWS 0 0 0 0 0 0 0 0 0 0 0 0 0 0 0 0 0 0 0 0 0 0 0 0 0 0 0
+SUM 0
+";
+
+/// The same card for that Converter, by kind: each standing once.
+pub const UNLIKE_BAR_KINDS: &str = "CARD 2 DAY 1
+SETTINGS 0
+BAR 1-0L 1 0
+BAR 1-2 1 0
+BAR 1-3 1 0
+BAR 1-4 1 0
+BAR 1-5 1 0
+BAR 1-0R 1 0
+BAR 1-6 1 0
+BAR 0L-2 1 0
+BAR 0L-3 1 0
+BAR 0L-4 1 0
+BAR 0L-5 1 0
+BAR 0L-0R 1 0
+BAR 0L-6 1 0
+BAR 2-3 1 0
+BAR 2-4 1 0
+BAR 2-5 1 0
+BAR 2-0R 1 0
+BAR 2-6 1 0
+BAR 3-4 1 0
+BAR 3-5 1 0
+BAR 3-0R 1 0
+BAR 3-6 1 0
+BAR 4-5 1 0
+BAR 4-0R 1 0
+BAR 4-6 1 0
+BAR 5-0R 1 0
+BAR 5-6 1 0
+ROW 0-0 1 0
+ROW 0-1 2 0
+ROW 0-2 2 0
+ROW 0-3 2 0
+ROW 0-4 2 0
+ROW 0-5 2 0
+ROW 0-6 1 0
+ROW 1-2 1 0
+ROW 1-3 1 0
+ROW 1-4 1 0
+ROW 1-5 1 0
+ROW 1-6 1 0
+ROW 2-3 1 0
+ROW 2-4 1 0
+ROW 2-5 1 0
+ROW 2-6 1 0
+ROW 3-4 1 0
+ROW 3-5 1 0
+ROW 3-6 1 0
+ROW 4-5 1 0
+ROW 4-6 1 0
+ROW 5-6 1 0
+SUM 0
+";
+
+/// The same card for the Converter all of whose bars are met by the first wheel: one kind of bars, and one of rows.
+pub const ONE_BAR_KIND: &str = "CARD 2 DAY 1
+SETTINGS 0
+BAR 1-0L 27 0
+ROW 0-1 27 0
+SUM 0
+";
+
+/// A card of a machine with thirteen cables that are all on their day, by kind.
+pub const UNLIKE_CABLE_KINDS: &str = "CARD 2 DAY 11
+SETTINGS 0
+CABLE AB 1 0
+CABLE CD 1 0
+CABLE EF 1 0
+CABLE GH 1 0
+CABLE IJ 1 0
+CABLE KL 1 0
+CABLE MN 1 0
+CABLE OP 1 0
+CABLE QR 1 0
+CABLE ST 1 0
+CABLE UV 1 0
+CABLE WX 1 0
+CABLE YZ 1 0
+PAIR AB 1 0
+PAIR CD 1 0
+PAIR EF 1 0
+PAIR GH 1 0
+PAIR IJ 1 0
+PAIR KL 1 0
+PAIR MN 1 0
+PAIR OP 1 0
+PAIR QR 1 0
+PAIR ST 1 0
+PAIR UV 1 0
+PAIR WX 1 0
+PAIR YZ 1 0
+SUM 0
+";

@@ -12,7 +12,8 @@ use std::process::Abort;
 /// The line of a setting, why it is refused, if it is, and whether the machine is ready then.
 type Case = (&'static str, Option<Why>, bool);
 
-/// Machines, each with the settings that it is given one after another.
+/// Machines, each with the settings that it is given one after another. Where two reasons stand against a setting, the first
+/// in the order of testing is answered.
 static MACHINES: [(File, &[Case]); 4] = [
     (
         (M1, "version = 1", "version = 1\ncables = [\"AB\"]"),
@@ -25,8 +26,10 @@ static MACHINES: [(File, &[Case]); 4] = [
             ("PULL 1 A", None, false),
             ("PUT 1 A", None, true),
             ("PUT 1 A", Some(NoLooseEnd), true),
-            ("PIN 1 A ON", Some(OtherModel), true),
-            ("LUG 1 L 1", Some(OtherModel), true),
+            ("PUT 14 A", Some(NoSuchCable), true),
+            ("PULL 14 A", Some(NoSuchCable), true),
+            ("PIN 7 A ON", Some(OtherModel), true),
+            ("LUG 28 L 1", Some(OtherModel), true),
         ],
     ),
     (
@@ -58,15 +61,18 @@ static MACHINES: [(File, &[Case]); 4] = [
     (
         (M209, "\"1-2\"", "\"1-3\""),
         &[
-            ("PUT 1 A", Some(OtherModel), true),
-            ("SEAT 1 I", Some(OtherModel), true),
-            ("TURN 7 A", Some(SlotEmpty), true),
+            ("PUT 14 A", Some(OtherModel), true),
+            ("PULL 14 A", Some(OtherModel), true),
+            ("SEAT 7 I", Some(OtherModel), true),
+            ("REFLECTOR B", Some(OtherModel), true),
+            ("RING I A", Some(OtherModel), true),
+            ("TURN 7 R", Some(SlotEmpty), true),
             ("TURN 6 R", Some(NotOnWheel), true),
             ("TURN 6 Q", None, true),
             ("PIN 2 W ON", Some(NotOnWheel), true),
             ("PIN 7 A ON", Some(NotOnWheel), true),
             ("PIN 2 Z ON", None, true),
-            ("LUG 28 L 1", Some(NoSuchBar), true),
+            ("LUG 28 L 3", Some(NoSuchBar), true),
             ("LUG 1 L 3", Some(PlaceTaken), true),
             ("LUG 1 L 4", Some(WouldPass), true),
             ("LUG 1 R 6", None, true),

@@ -1,0 +1,40 @@
+-- A month on a machine whose cables in use are among the first needs no other cable.
+use Rattle.kd_desk.proofs.Exclusions.{one_list}
+use Rattle.kd_desk.proofs.Prelude.{List, Ok, Parts, [], machine_of, subst, sym, ℕ, ◌∙◌, ◌∷◌, ◌≡◌}
+use Rattle.kd_desk.specs.FewCables.{DayHasPairsUpTo, FewCablesServeAMonth, FileUsesNoneAbove, KeepsToFirst}
+use Rattle.kd_desk.specs.Month.{Papers, SetTheMachineInTurn}
+use Rattle.kd_desk.proofs.Months.{months_set_the_machine}
+use Rattle.kd_plan.proofs.FewCables.{few_cables_serve}
+use Rattle.kd_plan.specs.FewCables.{NamesNoneAbove, UsesNoneAbove}
+use Rattle.std.proofs.Common.{All, arith}
+use Rattle.std.proofs.lemmas.List.Elements.{All-cons, All-head, All-nil, All-tail}
+
+uses_none : (number : ℕ) (file : List ℕ) (n m : Parts) → machine_of file ≡ Ok n → machine_of file ≡ Ok m
+    → UsesNoneAbove number n → UsesNoneAbove number m
+uses_none number file n m one other uses = let same : n ≡ m = cc in subst (UsesNoneAbove number) same uses
+
+keep_to_first : (number : ℕ) (file sheet days : List ℕ) (papers : List Papers)
+    → SetTheMachineInTurn file sheet days papers → FileUsesNoneAbove number file
+    → All (DayHasPairsUpTo number sheet) days → All (KeepsToFirst number) papers
+keep_to_first number file sheet [] [] sets uses few = All-nil (KeepsToFirst number)
+keep_to_first number file sheet (day ∷ days) (paper ∷ papers) sets uses few =
+    let on = sets.0 in
+    let pairs = All-head (DayHasPairsUpTo number sheet) day days few on.month on.s on.of_sheet on.of_month in
+    let leads = on.proved.reaches.leads in
+    let serve = few_cables_serve number on.m on.n on.s on.settings (uses on.m on.of_file) pairs on.spares leads in
+    let next : FileUsesNoneAbove number paper.file = λ n of_file.
+    uses_none number paper.file on.n n on.of_next of_file serve.1 in
+    let here : KeepsToFirst number paper = record {
+      card = λ settings says.
+          subst (All (NamesNoneAbove number)) (one_list paper.card on.settings settings on.of_card says) serve.0;
+      file = next;
+    }
+    in
+    let rest = keep_to_first number paper.file sheet days papers sets.1 next
+    (All-tail (DayHasPairsUpTo number sheet) day days few) in
+    All-cons (KeepsToFirst number) paper papers here rest
+keep_to_first number file sheet days papers sets uses few = absurd sets
+
+pub few_cables_serve_a_month : FewCablesServeAMonth
+few_cables_serve_a_month number file sheet days papers written =
+    keep_to_first number file sheet days papers (months_set_the_machine file sheet days papers written)

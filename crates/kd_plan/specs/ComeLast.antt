@@ -1,0 +1,17 @@
+-- Assignments in which spare cables become pairs last. No contract of a public function cites this file.
+use Rattle.std.specs.Prelude.{ℕ, ◌<◌, nat_lt, not, ◌||◌, Bool, IsTrue, List, slice_index, slice_index_or, Option, None}
+use Rattle.kd_plan.specs.Spares.{is_spare}
+
+-- whether the cable at this place, counted from 0, is spare
+abbrev pub is_spare_at : List (Option ℕ × Option ℕ) → ℕ → Bool
+is_spare_at cables place = is_spare (slice_index_or cables place (None, None))
+
+-- whether the cable at `place` comes before a spare one at `spare`: it is in use, or has a lower number
+abbrev pub comes_before : List (Option ℕ × Option ℕ) → ℕ → ℕ → Bool
+comes_before cables place spare = nat_lt place spare || not (is_spare_at cables place)
+
+-- where a spare cable becomes one of the pairs, so does each cable that comes before it
+abbrev pub SparesComeLast : List (Option ℕ × Option ℕ) → ℕ → List ℕ → Type 0
+SparesComeLast cables pairs to =
+    (spare place : ℕ) → spare < 13 → IsTrue (is_spare_at cables spare) → slice_index to spare < pairs
+    → place < 13 → IsTrue (comes_before cables place spare) → slice_index to place < pairs

@@ -1,0 +1,32 @@
+-- A machine whose cables in use are among the first `number` needs no other cable for a day of at most `number` pairs.
+use Rattle.std.specs.Prelude.{ℕ, ◌<◌, ◌≤◌, All, IsTrue, List, length}
+use Rattle.kd_state.specs.declared.machine.parts.Parts.{Parts}
+use Rattle.kd_state.specs.declared.machine.parts.Parts.TheVariants.{Rotor, Pin}
+use Rattle.kd_state.specs.declared.setting.Setting.{Setting}
+use Rattle.kd_state.specs.declared.setting.Setting.TheVariants.{Pull, Put}
+use Rattle.kd_state.specs.Setting.{Leads, cable_at}
+use Rattle.kd_state.specs.SheetDay.{Day, OfRotors, OfPins}
+use Rattle.kd_plan.specs.Spares.{is_spare, SparesStayFree}
+
+-- no cable with a number above `number` is in use
+abbrev pub UsesNoneAbove : ℕ → Parts → Type 0
+UsesNoneAbove number (Rotor m) = (cable : ℕ) → number < cable → IsTrue (is_spare (cable_at m cable))
+UsesNoneAbove number (Pin m) = Unit {0}
+
+-- the day has at most `number` pairs
+abbrev pub HasPairsUpTo : ℕ → Day → Type 0
+HasPairsUpTo number (OfRotors s) = length s.pairs ≤ number
+HasPairsUpTo number (OfPins s) = Unit {0}
+
+-- the setting names no cable above `number`
+abbrev pub NamesNoneAbove : ℕ → Setting → Type 0
+NamesNoneAbove number (Pull cable letter) = cable ≤ number
+NamesNoneAbove number (Put cable letter) = cable ≤ number
+NamesNoneAbove number _ = Unit {0}
+
+-- where the first `number` cables suffice, settings that leave spare cables free name no other cable and use no other one
+abbrev pub FewCablesServe : Type 0
+FewCablesServe =
+    (number : ℕ) (m n : Parts) (s : Day) (settings : List Setting) → UsesNoneAbove number m → HasPairsUpTo number s
+    → SparesStayFree m s settings → Leads m settings n
+    → All (NamesNoneAbove number) settings × UsesNoneAbove number n
