@@ -146,8 +146,8 @@ impl<const N: usize> PinWheel<N> {
     }
 }
 
-/// The place after this one, with the first after the last. A compare is quicker than a division, and each key press waits
-/// for it.
+/// The place after this one, with the first after the last. A compare is quicker than a division, and each key press
+/// waits for it.
 fn next_place(place: usize, size: usize) -> usize
     requires { place < size }
     ensures { result ≡ place_past size place 1 }

@@ -6,9 +6,9 @@ ghost use Rattle.kd_tables.specs.WiringText.{are_capitals, is_permutation, is_ri
 
 use super::letter::Letter;
 
-/// Makes a table of the published text of a wheel or a reflector, in which the first letter is what A becomes: by `letters`
-/// the table that the text spells, by `letters_back` the one that leads back, by `reflection` that of a reflector. What each
-/// of them asks of the text is shown as the program is checked.
+/// Makes a table of the published text of a wheel or a reflector, in which the first letter is what A becomes: by
+/// `letters` the table that the text spells, by `letters_back` the one that leads back, by `reflection` that of a
+/// reflector. What each of them asks of the text is shown as the program is checked.
 macro_rules! wiring {
     ($make:ident, $part:expr, { $($variant:path => $text:literal,)* }) => {
         match $part {

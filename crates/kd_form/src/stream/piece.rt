@@ -88,8 +88,8 @@ pub(crate) fn close<On, M: PieceReader<On>, W: Sink>(
     Ok(())
 }
 
-/// Reads the next bytes through the buffer, as many as there is room for at most, and writes what is made of them. There are
-/// none at the end of the source alone.
+/// Reads the next bytes through the buffer, as many as there is room for at most, and writes what is made of them.
+/// There are none at the end of the source alone.
 pub(crate) fn read_next<On, M: PieceReader<On>, R: Source, W: Sink>(
     reader: &mut M,
     on: &On,

@@ -4,10 +4,13 @@ use Rattle.kd_pins.proofs.pin_wheel.PinWheel.advance.Goals as goal
 
 pub invariant_of-self : goal.invariant_of-self
 invariant_of-self g c =
-    (c.self.invariant.0, (acts_next g.row.N c.self.inside.acting c.self.inside.offset _ c.self.invariant.1 c.next_place-self-inside.ensures).0, c.self.invariant.2)
+    let next = c.next_place-self-inside.ensures in
+    let acts = acts_next g.row.N c.self.inside.acting c.self.inside.offset _ c.self.invariant.1 next in
+    (c.self.invariant.0, acts.0, c.self.invariant.2)
 
 pub returns-clause-next : goal.returns-clause-next
 returns-clause-next g c =
-    let shows = (acts_next g.row.N c.self.inside.acting c.self.inside.offset _ c.self.invariant.1 c.next_place-self-inside.ensures).1 in
     let wheel = c.self.inside in
-    (λ i. record { ring = wheel.ring; offset = wheel.offset; pins = wheel.pins; place = shows i }) ∙ ap (λ w. turned_to w (place_past g.row.N w.place 1)) c.self.view_is
+    let acts = acts_next g.row.N wheel.acting wheel.offset _ c.self.invariant.1 c.next_place-self-inside.ensures in
+    (λ i. record { ring = wheel.ring; offset = wheel.offset; pins = wheel.pins; place = acts.1 i })
+    ∙ ap (λ w. turned_to w (place_past g.row.N w.place 1)) c.self.view_is
