@@ -171,6 +171,5 @@ fn reversed(met: u8, letter: Letter) -> Letter
     requires { met ≤ 27 }
     ensures { result ≡ (25 + met - letter) % 26 }
 {
-    let moved = 25 + usize::from(met) - letter.index();
-    Letter::new((moved % 26) as u8).unwrap()
+    Letter::at((25 + met - letter.index() as u8) % 26)
 }

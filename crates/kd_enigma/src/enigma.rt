@@ -125,11 +125,9 @@ impl<const S: usize> Enigma<S> {
         let stood = self.stepper.shown(S - 2).index();
         self.stepper.step();
         let stands = self.stepper.shown(S - 2).index();
-        self.inner = if stands == stood {
-            self.inner
-        } else {
-            around_slow(&self.rotors, &self.stepper.window(), self.reflecting)
-        };
+        if stands != stood {
+            self.inner = around_slow(&self.rotors, &self.stepper.window(), self.reflecting);
+        }
         let right = self.stepper.shown(S - 1);
         self.whole = self.rotors[S - 1].enclosing(self.inner, right);
     }

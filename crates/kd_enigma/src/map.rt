@@ -71,7 +71,7 @@ impl Map {
     pub(crate) fn at(&self, letter: Letter) -> Letter
         ensures { result ≡ slice_index self.now letter }
     {
-        Letter::new(self.lanes[letter.index()]).unwrap()
+        Letter::at(self.lanes[letter.index()])
     }
 }
 
@@ -80,5 +80,5 @@ pub(crate) fn shifted(by: u8) -> [Letter; 26]
     requires { by ≤ 26 }
     ensures { result ≡ shift by }
 {
-    std::array::from_fn(|index| Letter::new((index as u8 + by) % 26).unwrap())
+    std::array::from_fn(|index| Letter::at((index as u8 + by) % 26))
 }

@@ -66,6 +66,6 @@ fn turned(map: Map, ring: Letter, window: usize) -> Map
     requires { window < 26 }
     ensures { result ≡ turned (offset ring window) map }
 {
-    let by = Letter::new(window as u8).unwrap().back(ring).index() as u8;
+    let by = Letter::at(window as u8).back(ring).index() as u8;
     Map::shift(by).then(map).then(Map::shift(26 - by))
 }

@@ -13,7 +13,7 @@ pub(crate) mod whole;
 use super::fault::FormFault;
 use kd_tables::{READ_LIMIT, Sink, Source, is_at_end};
 use piece::{close, read_next};
-use reader::PieceReader;
+use reader::{PIECE, PieceReader};
 
 /// Reads a message from the source to its end, on a day or on a machine, and writes what becomes of it as it comes.
 pub(crate) fn stream<On, M: PieceReader<On>, R: Source, W: Sink>(
@@ -26,9 +26,10 @@ pub(crate) fn stream<On, M: PieceReader<On>, R: Source, W: Sink>(
     ensures { IsStreamed (M.message on.now) (port R.remaining R.has_failed source.old source.new)
         (port W.taken W.has_failed sink.old sink.new) result }
 {
+    let mut buffer = [0; PIECE];
     let mut read = 0;
     while read < READ_LIMIT {
-        match read_next(reader, on, source, sink, READ_LIMIT - read)? {
+        match read_next(reader, on, source, sink, &mut buffer, READ_LIMIT - read)? {
             0 => return close(reader, on, sink),
             count => read += count,
         }

@@ -12,7 +12,7 @@ use super::stream::stop::Stop;
 use super::stream::stream;
 use arrayvec::ArrayVec;
 use kd_state::{Engine, Machine};
-use kd_tables::{Sink, Source, put_all};
+use kd_tables::{Letter, Sink, Source, put_all};
 use piece::type_piece;
 
 /// Types all that the source gives on the machine as it stands, and writes the lamps that light up, as capital
@@ -35,7 +35,13 @@ pub fn type_stream<R: Source, W: Sink>(
         (port W.taken W.has_failed sink.old sink.new) (is_device result) }
 {
     let engine = machine.engine()?;
-    stream(machine, &mut Typist { engine, read: 0 }, source, sink)
+    let mut typist = Typist {
+        engine,
+        read: 0,
+        letters: ArrayVec::new(),
+        lamps: ArrayVec::new(),
+    };
+    stream(machine, &mut typist, source, sink)
 }
 
 /// What types a text.
@@ -44,6 +50,10 @@ pub(crate) struct Typist {
     engine: Engine,
     /// How many bytes were typed.
     read: usize,
+    /// The letters of a piece. The two vectors are kept from piece to piece, so that they are filled once.
+    letters: ArrayVec<Letter, PIECE>,
+    /// The lamps that lit up.
+    lamps: ArrayVec<u8, PIECE>,
 }
 
 impl PieceReader<Machine> for Typist {
@@ -56,10 +66,9 @@ impl PieceReader<Machine> for Typist {
 
     #[tactic(auto, using(crate::proofs::Streaming::read_whole))]
     fn read<W: Sink>(&mut self, _on: &Machine, bytes: &[u8], sink: &mut W) -> Result<(), Stop> {
-        let mut lamps = ArrayVec::from([0; PIECE]);
-        let front = type_piece(&mut self.engine, bytes, &mut lamps);
+        let front = type_piece(&mut self.engine, bytes, &mut self.letters, &mut self.lamps);
         self.read += front;
-        put_all(sink, &lamps)?;
+        put_all(sink, &self.lamps)?;
         if front < bytes.len() {
             return Err(Stop::Refused(FormFault::BadByte(self.read + 1)));
         }

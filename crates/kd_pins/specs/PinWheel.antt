@@ -1,6 +1,6 @@
 -- A pin wheel as it stands: which of its letters shows, and which of its pins acts. Places are counted from 0, in the
 -- wheel's own order.
-use Rattle.std.specs.Prelude.{ℕ, ◌+◌, ◌%◌, ◌<◌, Bool, false, List, slice_index, slice_index_or, unwrap_or}
+use Rattle.std.specs.Prelude.{◌≡◌, ℕ, ◌+◌, ◌-◌, ◌%◌, ◌<◌, Bool, false, List, slice_index, slice_index_or, unwrap_or}
 use Rattle.kd_tables.specs.Rings.{IsRing, place_on}
 
 -- What the clauses see of a wheel: its letters in their order, how many places past the letter shown its acting pin stands,
@@ -40,3 +40,15 @@ turned_to wheel place = record wheel { place = place }
 -- the wheel with this letter shown; where the letter isn't on it, the wheel as it was
 abbrev pub with_shown : TurnedWheel → ℕ → TurnedWheel
 with_shown wheel letter = turned_to wheel (unwrap_or (place_on wheel.ring letter) wheel.place)
+
+-- ---- what the code keeps; the contracts do not speak of it
+
+-- the place of the letter shown, while the pin at a place acts: the rest of the way round past it
+abbrev pub place_shown : ℕ → ℕ → ℕ → ℕ
+place_shown size acting offset = place_past size acting (size - offset)
+
+-- the pin at a place acts, so many places past the letter shown
+pub record ActsAt (size acting offset : ℕ) : Type 0 where
+  pub inside : offset < size
+  pub there : acting < size
+  pub past : place_past size (place_shown size acting offset) offset ≡ acting

@@ -12,31 +12,45 @@ use thiserror::Error;
 pub struct NotOnWheel;
 
 /// A pin wheel with its letters in their own order, which is not always the alphabet's, and a pin beside each letter.
+///
+/// The place of the pin that acts is kept, and not that of the letter shown, since each key press asks for the pin.
 #[derive(Clone, Copy)]
 pub struct PinWheel<const N: usize> {
     ring: Ring<N>,
     offset: usize,
     pins: [bool; N],
-    place: usize,
+    acting: usize,
 }
 
 impl<const N: usize> Model for PinWheel<N> {
-    ghost use Rattle.std.specs.Prelude.{◌≡◌, ◌<◌, ◌≤◌};
-    ghost use Rattle.kd_pins.specs.PinWheel.{TurnedWheel, IsWheel};
+    ghost use Rattle.std.specs.Prelude.{◌≤◌};
+    ghost use Rattle.kd_tables.specs.Rings.{IsRing};
+    ghost use Rattle.kd_pins.specs.PinWheel.{ActsAt, TurnedWheel, place_past, place_shown};
 
     ghost Value = { TurnedWheel };
 
-    ghost view = { λ w. record { ring = w.ring; offset = w.offset; pins = w.pins; place = w.place } };
-
-    ghost invariant = { λ w. IsWheel N (record {
+    ghost view = { λ w. record {
       ring = w.ring;
       offset = w.offset;
       pins = w.pins;
-      place = w.place;
-    })
-        × (N ≤ 26) };
+      place = place_shown N w.acting w.offset;
+    } };
 
-    ghost inverse = { λ w. record { ring = w.ring; offset = w.offset; pins = w.pins; place = w.place } };
+    ghost invariant = { λ w. IsRing N w.ring × ActsAt N w.acting w.offset × (N ≤ 26) };
+
+    ghost inverse = { λ w. record {
+      ring = w.ring;
+      offset = w.offset;
+      pins = w.pins;
+      acting = place_past N w.place w.offset;
+    } };
+
+    ghost inverse_ok = { λ w h i. record {
+      ring = w.ring;
+      offset = w.offset;
+      pins = w.pins;
+      acting = h.1.past i;
+    } };
 }
 
 impl<const N: usize> PinWheel<N> {
@@ -54,7 +68,7 @@ impl<const N: usize> PinWheel<N> {
             ring,
             offset,
             pins,
-            place: 0,
+            acting: offset,
         }
     }
 
@@ -62,13 +76,8 @@ impl<const N: usize> PinWheel<N> {
     pub fn acting(&self) -> bool
         ensures { result ≡ pin_acting N self.now }
     {
-        let PinWheel {
-            offset,
-            pins,
-            place,
-            ..
-        } = self;
-        pins[(*place + *offset) % N]
+        let PinWheel { pins, acting, .. } = self;
+        pins[*acting]
     }
 
     /// Turns the wheel by one place, to the next letter in its order, with the first after the last.
@@ -76,7 +85,7 @@ impl<const N: usize> PinWheel<N> {
         ensures next { self.new ≡ turned_to self.old (place_past N self.old.place 1) }
         ensures wheel { IsWheel N self.new }
     {
-        self.place = (self.place + 1) % N;
+        self.acting = next_place(self.acting, N);
     }
 
     /// Whether the letter is on the wheel.
@@ -94,7 +103,7 @@ impl<const N: usize> PinWheel<N> {
         ensures wheel { IsWheel N self.new }
     {
         if let Some(place) = self.ring.place_of(letter) {
-            self.place = place;
+            self.turn(place);
         }
     }
 
@@ -107,7 +116,7 @@ impl<const N: usize> PinWheel<N> {
     {
         match self.ring.place_of(letter) {
             Some(place) => {
-                self.place = place;
+                self.turn(place);
                 Ok(())
             }
             None => Err(NotOnWheel),
@@ -118,7 +127,31 @@ impl<const N: usize> PinWheel<N> {
     pub fn shown(&self) -> Letter
         ensures { result ≡ letter_shown self.now }
     {
-        let PinWheel { ring, place, .. } = self;
-        ring.letter_of(*place)
+        let PinWheel {
+            ring,
+            offset,
+            acting,
+            ..
+        } = self;
+        ring.letter_of((*acting + (N - *offset)) % N)
     }
+
+    /// Turns the wheel until it shows the letter of that place.
+    fn turn(&mut self, place: usize)
+        requires { place < N }
+        ensures turned { self.new ≡ turned_to self.old place }
+        ensures wheel { IsWheel N self.new }
+    {
+        self.acting = (place + self.offset) % N;
+    }
+}
+
+/// The place after this one, with the first after the last. A compare is quicker than a division, and each key press
+/// waits for it.
+fn next_place(place: usize, size: usize) -> usize
+    requires { place < size }
+    ensures { result ≡ place_past size place 1 }
+{
+    let next = place + 1;
+    if next < size { next } else { 0 }
 }

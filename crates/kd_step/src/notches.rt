@@ -9,7 +9,7 @@ pub(crate) fn notches(wheel: Wheel) -> [bool; 26]
 {
     let mut notches = [false; 26];
     for index in 0..26 {
-        notches[usize::from(index)] = notched(wheel, Letter::new(index).unwrap());
+        notches[usize::from(index)] = notched(wheel, Letter::at(index));
     }
     notches
 }

@@ -63,7 +63,7 @@ letters_within p h = grind (arith, All-weaker, ltb-true, AllPass-from_list_all)
 letters_differ : (p : List ℕ) → are_distinct_letters p ≡ true → IsDistinct nat_eq p
 letters_differ p h = grind (arith, IsDistinct-from_count, nat_eq_equiv, eqb-true)
 
-test_permutes : (p : List ℕ) → is_permutation p ≡ true → IsPermutation26 p
+pub test_permutes : (p : List ℕ) → is_permutation p ≡ true → IsPermutation26 p
 test_permutes p h =
     let parts = and_parts (length p == 26) (are_distinct_letters p) h in
     let size : length p ≡ 26 = eqb-true (length p) 26 parts.0 in

@@ -2,6 +2,11 @@ ghost use Rattle.std.specs.Prelude.{◌≡◌, ℕ, ◌+◌, ◌-◌, ◌%◌, �
 
 use std::marker::Model;
 
+/// The place after each place of the alphabet. Each key press waits for it, and a table is quicker than a compare.
+static NEXT: [u8; 26] = [
+    1, 2, 3, 4, 5, 6, 7, 8, 9, 10, 11, 12, 13, 14, 15, 16, 17, 18, 19, 20, 21, 22, 23, 24, 25, 0,
+];
+
 /// A letter of the alphabet, as its place in it: A is 0 and Z is 25.
 #[derive(Clone, Copy, Default, PartialEq, Eq, PartialOrd, Ord)]
 pub struct Letter {
@@ -37,6 +42,14 @@ impl Letter {
         }
     }
 
+    /// The letter at a place of the alphabet, counted from 0, where it is known that there is one: nothing is tested.
+    pub const fn at(index: u8) -> Self
+        requires { index < 26 }
+        ensures { result ≡ index }
+    {
+        Letter { index }
+    }
+
     /// The letter that a byte is the ASCII code of. Only capital letters have one.
     pub const fn from_byte(byte: u8) -> Option<Self>
         ensures exists { IsSome result ↔ ((65 ≤ byte) × (byte ≤ 90)) }
@@ -65,17 +78,13 @@ impl Letter {
         self.index + b'A'
     }
 
-    /// The letter after this one, with A after Z. A compare is quicker than a division, and each key press waits for it.
+    /// The letter after this one, with A after Z.
     pub const fn next(self) -> Letter
         ensures value { result ≡ (self + 1) % 26 }
         ensures within { result < 26 }
     {
-        if self.index < 25 {
-            Letter {
-                index: self.index + 1,
-            }
-        } else {
-            Letter::A
+        Letter {
+            index: NEXT[self.index as usize],
         }
     }
 

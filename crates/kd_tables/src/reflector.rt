@@ -4,7 +4,7 @@ ghost use Rattle.kd_tables.specs.Tables.{reflector_text, reflector_of};
 
 use super::letter::Letter;
 use super::names::{name_of, named};
-use super::table::reflection;
+use super::table::{reflection, wiring};
 use arrayvec::ArrayString;
 
 /// A reflector of the rotor machines, which sends the current back through the wheels.
@@ -63,11 +63,11 @@ pub fn reflecting(reflector: Reflector) -> [Letter; 26]
     ensures own_inverse { IsOwnInverse (reflector_of reflector) }
     ensures none_fixed { MovesEachLetter (reflector_of reflector) }
 {
-    match reflector {
-        Reflector::A => reflection(b"EJMZALYXVBWFCRQUONTSPIKHGD"),
-        Reflector::B => reflection(b"YRUHQSLDPXNGOKMIEBFZCWVJAT"),
-        Reflector::C => reflection(b"FVPJIAOYEDRZXWGCTKUQSBNMHL"),
-        Reflector::ThinB => reflection(b"ENKQAUYWJICOPBLMDXZVFTHRGS"),
-        Reflector::ThinC => reflection(b"RDOBJNTKVEHMLFCWZAXGYIPSUQ"),
-    }
+    wiring!(reflection, reflector, {
+        Reflector::A => b"EJMZALYXVBWFCRQUONTSPIKHGD",
+        Reflector::B => b"YRUHQSLDPXNGOKMIEBFZCWVJAT",
+        Reflector::C => b"FVPJIAOYEDRZXWGCTKUQSBNMHL",
+        Reflector::ThinB => b"ENKQAUYWJICOPBLMDXZVFTHRGS",
+        Reflector::ThinC => b"RDOBJNTKVEHMLFCWZAXGYIPSUQ",
+    })
 }

@@ -29,6 +29,11 @@ impl Model for Standing {
 
 /// With both lugs as far to the left as they go.
 impl Default for Standing {
+    ghost use Rattle.std.specs.Prelude.{◌≡◌};
+    ghost use Rattle.kd_tables.specs.declared.place.Place.TheVariants.{One, ZeroLeft};
+
+    ghost is_default = { λ s. s ≡ (One, ZeroLeft) };
+
     fn default() -> Self {
         Standing {
             left: Place::One,

@@ -2,11 +2,24 @@ ghost use Rattle.std.specs.Prelude.{◌≡◌, ◌-◌, ◌+◌, ◌<◌, slice_
 ghost use Rattle.kd_tables.specs.Permutation.{inverse, IsPermutation26, IsOwnInverse, MovesEachLetter};
 ghost use Rattle.kd_tables.specs.Rings.{IsRing};
 ghost use Rattle.kd_tables.specs.Tables.{letters_of};
-ghost use Rattle.kd_tables.specs.WiringText.{are_capitals, is_ring_text, is_reflection};
+ghost use Rattle.kd_tables.specs.WiringText.{are_capitals, is_permutation, is_ring_text, is_reflection};
 
 use super::letter::Letter;
 
-/// The letters that a text spells. Of a table's text the first letter is what A becomes.
+/// Makes a table of the published text of a wheel or a reflector, in which the first letter is what A becomes: by
+/// `letters` the table that the text spells, by `letters_back` the one that leads back, by `reflection` that of a
+/// reflector. What each of them asks of the text is shown as the program is checked.
+macro_rules! wiring {
+    ($make:ident, $part:expr, { $($variant:path => $text:literal,)* }) => {
+        match $part {
+            $($variant => $make($text),)*
+        }
+    };
+}
+
+pub(crate) use wiring;
+
+/// The letters that a text spells.
 #[tactic(auto, using(std::proofs::lemmas::List::FromFn::fill_by_all))]
 pub(crate) fn letters<const N: usize>(text: &[u8; N]) -> [Letter; N]
     requires { IsTrue (are_capitals text.now) }
@@ -28,15 +41,25 @@ fn letter_at<const N: usize>(text: &[u8; N], place: usize) -> Letter
     Letter::from_byte(text[place]).unwrap()
 }
 
+/// The table that undoes the one that a text spells.
+#[tactic(auto, using(crate::proofs::Wirings::test_permutes))]
+pub(crate) fn letters_back(text: &[u8; 26]) -> [Letter; 26]
+    requires capitals { IsTrue (are_capitals text.now) }
+    requires permutation { IsTrue (is_permutation (letters_of text.now)) }
+    ensures { result ≡ inverse (letters_of text.now) }
+{
+    inverse_table(&letters(text))
+}
+
 /// The table that undoes a table.
 #[tactic(auto, using(crate::proofs::Products::filled_is_inverse))]
-pub(crate) fn inverse_table(table: &[Letter; 26]) -> [Letter; 26]
+fn inverse_table(table: &[Letter; 26]) -> [Letter; 26]
     requires { IsPermutation26 table.now }
     ensures { result ≡ inverse table.now }
 {
     let mut inverse = [Letter::A; 26];
     for place in 0..26 {
-        inverse[table[usize::from(place)].index()] = Letter::new(place).unwrap();
+        inverse[table[usize::from(place)].index()] = Letter::at(place);
     }
     inverse
 }

@@ -4,7 +4,7 @@ ghost use Rattle.kd_tables.specs.Tables.{wheel_text, wiring_of, is_notch};
 
 use super::letter::Letter;
 use super::names::{name_of, named};
-use super::table::{inverse_table, letters};
+use super::table::{letters, letters_back, wiring};
 use arrayvec::ArrayString;
 
 /// A wheel of the rotor machines. I to VIII turn; Beta and Gamma stand still beside the thin reflectors of the M4.
@@ -30,6 +30,24 @@ pub enum Wheel {
     Beta,
     /// The M4's Gamma wheel, which stands to the left of the three that turn.
     Gamma,
+}
+
+/// Makes a table of a wheel's published wiring.
+macro_rules! wirings {
+    ($make:ident, $wheel:expr) => {
+        wiring!($make, $wheel, {
+            Wheel::I => b"EKMFLGDQVZNTOWYHXUSPAIBRCJ",
+            Wheel::II => b"AJDKSIRUXBLHWTMCQGZNPYFVOE",
+            Wheel::III => b"BDFHJLCPRTXVZNYEIWGAKMUSQO",
+            Wheel::IV => b"ESOVPZJAYQUIRHXLNFTGKDCMWB",
+            Wheel::V => b"VZBRGITYUPSDNHLXAWMJQOFECK",
+            Wheel::VI => b"JPGVOUMFYQBENHZRDKASXLICTW",
+            Wheel::VII => b"NZJHGRCXMYSWBOUFAIVLPEKQDT",
+            Wheel::VIII => b"FKQHTLXOCBJSPDZRAMEWNIUYGV",
+            Wheel::Beta => b"LEYJVCNIXWPBQMDRTAKZGFUHOS",
+            Wheel::Gamma => b"FSOKANUERHMBTIYCWLQPZXVGJD",
+        })
+    };
 }
 
 /// Reads the wheels' names, each beside its wheel, from the one to the other.
@@ -77,27 +95,16 @@ impl Wheel {
 pub fn wiring(wheel: Wheel) -> [Letter; 26]
     ensures { result ≡ wiring_of wheel }
 {
-    match wheel {
-        Wheel::I => letters(b"EKMFLGDQVZNTOWYHXUSPAIBRCJ"),
-        Wheel::II => letters(b"AJDKSIRUXBLHWTMCQGZNPYFVOE"),
-        Wheel::III => letters(b"BDFHJLCPRTXVZNYEIWGAKMUSQO"),
-        Wheel::IV => letters(b"ESOVPZJAYQUIRHXLNFTGKDCMWB"),
-        Wheel::V => letters(b"VZBRGITYUPSDNHLXAWMJQOFECK"),
-        Wheel::VI => letters(b"JPGVOUMFYQBENHZRDKASXLICTW"),
-        Wheel::VII => letters(b"NZJHGRCXMYSWBOUFAIVLPEKQDT"),
-        Wheel::VIII => letters(b"FKQHTLXOCBJSPDZRAMEWNIUYGV"),
-        Wheel::Beta => letters(b"LEYJVCNIXWPBQMDRTAKZGFUHOS"),
-        Wheel::Gamma => letters(b"FSOKANUERHMBTIYCWLQPZXVGJD"),
-    }
+    wirings!(letters, wheel)
 }
 
 /// What each letter becomes on the way back, from the left of the wheel to its right: the published wirings, the other
 /// way round.
-#[tactic(auto, using(crate::proofs::Wirings::wiring_permutes))]
+#[tactic(auto, unfolding(crate::specs::Tables::wiring_of))]
 pub fn unwiring(wheel: Wheel) -> [Letter; 26]
     ensures { result ≡ inverse (wiring_of wheel) }
 {
-    inverse_table(&wiring(wheel))
+    wirings!(letters_back, wheel)
 }
 
 /// Whether the wheel stands at a notch when this letter shows in its window, whatever its ring. Some wheels have two

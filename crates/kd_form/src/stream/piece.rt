@@ -88,13 +88,14 @@ pub(crate) fn close<On, M: PieceReader<On>, W: Sink>(
     Ok(())
 }
 
-/// Reads the next bytes, as many as there is room for at most, and writes what is made of them. There are none at the
-/// end of the source alone.
+/// Reads the next bytes through the buffer, as many as there is room for at most, and writes what is made of them.
+/// There are none at the end of the source alone.
 pub(crate) fn read_next<On, M: PieceReader<On>, R: Source, W: Sink>(
     reader: &mut M,
     on: &On,
     source: &mut R,
     sink: &mut W,
+    buffer: &mut [u8; PIECE],
     room: usize,
 ) -> Result<usize, Stop>
     requires some { 0 < room }
@@ -104,11 +105,10 @@ pub(crate) fn read_next<On, M: PieceReader<On>, R: Source, W: Sink>(
         (port R.remaining R.has_failed source.old source.new)
         (port W.taken W.has_failed sink.old sink.new) result }
 {
-    let mut buffer = [0; PIECE];
     read_into(reader, on, source, sink, &mut buffer[..room.min(PIECE)])
 }
 
-/// The same, through a buffer that has the room.
+/// The same, through a part of the buffer that has the room.
 fn read_into<On, M: PieceReader<On>, R: Source, W: Sink>(
     reader: &mut M,
     on: &On,

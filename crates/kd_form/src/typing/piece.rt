@@ -68,23 +68,33 @@ fn letters_among(bytes: &[u8], letters: &mut ArrayVec<Letter, PIECE>) -> usize
     bytes.len()
 }
 
+/// Makes the vector so long. Mostly it is so already, after a piece of that length.
+fn make_long<T: Copy + Default>(items: &mut ArrayVec<T, PIECE>, count: usize)
+    requires { count ≤ PIECE }
+    ensures { array_vec_len items.new ≡ count }
+{
+    items.truncate(count);
+    while items.len() < count {
+        items.push(T::default());
+    }
+}
+
 /// Presses the key of each letter among the bytes, up to the first byte that is not allowed, and answers how many bytes
-/// stand before that one. It leaves the lamps that light up, as capital letters.
+/// stand before that one. It leaves the lamps that light up, as capital letters. What the two vectors held is lost.
 pub(super) fn type_piece(
     engine: &mut Engine,
     bytes: &[u8],
+    letters: &mut ArrayVec<Letter, PIECE>,
     lamps: &mut ArrayVec<u8, PIECE>,
 ) -> usize
-    requires few { length bytes.now ≤ PIECE }
-    requires places { array_vec_len lamps.old ≡ PIECE }
+    requires { length bytes.now ≤ PIECE }
     ensures front { IsAllowedTo bytes.now result }
     ensures lights { Lights engine.old engine.new (take result bytes.now) lamps.new.items }
 {
-    let mut letters = ArrayVec::from([Letter::A; PIECE]);
-    letters.truncate(bytes.len());
-    let front = letters_among(bytes, &mut letters);
-    engine.run(&mut letters);
-    lamps.truncate(letters.len());
-    write_letters(&letters, lamps);
+    make_long(letters, bytes.len());
+    let front = letters_among(bytes, letters);
+    engine.run(letters);
+    make_long(lamps, letters.len());
+    write_letters(letters, lamps);
     front
 }

@@ -18,8 +18,13 @@ pub struct SheetWheel {
     pub letter: Letter,
 }
 
+/// The first wheel, at A. Lists of wheels are filled with it.
 impl Default for SheetWheel {
-    /// The first wheel, at A. Lists of wheels are filled with it.
+    ghost use Rattle.std.specs.Prelude.{◌≡◌};
+    ghost use Rattle.kd_tables.specs.declared.wheel.Wheel.TheVariants.{I};
+
+    ghost is_default = { λ w. w ≡ record { wheel = I; ring = 0; letter = 0 } };
+
     fn default() -> Self {
         SheetWheel {
             wheel: Wheel::I,

@@ -7,14 +7,17 @@ pub invariant_of-self : goal.invariant_of-self
 invariant_of-self g c =
     let inside = c.self.inside in
     let kept = c.self.invariant.1 in
-    let inner = c.if-stands-stood.self in
-    let is_around : inner ≡ around inside.reflecting (slow inside.rotors) (slow c.step.new.self.window) = elim c.if-stands-stood.branch [
-      | then-stands-stood w ↦ grind (arith, slow_still)
-      | else-stands-stood w ↦ grind arith
+    let now = c.if-stands-stood.self-inside in
+    let around_now = around inside.reflecting (slow inside.rotors) (slow c.step.new.self.window) in
+    let stands : now ≡ record inside { stepper = c.step.new.self; inner = around_now } = elim c.if-stands-stood.branch [
+      | then-stands-stood w ↦ grind arith
+      | else-stands-stood w ↦ grind (arith, slow_still)
     ] in (
       grind arith,
-      wired (key_in c.step.new.self inside.rings inside.reflector inside.plugs) inside.rotors inside.reflecting inner c.enclosing-self-inside.result
-          c.index-self.result c.shown-right.result g.row.S 0 (grind (arith, kept)) (grind (arith, kept)) (grind (arith, kept)) is_around (search rules) (search rules) (search rules) c.shown-right.ensures.size
+      wired (key_in now.stepper now.rings now.reflector now.plugs) now.rotors now.reflecting now.inner
+          c.enclosing-self-inside.result c.index-self.result c.shown-right.result g.row.S 0
+          (grind (arith, kept)) (grind (arith, kept)) (grind (arith, kept)) (grind arith)
+          (search rules) (search rules) (search rules) c.shown-right.ensures.size
           (omega (arith, c.self.invariant.2)) c.index-self.is c.shown-right.ensures.value (grind arith),
       c.self.invariant.2,
       c.self.invariant.3,
