@@ -1,5 +1,5 @@
 -- The refusals: the number and the name of each, and what stands behind these in a text.
-use Rattle.std.specs.Prelude.{codes, decimal, ℕ, List, ◌∷◌}
+use Rattle.std.specs.Prelude.{codes, ℕ, List, ◌∷◌}
 use Rattle.kd_tables.specs.declared.refusal.Refusal.{Refusal}
 use Rattle.kd_tables.specs.declared.refusal.Refusal.TheVariants as refusals
 
@@ -46,10 +46,6 @@ refusal_name refusals.ReadTooLong = codes "38 ReadTooLong"
 refusal_name refusals.NoSuchDay = codes "39 NoSuchDay"
 refusal_name refusals.OtherDay = codes "40 OtherDay"
 
--- a key or a reason, behind a space
-abbrev pub word_text : List ℕ → List ℕ
-word_text word = 32 ∷ word
-
--- a place, behind a space
-abbrev pub place_text : ℕ → List ℕ
-place_text place = word_text (decimal place)
+-- a word of a text, behind a space
+abbrev pub spaced : List ℕ → List ℕ
+spaced word = 32 ∷ word

@@ -1,7 +1,7 @@
 //! The refusals: the number and the name of each, and the texts that tell of one.
-ghost use Rattle.std.specs.Prelude.{◌≡◌, ◌≤◌, ◌+◌, ◌++◌, length};
+ghost use Rattle.std.specs.Prelude.{◌≡◌, ◌≤◌, ◌+◌, ◌++◌, decimal, length};
 ghost use Rattle.arrayvec.specs.ArrayString.{array_string_len};
-ghost use Rattle.kd_tables.specs.Refusals.{refusal_name, place_text, word_text};
+ghost use Rattle.kd_tables.specs.Refusals.{refusal_name, spaced};
 
 use arrayvec::ArrayString;
 use itoa::Buffer;
@@ -156,7 +156,7 @@ impl Refusal {
 
     /// The text of a refusal that speaks of one place.
     pub fn at(self, place: usize) -> Text
-        ensures bytes { result.bytes ≡ refusal_name self ++ place_text place }
+        ensures bytes { result.bytes ≡ refusal_name self ++ spaced (decimal place) }
         ensures short { array_string_len result ≤ 41 }
     {
         let mut text = self.text();
@@ -166,7 +166,7 @@ impl Refusal {
 
     /// The text of a refusal that speaks of two places.
     pub fn at_both(self, one: usize, other: usize) -> Text
-        ensures { result.bytes ≡ refusal_name self ++ place_text one ++ place_text other }
+        ensures { result.bytes ≡ refusal_name self ++ spaced (decimal one) ++ spaced (decimal other) }
     {
         let mut text = self.at(one);
         push_place(&mut text, other);
@@ -176,7 +176,7 @@ impl Refusal {
     /// The text of a refusal that speaks of a key, or has a reason, by its name.
     pub fn with_word(self, word: &str) -> Text
         requires { length word.now ≤ 22 }
-        ensures { result.bytes ≡ refusal_name self ++ word_text word.now }
+        ensures { result.bytes ≡ refusal_name self ++ spaced word.now }
     {
         let mut text = self.text();
         push_word(&mut text, word);
@@ -186,7 +186,7 @@ impl Refusal {
     /// The text of a refusal that speaks of one place, and has a reason.
     pub fn at_with_word(self, place: usize, word: &str) -> Text
         requires { length word.now ≤ 22 }
-        ensures { result.bytes ≡ refusal_name self ++ place_text place ++ word_text word.now }
+        ensures { result.bytes ≡ refusal_name self ++ spaced (decimal place) ++ spaced word.now }
     {
         let mut text = self.at(place);
         push_word(&mut text, word);
@@ -197,7 +197,7 @@ impl Refusal {
 /// Appends the place that a refusal speaks of.
 fn push_place(text: &mut Text, place: usize)
     requires { array_string_len text.old + 21 ≤ 64 }
-    ensures bytes { text.new.bytes ≡ text.old.bytes ++ place_text place }
+    ensures bytes { text.new.bytes ≡ text.old.bytes ++ spaced (decimal place) }
     ensures short { array_string_len text.new ≤ array_string_len text.old + 21 }
 {
     let mut buffer = Buffer::new();
@@ -208,7 +208,7 @@ fn push_place(text: &mut Text, place: usize)
 /// Appends the name of the key or of the reason that a refusal speaks of.
 fn push_word(text: &mut Text, word: &str)
     requires { array_string_len text.old + length word.now + 1 ≤ 64 }
-    ensures { text.new.bytes ≡ text.old.bytes ++ word_text word.now }
+    ensures { text.new.bytes ≡ text.old.bytes ++ spaced word.now }
 {
     text.push_str(" ");
     text.push_str(word);
