@@ -11,4 +11,5 @@ mod Printing
 mod Checking
 mod Receiving
 mod Streaming
+mod Ending
 mod Months

@@ -1,9 +1,10 @@
 -- What the program does: the command that its words say, on the files that they name.
-use Rattle.std.specs.Prelude.{◌≡◌, ◌⊎◌, ℕ, Bool, true, false, List, ◌++◌, take, Option, None, Some, IfSome, Result, Ok, Err, IfOk, IfErr, IsTrue}
+use Rattle.std.specs.Prelude.{◌≡◌, ◌⊎◌, ℕ, Bool, true, false, List, [], ◌++◌, take, Option, None, Some, IfSome, Result, Ok, Err, IfOk, IfErr, IsTrue}
 use Rattle.kd_sheet.specs.declared.fault.SheetFault.TheVariants.{NoMemory}
 use Rattle.kd_sheet.specs.MachineFile.{machine_of}
 use Rattle.kd_state.specs.declared.machine.parts.Parts.{Parts}
 use Rattle.kd_state.specs.SheetDay.{Day}
+use Rattle.kd_desk.specs.CommandLine.{Says, SaysNothing, files_of}
 use Rattle.kd_desk.specs.CommandLine.{Named, NamedAction, NamedTask, with_opened, with_task_opened, opened_by, task_opened}
 use Rattle.kd_desk.specs.declared.command.Command.{Command}
 use Rattle.kd_desk.specs.declared.command.Action.{Action}
@@ -19,7 +20,8 @@ use Rattle.kd_desk.specs.declared.stop.Stop.{Stop}
 use Rattle.kd_desk.specs.declared.stop.Stop.TheVariants.{Usage, Unread, ReadFailed, Refused}
 use Rattle.kd_desk.specs.Files.{Opened, content_of, opening_of}
 use Rattle.kd_desk.specs.Stops.{stop_after}
-use Rattle.kd_tables.specs.Ports.{Port}
+use Rattle.kd_tables.specs.Ports.{Port, Fail}
+use Rattle.kd_desk.specs.Ending.{EndsAs}
 use Rattle.kd_form.specs.Streams.{IsLeft}
 use Rattle.kd_desk.specs.Messages.{Types, Sends, Receives}
 use Rattle.kd_desk.specs.OnDay.{OnDay}
@@ -149,3 +151,21 @@ has_read (Err Usage) = false
 has_read (Err (Unread _)) = false
 has_read (Err (Refused (File NoMemory))) = false
 has_read _ = true
+
+-- What the program answered to its words, over files of which so much is known, and which names it asked for.
+pub record IsRun (words : List (List ℕ)) (known : Option (List ℕ → Option (List ℕ))) (asked : List (List ℕ)) (source sink : Port)
+    (Untouched : Type 0) (answer : Result (Unit {0}) Stop) : Type 0 where
+  pub carried : (command : Named) → Says words command
+      → IfSome known (λ held. CarriesOut (command_over held command) source sink answer)
+  pub asks : (command : Named) → Says words command → AskFor (files_of command) [] asked (has_read answer)
+  pub usage : answer ≡ Err Usage → SaysNothing words
+  pub other_words : SaysNothing words → (answer ≡ Err Usage) ⊎ StopsForMemory answer
+  pub none_asked : SaysNothing words → asked ≡ []
+  pub untouched : IsTrue (is_stopped_before answer) → Untouched
+  pub failed : Fail source sink (is_stopped_by_port answer)
+
+-- The program answered what is so, and it ended as that answer says.
+pub record HasEnded (IsSo : Result (Unit {0}) Stop → Type 0) (errors : Port) (status : ℕ) : Type 0 where
+  pub answer : Result (Unit {0}) Stop
+  pub is_so : IsSo answer
+  pub ends : EndsAs answer errors status

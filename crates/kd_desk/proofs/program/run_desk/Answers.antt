@@ -1,0 +1,18 @@
+use Rattle.kd_desk.proofs.program.run_desk.Goals as goal
+
+pub returns : goal.returns
+returns g c =
+    let run = c.carry_words.ensures in
+    record {
+      answer = c.carry_words.result;
+      is_so = record {
+        carried = run.carried;
+        asks = run.asked;
+        usage = run.usage;
+        other_words = run.other_words;
+        none_asked = run.none_asked;
+        untouched = run.untouched;
+        failed = run.failed;
+      };
+      ends = c.end.ensures;
+    }
