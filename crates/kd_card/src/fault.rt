@@ -1,12 +1,12 @@
-ghost use Rattle.std.specs.Prelude.{◌≡◌};
+ghost use Rattle.std.specs.Prelude.{◌≡◌, Some};
 ghost use Rattle.kd_card.specs.FaultText.{card_fault_text};
 
 use kd_tables::{Refusal, Text};
+use std::fmt;
 use thiserror::Error;
 
 /// Why bytes are no card. Lines are counted from 1.
 #[derive(Clone, Copy, Debug, PartialEq, Eq, Error)]
-#[error("{}", self.text())]
 pub enum CardFault {
     /// The first line is no card's head.
     BadHead,
@@ -35,5 +35,13 @@ impl CardFault {
             CardFault::CountWrong => Refusal::CardCountWrong.text(),
             CardFault::Trailing => Refusal::Trailing.text(),
         }
+    }
+}
+
+impl fmt::Display for CardFault {
+    ghost output = { λ fault. Some (card_fault_text fault) };
+
+    fn fmt<W: fmt::Write>(&self, f: &mut fmt::Formatter<W>) -> fmt::Result {
+        f.write_str(self.text().as_str())
     }
 }

@@ -1,4 +1,4 @@
-ghost use Rattle.std.specs.Prelude.{◌≡◌};
+ghost use Rattle.std.specs.Prelude.{◌≡◌, Some};
 ghost use Rattle.kd_desk.specs.FaultText.{desk_fault_text};
 
 use crate::files::FileFault;
@@ -10,11 +10,11 @@ use kd_sheet::SheetFault;
 use kd_state::{IllegalAt, ListFault};
 use kd_tables::{Device, Refusal, Text};
 use std::alloc::AllocError;
+use std::fmt;
 use thiserror::Error;
 
 /// Why the desk refuses: the first fault of a call's steps.
 #[derive(Clone, Copy, Debug, PartialEq, Eq, Error)]
-#[error("{}", self.text())]
 pub enum DeskFault {
     /// A fault of a machine file or of a key sheet, or want of memory.
     File(SheetFault),
@@ -58,6 +58,14 @@ impl DeskFault {
             DeskFault::Doubtful(doubt) => doubt.text(),
             DeskFault::Message(fault) => fault.text(),
         }
+    }
+}
+
+impl fmt::Display for DeskFault {
+    ghost output = { λ fault. Some (desk_fault_text fault) };
+
+    fn fmt<W: fmt::Write>(&self, f: &mut fmt::Formatter<W>) -> fmt::Result {
+        f.write_str(self.text().as_str())
     }
 }
 

@@ -28,7 +28,7 @@ pub enum Stop {
 
 impl Stop {
     /// What stops the program where a command that is carried out answers this.
-    pub fn after(done: Result<(), DeskFault>) -> Result<(), Stop>
+    pub(crate) fn after(done: Result<(), DeskFault>) -> Result<(), Stop>
         ensures { result ≡ stop_after false done }
     {
         match done {
@@ -38,7 +38,7 @@ impl Stop {
     }
 
     /// The same of a command that has opened a file, of which a read has failed or hasn't.
-    pub fn after_file(done: Result<(), DeskFault>, file_failed: bool) -> Result<(), Stop>
+    pub(crate) fn after_file(done: Result<(), DeskFault>, file_failed: bool) -> Result<(), Stop>
         ensures { result ≡ stop_after file_failed done }
     {
         match done {
@@ -95,17 +95,6 @@ pub fn end<E: Sink>(answer: Result<(), Stop>, errors: &mut E) -> u8
     };
     let _ = put_all(errors, stop.line().as_str().as_bytes());
     stop.status()
-}
-
-impl From<DeskFault> for Stop {
-    ghost use Rattle.std.specs.Prelude.{◌≡◌};
-    ghost use Rattle.kd_desk.specs.declared.stop.Stop.TheVariants.{Refused};
-
-    ghost from_gives = { λ fault stop. stop ≡ Refused fault };
-
-    fn from(fault: DeskFault) -> Stop {
-        Stop::Refused(fault)
-    }
 }
 
 impl From<FileFault> for Stop {

@@ -1,13 +1,13 @@
-ghost use Rattle.std.specs.Prelude.{◌≡◌};
+ghost use Rattle.std.specs.Prelude.{◌≡◌, Some};
 ghost use Rattle.kd_form.specs.FaultText.{form_fault_text};
 
 use kd_state::NotReady;
 use kd_tables::{Device, Refusal, Text};
+use std::fmt;
 use thiserror::Error;
 
 /// Why an order becomes no form, or a form no text. Positions are counted in bytes from 1, and parts from 1.
 #[derive(Clone, Copy, Debug, PartialEq, Eq, Error)]
-#[error("{}", self.text())]
 pub enum FormFault {
     /// A slot of the machine is empty, or a cable has one letter.
     NotReady,
@@ -63,6 +63,14 @@ impl FormFault {
             FormFault::PartOrder => Refusal::PartOrder.text(),
             FormFault::ReadTooLong => Refusal::ReadTooLong.text(),
         }
+    }
+}
+
+impl fmt::Display for FormFault {
+    ghost output = { λ fault. Some (form_fault_text fault) };
+
+    fn fmt<W: fmt::Write>(&self, f: &mut fmt::Formatter<W>) -> fmt::Result {
+        f.write_str(self.text().as_str())
     }
 }
 

@@ -1,13 +1,13 @@
-ghost use Rattle.std.specs.Prelude.{◌≡◌};
+ghost use Rattle.std.specs.Prelude.{◌≡◌, Some};
 ghost use Rattle.kd_prices.specs.FaultText.{doubt_text};
 
 use kd_state::{IllegalAt, Why};
 use kd_tables::{Refusal, Text};
+use std::fmt;
 use thiserror::Error;
 
 /// Why a card doesn't prove itself. Lines are the settings, counted from 1.
 #[derive(Clone, Copy, Debug, PartialEq, Eq, Error)]
-#[error("{}", self.text())]
 pub enum Doubt {
     /// Machine and day are of different models, or the prices are of the other kind.
     OtherModel,
@@ -44,5 +44,13 @@ impl Doubt {
             Doubt::SumDiffers => Refusal::SumDiffers.text(),
             Doubt::NeedlessLine(line) => Refusal::NeedlessLine.at(line),
         }
+    }
+}
+
+impl fmt::Display for Doubt {
+    ghost output = { λ fault. Some (doubt_text fault) };
+
+    fn fmt<W: fmt::Write>(&self, f: &mut fmt::Formatter<W>) -> fmt::Result {
+        f.write_str(self.text().as_str())
     }
 }

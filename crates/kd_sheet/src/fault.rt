@@ -1,13 +1,13 @@
-ghost use Rattle.std.specs.Prelude.{◌≡◌};
+ghost use Rattle.std.specs.Prelude.{◌≡◌, Some};
 ghost use Rattle.kd_sheet.specs.FaultText.{sheet_fault_text};
 
 use super::key::Key;
 use kd_tables::{Refusal, Text};
+use std::fmt;
 use thiserror::Error;
 
 /// Why a file is refused: its first fault, in the order in which its keys are tested.
 #[derive(Clone, Copy, Debug, PartialEq, Eq, Error)]
-#[error("{}", self.text())]
 pub enum SheetFault {
     /// The bytes are no TOML document.
     NotToml,
@@ -50,5 +50,13 @@ impl SheetFault {
             SheetFault::DayTwice(day) => Refusal::DayTwice.at(usize::from(day)),
             SheetFault::NoMemory => Refusal::NoMemory.text(),
         }
+    }
+}
+
+impl fmt::Display for SheetFault {
+    ghost output = { λ fault. Some (sheet_fault_text fault) };
+
+    fn fmt<W: fmt::Write>(&self, f: &mut fmt::Formatter<W>) -> fmt::Result {
+        f.write_str(self.text().as_str())
     }
 }

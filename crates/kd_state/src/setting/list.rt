@@ -1,4 +1,4 @@
-ghost use Rattle.std.specs.Prelude.{◌≡◌, MatchOption, MatchResult};
+ghost use Rattle.std.specs.Prelude.{◌≡◌, MatchOption, MatchResult, Some};
 ghost use Rattle.kd_state.specs.FaultText.{list_fault_text};
 ghost use Rattle.kd_state.specs.Line.{BeginsWithLine, BeginsWithNoLine, BeginsWithSettings, IsList, IsListFault};
 
@@ -6,6 +6,7 @@ use crate::setting::Setting;
 use crate::words::split_once;
 use arrayvec::ArrayVec;
 use kd_tables::{Refusal, Text};
+use std::fmt;
 use thiserror::Error;
 
 /// The settings of a list or of a card, in their order: at most 192.
@@ -13,7 +14,6 @@ pub type Settings = ArrayVec<Setting, 192>;
 
 /// Why bytes are no list of settings.
 #[derive(Clone, Copy, Debug, PartialEq, Eq, Error)]
-#[error("{}", self.text())]
 pub enum ListFault {
     /// The first line that is no setting's, or has no LF, counted from 1.
     BadLine(usize),
@@ -30,6 +30,14 @@ impl ListFault {
             ListFault::BadLine(line) => Refusal::BadLine.at(line),
             ListFault::TooMany => Refusal::TooMany.text(),
         }
+    }
+}
+
+impl fmt::Display for ListFault {
+    ghost output = { λ fault. Some (list_fault_text fault) };
+
+    fn fmt<W: fmt::Write>(&self, f: &mut fmt::Formatter<W>) -> fmt::Result {
+        f.write_str(self.text().as_str())
     }
 }
 
