@@ -3,9 +3,9 @@ ghost use Rattle.std.specs.Prelude.{◌≡◌, ◌≤◌, ◌⊎◌, ◌||◌, [
 ghost use Rattle.kd_desk.specs.CommandLine.{named, action_named, task_named, files_of, action_files, task_files};
 ghost use Rattle.kd_desk.specs.CommandLine.{with_opened, with_action_opened, with_task_opened, opened_by, action_opened, task_opened};
 ghost use Rattle.kd_desk.specs.CommandLine.{Says, SaysNothing};
-ghost use Rattle.kd_desk.specs.Program.{command_over, action_over, task_over, AskFor, CarriesOut, DoesTask, IsDone, IsTaskDone};
-ghost use Rattle.kd_desk.specs.Program.{HasEnded, IsRun, StopsForMemory, IsUnfailed, has_read, is_stopped_before, is_stopped_by_port};
-ghost use Rattle.kd_desk.specs.Files.{Gives, IsReading, opened};
+ghost use Rattle.kd_desk.specs.Program.{command_over, action_over, task_over, AsksFor, CarriesOut, DoesTask, IsDone, IsTaskDone};
+ghost use Rattle.kd_desk.specs.Program.{HasEnded, IsRun, StopsForMemory, IsUnfailed, is_stopped_before, is_stopped_by_port};
+ghost use Rattle.kd_desk.specs.Files.{AskFor, Gives, IsReading, opened};
 ghost use Rattle.kd_desk.specs.OnDay.{OnDay};
 ghost use Rattle.kd_tables.specs.Ports.{Fail, port};
 ghost use Rattle.kd_desk.specs.RunSteps.{is_device, is_refused_before};
@@ -63,7 +63,7 @@ fn carry_words<'n, S: AsStr, F: Files<'n>, R: Source, W: Sink>(
         (port R.remaining R.has_failed source.old source.new)
         (port W.taken W.has_failed sink.old sink.new) result) }
     ensures asked { (command : _) → Says (map S.text words.entry.now) command
-        → AskFor (files_of command) [] (F.asked files.new) (has_read result) }
+        → AsksFor (files_of command) (F.asked files.new) result }
     ensures usage { result ≡ Err Stop.Usage → SaysNothing (map S.text words.entry.now) }
     ensures other_words { SaysNothing (map S.text words.entry.now)
         → (result ≡ Err Stop.Usage) ⊎ StopsForMemory result }
