@@ -11,5 +11,6 @@ mod Printing
 mod Checking
 mod Receiving
 mod Streaming
+mod Ending
 mod Months
 mod FewCables

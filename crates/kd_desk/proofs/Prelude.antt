@@ -6,10 +6,10 @@ pub use Rattle.clap.specs.Words.{App, FailsBy, HasKind, HasMatchesOf, Row, app_o
 pub use Rattle.{clap.specs.declared.builder.arg.Arg.Arg, kd_card.specs.CardText.IsCard}
 pub use Rattle.kd_card.specs.declared.prices.PriceParts.{PriceParts}
 pub use Rattle.kd_desk.specs.CommandLine.{IsActionOf, IsOf, Named, NamedAction, Says, named}
-pub use Rattle.kd_desk.specs.Files.{Gives, IsReadWhole, Opened, opened}
+pub use Rattle.kd_desk.specs.Files.{AskFor, Asking, MissesOne, Gives, IsReadWhole, Opened, had, missed, opened}
 pub use Rattle.kd_desk.specs.Messages.{TellOfOrders, Types, answer_to_message}
 pub use Rattle.kd_desk.specs.OnDay.{FindsDay, Found, LackedMemory, NoDay, NoMachine, NoSheet, OnDay}
-pub use Rattle.kd_desk.specs.Program.{AskFor, CarriesOut, IsDone, KnownCommand, command_over, has_read}
+pub use Rattle.kd_desk.specs.Program.{AsksFor, CarriesOut, IsDone, KnownCommand, command_over}
 pub use Rattle.kd_desk.specs.RunApply.{Applies, Carried, NoSettings, RefusedLine}
 pub use Rattle.kd_desk.specs.RunCheck.{Checks, Doubtful, NoCard, Other, Shortest, verdict_text}
 pub use Rattle.kd_desk.specs.RunSteps.{LacksMemory, is_device, is_refused_before}

@@ -1,9 +1,10 @@
 -- Files that are read one after another, and what the program answers to a command.
 use Rattle.kd_desk.specs.{Program.is_stopped_before, RunSteps.is_refused_before, Stops.stop_after}
-use Rattle.{kd_desk.specs.declared.fault.DeskFault.DeskFault, kd_desk.specs.declared.fault.DeskFault.TheVariants.Device}
+use Rattle.kd_desk.specs.declared.{fault.DeskFault.DeskFault, fault.DeskFault.TheVariants.{Device, File}, stop.Stop.TheVariants.{ReadFailed, Refused}}
+use Rattle.kd_sheet.specs.declared.fault.SheetFault.TheVariants.{NoMemory}
 use Rattle.kd_desk.{proofs.Failing.err_is, proofs.SaidCommands.same_command, specs.CommandLine.desk_grammar}
 use Rattle.{kd_desk.specs.declared.files.fault.FileFault.FileFault, std.proofs.Common.arith}
-use Rattle.kd_desk.proofs.Prelude.{◌≡◌, ℕ, suc, Bool, true, false, List, [], ◌∷◌, ◌++◌, take, Option, Some, None, IfSome, IsSomeAnd, Result, Ok, Err, IsErr, IsErrAnd, IsTrue, is_ok, refl, sym, ap, ◌∙◌, subst, inl, inr, append_assoc, Row, subcommand_of, Stop, Unread, Named, IsOf, Says, KnownCommand, command_over, AskFor, CarriesOut, IsDone, has_read, Gives, Opened, Port}
+use Rattle.kd_desk.proofs.Prelude.{◌≡◌, ℕ, Bool, true, false, List, [], ◌∷◌, ◌++◌, Option, Some, None, IfSome, IsSomeAnd, Result, Ok, Err, IsErrAnd, IsTrue, refl, sym, ap, ◌∙◌, subst, inl, inr, append_assoc, Row, subcommand_of, Stop, Unread, Named, IsOf, Says, KnownCommand, command_over, AskFor, AsksFor, Asking, MissesOne, had, missed, is_ok, CarriesOut, IsDone, Gives, Opened, Port, map, ◌≢◌, Usage}
 
 -- what is known of files
 abbrev Known : Type 0
@@ -11,22 +12,60 @@ Known = Option (List ℕ → Option (List ℕ))
 
 -- ---- the names that are asked for
 
-pub asks_on : (name : List ℕ) (names old new newer : List (List ℕ)) (all : Bool) → new ≡ old ++ name ∷ [] → AskFor names new newer all
-    → AskFor (name ∷ names) old newer all
-asks_on name names old new newer all is more =
-    let joined : (rest : List (List ℕ)) → new ++ rest ≡ old ++ name ∷ rest = λ rest. ap (λ l. l ++ rest) is ∙ append_assoc old (name ∷ []) rest in
-    record {
-      number = suc more.number;
-      asked = more.asked ∙ joined (take more.number names);
-      whole = λ all. more.whole all ∙ joined names;
-    }
+joined : (one : Asking) (old new rest : List Asking) → new ≡ old ++ one ∷ [] → new ++ rest ≡ old ++ one ∷ rest
+joined one old new rest is = ap (λ l. l ++ rest) is ∙ append_assoc old (one ∷ []) rest
 
-pub asks_no_more : {T : Type 0} (names old new : List (List ℕ)) (all : Bool) (answer : Result T FileFault) → IsErr answer → AskFor names old new all
-    → AskFor names old new (is_ok answer)
-asks_no_more names old new all answer e d = grind arith
+-- one was had, and then all others were
+pub all_on : (name : List ℕ) (names : List (List ℕ)) (old new newer : List Asking) → new ≡ old ++ had name ∷ [] → newer ≡ new ++ map had names
+    → newer ≡ old ++ map had (name ∷ names)
+all_on name names old new newer is more = more ∙ joined (had name) old new (map had names) is
 
-pub asked_all : (names old new : List (List ℕ)) (all : Bool) → AskFor names old new true → AskFor names old new all
-asked_all names old new all asks = record { number = asks.number; asked = asks.asked; whole = λ _. asks.whole refl }
+-- one was had, and then one was not
+pub misses_on : (name : List ℕ) (names : List (List ℕ)) (old new newer : List Asking) → new ≡ old ++ had name ∷ [] → MissesOne names new newer
+    → MissesOne (name ∷ names) old newer
+misses_on name names old new newer is more = record {
+  before = name ∷ more.before;
+  name = more.name;
+  after = more.after;
+  names_are = ap (λ l. name ∷ l) more.names_are;
+  asked = more.asked ∙ joined (had name) old new (map had more.before ++ missed more.name ∷ []) is;
+}
+
+-- the first was not had
+pub misses_first : (name : List ℕ) (names : List (List ℕ)) (old new : List Asking) → new ≡ old ++ missed name ∷ [] → MissesOne (name ∷ names) old new
+misses_first name names old new is = record { before = []; name = name; after = names; names_are = refl; asked = is }
+
+-- and that is what `?` answers
+pub misses_so : {T : Type 0} (names : List (List ℕ)) (old new : List Asking) (answer : Result T FileFault) (fault : FileFault)
+    → IsErrAnd answer (λ made. made ≡ fault) → MissesOne names old new → AskFor names old new (is_ok answer)
+misses_so names old new answer fault made misses = subst (λ a. AskFor names old new (is_ok a)) (sym (err_is answer fault made)) misses
+
+-- ---- what the program asks for
+
+module _ (names : List (List ℕ)) (asked : List Asking) where
+  abbrev Asks : Result (Unit {0}) Stop → Type 0
+  Asks = AsksFor names asked
+
+  pub asked_none : (answer : Result (Unit {0}) Stop) (stop : Stop) → IsErrAnd answer (λ made. made ≡ stop)
+      → (stop ≢ Usage → stop ≡ Refused (File NoMemory)) → asked ≡ [] → Asks answer
+  asked_none answer Usage made memory none = subst Asks (sym (err_is answer Usage made)) none
+  asked_none answer (Unread fault) made memory none = cc (memory (λ e. cc e))
+  asked_none answer ReadFailed made memory none = cc (memory (λ e. cc e))
+  asked_none answer (Refused fault) made memory none =
+      subst Asks (sym (err_is answer (Refused fault) made)) (inr (none, grind (arith, memory)))
+
+  pub asked_yet : (answer : Result (Unit {0}) Stop) (fault : FileFault) → IsErrAnd answer (λ made. made ≡ Unread fault) → AskFor names [] asked false
+      → Asks answer
+  asked_yet answer fault made asks = subst Asks (sym (err_is answer (Unread fault) made)) asks
+
+  asks_after : (file_failed : Bool) (told : Result (Unit {0}) DeskFault) → AskFor names [] asked true → Asks (stop_after file_failed told)
+  asks_after file_failed (Ok done) asks = asks
+  asks_after true (Err Device) asks = asks
+  asks_after file_failed (Err fault) asks = inl asks
+
+  pub asked_all : (command : KnownCommand) (source sink : Port) (answer : Result (Unit {0}) Stop) → IsDone command source sink answer
+      → AskFor names [] asked true → Asks answer
+  asked_all command source sink answer done asks = subst Asks (sym done.answers) (asks_after _ done.told asks)
 
 -- ---- what the words say
 
@@ -50,10 +89,6 @@ fails fault = Err fault
 
 abbrev stopped : FileFault → Result (Unit {0}) Stop
 stopped fault = Err (Unread fault)
-
-pub asked_yet : (names old new : List (List ℕ)) (answer : Result (Unit {0}) Stop) (fault : FileFault) → IsErrAnd answer (λ made. made ≡ Unread fault)
-    → AskFor names old new false → AskFor names old new (has_read answer)
-asked_yet names old new answer fault made asks = subst (λ a. AskFor names old new (has_read a)) (sym (err_is answer (Unread fault) made)) asks
 
 module _ (source sink : Port) (answer : Result (Unit {0}) Stop) where
   unread_by : (fault other : FileFault) → fails fault ≡ fails other → answer ≡ Err (Unread fault) → answer ≡ Err (Unread other)

@@ -1,5 +1,5 @@
 -- What is read of a file, and what is known of one that is opened.
-use Rattle.std.specs.Prelude.{◌≡◌, ◌⊎◌, ℕ, ◌+◌, ◌≤◌, nat_le, Bool, false, IsTrue, List, length, Option, Some, None, Result, Ok, Err, find, bytes_eq, option_map, if◌then◌else◌}
+use Rattle.std.specs.Prelude.{◌≡◌, ◌⊎◌, ℕ, ◌+◌, ◌≤◌, nat_le, Bool, true, false, IsTrue, List, [], ◌∷◌, ◌++◌, map, length, Option, Some, None, Result, Ok, Err, find, bytes_eq, option_map, if◌then◌else◌}
 use Rattle.std.specs.Result.{result_map_both}
 use Rattle.std.specs.Borrow.{Bor}
 use Rattle.std.specs.Io.KnownBytes.{Consumes, IsAtEnd}
@@ -52,3 +52,25 @@ pub record IsReadWhole (source : Port) (answer : Result (List ℕ) FileFault) : 
   pub read : List ℕ
   pub given : Consumes source.had source.has read
   pub is : IsReadAs source read answer
+
+-- a name that was asked for, and whether its file was had
+abbrev pub Asking : Type 0
+Asking = List ℕ × Bool
+
+abbrev pub had : List ℕ → Asking
+had name = (name, true)
+
+abbrev pub missed : List ℕ → Asking
+missed name = (name, false)
+
+pub record MissesOne (names : List (List ℕ)) (old new : List Asking) : Type 0 where
+  pub before : List (List ℕ)
+  pub name : List ℕ
+  pub after : List (List ℕ)
+  pub names_are : names ≡ before ++ name ∷ after
+  pub asked : new ≡ old ++ (map had before ++ missed name ∷ [])
+
+-- these names were asked for in turn: all were had, or the first that was not is the last that was asked for
+abbrev pub AskFor : List (List ℕ) → List Asking → List Asking → Bool → Type 0
+AskFor names old new true = new ≡ old ++ map had names
+AskFor names old new false = MissesOne names old new

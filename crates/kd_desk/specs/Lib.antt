@@ -8,6 +8,8 @@ pub mod RunApply
 pub mod RunSteps
 pub mod Settings
 pub mod Stops
+pub mod FaultText
+pub mod Ending
 pub mod Headline
 pub mod OnDay
 pub mod RunCard

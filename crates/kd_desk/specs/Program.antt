@@ -1,9 +1,10 @@
 -- What the program does: the command that its words say, on the files that they name.
-use Rattle.std.specs.Prelude.{◌≡◌, ◌⊎◌, ℕ, Bool, true, false, List, ◌++◌, take, Option, None, Some, IfSome, Result, Ok, Err, IfOk, IfErr, IsTrue}
+use Rattle.std.specs.Prelude.{◌≡◌, ◌⊎◌, ℕ, Bool, true, false, List, [], ◌++◌, take, Option, None, Some, IfSome, Result, Ok, Err, IfOk, IfErr, IsTrue}
 use Rattle.kd_sheet.specs.declared.fault.SheetFault.TheVariants.{NoMemory}
 use Rattle.kd_sheet.specs.MachineFile.{machine_of}
 use Rattle.kd_state.specs.declared.machine.parts.Parts.{Parts}
 use Rattle.kd_state.specs.SheetDay.{Day}
+use Rattle.kd_desk.specs.CommandLine.{Says, SaysNothing, files_of}
 use Rattle.kd_desk.specs.CommandLine.{Named, NamedAction, NamedTask, with_opened, with_task_opened, opened_by, task_opened}
 use Rattle.kd_desk.specs.declared.command.Command.{Command}
 use Rattle.kd_desk.specs.declared.command.Action.{Action}
@@ -17,9 +18,10 @@ use Rattle.kd_desk.specs.declared.files.fault.FileFault.{FileFault}
 use Rattle.kd_desk.specs.declared.files.fault.FileFault.TheVariants as files
 use Rattle.kd_desk.specs.declared.stop.Stop.{Stop}
 use Rattle.kd_desk.specs.declared.stop.Stop.TheVariants.{Usage, Unread, ReadFailed, Refused}
-use Rattle.kd_desk.specs.Files.{Opened, content_of, opening_of}
+use Rattle.kd_desk.specs.Files.{Asking, AskFor, Opened, content_of, opening_of}
 use Rattle.kd_desk.specs.Stops.{stop_after}
-use Rattle.kd_tables.specs.Ports.{Port}
+use Rattle.kd_tables.specs.Ports.{Port, Fail}
+use Rattle.kd_desk.specs.Ending.{EndsAs}
 use Rattle.kd_form.specs.Streams.{IsLeft}
 use Rattle.kd_desk.specs.Messages.{Types, Sends, Receives}
 use Rattle.kd_desk.specs.OnDay.{OnDay}
@@ -59,12 +61,6 @@ abbrev pub command_over : (List ℕ → Option (List ℕ)) → Named → Result 
 command_over held command =
     with_file (content_of (held command.machine))
     (λ bytes. with_file (action_over held command.action) (λ a. Ok (record { machine = bytes; action = a })))
-
--- The names behind the old ones are the first of these, each once and in their order; they are all, where this is so.
-pub record AskFor (names old new : List (List ℕ)) (all : Bool) : Type 0 where
-  pub number : ℕ
-  pub asked : new ≡ old ++ take number names
-  pub whole : IsTrue all → new ≡ old ++ names
 
 -- a text was typed on the machine of a machine file, or the call was refused for the file
 pub record TypesOn (machine : List ℕ) (source sink : Port) (answer : Result (Unit {0}) DeskFault) : Type 0 where
@@ -143,9 +139,28 @@ abbrev pub is_stopped_by_port : Result (Unit {0}) Stop → Bool
 is_stopped_by_port (Err (Refused fault)) = is_device (Err fault)
 is_stopped_by_port _ = false
 
--- whether all files of a command were had, and memory was found for the words
-abbrev pub has_read : Result (Unit {0}) Stop → Bool
-has_read (Err Usage) = false
-has_read (Err (Unread _)) = false
-has_read (Err (Refused (File NoMemory))) = false
-has_read _ = true
+-- Which files were asked for, by the answer: each up to the first that could not be had; none where memory ran out over the
+-- words; and else all of them.
+abbrev pub AsksFor : List (List ℕ) → List Asking → Result (Unit {0}) Stop → Type 0
+AsksFor names asked (Err Usage) = asked ≡ []
+AsksFor names asked (Err (Unread fault)) = AskFor names [] asked false
+AsksFor names asked (Err (Refused fault)) = AskFor names [] asked true ⊎ ((asked ≡ []) × (fault ≡ File NoMemory))
+AsksFor names asked answer = AskFor names [] asked true
+
+-- What the program answered to its words, over files of which so much is known, and which names it asked for.
+pub record IsRun (words : List (List ℕ)) (known : Option (List ℕ → Option (List ℕ))) (asked : List Asking) (source sink : Port)
+    (Untouched : Type 0) (answer : Result (Unit {0}) Stop) : Type 0 where
+  pub carried : (command : Named) → Says words command
+      → IfSome known (λ held. CarriesOut (command_over held command) source sink answer)
+  pub asks : (command : Named) → Says words command → AsksFor (files_of command) asked answer
+  pub usage : answer ≡ Err Usage → SaysNothing words
+  pub other_words : SaysNothing words → (answer ≡ Err Usage) ⊎ StopsForMemory answer
+  pub none_asked : SaysNothing words → asked ≡ []
+  pub untouched : IsTrue (is_stopped_before answer) → Untouched
+  pub failed : Fail source sink (is_stopped_by_port answer)
+
+-- The program answered what is so, and it ended as that answer says.
+pub record HasEnded (IsSo : Result (Unit {0}) Stop → Type 0) (errors : Port) (status : ℕ) : Type 0 where
+  pub answer : Result (Unit {0}) Stop
+  pub is_so : IsSo answer
+  pub ends : EndsAs answer errors status

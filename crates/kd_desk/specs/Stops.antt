@@ -1,5 +1,5 @@
--- Why the program stops before its command is carried out, and the status with which it ends.
-use Rattle.std.specs.Prelude.{Bool, true, Some, None, Result, Ok, Err}
+-- Why the program stops.
+use Rattle.std.specs.Prelude.{Bool, true, Result, Ok, Err}
 use Rattle.std.specs.declared.io.ErrorKind.{ErrorKind}
 use Rattle.std.specs.declared.io.ErrorKind.TheVariants.{OutOfMemory}
 use Rattle.kd_desk.specs.declared.fault.DeskFault.{DeskFault}
@@ -7,17 +7,8 @@ use Rattle.kd_desk.specs.declared.fault.DeskFault.TheVariants.{File, Device, Rea
 use Rattle.kd_desk.specs.declared.files.fault.FileFault.{FileFault}
 use Rattle.kd_desk.specs.declared.files.fault.FileFault.TheVariants as files
 use Rattle.kd_sheet.specs.declared.fault.SheetFault.TheVariants.{NoMemory}
-use Rattle.kd_desk.specs.declared.stop.Exit.{Exit}
 use Rattle.kd_desk.specs.declared.stop.Stop.{Stop}
-use Rattle.kd_desk.specs.declared.stop.Stop.TheVariants.{Usage, Unread, ReadFailed, Refused}
-
--- the status with which the program ends, and what its line on standard error tells
-abbrev pub exit_of : Result (Unit {0}) Stop → Exit
-exit_of (Ok done) = record { status = 0; line = None }
-exit_of (Err Usage) = record { status = 2; line = Some Usage }
-exit_of (Err (Unread fault)) = record { status = 1; line = Some (Unread fault) }
-exit_of (Err ReadFailed) = record { status = 1; line = Some ReadFailed }
-exit_of (Err (Refused fault)) = record { status = 1; line = Some (Refused fault) }
+use Rattle.kd_desk.specs.declared.stop.Stop.TheVariants.{Usage, ReadFailed, Refused}
 
 -- what keeps a file from being read: want of memory, or the device
 abbrev pub fault_of_kind : ErrorKind → FileFault

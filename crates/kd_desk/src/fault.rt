@@ -1,5 +1,5 @@
-ghost use Rattle.std.specs.Prelude.{◌≡◌};
-ghost use Rattle.kd_desk.specs.Messages.{answer_to_message};
+ghost use Rattle.std.specs.Prelude.{◌≡◌, Some};
+ghost use Rattle.kd_desk.specs.FaultText.{desk_fault_text};
 
 use crate::files::FileFault;
 use kd_card::CardFault;
@@ -8,47 +8,65 @@ use kd_plan::OtherModel;
 use kd_prices::Doubt;
 use kd_sheet::SheetFault;
 use kd_state::{IllegalAt, ListFault};
-use kd_tables::Device;
+use kd_tables::{Device, Refusal, Text};
 use std::alloc::AllocError;
+use std::fmt;
 use thiserror::Error;
 
-/// Why the desk refuses: the first fault of a call's steps. The printed text is the refusal's number and name, with the
-/// place that it speaks of.
+/// Why the desk refuses: the first fault of a call's steps.
 #[derive(Clone, Copy, Debug, PartialEq, Eq, Error)]
 pub enum DeskFault {
     /// A fault of a machine file or of a key sheet, or want of memory.
-    #[error(transparent)]
     File(SheetFault),
     /// Bytes that are no list of settings.
-    #[error(transparent)]
     List(ListFault),
     /// Bytes that are no card.
-    #[error(transparent)]
     Card(CardFault),
     /// A line of a list or of a card that the machine refuses in its turn.
-    #[error(transparent)]
     Illegal(IllegalAt),
     /// The machine and the sheet's day are of different models.
-    #[error("{}", OtherModel)]
     OtherModel,
     /// A read or a write failed.
-    #[error("{}", Device)]
     Device,
     /// More bytes follow than are read.
-    #[error("38 ReadTooLong")]
     ReadTooLong,
     /// The sheet has no day of this number.
-    #[error("39 NoSuchDay")]
     NoSuchDay,
     /// The card is another day's.
-    #[error("40 OtherDay")]
     OtherDay,
     /// Why a card doesn't prove itself.
-    #[error(transparent)]
     Doubtful(Doubt),
     /// Why a text can't be typed, an order becomes no form, or a form no text.
-    #[error(transparent)]
     Message(FormFault),
+}
+
+impl DeskFault {
+    /// The refusal's number and name, and what it speaks of.
+    pub fn text(&self) -> Text
+        ensures { result.bytes ≡ desk_fault_text self.now }
+    {
+        match self {
+            DeskFault::File(fault) => fault.text(),
+            DeskFault::List(fault) => fault.text(),
+            DeskFault::Card(fault) => fault.text(),
+            DeskFault::Illegal(fault) => fault.text(),
+            DeskFault::OtherModel => Refusal::OtherModel.text(),
+            DeskFault::Device => Refusal::Device.text(),
+            DeskFault::ReadTooLong => Refusal::ReadTooLong.text(),
+            DeskFault::NoSuchDay => Refusal::NoSuchDay.text(),
+            DeskFault::OtherDay => Refusal::OtherDay.text(),
+            DeskFault::Doubtful(doubt) => doubt.text(),
+            DeskFault::Message(fault) => fault.text(),
+        }
+    }
+}
+
+impl fmt::Display for DeskFault {
+    ghost output = { λ fault. Some (desk_fault_text fault) };
+
+    fn fmt<W: fmt::Write>(&self, f: &mut fmt::Formatter<W>) -> fmt::Result {
+        f.write_str(self.text().as_str())
+    }
 }
 
 impl From<SheetFault> for DeskFault {
@@ -129,15 +147,18 @@ impl From<Device> for DeskFault {
     }
 }
 
-/// What the desk answers where a call of `kd_form` has answered this.
-pub(crate) fn answer_to_message(told: Result<(), FormFault>) -> Result<(), DeskFault>
-    ensures { result ≡ answer_to_message told }
-{
-    match told {
-        Ok(()) => Ok(()),
-        Err(FormFault::Device) => Err(DeskFault::Device),
-        Err(FormFault::ReadTooLong) => Err(DeskFault::ReadTooLong),
-        Err(fault) => Err(DeskFault::Message(fault)),
+impl From<FormFault> for DeskFault {
+    ghost use Rattle.std.specs.Prelude.{◌≡◌};
+    ghost use Rattle.kd_desk.specs.Messages.{fault_of_message};
+
+    ghost from_gives = { λ fault desk. desk ≡ fault_of_message fault };
+
+    fn from(fault: FormFault) -> DeskFault {
+        match fault {
+            FormFault::Device => DeskFault::Device,
+            FormFault::ReadTooLong => DeskFault::ReadTooLong,
+            fault => DeskFault::Message(fault),
+        }
     }
 }
 

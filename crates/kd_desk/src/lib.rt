@@ -24,4 +24,4 @@ pub use fault::DeskFault;
 pub use files::{Asked, Content, FileFault, Files, HostFile, HostFiles, read_whole};
 pub use ports::{ReaderSource, WriterSink};
 pub use program::run_desk;
-pub use stop::{Exit, Stop};
+pub use stop::{Stop, end};

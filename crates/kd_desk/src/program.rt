@@ -3,9 +3,9 @@ ghost use Rattle.std.specs.Prelude.{◌≡◌, ◌≤◌, ◌⊎◌, ◌||◌, [
 ghost use Rattle.kd_desk.specs.CommandLine.{named, action_named, task_named, files_of, action_files, task_files};
 ghost use Rattle.kd_desk.specs.CommandLine.{with_opened, with_action_opened, with_task_opened, opened_by, action_opened, task_opened};
 ghost use Rattle.kd_desk.specs.CommandLine.{Says, SaysNothing};
-ghost use Rattle.kd_desk.specs.Program.{command_over, action_over, task_over, AskFor, CarriesOut, DoesTask, IsDone, IsTaskDone};
-ghost use Rattle.kd_desk.specs.Program.{StopsForMemory, IsUnfailed, has_read, is_stopped_before, is_stopped_by_port};
-ghost use Rattle.kd_desk.specs.Files.{Gives, IsReading, opened};
+ghost use Rattle.kd_desk.specs.Program.{command_over, action_over, task_over, AsksFor, CarriesOut, DoesTask, IsDone, IsTaskDone};
+ghost use Rattle.kd_desk.specs.Program.{HasEnded, IsRun, StopsForMemory, IsUnfailed, is_stopped_before, is_stopped_by_port};
+ghost use Rattle.kd_desk.specs.Files.{AskFor, Gives, IsReading, opened};
 ghost use Rattle.kd_desk.specs.OnDay.{OnDay};
 ghost use Rattle.kd_tables.specs.Ports.{Fail, port};
 ghost use Rattle.kd_desk.specs.RunSteps.{is_device, is_refused_before};
@@ -19,18 +19,38 @@ use crate::run_check::run_check;
 use crate::run_receive::run_receive;
 use crate::run_send::run_send;
 use crate::run_type::run_type;
-use crate::stop::Stop;
+use crate::stop::{Stop, end};
 use kd_tables::{Sink, Source};
 use std::alloc::Global;
 use std::convert::AsStr;
 
-/// Carries out the command that the program's words say, the program's own name first, on the files that they name.
+/// Carries out the command that the program's words say, the program's own name first, on the files that they name. Answers
+/// the status with which the program ends, and writes a line to `errors` that tells why it is not 0.
 ///
-/// Words that say no command are `Usage`. The files are taken in the order of the words, each once: an order and a form
-/// are opened, every other file is read whole before the next. The first that can't be had is `Unread`; then nothing is read
-/// from the source or written to the sink. An order or a form is read as the command is carried out, and where such a read
-/// fails, that is `ReadFailed`.
-pub fn run_desk<'n, S: AsStr, F: Files<'n>, R: Source, W: Sink>(
+/// Words that say no command are told by the usage line, with status 2; every refusal has status 1. The files are taken in the
+/// order of the words, each once: an order and a form are opened, every other file is read whole before the next. Where one
+/// can't be had, nothing is read from the source or written to the sink. An order or a form is read as the command is
+/// carried out.
+pub fn run_desk<'n, S: AsStr, F: Files<'n>, R: Source, W: Sink, E: Sink>(
+    alloc: Global,
+    words: &'n [S],
+    files: &mut F,
+    source: &mut R,
+    sink: &mut W,
+    errors: &mut E,
+) -> u8
+    requires { F.asked files.old ≡ [] }
+    ensures { HasEnded (IsRun (map S.text words.entry.now) (F.known files.old) (F.asked files.new)
+        (port R.remaining R.has_failed source.old source.new)
+        (port W.taken W.has_failed sink.old sink.new)
+        ((source.new ≡ source.old) × (sink.new ≡ sink.old)))
+        (port E.taken E.has_failed errors.old errors.new) result }
+{
+    end(carry_words(alloc, words, files, source, sink), errors)
+}
+
+/// Carries out the command that the words say.
+fn carry_words<'n, S: AsStr, F: Files<'n>, R: Source, W: Sink>(
     alloc: Global,
     words: &'n [S],
     files: &mut F,
@@ -43,7 +63,7 @@ pub fn run_desk<'n, S: AsStr, F: Files<'n>, R: Source, W: Sink>(
         (port R.remaining R.has_failed source.old source.new)
         (port W.taken W.has_failed sink.old sink.new) result) }
     ensures asked { (command : _) → Says (map S.text words.entry.now) command
-        → AskFor (files_of command) (F.asked files.old) (F.asked files.new) (has_read result) }
+        → AsksFor (files_of command) (F.asked files.new) result }
     ensures usage { result ≡ Err Stop.Usage → SaysNothing (map S.text words.entry.now) }
     ensures other_words { SaysNothing (map S.text words.entry.now)
         → (result ≡ Err Stop.Usage) ⊎ StopsForMemory result }

@@ -34,8 +34,8 @@ pub fn run_apply<W: Sink>(
     apply(&machine, list, sink)
 }
 
-/// Carries the settings that the bytes say out on the machine, and writes the file of the machine that stands then.
-fn apply<W: Sink>(machine: &Machine, list: &[u8], sink: &mut W) -> Result<(), DeskFault>
+/// The same of a machine that is read already. This takes no memory.
+pub fn apply<W: Sink>(machine: &Machine, list: &[u8], sink: &mut W) -> Result<(), DeskFault>
     ensures applied { Applies machine.now list.now
         (port W.taken W.has_failed sink.old sink.new) result }
     ensures untouched { IsTrue (is_refused_before result) → sink.new ≡ sink.old }

@@ -13,7 +13,7 @@ use crate::machine_and_day::find_day;
 use kd_card::{Card, Version, write_card};
 use kd_plan::plan;
 use kd_prices::by_kind;
-use kd_state::{Machine, SheetDay};
+use kd_state::{Entry, Machine, Parts, SheetDay};
 use kd_tables::Sink;
 use std::alloc::Global;
 
@@ -37,15 +37,16 @@ pub fn run_card<W: Sink>(
     print_card(&machine, &day, sink)
 }
 
-/// Writes the shortest card that leads the machine to the day.
-fn print_card<W: Sink>(machine: &Machine, day: &SheetDay, sink: &mut W) -> Result<(), DeskFault>
-    requires machine { IsMachine machine.now }
-    requires day { IsLegalDay day.now }
+/// The same of a machine and a day that are read already. This takes no memory.
+pub fn print_card<W: Sink>(machine: &Machine, day: &SheetDay, sink: &mut W) -> Result<(), DeskFault>
     ensures prints { Prints machine.now day.now (day_number day.now)
         (port W.taken W.has_failed sink.old sink.new) result }
     ensures untouched { IsTrue (is_refused_before result) → sink.new ≡ sink.old }
     ensures failed { W.has_failed sink.new ≡ (W.has_failed sink.old || is_device result) }
 {
+    // Getters tell that both are legal.
+    prove!(matches!(machine.parts(), Parts::Rotor(_) | Parts::Pin(_)));
+    prove!(matches!(day.entry(), Entry::Rotor(_) | Entry::Pin(_)));
     let card = in_kinds(machine, day, &plan(machine, day)?);
     write_card(sink, day.day(), &card)?;
     Ok(())

@@ -1,7 +1,5 @@
 ghost use Rattle.std.specs.Prelude.{◌≡◌, ◌||◌, is_err, IsTrue};
 ghost use Rattle.kd_tables.specs.Writing.{Writes};
-ghost use Rattle.kd_state.specs.Machine.{IsMachine};
-ghost use Rattle.kd_state.specs.SheetDay.{IsLegalDay};
 ghost use Rattle.kd_desk.specs.OnDay.{OnDay};
 ghost use Rattle.kd_tables.specs.Ports.{port};
 ghost use Rattle.kd_desk.specs.RunCheck.{Checks, verdict_text};
@@ -13,7 +11,7 @@ use arrayvec::ArrayString;
 use itoa::Buffer;
 use kd_card::read_card;
 use kd_prices::check;
-use kd_state::{Machine, SheetDay};
+use kd_state::{Entry, Machine, Parts, SheetDay};
 use kd_tables::{Device, Sink, put_all};
 use std::alloc::Global;
 
@@ -40,21 +38,22 @@ pub fn run_check<W: Sink>(
     check_card(&machine, &day, number, card, sink)
 }
 
-/// Tells of the card of that day that it is a shortest one from the machine to the day.
-fn check_card<W: Sink>(
+/// The same of a machine and a day that are read already. This takes no memory.
+pub fn check_card<W: Sink>(
     machine: &Machine,
     day: &SheetDay,
     number: u8,
     card: &[u8],
     sink: &mut W,
 ) -> Result<(), DeskFault>
-    requires machine { IsMachine machine.now }
-    requires day { IsLegalDay day.now }
     ensures checks { Checks machine.now day.now number card.now
         (port W.taken W.has_failed sink.old sink.new) result }
     ensures untouched { IsTrue (is_refused_before result) → sink.new ≡ sink.old }
     ensures failed { W.has_failed sink.new ≡ (W.has_failed sink.old || is_device result) }
 {
+    // Getters tell that both are legal.
+    prove!(matches!(machine.parts(), Parts::Rotor(_) | Parts::Pin(_)));
+    prove!(matches!(day.entry(), Entry::Rotor(_) | Entry::Pin(_)));
     let (dated, card) = read_card(card)?;
     if dated != number {
         return Err(DeskFault::OtherDay);

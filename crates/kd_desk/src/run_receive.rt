@@ -4,7 +4,7 @@ ghost use Rattle.kd_desk.specs.OnDay.{OnDay};
 ghost use Rattle.kd_tables.specs.Ports.{Fail, port};
 ghost use Rattle.kd_desk.specs.RunSteps.{is_refused_before, is_device};
 
-use crate::fault::{DeskFault, answer_to_message};
+use crate::fault::DeskFault;
 use crate::machine_and_day::find_day;
 use kd_form::receive_stream;
 use kd_tables::{Sink, Source};
@@ -34,5 +34,6 @@ pub fn run_receive<R: Source, W: Sink>(
         (port W.taken W.has_failed sink.old sink.new) (is_device result) }
 {
     let (machine, day) = find_day(alloc, machine, sheet, number)?;
-    answer_to_message(receive_stream(&machine, &day, form, sink))
+    receive_stream(&machine, &day, form, sink)?;
+    Ok(())
 }

@@ -5,7 +5,7 @@ ghost use Rattle.kd_tables.specs.Ports.{Fail, port};
 ghost use Rattle.kd_desk.specs.Messages.{Types};
 ghost use Rattle.kd_desk.specs.RunSteps.{LacksMemory, AnswersFault, is_device, is_refused_before};
 
-use crate::fault::{DeskFault, answer_to_message};
+use crate::fault::DeskFault;
 use kd_form::type_stream;
 use kd_sheet::read_machine;
 use kd_tables::{Sink, Source};
@@ -36,5 +36,6 @@ pub fn run_type<R: Source, W: Sink>(
         (port W.taken W.has_failed sink.old sink.new) (is_device result) }
 {
     let machine = read_machine(alloc, machine)?;
-    answer_to_message(type_stream(&machine, source, sink))
+    type_stream(&machine, source, sink)?;
+    Ok(())
 }

@@ -1,32 +1,34 @@
-ghost use Rattle.std.specs.Prelude.{◌≡◌, false};
-ghost use Rattle.kd_desk.specs.Stops.{exit_of, stop_after};
+ghost use Rattle.std.specs.Prelude.{◌≡◌, false, Err};
+ghost use Rattle.kd_tables.specs.Ports.{port};
+ghost use Rattle.kd_desk.specs.Ending.{refused_line, status_of, stop_line, EndsAs};
+ghost use Rattle.kd_desk.specs.Stops.{stop_after};
 
 use crate::fault::DeskFault;
 use crate::files::FileFault;
+use arrayvec::ArrayString;
+use kd_tables::{Sink, put_all};
 use std::alloc::AllocError;
 use std::io;
-use thiserror::Error;
 
-/// Why the program stops. The printed text is its line on standard error.
-#[derive(Clone, Copy, Debug, PartialEq, Eq, Error)]
+/// A line on standard error.
+type Line = ArrayString<80>;
+
+/// Why the program stops.
+#[derive(Clone, Copy, Debug, PartialEq, Eq)]
 pub enum Stop {
     /// The words are no command of the desk.
-    #[error("usage: desk COMMAND WORDS")]
     Usage,
     /// A file that the words name can't be read whole, or can't be opened.
-    #[error("refused {}", DeskFault::from(*.0))]
     Unread(FileFault),
     /// A file was opened, and a read of it failed as the command was carried out.
-    #[error("refused {}", DeskFault::Device)]
     ReadFailed,
     /// The command was refused.
-    #[error("refused {0}")]
     Refused(DeskFault),
 }
 
 impl Stop {
     /// What stops the program where a command that is carried out answers this.
-    pub fn after(done: Result<(), DeskFault>) -> Result<(), Stop>
+    pub(crate) fn after(done: Result<(), DeskFault>) -> Result<(), Stop>
         ensures { result ≡ stop_after false done }
     {
         match done {
@@ -36,7 +38,7 @@ impl Stop {
     }
 
     /// The same of a command that has opened a file, of which a read has failed or hasn't.
-    pub fn after_file(done: Result<(), DeskFault>, file_failed: bool) -> Result<(), Stop>
+    pub(crate) fn after_file(done: Result<(), DeskFault>, file_failed: bool) -> Result<(), Stop>
         ensures { result ≡ stop_after file_failed done }
     {
         match done {
@@ -44,48 +46,55 @@ impl Stop {
             done => Stop::after(done),
         }
     }
-}
 
-/// How the program ends.
-#[derive(Clone, Copy)]
-pub struct Exit {
-    /// The status: 0 where all was done, 2 for words that are no command, 1 for a refusal.
-    pub status: u8,
-    /// What stopped the program, for its line on standard error.
-    pub line: Option<Stop>,
-}
-
-impl Exit {
-    /// How the program ends with this answer.
-    pub fn of(answer: Result<(), Stop>) -> Self
-        ensures { result ≡ exit_of answer }
+    /// The line that tells of it.
+    fn line(&self) -> Line
+        ensures { result.bytes ≡ stop_line self.now }
     {
-        match answer {
-            Ok(()) => Exit {
-                status: 0,
-                line: None,
-            },
-            Err(Stop::Usage) => Exit {
-                status: 2,
-                line: Some(Stop::Usage),
-            },
-            Err(stop) => Exit {
-                status: 1,
-                line: Some(stop),
-            },
+        match self {
+            Stop::Usage => {
+                let mut line = Line::new();
+                line.push_str("usage: desk COMMAND WORDS\n");
+                line
+            }
+            Stop::Unread(fault) => refused_line(DeskFault::from(*fault)),
+            Stop::ReadFailed => refused_line(DeskFault::Device),
+            Stop::Refused(fault) => refused_line(*fault),
+        }
+    }
+
+    /// The status with which the program ends.
+    fn status(&self) -> u8
+        ensures { result ≡ status_of (Err self.now) }
+    {
+        match self {
+            Stop::Usage => 2,
+            Stop::Unread(_) | Stop::ReadFailed | Stop::Refused(_) => 1,
         }
     }
 }
 
-impl From<DeskFault> for Stop {
-    ghost use Rattle.std.specs.Prelude.{◌≡◌};
-    ghost use Rattle.kd_desk.specs.declared.stop.Stop.TheVariants.{Refused};
+/// The line that tells of a refusal.
+fn refused_line(fault: DeskFault) -> Line
+    ensures { result.bytes ≡ refused_line fault }
+{
+    let mut line = Line::new();
+    line.push_str("refused ");
+    line.push_str(fault.text().as_str());
+    line.push_str("\n");
+    line
+}
 
-    ghost from_gives = { λ fault stop. stop ≡ Refused fault };
-
-    fn from(fault: DeskFault) -> Stop {
-        Stop::Refused(fault)
-    }
+/// Ends the program with this answer: writes the line that tells what stopped it, and answers the status, whether or not
+/// the line could be written.
+pub fn end<E: Sink>(answer: Result<(), Stop>, errors: &mut E) -> u8
+    ensures { EndsAs answer (port E.taken E.has_failed errors.old errors.new) result }
+{
+    let Err(stop) = answer else {
+        return 0;
+    };
+    let _ = put_all(errors, stop.line().as_str().as_bytes());
+    stop.status()
 }
 
 impl From<FileFault> for Stop {
@@ -119,7 +128,7 @@ impl From<io::Error> for Stop {
 
     ghost from_gives = { λ error stop. stop ≡ stop_of_kind (error_kind error) };
 
-    /// What keeps the program's words from being read: no memory, or a word that is no text.
+    /// Why the program's words can't be read: no memory, or a word that isn't UTF-8.
     fn from(error: io::Error) -> Stop {
         match error.kind() {
             io::ErrorKind::OutOfMemory => Stop::from(AllocError),

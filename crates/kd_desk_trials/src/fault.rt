@@ -181,6 +181,7 @@ fn says_why_it_refuses(rt: HostRuntime) -> Result<(), Fail> {
     for (fault, text) in &REFUSALS {
         let said = format!(in rt.alloc(); "{fault}")?;
         assert_eq!(rt; said.as_str(), *text);
+        assert_eq!(rt; fault.text().as_str(), *text);
     }
     Ok(())
 }

@@ -1,5 +1,5 @@
 ghost use Rattle.std.specs.Prelude.{◌≡◌, [], option_map};
-ghost use Rattle.kd_desk.specs.Files.{held_in};
+ghost use Rattle.kd_desk.specs.Files.{content_of, held_in, Gives};
 
 use kd_desk::{Asked, Content, FileFault, Files};
 use kd_tables::MemorySource;
@@ -31,6 +31,14 @@ impl<'n> MemoryFiles<'n> {
         let (_, bytes) = self.files.iter().find(|(held, _)| *held == name)?;
         Some(*bytes)
     }
+
+    /// The same, as the content of a file.
+    fn content(&self, alloc: Global, name: &str) -> Result<Content, FileFault>
+        ensures { Gives (content_of (held_in self.now.files.now name.now)) result }
+    {
+        let bytes = self.find(name).ok_or(FileFault::Device)?;
+        Content::new(Vec::from_slice(alloc, bytes)?)
+    }
 }
 
 impl<'n> Files<'n> for MemoryFiles<'n> {
@@ -44,14 +52,15 @@ impl<'n> Files<'n> for MemoryFiles<'n> {
     ghost asked = { λ s. s.asked };
 
     fn read(&mut self, alloc: Global, name: &'n str) -> Result<Content, FileFault> {
-        self.asked.add(name);
-        let bytes = self.find(name).ok_or(FileFault::Device)?;
-        Content::new(Vec::from_slice(alloc, bytes)?)
+        let content = self.content(alloc, name);
+        self.asked.add(name, content.is_ok());
+        content
     }
 
     fn open(&mut self, name: &'n str) -> Result<MemorySource<'n>, FileFault> {
-        self.asked.add(name);
-        let bytes = self.find(name).ok_or(FileFault::Device)?;
+        let found = self.find(name);
+        self.asked.add(name, found.is_some());
+        let bytes = found.ok_or(FileFault::Device)?;
         Ok(MemorySource::new(bytes, 4096, None))
     }
 }

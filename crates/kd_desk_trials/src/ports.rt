@@ -21,6 +21,16 @@ impl Read for Interrupted {
     }
 }
 
+/// A reader that finds no memory.
+#[derive(Drop)]
+struct OutOfMemory;
+
+impl Read for OutOfMemory {
+    fn read(&mut self, _buffer: &mut [u8]) -> io::Result<usize> {
+        Err(io::Error::from(ErrorKind::OutOfMemory))
+    }
+}
+
 /// A writer that takes so many bytes, and then none.
 #[derive(Drop)]
 struct Full {
@@ -80,7 +90,16 @@ fn a_reader_gives_what_it_has(rt: HostRuntime) {
 #[test]
 fn an_interrupted_read_fails(rt: HostRuntime) {
     let reader = Interrupted { was: false };
-    are_got(&rt, &mut ReaderSource::new(reader), &GETS_OF_INTERRUPTED);
+    let mut source = ReaderSource::new(reader);
+    are_got(&rt, &mut source, &GETS_OF_INTERRUPTED);
+    assert!(rt; !source.lacks_memory());
+}
+
+#[test]
+fn a_read_that_finds_no_memory_says_so(rt: HostRuntime) {
+    let mut source = ReaderSource::new(OutOfMemory);
+    assert_eq!(rt; source.get(&mut [0; 2]), Err(Failed));
+    assert!(rt; source.lacks_memory());
 }
 
 /// How many bytes are put into a writer that takes 1,103 of them, how many are taken, and whether a put has failed by then.

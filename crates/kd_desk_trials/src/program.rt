@@ -2,29 +2,37 @@ ghost use Rattle.std.specs.Prelude.{◌≡◌, []};
 
 use crate::memory_files::MemoryFiles;
 use crate::samples::{DAYS, FORM, MACHINE, ORDER, TEXT};
-use kd_desk::Stop::{self, ReadFailed, Refused, Unread, Usage};
-use kd_desk::{Content, DeskFault, Exit, FileFault, Files, run_desk};
-use kd_form::FormFault;
-use kd_sheet::SheetFault::NotToml;
-use kd_state::{IllegalAt, Why};
+use kd_desk::{Content, DeskFault, FileFault, Files, Stop, end, run_desk};
 use kd_tables::{MemorySink, MemorySource, Sink};
 use kd_trials::texts::{EMPTY_KINDS, M1, M1_WRITTEN, M209, NO_SETTINGS, SHEET, UNREADY};
 use std::alloc::{AllocError, Global};
 use std::process::Abort;
-use std::test::Fail;
 
-/// What a run answered, and the sink that it wrote to.
+/// The status of a run, and what it wrote to its two outputs.
 #[derive(Drop)]
 struct Ran {
-    answer: Result<(), Stop>,
+    status: u8,
     sink: MemorySink<512>,
+    errors: MemorySink<96>,
 }
 
 impl Ran {
-    /// This was answered, and these bytes were written.
-    fn ended(&self, rt: &impl Abort, answer: Result<(), Stop>, written: &str) {
-        assert_eq!(rt; self.answer, answer);
+    /// The run ended with the status that belongs to this line on standard error, and wrote this.
+    fn ended(&self, rt: &impl Abort, told: &str, written: &str) {
+        assert_eq!(rt; self.status, status_of(told));
+        assert_eq!(rt; self.errors.taken(), told.as_bytes());
         assert_eq!(rt; self.sink.taken(), written.as_bytes());
+    }
+}
+
+/// The status that belongs to a line on standard error.
+fn status_of(told: &str) -> u8 {
+    if told.is_empty() {
+        0
+    } else if told == USAGE {
+        2
+    } else {
+        1
     }
 }
 
@@ -40,8 +48,13 @@ fn run<'n, F: Files<'n>>(
 {
     let mut source = MemorySource::new(input.as_bytes(), 5, None);
     let mut sink = MemorySink::new(room.min(512));
-    let answer = run_desk(alloc, words, files, &mut source, &mut sink);
-    Ran { answer, sink }
+    let mut errors = MemorySink::new(96);
+    let status = run_desk(alloc, words, files, &mut source, &mut sink, &mut errors);
+    Ran {
+        status,
+        sink,
+        errors,
+    }
 }
 
 /// The files that the words name: each name, and its text.
@@ -86,17 +99,25 @@ letters = \"BAAAA\"
 cables = [\"\", \"\", \"\", \"\", \"\", \"\", \"\", \"\", \"\", \"\", \"\", \"\", \"\"]
 ";
 
-/// Why the program stops: a file that isn't there, that is too long, or that is no TOML document.
-const MISSING: Stop = Unread(FileFault::Device);
+/// What the program tells of words that are no command.
+const USAGE: &str = "usage: desk COMMAND WORDS\n";
 
-const TOO_LONG: Stop = Unread(FileFault::ReadTooLong);
+/// What it tells of a file that isn't there, that is too long, or that is no TOML document, and of other refusals.
+const MISSING: &str = "refused 6 Device\n";
 
-const NO_TOML: Stop = Refused(DeskFault::File(NotToml));
+const TOO_LONG: &str = "refused 38 ReadTooLong\n";
 
-const ILLEGAL: Stop = Refused(DeskFault::Illegal(IllegalAt {
-    line: 1,
-    why: Why::SlotEmpty,
-}));
+const NO_TOML: &str = "refused 18 NotToml\n";
+
+const ILLEGAL: &str = "refused 13 IllegalAt 1 SlotEmpty\n";
+
+const NO_SUCH_DAY: &str = "refused 39 NoSuchDay\n";
+
+const OTHER_DAY: &str = "refused 40 OtherDay\n";
+
+const NOT_READY: &str = "refused 4 NotReady\n";
+
+const NOT_ON_KEY: &str = "refused 27 NotOnKey\n";
 
 /// The program's words, and what is written.
 static DONE: [(&[&str], &str); 7] = [
@@ -114,28 +135,22 @@ fn carries_each_command_out(rt: HostRuntime) {
     let files = files();
     for (words, written) in &DONE {
         let mut files = MemoryFiles::new(&files);
-        run(rt.alloc(), words, &mut files, "AAAAA", 512).ended(&rt, Ok(()), written);
+        run(rt.alloc(), words, &mut files, "AAAAA", 512).ended(&rt, "", written);
     }
 }
 
-/// The program's words, and why it stops.
-type Stopped = (&'static [&'static str], Stop);
+/// The program's words, and what it tells of why it stops.
+type Stopped = (&'static [&'static str], &'static str);
 
 static STOPPED: [Stopped; 22] = [
-    (&["desk"], Usage),
-    (&["desk", "apply", "none"], Usage),
-    (&["desk", "send", "none", "l"], Usage),
+    (&["desk"], USAGE),
+    (&["desk", "apply", "none"], USAGE),
+    (&["desk", "send", "none", "l"], USAGE),
     (&["desk", "type", "bad"], NO_TOML),
     (&["desk", "apply", "bad", "l"], NO_TOML),
     (&["desk", "apply", "m", "t"], ILLEGAL),
-    (
-        &["desk", "card", "m", "s", "5"],
-        Refused(DeskFault::NoSuchDay),
-    ),
-    (
-        &["desk", "check", "m", "s", "8", "c"],
-        Refused(DeskFault::OtherDay),
-    ),
+    (&["desk", "card", "m", "s", "5"], NO_SUCH_DAY),
+    (&["desk", "check", "m", "s", "8", "c"], OTHER_DAY),
     (&["desk", "type", "none"], MISSING),
     (&["desk", "apply", "none", "l"], MISSING),
     (&["desk", "apply", "m", "none"], MISSING),
@@ -164,9 +179,9 @@ static LONG: [Stopped; 6] = [
 
 /// Each of the words stop the program, and nothing is written.
 fn are_stopped<'a>(rt: &impl Abort, alloc: Global, files: &'a [Held<'a>], cases: &'a [Stopped]) {
-    for (words, stop) in cases {
+    for (words, told) in cases {
         let mut files = MemoryFiles::new(files);
-        run(alloc, words, &mut files, "AAAAA", 512).ended(rt, Err(*stop), "");
+        run(alloc, words, &mut files, "AAAAA", 512).ended(rt, told, "");
     }
 }
 
@@ -178,34 +193,19 @@ fn stops_before_it_writes(rt: HostRuntime) -> Result<(), AllocError> {
     Ok(())
 }
 
-/// Why an order or a form that can't be read stops the program: behind the faults of the machine file and the sheet, of the
+/// What is told of an order or a form that can't be read: behind the faults of the machine file and the sheet, of the
 /// day, and of the machine.
 static CUT_OFF: [Stopped; 10] = [
     (&["desk", "send", "bad", "bad", "5", "f"], NO_TOML),
     (&["desk", "send", "empty", "bad", "5", "f"], NO_TOML),
-    (
-        &["desk", "send", "empty", "s", "5", "f"],
-        Refused(DeskFault::NoSuchDay),
-    ),
-    (
-        &["desk", "send", "empty", "s", "17", "f"],
-        Refused(DeskFault::Message(FormFault::NotReady)),
-    ),
-    (
-        &["desk", "receive", "off", "s", "17", "f"],
-        Refused(DeskFault::Message(FormFault::NotOnKey)),
-    ),
-    (&["desk", "send", "m", "s", "17", "f"], ReadFailed),
-    (&["desk", "receive", "m", "s", "17", "f"], ReadFailed),
-    (
-        &["desk", "receive", "empty", "s", "5", "f"],
-        Refused(DeskFault::NoSuchDay),
-    ),
+    (&["desk", "send", "empty", "s", "5", "f"], NO_SUCH_DAY),
+    (&["desk", "send", "empty", "s", "17", "f"], NOT_READY),
+    (&["desk", "receive", "off", "s", "17", "f"], NOT_ON_KEY),
+    (&["desk", "send", "m", "s", "17", "f"], MISSING),
+    (&["desk", "receive", "m", "s", "17", "f"], MISSING),
+    (&["desk", "receive", "empty", "s", "5", "f"], NO_SUCH_DAY),
     (&["desk", "receive", "m", "s", "17", "none"], MISSING),
-    (
-        &["desk", "check", "m", "s", "5", "f"],
-        Refused(DeskFault::NoSuchDay),
-    ),
+    (&["desk", "check", "m", "s", "5", "f"], NO_SUCH_DAY),
 ];
 
 /// Files that are read as those in memory are, and that can be opened, but then no byte be read of them.
@@ -232,28 +232,28 @@ impl<'n> Files<'n> for CutOff<'n> {
 #[test]
 fn stops_where_a_file_can_not_be_read_on(rt: HostRuntime) {
     let files = files();
-    for (words, stop) in &CUT_OFF {
+    for (words, told) in &CUT_OFF {
         let mut files = CutOff {
             files: MemoryFiles::new(&files),
         };
-        run(rt.alloc(), words, &mut files, "AAAAA", 512).ended(&rt, Err(*stop), "");
+        run(rt.alloc(), words, &mut files, "AAAAA", 512).ended(&rt, told, "");
     }
 }
 
-/// The program's words, the standard input, the room on the output, why it stops, and what is written.
-static HALF_WAY: [(&[&str], &str, usize, DeskFault, &str); 2] = [
+/// The program's words, the standard input, the room on the output, what is told, and what is written.
+static HALF_WAY: [(&[&str], &str, usize, &str, &str); 2] = [
     (
         &["desk", "type", "m"],
         "AAa",
         512,
-        DeskFault::Message(FormFault::BadByte(3)),
+        "refused 28 BadByte 3\n",
         "BD",
     ),
     (
         &["desk", "send", "m", "s", "17", "o"],
         "",
         3,
-        DeskFault::Device,
+        MISSING,
         "PAR",
     ),
 ];
@@ -261,56 +261,46 @@ static HALF_WAY: [(&[&str], &str, usize, DeskFault, &str); 2] = [
 #[test]
 fn stops_half_way(rt: HostRuntime) {
     let files = files();
-    for (words, input, room, fault, written) in &HALF_WAY {
+    for (words, input, room, told, written) in &HALF_WAY {
         let mut files = MemoryFiles::new(&files);
-        run(rt.alloc(), words, &mut files, input, *room).ended(&rt, Err(Refused(*fault)), written);
+        run(rt.alloc(), words, &mut files, input, *room).ended(&rt, told, written);
     }
 }
 
-/// So many bytes in an order without lines of keys and letters, and why it is refused.
-static LENGTHS: [(usize, DeskFault); 2] = [
-    (1_048_571, DeskFault::Message(FormFault::EmptyText)),
-    (1_048_572, DeskFault::ReadTooLong),
-];
+/// So many bytes in an order without lines of keys and letters, and what is told of it.
+static LENGTHS: [(usize, &str); 2] = [(1_048_571, "refused 29 EmptyText\n"), (1_048_572, TOO_LONG)];
 
 #[test]
 fn stops_where_an_order_is_too_long(rt: HostRuntime) -> Result<(), AllocError> {
     let words = &["desk", "send", "m", "s", "17", "long"];
-    for (spaces, fault) in &LENGTHS {
+    for (spaces, told) in &LENGTHS {
         let spaces = " ".repeat(rt.alloc(), *spaces)?;
         let order = format!(in rt.alloc(); "TEXT\n{spaces}")?;
         let files = with_long(order.as_str().as_bytes());
         let mut files = MemoryFiles::new(&files);
-        run(rt.alloc(), words, &mut files, "", 512).ended(&rt, Err(Refused(*fault)), "");
+        run(rt.alloc(), words, &mut files, "", 512).ended(&rt, told, "");
     }
     Ok(())
 }
 
-/// An answer, its status, and the line that tells of it, if there is one.
-static EXITS: [(Result<(), Stop>, u8, &str); 7] = [
-    (Ok(()), 0, ""),
-    (Err(Usage), 2, "usage: desk COMMAND WORDS"),
-    (Err(Unread(FileFault::NoMemory)), 1, "refused 26 NoMemory"),
-    (Err(MISSING), 1, "refused 6 Device"),
-    (Err(ReadFailed), 1, "refused 6 Device"),
-    (Err(TOO_LONG), 1, "refused 38 ReadTooLong"),
+/// An answer, and what is told of it.
+static ENDS: [(Result<(), Stop>, &str); 6] = [
+    (Ok(()), ""),
+    (Err(Stop::Usage), USAGE),
     (
-        Err(Refused(DeskFault::Message(FormFault::BadByte(3)))),
-        1,
-        "refused 28 BadByte 3",
+        Err(Stop::Unread(FileFault::NoMemory)),
+        "refused 26 NoMemory\n",
     ),
+    (Err(Stop::Unread(FileFault::ReadTooLong)), TOO_LONG),
+    (Err(Stop::ReadFailed), MISSING),
+    (Err(Stop::Refused(DeskFault::NoSuchDay)), NO_SUCH_DAY),
 ];
 
 #[test]
-fn ends_with_a_status_and_a_line(rt: HostRuntime) -> Result<(), Fail> {
-    for (answer, status, text) in &EXITS {
-        let exit = Exit::of(*answer);
-        assert_eq!(rt; exit.status, *status);
-        assert_eq!(rt; exit.line, answer.err());
-        if let Some(stop) = exit.line {
-            let said = format!(in rt.alloc(); "{stop}")?;
-            assert_eq!(rt; said.as_str(), *text);
-        }
+fn ends_with_a_status_and_a_line(rt: HostRuntime) {
+    for (answer, told) in &ENDS {
+        let mut errors: MemorySink<96> = MemorySink::new(96);
+        assert_eq!(rt; end(*answer, &mut errors), status_of(told));
+        assert_eq!(rt; errors.taken(), told.as_bytes());
     }
-    Ok(())
 }

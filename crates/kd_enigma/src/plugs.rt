@@ -1,17 +1,27 @@
 ghost use Rattle.std.specs.Prelude.{◌≡◌, ◌≢◌, ◌<◌, ◌↔◌, IsOk, IsTrue, IfOk, slice_index, slice_set};
 ghost use Rattle.kd_tables.specs.Permutation.{exchange};
+ghost use Rattle.kd_tables.specs.Refusals.{refusal_name};
 ghost use Rattle.kd_enigma.specs.Cipher.{IsPlugboard};
 ghost use Rattle.kd_enigma.specs.Plugs.{IsLeft, NoLetterTwice};
 
 use super::map::{Map, shifted};
-use kd_tables::Letter;
+use kd_tables::{Letter, Refusal, Text};
 use std::marker::Model;
 use thiserror::Error;
 
 /// A letter that is to be plugged twice.
 #[derive(Clone, Copy, Debug, PartialEq, Eq, Error)]
-#[error("1 LetterTwice")]
+#[error("{}", self.text())]
 pub struct LetterTwice;
+
+impl LetterTwice {
+    /// The refusal's number and name.
+    pub fn text(&self) -> Text
+        ensures { result.bytes ≡ refusal_name Refusal.LetterTwice }
+    {
+        Refusal::LetterTwice.text()
+    }
+}
 
 /// The plugboard: what each letter is exchanged for.
 #[derive(Clone, Copy)]

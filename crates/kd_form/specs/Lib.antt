@@ -1,4 +1,5 @@
 pub mod Keys
+pub mod FaultText
 pub mod InternalKey
 pub mod Part
 pub mod Making

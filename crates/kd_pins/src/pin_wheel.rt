@@ -1,15 +1,25 @@
 ghost use Rattle.std.specs.Prelude.{◌≡◌, ◌↔◌, ◌<◌, ◌≤◌, ◌+◌, ◌%◌, IsOk, IsTrue, OnOk, Contains};
+ghost use Rattle.kd_tables.specs.Refusals.{refusal_name};
 ghost use Rattle.kd_tables.specs.Rings.{IsRing};
 ghost use Rattle.kd_pins.specs.PinWheel.{IsWheel, letter_shown, pin_acting, place_past, turned_to, with_shown};
 
-use kd_tables::{Letter, Ring};
+use kd_tables::{Letter, Refusal, Ring, Text};
 use std::marker::Model;
 use thiserror::Error;
 
 /// A letter that the wheel hasn't.
 #[derive(Clone, Copy, Debug, PartialEq, Eq, Error)]
-#[error("2 NotOnWheel")]
+#[error("{}", self.text())]
 pub struct NotOnWheel;
+
+impl NotOnWheel {
+    /// The refusal's number and name.
+    pub fn text(&self) -> Text
+        ensures { result.bytes ≡ refusal_name Refusal.NotOnWheel }
+    {
+        Refusal::NotOnWheel.text()
+    }
+}
 
 /// A pin wheel with its letters in their own order, which is not always the alphabet's, and a pin beside each letter.
 ///

@@ -1,4 +1,5 @@
 pub mod Doubt
+pub mod FaultText
 pub mod Fitting
 pub mod Alike
 pub mod Laws

@@ -1,4 +1,5 @@
 pub mod Key
+pub mod FaultText
 pub mod Document
 pub mod Letters
 pub mod Names

@@ -4,6 +4,7 @@ pub mod ToldApart
 pub mod Pins
 pub mod Machine
 pub mod Setting
+pub mod FaultText
 pub mod Changes
 pub mod Words
 pub mod Line

@@ -7,3 +7,4 @@ pub mod WiringText
 pub mod Ports
 pub mod Laws
 pub mod Writing
+pub mod Refusals

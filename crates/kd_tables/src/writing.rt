@@ -1,14 +1,25 @@
 ghost use Rattle.std.specs.Prelude.{◌≡◌, ◌||◌, is_err};
+ghost use Rattle.kd_tables.specs.Refusals.{refusal_name};
 ghost use Rattle.kd_tables.specs.Writing.{Writes};
 
 use super::failed::Failed;
+use super::refusal::{Refusal, Text};
 use super::sink::Sink;
 use thiserror::Error;
 
 /// A sink that failed before it had taken all.
 #[derive(Clone, Copy, Debug, PartialEq, Eq, Error)]
-#[error("6 Device")]
+#[error("{}", self.text())]
 pub struct Device;
+
+impl Device {
+    /// The refusal's number and name.
+    pub fn text(&self) -> Text
+        ensures { result.bytes ≡ refusal_name Refusal.Device }
+    {
+        Refusal::Device.text()
+    }
+}
 
 /// Puts all bytes into the sink, in as many puts as it wants. A sink that fails has taken a front of them.
 #[tactic(auto, using(crate::proofs::Taken::takes_more, crate::proofs::Taken::still_failed))]

@@ -3,18 +3,19 @@ ghost use Rattle.std.specs.Prelude.{◌≡◌, ◌<◌, [], ◌∷◌, ◌++◌,
 use arrayvec::ArrayVec;
 use std::marker::Model;
 
-/// The names that were asked for, in order. No command names more than three files.
+/// The names that were asked for, in order, each with whether its file was had. No command names more than three files.
 #[derive(Drop)]
 pub struct Asked<'n> {
-    names: ArrayVec<&'n str, 3>,
+    names: ArrayVec<(&'n str, bool), 3>,
 }
 
 impl<'n> Model for Asked<'n> {
-    ghost use Rattle.std.specs.Prelude.{ℕ, List, map};
+    ghost use Rattle.std.specs.Prelude.{List, map};
+    ghost use Rattle.kd_desk.specs.Files.{Asking};
 
-    ghost Value = { List (List ℕ) };
+    ghost Value = { List Asking };
 
-    ghost view = { λ asked. map (λ name. name.now) asked.names.items };
+    ghost view = { λ asked. map (λ one. (one.0.now, one.1)) asked.names.items };
 }
 
 impl<'n> Asked<'n> {
@@ -27,11 +28,11 @@ impl<'n> Asked<'n> {
         }
     }
 
-    /// This name was asked for too.
-    pub fn add(&mut self, name: &'n str)
+    /// This name was asked for too, and its file was had or wasn't.
+    pub fn add(&mut self, name: &'n str, had: bool)
         requires { length self.old < 3 }
-        ensures { self.new ≡ self.old ++ name.now ∷ [] }
+        ensures { self.new ≡ self.old ++ (name.now, had) ∷ [] }
     {
-        self.names.push(name);
+        self.names.push((name, had));
     }
 }

@@ -1,4 +1,4 @@
-ghost use Rattle.std.specs.Prelude.{◌≡◌, [], false};
+ghost use Rattle.std.specs.Prelude.{◌≡◌, [], false, IfOk};
 
 use super::asked::Asked;
 use super::{Content, FileFault, Files, read_whole};
@@ -32,15 +32,33 @@ impl<'n> Files<'n> for HostFiles<'n> {
     ghost asked = { λ s. s.asked };
 
     fn read(&mut self, alloc: Global, name: &'n str) -> Result<Content, FileFault> {
-        let mut file = self.open(name)?;
-        read_whole(alloc, &mut file)
+        let content = read_file(self.rt, alloc, name);
+        self.asked.add(name, content.is_ok());
+        content
     }
 
     fn open(&mut self, name: &'n str) -> Result<HostFile, FileFault> {
-        self.asked.add(name);
-        let file = File::open(self.rt, name)?;
-        Ok(HostFile::new(file))
+        let file = open_file(self.rt, name);
+        self.asked.add(name, file.is_ok());
+        file
     }
+}
+
+/// All the bytes of the file of this name.
+fn read_file(rt: &HostRuntime, alloc: Global, name: &str) -> Result<Content, FileFault> {
+    let mut file = open_file(rt, name)?;
+    match read_whole(alloc, &mut file) {
+        Err(FileFault::Device) if file.source.lacks_memory() => Err(FileFault::NoMemory),
+        content => content,
+    }
+}
+
+/// The file of this name, opened.
+fn open_file(rt: &HostRuntime, name: &str) -> Result<HostFile, FileFault>
+    ensures { IfOk result (λ file. file.source.failed ≡ false) }
+{
+    let file = File::open(rt, name)?;
+    Ok(HostFile::new(file))
 }
 
 /// A file of the system that was opened. What it gives no contract says.

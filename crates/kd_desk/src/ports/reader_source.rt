@@ -2,13 +2,14 @@ ghost use Rattle.std.specs.Prelude.{◌≡◌, ◌||◌, false, is_err};
 ghost use Rattle.kd_tables.specs.Ports.{Gets};
 
 use kd_tables::{Failed, Source};
-use std::io::Read;
+use std::io::{ErrorKind, Read};
 
 /// A source that reads from a reader. An interrupted read counts as a failure.
 #[derive(Drop)]
 pub struct ReaderSource<R: Read + Drop> {
     reader: R,
     failed: bool,
+    lacks_memory: bool,
 }
 
 impl<R: Read + Drop> ReaderSource<R> {
@@ -20,7 +21,15 @@ impl<R: Read + Drop> ReaderSource<R> {
         ReaderSource {
             reader,
             failed: false,
+            lacks_memory: false,
         }
+    }
+
+    /// Whether the last read that failed wanted memory.
+    pub fn lacks_memory(&self) -> bool
+        ensures { result ≡ self.now.lacks_memory }
+    {
+        self.lacks_memory
     }
 }
 
@@ -32,8 +41,9 @@ impl<R: Read + Drop> Source for ReaderSource<R> {
     fn get(&mut self, buffer: &mut [u8]) -> Result<usize, Failed> {
         match self.reader.read(buffer) {
             Ok(count) => Ok(count),
-            Err(_) => {
+            Err(error) => {
                 self.failed = true;
+                self.lacks_memory = matches!(error.kind(), ErrorKind::OutOfMemory);
                 Err(Failed)
             }
         }

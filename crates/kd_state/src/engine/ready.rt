@@ -3,6 +3,7 @@ ghost use Rattle.std.specs.Prelude.{◌≡◌, ◌≢◌, ◌↔◌, ◌<◌, �
 ghost use Rattle.std.specs.Option.{option_to_list};
 ghost use Rattle.arrayvec.specs.ArrayVec.{array_vec_len};
 ghost use Rattle.kd_tables.specs.Permutation.{exchange};
+ghost use Rattle.kd_tables.specs.Refusals.{refusal_name};
 ghost use Rattle.kd_tables.specs.Tables.{box_of};
 ghost use Rattle.kd_state.specs.Machine.{cable_letters, AreCables, IsLegalRotor};
 ghost use Rattle.kd_state.specs.Seated.{seated_wheel};
@@ -18,13 +19,22 @@ use crate::machine::rotor_parts::RotorParts;
 use crate::sheet_day::rotor_entry::SheetWheel;
 use arrayvec::ArrayVec;
 use kd_enigma::Plugs;
-use kd_tables::{Letter, Wheel};
+use kd_tables::{Letter, Refusal, Text, Wheel};
 use thiserror::Error;
 
 /// A machine with an empty slot, or with a cable that has one letter.
 #[derive(Clone, Copy, Debug, Error)]
-#[error("4 NotReady")]
+#[error("{}", self.text())]
 pub struct NotReady;
+
+impl NotReady {
+    /// The refusal's number and name.
+    pub fn text(&self) -> Text
+        ensures { result.bytes ≡ refusal_name Refusal.NotReady }
+    {
+        Refusal::NotReady.text()
+    }
+}
 
 impl Machine {
     ghost use Rattle.std.specs.Prelude.{IsOk, IfOk};

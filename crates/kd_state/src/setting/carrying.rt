@@ -1,18 +1,29 @@
 //! Settings that are carried out one after another.
-ghost use Rattle.std.specs.Prelude.{IfErr, IfOk};
+ghost use Rattle.std.specs.Prelude.{◌≡◌, IfErr, IfOk};
+ghost use Rattle.kd_state.specs.FaultText.{illegal_at_text};
 ghost use Rattle.kd_state.specs.Setting.{IsFirstIllegal, Leads};
 
 use crate::machine::Machine;
 use crate::setting::Setting;
 use crate::setting::why::Why;
+use kd_tables::{Refusal, Text};
 use thiserror::Error;
 
 /// A setting of a list that the machine refuses in its turn. Lines are the settings, counted from 1.
 #[derive(Clone, Copy, Debug, PartialEq, Eq, Error)]
-#[error("13 IllegalAt {line} {why}")]
+#[error("{}", self.text())]
 pub struct IllegalAt {
     pub line: usize,
     pub why: Why,
+}
+
+impl IllegalAt {
+    /// The refusal's number and name, the line and the reason.
+    pub fn text(&self) -> Text
+        ensures { result.bytes ≡ illegal_at_text self.now }
+    {
+        Refusal::IllegalAt.at_with_word(self.line, self.why.name())
+    }
 }
 
 /// The machine to which the settings lead, carried out one after another, or the first that is refused.

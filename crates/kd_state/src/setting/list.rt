@@ -1,9 +1,12 @@
-ghost use Rattle.std.specs.Prelude.{MatchOption, MatchResult};
+ghost use Rattle.std.specs.Prelude.{◌≡◌, MatchOption, MatchResult, Some};
+ghost use Rattle.kd_state.specs.FaultText.{list_fault_text};
 ghost use Rattle.kd_state.specs.Line.{BeginsWithLine, BeginsWithNoLine, BeginsWithSettings, IsList, IsListFault};
 
 use crate::setting::Setting;
 use crate::words::split_once;
 use arrayvec::ArrayVec;
+use kd_tables::{Refusal, Text};
+use std::fmt;
 use thiserror::Error;
 
 /// The settings of a list or of a card, in their order: at most 192.
@@ -13,11 +16,29 @@ pub type Settings = ArrayVec<Setting, 192>;
 #[derive(Clone, Copy, Debug, PartialEq, Eq, Error)]
 pub enum ListFault {
     /// The first line that is no setting's, or has no LF, counted from 1.
-    #[error("8 BadLine {0}")]
     BadLine(usize),
     /// There are more than 192 lines.
-    #[error("9 TooMany")]
     TooMany,
+}
+
+impl ListFault {
+    /// The refusal's number and name, and its line.
+    pub fn text(&self) -> Text
+        ensures { result.bytes ≡ list_fault_text self.now }
+    {
+        match *self {
+            ListFault::BadLine(line) => Refusal::BadLine.at(line),
+            ListFault::TooMany => Refusal::TooMany.text(),
+        }
+    }
+}
+
+impl fmt::Display for ListFault {
+    ghost output = { λ fault. Some (list_fault_text fault) };
+
+    fn fmt<W: fmt::Write>(&self, f: &mut fmt::Formatter<W>) -> fmt::Result {
+        f.write_str(self.text().as_str())
+    }
 }
 
 /// The list of settings whose text this is: a line for each, with LF at its end, and at most 192 of them.

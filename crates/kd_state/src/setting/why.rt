@@ -1,7 +1,10 @@
-use std::fmt::{self, Debug, Display, Formatter, Write};
+ghost use Rattle.std.specs.Prelude.{◌≡◌, ◌≤◌, length};
+ghost use Rattle.kd_state.specs.FaultText.{illegal_text, why_name};
+
+use kd_tables::{Refusal, Text};
 use thiserror::Error;
 
-/// Why a machine refuses a setting. It is printed by its name.
+/// Why a machine refuses a setting.
 #[derive(Clone, Copy, Debug, PartialEq, Eq)]
 pub enum Why {
     /// The setting is not one of this kind of machine.
@@ -28,15 +31,40 @@ pub enum Why {
     WouldPass,
 }
 
-impl Display for Why {
-    fn fmt<W: Write>(&self, formatter: &mut Formatter<W>) -> fmt::Result {
-        Debug::fmt(self, formatter)
+impl Why {
+    /// The reason as a refusal tells it.
+    pub fn name(self) -> &'static str
+        ensures value { result.now ≡ why_name self }
+        ensures short { length result.now ≤ 15 }
+    {
+        match self {
+            Why::OtherModel => "OtherModel",
+            Why::NoSuchCable => "NoSuchCable",
+            Why::NotThere => "NotThere",
+            Why::NoLooseEnd => "NoLooseEnd",
+            Why::SocketTaken => "SocketTaken",
+            Why::WheelNotAllowed => "WheelNotAllowed",
+            Why::SlotEmpty => "SlotEmpty",
+            Why::NotOnWheel => "NotOnWheel",
+            Why::NoSuchBar => "NoSuchBar",
+            Why::PlaceTaken => "PlaceTaken",
+            Why::WouldPass => "WouldPass",
+        }
     }
 }
 
 /// A setting that the machine refuses.
 #[derive(Clone, Copy, Debug, Error)]
-#[error("3 Illegal {why}")]
+#[error("{}", self.text())]
 pub struct Illegal {
     pub why: Why,
+}
+
+impl Illegal {
+    /// The refusal's number and name, and the reason.
+    pub fn text(&self) -> Text
+        ensures { result.bytes ≡ illegal_text self.now }
+    {
+        Refusal::Illegal.with_word(self.why.name())
+    }
 }

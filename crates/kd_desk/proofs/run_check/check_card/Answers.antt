@@ -17,12 +17,12 @@ returns-in_err-check-clause-checks g c =
 
 pub returns-in_err-write_verdict-clause-checks : goal.returns-in_err-write_verdict-clause-checks
 returns-in_err-write_verdict-clause-checks g c =
-    told _ _ _ _ _ _ c.requires.machine c.requires.day
+    told _ _ _ _ _ _ (search rules) (search rules)
     _ _ _ c.len.result c.in_ok-dated.ensures (search rules) (c.in_ok-check.ensures.proves.0 refl) (search rules)
     (in_part _ _ _ c.in_err-write_verdict.ensures.text.front c.from_residual-in_err-write_verdict.ensures.1)
 
 pub returns-clause-checks : goal.returns-clause-checks
 returns-clause-checks g c =
-    told _ _ _ _ _ _ c.requires.machine c.requires.day
+    told _ _ _ _ _ _ (search rules) (search rules)
     _ _ _ c.len.result c.in_ok-dated.ensures (search rules) (c.in_ok-check.ensures.proves.0 refl) (search rules)
     (in_whole _ _ c.in_ok-write_verdict.ensures.text.whole)
