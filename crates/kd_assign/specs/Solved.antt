@@ -31,6 +31,6 @@ pub record IsSolvedTo (n : ℕ) (cost : List (List ℕ)) (prices : List ℤ)
   -- a free column has price 0, and some column has price 0
   pub free : (j : ℕ) → j < n → IsFree holders j → price_at prices j ≡ pos 0
   pub zero : (j : ℕ) × (j < n) × (price_at prices j ≡ pos 0)
-  -- no price is above 0, and each row that gets a column lowers a price by at most 4
+  -- no price is above 0, and none is below -4 times the number of rows with columns
   pub high : (j : ℕ) → j < n → price_at prices j ≤ℤ pos 0
   pub low : (j : ℕ) → j < n → pos 0 ≤ℤ (price_at prices j +ℤ pos (4 * next))

@@ -33,7 +33,7 @@ pub record IsCompared (reached : Bool) (row : ℕ) (offer : ℤ) (near : ℕ) (c
   pub least : ceiling' ≤ℤ ceiling
   pub here : reached ≡ false → ceiling' ≤ℤ offer
 
--- each column was compared with `row`, whose offer is `level` and its cost at the column
+-- each column was compared with `row`, whose offer is `level` plus its cost at the column
 pub record AreCompared (n : ℕ) (cost : List (List ℕ)) (reached : List Bool) (row : ℕ) (level : ℤ) (near : List ℕ)
     (ceilings : List ℤ) (near' : List ℕ) (ceilings' : List ℤ) : Type 0 where
   pub at : (j : ℕ) → j < n

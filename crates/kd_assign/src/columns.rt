@@ -4,7 +4,7 @@ ghost use Rattle.kd_assign.specs.Assignment.{IsOneToOne, assignment_cost};
 ghost use Rattle.kd_assign.specs.Prices.{CostsAtMost, cost_at, price_at};
 ghost use Rattle.kd_assign.specs.Solved.{Has, IsSeated};
 
-/// The column of each row, by the row that `holders` has for each column.
+/// Turns `holders`, the row of each column, into the column of each row.
 pub fn columns_of<const N: usize>(holders: &[Option<usize>; N]) -> [u8; N]
     requires few { N ≤ 32 }
     requires rows { (i j : ℕ) → Has holders.now j i → i < N }

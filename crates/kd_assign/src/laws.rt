@@ -1,4 +1,4 @@
-//! The law that prices bound the cost of every assignment.
+//! The law that fitting prices bound the cost of every assignment from below.
 ghost use Rattle.kd_assign.specs.Cheapest.{FittingPricesBoundCosts};
 
 /// If prices fit, every one-to-one assignment costs at least their sum.

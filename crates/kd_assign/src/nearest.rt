@@ -1,5 +1,6 @@
 //! For each column, how near it is to a tree and to which row of the tree.
-ghost use Rattle.std.specs.Prelude.{◌≡◌, ℕ, ◌+◌, ◌^◌, ◌<◌, ◌≢◌, ◌⊎◌, false, if◌then◌else◌, Some, IfSome, IsSomeAnd, All};
+ghost use Rattle.std.specs.Prelude.{◌≡◌, ℕ, ◌+◌, ◌^◌, ◌<◌, ◌≢◌, ◌⊎◌, false, if◌then◌else◌, Some, IfSome, IsSomeAnd};
+ghost use Rattle.std.specs.Prelude.{All};
 ghost use Rattle.std.specs.Prelude.{length, count_by, slice_index, ℤ, pos, neg_ℤ, ◌+ℤ◌, ◌-ℤ◌, ◌≤ℤ◌};
 ghost use Rattle.kd_assign.specs.Prices.{CostsAtMost, cost_at, price_at};
 ghost use Rattle.kd_assign.specs.Tree.{AreClose, AreCompared, IsCompared, IsNearest, has_column, room_at};
@@ -54,7 +55,7 @@ impl<const N: usize> Nearest<N> {
         }
     }
 
-    /// Compares `column` with `row` if it is outside the tree, and keeps the nearer row.
+    /// If `column` is outside the tree, compares it with `row` and keeps the nearer row.
     fn compare(&mut self, reached: bool, row: usize, column: usize, offer: i16, scans: &mut Scans)
         requires column { column < N }
         requires room { scans.old < 4294967295 }
