@@ -58,12 +58,12 @@ all_ordered_move [] = IsPermutation-refl []
 all_ordered_move (cable ∷ cables) = grind (arith, IsPermutation-append, ordered, ordered_moves, all_ordered_move cables)
 
 -- the cable is in order
-in_order : Option ℕ × Option ℕ → Type 0
-in_order cable = ordered cable.0 cable.1 ≡ cable
+IsOrdered : Option ℕ × Option ℕ → Type 0
+IsOrdered cable = ordered cable.0 cable.1 ≡ cable
 
 pub ordered_again : (one other : Option ℕ) → ordered (ordered one other).0 (ordered one other).1 ≡ ordered one other
-unfolding in_order
-ordered_again one other = grind (arith, cond_both, in_order, le-leb, leb-false)
+unfolding IsOrdered
+ordered_again one other = grind (arith, cond_both, IsOrdered, le-leb, leb-false)
 
 pub all_ordered_again : (cables : List (Option ℕ × Option ℕ)) → all_ordered (all_ordered cables) ≡ all_ordered cables
 all_ordered_again [] = refl
@@ -72,8 +72,8 @@ all_ordered_again (cable ∷ cables) = grind (arith, ordered_again, ordered, all
 pub without_ordered : (letter : ℕ) (one other : Option ℕ)
     → ordered (cable_without letter (one, other)).0 (cable_without letter (one, other)).1
     ≡ cable_without letter (one, other)
-unfolding in_order
-without_ordered letter one other = grind (arith, cond_both, in_order)
+unfolding IsOrdered
+without_ordered letter one other = grind (arith, cond_both, IsOrdered)
 
 -- a letter taken out of its cable, and the letters that stay, are the cable's letters
 pub without_moves : (letter : ℕ) (one other : Option ℕ) → has_letter (cable_letters (one, other)) letter ≡ true
@@ -92,8 +92,9 @@ pub with_moves : (letter : ℕ) (one other : Option ℕ) → (not (is_none one) 
 with_moves letter one other e = grind (arith, after_end)
 
 -- swapping two first parts of a list permutes it
-past : (first letters rest : List ℕ) → IsPermutation (first ++ (letters ++ rest)) (letters ++ (first ++ rest))
-past first letters rest =
+IsPermutation-append_swap : (first letters rest : List ℕ)
+    → IsPermutation (first ++ (letters ++ rest)) (letters ++ (first ++ rest))
+IsPermutation-append_swap first letters rest =
     rw (← append_assoc first letters rest, ← append_assoc letters first rest)
     (IsPermutation-append_left rest (first ++ letters) (letters ++ first) (IsPermutation-append_comm first letters))
 
@@ -112,9 +113,9 @@ set_moves out into (first ∷ cables) zero cable new here moves =
     (IsPermutation-append_left (plugged_letters cables) (out ++ cable_letters cable) (into ++ cable_letters new) moves)
 set_moves out into (first ∷ cables) (suc place) cable new here moves =
     let rest = set_moves out into cables place cable new here moves in
-    IsPermutation-trans _ _ _ (past out (cable_letters first) (plugged_letters cables))
+    IsPermutation-trans _ _ _ (IsPermutation-append_swap out (cable_letters first) (plugged_letters cables))
     (IsPermutation-trans _ _ _ (IsPermutation-append_right (cable_letters first) _ _ rest)
-    (past (cable_letters first) into (plugged_letters (set cables place new))))
+    (IsPermutation-append_swap (cable_letters first) into (plugged_letters (set cables place new))))
 
 -- the letters in the cables from `place` on are all different exactly if those of `cable` are new before the
 -- rest
@@ -183,13 +184,13 @@ whole_cables cables pairs apart h = λ k d below. whole_cable pairs (get_or cabl
 
 -- ---- cables that are the pairs
 
-into_pairs : (cables : List (Option ℕ × Option ℕ)) (k a b : ℕ) → slice_get cables k ≡ Some (Some a, Some b)
+Contains-pairs_of : (cables : List (Option ℕ × Option ℕ)) (k a b : ℕ) → slice_get cables k ≡ Some (Some a, Some b)
     → Contains (pairs_of cables) (a, b)
-into_pairs [] k a b e = absurd (none-some _ e)
-into_pairs (cable ∷ cables) zero a b e = grind (arith, same_Some)
-into_pairs ((Some one, Some other) ∷ cables) (suc k) a b e =
-    Contains-append_right ((one, other) ∷ []) (pairs_of cables) (a, b) (into_pairs cables k a b e)
-into_pairs (cable ∷ cables) (suc k) a b e = into_pairs cables k a b e
+Contains-pairs_of [] k a b e = absurd (none-some _ e)
+Contains-pairs_of (cable ∷ cables) zero a b e = grind (arith, same_Some)
+Contains-pairs_of ((Some one, Some other) ∷ cables) (suc k) a b e =
+    Contains-append_right ((one, other) ∷ []) (pairs_of cables) (a, b) (Contains-pairs_of cables k a b e)
+Contains-pairs_of (cable ∷ cables) (suc k) a b e = Contains-pairs_of cables k a b e
 
 both_plugged : (cable : Option ℕ × Option ℕ) (letter : ℕ) → length (cable_letters cable) ≢ 1
     → Contains (cable_letters cable) letter → (pair : ℕ × ℕ) × (cable ≡ (Some pair.0, Some pair.1))
@@ -223,7 +224,7 @@ module _ (cables : List (Option ℕ × Option ℕ)) (pairs : List (ℕ × ℕ))
       let ends = both_plugged cable x one ((joined.4.letters x).1 (0, omega arith, refl)) in
       let pair = ends.0 in
       let same = same_two x y pair (λ letter. let both = rw ends.1 at (joined.4.letters letter) in (both.1, both.0)) in
-      let into = into_pairs cables joined.0 pair.0 pair.1 (at ∙ ap Some ends.1) in
+      let into = Contains-pairs_of cables joined.0 pair.0 pair.1 (at ∙ ap Some ends.1) in
       grind (arith, same, into)
 
   pub pairs_joined : (x y : ℕ) → plugs.Joins (pairs_of cables) x y ↔ plugs.Joins pairs x y

@@ -18,11 +18,11 @@ use Rattle.std.proofs.lemmas.List.{Elements.{All-filter, filter_passes}, FromFn.
 -- ---- counting the letters of the alphabet that are in a list
 
 -- a letter is at most once in a range of numbers, and not at all if it is below the range
-counted_once : (letter first number : ℕ)
+count_by-range_at_most : (letter first number : ℕ)
     → count_by (λ other. nat_eq letter other) (range_with_len first number) ≤ once (nat_le first letter)
-counted_once letter first zero = omega arith
-counted_once letter first (suc number) =
-    grind (arith, common_steps, counted_once letter (first + 1) number, count_by-cons)
+count_by-range_at_most letter first zero = omega arith
+count_by-range_at_most letter first (suc number) =
+    grind (arith, common_steps, count_by-range_at_most letter (first + 1) number, count_by-cons)
 
 pub counted_more : (p : ℕ → Bool) (index cost more : ℕ) → index < 26 → cost ≡ count_by p (take index alphabet)
     → more ≡ once (p index)
@@ -42,9 +42,9 @@ differ_fits : (a b : Bool) → once (differ a b) ≤ once a + once b
 differ_fits a b = grind arith
 
 -- at most as many letters of the alphabet are in a list as it is long
-at_most_all : (letters : List ℕ) → count_by (has_letter letters) alphabet ≤ length letters
-at_most_all [] = omega arith
-at_most_all (letter ∷ letters) = search (rules, le-leb, counted_once, at_most_all letters)
+count_by-has_letter : (letters : List ℕ) → count_by (has_letter letters) alphabet ≤ length letters
+count_by-has_letter [] = omega arith
+count_by-has_letter (letter ∷ letters) = search (rules, le-leb, count_by-range_at_most, count_by-has_letter letters)
 
 -- the letters are all different and below 26
 pub record AreProper (letters : List ℕ) : Type 0 where
@@ -92,31 +92,31 @@ counted_among p (x ∷ xs) h =
     omega (arith, first, rest, both, count_by-cons p x xs)
 
 pub at_most_four : (cable : Option ℕ × Option ℕ) (column : Option (ℕ × ℕ)) → cable_cost cable column ≤ 4
-at_most_four cable column = grind (arith, joined_counts, differ_fits, at_most_all)
+at_most_four cable column = grind (arith, joined_counts, differ_fits, count_by-has_letter)
 
 -- ---- the columns: a day's pairs, and then no pair
 
-nothings : (number place : ℕ) → get_or (replicate {A = Option (ℕ × ℕ)} number None) place None ≡ None
-nothings zero place = refl
-nothings (suc number) place = grind (arith, common_steps, nothings number)
+get_or-replicate_None : (number place : ℕ) → get_or (replicate {A = Option (ℕ × ℕ)} number None) place None ≡ None
+get_or-replicate_None zero place = refl
+get_or-replicate_None (suc number) place = grind (arith, common_steps, get_or-replicate_None number)
 
-pairs_at : (pairs : List (ℕ × ℕ)) (number place : ℕ)
+get_or-columns : (pairs : List (ℕ × ℕ)) (number place : ℕ)
     → get_or (map Some pairs ++ replicate number None) place None ≡ slice_get pairs place
-pairs_at [] number place = nothings number place
-pairs_at (pair ∷ pairs) number place = grind (arith, pairs_at pairs number)
+get_or-columns [] number place = get_or-replicate_None number place
+get_or-columns (pair ∷ pairs) number place = grind (arith, get_or-columns pairs number)
 
 pub columns_are_the_pairs : ColumnsAreThePairs
-columns_are_the_pairs pairs place = pairs_at pairs (13 - length pairs) place
+columns_are_the_pairs pairs place = get_or-columns pairs (13 - length pairs) place
 
 pub thirteen_columns : ThirteenColumns
 thirteen_columns pairs few = simp (length-append, length-map, length-replicate) (omega arith)
 
 -- ---- the cost tables are square
 
-square : {X Y : Type 0} (cost : X → Y → ℕ) (rows : List X) (columns : List Y) → length columns ≡ length rows
+length-cost_rows : {X Y : Type 0} (cost : X → Y → ℕ) (rows : List X) (columns : List Y) → length columns ≡ length rows
     → All (λ row. length row ≡ length (map (λ other. map (cost other) columns) rows))
     (map (λ row. map (cost row) columns) rows)
-square cost rows columns same =
+length-cost_rows cost rows columns same =
     All-map (λ row. length row ≡ length (map (λ other. map (cost other) columns) rows))
     (λ row. map (cost row) columns) rows
     (λ k d below. length-map columns (cost (get_or rows k d)) ∙ same
@@ -124,10 +124,10 @@ square cost rows columns same =
 
 pub cost_tables_are_square : CostTablesAreSquare
 cost_tables_are_square (Rotor m) (OfRotors s) machine day =
-    square cable_cost m.cables (columns_of s.pairs)
+    length-cost_rows cable_cost m.cables (columns_of s.pairs)
     (thirteen_columns s.pairs day.pairs.few ∙ sym machine.legal.cables.count)
 cost_tables_are_square (Pin m) (OfPins s) machine day =
-    square bar_cost m.bars s.rows (day.count ∙ sym machine.legal.bars)
+    length-cost_rows bar_cost m.bars s.rows (day.count ∙ sym machine.legal.bars)
 cost_tables_are_square m s machine day = All-nil (λ row. length row ≡ 0)
 
 -- ---- the standings that read as each row

@@ -1,4 +1,4 @@
--- Lemmas on machines on a day's key: they are ready, and encipher as the day asks for.
+-- Lemmas on machines on a day's key: they are ready, and encipher as the day asks.
 use Rattle.kd_state.proofs.Prelude.{AreCables, Bool, CipherInTurn, Day, EngineIsTheMachine, EngineKey}
 use Rattle.kd_state.proofs.Prelude.{EquallySetDecipher, IsLegalDay, IsLegalRotorDay, IsMachine, IsPermutation}
 use Rattle.kd_state.proofs.Prelude.{IsRotorOnKey, KeyInTurn, List, OfDrum, OfPins, OfRotors, OfWheels, OnKey}
@@ -21,13 +21,14 @@ use Rattle.kd_drum.proofs.Starts as starts
 -- ---- the bars that move are counted alike by lugs and by readings
 
 -- whether one of two wheels moves a bar doesn't depend on their order
-in_either_order : (met : ℕ → Bool) (a b : ℕ) → (met a || met b) ≡ (met (min a b) || met (max a b))
-in_either_order met a b = grind (arith, min-eq_left, max-eq_right, or_comm, min-eq_right, max-eq_left)
+or-min_max : (met : ℕ → Bool) (a b : ℕ) → (met a || met b) ≡ (met (min a b) || met (max a b))
+or-min_max met a b = grind (arith, min-eq_left, max-eq_right, or_comm, min-eq_right, max-eq_left)
 
 -- counting by a test of the image counts the image
-counted : {X Y : Type 0} (p : Y → Bool) (f : X → Y) (xs : List X) → count_by (λ x. p (f x)) xs ≡ count_by p (map f xs)
-counted p f [] = refl
-counted p f (x ∷ xs) = grind (arith, common_steps, sum_by-cons, counted p f xs)
+count_by-map : {X Y : Type 0} (p : Y → Bool) (f : X → Y) (xs : List X)
+    → count_by (λ x. p (f x)) xs ≡ count_by p (map f xs)
+count_by-map p f [] = refl
+count_by-map p f (x ∷ xs) = grind (arith, common_steps, sum_by-cons, count_by-map p f xs)
 
 abbrev pin_key : PinParts → PinKey
 pin_key m = record { pins = pins_of m.pins; letters = m.letters; rows = map (λ bar. reading_of bar.0 bar.1) m.bars }
@@ -36,11 +37,11 @@ bar_met : (m : PinParts) (count : ℕ) (bar : Place × Place)
     → (lug_is_met m count bar.0 || lug_is_met m count bar.1)
     ≡ (acts_after (pin_key m) count (reading_of bar.0 bar.1).0
     || acts_after (pin_key m) count (reading_of bar.0 bar.1).1)
-bar_met m count bar = grind (arith, in_either_order)
+bar_met m count bar = grind (arith, or-min_max)
 
 moved_as_met : (m : PinParts) (count : ℕ) → bars_met (pin_key m) count ≡ bars_moved m count
 moved_as_met m count =
-    sym (counted (λ (row : ℕ × ℕ). acts_after (pin_key m) count row.0 || acts_after (pin_key m) count row.1)
+    sym (count_by-map (λ (row : ℕ × ℕ). acts_after (pin_key m) count row.0 || acts_after (pin_key m) count row.1)
     (λ (bar : Place × Place). reading_of bar.0 bar.1) m.bars)
     ∙ (λ i. count_by (λ bar. sym (bar_met m count bar) i) m.bars)
 

@@ -25,43 +25,46 @@ use Rattle.std.specs.{Fmt.decimal, Int.IsInRange as IsFigure, Result.result_ok, 
 none_is : (byte : ℕ) (text : List ℕ) → IsWithout byte text → All (λ b. eqb b byte ≡ false) text
 none_is byte text h = grind (arith, All-weaker, ne_eqb)
 
-split_off : (byte : ℕ) (part rest : List ℕ) → IsWithout byte part
+slice_split-first : (byte : ℕ) (part rest : List ℕ) → IsWithout byte part
     → slice_split (λ b. eqb b byte) (part ++ byte ∷ rest) ≡ part ∷ slice_split (λ b. eqb b byte) rest
-split_off byte part rest h = grind (arith, slice_split_at, none_is, eq-eqb)
+slice_split-first byte part rest h = grind (arith, slice_split_at, none_is, eq-eqb)
 
 pub texts_tell_first_parts : TextsTellFirstParts
 texts_tell_first_parts byte first other rest more a b e =
     grind (
       arith,
-      split_off byte first rest a,
-      split_off byte other more b,
+      slice_split-first byte first rest a,
+      slice_split-first byte other more b,
       append_cancel_left other (byte ∷ rest) (byte ∷ more),
     )
 
 -- ---- words
 
-split_line : (word : List ℕ) (words : List (List ℕ)) → AllByRecursion IsWord (word ∷ words)
+words_of-line_of : (word : List ℕ) (words : List (List ℕ)) → AllByRecursion IsWord (word ∷ words)
     → words_of (line_of (word ∷ words)) ≡ word ∷ words
-split_line word [] a = grind (arith, slice_split_none, none_is)
-split_line word (next ∷ words) a = grind (arith, split_off 32 word (line_of (next ∷ words)), split_line next words a.1)
+words_of-line_of word [] a = grind (arith, slice_split_none, none_is)
+words_of-line_of word (next ∷ words) a =
+    grind (arith, slice_split-first 32 word (line_of (next ∷ words)), words_of-line_of next words a.1)
 
 pub lines_split_into_words : LinesSplitIntoWords
 lines_split_into_words [] filled a = absurd (filled refl)
-lines_split_into_words (word ∷ words) filled a = split_line word words (recursion_from_All IsWord (word ∷ words) a)
+lines_split_into_words (word ∷ words) filled a =
+    words_of-line_of word words (recursion_from_All IsWord (word ∷ words) a)
 
 pub parts_make_lines : PartsMakeLines
 parts_make_lines line = join_with_byte-slice_split 32 line
 
-lines_tell : (words others : List (List ℕ)) → AllByRecursion IsWord words → AllByRecursion IsWord others
+words-same_line : (words others : List (List ℕ)) → AllByRecursion IsWord words → AllByRecursion IsWord others
     → line_of words ≡ line_of others → words ≡ others
-lines_tell [] [] a b e = refl
-lines_tell [] (word ∷ words) a b e = grind (arith, split_line word words b, b.0.filled)
-lines_tell (word ∷ words) [] a b e = grind (arith, split_line word words a, a.0.filled)
-lines_tell (word ∷ words) (other ∷ others) a b e = grind (arith, split_line word words a, split_line other others b)
+words-same_line [] [] a b e = refl
+words-same_line [] (word ∷ words) a b e = grind (arith, words_of-line_of word words b, b.0.filled)
+words-same_line (word ∷ words) [] a b e = grind (arith, words_of-line_of word words a, a.0.filled)
+words-same_line (word ∷ words) (other ∷ others) a b e =
+    grind (arith, words_of-line_of word words a, words_of-line_of other others b)
 
 pub lines_tell_words : LinesTellWords
 lines_tell_words words others a b e =
-    lines_tell words others (recursion_from_All IsWord words a) (recursion_from_All IsWord others b) e
+    words-same_line words others (recursion_from_All IsWord words a) (recursion_from_All IsWord others b) e
 
 one_line : (words : List (List ℕ)) → AllByRecursion IsWord words → IsWithout 10 (line_of words)
 one_line [] a = All-nil (λ b. b ≢ 10)
@@ -86,7 +89,7 @@ pub one_more_taken : (line text word rest : List ℕ) (taken : List (List ℕ)) 
     → IsFirstPart 32 text word rest
     → AreTaken line rest (taken ++ word ∷ [])
 one_more_taken line text word rest taken a first =
-    let parts = split_off 32 word rest first.without in
+    let parts = slice_split-first 32 word rest first.without in
     record { joined = rw append_assoc (cc) }
 
 pub last_taken : (line rest : List ℕ) (taken : List (List ℕ)) → AreTaken line rest taken → IsWithout 32 rest
@@ -225,8 +228,8 @@ pub text_of_more : (x : Setting) (xs : List Setting) (rest : List ℕ)
     → list_text (x ∷ xs) ++ rest ≡ setting_line x ++ 10 ∷ (list_text xs ++ rest)
 text_of_more x xs rest = grind (arith, append_assoc)
 
-nothing_begins : BeginsWithNoLine []
-nothing_begins x rest r e = grind (arith, length-append, ap length e)
+BeginsWithNoLine-empty : BeginsWithNoLine []
+BeginsWithNoLine-empty x rest r e = grind (arith, length-append, ap length e)
 
 -- texts that both begin with a setting's line begin with the same setting
 same_first : (x y : Setting) (xs ys : List Setting) (rest more : List ℕ) → IsInRange x → IsInRange y
@@ -247,12 +250,14 @@ same_lists (x ∷ xs) [] rest more r s e none nor = grind (arith, nor, text_of_m
 same_lists (x ∷ xs) (y ∷ ys) rest more r s e none nor = grind (arith, same_first, same_lists xs ys rest more r.1 s.1)
 
 -- with the same text, no list of lines is longer than one that no setting's line follows
-longest : (xs ys : List Setting) (rest more : List ℕ) → AllByRecursion IsInRange xs → AllByRecursion IsInRange ys
+length-same_lines : (xs ys : List Setting) (rest more : List ℕ) → AllByRecursion IsInRange xs
+    → AllByRecursion IsInRange ys
     → list_text xs ++ rest ≡ list_text ys ++ more
     → BeginsWithNoLine rest → length ys ≤ length xs
-longest xs [] rest more r s e none = omega arith
-longest [] (y ∷ ys) rest more r s e none = grind (arith, none, text_of_more)
-longest (x ∷ xs) (y ∷ ys) rest more r s e none = grind (arith, same_first, longest xs ys rest more r.1 s.1)
+length-same_lines xs [] rest more r s e none = omega arith
+length-same_lines [] (y ∷ ys) rest more r s e none = grind (arith, none, text_of_more)
+length-same_lines (x ∷ xs) (y ∷ ys) rest more r s e none =
+    grind (arith, same_first, length-same_lines xs ys rest more r.1 s.1)
 
 -- ---- reading line by line
 
@@ -271,8 +276,8 @@ no_line_by_first bytes line rest first none x other r e = grind (arith, texts_te
 
 -- ---- laws
 
-begins : (bytes : List ℕ) (xs : List Setting) → IsList bytes xs → BeginsWith bytes xs []
-begins bytes xs l = grind (arith, append-nil)
+BeginsWith-IsList : (bytes : List ℕ) (xs : List Setting) → IsList bytes xs → BeginsWith bytes xs []
+BeginsWith-IsList bytes xs l = grind (arith, append-nil)
 
 pub same_end : (bytes : List ℕ) (xs ys : List Setting) (rest more : List ℕ) → BeginsWith bytes xs rest
     → BeginsWith bytes ys more
@@ -282,17 +287,18 @@ same_end bytes xs ys rest more a b = grind (arith, same_lists, recursion_from_Al
 pub not_longer : (bytes : List ℕ) (xs ys : List Setting) (rest more : List ℕ) → BeginsWith bytes xs rest
     → BeginsWith bytes ys more
     → BeginsWithNoLine rest → length ys ≤ length xs
-not_longer bytes xs ys rest more a b = grind (arith, longest, recursion_from_All)
+not_longer bytes xs ys rest more a b = grind (arith, length-same_lines, recursion_from_All)
 
 pub texts_tell_lists : TextsTellLists
 texts_tell_lists bytes xs ys a b =
-    (same_end bytes xs ys [] [] (begins bytes xs a) (begins bytes ys b) nothing_begins nothing_begins).0
+    (same_end bytes xs ys [] [] (BeginsWith-IsList bytes xs a)
+    (BeginsWith-IsList bytes ys b) BeginsWithNoLine-empty BeginsWithNoLine-empty).0
 
 pub lists_have_no_fault : ListsHaveNoFault
 lists_have_no_fault bytes xs (BadLine line) a f =
-    f.5 (sym (same_end bytes xs f.0 [] f.1 (begins bytes xs a) f.2 nothing_begins f.6).1)
+    f.5 (sym (same_end bytes xs f.0 [] f.1 (BeginsWith-IsList bytes xs a) f.2 BeginsWithNoLine-empty f.6).1)
 lists_have_no_fault bytes xs TooMany a f =
-    omega (arith, not_longer bytes xs f.0 [] f.1 (begins bytes xs a) f.2 nothing_begins, a.few, f.3)
+    omega (arith, not_longer bytes xs f.0 [] f.1 (BeginsWith-IsList bytes xs a) f.2 BeginsWithNoLine-empty, a.few, f.3)
 
 pub one_list_fault : OneListFault
 one_list_fault bytes (BadLine line) (BadLine other) f g =

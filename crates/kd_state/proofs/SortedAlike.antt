@@ -14,9 +14,9 @@ pub count_by-cons : {X : Type 0} (p : X → Bool) (x : X) (xs : List X) → coun
 count_by-cons p x xs = sum_by-cons (λ y. once (p y)) x xs
 
 -- if no element passes, the count is 0
-none_counted : {X : Type 0} (p : X → Bool) (xs : List X)
+count_by-none : {X : Type 0} (p : X → Bool) (xs : List X)
     → ((k : ℕ) (d : X) → k < length xs → p (slice_index_or xs k d) ≡ false) → count_by p xs ≡ 0
-none_counted p xs none =
+count_by-none p xs none =
     omega (
       arith,
       sum_by-le (λ x. once (p x)) 0 xs
@@ -26,19 +26,20 @@ none_counted p xs none =
 module _ {X : Type 0} (lt : X → X → Bool) (order : IsStrictWeakOrder lt)
     (same : (x y : X) → lt x y ≡ false → lt y x ≡ false → x ≡ y) where
   -- no element is less than one before it
-  abbrev Rises : List X → Type 0
-  Rises xs = (i j : ℕ) (d : X) → i ≤ j → j < length xs → lt (slice_index_or xs j d) (slice_index_or xs i d) ≡ false
+  abbrev IsRising : List X → Type 0
+  IsRising xs = (i j : ℕ) (d : X) → i ≤ j → j < length xs → lt (slice_index_or xs j d) (slice_index_or xs i d) ≡ false
 
   -- the first element of a list that counts alike isn't less than a sorted list's first
-  not_before : (x : X) (xs : List X) (y : X) (ys : List X) → Rises (y ∷ ys)
+  not_before : (x : X) (xs : List X) (y : X) (ys : List X) → IsRising (y ∷ ys)
       → ((p : X → Bool) → count_by p (x ∷ xs) ≡ count_by p (y ∷ ys)) → lt x y ≡ false
   not_before x xs y ys rising counts = false_from_ne_true (lt x y) (λ is.
       let p : X → Bool = λ z. lt z y in
-      let none : count_by p (y ∷ ys) ≡ 0 = none_counted p (y ∷ ys) (λ k d below. rising 0 k d (omega arith) below) in
+      let none : count_by p (y ∷ ys) ≡ 0 = count_by-none p (y ∷ ys) (λ k d below. rising 0 k d (omega arith) below) in
       let here : once (lt x y) ≡ 1 = ap once is in
       omega (arith, count_by-cons p x xs, counts p, none, here))
 
-  pub sorted_alike : (xs ys : List X) → Rises xs → Rises ys → ((p : X → Bool) → count_by p xs ≡ count_by p ys) → xs ≡ ys
+  pub sorted_alike : (xs ys : List X) → IsRising xs → IsRising ys → ((p : X → Bool) → count_by p xs ≡ count_by p ys)
+      → xs ≡ ys
   sorted_alike [] [] up rising counts = refl
   sorted_alike [] (y ∷ ys) up rising counts =
       absurd (omega (arith, counts (λ _. true), count_by-cons (λ (_ : X). true) y ys))

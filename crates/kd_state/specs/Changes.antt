@@ -27,7 +27,7 @@ pub data Thing : Type 0 where
   TheShown : ℕ → Thing
   TheBar : ℕ → Thing
 
--- the reader of `thing` gives the same at both machines
+-- the reader shows the same of the thing at both machines
 abbrev pub IsKept : Parts → Parts → Thing → Type 0
 IsKept m n (TheSlot slot) = slot_in n slot ≡ slot_in m slot
 IsKept m n TheReflector = reflector_in n ≡ reflector_in m

@@ -35,7 +35,7 @@ abbrev pub lies_in_one : Option ℕ × Option ℕ → Option (ℕ × ℕ) → �
 lies_in_one cable column letter =
     differ (has_letter (cable_letters cable) letter) (has_letter (column_letters column) letter)
 
--- the cost of making a cable this pair, or empty: how many letters only one of the two has
+-- the cost of making a cable this pair, or empty: how many letters are in only one of the two
 abbrev pub cable_cost : Option ℕ × Option ℕ → Option (ℕ × ℕ) → ℕ
 cable_cost cable column = count_by (lies_in_one cable column) alphabet
 
@@ -102,7 +102,7 @@ loose_rings m s = count_by (λ w. not (option_map_or (nat_eq w.ring) (ring_at m 
 abbrev pub loose_letters : RotorParts → RotorDay → ℕ
 loose_letters m s = count_by (λ w. not (option_map_or (nat_eq w.letter) (letter_at m w.wheel) false)) s.wheels
 
--- how many pins differ, and how many letters of pin wheels
+-- how many pins differ, and how many of the letters that the pin wheels show
 abbrev pub loose_pins : PinParts → PinDay → ℕ
 loose_pins m s =
     sum (map (λ wheel. count_by (λ pin. differ pin.0 pin.1) (zip wheel.0 wheel.1))

@@ -127,7 +127,7 @@ abbrev pub TurnedEngineIsTheTurnedMachine : Type 0
 TurnedEngineIsTheTurnedMachine = (m n : Parts) (window text : List ℕ) → IsTurned m window n
     → cipher (key_with_window (physical_key m) window) text ≡ physical_cipher n text
 
--- a machine that reads as the day is ready, and enciphers as the day asks for
+-- a machine that reads as the day is ready, and enciphers as the day asks
 abbrev pub ReadingIsReady : Type 0
 ReadingIsReady = (m : Parts) (s : Day) → IsMachine m → IsLegalDay s → ReadsAs m s → IsReady m
 
@@ -136,7 +136,7 @@ ReadingIsItsCipher =
     (m : Parts) (s : Day) (text : List ℕ) → IsMachine m → IsLegalDay s → ReadsAs m s
     → physical_cipher m text ≡ sheet_cipher s text
 
--- a machine on the day's key is ready, and enciphers as the day asks for, from the letters that it shows
+-- a machine on the day's key is ready, and enciphers as the day asks, from the letters that it shows
 abbrev pub OnKeyIsReady : Type 0
 OnKeyIsReady = (m : Parts) (s : Day) → IsMachine m → IsLegalDay s → OnKey m s → IsReady m
 
@@ -144,7 +144,7 @@ abbrev pub OnKeyIsItsCipher : Type 0
 OnKeyIsItsCipher = (m : Parts) (s : Day) (text : List ℕ) → IsMachine m → IsLegalDay s → OnKey m s
     → physical_cipher m text ≡ cipher (key_with_window (sheet_key s) (window_of m)) text
 
--- a machine on the day's key that is turned to other letters enciphers as the day asks for, from these letters
+-- a machine on the day's key that is turned to other letters enciphers as the day asks, from these letters
 abbrev pub TurnedHasTheDaysCipher : Type 0
 TurnedHasTheDaysCipher =
     (m n : Parts) (s : Day) (window text : List ℕ) → IsMachine m → IsLegalDay s → OnKey m s → IsTurned m window n
@@ -162,7 +162,7 @@ EquallySetDecipher =
     (m n : Parts) (s : Day) (text : List ℕ) → IsMachine m → IsMachine n → IsLegalDay s → OnKey m s → OnKey n s
     → window_of m ≡ window_of n → All (λ letter. letter < 26) text → physical_cipher n (physical_cipher m text) ≡ text
 
--- an engine set as the day says deciphers what it enciphered, if it shows the same letters again
+-- an engine set as the day says deciphers its own ciphertext, from the same letters
 abbrev pub TheDayDeciphersItself : Type 0
 TheDayDeciphersItself = (s : Day) (window text : List ℕ) → IsLegalDay s → All (λ letter. letter < 26) text
     → cipher (key_with_window (sheet_key s) window) (cipher (key_with_window (sheet_key s) window) text) ≡ text

@@ -11,7 +11,7 @@ use Rattle.kd_state.specs.declared.setting.Setting.TheVariants.{LugTo}
 use Rattle.kd_state.specs.declared.setting.list.ListFault.{ListFault}
 use Rattle.kd_state.specs.declared.setting.list.ListFault.TheVariants.{BadLine, TooMany}
 
--- whether a pin is effective, as a word
+-- ON for an effective pin, OFF for another
 abbrev pub pin_text : Bool → List ℕ
 pin_text true = codes "ON"
 pin_text false = codes "OFF"

@@ -19,11 +19,12 @@ pin_acts m count wheel =
     is_effective (pins_on (pins_of m.pins) wheel)
     (place_past (size_of wheel) (place_shown m wheel + count) (offset_of wheel))
 
--- after `count` letters, a lug at this place moves its bar: a wheel acts there, and its acting pin is effective
+-- after `count` letters, a wheel acts at this place and its acting pin is effective, so that a lug there moves
+-- its bar
 abbrev pub lug_is_met : PinParts → ℕ → Place → Bool
 lug_is_met m count place = nat_lt 0 (place_number place) && pin_acts m count (place_number place)
 
--- after `count` letters, how many bars move: those with one or both lugs at such places
+-- after `count` letters, how many bars move: those that one lug or both lugs move
 abbrev pub bars_moved : PinParts → ℕ → ℕ
 bars_moved m count = count_by (λ bar. lug_is_met m count bar.0 || lug_is_met m count bar.1) m.bars
 

@@ -132,7 +132,7 @@ with_lug Right place bar = (bar.0, place)
 abbrev pub Stands : Place × Place → Type 0
 Stands bar = IsBefore bar.0 bar.1
 
--- the bars with one bar's lug at the place
+-- the bars, with this lug of bar `bar` at the place
 abbrev pub with_lug_at : PinParts → ℕ → Lug → Place → List (Place × Place)
 with_lug_at m bar lug place =
     option_map_or (λ standing. slice_set m.bars (bar - 1) (with_lug lug place standing)) (numbered m.bars bar) m.bars

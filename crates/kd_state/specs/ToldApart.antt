@@ -1,4 +1,4 @@
--- Comparing wheels and reflectors by their names, and elements counted from 1.
+-- Comparing wheels and reflectors by their names. Elements counted from 1.
 use Rattle.std.specs.Prelude.{ℕ, zero, suc, Bool, List, slice_get, Option, None}
 use Rattle.std.specs.List.{list_any, position_or_len}
 use Rattle.std.specs.Str.{bytes_eq}

@@ -56,7 +56,7 @@ abbrev pub window_of : Parts → List ℕ
 window_of (Rotor m) = filter_map (letter_at m) (seated_wheels m)
 window_of (Pin m) = m.letters
 
--- the two letters of a cable, which it exchanges, if it has two
+-- the pair of letters that a cable exchanges, if it has two
 abbrev pub both_ends : Option ℕ → Option ℕ → Option (ℕ × ℕ)
 both_ends (Some letter) (Some other) = Some (letter, other)
 both_ends _ _ = None

@@ -12,7 +12,7 @@ ghost use Rattle.kd_state.specs.Costs.{column_letters};
 use crate::machine::cable::{Cable, lies_in};
 use kd_tables::{Letter, Place, Reading, Standing};
 
-/// The cost of making `cable` the pair `column`, or empty: how many letters only one of the two has.
+/// The cost of making `cable` the pair `column`, or empty: how many letters are in only one of the two.
 #[tactic(auto, using(crate::proofs::CostTable::at_most_four, crate::proofs::CostTable::counted_more))]
 pub fn cable_cost(cable: Cable, column: Option<(Letter, Letter)>) -> u8
     ensures cost { result ≡ costs.cable_cost cable column }

@@ -108,14 +108,14 @@ pub fn engines_encipher_as_their_machines()
     ensures turned { TurnedEngineIsTheTurnedMachine }
 {}
 
-/// A machine that reads as the day is ready, and enciphers as the day asks for.
+/// A machine that reads as the day is ready, and enciphers as the day asks.
 #[tactic(auto, using(crate::proofs::Keys::reading_ready, crate::proofs::Keys::reading_cipher))]
 pub fn reading_as_the_day_is_its_cipher()
     ensures ready { ReadingIsReady }
     ensures cipher { ReadingIsItsCipher }
 {}
 
-/// A machine on the day's key is ready, and enciphers as the day asks for, from the letters that it shows.
+/// A machine on the day's key is ready, and enciphers as the day asks, from the letters that it shows.
 #[tactic(auto, using(crate::proofs::Keys::on_key_ready, crate::proofs::Keys::on_key_cipher))]
 pub fn being_on_the_key_is_its_cipher()
     ensures ready { OnKeyIsReady }
@@ -124,7 +124,7 @@ pub fn being_on_the_key_is_its_cipher()
 
 /// A machine that is turned to other letters keeps the rest of its key.
 ///
-/// If it was on the day's key it stays on it, and enciphers as the day asks for from these letters.
+/// If it was on the day's key it stays on it, and enciphers as the day asks from these letters.
 #[tactic(auto, using(crate::proofs::Keys::turned_key, crate::proofs::Keys::turned_on_key, crate::proofs::Keys::turned_cipher))]
 pub fn turning_keeps_the_key()
     ensures key { TurnedHasItsKey }
@@ -141,7 +141,7 @@ pub fn ready_machines_can_be_turned()
 
 /// Of two machines on the day's key that show the same letters, one deciphers what the other enciphers.
 ///
-/// An engine set as the day says does so too, if it shows the same letters again.
+/// An engine set as the day says also deciphers its own ciphertext, from the same letters.
 pub fn equally_set_machines_decipher()
     ensures another { EquallySetDecipher }
     ensures itself { TheDayDeciphersItself }

@@ -153,7 +153,8 @@ impl SheetDay {
         Some(self.seated(slot)?.ring)
     }
 
-    /// The letter in the window of slot `slot`, counted from the left from 1, or on pin wheel `slot`.
+    /// The letter in the window of slot `slot`, counted from the left from 1. On the Converter M-209, the
+    /// letter of pin wheel `slot`.
     pub fn window(&self, slot: u8) -> Option<Letter>
         ensures { result ≡ shown_letter self.now slot }
     {
@@ -195,7 +196,7 @@ impl SheetDay {
         }
     }
 
-    /// Whether `letters` are a group of the day's in any order. Never on the Converter M-209.
+    /// Whether `letters` are one of the day's groups, in any order. Never on the Converter M-209.
     pub fn has_group(&self, letters: [Letter; 3]) -> bool
         ensures { IsTrue result ↔ AreOfADaysGroup self.now letters }
     {

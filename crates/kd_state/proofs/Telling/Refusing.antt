@@ -79,11 +79,11 @@ rings_by_the_tables m wheel letter = by_one_test _ WheelNotAllowed (has_wheel-De
 -- ---- cables
 
 -- a letter can be pulled exactly if it is in the cable
-pulled : (found : Option (Option ℕ × Option ℕ)) (letter : ℕ)
+pull_allowed : (found : Option (Option ℕ × Option ℕ)) (letter : ℕ)
     → (first_reason ((is_none found, NoSuchCable)
     ∷ (not (has_letter (cable_letters (unwrap_or found (None, None))) letter), NotThere) ∷ []) ≡ None)
     ↔ Contains (option_map_or cable_letters found []) letter
-pulled found letter = grind (arith, none-some, by_one_test, has_letter-Decides)
+pull_allowed found letter = grind (arith, none-some, by_one_test, has_letter-Decides)
 
 lies_somewhere : (cables : List (Option ℕ × Option ℕ)) (letter : ℕ) → Contains (plugged_letters cables) letter
     → (place : ℕ) × Contains (option_map_or cable_letters (slice_get cables place) []) letter
@@ -105,18 +105,18 @@ loose_in : {P : Type 0} (cable : Option ℕ × Option ℕ) (taken : Bool) → De
     ↔ (((held : Option ℕ × Option ℕ) × (Some cable ≡ Some held) × (length (cable_letters held) < 2)) × ¬ P)
 loose_in cable taken tells few = grind (arith, few, no_reason, false, false_from_ne_true, tells.0)
 
-put_in : {P : Type 0} (found : Option (Option ℕ × Option ℕ)) (taken : Bool) → Decides taken P
+put_allowed : {P : Type 0} (found : Option (Option ℕ × Option ℕ)) (taken : Bool) → Decides taken P
     → (first_reason ((is_none found, NoSuchCable) ∷ (is_plugged (unwrap_or found (None, None)), NoLooseEnd)
     ∷ (taken, SocketTaken) ∷ []) ≡ None)
     ↔ (((held : Option ℕ × Option ℕ) × (found ≡ Some held) × (length (cable_letters held) < 2)) × ¬ P)
-put_in found taken e = grind (arith, none-some, loose_in, same_Some)
+put_allowed found taken e = grind (arith, none-some, loose_in, same_Some)
 
 -- ---- wheels, pins and lugs
 
-turned : {P : Type 0} (found : Option (Option Wheel)) → ¬ P
+turn_allowed : {P : Type 0} (found : Option (Option Wheel)) → ¬ P
     → (first_reason ((is_none (unwrap_or found None), SlotEmpty) ∷ []) ≡ None)
     ↔ (((wheel : Wheel) × (found ≡ Some (Some wheel))) ⊎ P)
-turned found e = grind (arith, none-some)
+turn_allowed found e = grind (arith, none-some)
 
 shown : {P Q : Type 0} (found : Option ℕ) (on : Bool) → Decides on P → ¬ Q
     → (first_reason ((is_none found, SlotEmpty) ∷ (not on, NotOnWheel) ∷ []) ≡ None) ↔ (Q ⊎ (IsSome found × P))
@@ -146,21 +146,22 @@ lug_reasons lug place found =
     ∷ (option_map_or (lies_beyond lug place) (option_map (lug_place (other_lug lug)) found) false, WouldPass)
     ∷ []
 
-moved : (lug : Lug) (place : Place) (found : Option (Place × Place))
+lug_allowed : (lug : Lug) (place : Place) (found : Option (Place × Place))
     → (first_reason (lug_reasons lug place found) ≡ None)
     ↔ ((standing : Place × Place) × (found ≡ Some standing) × Stands (with_lug lug place standing))
-moved lug place found = grind (arith, none-some, no_reason, still_before, same_Some, apart_before)
+lug_allowed lug place found = grind (arith, none-some, no_reason, still_before, same_Some, apart_before)
 
 -- ---- each setting
 
-never : {P : Type 0} → ¬ P → (first_reason ((true, OtherModel) ∷ []) ≡ None) ↔ P
-never other = grind (arith, none-some)
+other_model_refused : {P : Type 0} → ¬ P → (first_reason ((true, OtherModel) ∷ []) ≡ None) ↔ P
+other_model_refused other = grind (arith, none-some)
 
 pub refusals_are_told : RefusalsAreTold
-refusals_are_told (Rotor m) (Pull cable letter) h = pulled (numbered m.cables cable) letter
+refusals_are_told (Rotor m) (Pull cable letter) h = pull_allowed (numbered m.cables cable) letter
 refusals_are_told (Rotor m) (Put cable letter) h =
     let plugged = plugged_letters m.cables in
-    let by_found = put_in (numbered m.cables cable) (has_letter plugged letter) (has_letter-Decides plugged letter) in (
+    let by_found =
+    put_allowed (numbered m.cables cable) (has_letter plugged letter) (has_letter-Decides plugged letter) in (
       λ e. let may = by_found.0 e in (may.0, λ other lies. may.1 (lies_in_all m.cables other letter lies)),
       λ may. by_found.1 (
         may.0,
@@ -171,9 +172,9 @@ refusals_are_told (Rotor m) (Put cable letter) h =
 refusals_are_told (Rotor m) (Seat slot wheel) h = seats_by_the_tables m slot wheel
 refusals_are_told (Rotor m) (SeatReflector reflector) h = reflectors_by_the_tables m reflector
 refusals_are_told (Rotor m) (RingTo wheel letter) h = rings_by_the_tables m wheel letter
-refusals_are_told (Rotor m) (Turn slot letter) h = turned (numbered m.slots slot) (λ may. false≢true may.0)
+refusals_are_told (Rotor m) (Turn slot letter) h = turn_allowed (numbered m.slots slot) (λ may. false≢true may.0)
 refusals_are_told (Pin m) (Turn wheel letter) h = grind (arith, shown, has_letter-Decides, none-some)
 refusals_are_told (Pin m) (PinTo wheel letter effective) h =
     by_one_test _ NotOnWheel (pin_told m wheel letter h.legal.pins)
-refusals_are_told (Pin m) (LugTo bar lug place) h = moved lug place (numbered m.bars bar)
-refusals_are_told m x h = never (λ may. grind arith)
+refusals_are_told (Pin m) (LugTo bar lug place) h = lug_allowed lug place (numbered m.bars bar)
+refusals_are_told m x h = other_model_refused (λ may. grind arith)

@@ -11,7 +11,7 @@ use kd_tables::Letter;
 /// A cable's letters: none, one or two.
 pub type Cable = (Option<Letter>, Option<Letter>);
 
-/// The cable with these letters in order, a single one in its first end.
+/// The cable with these letters in alphabetical order, a single letter first.
 pub(crate) fn ordered(one: Option<Letter>, other: Option<Letter>) -> Cable
     ensures { result ≡ ordered one other }
 {
@@ -23,7 +23,7 @@ pub(crate) fn ordered(one: Option<Letter>, other: Option<Letter>) -> Cable
     }
 }
 
-/// Puts the letters of each cable in order.
+/// Puts the letters of each cable in alphabetical order, a single letter first.
 pub(crate) fn put_in_order(cables: &mut [Cable])
     ensures { cables.new ≡ map (λ cable. ordered cable.0 cable.1) cables.old }
 {

@@ -13,9 +13,9 @@ use kd_tables::{Letter, Reading, Standing};
 pub struct PinParts {
     /// Which pins of the six wheels are effective.
     pub pins: PinSet,
-    /// The letter that each wheel shows, wheel 1 first.
+    /// The letter that each wheel shows, from wheel 1 to wheel 6.
     pub letters: [Letter; 6],
-    /// Where the lugs of each bar stand, bar 1 first.
+    /// Where the lugs of each bar stand, from bar 1 to bar 27.
     pub bars: [Standing; 27],
 }
 

@@ -22,7 +22,7 @@ pub struct RotorParts {
     pub rings: PerWheel<Letter>,
     /// The window letter of each wheel of the box, in a slot or not, in box order.
     pub letters: PerWheel<Letter>,
-    /// The letters in each cable, cable 1 first.
+    /// The letters in each cable, from cable 1 to cable 13.
     pub cables: [Cable; 13],
 }
 

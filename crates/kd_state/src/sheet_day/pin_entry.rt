@@ -13,7 +13,7 @@ pub struct PinEntry {
     pub rows: [Reading; 27],
     /// Which pins are effective.
     pub pins: PinSet,
-    /// The letter that each wheel shows, wheel 1 first.
+    /// The letter that each wheel shows, from wheel 1 to wheel 6.
     pub window: [Letter; 6],
     /// The two letters of the key list.
     pub list: [Letter; 2],
