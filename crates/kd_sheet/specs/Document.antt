@@ -10,18 +10,18 @@ use Rattle.kd_sheet.specs.declared.key.Key.{Key}
 use Rattle.kd_sheet.specs.declared.fault.SheetFault.{SheetFault}
 use Rattle.kd_sheet.specs.declared.fault.SheetFault.TheVariants.{NotToml, Missing, BadValue, NoMemory}
 
--- A reading, and the reading that goes on with its value. The first fault counts.
+-- Goes on with `f` and the value if the reading succeeded, else gives its fault.
 infixl 10 ◌>>=◌
 abbrev pub ◌>>=◌ : {A B : Type 0} → Result A SheetFault → (A → Result B SheetFault) → Result B SheetFault
 (Ok x) >>= f = f x
 (Err fault) >>= f = Err fault
 
--- A test that has to pass, and the reading after it.
+-- Goes on with `reading` if the test passed, else gives its fault.
 infixl 10 ◌>>◌
 abbrev pub ◌>>◌ : {B : Type 0} → Result (Unit {0}) SheetFault → Result B SheetFault → Result B SheetFault
 test >> reading = test >>= (λ _. reading)
 
--- the values of the items in order, each read behind the values before it, or the first fault
+-- the values of the items in order, each read after the values before it, or the first fault
 abbrev pub in_turn : {A : Type 0} → (List A → Data → Result A SheetFault) → List Data → Result (List A) SheetFault
 in_turn reading [] = Ok []
 in_turn reading (first ∷ rest) = do

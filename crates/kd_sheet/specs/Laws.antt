@@ -20,7 +20,7 @@ LegalPartsAreReadBack = (m : Parts) → IsLegal m → machine_of (machine_text m
 abbrev pub WrittenFilesAreReadBack : Type 0
 WrittenFilesAreReadBack = (m : Parts) → IsMachine m → machine_of (machine_text m) ≡ Ok m
 
--- a day is legal exactly if some table describes it
+-- a day is legal exactly if some entry's table describes it
 abbrev pub LegalDaysAreDescribed : Type 0
 LegalDaysAreDescribed = (day : Day) → IsLegalDay day ↔ ((entry : Members) × (day_in [] entry ≡ Ok day))
 

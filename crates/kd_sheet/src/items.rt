@@ -1,4 +1,4 @@
-//! Reads the items of an array one after another; each reading may depend on the items before.
+//! Reading the items of an array one after another. A reading may depend on the items before.
 ghost use Rattle.std.specs.Prelude.{◌≡◌, ◌<◌, ◌≤◌, List, Result, IfOk, map, length};
 ghost use Rattle.toml.specs.{Data.{Data}, View.{view, table_view}};
 ghost use Rattle.kd_sheet.specs.Document.{in_turn, each_at, up_to, result_map};
@@ -12,16 +12,16 @@ use toml::{Table, Value};
 
 /// A type that an item of an array can be read as. `Given` is what reading needs beside the items.
 pub trait FromItem<Given> {
-    /// The value of an item behind the values `before`, or its fault.
+    /// What an item is read as, after the items `before`: a value or a fault.
     ghost reading: { Given → List Self → Data → Result Self SheetFault };
 
-    /// Reads `item`, which stands behind the items `before`.
+    /// Reads `item`, which comes after the items `before`.
     fn read(given: &Given, before: &[Self], item: &Value) -> Result<Self, SheetFault>
         requires { length before.now < 27 }
         ensures { result ≡ reading given.now before.now (view item.now) };
 }
 
-/// Reads `items`. There may be at most `N`.
+/// Reads `items`, at most `N`.
 fn read_items<T: FromItem<G> + Copy + Default, G, const N: usize>(
     given: &G,
     items: &[Value],

@@ -12,8 +12,9 @@ pub fn written_files_are_read_back()
     ensures parts { LegalPartsAreReadBack }
 {}
 
-/// A day is legal exactly if some table describes it. Day `number` of a sheet is the day that the entry with
-/// this number describes.
+/// A day is legal exactly if some entry's table describes it.
+///
+/// Day `number` of a sheet is the day that the entry with this number describes.
 pub fn days_are_the_entries()
     ensures legal { LegalDaysAreDescribed }
     ensures sheet { DaysAreTheEntries }

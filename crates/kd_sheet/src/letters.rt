@@ -60,7 +60,7 @@ fn numbered_letter(item: &Value) -> Option<Letter>
     Letter::new(number_to(item, 26)? - 1)
 }
 
-/// Reads an array with a number for each slot of `model` as letters.
+/// Reads an array that has a number from 1 to 26 for each slot of `model`. 1 is A.
 pub fn numbered_slots(model: Model, items: &[Value]) -> Option<PerSlot<Letter>>
     requires { 0 < slots_of model }
     ensures { result ≡ numbered_letters (slots_of model) (map view items.now) }

@@ -69,7 +69,7 @@ fn box_letters_in(table: &Table, key: Key, model: Model) -> Result<PerWheel<Lett
     Ok(PerWheel::new(letters.as_slice()).unwrap())
 }
 
-/// Reads the parts of a rotor machine. The first fault is that of the first key in this order.
+/// Reads the parts of a rotor machine, key by key. The first fault counts.
 #[tactic(auto, unfolding(crate::specs::MachineFile::rotor_parts_in))]
 fn rotor_parts_in(table: &Table, model: Model) -> Result<RotorParts, SheetFault>
     requires { 0 < slots_of model }
@@ -85,7 +85,7 @@ fn rotor_parts_in(table: &Table, model: Model) -> Result<RotorParts, SheetFault>
     })
 }
 
-/// Reads the parts of a Converter M-209. The first fault is that of the first key in this order.
+/// Reads the parts of a Converter M-209, key by key. The first fault counts.
 #[tactic(auto, unfolding(crate::specs::MachineFile::pin_parts_in))]
 fn pin_parts_in(table: &Table) -> Result<PinParts, SheetFault>
     ensures { result ≡ pin_parts_in (table_view table.now) }
