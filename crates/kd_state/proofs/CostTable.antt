@@ -70,7 +70,7 @@ pub sums_add : {X : Type 0} (f g h : X → ℕ) → ((x : X) → f x + g x ≡ h
 sums_add f g h e [] = refl
 sums_add f g h e (x ∷ xs) = simp sum_by-cons (omega (arith, e x, sums_add f g h e xs))
 
--- of a range, exactly `x` equals `x`, so it is counted once if it is in the range and passes the test
+-- counting the numbers of a range that equal `x` and pass `p`: one if `x` is in the range and passes, else none
 once_among : (p : ℕ → Bool) (x first number : ℕ) → count_by (λ y. nat_eq x y && p y) (range_with_len first number)
     ≡ cond (nat_le first x && (nat_lt x (first + number) && p x)) 1 0
 once_among p x first zero = grind (arith, nat_tests)

@@ -24,7 +24,7 @@ use Rattle.kd_drum.proofs.Starts as starts
 or-min_max : (met : ℕ → Bool) (a b : ℕ) → (met a || met b) ≡ (met (min a b) || met (max a b))
 or-min_max met a b = grind (arith, min-eq_left, max-eq_right, or_comm, min-eq_right, max-eq_left)
 
--- counting by a test of the image counts the image
+-- counting elements by a test of their images counts the images that pass
 count_by-map : {X Y : Type 0} (p : Y → Bool) (f : X → Y) (xs : List X)
     → count_by (λ x. p (f x)) xs ≡ count_by p (map f xs)
 count_by-map p f [] = refl

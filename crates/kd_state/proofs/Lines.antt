@@ -231,7 +231,7 @@ text_of_more x xs rest = grind (arith, append_assoc)
 BeginsWithNoLine-empty : BeginsWithNoLine []
 BeginsWithNoLine-empty x rest r e = grind (arith, length-append, ap length e)
 
--- texts that both begin with a setting's line begin with the same setting
+-- equal texts that begin with a setting's line begin with the same setting
 same_first : (x y : Setting) (xs ys : List Setting) (rest more : List ℕ) → IsInRange x → IsInRange y
     → list_text (x ∷ xs) ++ rest ≡ list_text (y ∷ ys) ++ more
     → (x ≡ y) × (list_text xs ++ rest ≡ list_text ys ++ more)
@@ -240,7 +240,7 @@ same_first x y xs ys rest more r s e =
     texts_tell_first_parts 10 (setting_line x) (setting_line y) (list_text xs ++ rest) (list_text ys ++ more) in
     grind (arith, parts, line_has_no_break x, line_has_no_break y, text_of_more, lines_tell_settings x y)
 
--- two lists of lines with the same text are the same, if no setting's line follows either
+-- two lists are the same if their lines and what follows are the same text, and no setting's line follows
 same_lists : (xs ys : List Setting) (rest more : List ℕ) → AllByRecursion IsInRange xs → AllByRecursion IsInRange ys
     → list_text xs ++ rest ≡ list_text ys ++ more
     → BeginsWithNoLine rest → BeginsWithNoLine more → (xs ≡ ys) × (rest ≡ more)
@@ -249,7 +249,7 @@ same_lists [] (y ∷ ys) rest more r s e none nor = grind (arith, none, text_of_
 same_lists (x ∷ xs) [] rest more r s e none nor = grind (arith, nor, text_of_more)
 same_lists (x ∷ xs) (y ∷ ys) rest more r s e none nor = grind (arith, same_first, same_lists xs ys rest more r.1 s.1)
 
--- with the same text, no list of lines is longer than one that no setting's line follows
+-- in one text, no list of lines is longer than a list that no setting's line follows
 length-same_lines : (xs ys : List Setting) (rest more : List ℕ) → AllByRecursion IsInRange xs
     → AllByRecursion IsInRange ys
     → list_text xs ++ rest ≡ list_text ys ++ more

@@ -7,7 +7,7 @@ use Rattle.kd_state.proofs.Prelude.{ring_of, Contains, List, Option, Some, arith
 use Rattle.kd_state.proofs.Prelude.{slice_get, sym, ℕ, ◌+◌, ◌-◌, ◌<◌, ◌∙◌, ◌≡◌, ◌≢◌, ◌≤◌, common_steps}
 use Rattle.{std.proofs.Common.add-one, kd_state.proofs.Wheels.{placed, first_within, first_nowhere}}
 
--- `x` is element `number`, counted from 1, and so stands at the place before that
+-- `x` is element `number`, counted from 1: it is at place `number - 1`
 pub record IsNumbered {X : Type 0} (xs : List X) (number : ℕ) (x : X) : Type 0 where
   pub first : 1 ≤ number
   pub last : number ≤ length xs

@@ -14,8 +14,7 @@ ghost use Rattle.kd_state.specs.Laws.{EquallySetDecipher, TheDayDeciphersItself,
 ghost use Rattle.kd_state.specs.Laws.{TestsTellLetters, ThirteenColumns, ColumnsAreThePairs, CablesCostFour};
 ghost use Rattle.kd_state.specs.Laws.{CostTablesAreSquare};
 
-/// A line determines its words: joining them with single spaces and splitting the line are inverses. The line
-/// has no LF.
+/// Joining words with single spaces and splitting the line are inverses. The line has no LF.
 #[tactic(auto, using(crate::proofs::Lines::lines_tell_words, crate::proofs::Lines::lines_split_into_words, crate::proofs::Lines::parts_make_lines, crate::proofs::Lines::words_make_one_line))]
 pub fn lines_tell_words()
     ensures told { LinesTellWords }
@@ -74,7 +73,7 @@ pub fn settings_keep_machines()
     ensures lists { ListsKeepMachines }
 {}
 
-/// A machine either refuses a setting or carries it out, and with one result only. A list has one result too.
+/// A machine refuses a setting or carries it out, with one result only. So it is for a list.
 #[tactic(auto, using(crate::proofs::Telling::Refusing::refuses_or_carries, crate::proofs::Telling::Refusing::carries_to_one, crate::proofs::Telling::Refusing::leads_to_one))]
 pub fn a_setting_is_refused_or_carried()
     ensures either { RefusesOrCarries }
@@ -100,8 +99,7 @@ pub fn tables_say_what_is_refused()
     ensures rings { RingsAreByTheTables }
 {}
 
-/// An engine made of a machine enciphers as the machine's own parts do, also after it is turned to other
-/// letters.
+/// An engine enciphers as the machine that it is made of does, also turned to other letters.
 #[tactic(auto, using(crate::proofs::Keys::engine_cipher, crate::proofs::Keys::turned_engine))]
 pub fn engines_encipher_as_their_machines()
     ensures standing { EngineIsTheMachine }
@@ -132,8 +130,9 @@ pub fn turning_keeps_the_key()
     ensures cipher { TurnedHasTheDaysCipher }
 {}
 
-/// A ready machine can be turned to any window: a letter for each slot, or one for each pin wheel that is on
-/// it.
+/// A ready machine can be turned to any window.
+///
+/// A window has a letter for each slot, or one for each pin wheel and on it.
 #[tactic(auto, using(crate::proofs::Seating::can_be_turned))]
 pub fn ready_machines_can_be_turned()
     ensures { MachinesCanBeTurned }
@@ -154,8 +153,9 @@ pub fn pieces_are_enciphered_in_turn()
     ensures after { KeyInTurn }
 {}
 
-/// A day has 13 columns: its pairs in their order, and then no pair. The cost tables are square, and a cable
-/// costs at most 4.
+/// The cost tables are square, and a cable costs at most 4.
+///
+/// A day has 13 columns: its pairs in their order, and then no pair.
 #[tactic(auto, using(crate::proofs::CostTable::at_most_four, crate::proofs::CostTable::columns_are_the_pairs, crate::proofs::CostTable::cost_tables_are_square, crate::proofs::CostTable::thirteen_columns))]
 pub fn cost_tables_are_square()
     ensures count { ThirteenColumns }

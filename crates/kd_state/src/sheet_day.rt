@@ -145,16 +145,14 @@ impl SheetDay {
         Some(self.seated(slot)?.wheel)
     }
 
-    /// The ring of the wheel in slot `slot`, counted from the left from 1. 01 is A. `None` on the Converter
-    /// M-209.
+    /// The ring of the wheel in slot `slot`, counted from 1 from the left: 01 is A. `None` on the M-209.
     pub fn ring(&self, slot: u8) -> Option<Letter>
         ensures { result ≡ option_map (λ seated. seated.ring) (sheet_wheel self.now slot) }
     {
         Some(self.seated(slot)?.ring)
     }
 
-    /// The letter in the window of slot `slot`, counted from the left from 1. On the Converter M-209, the
-    /// letter of pin wheel `slot`.
+    /// The letter in the window of slot `slot`, counted from 1 from the left, or on pin wheel `slot`.
     pub fn window(&self, slot: u8) -> Option<Letter>
         ensures { result ≡ shown_letter self.now slot }
     {
