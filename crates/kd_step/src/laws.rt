@@ -1,7 +1,7 @@
 //! Laws that follow from the definition of a step alone.
 ghost use Rattle.kd_step.specs.Stepper.{ChainsEndInWindowAfter, SlowWheelsMoveTogether};
 
-/// `n` steps from a window lead to `window_after`, and to no other window.
+/// Each number of steps from a window leads to exactly one window: the one that `window_after` gives.
 pub fn chains_end_in_window_after()
     ensures { ChainsEndInWindowAfter }
 {}

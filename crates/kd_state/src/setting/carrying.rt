@@ -1,4 +1,4 @@
-//! Carrying out a list of settings.
+//! Settings that are carried out one after another.
 ghost use Rattle.std.specs.Prelude.{IfErr, IfOk};
 ghost use Rattle.kd_state.specs.Setting.{IsFirstIllegal, Leads};
 
@@ -7,7 +7,7 @@ use crate::setting::Setting;
 use crate::setting::why::Why;
 use thiserror::Error;
 
-/// The first setting of a list that the machine refuses, and why. Settings are counted from 1 as lines.
+/// A setting of a list that the machine refuses in its turn. Lines are the settings, counted from 1.
 #[derive(Clone, Copy, Debug, PartialEq, Eq, Error)]
 #[error("13 IllegalAt {line} {why}")]
 pub struct IllegalAt {
@@ -15,7 +15,7 @@ pub struct IllegalAt {
     pub why: Why,
 }
 
-/// Carries out `settings` in order. Returns the final machine, or the first setting that was refused.
+/// The machine to which the settings lead, carried out one after another, or the first that is refused.
 #[tactic(auto, using(crate::proofs::Telling::Refusing::leads_next, crate::proofs::Telling::Refusing::stops_at))]
 pub fn carry_all(machine: &Machine, settings: &[Setting]) -> Result<Machine, IllegalAt>
     ensures carried { IfOk result (λ n. Leads machine.now settings.now n) }
