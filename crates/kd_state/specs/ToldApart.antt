@@ -25,7 +25,7 @@ has_reflector reflectors reflector = list_any (same_reflector reflector) reflect
 abbrev pub place_in_box : Model → Wheel → ℕ
 place_in_box model wheel = position_or_len (same_wheel wheel) (box_of model)
 
--- element `number` of the list, counted from 1
+-- the element with this number, counted from 1
 abbrev pub numbered : {X : Type 0} → List X → ℕ → Option X
 numbered xs zero = None
 numbered xs (suc place) = slice_get xs place
