@@ -39,7 +39,7 @@ pub fn bars_in(table: &Table) -> Result<[Standing; BARS], SheetFault>
 }
 
 /// The value of a digit from 0 to 6.
-fn figure(byte: u8) -> Option<u8>
+fn digit_value(byte: u8) -> Option<u8>
     ensures value { IfSome result (λ number. byte ≡ number + 48) }
     ensures exists { is_some result ≡ is_figure byte }
 {
@@ -55,7 +55,7 @@ fn row_of_item(item: &Value) -> Option<Reading>
     ensures { result ≡ option_and_then row_of_text (as_str (view item.now)) }
 {
     match item.as_str()?.as_bytes() {
-        [one, b'-', other] => Reading::new(figure(*one)?, figure(*other)?),
+        [one, b'-', other] => Reading::new(digit_value(*one)?, digit_value(*other)?),
         _ => None,
     }
 }

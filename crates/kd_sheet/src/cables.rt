@@ -57,7 +57,7 @@ impl FromItem<()> for Cable {
 }
 
 /// Fills up `cables` with empty ones to 13.
-fn thirteen(cables: &[Cable]) -> [Cable; CABLES]
+fn fill_up(cables: &[Cable]) -> [Cable; CABLES]
     requires { length cables.now ≤ 13 }
     ensures { result ≡ thirteen cables.now }
 {
@@ -75,7 +75,7 @@ pub fn cables_in(table: &Table) -> Result<[Cable; CABLES], SheetFault>
         Some(value) => read_up_to(value, Key::Cables)?,
         None => ArrayVec::new(),
     };
-    Ok(thirteen(cables.as_slice()))
+    Ok(fill_up(cables.as_slice()))
 }
 
 /// Whether `letter` is in one of `pairs`.

@@ -51,7 +51,7 @@ pub fn shown_in(table: &Table, key: Key) -> Result<[Letter; 6], SheetFault>
 }
 
 /// Whether `byte` is a capital letter of `ring`.
-fn is_on(ring: &[Letter], byte: u8) -> bool
+fn is_letter_of(ring: &[Letter], byte: u8) -> bool
     ensures { result ≡ is_on ring.now byte }
 {
     for letter in ring {
@@ -74,7 +74,7 @@ fn is_pin_text(ring: &[Letter], text: &[u8]) -> bool
     ensures { result ≡ is_pin_text ring.now text.now }
 {
     for byte in text {
-        if !is_on(ring, *byte) || !stands_once(text, *byte) {
+        if !is_letter_of(ring, *byte) || !stands_once(text, *byte) {
             return false;
         }
     }

@@ -42,7 +42,7 @@ fn day_for(sheet: &Sheet, item: &Value) -> Result<SheetDay, SheetFault>
 
 /// Reads `items` as the days of a sheet.
 #[tactic(auto, using(crate::proofs::ReadBack::Described::first_month, crate::proofs::ReadBack::Described::Values::InTurn::on_all))]
-fn month(items: &[Value]) -> Result<Sheet, SheetFault>
+fn month_of_items(items: &[Value]) -> Result<Sheet, SheetFault>
     ensures { result ≡ result_map month_of (in_turn day_for (map view items.now)) }
 {
     let mut sheet = Sheet::new();
@@ -62,5 +62,5 @@ pub fn read_sheet(alloc: Global, bytes: &[u8]) -> Result<Sheet, SheetFault>
     ensures { Answers result (sheet_of bytes.now) }
 {
     let table = document(alloc, bytes)?;
-    month(items_at(&table, Key::Day)?)
+    month_of_items(items_at(&table, Key::Day)?)
 }
