@@ -1,8 +1,8 @@
--- How many comparisons are made.
+-- How many comparisons trees take: bounds, and sums in closed form.
 use Rattle.std.proofs.Common.{◌≡◌, ℕ, zero, suc, ◌+◌, ◌*◌, ◌/◌, ◌≤◌, inl, inr, arith}
 use Rattle.kd_assign.proofs.Prelude.{cases_eq, scans_of_tree, scans_of_trees}
 
--- a tree of more rows takes no fewer
+-- a tree of more rows takes no fewer comparisons
 pub scans_of_tree-grows : (n few rows : ℕ) → few ≤ rows → scans_of_tree n few ≤ scans_of_tree n rows
 scans_of_tree-grows n few zero h = let same : few ≡ 0 = omega arith in rw same (omega arith)
 scans_of_tree-grows n few (suc rows) h = elim (cases_eq few (suc rows)) [
@@ -10,7 +10,7 @@ scans_of_tree-grows n few (suc rows) h = elim (cases_eq few (suc rows)) [
   | inr other ↦ (let fewer = scans_of_tree-grows n few rows (omega arith) in omega arith)
 ]
 
--- of at most 32 columns
+-- in a table of at most 32 columns each row takes at most 32 comparisons
 pub scans_of_tree-most : (n rows : ℕ) → n ≤ 32 → scans_of_tree n rows ≤ 32 * rows
 scans_of_tree-most n zero h = omega arith
 scans_of_tree-most n (suc rows) h = let fewer = scans_of_tree-most n rows h in omega arith
@@ -19,19 +19,20 @@ pub scans_of_trees-most : (n trees : ℕ) → n ≤ 32 → trees ≤ n → scans
 scans_of_trees-most n zero h few = omega arith
 scans_of_trees-most n (suc trees) h few = grind (arith, scans_of_trees-most n trees h (omega arith), scans_of_tree-most)
 
--- what a tree takes, summed up
-scans_of_tree-is : (n rows : ℕ) → rows ≤ n → 2 * scans_of_tree n rows + rows * rows ≡ 2 * (n * rows) + rows
-scans_of_tree-is n zero h = omega arith
-scans_of_tree-is n (suc rows) h = let fewer = scans_of_tree-is n rows (omega arith) in omega arith
+-- the comparisons of one tree, in closed form
+scans_of_tree-closed : (n rows : ℕ) → rows ≤ n → 2 * scans_of_tree n rows + rows * rows ≡ 2 * (n * rows) + rows
+scans_of_tree-closed n zero h = omega arith
+scans_of_tree-closed n (suc rows) h = let fewer = scans_of_tree-closed n rows (omega arith) in omega arith
 
--- and what trees take
-scans_of_trees-is : (n trees : ℕ) → trees ≤ n →
+-- the comparisons of `trees` trees, in closed form
+scans_of_trees-closed : (n trees : ℕ) → trees ≤ n →
     6 * scans_of_trees n trees + trees * trees * trees ≡ 3 * (n * (trees * trees)) + 3 * (n * trees) + trees
-scans_of_trees-is n zero h = omega arith
-scans_of_trees-is n (suc trees) h = grind (arith, scans_of_trees-is n trees (omega arith), scans_of_tree-is)
+scans_of_trees-closed n zero h = omega arith
+scans_of_trees-closed n (suc trees) h = grind (arith, scans_of_trees-closed n trees (omega arith), scans_of_tree-closed)
 
--- one tree for each row
-pub scans_of_all : (n : ℕ) → scans_of_trees n n ≤ n * (n + 1) * (2 * n + 1) / 6
-scans_of_all n =
-    let is : 6 * scans_of_trees n n ≡ n * (n + 1) * (2 * n + 1) = omega (arith, scans_of_trees-is n n (omega arith)) in
+-- the comparisons of `n` trees, one for each row
+pub scans_of_trees-all : (n : ℕ) → scans_of_trees n n ≤ n * (n + 1) * (2 * n + 1) / 6
+scans_of_trees-all n =
+    let is : 6 * scans_of_trees n n ≡ n * (n + 1) * (2 * n + 1) =
+    omega (arith, scans_of_trees-closed n n (omega arith)) in
     omega arith

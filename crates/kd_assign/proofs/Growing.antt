@@ -1,24 +1,27 @@
 -- A tree that gains a column, and an assignment that gains a row.
-use Rattle.std.proofs.Common.{◌≡◌, ◌≢◌, ℕ, ◌+◌, ◌<◌, ◌≤◌, List, [], length, get_or, set, All, Bool, true, false, Option, Some, None, is_some, ◌⊎◌, inl, inr, ℤ, pos, ◌-ℤ◌, ◌≤ℤ◌, refl, sym, ◌∙◌, arith}
+use Rattle.std.proofs.Common.{◌≡◌, ◌≢◌, ℕ, ◌+◌, ◌<◌, ◌≤◌, List, [], length, get_or, set, All, Bool, true, false, Option}
+use Rattle.std.proofs.Common.{Some, None, is_some, ◌⊎◌, inl, inr, ℤ, pos, ◌-ℤ◌, ◌≤ℤ◌, refl, sym, ◌∙◌, arith}
 use Rattle.{kd_assign.proofs.Whole.cost_at_most, std.specs.Int.int_min}
 use Rattle.kd_assign.proofs.Prelude.{cases_Bool, cases_eq, clamps, false≢true, get_or-set_other, get_or-set_same, ints}
 use Rattle.kd_assign.proofs.Prelude.{length-set, none-some, same_Some, CostsAtMost, Has, IsCheapest, IsFree, IsGrown}
-use Rattle.kd_assign.proofs.Prelude.{AreCompared, IsNearest, IsPlan, IsSeated, IsSolvedTo, cost_at, has_column, price_at, room_at}
-use Rattle.kd_assign.proofs.Places.{count-set, count_at_most, free_column, within, written}
+use Rattle.kd_assign.proofs.Prelude.{AreCompared, IsNearest, IsPlan, IsSeated, IsSolvedTo, cost_at, has_column}
+use Rattle.kd_assign.proofs.Prelude.{price_at, room_at}
+use Rattle.kd_assign.proofs.Places.{count-set, count_at_most, free_column, length-Has, get_or-set-cases}
 
-module _ {n root : ℕ} {cost : List (List ℕ)} {prices ceilings : List ℤ} {holders : List (Option ℕ)} {reached : List Bool}
-    {near : List ℕ} {plans : List (List (Option ℕ))} (solved : IsSolvedTo n cost prices holders root)
+module _ {n root : ℕ} {cost : List (List ℕ)} {prices ceilings : List ℤ} {holders : List (Option ℕ)}
+    {reached : List Bool} {near : List ℕ} {plans : List (List (Option ℕ))}
+    (solved : IsSolvedTo n cost prices holders root)
     (grown : IsGrown n cost prices holders root reached ceilings near plans) where
-  -- a free column is outside of the tree
+  -- a free column is outside the tree
   outside : (j : ℕ) → IsFree holders j → has_column reached j ≡ false
   outside j free = grind (arith, cases_Bool, grown.taken j)
 
-  -- and there is one
-  pub some_outside : root < n → (j : ℕ) × (j < n) × (has_column reached j ≡ false)
-  some_outside few = grind (arith, free_column, outside)
+  -- some column is outside the tree
+  pub outside-exists : root < n → (j : ℕ) × (j < n) × (has_column reached j ≡ false)
+  outside-exists few = grind (arith, free_column, outside)
 
   module _ {end : ℕ} (nearest : IsNearest n prices reached ceilings end) where
-    -- the row that takes the column, and the plan in which it has none
+    -- the row that takes column `end`, and the plan that leaves this row free
     abbrev from : ℕ
     from = get_or near end 0
 
@@ -28,7 +31,7 @@ module _ {n root : ℕ} {cost : List (List ℕ)} {prices ceilings : List ℤ} {h
     plan_is : IsPlan n cost prices holders root reached ceilings plan from
     plan_is = grown.plan end nearest.within nearest.outside
 
-    -- in the tree with that column
+    -- the columns of the tree once `end` has joined, and the plan in which `from` has `end`
     abbrev reached' : List Bool
     reached' = set reached end true
 
@@ -38,14 +41,14 @@ module _ {n root : ℕ} {cost : List (List ℕ)} {prices ceilings : List ℤ} {h
     has_end : end < length plan
     has_end = omega (arith, plan_is.places, nearest.within)
 
-    now_at : {w : Option ℕ} (j : ℕ) → get_or plan' j None ≡ w →
+    plan-cases : {w : Option ℕ} (j : ℕ) → get_or plan' j None ≡ w →
         ((j ≡ end) × (Some from ≡ w)) ⊎ ((j ≢ end) × (get_or plan j None ≡ w))
-    now_at j h = written plan end (Some from) _ j has_end h
+    plan-cases j h = get_or-set-cases plan end (Some from) _ j has_end h
 
     rows_still : (i j : ℕ) → Has plan' j i → i < n
-    rows_still i j h = grind (arith, now_at j h, plan_is.out_in_range, plan_is.rows, same_Some)
+    rows_still i j h = grind (arith, plan-cases j h, plan_is.out_in_range, plan_is.rows, same_Some)
 
-    -- a row that had another column has it
+    -- each row up to the root has a column in `plan'` if it didn't have `end`
     seated_still : (i : ℕ) → i ≤ root → (Has holders end i → ⊥) → IsSeated plan' i
     seated_still i few other = elim (cases_eq i from) [
       | inl same ↦ (end, rw same (get_or-set_same plan end (Some from) None has_end))
@@ -55,21 +58,23 @@ module _ {n root : ℕ} {cost : List (List ℕ)} {prices ceilings : List ℤ} {h
           (seat.0, get_or-set_other plan end seat.0 (Some from) None elsewhere ∙ seat.1)
     ]
 
-    -- the column has a row, which joins the tree
+    -- column `end` is taken by `holder`, which joins the tree
     module _ {holder : ℕ} (held : Has holders end holder) {level : ℤ}
-        (level_is : level ≡ (price_at ceilings end -ℤ pos (cost_at cost holder end))) {near' : List ℕ} {ceilings' : List ℤ}
+        (level_is : level ≡ (price_at ceilings end -ℤ pos (cost_at cost holder end)))
+        {near' : List ℕ} {ceilings' : List ℤ}
         (compared : AreCompared n cost (set reached end true) holder level near ceilings near' ceilings') where
       end_joins : has_column reached' end ≡ true
       end_joins = get_or-set_same reached end true false (omega (arith, grown.places, nearest.within))
 
-      -- what is outside of the tree was outside, and what is in it was in it or is that column
+      -- a column outside the new tree was outside the old one; a column in the new tree was in the old one or
+      -- is `end`
       outside_before : (j : ℕ) → has_column reached' j ≡ false → (j ≢ end) × (has_column reached j ≡ false)
       outside_before j h = grind (arith, end_joins, cases_eq, get_or-set_other)
 
       inside_before : (j : ℕ) → j ≢ end → has_column reached' j ≡ true → has_column reached j ≡ true
       inside_before j other h = grind (arith, get_or-set_other)
 
-      -- its ceilings stay
+      -- the ceilings of the tree's columns stay
       ceiling_stays : (j : ℕ) → j < n → has_column reached' j ≡ true → price_at ceilings' j ≡ price_at ceilings j
       ceiling_stays j lt h = grind (arith, (compared.at j lt).one)
 
@@ -77,14 +82,15 @@ module _ {n root : ℕ} {cost : List (List ℕ)} {prices ceilings : List ℤ} {h
           IsCheapest n cost ceilings' i j
       cheapest_still i j e cheapest k lt = omega (arith, ints, cheapest k lt, (compared.at k lt).least)
 
-      -- no column of the tree is further away
-      no_further : (j : ℕ) → j < n → has_column reached' j ≡ true → room_at ceilings prices j ≤ℤ room_at ceilings prices end
+      -- no column of the tree is further away than `end`
+      no_further : (j : ℕ) → j < n → has_column reached' j ≡ true
+          → room_at ceilings prices j ≤ℤ room_at ceilings prices end
       no_further j lt h = elim (cases_eq j end) [
         | inl same ↦ rw same (omega (arith, ints))
         | inr other ↦ grown.ordered j end lt nearest.within (inside_before j other h) nearest.outside
       ]
 
-      -- the column is the cheapest one for its row at the new ceilings
+      -- `end` is the cheapest column for `holder` at the new ceilings
       holder_stays : IsCheapest n cost ceilings' holder end
       holder_stays k lt =
           let same = ceiling_stays end nearest.within end_joins in
@@ -95,7 +101,7 @@ module _ {n root : ℕ} {cost : List (List ℕ)} {prices ceilings : List ℤ} {h
             | inr out ↦ omega (arith, ints, now.here out)
           ]
 
-      -- a plan is one for the tree that has grown
+      -- a plan for the old tree is a plan for the new one
       plan_still : {old : List (Option ℕ)} {out : ℕ} → IsPlan n cost prices holders root reached ceilings old out →
           IsPlan n cost prices holders root reached' ceilings' old out
       plan_still plan = record {
@@ -113,21 +119,21 @@ module _ {n root : ℕ} {cost : List (List ℕ)} {prices ceilings : List ℤ} {h
         taken = plan.taken;
       }
 
-      -- and so is the one that is made for the row
+      -- `plan'` is a plan for the new tree that leaves `holder` free
       plan_moved : IsPlan n cost prices holders root reached' ceilings' plan' holder
       plan_moved = record {
         places = length-set plan end (Some from) ∙ plan_is.places;
         out_in_range = solved.rows holder end held;
         rows = rows_still;
         seated = λ i few other. seated_still i few (λ h. other (same_Some i holder (sym h ∙ held)));
-        cheapest = grind (arith, now_at, same_Some, cheapest_still, ceiling_stays, end_joins, inside_before);
+        cheapest = grind (arith, plan-cases, same_Some, cheapest_still, ceiling_stays, end_joins, inside_before);
         same = λ j h. grind (arith, outside_before j h, get_or-set_other, plan_is.same j);
-        taken = λ j. grind (arith, now_at j refl, plan_is.taken, held);
+        taken = λ j. grind (arith, plan-cases j refl, plan_is.taken, held);
       }
 
-      -- so the tree has grown
-      pub grows : IsGrown n cost prices holders root reached' ceilings' near' (set plans holder plan')
-      grows = record {
+      -- the new tree is well formed
+      pub IsGrown-with_end : IsGrown n cost prices holders root reached' ceilings' near' (set plans holder plan')
+      IsGrown-with_end = record {
         places = length-set reached end true ∙ grown.places;
         plan_places = length-set plans holder plan' ∙ grown.plan_places;
         close = record {
@@ -150,7 +156,9 @@ module _ {n root : ℕ} {cost : List (List ℕ)} {prices ceilings : List ℤ} {h
             ];
         cheapest = λ j lt h. elim (compared.at j lt).one [
           | inl was ↦ rw was.0 (cheapest_still (get_or near j 0) j was.1 (grown.cheapest j lt (outside_before j h).1))
-          | inr is ↦ rw is.1 (λ k lt'. omega (arith, ints, holder_stays k lt', ceiling_stays end nearest.within end_joins, is.2))
+          | inr is ↦
+              let stays = ceiling_stays end nearest.within end_joins in
+              rw is.1 (λ k lt'. omega (arith, ints, holder_stays k lt', stays, is.2))
         ];
         plan = λ j lt h.
             let there : holder < length plans = omega (arith, grown.plan_places, solved.rows holder end held) in
@@ -165,16 +173,16 @@ module _ {n root : ℕ} {cost : List (List ℕ)} {prices ceilings : List ℤ} {h
             ];
       }
 
-    -- the column is free, and the prices fall by what the ceilings are too high by
+    -- column `end` is free, and prices fall to their ceilings less the room at `end`
     module _ (free : IsFree holders end) {by : ℤ} (by_is : by ≡ room_at ceilings prices end) (prices' : List ℤ)
         (lowered : (j : ℕ) → j < n → price_at prices' j ≡ int_min (price_at prices j) (price_at ceilings j -ℤ by)) where
-      -- outside of the tree prices stay
+      -- outside the tree prices stay
       price_stays : (j : ℕ) → j < n → has_column reached j ≡ false → price_at prices' j ≡ price_at prices j
       price_stays j lt h = omega (arith, ints, clamps, nearest.least j lt h, lowered j lt)
 
-      -- one row more has a column
-      pub ends : IsSolvedTo n cost prices' plan' (root + 1)
-      ends = record {
+      -- one more row has a column
+      pub IsSolvedTo-with_root : IsSolvedTo n cost prices' plan' (root + 1)
+      IsSolvedTo-with_root = record {
         places = length-set plan end (Some from) ∙ plan_is.places;
         rows = rows_still;
         seated = λ i lt. seated_still i (omega arith) (λ h. none-some i (sym free ∙ h));
@@ -183,13 +191,13 @@ module _ {n root : ℕ} {cost : List (List ℕ)} {prices ceilings : List ℤ} {h
             let more = count_at_most is_some is_some None None plan holders size (λ j h. sym (plan_is.taken j) ∙ h) in
             let fewer = count_at_most is_some is_some None None holders plan (sym size) (λ j h. plan_is.taken j ∙ h) in
             grind (arith, count-set plan end (Some from) has_end, plan_is.taken end, solved.count, free);
-        cheapest = λ i j h k lt. elim (now_at j h) [
+        cheapest = λ i j h k lt. elim (plan-cases j h) [
           | inl here ↦
               let least = grown.cheapest end nearest.within nearest.outside k lt in
               let stays = price_stays end nearest.within nearest.outside in
               rw (here.0, ← same_Some from i here.1) (omega (arith, ints, clamps, lowered k lt))
           | inr there ↦
-              let lt' : j < n = omega (arith, within plan j i there.1, plan_is.places) in
+              let lt' : j < n = omega (arith, length-Has plan j i there.1, plan_is.places) in
               elim (cases_Bool (has_column reached j)) [
                 | inl inside ↦
                     let least = plan_is.cheapest i j lt' inside there.1 k lt in
@@ -200,8 +208,9 @@ module _ {n root : ℕ} {cost : List (List ℕ)} {prices ceilings : List ℤ} {h
                     omega (arith, ints, clamps, price_stays j lt' out, lowered k lt)
               ]
         ];
-        free = λ j lt h. grind (arith, now_at j h, plan_is.taken j, outside j, price_stays j lt, solved.free j lt);
-        zero = (end, nearest.within, price_stays end nearest.within nearest.outside ∙ solved.free end nearest.within free);
+        free = λ j lt h. grind (arith, plan-cases j h, plan_is.taken j, outside j, price_stays j lt, solved.free j lt);
+        zero =
+            (end, nearest.within, price_stays end nearest.within nearest.outside ∙ solved.free end nearest.within free);
         high = λ j lt. omega (arith, ints, clamps, lowered j lt, solved.high j lt);
         low = λ j lt.
             let zero = solved.free end nearest.within free in
@@ -209,30 +218,31 @@ module _ {n root : ℕ} {cost : List (List ℕ)} {prices ceilings : List ℤ} {h
             omega (arith, ints, clamps, lowered j lt, solved.low j lt, grown.close.between j lt);
       }
 
--- the root has been compared with all columns
-module _ {n root : ℕ} {cost : List (List ℕ)} {prices ceilings ceilings' : List ℤ} {holders : List (Option ℕ)} {reached : List Bool}
-    {near near' : List ℕ} (few : n ≤ 32) (root_in : root < n) (costs : CostsAtMost 4 cost)
+-- the tree of the root alone, which has been compared with all columns
+module _ {n root : ℕ} {cost : List (List ℕ)} {prices ceilings ceilings' : List ℤ} {holders : List (Option ℕ)}
+    {reached : List Bool} {near near' : List ℕ} (few : n ≤ 32) (root_in : root < n) (costs : CostsAtMost 4 cost)
     (solved : IsSolvedTo n cost prices holders root) (places : length reached ≡ n)
-    (none : (j : ℕ) → has_column reached j ≡ false) (long : length ceilings ≡ n) (far : All (λ s. s ≡ pos 32767) ceilings)
+    (none : (j : ℕ) → has_column reached j ≡ false) (long : length ceilings ≡ n)
+    (far : All (λ s. s ≡ pos 32767) ceilings)
     (compared : AreCompared n cost reached root (pos 0) near ceilings near' ceilings') where
-  -- the first ceiling is far above each one that a cost gives
-  is_root : (j : ℕ) → j < n → (get_or near' j 0 ≡ root) × (price_at ceilings' j ≡ pos (cost_at cost root j))
-  is_root j lt = grind (arith, ints, compared.at j lt, cost_at_most, far)
+  -- the root is nearest to every column, as the first ceilings are far above every cost
+  near-root : (j : ℕ) → j < n → (get_or near' j 0 ≡ root) × (price_at ceilings' j ≡ pos (cost_at cost root j))
+  near-root j lt = grind (arith, ints, compared.at j lt, cost_at_most, far)
 
-  pub first_grown : {plans : List (List (Option ℕ))} → length plans ≡ n → get_or plans root [] ≡ holders →
+  pub IsGrown-root_alone : {plans : List (List (Option ℕ))} → length plans ≡ n → get_or plans root [] ≡ holders →
       IsGrown n cost prices holders root reached ceilings' near' plans
-  first_grown plan_places plan = record {
+  IsGrown-root_alone plan_places plan = record {
     places = places;
     plan_places = plan_places;
     close = record {
       low = λ j lt. omega (arith, ints, solved.low j lt);
-      between = λ j lt. omega (arith, ints, solved.high j lt, (is_root j lt).1);
-      high = λ j lt. omega (arith, ints, (is_root j lt).1, cost_at_most cost costs root j);
+      between = λ j lt. omega (arith, ints, solved.high j lt, (near-root j lt).1);
+      high = λ j lt. omega (arith, ints, (near-root j lt).1, cost_at_most cost costs root j);
     };
     taken = λ j h. absurd (false≢true (sym (none j) ∙ h));
     ordered = λ j k _ _ h. absurd (false≢true (sym (none j) ∙ h));
-    cheapest = λ j lt _ k lt'. rw (is_root j lt).0 (omega (arith, ints, (is_root j lt).1, (is_root k lt').1));
-    plan = λ j lt _. rw ((is_root j lt).0, plan) record {
+    cheapest = λ j lt _ k lt'. rw (near-root j lt).0 (omega (arith, ints, (near-root j lt).1, (near-root k lt').1));
+    plan = λ j lt _. rw ((near-root j lt).0, plan) record {
       places = solved.places;
       out_in_range = root_in;
       rows = solved.rows;

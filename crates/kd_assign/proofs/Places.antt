@@ -1,18 +1,19 @@
--- What stands at a place, and after a write.
-use Rattle.std.proofs.Common.{◌≡◌, ◌≢◌, ℕ, suc, ◌+◌, ◌<◌, ◌≤◌, List, [], ◌∷◌, length, get_or, set, Bool, true, false, Option, Some, None, is_some, count_by, cond, ◌⊎◌, refl, arith}
+-- Lists of holders: which columns are taken, and what a write changes.
+use Rattle.std.proofs.Common.{◌≡◌, ◌≢◌, ℕ, suc, ◌+◌, ◌<◌, ◌≤◌, List, [], ◌∷◌, length, get_or, set, Bool, true, false}
+use Rattle.std.proofs.Common.{Option, Some, None, is_some, count_by, cond, ◌⊎◌, refl, arith}
 use Rattle.kd_assign.proofs.Prelude.{cases_eq, cases_lt, get_or_past, get_or-set_same, get_or-set_other, sum_by-set}
 use Rattle.kd_assign.proofs.Prelude.{none-some, sum_by-cons, Has, IsFree, has_column}
 
--- a column that has a row is a column of the list
-pub within : (xs : List (Option ℕ)) (j i : ℕ) → Has xs j i → j < length xs
-within xs j i h = grind (arith, cases_lt, get_or_past, none-some)
+-- a taken column is a column of the list
+pub length-Has : (xs : List (Option ℕ)) (j i : ℕ) → Has xs j i → j < length xs
+length-Has xs j i h = grind (arith, cases_lt, get_or_past, none-some)
 
--- after a write a column has what was written, or what it had
-pub written : (xs : List (Option ℕ)) (k : ℕ) (v w : Option ℕ) (j : ℕ) → k < length xs →
+-- after a write to `k`, column `k` has what was written, and every other column what it had
+pub get_or-set-cases : (xs : List (Option ℕ)) (k : ℕ) (v w : Option ℕ) (j : ℕ) → k < length xs →
     get_or (set xs k v) j None ≡ w → ((j ≡ k) × (v ≡ w)) ⊎ ((j ≢ k) × (get_or xs j None ≡ w))
-written xs k v w j h e = grind (arith, cases_eq, get_or-set_same, get_or-set_other)
+get_or-set-cases xs k v w j h e = grind (arith, cases_eq, get_or-set_same, get_or-set_other)
 
--- how a write changes the number of columns that are taken
+-- how a write changes the number of taken columns
 pub count-set : (xs : List (Option ℕ)) (k : ℕ) (v : Option ℕ) → k < length xs →
     count_by is_some (set xs k v) + cond (is_some (get_or xs k None)) 1 0 ≡ count_by is_some xs + cond (is_some v) 1 0
 count-set xs k v h = sum_by-set (λ x. cond (is_some x) 1 0) xs k v None h
@@ -21,7 +22,7 @@ pub count-reached : (reached : List Bool) (k : ℕ) → k < length reached → h
     count_by (λ r. r) (set reached k true) ≡ count_by (λ r. r) reached + 1
 count-reached reached k h e = grind (arith, sum_by-set (λ (r : Bool). cond r 1 0) reached k true false h)
 
--- where not all columns are taken, one is free
+-- if not all columns are taken, one is free
 pub free_column : (xs : List (Option ℕ)) → count_by is_some xs < length xs → (j : ℕ) × (j < length xs) × IsFree xs j
 free_column [] h = absurd (omega arith)
 free_column (None ∷ xs) h = (0, omega arith, refl)
@@ -30,9 +31,10 @@ free_column (Some i ∷ xs) h =
     let rest = free_column xs (omega arith) in
     (suc rest.0, omega (arith, rest.1), rest.2)
 
--- where each that passes one test passes the other, as many pass it
+-- if `ys` passes `q` wherever `xs` passes `p`, at least as many of `ys` pass
 pub count_at_most : {X Y : Type 0} (p : X → Bool) (q : Y → Bool) (d : X) (e : Y) (xs : List X) (ys : List Y) →
-    length xs ≡ length ys → ((j : ℕ) → p (get_or xs j d) ≡ true → q (get_or ys j e) ≡ true) → count_by p xs ≤ count_by q ys
+    length xs ≡ length ys → ((j : ℕ) → p (get_or xs j d) ≡ true → q (get_or ys j e) ≡ true)
+    → count_by p xs ≤ count_by q ys
 count_at_most p q d e [] [] same passes = omega arith
 count_at_most p q d e (x ∷ xs) (y ∷ ys) same passes =
     let rest = count_at_most p q d e xs ys (omega arith) (λ j. passes (suc j)) in

@@ -1,5 +1,6 @@
 -- Sums of prices over one-to-one assignments.
-use Rattle.std.proofs.Common.{◌≡◌, ◌≢◌, ℕ, zero, suc, ◌+◌, ◌<◌, List, [], ◌∷◌, length, get_or, set, map, All, AllPairs, ℤ, eqb, false, pos, ◌+ℤ◌, ◌≤ℤ◌, refl, sym, arith}
+use Rattle.std.proofs.Common.{◌≡◌, ◌≢◌, ℕ, zero, suc, ◌+◌, ◌<◌, List, [], ◌∷◌, length, get_or, set, map, All, AllPairs}
+use Rattle.std.proofs.Common.{ℤ, eqb, false, pos, ◌+ℤ◌, ◌≤ℤ◌, refl, sym, arith}
 use Rattle.{kd_assign.specs.Cheapest.FittingPricesBoundCosts, std.proofs.lemmas.Bool.Decides.Decides-eqb}
 use Rattle.std.proofs.lemmas.List.{Folds.Any-from_list_any, Folds.list_any_at, Kept.AllPairs-cons}
 use Rattle.std.proofs.lemmas.Map.{Made.IsDistinct-from_AllPairs, Steps.length-le_from_distinct_below}
@@ -7,71 +8,76 @@ use Rattle.std.specs.List.{list_any}
 use Rattle.kd_assign.proofs.Prelude.{cases_eq, eq-eqb, eqb-true, ints, get_or-set_other, get_or-set_same}
 use Rattle.kd_assign.proofs.Prelude.{get_or_past, length-set, cost_at, price_at, sum_of, IsOneToOne, assignment_cost}
 
--- one price less
+-- the sum without price `j`
 sum_of-set : (xs : List ℤ) (j : ℕ) → j < length xs → (price_at xs j +ℤ sum_of (set xs j (pos 0))) ≡ sum_of xs
 sum_of-set [] j h = absurd (omega arith)
 sum_of-set (x ∷ xs) zero h = omega (arith, ints)
 sum_of-set (x ∷ xs) (suc j) h = let e = sum_of-set xs j (omega arith) in omega (arith, ints)
 
--- none left
-sum_of_none : (xs : List ℤ) → ((j : ℕ) → price_at xs j ≡ pos 0) → sum_of xs ≡ pos 0
-sum_of_none [] none = refl
-sum_of_none (x ∷ xs) none = let rest = sum_of_none xs (λ j. none (suc j)) in omega (arith, ints, none 0)
+-- a sum of zeros is 0
+sum_of-zeros : (xs : List ℤ) → ((j : ℕ) → price_at xs j ≡ pos 0) → sum_of xs ≡ pos 0
+sum_of-zeros [] none = refl
+sum_of-zeros (x ∷ xs) none = let rest = sum_of-zeros xs (λ j. none (suc j)) in omega (arith, ints, none 0)
 
--- where each price that is left is that of one of the columns, these are paid once
-prices_once : (col left : List ℤ) (to : List ℕ) → All (λ j. j < length left) to → AllPairs (λ j k. j ≢ k) to →
+-- the prices of the columns in `to` add up to those in `left`, if `left` has these prices and else zeros
+sum_of-left : (col left : List ℤ) (to : List ℕ) → All (λ j. j < length left) to → AllPairs (λ j k. j ≢ k) to →
     ((i : ℕ) → i < length to → price_at left (get_or to i 0) ≡ price_at col (get_or to i 0)) →
     ((j : ℕ) → list_any (eqb j) to ≡ false → price_at left j ≡ pos 0) →
     sum_of (map (price_at col) to) ≡ sum_of left
-prices_once col left [] below distinct same none = sym (sum_of_none left (λ j. none j refl))
-prices_once col left (j ∷ to) below distinct same none =
+sum_of-left col left [] below distinct same none = sym (sum_of-zeros left (λ j. none j refl))
+sum_of-left col left (j ∷ to) below distinct same none =
     let within = below 0 0 (omega arith) in
-    let rest = prices_once col (set left j (pos 0)) to
+    let rest = sum_of-left col (set left j (pos 0)) to
     (λ i d h. rw length-set (below (suc i) d (omega arith)))
     (λ i k d h g. distinct (suc i) (suc k) d (omega arith) (omega arith))
     (λ i h. grind (arith, get_or-set_other, distinct 0 (suc i) 0, same (suc i)))
     (λ k h. grind (arith, cases_eq, get_or-set_same, get_or-set_other, none k, eqb-true)) in
     omega (arith, ints, same 0 (omega arith), sum_of-set left j within)
 
--- n different columns of n are all of them
+-- an assignment of `n` rows to `n` columns misses no column
 all_columns : (to : List ℕ) → IsOneToOne to → (j : ℕ) → j < length to → list_any (eqb j) to ≡ false → ⊥
 all_columns to once j within misses =
     let other : All (λ k. j ≢ k) to = λ k d h e. grind (arith, list_any_at (eqb j) to k d h, eq-eqb) in
     let distinct = AllPairs-cons (λ i k. i ≢ k) j to other once.distinct in
-    let few = length-le_from_distinct_below (j ∷ to) (length to) (IsDistinct-from_AllPairs Decides-eqb (j ∷ to) distinct)
+    let few =
+    length-le_from_distinct_below (j ∷ to) (length to) (IsDistinct-from_AllPairs Decides-eqb (j ∷ to) distinct)
     (λ q h. grind (arith, Any-from_list_any, eqb-true, once.in_range)) in
     omega arith
 
--- one-to-one, an assignment takes each column's price once
+-- a one-to-one assignment takes each column's price once
 sum_of-columns : (col : List ℤ) (to : List ℕ) → length col ≡ length to → IsOneToOne to →
     sum_of (map (price_at col) to) ≡ sum_of col
-sum_of-columns col to e once = grind (arith, prices_once, length, all_columns, get_or_past)
+sum_of-columns col to e once = grind (arith, sum_of-left, length, all_columns, get_or_past)
 
--- what holds of two prices and their cost, row by row, holds of the sums
+-- a relation between a row's two prices and its cost holds between their sums too
 module _ (R : ℤ → ℤ → Type 0) (none : R (pos 0) (pos 0))
     (adds : (r s c t : ℤ) (k l : ℕ) → R (r +ℤ c) (pos k) → R (s +ℤ t) (pos l) → R ((r +ℤ s) +ℤ (c +ℤ t)) (pos (k + l)))
     (col : List ℤ) where
   abbrev HoldsOfRows : List (List ℕ) → List ℤ → List ℕ → Type 0
   HoldsOfRows cost row to =
-      (i : ℕ) → i < length to → R (price_at row i +ℤ price_at col (get_or to i 0)) (pos (cost_at cost i (get_or to i 0)))
+      (i : ℕ) → i < length to
+      → R (price_at row i +ℤ price_at col (get_or to i 0)) (pos (cost_at cost i (get_or to i 0)))
 
-  by_rows : (cost : List (List ℕ)) (row : List ℤ) (to : List ℕ) → length row ≡ length to → length cost ≡ length to →
+  sums-by_rows : (cost : List (List ℕ)) (row : List ℤ) (to : List ℕ) → length row ≡ length to
+      → length cost ≡ length to →
       HoldsOfRows cost row to → R (sum_of row +ℤ sum_of (map (price_at col) to)) (pos (assignment_cost cost to))
-  by_rows [] [] [] e f each = none
-  by_rows (line ∷ cost) (r ∷ row) (j ∷ to) e f each =
-      let rest = by_rows cost row to (omega arith) (omega arith) (λ i h. each (suc i) (omega arith)) in
+  sums-by_rows [] [] [] e f each = none
+  sums-by_rows (line ∷ cost) (r ∷ row) (j ∷ to) e f each =
+      let rest = sums-by_rows cost row to (omega arith) (omega arith) (λ i h. each (suc i) (omega arith)) in
       adds r _ _ _ _ _ (each 0 (omega arith)) rest
-  by_rows _ _ _ e f each = absurd (omega arith)
+  sums-by_rows _ _ _ e f each = absurd (omega arith)
 
-  -- with each column's price once
-  pub by_sums : (cost : List (List ℕ)) (row : List ℤ) (to : List ℕ) → length row ≡ length to → length col ≡ length to →
+  -- for a one-to-one assignment, with the sum of all columns' prices
+  pub sums-one_to_one : (cost : List (List ℕ)) (row : List ℤ) (to : List ℕ) → length row ≡ length to
+      → length col ≡ length to →
       length cost ≡ length to → HoldsOfRows cost row to → IsOneToOne to →
       R (sum_of row +ℤ sum_of col) (pos (assignment_cost cost to))
-  by_sums cost row to rows columns lines each once =
-      rw (← sum_of-columns col to columns once) (by_rows cost row to rows lines each)
+  sums-one_to_one cost row to rows columns lines each once =
+      rw (← sum_of-columns col to columns once) (sums-by_rows cost row to rows lines each)
 
--- row by row prices fit
+-- the relation is `≤` here: prices that fit are row by row at most the cost
 pub fitting_prices_bound_costs : FittingPricesBoundCosts
 fitting_prices_bound_costs cost row col to rows columns lines fits once =
-    by_sums (λ x y. x ≤ℤ y) (omega (arith, ints)) (λ r s c t k l h g. omega (arith, ints)) col cost row to rows columns
+    sums-one_to_one (λ x y. x ≤ℤ y) (omega (arith, ints))
+    (λ r s c t k l h g. omega (arith, ints)) col cost row to rows columns
     lines (λ i h. fits i _ (omega arith) (omega (arith, once.in_range i 0 h))) once

@@ -1,12 +1,12 @@
--- An assignment of rows to columns: a list that has the column of each row.
+-- An assignment of rows to columns: the list of each row's column.
 use Rattle.std.specs.Prelude.{ℕ, ◌+◌, ◌<◌, ◌≢◌, List, [], ◌∷◌, length, slice_index, All, AllPairs}
 
--- each row has a column, and no two rows have the same
+-- each row has a column, and no two rows have the same one
 pub record IsOneToOne (to : List ℕ) : Type 0 where
   pub in_range : All (λ j. j < length to) to
   pub distinct : AllPairs (λ j k. j ≢ k) to
 
--- what each row costs at its column, added up
+-- the cost of an assignment: the sum of each row's cost at its column
 abbrev pub assignment_cost : List (List ℕ) → List ℕ → ℕ
 assignment_cost [] to = 0
 assignment_cost (line ∷ cost) [] = 0

@@ -1,15 +1,15 @@
--- Why prices prove an assignment cheapest.
+-- Why prices prove that an assignment has the least cost.
 use Rattle.std.specs.Prelude.{◌≡◌, ℕ, ◌≤◌, List, length, ℤ, pos, ◌≤ℤ◌}
 use Rattle.kd_assign.specs.Prices.{Fits, price_sum}
 use Rattle.kd_assign.specs.Assignment.{IsOneToOne, assignment_cost}
 
--- where prices fit, every one-to-one assignment costs at least their sum
+-- if prices fit, every one-to-one assignment costs at least their sum
 abbrev pub FittingPricesBoundCosts : Type 0
 FittingPricesBoundCosts =
     (cost : List (List ℕ)) (row col : List ℤ) (to : List ℕ) →
     length row ≡ length to → length col ≡ length to → length cost ≡ length to →
     Fits cost row col → IsOneToOne to → price_sum row col ≤ℤ pos (assignment_cost cost to)
 
--- every one-to-one assignment costs at least this
+-- every one-to-one assignment costs at least `total`
 abbrev pub IsLeastCost : List (List ℕ) → ℕ → Type 0
 IsLeastCost cost total = (to : List ℕ) → length to ≡ length cost → IsOneToOne to → total ≤ assignment_cost cost to

@@ -1,12 +1,13 @@
--- How many comparisons it takes to grow trees in a table of n rows and n columns.
+-- How many comparisons it takes to grow trees in a table of `n` rows and `n` columns.
 use Rattle.std.specs.Prelude.{ℕ, zero, suc, ◌+◌, ◌-◌}
 
--- in a tree that so many rows have joined: the root is compared with all columns, and each further row with one column less
+-- the comparisons of a tree of `rows` rows: the root is compared with all `n` columns, each further row with
+-- one column less
 abbrev pub scans_of_tree : ℕ → ℕ → ℕ
 scans_of_tree n zero = 0
 scans_of_tree n (suc rows) = scans_of_tree n rows + (n - rows)
 
--- in so many trees, where each is joined by all rows up to its root
+-- the comparisons of `trees` trees: the first has one row, each further tree one row more
 abbrev pub scans_of_trees : ℕ → ℕ → ℕ
 scans_of_trees n zero = 0
 scans_of_trees n (suc trees) = scans_of_trees n trees + scans_of_tree n (suc trees)

@@ -1,40 +1,49 @@
--- A tree of rows and columns, grown from a row that has no column yet.
-use Rattle.std.specs.Prelude.{◌≡◌, ◌≢◌, ℕ, ◌<◌, ◌≤◌, Bool, false, true, List, [], length, slice_index, Option, None, is_some, slice_index_or, ◌⊎◌, ℤ, pos, neg_ℤ, ◌+ℤ◌, ◌-ℤ◌, ◌≤ℤ◌}
+-- A tree of rows and columns, as in the Hungarian method, grown from a row that has no column yet. Each column
+-- has a ceiling: the price at which the row of the tree that is nearest to it would take it.
+use Rattle.std.specs.Prelude.{◌≡◌, ◌≢◌, ℕ, ◌<◌, ◌≤◌, Bool, false, true, List, [], length, slice_index, Option, None}
+use Rattle.std.specs.Prelude.{is_some, slice_index_or, ◌⊎◌, ℤ, pos, neg_ℤ, ◌+ℤ◌, ◌-ℤ◌, ◌≤ℤ◌}
 use Rattle.kd_assign.specs.Prices.{cost_at, price_at}
 use Rattle.kd_assign.specs.Solved.{Has, IsCheapest, IsSeated}
 
--- whether the tree has column j
+-- the tree has column `j`
 abbrev pub has_column : List Bool → ℕ → Bool
 has_column reached j = slice_index_or reached j false
 
--- how much less than its ceiling the price of column j is
+-- how far the price of column `j` lies below its ceiling
 abbrev pub room_at : List ℤ → List ℤ → ℕ → ℤ
 room_at ceilings prices j = price_at ceilings j -ℤ price_at prices j
 
--- ceilings that are not below the prices, and all within a small range
+-- no ceiling is below its price, and all prices and ceilings lie between -128 and 4
 pub record AreClose (n : ℕ) (prices ceilings : List ℤ) : Type 0 where
   pub low : (j : ℕ) → j < n → neg_ℤ (pos 128) ≤ℤ price_at prices j
   pub between : (j : ℕ) → j < n → price_at prices j ≤ℤ price_at ceilings j
   pub high : (j : ℕ) → j < n → price_at ceilings j ≤ℤ pos 4
 
--- the nearest column outside of the tree
+-- `end` is the column outside the tree whose price lies least below its ceiling
 pub record IsNearest (n : ℕ) (prices : List ℤ) (reached : List Bool) (ceilings : List ℤ) (end : ℕ) : Type 0 where
   pub within : end < n
   pub outside : has_column reached end ≡ false
   pub least : (j : ℕ) → j < n → has_column reached j ≡ false → room_at ceilings prices end ≤ℤ room_at ceilings prices j
 
--- a column was compared with a row: it keeps the row and the ceiling that it had, or takes these, and the ceiling is the lesser one; a column of the tree keeps them
-pub record IsCompared (reached : Bool) (row : ℕ) (offer : ℤ) (near : ℕ) (ceiling : ℤ) (near' : ℕ) (ceiling' : ℤ) : Type 0 where
+-- A column was compared with `row`, which would take it at the price `offer`. Outside the tree the column keeps
+-- the lower one of `ceiling` and `offer`, and the row that it comes from; in the tree it keeps what it had.
+pub record IsCompared (reached : Bool) (row : ℕ) (offer : ℤ) (near : ℕ) (ceiling : ℤ)
+    (near' : ℕ) (ceiling' : ℤ) : Type 0 where
   pub one : ((near' ≡ near) × (ceiling' ≡ ceiling)) ⊎ ((reached ≡ false) × (near' ≡ row) × (ceiling' ≡ offer))
   pub least : ceiling' ≤ℤ ceiling
   pub here : reached ≡ false → ceiling' ≤ℤ offer
 
--- so was each column, where a cost adds to the level of the row
-pub record AreCompared (n : ℕ) (cost : List (List ℕ)) (reached : List Bool) (row : ℕ) (level : ℤ) (near : List ℕ) (ceilings : List ℤ) (near' : List ℕ) (ceilings' : List ℤ) : Type 0 where
-  pub at : (j : ℕ) → j < n → IsCompared (has_column reached j) row (level +ℤ pos (cost_at cost row j)) (slice_index near j) (price_at ceilings j) (slice_index near' j) (price_at ceilings' j)
+-- each column was compared with `row`, whose offer is `level` plus its cost at the column
+pub record AreCompared (n : ℕ) (cost : List (List ℕ)) (reached : List Bool) (row : ℕ) (level : ℤ) (near : List ℕ)
+    (ceilings : List ℤ) (near' : List ℕ) (ceilings' : List ℤ) : Type 0 where
+  pub at : (j : ℕ) → j < n
+      → IsCompared (has_column reached j) row (level +ℤ pos (cost_at cost row j))
+      (slice_index near j) (price_at ceilings j) (slice_index near' j) (price_at ceilings' j)
 
-module _ (n : ℕ) (cost : List (List ℕ)) (prices : List ℤ) (holders : List (Option ℕ)) (root : ℕ) (reached : List Bool) (ceilings : List ℤ) where
-  -- all rows up to the root but one have columns: those of the tree are cheapest at the ceilings, and the others as before
+module _ (n : ℕ) (cost : List (List ℕ)) (prices : List ℤ) (holders : List (Option ℕ)) (root : ℕ) (reached : List Bool)
+    (ceilings : List ℤ) where
+  -- `plan` has a column for each row up to the root but `out`. In the tree's columns each row is in the
+  -- cheapest one at the ceilings; outside the tree `plan` agrees with `holders`.
   pub record IsPlan (plan : List (Option ℕ)) (out : ℕ) : Type 0 where
     pub places : length plan ≡ n
     pub out_in_range : out < n
@@ -44,12 +53,15 @@ module _ (n : ℕ) (cost : List (List ℕ)) (prices : List ℤ) (holders : List 
     pub same : (j : ℕ) → has_column reached j ≡ false → slice_index_or plan j None ≡ slice_index_or holders j None
     pub taken : (j : ℕ) → is_some (slice_index_or plan j None) ≡ is_some (slice_index_or holders j None)
 
-  -- each column of the tree has a row, and was nearer than those outside; each one outside is cheapest for the row that is nearest to it, and there is a plan for when that row takes it
+  -- Each column of the tree is taken, and was nearer than those outside. Each column outside is the cheapest
+  -- one for its nearest row; `plans` has a plan that leaves this row free to take it.
   pub record IsGrown (near : List ℕ) (plans : List (List (Option ℕ))) : Type 0 where
     pub places : length reached ≡ n
     pub plan_places : length plans ≡ n
     pub close : AreClose n prices ceilings
     pub taken : (j : ℕ) → has_column reached j ≡ true → is_some (slice_index_or holders j None) ≡ true
-    pub ordered : (j k : ℕ) → j < n → k < n → has_column reached j ≡ true → has_column reached k ≡ false → room_at ceilings prices j ≤ℤ room_at ceilings prices k
+    pub ordered : (j k : ℕ) → j < n → k < n → has_column reached j ≡ true → has_column reached k ≡ false
+        → room_at ceilings prices j ≤ℤ room_at ceilings prices k
     pub cheapest : (j : ℕ) → j < n → has_column reached j ≡ false → IsCheapest n cost ceilings (slice_index near j) j
-    pub plan : (j : ℕ) → j < n → has_column reached j ≡ false → IsPlan (slice_index_or plans (slice_index near j) []) (slice_index near j)
+    pub plan : (j : ℕ) → j < n → has_column reached j ≡ false
+        → IsPlan (slice_index_or plans (slice_index near j) []) (slice_index near j)

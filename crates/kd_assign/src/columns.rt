@@ -1,10 +1,10 @@
-//! The columns of all rows, and what they cost.
+//! What follows from a finished assignment: each row's column, its price, and the cost.
 ghost use Rattle.std.specs.Prelude.{◌≡◌, ℕ, ◌<◌, ◌≤◌, length, slice_index, pos, neg_ℤ, ◌-ℤ◌, ◌≤ℤ◌};
 ghost use Rattle.kd_assign.specs.Assignment.{IsOneToOne, assignment_cost};
 ghost use Rattle.kd_assign.specs.Prices.{CostsAtMost, cost_at, price_at};
 ghost use Rattle.kd_assign.specs.Solved.{Has, IsSeated};
 
-/// The column of each row.
+/// Turns `holders`, the row of each column, into the column of each row.
 pub fn columns_of<const N: usize>(holders: &[Option<usize>; N]) -> [u8; N]
     requires few { N ≤ 32 }
     requires rows { (i j : ℕ) → Has holders.now j i → i < N }
@@ -22,7 +22,7 @@ pub fn columns_of<const N: usize>(holders: &[Option<usize>; N]) -> [u8; N]
     columns
 }
 
-/// What each row's cost at its column leaves above the price of the column.
+/// The price of each row: its cost at its column, less the price of the column.
 pub fn row_prices<const N: usize>(cost: &[[u8; N]; N], prices: &[i16; N], to: &[u8; N]) -> [i16; N]
     requires few { N ≤ 32 }
     requires costs { CostsAtMost 4 cost.now }
@@ -41,7 +41,7 @@ pub fn row_prices<const N: usize>(cost: &[[u8; N]; N], prices: &[i16; N], to: &[
     rows
 }
 
-/// What an assignment costs.
+/// The cost of the assignment `to`.
 pub fn cost_of<const N: usize>(cost: &[[u8; N]; N], to: &[u8; N]) -> u16
     requires few { N ≤ 32 }
     requires costs { CostsAtMost 4 cost.now }

@@ -1,4 +1,4 @@
-//! A column for one more row.
+//! Growing a tree that gives one more row a column.
 ghost use Rattle.std.specs.Prelude.{◌≡◌, ℕ, ◌+◌, ◌^◌, ◌<◌, ◌≤◌, length, ℤ, pos, neg_ℤ, ◌+ℤ◌, ◌-ℤ◌, ◌≤ℤ◌};
 ghost use Rattle.std.specs.Int.{int_min};
 ghost use Rattle.kd_assign.specs.Prices.{CostsAtMost, price_at};
@@ -8,10 +8,11 @@ ghost use Rattle.kd_assign.specs.Solved.{IsSolvedTo};
 use crate::nearest::Nearest;
 use crate::scans::Scans;
 
-/// Gives a column to the next row, and moves other rows to other columns where that is cheapest.
-/// A tree of rows and columns grows from the row. It gains the column that is nearest to it, and
-/// the row that has this column, until a column is free. For each of its rows it keeps which row
-/// would have each column if that row had none and all others had one.
+/// Gives the row `root` a column, and moves other rows where this costs the least.
+///
+/// A tree of rows and columns grows from `root`. In each round the nearest column joins, and the row that holds
+/// this column. A free column ends the growth. For each row of the tree, `plans` keeps an assignment that
+/// leaves only this row without a column.
 pub fn assign_row<const N: usize>(
     cost: &[[u8; N]; N],
     prices: &mut [i16; N],
@@ -55,7 +56,7 @@ pub fn assign_row<const N: usize>(
     }
 }
 
-/// Lowers the price of each column to its ceiling, less what all ceilings are too high by.
+/// Lowers the price of each column to its ceiling less `by`, if the price is above that.
 fn lower<const N: usize>(prices: &mut [i16; N], ceilings: &[i16; N], by: i16)
     requires low { (j : ℕ) → j < N → neg_ℤ (pos 128) ≤ℤ price_at ceilings.now j }
     requires by { pos 0 ≤ℤ by }

@@ -1,7 +1,7 @@
-//! What holds of the definitions alone.
+//! The law that fitting prices bound the cost of every assignment from below.
 ghost use Rattle.kd_assign.specs.Cheapest.{FittingPricesBoundCosts};
 
-/// Where prices fit, every one-to-one assignment costs at least their sum.
+/// If prices fit, every one-to-one assignment costs at least their sum.
 #[tactic(auto, using(crate::proofs::Sums::fitting_prices_bound_costs))]
 pub fn fitting_prices_bound_costs()
     ensures { FittingPricesBoundCosts }

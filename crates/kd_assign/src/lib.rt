@@ -1,4 +1,4 @@
-//! A cheapest one-to-one assignment for a square table of costs, with the prices that prove it cheapest.
+//! A minimum-cost assignment for a square table of costs, with the prices that prove its cost least.
 #![tactic(auto)]
 
 mod columns;

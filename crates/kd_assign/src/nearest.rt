@@ -1,22 +1,25 @@
-//! How near each column is to a tree.
-ghost use Rattle.std.specs.Prelude.{◌≡◌, ℕ, ◌+◌, ◌^◌, ◌<◌, ◌≢◌, ◌⊎◌, false, if◌then◌else◌, Some, IfSome, IsSomeAnd, All, length, count_by, slice_index, ℤ, pos, neg_ℤ, ◌+ℤ◌, ◌-ℤ◌, ◌≤ℤ◌};
+//! For each column, how near it is to a tree and to which row of the tree.
+ghost use Rattle.std.specs.Prelude.{◌≡◌, ℕ, ◌+◌, ◌^◌, ◌<◌, ◌≢◌, ◌⊎◌, false, if◌then◌else◌, Some, IfSome, IsSomeAnd};
+ghost use Rattle.std.specs.Prelude.{All};
+ghost use Rattle.std.specs.Prelude.{length, count_by, slice_index, ℤ, pos, neg_ℤ, ◌+ℤ◌, ◌-ℤ◌, ◌≤ℤ◌};
 ghost use Rattle.kd_assign.specs.Prices.{CostsAtMost, cost_at, price_at};
 ghost use Rattle.kd_assign.specs.Tree.{AreClose, AreCompared, IsCompared, IsNearest, has_column, room_at};
 
 use crate::scans::Scans;
 
-/// For each column the row of a tree that is nearest to it.
+/// For each column, the row of a tree that is nearest to it.
 #[derive(Drop)]
 pub struct Nearest<const N: usize> {
     pub row: [usize; N],
-    /// The price of each column at which this row would take it: the column's slack is what its price
-    /// lies below that. All of them are too high by the same, which isn't known before the tree
-    /// reaches a free column.
+    /// The price at which this row would take each column.
+    ///
+    /// A column is nearest if its price lies least below its ceiling. All ceilings are too high by one amount,
+    /// which is known once the tree reaches a free column.
     pub ceiling: [i16; N],
 }
 
 impl<const N: usize> Nearest<N> {
-    /// Before any comparison: every column is as far as can be.
+    /// Creates the state before any comparison: every column is as far away as can be.
     pub fn new(root: usize) -> Self
         ensures far { All (λ s. s ≡ pos 32767) result.ceiling }
     {
@@ -26,7 +29,7 @@ impl<const N: usize> Nearest<N> {
         }
     }
 
-    /// Compares each column outside of the tree with the row that has just joined.
+    /// Compares each column outside the tree with `row`, which has just joined.
     pub fn join(
         &mut self,
         reached: &[bool; N],
@@ -52,7 +55,7 @@ impl<const N: usize> Nearest<N> {
         }
     }
 
-    /// Compares a column outside of the tree with the row, and keeps whichever is nearer.
+    /// If `column` is outside the tree, compares it with `row` and keeps the nearer row.
     fn compare(&mut self, reached: bool, row: usize, column: usize, offer: i16, scans: &mut Scans)
         requires column { column < N }
         requires room { scans.old < 4294967295 }
@@ -73,7 +76,7 @@ impl<const N: usize> Nearest<N> {
         }
     }
 
-    /// How much less than its ceiling the price of a column is.
+    /// How far the price of `column` lies below its ceiling.
     pub fn room(&self, prices: &[i16; N], column: usize) -> i16
         requires column { column < N }
         requires close { AreClose N prices.now self.now.ceiling }
@@ -82,8 +85,9 @@ impl<const N: usize> Nearest<N> {
         self.ceiling[column] - prices[column]
     }
 
-    /// What a row adds to its costs when it joins by the column that it has: then its cost there gives
-    /// the ceiling of that column.
+    /// What `row` adds to each of its costs as it joins the tree by its own `column`.
+    ///
+    /// Its cost at `column` and this level make the ceiling of `column`.
     pub fn level(&self, cost: &[[u8; N]; N], row: usize, column: usize) -> i16
         requires row { row < N }
         requires column { column < N }
@@ -97,7 +101,7 @@ impl<const N: usize> Nearest<N> {
         self.ceiling[column] - i16::from(cost[row][column])
     }
 
-    /// The nearest column outside of the tree.
+    /// The nearest column outside the tree.
     pub fn column(
         &self,
         reached: &[bool; N],
@@ -115,8 +119,10 @@ impl<const N: usize> Nearest<N> {
         least.unwrap()
     }
 
-    /// Of a column and another one the nearer one, where this isn't in the tree. Which of two equals
-    /// it is isn't promised: a free one serves better, since a tree ends there.
+    /// The nearer one of `first` and `second` if `second` is outside the tree, otherwise `first`.
+    ///
+    /// The contract doesn't say which one if both are equally near. A free column serves better, since the tree
+    /// ends there.
     fn nearer(
         &self,
         reached: &[bool; N],

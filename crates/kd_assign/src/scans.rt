@@ -1,10 +1,11 @@
-//! A count of comparisons, which only a comparison raises.
+//! A counter of comparisons, which only a comparison raises.
 ghost use Rattle.std.specs.Prelude.{◌≡◌, ℕ, ◌+◌, ◌<◌, ◌↔◌, IsTrue, ◌<ℤ◌};
 
 use std::marker::Model;
 
-/// How many slacks have been compared. The field is private to this module, so that a formula in
-/// the place of the count doesn't compile elsewhere.
+/// How many ceilings have been compared.
+///
+/// The field is private to this module, so that no other module can set the count by a formula.
 #[derive(Clone, Copy)]
 pub struct Scans {
     count: u32,
@@ -19,24 +20,24 @@ impl Model for Scans {
 }
 
 impl Scans {
-    /// No comparison yet.
+    /// Creates a counter without comparisons.
     pub fn new() -> Self
         ensures { result ≡ 0 }
     {
         Scans { count: 0 }
     }
 
-    /// Whether the new slack is less. This is one comparison, and it is counted.
-    pub fn closer(&mut self, slack: i16, new: i16) -> bool
+    /// Whether `offer` is below `ceiling`, counting this comparison.
+    pub fn closer(&mut self, ceiling: i16, offer: i16) -> bool
         requires room { self.old < 4294967295 }
-        ensures less { IsTrue result ↔ (new <ℤ slack) }
+        ensures less { IsTrue result ↔ (offer <ℤ ceiling) }
         ensures counted { self.new ≡ self.old + 1 }
     {
         self.count += 1;
-        new < slack
+        offer < ceiling
     }
 
-    /// How many comparisons were made.
+    /// The number of comparisons.
     pub fn count(self) -> u32
         ensures { result ≡ self }
     {

@@ -1,4 +1,4 @@
-//! The assignment that is answered, and its prices.
+//! Finds a minimum-cost assignment and its prices.
 ghost use Rattle.std.specs.Prelude.{◌≡◌, ◌+◌, ◌*◌, ◌/◌, ◌≤◌, All, pos, unsigned_abs};
 ghost use Rattle.kd_assign.specs.Assignment.{IsOneToOne, assignment_cost};
 ghost use Rattle.kd_assign.specs.Cheapest.{IsLeastCost};
@@ -8,7 +8,7 @@ use crate::columns::{columns_of, cost_of, row_prices};
 use crate::growth::assign_row;
 use crate::scans::Scans;
 
-/// A cheapest one-to-one assignment of rows to columns. Rows and columns are counted from 0.
+/// A minimum-cost assignment of rows to columns. Both are counted from 0.
 #[derive(Clone, Copy)]
 pub struct Solution<const N: usize> {
     /// The column of each row.
@@ -23,9 +23,10 @@ pub struct Solution<const N: usize> {
     pub scans: Scans,
 }
 
-/// Finds a cheapest one-to-one assignment by the Hungarian method of Kuhn and Munkres, in the form
-/// that grows a tree of tight edges from each row. An edge is tight where the two prices add up to
-/// its cost. Which of several cheapest assignments is answered is not promised.
+/// Finds a minimum-cost assignment by the Hungarian method of Kuhn and Munkres.
+///
+/// From each row it grows a tree of tight edges: those whose two prices add up to their cost. The contract
+/// doesn't say which one is found if several assignments cost the least.
 pub fn assign<const N: usize>(cost: &[[u8; N]; N]) -> Solution<N>
     requires some { 1 ≤ N }
     requires few { N ≤ 32 }

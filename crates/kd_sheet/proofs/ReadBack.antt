@@ -1,18 +1,18 @@
--- What is written of the parts of a machine, or of a day, is read as just these, and so is the file of a machine, line by
--- line; and each legal day is described by a table.
+-- Reading back what was written: the parts of a machine or a day, and a machine's file line by line. And each
+-- legal day is described by a table.
 pub mod Described
 unfoldable pub use Described.*
 
 -- ---- arrays of texts
 
--- an array of texts
+-- an array of these texts
 abbrev pub texts : List (List ℕ) → Data
 texts ts = array (items_of (map string ts))
 
 pub texts_read : (key : Key) (ts : List (List ℕ)) → items_in key (texts ts) ≡ Ok (map string ts)
 texts_read key ts = ap Ok (list_of-items_of (map string ts))
 
--- an array of so many texts, and one of so many at most, of which each is read as what it was
+-- an array of `count` texts, or of at most `count`, is read as `things` if each text is read as its thing
 module _ {X : Type 0} (key : Key) (count : ℕ) (text_of : X → List ℕ) (things : List X)
     (reading : List X → Data → Result X SheetFault)
     (each : (k : ℕ) (x : X) → slice_get things k ≡ Some x → reading (take k things) (string (text_of x)) ≡ Ok x) where
@@ -43,7 +43,8 @@ capitals_again count letters are = grind (arith, common_steps, letters_spelled, 
 pub window_again : (window : List ℕ) → AreOnWheels window → letters_on_wheels (letters_text window) ≡ Some window
 unfolding letters_on_wheels
 window_again window are =
-    rw (capitals_again 6 window (record { count = are.count; within = letters_below window are }), are_own window are) refl
+    rw (capitals_again 6 window (record { count = are.count; within = letters_below window are }), are_own window are)
+    refl
 
 -- ---- reflector and wheels
 
@@ -52,7 +53,7 @@ pub reflector_again : (model : Model) (reflector : Reflector) → has_reflector 
 unfolding reflector_by_name
 reflector_again model reflector e = grind arith
 
--- the seat may stand in an array at the key
+-- an array at `key` may have this seat: only a machine file leaves slots empty
 abbrev pub MayStand : Key → Option Wheel → Type 0
 MayStand key None = may_be_empty key ≡ true
 MayStand key (Some wheel) = Unit {0}
@@ -84,32 +85,32 @@ seats_in_again key model table slots there may seated =
 
 -- ---- cables and pairs
 
--- the cable as its text tells it, with a single letter first
+-- the cable with a single letter in its first end, as reading makes it
 abbrev pub single_first : Option ℕ × Option ℕ → Option ℕ × Option ℕ
 single_first cable = cable_of (cable_letters cable)
 
--- it has the same letters, and the same text
+-- with a single letter first, cables have the same letters and the same texts
 pub same_cables : (cables : List (Option ℕ × Option ℕ))
     → (plugged_letters (map single_first cables) ≡ plugged_letters cables)
     × (map cable_text (map single_first cables) ≡ map cable_text cables)
 same_cables [] = (refl, refl)
 same_cables (cable ∷ cables) = grind (arith, same_cables cables)
 
-abbrev IsTold : Option ℕ × Option ℕ → Type 0
-IsTold cable = single_first cable ≡ cable
+abbrev HasSingleFirst : Option ℕ × Option ℕ → Type 0
+HasSingleFirst cable = single_first cable ≡ cable
 
 pub cables_again : (cables : List (Option ℕ × Option ℕ)) → AreCables cables
     → up_to keys.Cables 13 cable_for (texts (map cable_text cables)) ≡ Ok (map single_first cables)
 unfolding cable_for letters_in_cable
 cables_again cables are =
-    let told = map single_first cables in
+    let read = map single_first cables in
     let same = (same_cables cables).0 in
-    let free : AreFree cable_letters told = record { within = rw same are.within; apart = rw same are.apart } in
-    let all : All IsTold told = All-map IsTold single_first cables (λ k d within. grind arith) in
+    let free : AreFree cable_letters read = record { within = rw same are.within; apart = rw same are.apart } in
+    let all : All HasSingleFirst read = All-map HasSingleFirst single_first cables (λ k d within. grind arith) in
     ap (λ ts. up_to keys.Cables 13 cable_for (texts ts)) (sym (same_cables cables).1)
-    ∙ up_to_again keys.Cables 13 cable_text told cable_for (λ k cable at.
-    let is = held IsTold told k cable all at in
-    let new = free_at cable_letters told k cable free at in
+    ∙ up_to_again keys.Cables 13 cable_text read cable_for (λ k cable at.
+    let is = held HasSingleFirst read k cable all at in
+    let new = free_at cable_letters read k cable free at in
     grind (arith, letters_spelled, recursion_from_All, new))
     (omega (arith, are.count, length-map cables single_first))
 
@@ -126,8 +127,6 @@ wheels_again : (wheels : List SheetWheel)
     → sheet_wheels (seats wheels) (map (λ w. w.ring) wheels) (map (λ w. w.letter) wheels) ≡ wheels
 wheels_again [] = refl
 wheels_again (w ∷ wheels) = ap (λ rest. w ∷ rest) (wheels_again wheels)
-
--- ---- rows
 
 -- ---- the tables
 
@@ -168,7 +167,7 @@ groups_in_again s legal =
     up_to_again keys.Groups 4 letters_text s.groups group_for (λ k group at.
     rw (capitals_again 3 group (held (AreLetters 3) s.groups k group legal.groups at)) refl) legal.few_groups
 
--- what each wheel has, the ring or the letter in the window
+-- the rings, or the window letters, of a legal day's wheels are letters of the alphabet, one for each slot
 parts_are : (s : RotorDay) → IsLegalRotorDay s → (part : SheetWheel → ℕ)
     → ((w : SheetWheel) → HasLetters w → part w < 26) → AreLetters (slots_of s.model) (map part s.wheels)
 parts_are s legal part low = record {
@@ -215,7 +214,7 @@ legal_is_described (OfPins s) legal =
 
 -- ---- texts in double quotes
 
--- a byte that a text in double quotes has as it is
+-- a printable ASCII byte that a quoted text holds without an escape
 abbrev pub is_plain : ℕ → Bool
 is_plain byte = (nat_le 32 byte && nat_le byte 126) && not (byte == 34 || byte == 92)
 
@@ -241,7 +240,7 @@ quoted_is text plain = grind (arith, nat_tests, none_of, is_other, escaped_plain
 
 -- ---- the lines
 
--- a byte of one figure of UTF-8
+-- an ASCII byte
 abbrev is_low : ℕ → Bool
 is_low byte = nat_lt byte 128
 
@@ -249,7 +248,7 @@ plain_low : (text : List ℕ) → IsPlain text → list_all is_low text ≡ true
 plain_low [] plain = refl
 plain_low (byte ∷ text) plain = grind (arith, nat_tests, plain_low text)
 
--- what stands in a line of a file: the key, its value, and the text that writes the value
+-- a line of a file: the key, its value, and the text of the value
 abbrev pub Entry : Type 0
 Entry = Key × Data × List ℕ
 
@@ -259,7 +258,7 @@ text_entry key text = (key, string text, quoted text)
 abbrev pub texts_entry : Key → List (List ℕ) → Entry
 texts_entry key ts = (key, texts ts, listed ts)
 
--- the text writes the value, and the reader takes it
+-- the text is one of the value's texts in TOML, and the parser takes it
 pub record IsWritten (entry : Entry) : Type 0 where
   pub writes : IsValueText false entry.1 entry.2
   pub shallow : depth entry.1 ≤ 80
@@ -269,15 +268,15 @@ pub record IsWritten (entry : Entry) : Type 0 where
 pub text_written : (key : Key) (text : List ℕ) → IsPlain text → IsWritten (text_entry key text)
 text_written key text plain = grind (arith, quoted_is, list_all-append, plain_low)
 
--- what stands behind the first text of an array
-abbrev behind : List (List ℕ) → List ℕ
-behind ts = flat_map (λ text. codes ", " ++ quoted text) ts
+-- the rest of an array's text after its first item
+abbrev rest_text : List (List ℕ) → List ℕ
+rest_text ts = flat_map (λ text. codes ", " ++ quoted text) ts
 
 record AreWritten (ts : List (List ℕ)) : Type 0 where
-  writes : IsItemsText false false false (items_of (map string ts)) (behind ts ++ codes "]")
+  writes : IsItemsText false false false (items_of (map string ts)) (rest_text ts ++ codes "]")
   shallow : items_depth (items_of (map string ts)) ≡ 0
   dated : items_have_valid_dates (items_of (map string ts)) ≡ true
-  low : list_all is_low (behind ts) ≡ true
+  low : list_all is_low (rest_text ts) ≡ true
 
 are_written : (ts : List (List ℕ)) → AllByRecursion IsPlain ts → AreWritten ts
 are_written [] plain = record { writes = refl; shallow = refl; dated = refl; low = refl }
@@ -289,7 +288,13 @@ texts_written key [] plain = grind arith
 texts_written key (text ∷ ts) plain =
     let rest = are_written ts plain.1 in
     let writes : IsItemsText false false true (items_of (map string (text ∷ ts))) (quoted text ++
-    (behind ts ++ codes "]")) = (quoted text, behind ts ++ codes "]", refl, quoted_is text plain.0, rest.writes) in
+    (rest_text ts ++ codes "]")) = (
+      quoted text,
+      rest_text ts ++ codes "]",
+      refl,
+      quoted_is text plain.0,
+      rest.writes,
+    ) in
     record {
       writes = grind (arith, append_assoc, quoted);
       shallow = rw rest.shallow (omega arith);
@@ -312,7 +317,7 @@ key_bare key = grind arith
 key_low : (key : Key) → list_all is_low (key_name key) ≡ true
 key_low key = grind arith
 
--- the lines write the entries, the reader takes them, and their bytes are low
+-- the lines are the text of the entries in TOML, the parser takes them, and their bytes are ASCII
 lines_text : (started : Bool) (entries : List Entry) → AllByRecursion IsWritten entries
     → IsLinesText false started (map expression_of entries) (concat (map line_of entries))
     × AllPrinted (map expression_of entries) × (list_all is_low (concat (map line_of entries)) ≡ true)
@@ -335,7 +340,8 @@ file_read entries table all is =
     let read = read_lines false false (map expression_of entries) text text (no_nodes, []) (suc (length text))
     lines.0 lines.1 refl (omega arith) in
     document_parsed text table
-    (IsUtf8-from_ascii text (IsAscii-from_all text (λ place d within. ltb-true _ _ (AllPass-from_list_all is_low text low place d within))))
+    (IsUtf8-from_ascii text (IsAscii-from_all text
+    (λ place d within. ltb-true _ _ (AllPass-from_list_all is_low text low place d within))))
     (rw (no_mark text low, read) is)
 
 -- ---- what is written is plain text
@@ -384,17 +390,28 @@ version_written model = grind arith
 version_again : (model : Model) → number_to 2 (integer (pos (version_of model))) ≡ Some (version_of model)
 version_again model = grind arith
 
-ruleset are_plain = (version_written, text_written, texts_written, model_plain, reflector_plain, seats_plain, letters_plain, cables_plain, bars_plain, recursion_from_All)
+ruleset are_plain = (
+  version_written,
+  text_written,
+  texts_written,
+  model_plain,
+  reflector_plain,
+  seats_plain,
+  letters_plain,
+  cables_plain,
+  bars_plain,
+  recursion_from_All,
+)
 
--- a table with version and model that tells these parts
-told : (model : Model) (table : Members) (m : Parts) → version_in table ≡ Ok (version_of model)
+-- a table's machine, by its version, its model and its parts
+machine_in-parts : (model : Model) (table : Members) (m : Parts) → version_in table ≡ Ok (version_of model)
     → model_in table ≡ Ok model → parts_in model table ≡ Ok m → machine_in table ≡ Ok m
 unfolding machine_in known_model_in
-told model table m version is parts = grind (arith, then_read, passing)
+machine_in-parts model table m version is parts = grind (arith, then_read, passing)
 
 -- ---- a rotor machine
 
--- with a single letter first a cable holds the same letters
+-- putting a single letter first keeps the order of each cable's letters
 same_order : (cables : List (Option ℕ × Option ℕ))
     → map (λ cable. ordered cable.0 cable.1) (map single_first cables) ≡ map (λ cable. ordered cable.0 cable.1) cables
 same_order [] = refl
@@ -479,11 +496,14 @@ pub parts_are_read_back : LegalPartsAreReadBack
 unfolding version_in model_in parts_in
 parts_are_read_back (Rotor m) legal =
     let has = (has_reflector-Decides (reflectors_of m.model) m.reflector).1 legal.reflector in
-    let read = told m.model (rotor_table m) _ (rw (version_again m.model) refl) (rw (model_by_name-text m.model) refl)
+    let read =
+    machine_in-parts m.model (rotor_table m) _ (rw (version_again m.model) refl)
+    (rw (model_by_name-text m.model) refl)
     (by_model m.model m.reflector (rotor_table m) _ has (rotor_parts_again m legal)) in
     then_read (document_of (machine_text (Rotor m))) machine_in (rotor_table m) _ (rotor_read m legal) read
     ∙ ap (λ cables. Ok (Rotor (record m { cables = cables }))) (same_order m.cables)
 parts_are_read_back (Pin m) legal =
-    let read = told M209 (pin_table m) _ refl (ap (λ found. ok_or found UnknownModel) (model_by_name-text M209))
+    let read =
+    machine_in-parts M209 (pin_table m) _ refl (ap (λ found. ok_or found UnknownModel) (model_by_name-text M209))
     (rw (pin_parts_again m legal) refl) in
     then_read (document_of (machine_text (Pin m))) machine_in (pin_table m) _ (pin_read m legal) read

@@ -1,5 +1,6 @@
--- How the bars of the Converter's drum stand, and what a sheet wants them to read as.
-use Rattle.std.specs.Prelude.{ℕ, ◌+◌, ◌-◌, ◌==◌, ◌&&◌, ◌||◌, nat_le, Bool, not, List, [], ◌∷◌, length, Option, Some, None, Result, ok_or, if◌then◌else◌}
+-- The standings of the drum's bars in a machine file, and the readings that a key sheet asks for.
+use Rattle.std.specs.Prelude.{ℕ, ◌+◌, ◌-◌, ◌==◌, ◌&&◌, ◌||◌, nat_le, Bool, not, List, [], ◌∷◌, length, Option, Some}
+use Rattle.std.specs.Prelude.{None, Result, ok_or, if◌then◌else◌}
 use Rattle.std.specs.Option.{option_and_then}
 use Rattle.toml.specs.Data.{Data, Members, as_str}
 use Rattle.kd_tables.specs.Places.{in_order}
@@ -10,32 +11,33 @@ use Rattle.kd_sheet.specs.declared.key.Key.TheVariants as keys
 use Rattle.kd_sheet.specs.declared.fault.SheetFault.{SheetFault}
 use Rattle.kd_sheet.specs.declared.fault.SheetFault.TheVariants.{BadRow}
 
--- how the bar behind the earlier ones stands. Bars are counted from 1
+-- the standing that an item names, for the bar after the bars `earlier`; a fault counts the bars from 1
 abbrev pub standing_for : List (Place × Place) → Data → Result (Place × Place) SheetFault
 standing_for earlier item = ok_or (option_and_then standing_by_text (as_str item)) (BadRow (length earlier + 1))
 
--- how the 27 bars stand, an item for each
+-- the standings of the 27 bars, an item for each
 unfoldable pub bars_in : Members → Result (List (Place × Place)) SheetFault
 bars_in table = each_at keys.Bars 27 standing_for table
 
--- the byte is a figure from 0 to 6
+-- the byte is a digit from 0 to 6
 abbrev pub is_figure : ℕ → Bool
 is_figure byte = nat_le 48 byte && nat_le byte 54
 
--- a bar can read as these two figures: they differ, or are both 0
+-- a bar can read as these two digits: they differ, or both are 0
 abbrev pub may_read : ℕ → ℕ → Bool
 may_read one other = not (one == other) || one == 48
 
--- the numbers of a text of two figures with `-` between them, in either order
+-- the numbers of a text of two digits with `-` between them, in either order
 unfoldable pub row_of_text : List ℕ → Option (ℕ × ℕ)
 row_of_text (one ∷ dash ∷ other ∷ []) =
-    if ((is_figure one && dash == 45) && is_figure other) && may_read one other then Some (in_order (one - 48) (other - 48)) else None
+    if ((is_figure one && dash == 45) && is_figure other) && may_read one other
+    then Some (in_order (one - 48) (other - 48)) else None
 row_of_text _ = None
 
--- what the row behind the earlier ones says. Rows are counted from 1
+-- the reading that an item says, for the row after the rows `earlier`; a fault counts the rows from 1
 abbrev pub row_for : List (ℕ × ℕ) → Data → Result (ℕ × ℕ) SheetFault
 row_for earlier item = ok_or (option_and_then row_of_text (as_str item)) (BadRow (length earlier + 1))
 
--- what the 27 bars are to read as, an item for each
+-- the readings of the 27 rows, an item for each
 unfoldable pub rows_in : Members → Result (List (ℕ × ℕ)) SheetFault
 rows_in table = each_at keys.Rows 27 row_for table

@@ -1,5 +1,6 @@
--- What the items of an array plug, one after another: the cables of a machine, and the pairs of a sheet.
-use Rattle.std.specs.Prelude.{ℕ, ◌-◌, ◌&&◌, nat_le, List, [], ◌∷◌, ◌++◌, length, replicate, slice_get, slice_index, Option, Some, None, Result, Ok, ok_or, if◌then◌else◌}
+-- The cables of a machine file, and the pairs of a key sheet, item by item.
+use Rattle.std.specs.Prelude.{ℕ, ◌-◌, ◌&&◌, nat_le, List, [], ◌∷◌, ◌++◌, length, replicate, slice_get, slice_index}
+use Rattle.std.specs.Prelude.{Option, Some, None, Result, Ok, ok_or, if◌then◌else◌}
 use Rattle.std.specs.List.{list_all, flat_map}
 use Rattle.std.specs.Option.{option_and_then, option_map_or}
 use Rattle.toml.specs.Data.{Data, Members, get_member, as_str}
@@ -14,42 +15,42 @@ use Rattle.kd_sheet.specs.declared.key.Key.TheVariants as keys
 use Rattle.kd_sheet.specs.declared.fault.SheetFault.{SheetFault}
 use Rattle.kd_sheet.specs.declared.fault.SheetFault.TheVariants.{BadValue, LetterTwice}
 
--- the letters of a text that lie in a cable: at most two
+-- the letters of a text of at most two capital letters
 unfoldable pub letters_in_cable : List ℕ → Option (List ℕ)
 letters_in_cable text = if nat_le (length text) 2 && list_all is_capital text then Some (letters_of text) else None
 
--- the cable with these letters
+-- the cable with these letters in its ends
 abbrev pub cable_of : List ℕ → Option ℕ × Option ℕ
 cable_of letters = (slice_get letters 0, slice_get letters 1)
 
--- the cable of an item behind these cables: its letters are none of theirs, and none of them comes twice
+-- the cable that an item describes: its letters differ, and lie in no cable before it
 unfoldable pub cable_for : List (Option ℕ × Option ℕ) → Data → Result (Option ℕ × Option ℕ) SheetFault
 cable_for cables item = do
   letters ← ok_or (option_and_then letters_in_cable (as_str item)) (BadValue keys.Cables)
   demand (are_new letters (plugged_letters cables)) LetterTwice
   Ok (cable_of letters)
 
--- so many cables, and empty ones behind them: 13 in all
+-- `cables`, filled up with empty ones to 13
 abbrev pub thirteen : List (Option ℕ × Option ℕ) → List (Option ℕ × Option ℕ)
 thirteen cables = cables ++ replicate (13 - length cables) (None, None)
 
--- the machine's cables: none is plugged where the file does not speak of them
+-- the machine's cables; without the key, all are empty
 unfoldable pub cables_in : Members → Result (List (Option ℕ × Option ℕ)) SheetFault
 cables_in table = do
   cables ← option_map_or (up_to keys.Cables 13 cable_for) (get_member (key_name keys.Cables) table) (Ok [])
   Ok (thirteen cables)
 
--- the letters of a pair
+-- the two letters of a pair
 abbrev pub pair_letters : ℕ × ℕ → List ℕ
 pair_letters pair = pair.0 ∷ pair.1 ∷ []
 
--- the pair of an item behind these pairs: its two letters are none of theirs, and differ
+-- the pair that an item describes: its letters differ, and lie in no pair before it
 unfoldable pub pair_for : List (ℕ × ℕ) → Data → Result (ℕ × ℕ) SheetFault
 pair_for pairs item = do
   letters ← ok_or (option_and_then (capital_letters 2) (as_str item)) (BadValue keys.Plugs)
   demand (are_new letters (flat_map pair_letters pairs)) LetterTwice
   Ok (slice_index letters 0, slice_index letters 1)
 
--- the sheet's pairs
+-- the day's pairs
 unfoldable pub pairs_in : Members → Result (List (ℕ × ℕ)) SheetFault
 pairs_in table = value_at keys.Plugs table >>= up_to keys.Plugs 13 pair_for

@@ -1,5 +1,6 @@
--- What the bytes of a document mean, and what stands in its table at a key.
-use Rattle.std.specs.Prelude.{◌≡◌, ◌==◌, ℕ, nat_le, Bool, List, [], ◌∷◌, length, Result, Ok, Err, ok_or, option_map, ⊤, if◌then◌else◌}
+-- The table of a document, and the values in it. A reading is either `Ok` and a value, or the first fault.
+use Rattle.std.specs.Prelude.{◌≡◌, ◌==◌, ℕ, nat_le, Bool, List, [], ◌∷◌, length, Result, Ok, Err, ok_or, option_map, ⊤}
+use Rattle.std.specs.Prelude.{if◌then◌else◌}
 use Rattle.std.specs.Result.{result_map_both}
 use Rattle.std.specs.Str.{is_utf8}
 use Rattle.toml.specs.Data.{Data, Items, no_items, item, Members, get_member, as_str, as_array}
@@ -9,18 +10,18 @@ use Rattle.kd_sheet.specs.declared.key.Key.{Key}
 use Rattle.kd_sheet.specs.declared.fault.SheetFault.{SheetFault}
 use Rattle.kd_sheet.specs.declared.fault.SheetFault.TheVariants.{NotToml, Missing, BadValue, NoMemory}
 
--- One reading after another, up to the first refusal.
+-- Goes on with `f` and the value if the reading succeeded, else gives its fault.
 infixl 10 ◌>>=◌
 abbrev pub ◌>>=◌ : {A B : Type 0} → Result A SheetFault → (A → Result B SheetFault) → Result B SheetFault
 (Ok x) >>= f = f x
 (Err fault) >>= f = Err fault
 
--- A test that has to pass, and then a reading.
+-- Goes on with `reading` if the test passed, else gives its fault.
 infixl 10 ◌>>◌
 abbrev pub ◌>>◌ : {B : Type 0} → Result (Unit {0}) SheetFault → Result B SheetFault → Result B SheetFault
 test >> reading = test >>= (λ _. reading)
 
--- what each item is, given what those before it are, up to the first fault
+-- the values of the items in order, each read after the values before it, or the first fault
 abbrev pub in_turn : {A : Type 0} → (List A → Data → Result A SheetFault) → List Data → Result (List A) SheetFault
 in_turn reading [] = Ok []
 in_turn reading (first ∷ rest) = do
@@ -28,28 +29,28 @@ in_turn reading (first ∷ rest) = do
   values ← in_turn (λ earlier. reading (value ∷ earlier)) rest
   Ok (value ∷ values)
 
--- What was answered is what was meant, unless memory ran out.
+-- `answer` is `meant`, or memory ran out.
 abbrev pub Answers : {A : Type 0} → Result A SheetFault → Result A SheetFault → Type 0
 Answers (Err NoMemory) meant = ⊤
 Answers answer meant = answer ≡ meant
 
--- the answer with its value seen by view
+-- the answer with `view` of its value
 abbrev pub result_map : {A B : Type 0} → (A → B) → Result A SheetFault → Result B SheetFault
 result_map view answer = result_map_both view (λ fault. fault) answer
 
--- the test passes, or else that is the fault
+-- Ok if the test passes, else the fault
 abbrev pub demand : Bool → SheetFault → Result (Unit {0}) SheetFault
 demand test fault = if test then Ok tt else Err fault
 
--- the table that the bytes of a document mean
+-- the table of the TOML document `bytes`, or `NotToml`
 unfoldable pub document_of : List ℕ → Result Members SheetFault
 document_of bytes = if is_utf8 bytes then ok_or (parse_document bytes) NotToml else Err NotToml
 
--- the value at a key that has to be there
+-- the value at `key`, or `Missing`
 abbrev pub value_at : Key → Members → Result Data SheetFault
 value_at key table = ok_or (get_member (key_name key) table) (Missing key)
 
--- the text at a key
+-- the text at `key`
 abbrev pub text_at : Key → Members → Result (List ℕ) SheetFault
 text_at key table = value_at key table >>= (λ value. ok_or (as_str value) (BadValue key))
 
@@ -58,22 +59,23 @@ abbrev pub list_of : Items → List Data
 list_of no_items = []
 list_of (item first rest) = first ∷ list_of rest
 
--- the items of the array that a key's value has to be
+-- the items of `value`, which has to be an array
 abbrev pub items_in : Key → Data → Result (List Data) SheetFault
 items_in key value = ok_or (option_map list_of (as_array value)) (BadValue key)
 
--- the items of the array at a key
+-- the items of the array at `key`
 abbrev pub items_at : Key → Members → Result (List Data) SheetFault
 items_at key table = value_at key table >>= items_in key
 
--- what the items of the array at a key are, of which there have to be so many
-abbrev pub each_at : {A : Type 0} → Key → ℕ → (List A → Data → Result A SheetFault) → Members → Result (List A) SheetFault
+-- the values of the items at `key`, where there have to be exactly `count` of them
+abbrev pub each_at : {A : Type 0} → Key → ℕ → (List A → Data → Result A SheetFault) → Members
+    → Result (List A) SheetFault
 each_at key count reading table = do
   items ← items_at key table
   demand (length items == count) (BadValue key)
   in_turn reading items
 
--- what the items of an array are, of which there may be so many
+-- the values of the items of an array, where there may be at most `count` of them
 abbrev pub up_to : {A : Type 0} → Key → ℕ → (List A → Data → Result A SheetFault) → Data → Result (List A) SheetFault
 up_to key count reading value = do
   items ← items_in key value

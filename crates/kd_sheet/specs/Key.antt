@@ -1,9 +1,9 @@
--- The keys of the files.
+-- The keys of machine files and key sheets.
 use Rattle.std.specs.Prelude.{codes, ℕ, List}
 use Rattle.kd_sheet.specs.declared.key.Key.{Key}
 use Rattle.kd_sheet.specs.declared.key.Key.TheVariants as keys
 
--- the key as a file writes it
+-- the key as it stands in a file
 abbrev pub key_name : Key → List ℕ
 key_name keys.Version = codes "version"
 key_name keys.Model = codes "model"

@@ -1,4 +1,4 @@
--- What holds of machine files, and of key sheets and their entries.
+-- What the laws say of machine files, key sheets and their days.
 use Rattle.std.specs.Prelude.{◌≡◌, ◌↔◌, ℕ, List, [], Contains, Option, Some, Ok}
 use Rattle.toml.specs.Data as toml
 use Rattle.toml.specs.Data.{Data, Members}
@@ -16,15 +16,15 @@ use Rattle.kd_sheet.specs.declared.key.Key.TheVariants as keys
 abbrev pub LegalPartsAreReadBack : Type 0
 LegalPartsAreReadBack = (m : Parts) → IsLegal m → machine_of (machine_text m) ≡ Ok (cables_ordered m)
 
--- the file of a machine is read as just that machine
+-- the file of a machine is read as the same machine
 abbrev pub WrittenFilesAreReadBack : Type 0
 WrittenFilesAreReadBack = (m : Parts) → IsMachine m → machine_of (machine_text m) ≡ Ok m
 
--- a day is legal exactly where some entry describes it
+-- a day is legal exactly if some entry's table describes it
 abbrev pub LegalDaysAreDescribed : Type 0
 LegalDaysAreDescribed = (day : Day) → IsLegalDay day ↔ ((entry : Members) × (day_in [] entry ≡ Ok day))
 
--- a sheet's day of a number is the one that the entry of that number describes
+-- day `number` of a sheet is the day that the entry with this number describes
 abbrev pub DaysAreTheEntries : Type 0
 DaysAreTheEntries = (table : Members) (items : List Data) (month : List (Option Day)) (number : ℕ) (day : Day)
     → items_at keys.Day table ≡ Ok items → sheet_in table ≡ Ok month

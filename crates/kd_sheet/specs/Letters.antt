@@ -9,11 +9,11 @@ use Rattle.kd_sheet.specs.declared.key.Key.{Key}
 use Rattle.kd_sheet.specs.declared.fault.SheetFault.{SheetFault}
 use Rattle.kd_sheet.specs.declared.fault.SheetFault.TheVariants.{BadValue}
 
--- the letters of a text of exactly so many capital letters
+-- the letters of a text of exactly `count` capital letters
 abbrev pub capital_letters : ℕ → List ℕ → Option (List ℕ)
 capital_letters count text = if length text == count && list_all is_capital text then Some (letters_of text) else None
 
--- so many letters, as a text at a key
+-- the letters of the text at `key`: exactly `count` capital letters
 unfoldable pub letters_at : Key → ℕ → Members → Result (List ℕ) SheetFault
 letters_at key count table = do
   text ← text_at key table

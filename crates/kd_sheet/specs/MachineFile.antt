@@ -1,4 +1,4 @@
--- What a machine file says, key by key, in the order in which its keys are tested.
+-- What a machine file says, key by key, in the order in which a reader tests the keys.
 use Rattle.std.specs.Prelude.{ℕ, ◌==◌, Bool, true, List, length, Result, Ok, ok_or}
 use Rattle.toml.specs.Data.{Members}
 use Rattle.kd_tables.specs.Tables.{box_of}
@@ -22,37 +22,37 @@ use Rattle.kd_sheet.specs.declared.key.Key.TheVariants as keys
 use Rattle.kd_sheet.specs.declared.fault.SheetFault.{SheetFault}
 use Rattle.kd_sheet.specs.declared.fault.SheetFault.TheVariants.{UnknownModel, BadValue}
 
--- the file's version, 1 or 2
+-- the version of the file, 1 or 2
 unfoldable pub version_in : Members → Result ℕ SheetFault
 version_in table = do
   value ← value_at keys.Version table
   ok_or (number_to 2 value) (BadValue keys.Version)
 
--- the model whose name stands there
+-- the model by its name
 unfoldable pub model_in : Members → Result Model SheetFault
 model_in table = do
   name ← text_at keys.Model table
   ok_or (model_by_name name) UnknownModel
 
--- files of the version know the model: the M4 came with version 2
+-- a file of `version` may be of `model`: the M4 needs version 2
 abbrev pub knows : ℕ → Model → Bool
 knows version M4 = version == 2
 knows version _ = true
 
--- the model of a machine file of that version
+-- the model of a machine file of `version`
 unfoldable pub known_model_in : ℕ → Members → Result Model SheetFault
 known_model_in version table = do
   model ← model_in table
   demand (knows version model) UnknownModel
   Ok model
 
--- the model's reflector whose name stands there
+-- the reflector by its name, if it is one of the model's
 unfoldable pub reflector_in : Model → Members → Result Reflector SheetFault
 reflector_in model table = do
   name ← text_at keys.Reflector table
   ok_or (reflector_by_name model name) (BadValue keys.Reflector)
 
--- the parts of a rotor machine. Each wheel of the model's box has a ring and a letter, in box order
+-- the parts of a rotor machine; rings and letters are for each wheel of the box, in box order
 unfoldable pub rotor_parts_in : Model → Members → Result RotorParts SheetFault
 rotor_parts_in model table = do
   reflector ← reflector_in model table
@@ -70,18 +70,18 @@ pin_parts_in table = do
   bars ← bars_in table
   Ok (record { pins = pins; letters = letters; bars = bars })
 
--- the parts of a machine of the model. A cable holds a set of letters, whichever stands first
+-- the parts of a machine of `model`, with each cable's letters in alphabetical order
 unfoldable pub parts_in : Model → Members → Result Parts SheetFault
 parts_in M209 table = pin_parts_in table >>= (λ parts. Ok (Pin parts))
 parts_in model table = rotor_parts_in model table >>= (λ parts. Ok (cables_ordered (Rotor parts)))
 
--- the machine that a machine file's table describes, or its first fault
+-- the machine that a file's table describes, or its first fault
 unfoldable pub machine_in : Members → Result Parts SheetFault
 machine_in table = do
   version ← version_in table
   model ← known_model_in version table
   parts_in model table
 
--- the machine that the bytes of a machine file describe, or the file's first fault
+-- the machine that a file's bytes describe, or the first fault
 abbrev pub machine_of : List ℕ → Result Parts SheetFault
 machine_of bytes = document_of bytes >>= machine_in

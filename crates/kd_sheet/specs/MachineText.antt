@@ -1,4 +1,4 @@
--- The text of a machine file, as it is written.
+-- The text of a machine file.
 use Rattle.std.specs.Prelude.{codes, ℕ, ◌+◌, Bool, List, [], ◌∷◌, ◌++◌, map, zip, Option, if◌then◌else◌}
 use Rattle.std.specs.List.{concat, flat_map, join_by}
 use Rattle.std.specs.Option.{option_map_or}
@@ -19,32 +19,32 @@ use Rattle.kd_sheet.specs.Key.{key_name}
 use Rattle.kd_sheet.specs.declared.key.Key.{Key}
 use Rattle.kd_sheet.specs.declared.key.Key.TheVariants as keys
 
--- a text in double quotes
+-- `text` in double quotes
 abbrev pub quoted : List ℕ → List ℕ
 quoted text = codes "\"" ++ text ++ codes "\""
 
--- texts in brackets, with a comma and a space between them
+-- an array of texts in brackets, with a comma and a space between them
 abbrev pub listed : List (List ℕ) → List ℕ
 listed texts = codes "[" ++ join_by quoted (codes ", ") texts ++ codes "]"
 
--- a line with a key and its value
+-- a line: a key and its value
 abbrev pub key_line : Key → List ℕ → List ℕ
 key_line key value = key_name key ++ codes " = " ++ value ++ codes "\n"
 
--- the version in which a file with the model is written
+-- the version in which a file of `model` is written
 abbrev pub version_of : Model → ℕ
 version_of M4 = 2
 version_of _ = 1
 
--- what a slot holds: nothing is the empty text
+-- the name of the wheel in a slot; the empty text if the slot is empty
 abbrev pub seat_text : Option Wheel → List ℕ
 seat_text seat = option_map_or wheel_text seat []
 
--- the letters in a cable
+-- the letters in a cable, as a text
 abbrev pub cable_text : Option ℕ × Option ℕ → List ℕ
 cable_text cable = letters_text (cable_letters cable)
 
--- the letter of a pin that is effective
+-- the letter of a pin if it is effective, else nothing
 abbrev pub pin_text : ℕ → Bool → List ℕ
 pin_text letter effective = if effective then (letter + 65) ∷ [] else []
 
@@ -60,7 +60,8 @@ pin_texts pins =
 
 -- the first two lines: the version and the model
 abbrev pub head_lines : Model → List (List ℕ)
-head_lines model = key_line keys.Version (figure (version_of model)) ∷ key_line keys.Model (quoted (model_text model)) ∷ []
+head_lines model =
+    key_line keys.Version (figure (version_of model)) ∷ key_line keys.Model (quoted (model_text model)) ∷ []
 
 abbrev pub rotor_lines : RotorParts → List (List ℕ)
 rotor_lines m =
@@ -78,7 +79,7 @@ pin_lines m =
     ∷ key_line keys.Bars (listed (map standing_text m.bars))
     ∷ []
 
--- the machine file of a machine
+-- the file of a machine
 unfoldable pub machine_text : Parts → List ℕ
 machine_text (Rotor m) = concat (head_lines m.model ++ rotor_lines m)
 machine_text (Pin m) = concat (head_lines M209 ++ pin_lines m)

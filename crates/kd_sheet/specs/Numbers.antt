@@ -1,19 +1,20 @@
--- Whole numbers of files.
+-- Whole numbers in files.
 use Rattle.std.specs.Prelude.{ℕ, ◌&&◌, ◌-◌, ◌==◌, nat_le, pos, List, length, Option, Some, None, is_some, if◌then◌else◌}
 use Rattle.std.specs.List.{list_all, filter_map}
 use Rattle.std.specs.Option.{option_map}
 use Rattle.toml.specs.Data.{Data, integer}
 
--- the value is a whole number from 1 to the last one
+-- the value as a whole number from 1 to `last`
 abbrev pub number_to : ℕ → Data → Option ℕ
 number_to last (integer (pos number)) = if nat_le 1 number && nat_le number last then Some number else None
 number_to last _ = None
 
--- the letter that a number from 1 to 26 stands for: 1 is A
+-- the letter of a number from 1 to 26: 1 is A
 abbrev pub numbered_letter : Data → Option ℕ
 numbered_letter item = option_map (λ number. number - 1) (number_to 26 item)
 
--- the letters that exactly so many items stand for, where each item stands for one
+-- the letters of exactly `count` numbers from 1 to 26
 abbrev pub numbered_letters : ℕ → List Data → Option (List ℕ)
 numbered_letters count items =
-    if length items == count && list_all (λ item. is_some (numbered_letter item)) items then Some (filter_map numbered_letter items) else None
+    if length items == count && list_all (λ item. is_some (numbered_letter item)) items
+    then Some (filter_map numbered_letter items) else None

@@ -1,5 +1,6 @@
--- The letters of the Converter's six wheels, and which of their pins are effective.
-use Rattle.std.specs.Prelude.{ℕ, ◌+◌, ◌==◌, ◌&&◌, Bool, List, length, map, Option, Some, None, Result, Ok, ok_or, if◌then◌else◌}
+-- The letters that the Converter's six wheels show, and their effective pins.
+use Rattle.std.specs.Prelude.{ℕ, ◌+◌, ◌==◌, ◌&&◌, Bool, List, length, map, Option, Some, None, Result, Ok, ok_or}
+use Rattle.std.specs.Prelude.{if◌then◌else◌}
 use Rattle.std.specs.List.{list_all, list_any, enumerate_from, count_by}
 use Rattle.std.specs.Option.{option_and_then}
 use Rattle.toml.specs.Data.{Data, Members, as_str}
@@ -14,48 +15,49 @@ use Rattle.kd_sheet.specs.declared.key.Key.TheVariants as keys
 use Rattle.kd_sheet.specs.declared.fault.SheetFault.{SheetFault}
 use Rattle.kd_sheet.specs.declared.fault.SheetFault.TheVariants.{BadValue}
 
--- each letter is on its wheel, from wheel 1 on
+-- each letter is on its wheel, wheel 1 first
 abbrev pub are_on_wheels : List ℕ → Bool
 are_on_wheels letters = list_all (λ numbered. has_letter (ring_of numbered.0) numbered.1) (enumerate_from 1 letters)
 
 -- the letters of a text of six capital letters, each on its wheel
 unfoldable pub letters_on_wheels : List ℕ → Option (List ℕ)
-letters_on_wheels text = option_and_then (λ letters. if are_on_wheels letters then Some letters else None) (capital_letters 6 text)
+letters_on_wheels text =
+    option_and_then (λ letters. if are_on_wheels letters then Some letters else None) (capital_letters 6 text)
 
--- a letter for each of the six wheels
+-- the letters that the six wheels show, as a text at `key`
 unfoldable pub shown_in : Key → Members → Result (List ℕ) SheetFault
 shown_in key table = do
   text ← text_at key table
   ok_or (letters_on_wheels text) (BadValue key)
 
--- the byte is the capital letter of one on the wheel
+-- the byte is a capital letter of the wheel
 abbrev pub is_on : List ℕ → ℕ → Bool
 is_on ring byte = list_any (λ letter. letter + 65 == byte) ring
 
--- the byte stands once in the text
+-- the byte stands exactly once in the text
 abbrev pub stands_once : List ℕ → ℕ → Bool
 stands_once text byte = count_by (λ other. other == byte) text == 1
 
--- the text has letters of the wheel, and none of them twice
+-- the text has only letters of the wheel, and none of them twice
 abbrev pub is_pin_text : List ℕ → List ℕ → Bool
 is_pin_text ring text = list_all (λ byte. is_on ring byte && stands_once text byte) text
 
--- whether the text has the letter
+-- the text has this letter
 abbrev pub has_capital : List ℕ → ℕ → Bool
 has_capital text letter = list_any (λ byte. byte == letter + 65) text
 
--- which pins are effective, in the wheel's own order, where a text has the letters of those that are
+-- the pins of a wheel, in its own order: a pin is effective if the text has its letter
 unfoldable pub pins_of_text : List ℕ → List ℕ → Option (List Bool)
 pins_of_text ring text = if is_pin_text ring text then Some (map (has_capital text) ring) else None
 
--- which pins of the wheel with these letters an item makes effective
+-- the pins of a wheel with the letters `ring`, from an item
 unfoldable pub pins_of_item : List ℕ → Data → Result (List Bool) SheetFault
 pins_of_item ring item = ok_or (option_and_then (pins_of_text ring) (as_str item)) (BadValue keys.Pins)
 
--- which pins an item makes effective: those of the wheel behind these
+-- the pins of the wheel after the wheels `earlier`, from an item
 abbrev pub pins_behind : List (List Bool) → Data → Result (List Bool) SheetFault
 pins_behind earlier item = pins_of_item (ring_of (length earlier + 1)) item
 
--- the effective pins of the six wheels, an item for each
+-- the pins of the six wheels, an item for each
 unfoldable pub pins_in : Members → Result PinSet SheetFault
 pins_in table = each_at keys.Pins 6 pins_behind table >>= (λ pins. Ok (pin_set pins))

@@ -1,5 +1,6 @@
--- Which wheels the items of an array seat, slot by slot from the left.
-use Rattle.std.specs.Prelude.{ℕ, ◌+◌, ◌==◌, ◌&&◌, Bool, true, false, not, List, length, Option, Some, None, Result, Ok, ok_or, if◌then◌else◌}
+-- Which wheel stands in each slot, item by item from the left.
+use Rattle.std.specs.Prelude.{ℕ, ◌+◌, ◌==◌, ◌&&◌, Bool, true, false, not, List, length, Option, Some, None, Result, Ok}
+use Rattle.std.specs.Prelude.{ok_or, if◌then◌else◌}
 use Rattle.std.specs.List.{list_any}
 use Rattle.std.specs.Option.{option_map_or}
 use Rattle.toml.specs.Data.{Data, Members, as_str}
@@ -14,20 +15,20 @@ use Rattle.kd_sheet.specs.declared.key.Key.TheVariants as keys
 use Rattle.kd_sheet.specs.declared.fault.SheetFault.{SheetFault}
 use Rattle.kd_sheet.specs.declared.fault.SheetFault.TheVariants.{BadValue, WheelTwice, WheelNotAllowed}
 
--- a slot of a machine may be empty, and the empty text says so; no wheel of a sheet may be left out
+-- a slot may be empty in a machine file, and in no key sheet
 abbrev pub may_be_empty : Key → Bool
 may_be_empty keys.Slots = true
 may_be_empty _ = false
 
--- the seat holds the wheel
+-- this wheel stands in the slot
 abbrev pub holds : Wheel → Option Wheel → Bool
 holds wheel seat = option_map_or (same_wheel wheel) seat false
 
--- the wheel is seated in one of the slots
+-- the wheel stands in one of the slots
 unfoldable pub is_seated : List (Option Wheel) → Wheel → Bool
 is_seated slots wheel = list_any (holds wheel) slots
 
--- the wheel of that name, for the slot to the right of these
+-- the wheel with this name, if it may stand in the slot to the right of `slots`
 unfoldable pub wheel_for : Key → Model → List (Option Wheel) → List ℕ → Result Wheel SheetFault
 wheel_for key model slots name = do
   wheel ← ok_or (wheel_by_name name) (BadValue key)
@@ -35,17 +36,19 @@ wheel_for key model slots name = do
   demand (not (is_seated slots wheel)) WheelTwice
   Ok wheel
 
--- what a name seats in the slot to the right of these: nothing by the empty text where it may stand, else the wheel
+-- the wheel in the slot to the right of `slots`, by its name; the empty text leaves the slot empty, if `key`
+-- allows it
 unfoldable pub seat_for : Key → Model → List (Option Wheel) → List ℕ → Result (Option Wheel) SheetFault
 seat_for key model slots name =
-    if may_be_empty key && length name == 0 then Ok None else wheel_for key model slots name >>= (λ wheel. Ok (Some wheel))
+    if may_be_empty key && length name == 0 then Ok None
+    else wheel_for key model slots name >>= (λ wheel. Ok (Some wheel))
 
--- what an item seats in the slot to the right of these
+-- the wheel in the slot to the right of `slots`, from an item
 unfoldable pub seat_of_item : Key → Model → List (Option Wheel) → Data → Result (Option Wheel) SheetFault
 seat_of_item key model slots item = do
   name ← ok_or (as_str item) (BadValue key)
   seat_for key model slots name
 
--- the seats of the model's slots, an item for each
+-- the wheels in the model's slots, an item for each
 unfoldable pub seats_in : Key → Model → Members → Result (List (Option Wheel)) SheetFault
 seats_in key model table = each_at key (slots_of model) (seat_of_item key model) table

@@ -1,19 +1,19 @@
--- A key sheet: a month with a day here and there.
+-- A key sheet: a month of which some days have an entry.
 use Rattle.std.specs.Prelude.{◌≡◌, ℕ, ◌==◌, List, length, map, find, Option, Some}
 use Rattle.std.specs.List.{range_with_len}
 use Rattle.std.specs.Option.{option_and_then}
 use Rattle.kd_state.specs.ToldApart.{numbered}
 use Rattle.kd_state.specs.SheetDay.{Day, day_number}
 
--- for each number of a month, from 1 to 31, the day that has it
+-- for each number from 1 to 31, the first of `days` with this number
 abbrev pub month_of : List Day → List (Option Day)
 month_of days = map (λ number. find (λ day. day_number day == number) days) (range_with_len 1 31)
 
--- the month's day of that number
+-- the month's day `number`, counted from 1
 abbrev pub day_of : List (Option Day) → ℕ → Option Day
 day_of month number = option_and_then (λ day. day) (numbered month number)
 
--- a place for each number of a month, and each day at its own
+-- the month has 31 places, and each day stands at its own number
 pub record IsMonth (month : List (Option Day)) : Type 0 where
   pub count : length month ≡ 31
   pub each : (number : ℕ) (day : Day) → day_of month number ≡ Some day → day_number day ≡ number

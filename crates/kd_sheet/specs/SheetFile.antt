@@ -1,4 +1,4 @@
--- What a key sheet says, day by day, and in each day key by key, in the order in which its keys are tested.
+-- What a key sheet says, day by day and key by key, in the order in which a reader tests the keys.
 use Rattle.std.specs.Prelude.{ℕ, ◌==◌, not, List, [], ◌∷◌, Option, Some, None, Result, Ok, ok_or}
 use Rattle.std.specs.List.{list_any}
 use Rattle.std.specs.Option.{option_and_then, option_map_or}
@@ -29,20 +29,20 @@ number_in table = do
   value ← value_at keys.Day table
   ok_or (number_to 31 value) (BadValue keys.Day)
 
--- the day's number, which none of these days has
+-- the day's number, which none of `days` has
 unfoldable pub new_number_in : List Day → Members → Result ℕ SheetFault
 new_number_in days table = do
   number ← number_in table
   demand (not (list_any (λ day. day_number day == number) days)) (DayTwice number)
   Ok number
 
--- exactly so many rings, as a text of capital letters or as numbers of which 1 is A
+-- exactly `count` rings: a text of capital letters, or an array of numbers, where 1 is A
 abbrev pub rings_of : ℕ → Data → Option (List ℕ)
 rings_of count (string text) = capital_letters count text
 rings_of count (array items) = numbered_letters count (list_of items)
 rings_of count _ = None
 
--- a ring for each of the model's slots
+-- the rings of the model's slots
 unfoldable pub rings_in : Model → Members → Result (List ℕ) SheetFault
 rings_in model table = do
   value ← value_at keys.Rings table
@@ -52,21 +52,21 @@ rings_in model table = do
 unfoldable pub group_of_item : Data → Option (List ℕ)
 group_of_item item = option_and_then (capital_letters 3) (as_str item)
 
--- the group of an item, whatever the earlier ones are
+-- the group of an item; it doesn't depend on the groups before
 abbrev pub group_for : List (List ℕ) → Data → Result (List ℕ) SheetFault
 group_for earlier item = ok_or (group_of_item item) (BadValue keys.Groups)
 
--- the groups, at most four: none where the day does not speak of them
+-- the groups, at most four; without the key, there are none
 unfoldable pub groups_in : Members → Result (List (List ℕ)) SheetFault
 groups_in table = option_map_or (up_to keys.Groups 4 group_for) (get_member (key_name keys.Groups) table) (Ok [])
 
--- the wheels in their slots, each with its ring and the letter in its window
+-- the slots' wheels, each with its ring and its window letter
 abbrev pub sheet_wheels : List (Option Wheel) → List ℕ → List ℕ → List SheetWheel
 sheet_wheels (Some wheel ∷ seats) (ring ∷ rings) (letter ∷ letters) =
     record { wheel = wheel; ring = ring; letter = letter } ∷ sheet_wheels seats rings letters
 sheet_wheels _ _ _ = []
 
--- the day of a rotor model
+-- a day of a rotor machine
 unfoldable pub rotor_day_in : ℕ → Model → Members → Result Day SheetFault
 rotor_day_in number model table = do
   reflector ← reflector_in model table
@@ -75,9 +75,16 @@ rotor_day_in number model table = do
   window ← letters_at keys.Window (slots_of model) table
   pairs ← pairs_in table
   groups ← groups_in table
-  Ok (OfRotors (record { day = number; model = model; reflector = reflector; wheels = sheet_wheels seats rings window; pairs = pairs; groups = groups }))
+  Ok (OfRotors (record {
+    day = number;
+    model = model;
+    reflector = reflector;
+    wheels = sheet_wheels seats rings window;
+    pairs = pairs;
+    groups = groups;
+  }))
 
--- the day of a Converter M-209
+-- a day of a Converter M-209
 unfoldable pub pin_day_in : ℕ → Members → Result Day SheetFault
 pin_day_in number table = do
   rows ← rows_in table
@@ -86,19 +93,19 @@ pin_day_in number table = do
   list ← letters_at keys.List 2 table
   Ok (OfPins (record { day = number; rows = rows; pins = pins; window = window; list = list }))
 
--- the day of a model
+-- a day of `model`
 unfoldable pub model_day_in : ℕ → Model → Members → Result Day SheetFault
 model_day_in number M209 table = pin_day_in number table
 model_day_in number model table = rotor_day_in number model table
 
--- the day that an entry's table describes, behind these days, or its first fault
+-- the day that a table describes after `days`, or its first fault
 unfoldable pub day_in : List Day → Members → Result Day SheetFault
 day_in days table = do
   number ← new_number_in days table
   model ← model_in table
   model_day_in number model table
 
--- the day of an item behind these days
+-- the day that an item describes after `days`
 unfoldable pub day_for : List Day → Data → Result Day SheetFault
 day_for days item = do
   table ← ok_or (as_table item) (BadValue keys.Day)
@@ -111,6 +118,6 @@ sheet_in table = do
   days ← in_turn day_for items
   Ok (month_of days)
 
--- the month that the bytes of a sheet describe, or the sheet's first fault
+-- the month that a sheet's bytes describe, or the first fault
 abbrev pub sheet_of : List ℕ → Result (List (Option Day)) SheetFault
 sheet_of bytes = document_of bytes >>= sheet_in

@@ -1,4 +1,4 @@
-//! How the bars of the Converter's drum stand, and what a sheet wants them to read as.
+//! The standings of the drum's bars in a machine file, and the readings that a key sheet asks for.
 ghost use Rattle.std.specs.{Prelude.{◌≡◌, ◌+◌, is_some, IfSome}, Option.{option_and_then}};
 ghost use Rattle.toml.specs.{Data.{as_str}, View.{view, table_view}};
 ghost use Rattle.kd_sheet.specs.Bars.{standing_for, bars_in, is_figure, may_read, row_of_text, row_for, rows_in};
@@ -10,17 +10,17 @@ use super::key::Key;
 use kd_tables::{Reading, Standing};
 use toml::{Table, Value};
 
-/// How many bars the drum has.
+/// The number of bars of the drum.
 const BARS: usize = 27;
 
-/// The standing of an item's text.
+/// Reads the standing that `item` names.
 fn standing_of_item(item: &Value) -> Option<Standing>
     ensures { result ≡ option_and_then standing_by_text (as_str (view item.now)) }
 {
     Standing::from_text(item.as_str()?.as_bytes())
 }
 
-/// How a bar stands.
+/// Reads an item as a bar's standing. A fault has the bar's number, counted from 1.
 impl FromItem<()> for Standing {
     ghost reading = { λ _. standing_for };
 
@@ -29,7 +29,7 @@ impl FromItem<()> for Standing {
     }
 }
 
-/// How the 27 bars stand.
+/// Reads the standings of the 27 bars.
 #[tactic(auto, unfolding(crate::specs::Bars::bars_in))]
 pub fn bars_in(table: &Table) -> Result<[Standing; BARS], SheetFault>
     ensures { result ≡ bars_in (table_view table.now) }
@@ -38,8 +38,8 @@ pub fn bars_in(table: &Table) -> Result<[Standing; BARS], SheetFault>
     Ok(bars.into_inner().ok().unwrap())
 }
 
-/// The number of a figure from 0 to 6.
-fn figure(byte: u8) -> Option<u8>
+/// The value of a digit from 0 to 6.
+fn digit_value(byte: u8) -> Option<u8>
     ensures value { IfSome result (λ number. byte ≡ number + 48) }
     ensures exists { is_some result ≡ is_figure byte }
 {
@@ -49,18 +49,18 @@ fn figure(byte: u8) -> Option<u8>
     }
 }
 
-/// The numbers of an item that is a text of two figures with `-` between them, in either order.
+/// Reads two digits with `-` between them, in either order.
 #[tactic(auto, unfolding(crate::specs::Bars::row_of_text))]
 fn row_of_item(item: &Value) -> Option<Reading>
     ensures { result ≡ option_and_then row_of_text (as_str (view item.now)) }
 {
     match item.as_str()?.as_bytes() {
-        [one, b'-', other] => Reading::new(figure(*one)?, figure(*other)?),
+        [one, b'-', other] => Reading::new(digit_value(*one)?, digit_value(*other)?),
         _ => None,
     }
 }
 
-/// What a row says.
+/// Reads an item as a row's reading. A fault has the row's number, counted from 1.
 impl FromItem<()> for Reading {
     ghost reading = { λ _. row_for };
 
@@ -69,7 +69,7 @@ impl FromItem<()> for Reading {
     }
 }
 
-/// What the 27 bars are to read as.
+/// Reads the 27 readings that a key sheet asks of the bars.
 #[tactic(auto, unfolding(crate::specs::Bars::rows_in))]
 pub fn rows_in(table: &Table) -> Result<[Reading; BARS], SheetFault>
     ensures { result ≡ rows_in (table_view table.now) }

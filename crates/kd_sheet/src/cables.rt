@@ -1,4 +1,4 @@
-//! What is plugged: the cables of a machine, and the pairs of a sheet, one after another.
+//! The cables of a machine file, and the pairs of a key sheet.
 ghost use Rattle.std.specs.Prelude.{◌≡◌, ◌≤◌, Some, None, length, IfSome};
 ghost use Rattle.std.specs.{List.{flat_map}, Option.{option_map, option_and_then}};
 ghost use Rattle.toml.specs.{Data.{as_str}, View.{view, table_view}};
@@ -16,16 +16,16 @@ use kd_state::{Cable, is_new};
 use kd_tables::Letter;
 use toml::{Table, Value};
 
-/// How many cables a plugboard takes.
+/// The number of cables of a plugboard.
 const CABLES: usize = 13;
 
-/// Two letters that are exchanged.
+/// Two letters that a cable exchanges.
 type Pair = (Letter, Letter);
 
-/// The pairs that are plugged, in the sheet's order.
+/// The plugged pairs of a day, in the sheet's order.
 pub type Pairs = ArrayVec<Pair, CABLES>;
 
-/// The cable with the letters of an item's text.
+/// Reads the letters in one cable: at most two.
 #[tactic(auto, unfolding(crate::specs::Cables::letters_in_cable))]
 fn cable_of_item(item: &Value) -> Option<Cable>
     ensures value { result
@@ -42,7 +42,7 @@ fn cable_of_item(item: &Value) -> Option<Cable>
     Some((letters.first().copied(), letters.get(1).copied()))
 }
 
-/// A cable, which has no letter of those before it.
+/// Reads an item as a cable, which shares no letter with the cables before it.
 impl FromItem<()> for Cable {
     ghost reading = { λ _. cable_for };
 
@@ -56,8 +56,8 @@ impl FromItem<()> for Cable {
     }
 }
 
-/// The cables, and empty ones behind them: 13 in all.
-fn thirteen(cables: &[Cable]) -> [Cable; CABLES]
+/// Fills up `cables` with empty ones to 13.
+fn fill_up(cables: &[Cable]) -> [Cable; CABLES]
     requires { length cables.now ≤ 13 }
     ensures { result ≡ thirteen cables.now }
 {
@@ -66,7 +66,7 @@ fn thirteen(cables: &[Cable]) -> [Cable; CABLES]
     all
 }
 
-/// The machine's cables: none is plugged where the file does not speak of them.
+/// Reads the machine's cables. Without the key, all are empty.
 #[tactic(auto, unfolding(crate::specs::Cables::cables_in))]
 pub fn cables_in(table: &Table) -> Result<[Cable; CABLES], SheetFault>
     ensures { result ≡ cables_in (table_view table.now) }
@@ -75,10 +75,10 @@ pub fn cables_in(table: &Table) -> Result<[Cable; CABLES], SheetFault>
         Some(value) => read_up_to(value, Key::Cables)?,
         None => ArrayVec::new(),
     };
-    Ok(thirteen(cables.as_slice()))
+    Ok(fill_up(cables.as_slice()))
 }
 
-/// Whether the letter lies in one of the pairs.
+/// Whether `letter` is in one of `pairs`.
 fn is_plugged(pairs: &[Pair], letter: Letter) -> bool
     ensures { result ≡ has_letter (flat_map pair_letters pairs.now) letter }
 {
@@ -90,7 +90,7 @@ fn is_plugged(pairs: &[Pair], letter: Letter) -> bool
     }
 }
 
-/// A pair, which has no letter of those before it.
+/// Reads an item as a pair, which shares no letter with the pairs before it.
 impl FromItem<()> for Pair {
     ghost reading = { λ _. pair_for };
 
@@ -104,7 +104,7 @@ impl FromItem<()> for Pair {
     }
 }
 
-/// The sheet's pairs.
+/// Reads the day's pairs.
 #[tactic(auto, unfolding(crate::specs::Cables::pairs_in))]
 pub fn pairs_in(table: &Table) -> Result<Pairs, SheetFault>
     ensures { result_map (λ pairs. pairs.items) result ≡ pairs_in (table_view table.now) }

@@ -1,4 +1,4 @@
-//! A day of a key sheet, which its table says key by key.
+//! Reads one day of a key sheet from its table.
 ghost use Rattle.std.specs.Prelude.{◌≡◌, ◌≤◌, ◌<◌, ◌+◌, ◌++◌, length};
 ghost use Rattle.toml.specs.View.{view, table_view};
 ghost use Rattle.{kd_tables.specs.Tables.{slots_of}, kd_state.specs.SheetDay.{IsDayNumber}};
@@ -22,7 +22,7 @@ use kd_state::{PerSlot, SheetDay, SheetWheel};
 use kd_tables::{Letter, Model, Wheel};
 use toml::{Table, Value};
 
-/// The rings of the model's slots, as a text of capital letters or as numbers.
+/// Reads a ring for each slot of `model`: a text of capital letters, or an array of numbers.
 fn rings_of(value: &Value, model: Model) -> Option<PerSlot<Letter>>
     requires { 0 < slots_of model }
     ensures { result ≡ rings_of (slots_of model) (view value.now) }
@@ -34,7 +34,7 @@ fn rings_of(value: &Value, model: Model) -> Option<PerSlot<Letter>>
     }
 }
 
-/// A ring for each of the model's slots.
+/// Reads the rings of the model's slots.
 #[tactic(auto, unfolding(crate::specs::SheetFile::rings_in))]
 fn rings_in(table: &Table, model: Model) -> Result<PerSlot<Letter>, SheetFault>
     requires { 0 < slots_of model }
@@ -43,7 +43,7 @@ fn rings_in(table: &Table, model: Model) -> Result<PerSlot<Letter>, SheetFault>
     rings_of(value_at(table, Key::Rings)?, model).ok_or(SheetFault::BadValue(Key::Rings))
 }
 
-/// A letter for each of the model's windows.
+/// Reads the window letters of the model's slots.
 #[tactic(auto, unfolding(crate::specs::Letters::letters_at))]
 fn window_in(table: &Table, model: Model) -> Result<PerSlot<Letter>, SheetFault>
     requires { 0 < slots_of model }
@@ -53,7 +53,7 @@ fn window_in(table: &Table, model: Model) -> Result<PerSlot<Letter>, SheetFault>
     slot_letters(model, text.as_bytes()).ok_or(SheetFault::BadValue(Key::Window))
 }
 
-/// A group of a day's messages.
+/// Reads an item as a group: three capital letters.
 impl FromItem<()> for [Letter; 3] {
     ghost reading = { λ _. group_for };
 
@@ -63,7 +63,7 @@ impl FromItem<()> for [Letter; 3] {
     }
 }
 
-/// The groups, at most four: none where the day does not speak of them.
+/// Reads the groups, at most four. Without the key, there are none.
 #[tactic(auto, unfolding(crate::specs::SheetFile::groups_in))]
 fn groups_in(table: &Table) -> Result<ArrayVec<[Letter; 3], 4>, SheetFault>
     ensures { result_map (λ groups. groups.items) result ≡ groups_in (table_view table.now) }
@@ -74,7 +74,7 @@ fn groups_in(table: &Table) -> Result<ArrayVec<[Letter; 3], 4>, SheetFault>
     }
 }
 
-/// The two letters of the key list.
+/// Reads the two letters of the key list.
 #[tactic(auto, unfolding(crate::specs::Letters::letters_at))]
 fn list_in(table: &Table) -> Result<[Letter; 2], SheetFault>
     ensures { result ≡ letters_at keys.List 2 (table_view table.now) }
@@ -83,7 +83,7 @@ fn list_in(table: &Table) -> Result<[Letter; 2], SheetFault>
     letters_of_text(text.as_bytes()).ok_or(SheetFault::BadValue(Key::List))
 }
 
-/// Puts the wheels in their slots, each with its ring and the letter in its window.
+/// Appends the slots' wheels, each with its ring and its window letter.
 fn push_wheels(
     wheels: &mut ArrayVec<SheetWheel, 4>,
     slots: &[Option<Wheel>],
@@ -106,7 +106,7 @@ fn push_wheels(
     }
 }
 
-/// The day of a rotor model.
+/// Reads a day of a rotor machine.
 #[tactic(auto, unfolding(crate::specs::SheetFile::rotor_day_in))]
 fn rotor_day_in(table: &Table, day: u8, model: Model) -> Result<SheetDay, SheetFault>
     requires slots { 0 < slots_of model }
@@ -137,7 +137,7 @@ fn rotor_day_in(table: &Table, day: u8, model: Model) -> Result<SheetDay, SheetF
     Ok(new.unwrap())
 }
 
-/// The day of a Converter M-209.
+/// Reads a day of a Converter M-209.
 #[tactic(auto, unfolding(crate::specs::SheetFile::pin_day_in))]
 fn pin_day_in(table: &Table, day: u8) -> Result<SheetDay, SheetFault>
     requires { IsDayNumber day }
@@ -150,7 +150,7 @@ fn pin_day_in(table: &Table, day: u8) -> Result<SheetDay, SheetFault>
     Ok(SheetDay::pin(day, rows, pins, window, list).unwrap())
 }
 
-/// The day of a model.
+/// Reads the day `day` of `model`.
 #[tactic(auto, unfolding(crate::specs::SheetFile::model_day_in))]
 pub fn model_day_in(table: &Table, day: u8, model: Model) -> Result<SheetDay, SheetFault>
     requires { IsDayNumber day }

@@ -1,4 +1,4 @@
-//! The table of a document, and what stands in it at a key.
+//! Parsing a TOML document, and finding values in its table.
 ghost use Rattle.std.specs.Prelude.{◌≡◌, map, option_map};
 ghost use Rattle.toml.specs.{Data.{get_member}, View.{view, table_view}};
 ghost use Rattle.kd_sheet.specs.Document.{Answers, result_map, document_of, value_at, text_at, items_in, items_at};
@@ -10,7 +10,7 @@ use std::alloc::Global;
 use toml::value::Array;
 use toml::{Table, Value};
 
-/// The table of a document.
+/// Parses `bytes` as a TOML document.
 #[tactic(auto, using(crate::proofs::ReadBack::Described::Values::InTurn::document_parsed, crate::proofs::ReadBack::Described::Values::InTurn::document_refused))]
 pub fn document(alloc: Global, bytes: &[u8]) -> Result<Table, SheetFault>
     ensures { Answers (result_map table_view result) (document_of bytes.now) }
@@ -22,7 +22,7 @@ pub fn document(alloc: Global, bytes: &[u8]) -> Result<Table, SheetFault>
     }
 }
 
-/// The value at a key, if it is there.
+/// The value at `key`, if the table has one.
 pub fn find_at(table: &Table, key: Key) -> Option<&Value>
     ensures { option_map (λ value. view value.now) result
         ≡ get_member (key_name key) (table_view table.now) }
@@ -30,14 +30,14 @@ pub fn find_at(table: &Table, key: Key) -> Option<&Value>
     table.get(key.name())
 }
 
-/// The value at a key that has to be there.
+/// The value at `key`, or `Missing`.
 pub fn value_at(table: &Table, key: Key) -> Result<&Value, SheetFault>
     ensures { result_map (λ value. view value.now) result ≡ value_at key (table_view table.now) }
 {
     find_at(table, key).ok_or(SheetFault::Missing(key))
 }
 
-/// The text at a key.
+/// The text at `key`, or `Missing` or `BadValue`.
 pub fn text_at(table: &Table, key: Key) -> Result<&str, SheetFault>
     ensures { result_map (λ text. text.now) result ≡ text_at key (table_view table.now) }
 {
@@ -46,7 +46,7 @@ pub fn text_at(table: &Table, key: Key) -> Result<&str, SheetFault>
         .ok_or(SheetFault::BadValue(key))
 }
 
-/// The items of the array that a key's value has to be.
+/// The items of the array `value`, or `BadValue` of `key`.
 #[tactic(auto, using(crate::proofs::ReadBack::Described::Values::InTurn::items_in_found))]
 pub fn items_in(value: &Value, key: Key) -> Result<&Array, SheetFault>
     ensures { result_map (λ items. map view items.now.items) result
@@ -55,7 +55,7 @@ pub fn items_in(value: &Value, key: Key) -> Result<&Array, SheetFault>
     value.as_array().ok_or(SheetFault::BadValue(key))
 }
 
-/// The items of the array at a key.
+/// The items of the array at `key`.
 pub fn items_at(table: &Table, key: Key) -> Result<&Array, SheetFault>
     ensures { result_map (λ items. map view items.now.items) result
         ≡ items_at key (table_view table.now) }

@@ -1,4 +1,4 @@
-//! The texts that stand in the arrays of a machine file.
+//! How seats, cables and standings are written as items of an array.
 ghost use Rattle.std.specs.Prelude.{◌≡◌, ℕ, List};
 ghost use Rattle.{kd_tables.specs.Places.{standing_text}, kd_sheet.specs.MachineText.{cable_text, seat_text}};
 
@@ -6,15 +6,15 @@ use arrayvec::ArrayString;
 use kd_state::{Cable, push_letter};
 use kd_tables::{Standing, Wheel};
 
-/// An item's text, of at most 32 bytes.
+/// The text of an array's item, at most 32 bytes.
 pub type Item = ArrayString<32>;
 
-/// What stands as a text in an array.
+/// A thing that is written as a text in an array.
 pub trait ItemText {
-    /// The bytes of the text.
+    /// The bytes of this text.
     ghost item_text: { Self → List ℕ };
 
-    /// The text.
+    /// Writes the thing as a text.
     fn item_text(&self) -> Item
         ensures { result.bytes ≡ item_text self.now };
 }

@@ -1,4 +1,4 @@
-//! The items of an array, read one after another, each in the light of those before it.
+//! Reading the items of an array one after another. A reading may depend on the items before.
 ghost use Rattle.std.specs.Prelude.{◌≡◌, ◌<◌, ◌≤◌, List, Result, IfOk, map, length};
 ghost use Rattle.toml.specs.{Data.{Data}, View.{view, table_view}};
 ghost use Rattle.kd_sheet.specs.Document.{in_turn, each_at, up_to, result_map};
@@ -10,18 +10,18 @@ use super::key::Key;
 use arrayvec::ArrayVec;
 use toml::{Table, Value};
 
-/// What an item of an array is read as. `Given` is what a reading has to know beside the items.
+/// A type that an item of an array can be read as. `Given` is what reading needs beside the items.
 pub trait FromItem<Given> {
-    /// What an item is, given what the items before it are.
+    /// What an item is read as, after the items `before`: a value or a fault.
     ghost reading: { Given → List Self → Data → Result Self SheetFault };
 
-    /// Reads an item, given what the items before it are.
+    /// Reads `item`, which comes after the items `before`.
     fn read(given: &Given, before: &[Self], item: &Value) -> Result<Self, SheetFault>
         requires { length before.now < 27 }
         ensures { result ≡ reading given.now before.now (view item.now) };
 }
 
-/// What the items are, of which there may be `N`.
+/// Reads `items`, at most `N`.
 fn read_items<T: FromItem<G> + Copy + Default, G, const N: usize>(
     given: &G,
     items: &[Value],
@@ -39,7 +39,7 @@ fn read_items<T: FromItem<G> + Copy + Default, G, const N: usize>(
     Ok(values)
 }
 
-/// What the items of the array at a key are, of which there have to be so many, at most `N`.
+/// Reads the `count` items of the array at `key`. `BadValue` if there are more or fewer.
 pub fn read_each<T: FromItem<G> + Copy + Default, G, const N: usize>(
     table: &Table,
     key: Key,
@@ -58,7 +58,7 @@ pub fn read_each<T: FromItem<G> + Copy + Default, G, const N: usize>(
     read_items(given, items)
 }
 
-/// What the items of the array are that a key's value has to be, of which there may be `N`.
+/// Reads the items of the array `value`. `BadValue` of `key` if there are more than `N`.
 pub fn read_up_to<T: FromItem<()> + Copy + Default, const N: usize>(
     value: &Value,
     key: Key,

@@ -1,7 +1,8 @@
+//! The keys of machine files and key sheets.
 ghost use Rattle.std.specs.Prelude.{◌≡◌, ◌≤◌, length};
 ghost use Rattle.kd_sheet.specs.Key.{key_name};
 
-/// A key of the files.
+/// A key of a machine file or a key sheet.
 #[derive(Clone, Copy, Debug, PartialEq, Eq)]
 pub enum Key {
     Version,
@@ -23,7 +24,7 @@ pub enum Key {
 }
 
 impl Key {
-    /// The key as a file writes it.
+    /// The key as it stands in a file.
     pub fn name(self) -> &'static str
         ensures value { result.now ≡ key_name self }
         ensures short { length result.now ≤ 9 }

@@ -1,17 +1,20 @@
-//! Laws over machine files, and over key sheets and their entries.
+//! Laws of machine files, key sheets and their days.
 ghost use Rattle.kd_sheet.specs.Laws.{LegalPartsAreReadBack, WrittenFilesAreReadBack};
 ghost use Rattle.kd_sheet.specs.Laws.{LegalDaysAreDescribed, DaysAreTheEntries};
 
-/// The file that is written of a machine is read as just that machine, and the file of legal parts as the machine of these
-/// parts, with the letters of each cable in order.
+/// A machine's written file is read as the same machine.
+///
+/// The file of legal parts is read as the machine of these parts, with each cable's letters in alphabetical
+/// order.
 #[tactic(auto, using(crate::proofs::ReadBack::parts_are_read_back))]
 pub fn written_files_are_read_back()
     ensures machines { WrittenFilesAreReadBack }
     ensures parts { LegalPartsAreReadBack }
 {}
 
-/// A day is legal exactly where some entry of a sheet describes it. A sheet's day of a number is what the entry of that
-/// number describes.
+/// A day is legal exactly if some entry's table describes it.
+///
+/// Day `number` of a sheet is the day that the entry with this number describes.
 pub fn days_are_the_entries()
     ensures legal { LegalDaysAreDescribed }
     ensures sheet { DaysAreTheEntries }

@@ -1,4 +1,4 @@
-//! Texts of capital letters, and the letters that numbers stand for.
+//! Reading letters: from texts of capital letters, and from numbers.
 ghost use Rattle.std.specs.{Prelude.{◌≡◌, ◌<◌, ◌≤◌, length, map, IfSome, option_map}, Option.{option_and_then}};
 ghost use Rattle.toml.specs.{Data.{as_str}, View.{view}};
 ghost use Rattle.kd_tables.specs.Tables.{slots_of};
@@ -10,7 +10,7 @@ use kd_state::PerSlot;
 use kd_tables::{Letter, Model};
 use toml::Value;
 
-/// The letters of a text of exactly so many capital letters, at most `N`.
+/// Reads a text of exactly `count` capital letters, where `count` is at most `N`.
 pub fn capital_letters<const N: usize>(text: &[u8], count: usize) -> Option<ArrayVec<Letter, N>>
     requires { count ≤ N }
     ensures value { option_map (λ letters. letters.items) result ≡ capital_letters count text.now }
@@ -26,7 +26,7 @@ pub fn capital_letters<const N: usize>(text: &[u8], count: usize) -> Option<Arra
     Some(letters)
 }
 
-/// The letters of a text of exactly `N` capital letters.
+/// Reads a text of exactly `N` capital letters.
 pub fn letters_of_text<const N: usize>(text: &[u8]) -> Option<[Letter; N]>
     requires { N ≤ 26 }
     ensures value { result ≡ capital_letters N text.now }
@@ -35,7 +35,7 @@ pub fn letters_of_text<const N: usize>(text: &[u8]) -> Option<[Letter; N]>
     capital_letters(text, N)?.into_inner().ok()
 }
 
-/// The letters of an item that is a text of exactly `N` capital letters.
+/// Reads an item that is a text of exactly `N` capital letters.
 pub fn letters_of_item<const N: usize>(item: &Value) -> Option<[Letter; N]>
     requires { N ≤ 26 }
     ensures value { result ≡ option_and_then (capital_letters N) (as_str (view item.now)) }
@@ -44,7 +44,7 @@ pub fn letters_of_item<const N: usize>(item: &Value) -> Option<[Letter; N]>
     letters_of_text(item.as_str()?.as_bytes())
 }
 
-/// A letter for each of the model's slots.
+/// Reads a text with a capital letter for each slot of `model`.
 pub fn slot_letters(model: Model, text: &[u8]) -> Option<PerSlot<Letter>>
     requires { 0 < slots_of model }
     ensures { result ≡ capital_letters (slots_of model) text.now }
@@ -53,14 +53,14 @@ pub fn slot_letters(model: Model, text: &[u8]) -> Option<PerSlot<Letter>>
     PerSlot::new(letters.as_slice())
 }
 
-/// The letter that a number from 1 to 26 stands for. 1 is A.
+/// Reads a number from 1 to 26 as a letter. 1 is A.
 fn numbered_letter(item: &Value) -> Option<Letter>
     ensures { result ≡ numbered_letter (view item.now) }
 {
     Letter::new(number_to(item, 26)? - 1)
 }
 
-/// The letters that numbers stand for, one for each of the model's slots.
+/// Reads an array that has a number from 1 to 26 for each slot of `model`. 1 is A.
 pub fn numbered_slots(model: Model, items: &[Value]) -> Option<PerSlot<Letter>>
     requires { 0 < slots_of model }
     ensures { result ≡ numbered_letters (slots_of model) (map view items.now) }

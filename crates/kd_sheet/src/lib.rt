@@ -1,4 +1,4 @@
-//! Machine files and key sheets: reading them, and writing the file of a machine.
+//! Reads machine files and key sheets, and writes machine files.
 #![tactic(auto)]
 
 mod bars;

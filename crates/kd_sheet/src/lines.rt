@@ -1,4 +1,4 @@
-//! The lines of a machine file, each with a key and its value.
+//! Writing the lines of a machine file: a key, `=` and a value.
 ghost use Rattle.std.specs.{Prelude.{codes, ◌≡◌, ◌+◌, ◌*◌, ◌≤◌, ◌++◌, map, length}, List.{flat_map, join_by}};
 ghost use Rattle.arrayvec.specs.ArrayString.{array_string_len};
 ghost use Rattle.kd_sheet.specs.{Key.{key_name}, MachineText.{quoted, listed, key_line}};
@@ -7,10 +7,10 @@ use super::item_text::ItemText;
 use super::key::Key;
 use arrayvec::ArrayString;
 
-/// The text of a machine file, which is shorter than 2048 bytes.
+/// The text of a machine file, shorter than 2048 bytes.
 pub type Text = ArrayString<2048>;
 
-/// Puts a key and the sign behind it.
+/// Appends `key` and ` = `.
 fn push_key(text: &mut Text, key: Key)
     requires { array_string_len text.old + 12 ≤ 2048 }
     ensures bytes { text.new.bytes ≡ text.old.bytes ++ (key_name key ++ codes " = ") }
@@ -20,7 +20,7 @@ fn push_key(text: &mut Text, key: Key)
     text.push_str(" = ");
 }
 
-/// Puts a value in double quotes.
+/// Appends `value` in double quotes.
 fn push_quoted(text: &mut Text, value: &str)
     requires { array_string_len text.old + length value.now + 2 ≤ 2048 }
     ensures bytes { text.new.bytes ≡ text.old.bytes ++ quoted value.now }
@@ -31,7 +31,7 @@ fn push_quoted(text: &mut Text, value: &str)
     text.push_str("\"");
 }
 
-/// Puts a line with a number of one figure.
+/// Appends a line whose value is a number of one digit.
 pub fn push_figure_line(text: &mut Text, key: Key, value: &str)
     requires { array_string_len text.old + length value.now + 13 ≤ 2048 }
     ensures bytes { text.new.bytes ≡ text.old.bytes ++ key_line key value.now }
@@ -42,7 +42,7 @@ pub fn push_figure_line(text: &mut Text, key: Key, value: &str)
     text.push_str("\n");
 }
 
-/// Puts a line with a text.
+/// Appends a line whose value is a text.
 pub fn push_text_line(text: &mut Text, key: Key, value: &str)
     requires { array_string_len text.old + length value.now + 15 ≤ 2048 }
     ensures bytes { text.new.bytes ≡ text.old.bytes ++ key_line key (quoted value.now) }
@@ -53,7 +53,7 @@ pub fn push_text_line(text: &mut Text, key: Key, value: &str)
     text.push_str("\n");
 }
 
-/// Puts items behind a first one.
+/// Appends items, each with a comma and a space before it.
 fn push_rest<T: ItemText>(text: &mut Text, items: &[T])
     requires { array_string_len text.old + 36 * length items.now ≤ 2048 }
     ensures bytes { text.new.bytes ≡ text.old.bytes ++ flat_map
@@ -67,7 +67,7 @@ fn push_rest<T: ItemText>(text: &mut Text, items: &[T])
     }
 }
 
-/// Puts items with a comma and a space between them.
+/// Appends items with a comma and a space between them.
 fn push_items<T: ItemText>(text: &mut Text, items: &[T])
     requires { array_string_len text.old + 36 * length items.now ≤ 2048 }
     ensures bytes { text.new.bytes
@@ -80,7 +80,7 @@ fn push_items<T: ItemText>(text: &mut Text, items: &[T])
     }
 }
 
-/// Puts a line with an array of texts.
+/// Appends a line whose value is an array of texts.
 pub fn push_list_line<T: ItemText>(text: &mut Text, key: Key, items: &[T])
     requires { array_string_len text.old + 36 * length items.now + 15 ≤ 2048 }
     ensures bytes { text.new.bytes

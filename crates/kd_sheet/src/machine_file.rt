@@ -1,10 +1,12 @@
-//! Machine files: what stands on the desk.
+//! Reads machine files.
 ghost use Rattle.std.specs.Prelude.{◌≡◌, ◌≤◌, ◌<◌, length};
 ghost use Rattle.toml.specs.View.{table_view};
 ghost use Rattle.kd_tables.specs.Tables.{box_of, slots_of};
 ghost use Rattle.kd_sheet.specs.Document.{Answers};
 ghost use Rattle.kd_sheet.specs.{Letters.{letters_at}, Names.{reflector_by_name}};
-ghost use Rattle.kd_sheet.specs.MachineFile.{model_in, reflector_in, rotor_parts_in, pin_parts_in, parts_in, machine_in, machine_of};
+ghost use Rattle.kd_sheet.specs.MachineFile.{model_in, reflector_in, rotor_parts_in, pin_parts_in, parts_in};
+ghost use Rattle.kd_sheet.specs.MachineFile.{machine_in};
+ghost use Rattle.kd_sheet.specs.MachineFile.{machine_of};
 
 use super::bars::bars_in;
 use super::cables::cables_in;
@@ -20,10 +22,10 @@ use kd_tables::{Letter, Model, Reflector};
 use std::alloc::Global;
 use toml::Table;
 
-/// The latest version of the files.
+/// The latest version of machine files.
 const VERSION: u8 = 2;
 
-/// The model whose name stands in the table.
+/// Reads the model by its name.
 #[tactic(auto, unfolding(crate::specs::MachineFile::model_in))]
 pub fn model_in(table: &Table) -> Result<Model, SheetFault>
     ensures { result ≡ model_in (table_view table.now) }
@@ -32,7 +34,7 @@ pub fn model_in(table: &Table) -> Result<Model, SheetFault>
     Model::from_text(name.as_bytes()).ok_or(SheetFault::UnknownModel)
 }
 
-/// The model's reflector of that name.
+/// The reflector of `model` with the name `name`.
 #[tactic(auto, unfolding(crate::specs::Names::reflector_by_name))]
 fn reflector_by_name(model: Model, name: &str) -> Option<Reflector>
     ensures { result ≡ reflector_by_name model name.now }
@@ -45,7 +47,7 @@ fn reflector_by_name(model: Model, name: &str) -> Option<Reflector>
     None
 }
 
-/// The model's reflector whose name stands in the table.
+/// Reads the reflector by its name.
 #[tactic(auto, unfolding(crate::specs::MachineFile::reflector_in))]
 pub fn reflector_in(table: &Table, model: Model) -> Result<Reflector, SheetFault>
     ensures { result ≡ reflector_in model (table_view table.now) }
@@ -54,7 +56,7 @@ pub fn reflector_in(table: &Table, model: Model) -> Result<Reflector, SheetFault
     reflector_by_name(model, name).ok_or(SheetFault::BadValue(Key::Reflector))
 }
 
-/// A letter for each wheel of the model's box, in box order.
+/// Reads a letter for each wheel of the model's box, in box order.
 #[tactic(auto, unfolding(crate::specs::Letters::letters_at))]
 fn box_letters_in(table: &Table, key: Key, model: Model) -> Result<PerWheel<Letter>, SheetFault>
     requires { 0 < slots_of model }
@@ -67,7 +69,7 @@ fn box_letters_in(table: &Table, key: Key, model: Model) -> Result<PerWheel<Lett
     Ok(PerWheel::new(letters.as_slice()).unwrap())
 }
 
-/// The parts of a rotor machine, read in the order in which their keys are tested.
+/// Reads the parts of a rotor machine, key by key. The first fault counts.
 #[tactic(auto, unfolding(crate::specs::MachineFile::rotor_parts_in))]
 fn rotor_parts_in(table: &Table, model: Model) -> Result<RotorParts, SheetFault>
     requires { 0 < slots_of model }
@@ -83,7 +85,7 @@ fn rotor_parts_in(table: &Table, model: Model) -> Result<RotorParts, SheetFault>
     })
 }
 
-/// The parts of a Converter M-209, read in the order in which their keys are tested.
+/// Reads the parts of a Converter M-209, key by key. The first fault counts.
 #[tactic(auto, unfolding(crate::specs::MachineFile::pin_parts_in))]
 fn pin_parts_in(table: &Table) -> Result<PinParts, SheetFault>
     ensures { result ≡ pin_parts_in (table_view table.now) }
@@ -95,7 +97,7 @@ fn pin_parts_in(table: &Table) -> Result<PinParts, SheetFault>
     })
 }
 
-/// The machine of a model that the table describes.
+/// Reads the machine of `model`.
 #[tactic(auto, using(crate::proofs::ReadBack::Described::rotor_parts_legal, crate::proofs::ReadBack::Described::pin_parts_legal), unfolding(crate::specs::MachineFile::parts_in))]
 fn parts_in(table: &Table, model: Model) -> Result<Machine, SheetFault>
     ensures { result ≡ parts_in model (table_view table.now) }
@@ -108,7 +110,7 @@ fn parts_in(table: &Table, model: Model) -> Result<Machine, SheetFault>
     }
 }
 
-/// The machine that a machine file's table describes, or its first fault. The M4 came with version 2.
+/// Reads the machine that a file's table describes, or its first fault. The M4 needs version 2.
 #[tactic(auto, unfolding(crate::specs::MachineFile::machine_in, crate::specs::MachineFile::version_in, crate::specs::MachineFile::known_model_in))]
 fn machine_in(table: &Table) -> Result<Machine, SheetFault>
     ensures { result ≡ machine_in (table_view table.now) }
@@ -120,9 +122,10 @@ fn machine_in(table: &Table) -> Result<Machine, SheetFault>
     }
 }
 
-/// The machine that the bytes of a machine file describe, or the file's first fault. A file of version 1 or 2 is read; the
-/// M4 stands only in version 2. `NoMemory` may stand in place of any other answer: only reading the document takes memory,
-/// but no clause says that memory ran out where it is told.
+/// Reads a machine file of version 1 or 2, or its first fault. The M4 needs version 2.
+///
+/// `NoMemory` may come instead of any other answer. Only parsing the document takes memory, but no clause says
+/// that memory really ran out.
 pub fn read_machine(alloc: Global, bytes: &[u8]) -> Result<Machine, SheetFault>
     ensures { Answers result (machine_of bytes.now) }
 {

@@ -1,4 +1,4 @@
-//! Whole numbers.
+//! Reading whole numbers.
 ghost use Rattle.std.specs.Prelude.{◌≡◌, ◌≤◌, ok_or, IfOk, IfSome};
 ghost use Rattle.toml.specs.View.{view, table_view};
 ghost use Rattle.kd_sheet.specs.Document.{◌>>=◌ as ◌followed_by◌, value_at};
@@ -10,7 +10,7 @@ use super::fault::SheetFault;
 use super::key::Key;
 use toml::{Table, Value};
 
-/// The value as a whole number from 1 to `last`.
+/// Reads `value` as a whole number from 1 to `last`.
 pub fn number_to(value: &Value, last: u8) -> Option<u8>
     ensures value { result ≡ number_to last (view value.now) }
     ensures within { IfSome result (λ number. (1 ≤ number) × (number ≤ last)) }
@@ -19,7 +19,7 @@ pub fn number_to(value: &Value, last: u8) -> Option<u8>
     (1 <= number && number <= last).then_some(number)
 }
 
-/// The whole number from 1 to `last` at a key.
+/// Reads the whole number from 1 to `last` at `key`.
 pub fn number_at(table: &Table, key: Key, last: u8) -> Result<u8, SheetFault>
     ensures value { result ≡ (value_at key (table_view table.now)
         followed_by (λ value. ok_or (number_to last value) (faults.BadValue key))) }

@@ -1,4 +1,4 @@
-//! The letters of the Converter's six wheels, and which of their pins are effective.
+//! Reading the letters that the Converter's six wheels show, and their effective pins.
 ghost use Rattle.std.specs.Prelude.{◌≡◌, ◌+◌, ◌<◌, [], ◌∷◌, length, map, ok_or, Ok};
 ghost use Rattle.std.specs.{List.{enumerate_from, list_all}, Option.{option_and_then}};
 ghost use Rattle.toml.specs.{Data.{as_str}, View.{view, table_view}};
@@ -18,7 +18,7 @@ use kd_pins::PinSet;
 use kd_tables::{Letter, Ring, place_on_wheel, ring1, ring2, ring3, ring4, ring5, ring6};
 use toml::{Table, Value};
 
-/// Whether each letter is on its wheel, from this wheel on.
+/// Whether each letter is on its wheel. The first letter is on `wheel`, the next on the wheel after it.
 #[tactic(auto, using(kd_state::proofs::Slots::on_wheels))]
 fn are_on_wheels(wheel: u8, letters: &[Letter]) -> bool
     requires { wheel + length letters.now < 256 }
@@ -33,7 +33,7 @@ fn are_on_wheels(wheel: u8, letters: &[Letter]) -> bool
     }
 }
 
-/// The letters of a text of six capital letters, each on its wheel.
+/// Reads a text of six capital letters, each on its wheel.
 #[tactic(auto, unfolding(crate::specs::PinWheels::letters_on_wheels))]
 fn letters_on_wheels(text: &[u8]) -> Option<[Letter; 6]>
     ensures { result ≡ letters_on_wheels text.now }
@@ -42,7 +42,7 @@ fn letters_on_wheels(text: &[u8]) -> Option<[Letter; 6]>
     are_on_wheels(1, &letters).then_some(letters)
 }
 
-/// A letter for each of the six wheels.
+/// Reads the letters that the six wheels show.
 #[tactic(auto, unfolding(crate::specs::PinWheels::shown_in))]
 pub fn shown_in(table: &Table, key: Key) -> Result<[Letter; 6], SheetFault>
     ensures { result ≡ shown_in key (table_view table.now) }
@@ -50,8 +50,8 @@ pub fn shown_in(table: &Table, key: Key) -> Result<[Letter; 6], SheetFault>
     letters_on_wheels(text_at(table, key)?.as_bytes()).ok_or(SheetFault::BadValue(key))
 }
 
-/// Whether the byte is the capital letter of one on the wheel.
-fn is_on(ring: &[Letter], byte: u8) -> bool
+/// Whether `byte` is a capital letter of `ring`.
+fn is_letter_of(ring: &[Letter], byte: u8) -> bool
     ensures { result ≡ is_on ring.now byte }
 {
     for letter in ring {
@@ -62,26 +62,26 @@ fn is_on(ring: &[Letter], byte: u8) -> bool
     false
 }
 
-/// Whether the byte stands once in the text.
+/// Whether `byte` stands exactly once in `text`.
 fn stands_once(text: &[u8], byte: u8) -> bool
     ensures { result ≡ stands_once text.now byte }
 {
     text.iter().filter(|other| **other == byte).count() == 1
 }
 
-/// Whether the text has letters of the wheel, and none of them twice.
+/// Whether `text` has only letters of `ring`, and none of them twice.
 fn is_pin_text(ring: &[Letter], text: &[u8]) -> bool
     ensures { result ≡ is_pin_text ring.now text.now }
 {
     for byte in text {
-        if !is_on(ring, *byte) || !stands_once(text, *byte) {
+        if !is_letter_of(ring, *byte) || !stands_once(text, *byte) {
             return false;
         }
     }
     true
 }
 
-/// Which of the letters the text has.
+/// For each of `letters`, whether `text` has it.
 fn letters_in<const N: usize>(letters: &[Letter; N], text: &[u8]) -> [bool; N]
     ensures { result ≡ map (has_capital text.now) letters.now }
 {
@@ -92,7 +92,7 @@ fn letters_in<const N: usize>(letters: &[Letter; N], text: &[u8]) -> [bool; N]
     found
 }
 
-/// Which pins of the wheel are effective, where the item is a text that has the letters of those that are.
+/// Reads the effective pins of one wheel: `item` is a text of their letters.
 #[tactic(auto, unfolding(crate::specs::PinWheels::pins_of_text))]
 fn pins_of_item<const N: usize>(ring: &Ring<N>, item: &Value) -> Option<[bool; N]>
     ensures { result ≡ option_and_then (pins_of_text ring.now) (as_str (view item.now)) }
@@ -102,7 +102,7 @@ fn pins_of_item<const N: usize>(ring: &Ring<N>, item: &Value) -> Option<[bool; N
     is_pin_text(&letters, text).then_some(letters_in(&letters, text))
 }
 
-/// The effective pins of the six wheels, an item for each.
+/// Reads the effective pins of the six wheels, an item for each.
 #[tactic(auto, unfolding(crate::specs::PinWheels::pins_in))]
 pub fn pins_in(table: &Table) -> Result<PinSet, SheetFault>
     ensures { result ≡ pins_in (table_view table.now) }
@@ -114,7 +114,7 @@ pub fn pins_in(table: &Table) -> Result<PinSet, SheetFault>
     pins_of_six(one, two, three, four, five, six).ok_or(SheetFault::BadValue(Key::Pins))
 }
 
-/// The effective pins of the six wheels, by their items.
+/// Reads the effective pins from the six items.
 #[tactic(auto, unfolding(crate::specs::PinWheels::pins_of_item))]
 fn pins_of_six(
     one: &Value,

@@ -1,4 +1,4 @@
-//! Which wheels the items of an array seat, slot by slot from the left.
+//! Reading which wheel stands in each slot, from the left.
 ghost use Rattle.std.specs.Prelude.{◌≡◌, ◌<◌, length};
 ghost use Rattle.toml.specs.View.{table_view};
 ghost use Rattle.kd_tables.specs.Tables.{slots_of};
@@ -11,14 +11,14 @@ use kd_state::PerSlot;
 use kd_tables::{Model, Wheel, allowed};
 use toml::{Table, Value};
 
-/// The wheel of that name.
+/// The wheel with the name `name`.
 fn wheel_by_name(name: &str) -> Option<Wheel>
     ensures { result ≡ wheel_by_name name.now }
 {
     Wheel::from_text(name.as_bytes())
 }
 
-/// The wheel of that name, for the slot behind these. The key is the one under which the name stands.
+/// The wheel with the name `name`, if it may stand in the slot to the right of `slots`. `key` is for faults.
 #[tactic(auto, using(crate::proofs::ReadBack::Described::Values::seating), unfolding(crate::specs::Seats::wheel_for))]
 fn wheel_for(
     key: Key,
@@ -39,7 +39,7 @@ fn wheel_for(
     Ok(wheel)
 }
 
-/// Reads the seats of a model's slots, of an array at a key. The empty text seats nothing, where it may stand.
+/// Reads an item as the wheel in the next slot. The empty text leaves the slot empty, if `key` allows it.
 impl FromItem<(Key, Model)> for Option<Wheel> {
     ghost reading = { λ given. seat_of_item given.0 given.1 };
 
@@ -54,7 +54,7 @@ impl FromItem<(Key, Model)> for Option<Wheel> {
     }
 }
 
-/// The seats of the model's slots, by the array at a key.
+/// Reads the wheels in the model's slots from the array at `key`.
 #[tactic(auto, unfolding(crate::specs::Seats::seats_in))]
 pub fn seats_in(table: &Table, key: Key, model: Model) -> Result<PerSlot<Option<Wheel>>, SheetFault>
     requires { 0 < slots_of model }

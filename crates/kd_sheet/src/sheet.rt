@@ -1,3 +1,4 @@
+//! A key sheet, as a month of days.
 ghost use Rattle.std.specs.Prelude.{◌≡◌, option_copied, slice_set, ◌-◌, IfSome, List, [], Option, Some};
 ghost use Rattle.kd_state.specs.SheetDay.{Day, day_number};
 ghost use Rattle.kd_sheet.specs.Sheet.{day_of, month_of, IsMonth};
@@ -5,13 +6,13 @@ ghost use Rattle.kd_sheet.specs.Sheet.{day_of, month_of, IsMonth};
 use kd_state::SheetDay;
 use std::marker::Model;
 
-/// How many days the longest month has.
+/// The number of days of the longest month.
 pub(crate) const DAYS: u8 = 31;
 
-/// A key sheet: a month with a day here and there. It takes no memory of its own.
+/// A key sheet: a month of which some days have an entry. It takes no memory of its own.
 #[derive(Drop)]
 pub struct Sheet {
-    /// Each day at its number, counted from 1.
+    /// Day `n` stands at index `n - 1`.
     days: [Option<SheetDay>; DAYS as usize],
 }
 
@@ -24,7 +25,7 @@ impl Model for Sheet {
 }
 
 impl Sheet {
-    /// The sheet without days.
+    /// Creates a sheet without days.
     #[tactic(auto, using(crate::proofs::ReadBack::Described::blank_month, crate::proofs::ReadBack::Described::empty_month))]
     pub(crate) fn new() -> Self
         ensures { result ≡ month_of [] }
@@ -34,7 +35,7 @@ impl Sheet {
         }
     }
 
-    /// The day of that number, if the sheet has one.
+    /// Day `number`, if the sheet has it.
     pub fn day(&self, number: u8) -> Option<&SheetDay>
         ensures value { option_copied result ≡ day_of self.now number }
         ensures number { IfSome result (λ day. day_number day.now ≡ number) }
@@ -43,7 +44,7 @@ impl Sheet {
         self.days.get(place)?.as_ref()
     }
 
-    /// The day of that number, if the sheet has one, given away.
+    /// Takes day `number` out of the sheet, if the sheet has it.
     pub fn into_day(self, number: u8) -> Option<SheetDay>
         ensures value { result ≡ day_of self number }
         ensures number { IfSome result (λ day. day_number day ≡ number) }
@@ -53,7 +54,7 @@ impl Sheet {
         days.get_mut(place)?.take()
     }
 
-    /// Puts the day at its number.
+    /// Puts `day` at its number.
     pub(crate) fn put(&mut self, day: SheetDay)
         ensures { self.new ≡ slice_set self.old (day_number day - 1) (Some day) }
     {

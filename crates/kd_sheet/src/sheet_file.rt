@@ -1,4 +1,4 @@
-//! Key sheets: the days for which a machine can be set.
+//! Reads key sheets.
 ghost use Rattle.std.specs.Prelude.{◌≡◌, map, List, IfOk};
 ghost use Rattle.toml.specs.View.{view, table_view};
 ghost use Rattle.kd_state.specs.SheetDay.{Day, IsDayNumber};
@@ -16,7 +16,7 @@ use kd_state::SheetDay;
 use std::alloc::Global;
 use toml::{Table, Value};
 
-/// The day's number, which no day of the sheet has.
+/// Reads the day's number, or `DayTwice` if `sheet` has that day.
 #[tactic(auto, using(crate::proofs::ReadBack::Described::taken), unfolding(crate::specs::SheetFile::new_number_in, crate::specs::SheetFile::number_in))]
 fn new_number_in(sheet: &Sheet, table: &Table) -> Result<u8, SheetFault>
     ensures value { (days : List Day) → sheet.now ≡ month_of days
@@ -30,7 +30,7 @@ fn new_number_in(sheet: &Sheet, table: &Table) -> Result<u8, SheetFault>
     Ok(number)
 }
 
-/// The day of an item behind the days of the sheet, or its first fault.
+/// Reads the day that `item` describes, or its first fault. `sheet` has the days before it.
 #[tactic(auto, unfolding(crate::specs::SheetFile::day_for, crate::specs::SheetFile::day_in))]
 fn day_for(sheet: &Sheet, item: &Value) -> Result<SheetDay, SheetFault>
     ensures { (days : List Day) → sheet.now ≡ month_of days → result ≡ day_for days (view item.now) }
@@ -40,9 +40,9 @@ fn day_for(sheet: &Sheet, item: &Value) -> Result<SheetDay, SheetFault>
     model_day_in(table, number, model_in(table)?)
 }
 
-/// The month with the days of the items.
+/// Reads `items` as the days of a sheet.
 #[tactic(auto, using(crate::proofs::ReadBack::Described::first_month, crate::proofs::ReadBack::Described::Values::InTurn::on_all))]
-fn month(items: &[Value]) -> Result<Sheet, SheetFault>
+fn month_of_items(items: &[Value]) -> Result<Sheet, SheetFault>
     ensures { result ≡ result_map month_of (in_turn day_for (map view items.now)) }
 {
     let mut sheet = Sheet::new();
@@ -53,12 +53,14 @@ fn month(items: &[Value]) -> Result<Sheet, SheetFault>
     Ok(sheet)
 }
 
-/// The sheet that the bytes of a sheet file describe, or the file's first fault. `NoMemory` may stand in place of any other
-/// answer: only reading the document takes memory, but no clause says that memory ran out where it is told.
+/// Reads a key sheet, or its first fault.
+///
+/// `NoMemory` may come instead of any other answer. Only parsing the document takes memory, but no clause says
+/// that memory really ran out.
 #[tactic(auto, unfolding(crate::specs::SheetFile::sheet_in))]
 pub fn read_sheet(alloc: Global, bytes: &[u8]) -> Result<Sheet, SheetFault>
     ensures { Answers result (sheet_of bytes.now) }
 {
     let table = document(alloc, bytes)?;
-    month(items_at(&table, Key::Day)?)
+    month_of_items(items_at(&table, Key::Day)?)
 }

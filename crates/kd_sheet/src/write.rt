@@ -1,4 +1,4 @@
-//! Writing the file of a machine.
+//! Writes machine files.
 ghost use Rattle.std.specs.{Prelude.{◌≡◌, ◌+◌, ◌<◌, ◌≤◌, ◌||◌, ◌++◌, map, length, is_err, Ok}, List.{concat}};
 ghost use Rattle.arrayvec.specs.ArrayString.{array_string_len};
 ghost use Rattle.kd_tables.specs.{Places.{figure}, Writing.{Writes}, Text.{letters_text}};
@@ -15,7 +15,7 @@ use kd_tables::{
     Device, Letter, Model, Ring, Sink, put_all, ring1, ring2, ring3, ring4, ring5, ring6,
 };
 
-/// The letters as a text.
+/// Writes `letters` as a text.
 fn letters_text(letters: &[Letter]) -> Item
     requires { length letters.now ≤ 32 }
     ensures { result.bytes ≡ letters_text letters.now }
@@ -27,7 +27,7 @@ fn letters_text(letters: &[Letter]) -> Item
     text
 }
 
-/// Puts a line with letters.
+/// Appends a line whose value is a text of letters.
 fn push_letters_line(text: &mut Text, key: Key, letters: &[Letter])
     requires room { array_string_len text.old + 47 ≤ 2048 }
     requires few { length letters.now ≤ 32 }
@@ -38,7 +38,7 @@ fn push_letters_line(text: &mut Text, key: Key, letters: &[Letter])
     push_text_line(text, key, letters_text(letters).as_str());
 }
 
-/// Puts the letters of the pins that are effective.
+/// Appends the letters whose pins are effective.
 fn push_pins(text: &mut Item, letters: &[Letter], pins: &[bool])
     requires room { array_string_len text.old + length letters.now ≤ 32 }
     requires pins { length pins.now ≡ length letters.now }
@@ -52,7 +52,7 @@ fn push_pins(text: &mut Item, letters: &[Letter], pins: &[bool])
     }
 }
 
-/// The letters of a wheel's effective pins, in the wheel's own order.
+/// Writes the letters of a wheel's effective pins, in the wheel's own order.
 fn pins_text<const N: usize>(ring: &Ring<N>, pins: &[bool; N]) -> Item
     requires { N ≤ 32 }
     ensures { result.bytes ≡ pins_text ring.now pins.now }
@@ -63,7 +63,7 @@ fn pins_text<const N: usize>(ring: &Ring<N>, pins: &[bool; N]) -> Item
     text
 }
 
-/// The letters of the effective pins, wheel by wheel.
+/// Writes the letters of the effective pins, wheel by wheel.
 fn pin_texts(pins: &PinSet) -> [Item; 6]
     ensures { map (λ text. text.bytes) result ≡ pin_texts pins.now }
 {
@@ -77,7 +77,7 @@ fn pin_texts(pins: &PinSet) -> [Item; 6]
     ]
 }
 
-/// The version in which a file with the model is written, in figures.
+/// The version in which a file of `model` is written, as a digit.
 fn version_of(model: Model) -> &'static str
     ensures value { result.now ≡ figure (version_of model) }
 {
@@ -87,7 +87,7 @@ fn version_of(model: Model) -> &'static str
     }
 }
 
-/// The first two lines: the version and the model.
+/// Writes the first two lines: the version and the model.
 fn head_text(model: Model) -> Text
     ensures bytes { result.bytes ≡ concat (head_lines model) }
     ensures len { array_string_len result ≤ 40 }
@@ -98,7 +98,7 @@ fn head_text(model: Model) -> Text
     text
 }
 
-/// The machine file of a rotor machine.
+/// Writes the file of a rotor machine.
 #[tactic(auto, unfolding(crate::specs::MachineText::machine_text))]
 fn rotor_text(parts: &RotorParts) -> Text
     requires { IsLegalRotor parts.now }
@@ -113,7 +113,7 @@ fn rotor_text(parts: &RotorParts) -> Text
     text
 }
 
-/// The machine file of a Converter M-209.
+/// Writes the file of a Converter M-209.
 #[tactic(auto, unfolding(crate::specs::MachineText::machine_text))]
 fn pin_machine_text(parts: &PinParts) -> Text
     requires { IsLegalPin parts.now }
@@ -126,8 +126,9 @@ fn pin_machine_text(parts: &PinParts) -> Text
     text
 }
 
-/// Writes the machine file of a machine: in version 1, and in version 2 for the M4. On `Device` the sink has taken a front
-/// of the text. Whoever reads the whole text finds just this machine.
+/// Writes the file of `machine`: in version 2 for the M4, otherwise in version 1.
+///
+/// On `Device` the sink has a prefix of the text. The whole text is read as the same machine.
 #[tactic(auto, using(crate::proofs::ReadBack::parts_are_read_back))]
 pub fn write_machine<W: Sink>(sink: &mut W, machine: &Machine) -> Result<(), Device>
     ensures text { Writes (W.taken sink.old) (W.taken sink.new) (machine_text machine.now) result }

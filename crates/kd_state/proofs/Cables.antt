@@ -1,4 +1,4 @@
--- The letters in the cables, and cables that are a day's pairs.
+-- Lemmas on the letters in cables, and on cables that join exactly a day's pairs.
 use Rattle.kd_state.proofs.Prelude.{common_steps, NoLetterTwice, letters_plugged, AreCables, cable_letters, ordered}
 use Rattle.kd_state.proofs.Prelude.{plugged_letters, AreTheLetters, AreThePairs, IsJoined, IsPaired, Joins, SameLetters}
 use Rattle.kd_state.proofs.Prelude.{are_new, cable_with, cable_without, has_letter, both_ends, and_from, and_parts}
@@ -17,12 +17,13 @@ use Rattle.kd_enigma.specs.Plugs as plugs
 pub eqb_flips : (x y : ℕ) → nat_eq x y ≡ nat_eq y x
 eqb_flips x y = grind (arith, nat_tests)
 
--- none of the letters is equal to the one exactly where it isn't among them
-pub free_tells : (letters : List ℕ) (letter : ℕ) → (has_letter letters letter ≡ false) ↔ AllByRecursion (λ other. nat_eq letter other ≡ false) letters
+-- a letter isn't among the letters exactly if it equals none of them
+pub free_tells : (letters : List ℕ) (letter : ℕ)
+    → (has_letter letters letter ≡ false) ↔ AllByRecursion (λ other. nat_eq letter other ≡ false) letters
 free_tells [] letter = (λ _. tt, λ _. refl)
 free_tells (other ∷ letters) letter = grind (arith, or_parts, or_from, eqb_flips, free_tells letters letter)
 
--- letters are told by the tests that hold of them
+-- two lists have the same letters exactly if each letter is in both or in neither
 pub tests_tell_letters : TestsTellLetters
 tests_tell_letters xs ys = (
   λ same letter. grind (arith, same letter, has_letter-Decides xs letter, has_letter-Decides ys letter, both_ways),
@@ -32,8 +33,9 @@ tests_tell_letters xs ys = (
   ),
 )
 
--- letters that are new before others
-pub new_tells : (letters others : List ℕ) → IsDistinct nat_eq (letters ++ others) ↔ ((are_new letters others ≡ true) × IsDistinct nat_eq others)
+-- letters before others are all different exactly if `are_new` says so and the others are all different
+pub new_tells : (letters others : List ℕ)
+    → IsDistinct nat_eq (letters ++ others) ↔ ((are_new letters others ≡ true) × IsDistinct nat_eq others)
 unfolding IsDistinct
 new_tells [] others = (λ h. (refl, h), λ h. h.1)
 new_tells (letter ∷ letters) others = grind (arith, and_parts, and_from, not-true, free_tells, new_tells letters others)
@@ -42,145 +44,187 @@ pub no_letters : IsDistinct nat_eq []
 unfolding IsDistinct
 no_letters = tt
 
--- the letters of a cable in order are the same letters
-pub ordered_moves : (one other : Option ℕ) → IsPermutation (cable_letters (one, other)) (cable_letters (ordered one other))
+-- putting a cable in order permutes its letters
+pub ordered_moves : (one other : Option ℕ)
+    → IsPermutation (cable_letters (one, other)) (cable_letters (ordered one other))
 ordered_moves one other = grind (arith, cond_both, IsPermutation-append_comm)
 
 abbrev pub all_ordered : List (Option ℕ × Option ℕ) → List (Option ℕ × Option ℕ)
 all_ordered cables = map (λ cable. ordered cable.0 cable.1) cables
 
-pub all_ordered_move : (cables : List (Option ℕ × Option ℕ)) → IsPermutation (plugged_letters cables) (plugged_letters (all_ordered cables))
+pub all_ordered_move : (cables : List (Option ℕ × Option ℕ))
+    → IsPermutation (plugged_letters cables) (plugged_letters (all_ordered cables))
 all_ordered_move [] = IsPermutation-refl []
 all_ordered_move (cable ∷ cables) = grind (arith, IsPermutation-append, ordered, ordered_moves, all_ordered_move cables)
 
--- what is in order stays so
-in_order : Option ℕ × Option ℕ → Type 0
-in_order cable = ordered cable.0 cable.1 ≡ cable
+-- the cable is in order
+IsOrdered : Option ℕ × Option ℕ → Type 0
+IsOrdered cable = ordered cable.0 cable.1 ≡ cable
 
 pub ordered_again : (one other : Option ℕ) → ordered (ordered one other).0 (ordered one other).1 ≡ ordered one other
-unfolding in_order
-ordered_again one other = grind (arith, cond_both, in_order, le-leb, leb-false)
+unfolding IsOrdered
+ordered_again one other = grind (arith, cond_both, IsOrdered, le-leb, leb-false)
 
 pub all_ordered_again : (cables : List (Option ℕ × Option ℕ)) → all_ordered (all_ordered cables) ≡ all_ordered cables
 all_ordered_again [] = refl
 all_ordered_again (cable ∷ cables) = grind (arith, ordered_again, ordered, all_ordered_again cables)
 
-pub without_ordered : (letter : ℕ) (one other : Option ℕ) → ordered (cable_without letter (one, other)).0 (cable_without letter (one, other)).1 ≡ cable_without letter (one, other)
-unfolding in_order
-without_ordered letter one other = grind (arith, cond_both, in_order)
+pub without_ordered : (letter : ℕ) (one other : Option ℕ)
+    → ordered (cable_without letter (one, other)).0 (cable_without letter (one, other)).1
+    ≡ cable_without letter (one, other)
+unfolding IsOrdered
+without_ordered letter one other = grind (arith, cond_both, IsOrdered)
 
--- a letter that is taken out of its cable, before those that stay
+-- a letter taken out of its cable, and the letters that stay, are the cable's letters
 pub without_moves : (letter : ℕ) (one other : Option ℕ) → has_letter (cable_letters (one, other)) letter ≡ true
     → IsPermutation (cable_letters (one, other)) (letter ∷ cable_letters (cable_without letter (one, other)))
-without_moves letter one other h = grind (arith, true≢false, eq-eqb, Some, IsPermutation-append_comm (cable_letters (one, None)) (letter ∷ []))
+without_moves letter one other h =
+    grind (arith, true≢false, eq-eqb, Some, IsPermutation-append_comm (cable_letters (one, None)) (letter ∷ []))
 
--- a letter that is put into a loose end
+-- a letter put into a loose end joins the cable's letters
 after_end : (letter end : ℕ) → IsPermutation (letter ∷ end ∷ []) (cable_letters (ordered (Some end) (Some letter)))
 after_end letter end =
-    IsPermutation-trans (letter ∷ end ∷ []) (end ∷ letter ∷ []) (cable_letters (ordered (Some end) (Some letter))) (IsPermutation-append_comm (letter ∷ []) (end ∷ [])) (ordered_moves (Some end) (Some letter))
+    IsPermutation-trans (letter ∷ end ∷ []) (end ∷ letter ∷ []) (cable_letters (ordered (Some end) (Some letter)))
+    (IsPermutation-append_comm (letter ∷ []) (end ∷ [])) (ordered_moves (Some end) (Some letter))
 
 pub with_moves : (letter : ℕ) (one other : Option ℕ) → (not (is_none one) && not (is_none other)) ≡ false
     → IsPermutation (letter ∷ cable_letters (one, other)) (cable_letters (cable_with letter (one, other)))
 with_moves letter one other e = grind (arith, after_end)
 
--- one cable with other letters
-past : (first letters rest : List ℕ) → IsPermutation (first ++ (letters ++ rest)) (letters ++ (first ++ rest))
-past first letters rest =
-    rw (← append_assoc first letters rest, ← append_assoc letters first rest) (IsPermutation-append_left rest (first ++ letters) (letters ++ first) (IsPermutation-append_comm first letters))
+-- swapping two first parts of a list permutes it
+IsPermutation-append_swap : (first letters rest : List ℕ)
+    → IsPermutation (first ++ (letters ++ rest)) (letters ++ (first ++ rest))
+IsPermutation-append_swap first letters rest =
+    rw (← append_assoc first letters rest, ← append_assoc letters first rest)
+    (IsPermutation-append_left rest (first ++ letters) (letters ++ first) (IsPermutation-append_comm first letters))
 
-pub set_moves : (out into : List ℕ) (cables : List (Option ℕ × Option ℕ)) (place : ℕ) (cable new : Option ℕ × Option ℕ) → slice_get cables place ≡ Some cable
-    → IsPermutation (out ++ cable_letters cable) (into ++ cable_letters new) → IsPermutation (out ++ plugged_letters cables) (into ++ plugged_letters (set cables place new))
+pub set_moves : (out into : List ℕ) (cables : List (Option ℕ × Option ℕ)) (place : ℕ) (cable new : Option ℕ × Option ℕ)
+    → slice_get cables place ≡ Some cable
+    → IsPermutation (out ++ cable_letters cable) (into ++ cable_letters new)
+    → IsPermutation (out ++ plugged_letters cables) (into ++ plugged_letters (set cables place new))
 set_moves out into [] place cable new here moves = cc
 set_moves out into (first ∷ cables) zero cable new here moves =
     let e : first ≡ cable = cc in
-    rw (e, ← append_assoc out (cable_letters cable) (plugged_letters cables), ← append_assoc into (cable_letters new) (plugged_letters cables))
+    rw (
+      e,
+      ← append_assoc out (cable_letters cable) (plugged_letters cables),
+      ← append_assoc into (cable_letters new) (plugged_letters cables),
+    )
     (IsPermutation-append_left (plugged_letters cables) (out ++ cable_letters cable) (into ++ cable_letters new) moves)
 set_moves out into (first ∷ cables) (suc place) cable new here moves =
     let rest = set_moves out into cables place cable new here moves in
-    IsPermutation-trans _ _ _ (past out (cable_letters first) (plugged_letters cables))
+    IsPermutation-trans _ _ _ (IsPermutation-append_swap out (cable_letters first) (plugged_letters cables))
     (IsPermutation-trans _ _ _ (IsPermutation-append_right (cable_letters first) _ _ rest)
-    (past (cable_letters first) into (plugged_letters (set cables place new))))
+    (IsPermutation-append_swap (cable_letters first) into (plugged_letters (set cables place new))))
 
--- the letters in the cables from a place on are apart where those of that cable are new before the rest
-pub distinct_from : (cables : List (Option ℕ × Option ℕ)) (place : ℕ) (cable : Option ℕ × Option ℕ) → place < length cables → cable ≡ get_or cables place cable
+-- the letters in the cables from `place` on are all different exactly if those of `cable` are new before the
+-- rest
+pub distinct_from : (cables : List (Option ℕ × Option ℕ)) (place : ℕ) (cable : Option ℕ × Option ℕ)
+    → place < length cables → cable ≡ get_or cables place cable
     → IsDistinct nat_eq (plugged_letters (drop place cables))
-    ↔ ((are_new (cable_letters cable) (plugged_letters (drop (place + 1) cables)) ≡ true) × IsDistinct nat_eq (plugged_letters (drop (place + 1) cables)))
+    ↔ ((are_new (cable_letters cable) (plugged_letters (drop (place + 1) cables)) ≡ true)
+    × IsDistinct nat_eq (plugged_letters (drop (place + 1) cables)))
 distinct_from cables place cable within is = grind (arith, drop_more, new_tells)
 
--- ---- the pairs that whole cables exchange
+-- ---- the pairs that cables with two letters exchange
 
 abbrev pub pairs_of : List (Option ℕ × Option ℕ) → List (ℕ × ℕ)
 pairs_of cables = filter_map (λ cable. both_ends cable.0 cable.1) cables
 
-letters_of_pairs : (cables : List (Option ℕ × Option ℕ)) → AllByRecursion (λ cable. length (cable_letters cable) ≢ 1) cables → plugged_letters cables ≡ letters_plugged (pairs_of cables)
+letters_of_pairs : (cables : List (Option ℕ × Option ℕ))
+    → AllByRecursion (λ cable. length (cable_letters cable) ≢ 1) cables
+    → plugged_letters cables ≡ letters_plugged (pairs_of cables)
 letters_of_pairs [] h = refl
 letters_of_pairs (cable ∷ cables) h = grind (arith, letters_of_pairs cables)
 
-pub no_letter_twice : (cables : List (Option ℕ × Option ℕ)) → AreCables cables → All (λ cable. length (cable_letters cable) ≢ 1) cables → NoLetterTwice (pairs_of cables)
+pub no_letter_twice : (cables : List (Option ℕ × Option ℕ)) → AreCables cables
+    → All (λ cable. length (cable_letters cable) ≢ 1) cables → NoLetterTwice (pairs_of cables)
 no_letter_twice cables h whole = grind (arith, letters_of_pairs, recursion_from_All)
 
 pub of_one : (a x : ℕ) → Contains (a ∷ []) x → x ≡ a
 of_one a x e = grind arith
 
--- two letters that are those of a pair
+-- two letters that are the same letters as a pair's are the pair in one of the orders
 pub same_two : (a b : ℕ) (pair : ℕ × ℕ) → SameLetters (a ∷ b ∷ []) (pair.0 ∷ pair.1 ∷ []) → AreTheLetters a b pair
 same_two a b pair same =
     let tests = (tests_tell_letters (a ∷ b ∷ []) (pair.0 ∷ pair.1 ∷ [])).0 same in
     grind (arith, nat_tests, tests a, tests b, tests pair.0, tests pair.1)
 
--- the two letters of a day's pair differ
-apart_at : (pairs : List (ℕ × ℕ)) (k : ℕ) (d : ℕ × ℕ) → IsDistinct nat_eq (letters_plugged pairs) → k < length pairs → (get_or pairs k d).0 ≢ (get_or pairs k d).1
+-- the letters of a day's pair differ
+apart_at : (pairs : List (ℕ × ℕ)) (k : ℕ) (d : ℕ × ℕ) → IsDistinct nat_eq (letters_plugged pairs) → k < length pairs
+    → (get_or pairs k d).0 ≢ (get_or pairs k d).1
 unfolding IsDistinct
 apart_at [] k d h below = absurd (omega arith)
 apart_at (pair ∷ pairs) k d h below = grind (arith, common_steps, eqb-false, apart_at pairs)
 
-one_letter : (pairs : List (ℕ × ℕ)) (cable : Option ℕ × Option ℕ) (letter : ℕ) → NoLetterTwice pairs → ((x : ℕ) → Contains (cable_letters cable) x → x ≡ letter) → Any (Joins cable) pairs → ⊥
+one_letter : (pairs : List (ℕ × ℕ)) (cable : Option ℕ × Option ℕ) (letter : ℕ) → NoLetterTwice pairs
+    → ((x : ℕ) → Contains (cable_letters cable) x → x ≡ letter) → Any (Joins cable) pairs → ⊥
 one_letter pairs cable letter apart only there =
     let pair = there.1 in
-    grind (arith, only pair.0, only pair.1, there.4.letters pair.0, there.4.letters pair.1, apart_at pairs there.0 pair apart there.2)
+    grind (
+      arith,
+      only pair.0,
+      only pair.1,
+      there.4.letters pair.0,
+      there.4.letters pair.1,
+      apart_at pairs there.0 pair apart there.2,
+    )
 
-whole_cable : (pairs : List (ℕ × ℕ)) (cable : Option ℕ × Option ℕ) → NoLetterTwice pairs → IsPaired pairs cable → length (cable_letters cable) ≢ 1
-whole_cable pairs (Some a, None) apart paired one = one_letter pairs (Some a, None) a apart (of_one a) (paired.joins (λ none. cc))
-whole_cable pairs (None, Some a) apart paired one = one_letter pairs (None, Some a) a apart (of_one a) (paired.joins (λ none. cc))
+whole_cable : (pairs : List (ℕ × ℕ)) (cable : Option ℕ × Option ℕ) → NoLetterTwice pairs → IsPaired pairs cable
+    → length (cable_letters cable) ≢ 1
+whole_cable pairs (Some a, None) apart paired one =
+    one_letter pairs (Some a, None) a apart (of_one a) (paired.joins (λ none. cc))
+whole_cable pairs (None, Some a) apart paired one =
+    one_letter pairs (None, Some a) a apart (of_one a) (paired.joins (λ none. cc))
 whole_cable pairs cable apart paired one = omega (arith, one)
 
-pub whole_cables : (cables : List (Option ℕ × Option ℕ)) (pairs : List (ℕ × ℕ)) → NoLetterTwice pairs → AreThePairs cables pairs → All (λ cable. length (cable_letters cable) ≢ 1) cables
+pub whole_cables : (cables : List (Option ℕ × Option ℕ)) (pairs : List (ℕ × ℕ)) → NoLetterTwice pairs
+    → AreThePairs cables pairs → All (λ cable. length (cable_letters cable) ≢ 1) cables
 whole_cables cables pairs apart h = λ k d below. whole_cable pairs (get_or cables k d) apart (h.pair k d below)
 
 -- ---- cables that are the pairs
 
-into_pairs : (cables : List (Option ℕ × Option ℕ)) (k a b : ℕ) → slice_get cables k ≡ Some (Some a, Some b) → Contains (pairs_of cables) (a, b)
-into_pairs [] k a b e = absurd (none-some _ e)
-into_pairs (cable ∷ cables) zero a b e = grind (arith, same_Some)
-into_pairs ((Some one, Some other) ∷ cables) (suc k) a b e = Contains-append_right ((one, other) ∷ []) (pairs_of cables) (a, b) (into_pairs cables k a b e)
-into_pairs (cable ∷ cables) (suc k) a b e = into_pairs cables k a b e
+Contains-pairs_of : (cables : List (Option ℕ × Option ℕ)) (k a b : ℕ) → slice_get cables k ≡ Some (Some a, Some b)
+    → Contains (pairs_of cables) (a, b)
+Contains-pairs_of [] k a b e = absurd (none-some _ e)
+Contains-pairs_of (cable ∷ cables) zero a b e = grind (arith, same_Some)
+Contains-pairs_of ((Some one, Some other) ∷ cables) (suc k) a b e =
+    Contains-append_right ((one, other) ∷ []) (pairs_of cables) (a, b) (Contains-pairs_of cables k a b e)
+Contains-pairs_of (cable ∷ cables) (suc k) a b e = Contains-pairs_of cables k a b e
 
-both_plugged : (cable : Option ℕ × Option ℕ) (letter : ℕ) → length (cable_letters cable) ≢ 1 → Contains (cable_letters cable) letter → (pair : ℕ × ℕ) × (cable ≡ (Some pair.0, Some pair.1))
+both_plugged : (cable : Option ℕ × Option ℕ) (letter : ℕ) → length (cable_letters cable) ≢ 1
+    → Contains (cable_letters cable) letter → (pair : ℕ × ℕ) × (cable ≡ (Some pair.0, Some pair.1))
 both_plugged (None, None) letter whole there = absurd (omega (arith, there.1))
 both_plugged (Some one, Some other) letter whole there = ((one, other), refl)
 both_plugged cable letter whole there = absurd (whole refl)
 
-cable_pairs : (pairs : List (ℕ × ℕ)) (cables : List (Option ℕ × Option ℕ)) → AllByRecursion (IsPaired pairs) cables → AllByRecursion (λ pair. plugs.Joins pairs pair.0 pair.1) (pairs_of cables)
+cable_pairs : (pairs : List (ℕ × ℕ)) (cables : List (Option ℕ × Option ℕ)) → AllByRecursion (IsPaired pairs) cables
+    → AllByRecursion (λ pair. plugs.Joins pairs pair.0 pair.1) (pairs_of cables)
 cable_pairs pairs [] h = tt
 cable_pairs pairs ((Some a, Some b) ∷ cables) h = search (rules, pairs, same_two, cable_pairs pairs cables h.1)
 cable_pairs pairs (cable ∷ cables) h = cable_pairs pairs cables h.1
 
-module _ (cables : List (Option ℕ × Option ℕ)) (pairs : List (ℕ × ℕ)) (whole : All (λ cable. length (cable_letters cable) ≢ 1) cables) (h : AreThePairs cables pairs) where
+module _ (cables : List (Option ℕ × Option ℕ)) (pairs : List (ℕ × ℕ))
+    (whole : All (λ cable. length (cable_letters cable) ≢ 1) cables) (h : AreThePairs cables pairs) where
   cable_pair : (x y : ℕ) → Contains (pairs_of cables) (x, y) → plugs.Joins pairs x y
   cable_pair x y there =
       All-contains (λ (pair : ℕ × ℕ). plugs.Joins pairs pair.0 pair.1) (pairs_of cables) (x, y)
-      (All-from_recursion (λ (pair : ℕ × ℕ). plugs.Joins pairs pair.0 pair.1) (pairs_of cables) (cable_pairs pairs cables (recursion_from_All (IsPaired pairs) cables h.pair))) there
+      (All-from_recursion (λ (pair : ℕ × ℕ). plugs.Joins pairs pair.0 pair.1) (pairs_of cables)
+      (cable_pairs pairs cables (recursion_from_All (IsPaired pairs) cables h.pair))) there
 
   day_pair : (x y : ℕ) → Contains pairs (x, y) → plugs.Joins (pairs_of cables) x y
   day_pair x y there =
       let joined = (All-contains (IsJoined cables) pairs (x, y) h.cable there).joins in
       let cable = joined.1 in
-      let at : slice_get cables joined.0 ≡ Some cable = slice_get-get_or cables joined.0 cable joined.2 ∙ ap Some joined.3 in
-      let one = All-contains (λ (cable : Option ℕ × Option ℕ). length (cable_letters cable) ≢ 1) cables cable whole (joined.0, joined.2, joined.3) in
+      let at : slice_get cables joined.0 ≡ Some cable =
+      slice_get-get_or cables joined.0 cable joined.2 ∙ ap Some joined.3 in
+      let one =
+      All-contains (λ (cable : Option ℕ × Option ℕ). length (cable_letters cable) ≢ 1) cables cable whole
+      (joined.0, joined.2, joined.3) in
       let ends = both_plugged cable x one ((joined.4.letters x).1 (0, omega arith, refl)) in
       let pair = ends.0 in
       let same = same_two x y pair (λ letter. let both = rw ends.1 at (joined.4.letters letter) in (both.1, both.0)) in
-      let into = into_pairs cables joined.0 pair.0 pair.1 (at ∙ ap Some ends.1) in
+      let into = Contains-pairs_of cables joined.0 pair.0 pair.1 (at ∙ ap Some ends.1) in
       grind (arith, same, into)
 
   pub pairs_joined : (x y : ℕ) → plugs.Joins (pairs_of cables) x y ↔ plugs.Joins pairs x y
@@ -188,14 +232,20 @@ module _ (cables : List (Option ℕ × Option ℕ)) (pairs : List (ℕ × ℕ)) 
 
 -- ---- when a cable's letters are a pair's
 
-pub joined_by_tests : (cable : Option ℕ × Option ℕ) (pair : ℕ × ℕ) → has_letter (cable_letters cable) pair.0 ≡ true → has_letter (cable_letters cable) pair.1 ≡ true
-    → option_map_or (has_letter (pair.0 ∷ pair.1 ∷ [])) cable.0 true ≡ true → option_map_or (has_letter (pair.0 ∷ pair.1 ∷ [])) cable.1 true ≡ true → Joins cable pair
+pub joined_by_tests : (cable : Option ℕ × Option ℕ) (pair : ℕ × ℕ) → has_letter (cable_letters cable) pair.0 ≡ true
+    → has_letter (cable_letters cable) pair.1 ≡ true
+    → option_map_or (has_letter (pair.0 ∷ pair.1 ∷ [])) cable.0 true ≡ true
+    → option_map_or (has_letter (pair.0 ∷ pair.1 ∷ [])) cable.1 true ≡ true → Joins cable pair
 joined_by_tests cable pair a b c d =
-    record { letters = (tests_tell_letters (cable_letters cable) (pair.0 ∷ pair.1 ∷ [])).1 (λ letter. grind (arith, nat_tests, a, b, c, d)) }
+    record {
+      letters = (tests_tell_letters (cable_letters cable) (pair.0 ∷ pair.1 ∷ [])).1
+          (λ letter. grind (arith, nat_tests, a, b, c, d));
+    }
 
 pub tests_of_joined : (cable : Option ℕ × Option ℕ) (pair : ℕ × ℕ) → Joins cable pair
     → (has_letter (cable_letters cable) pair.0 ≡ true) × (has_letter (cable_letters cable) pair.1 ≡ true)
-    × (option_map_or (has_letter (pair.0 ∷ pair.1 ∷ [])) cable.0 true ≡ true) × (option_map_or (has_letter (pair.0 ∷ pair.1 ∷ [])) cable.1 true ≡ true)
+    × (option_map_or (has_letter (pair.0 ∷ pair.1 ∷ [])) cable.0 true ≡ true)
+    × (option_map_or (has_letter (pair.0 ∷ pair.1 ∷ [])) cable.1 true ≡ true)
 tests_of_joined cable pair joined =
     let same = (tests_tell_letters (cable_letters cable) (pair.0 ∷ pair.1 ∷ [])).0 joined.letters in
     grind (arith, nat_tests, same)

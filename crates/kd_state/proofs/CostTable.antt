@@ -1,6 +1,7 @@
--- What it costs to make of a cable a pair and of a bar a row: letters that are counted, columns, and the standings of a row.
+-- Lemmas on costs: counting letters, the columns of a day, and the standings of a row.
 use Rattle.kd_state.proofs.Prelude.{All, All-map, All-nil, AllByRecursion, AllPass-from_list_all, Bool}
-use Rattle.kd_state.proofs.Prelude.{ColumnsAreThePairs, CostTablesAreSquare, IsBefore, IsDistinct, IsReading, List, None, OfPins}
+use Rattle.kd_state.proofs.Prelude.{ColumnsAreThePairs, CostTablesAreSquare, IsBefore, IsDistinct, IsReading, List}
+use Rattle.kd_state.proofs.Prelude.{None, OfPins}
 use Rattle.kd_state.proofs.Prelude.{OfRotors, Option, Pin, Place, Rotor, Some, ThirteenColumns, [], alphabet, ap, arith}
 use Rattle.kd_state.proofs.Prelude.{bar_cost, cable_cost, cable_letters, cases_eq, column_letters, columns_of}
 use Rattle.kd_state.proofs.Prelude.{common_steps, count_by, differ, find, get_or, has_letter, inl, inr, le-leb, length}
@@ -14,22 +15,24 @@ use Rattle.kd_tables.specs.{Places.{place_rank, standings}, declared.place.Place
 use Rattle.std.{proofs.Common.{cond, fold, min, nat_lt, replicate, sum_by}, specs.Prelude.nat_le}
 use Rattle.std.proofs.lemmas.List.{Elements.{All-filter, filter_passes}, FromFn.get_or-range_with_len}
 
--- ---- how many letters of the alphabet lie in lists of letters
+-- ---- counting the letters of the alphabet that are in a list
 
--- no letter is among numbers in a row twice, and none that stands before them
-counted_once : (letter first number : ℕ) → count_by (λ other. nat_eq letter other) (range_with_len first number) ≤ once (nat_le first letter)
-counted_once letter first zero = omega arith
-counted_once letter first (suc number) =
-    grind (arith, common_steps, counted_once letter (first + 1) number, count_by-cons)
+-- a letter is at most once in a range of numbers, and not at all if it is below the range
+count_by-range_at_most : (letter first number : ℕ)
+    → count_by (λ other. nat_eq letter other) (range_with_len first number) ≤ once (nat_le first letter)
+count_by-range_at_most letter first zero = omega arith
+count_by-range_at_most letter first (suc number) =
+    grind (arith, common_steps, count_by-range_at_most letter (first + 1) number, count_by-cons)
 
-pub counted_more : (p : ℕ → Bool) (index cost more : ℕ) → index < 26 → cost ≡ count_by p (take index alphabet) → more ≡ once (p index)
+pub counted_more : (p : ℕ → Bool) (index cost more : ℕ) → index < 26 → cost ≡ count_by p (take index alphabet)
+    → more ≡ once (p index)
     → cost + more ≡ count_by p (take (index + 1) alphabet)
 counted_more p index cost more below e d =
     let step = sum_by_more (λ x. once (p x)) alphabet index 0 below in
     let there : get_or alphabet index 0 ≡ index = get_or-range_with_len 0 26 index 0 below ∙ omega arith in
     omega (arith, step, e, d, ap (λ x. once (p x)) there)
 
--- what passes a test that is made of two is counted by one of them at least
+-- a combined test counts at most what its two tests count together
 joined_counts : (f : Bool → Bool → Bool) → ((a b : Bool) → once (f a b) ≤ once a + once b)
     → (p q : ℕ → Bool) (xs : List ℕ) → count_by (λ x. f (p x) (q x)) xs ≤ count_by p xs + count_by q xs
 joined_counts f fits p q [] = omega arith
@@ -38,12 +41,12 @@ joined_counts f fits p q (x ∷ xs) = search (rules, count_by-cons, p, q, fits, 
 differ_fits : (a b : Bool) → once (differ a b) ≤ once a + once b
 differ_fits a b = grind arith
 
--- at most as many letters of the alphabet lie in a list as it has
-at_most_all : (letters : List ℕ) → count_by (has_letter letters) alphabet ≤ length letters
-at_most_all [] = omega arith
-at_most_all (letter ∷ letters) = search (rules, le-leb, counted_once, at_most_all letters)
+-- at most as many letters of the alphabet are in a list as it is long
+count_by-has_letter : (letters : List ℕ) → count_by (has_letter letters) alphabet ≤ length letters
+count_by-has_letter [] = omega arith
+count_by-has_letter (letter ∷ letters) = search (rules, le-leb, count_by-range_at_most, count_by-has_letter letters)
 
--- letters of the alphabet, none of them twice
+-- the letters are all different and below 26
 pub record AreProper (letters : List ℕ) : Type 0 where
   pub apart : IsDistinct nat_eq letters
   pub within : AllByRecursion (λ x. x < 26) letters
@@ -56,7 +59,8 @@ pub cable_parts : (cable : Option ℕ × Option ℕ) (letters : List ℕ) → Ar
 unfolding IsDistinct
 cable_parts cable letters h = grind arith
 
-pub pair_proper : (pairs : List (ℕ × ℕ)) (k : ℕ) → AreProper (letters_plugged pairs) → AreProper (column_letters (slice_get pairs k))
+pub pair_proper : (pairs : List (ℕ × ℕ)) (k : ℕ) → AreProper (letters_plugged pairs)
+    → AreProper (column_letters (slice_get pairs k))
 unfolding IsDistinct
 pair_proper [] k h = h
 pair_proper (pair ∷ pairs) k h = grind (arith, pair_proper pairs)
@@ -66,7 +70,7 @@ pub sums_add : {X : Type 0} (f g h : X → ℕ) → ((x : X) → f x + g x ≡ h
 sums_add f g h e [] = refl
 sums_add f g h e (x ∷ xs) = simp sum_by-cons (omega (arith, e x, sums_add f g h e xs))
 
--- of the alphabet, as many pass a test and are among these as pass it of these
+-- counting the numbers of a range that equal `x` and pass `p`: one if `x` is in the range and passes, else none
 once_among : (p : ℕ → Bool) (x first number : ℕ) → count_by (λ y. nat_eq x y && p y) (range_with_len first number)
     ≡ cond (nat_le first x && (nat_lt x (first + number) && p x)) 1 0
 once_among p x first zero = grind (arith, nat_tests)
@@ -74,52 +78,62 @@ once_among p x first (suc number) =
     let more = count_by-cons (λ y. nat_eq x y && p y) first (range_with_len (first + 1) number) in
     grind (arith, nat_tests, more, once_among p x (first + 1) number)
 
-pub counted_among : (p : ℕ → Bool) (xs : List ℕ) → AreProper xs → count_by (λ y. has_letter xs y && p y) alphabet ≡ count_by p xs
+pub counted_among : (p : ℕ → Bool) (xs : List ℕ) → AreProper xs
+    → count_by (λ y. has_letter xs y && p y) alphabet ≡ count_by p xs
 unfolding IsDistinct
 counted_among p [] h = refl
 counted_among p (x ∷ xs) h =
     let none = (free_tells xs x).1 h.apart.0 in
-    let first : count_by (λ y. nat_eq x y && p y) alphabet ≡ once (p x) = once_among p x 0 26 ∙ grind (arith, nat_tests, h.within.0) in
+    let first : count_by (λ y. nat_eq x y && p y) alphabet ≡ once (p x) =
+    once_among p x 0 26 ∙ grind (arith, nat_tests, h.within.0) in
     let rest = counted_among p xs (record { apart = h.apart.1; within = h.within.1 }) in
     let both = sums_add (λ y. once (nat_eq x y && p y)) (λ y. once (has_letter xs y && p y))
     (λ y. once ((nat_eq x y || has_letter xs y) && p y)) (λ y. grind (arith, nat_tests)) alphabet in
     omega (arith, first, rest, both, count_by-cons p x xs)
 
 pub at_most_four : (cable : Option ℕ × Option ℕ) (column : Option (ℕ × ℕ)) → cable_cost cable column ≤ 4
-at_most_four cable column = grind (arith, joined_counts, differ_fits, at_most_all)
+at_most_four cable column = grind (arith, joined_counts, differ_fits, count_by-has_letter)
 
--- ---- a day's pairs, and then nothings
+-- ---- the columns: a day's pairs, and then no pair
 
-nothings : (number place : ℕ) → get_or (replicate {A = Option (ℕ × ℕ)} number None) place None ≡ None
-nothings zero place = refl
-nothings (suc number) place = grind (arith, common_steps, nothings number)
+get_or-replicate_None : (number place : ℕ) → get_or (replicate {A = Option (ℕ × ℕ)} number None) place None ≡ None
+get_or-replicate_None zero place = refl
+get_or-replicate_None (suc number) place = grind (arith, common_steps, get_or-replicate_None number)
 
-pairs_at : (pairs : List (ℕ × ℕ)) (number place : ℕ) → get_or (map Some pairs ++ replicate number None) place None ≡ slice_get pairs place
-pairs_at [] number place = nothings number place
-pairs_at (pair ∷ pairs) number place = grind (arith, pairs_at pairs number)
+get_or-columns : (pairs : List (ℕ × ℕ)) (number place : ℕ)
+    → get_or (map Some pairs ++ replicate number None) place None ≡ slice_get pairs place
+get_or-columns [] number place = get_or-replicate_None number place
+get_or-columns (pair ∷ pairs) number place = grind (arith, get_or-columns pairs number)
 
 pub columns_are_the_pairs : ColumnsAreThePairs
-columns_are_the_pairs pairs place = pairs_at pairs (13 - length pairs) place
+columns_are_the_pairs pairs place = get_or-columns pairs (13 - length pairs) place
 
 pub thirteen_columns : ThirteenColumns
 thirteen_columns pairs few = simp (length-append, length-map, length-replicate) (omega arith)
 
--- ---- the table of costs is square
+-- ---- the cost tables are square
 
-square : {X Y : Type 0} (cost : X → Y → ℕ) (rows : List X) (columns : List Y) → length columns ≡ length rows
-    → All (λ row. length row ≡ length (map (λ other. map (cost other) columns) rows)) (map (λ row. map (cost row) columns) rows)
-square cost rows columns same =
-    All-map (λ row. length row ≡ length (map (λ other. map (cost other) columns) rows)) (λ row. map (cost row) columns) rows
-    (λ k d below. length-map columns (cost (get_or rows k d)) ∙ same ∙ sym (length-map rows (λ other. map (cost other) columns)))
+length-cost_rows : {X Y : Type 0} (cost : X → Y → ℕ) (rows : List X) (columns : List Y) → length columns ≡ length rows
+    → All (λ row. length row ≡ length (map (λ other. map (cost other) columns) rows))
+    (map (λ row. map (cost row) columns) rows)
+length-cost_rows cost rows columns same =
+    All-map (λ row. length row ≡ length (map (λ other. map (cost other) columns) rows))
+    (λ row. map (cost row) columns) rows
+    (λ k d below. length-map columns (cost (get_or rows k d)) ∙ same
+    ∙ sym (length-map rows (λ other. map (cost other) columns)))
 
 pub cost_tables_are_square : CostTablesAreSquare
-cost_tables_are_square (Rotor m) (OfRotors s) machine day = square cable_cost m.cables (columns_of s.pairs) (thirteen_columns s.pairs day.pairs.few ∙ sym machine.legal.cables.count)
-cost_tables_are_square (Pin m) (OfPins s) machine day = square bar_cost m.bars s.rows (day.count ∙ sym machine.legal.bars)
+cost_tables_are_square (Rotor m) (OfRotors s) machine day =
+    length-cost_rows cable_cost m.cables (columns_of s.pairs)
+    (thirteen_columns s.pairs day.pairs.few ∙ sym machine.legal.cables.count)
+cost_tables_are_square (Pin m) (OfPins s) machine day =
+    length-cost_rows bar_cost m.bars s.rows (day.count ∙ sym machine.legal.bars)
 cost_tables_are_square m s machine day = All-nil (λ row. length row ≡ 0)
 
 -- ---- the standings that read as each row
 
-pub no_zero : (row : ℕ × ℕ) → IsReading row → row.0 ≢ 0 → standings_as row ≡ across (place_at row.0) (place_at row.1) ∷ []
+pub no_zero : (row : ℕ × ℕ) → IsReading row → row.0 ≢ 0
+    → standings_as row ≡ across (place_at row.0) (place_at row.1) ∷ []
 unfolding standings_as
 no_zero (suc zero, suc (suc (suc (suc (suc (suc zero)))))) reading some = refl
 no_zero (suc (suc zero), suc (suc (suc (suc (suc (suc zero)))))) reading some = refl
@@ -139,7 +153,7 @@ unfolding standings_as
 one_zero (zero, suc (suc (suc (suc (suc (suc zero)))))) none first last = refl
 one_zero row none first last = first_of (search rules, omega arith)
 
--- ---- where a bar is to stand: a standing that reads as the row with no more lugs moved than must be
+-- ---- the nearest standing: it reads as the row, and no standing of the row costs less
 
 pub at_most_two : (bar standing : Place × Place) → lugs_moved bar standing ≤ 2
 at_most_two bar standing = grind (arith, common_steps)
@@ -151,7 +165,7 @@ least_at_most n (x ∷ xs) = omega (arith, least_at_most (min n x) xs)
 pub bar_cost_at_most : (bar : Place × Place) (row : ℕ × ℕ) → bar_cost bar row ≤ 2
 bar_cost_at_most bar row = omega (arith, least_at_most 2 (map (lugs_moved bar) (standings_as row)))
 
--- a standing of the row
+-- the standing is one of the row's
 abbrev pub IsOfRow : ℕ × ℕ → Place × Place → Type 0
 IsOfRow row x = IsBefore x.0 x.1 × (reads_as_row row x ≡ true)
 
@@ -159,11 +173,14 @@ of_row : (row : ℕ × ℕ) → All (IsOfRow row) (standings_as row)
 unfolding standings_as
 of_row row k d lt =
     let before = λ (x : Place × Place). nat_lt (place_rank x.0) (place_rank x.1) in
-    let all = AllPass-from_list_all before standings refl in
-    (ltb-true _ _ (All-filter (reads_as_row row) (λ x. before x ≡ true) standings all k d lt), filter_passes (reads_as_row row) standings k d lt)
+    let all = AllPass-from_list_all before standings refl in (
+      ltb-true _ _ (All-filter (reads_as_row row) (λ x. before x ≡ true) standings all k d lt),
+      filter_passes (reads_as_row row) standings k d lt,
+    )
 
--- a row has one standing, or two
-nearest : (bar x : Place × Place) (more : Option (Place × Place)) (xs : List (Place × Place)) (P : Place × Place → Type 0)
+-- the nearest of one or two standings is found, costs the least, and has what all have
+nearest : (bar x : Place × Place) (more : Option (Place × Place)) (xs : List (Place × Place))
+    (P : Place × Place → Type 0)
     → xs ≡ x ∷ option_to_list more → AllByRecursion P xs
     → let least = fold min 2 (map (lugs_moved bar) xs) in
     let target = unwrap_or (find (λ y. nat_eq (lugs_moved bar y) least) xs) bar in

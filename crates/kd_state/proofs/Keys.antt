@@ -1,4 +1,4 @@
--- The key of a machine that is on the key of a day, and its cipher.
+-- Lemmas on machines on a day's key: they are ready, and encipher as the day asks.
 use Rattle.kd_state.proofs.Prelude.{AreCables, Bool, CipherInTurn, Day, EngineIsTheMachine, EngineKey}
 use Rattle.kd_state.proofs.Prelude.{EquallySetDecipher, IsLegalDay, IsLegalRotorDay, IsMachine, IsPermutation}
 use Rattle.kd_state.proofs.Prelude.{IsRotorOnKey, KeyInTurn, List, OfDrum, OfPins, OfRotors, OfWheels, OnKey}
@@ -18,35 +18,39 @@ use Rattle.kd_enigma.proofs.Ciphers as enigma
 use Rattle.kd_drum.proofs.Ciphers as drum
 use Rattle.kd_drum.proofs.Starts as starts
 
--- ---- the bars that a Converter's wheels meet are as many as its readings say
+-- ---- the bars that move are counted alike by lugs and by readings
 
--- a pair counts the same in either order
-in_either_order : (met : ℕ → Bool) (a b : ℕ) → (met a || met b) ≡ (met (min a b) || met (max a b))
-in_either_order met a b = grind (arith, min-eq_left, max-eq_right, or_comm, min-eq_right, max-eq_left)
+-- whether one of two wheels moves a bar doesn't depend on their order
+or-min_max : (met : ℕ → Bool) (a b : ℕ) → (met a || met b) ≡ (met (min a b) || met (max a b))
+or-min_max met a b = grind (arith, min-eq_left, max-eq_right, or_comm, min-eq_right, max-eq_left)
 
--- elements of another list that pass as often
-counted : {X Y : Type 0} (p : Y → Bool) (f : X → Y) (xs : List X) → count_by (λ x. p (f x)) xs ≡ count_by p (map f xs)
-counted p f [] = refl
-counted p f (x ∷ xs) = grind (arith, common_steps, sum_by-cons, counted p f xs)
+-- counting elements by a test of their images counts the images that pass
+count_by-map : {X Y : Type 0} (p : Y → Bool) (f : X → Y) (xs : List X)
+    → count_by (λ x. p (f x)) xs ≡ count_by p (map f xs)
+count_by-map p f [] = refl
+count_by-map p f (x ∷ xs) = grind (arith, common_steps, sum_by-cons, count_by-map p f xs)
 
 abbrev pin_key : PinParts → PinKey
 pin_key m = record { pins = pins_of m.pins; letters = m.letters; rows = map (λ bar. reading_of bar.0 bar.1) m.bars }
 
 bar_met : (m : PinParts) (count : ℕ) (bar : Place × Place)
     → (lug_is_met m count bar.0 || lug_is_met m count bar.1)
-    ≡ (acts_after (pin_key m) count (reading_of bar.0 bar.1).0 || acts_after (pin_key m) count (reading_of bar.0 bar.1).1)
-bar_met m count bar = grind (arith, in_either_order)
+    ≡ (acts_after (pin_key m) count (reading_of bar.0 bar.1).0
+    || acts_after (pin_key m) count (reading_of bar.0 bar.1).1)
+bar_met m count bar = grind (arith, or-min_max)
 
 moved_as_met : (m : PinParts) (count : ℕ) → bars_met (pin_key m) count ≡ bars_moved m count
 moved_as_met m count =
-    sym (counted (λ (row : ℕ × ℕ). acts_after (pin_key m) count row.0 || acts_after (pin_key m) count row.1) (λ (bar : Place × Place). reading_of bar.0 bar.1) m.bars)
+    sym (count_by-map (λ (row : ℕ × ℕ). acts_after (pin_key m) count row.0 || acts_after (pin_key m) count row.1)
+    (λ (bar : Place × Place). reading_of bar.0 bar.1) m.bars)
     ∙ (λ i. count_by (λ bar. sym (bar_met m count bar) i) m.bars)
 
 pub engine_cipher : EngineIsTheMachine
 engine_cipher (Rotor m) text = refl
-engine_cipher (Pin m) text = λ i. map (λ (numbered : ℕ × ℕ). (25 + moved_as_met m numbered.0 i - numbered.1) % 26) (enumerate_from 0 text)
+engine_cipher (Pin m) text =
+    λ i. map (λ (numbered : ℕ × ℕ). (25 + moved_as_met m numbered.0 i - numbered.1) % 26) (enumerate_from 0 text)
 
--- ready
+-- machines on the day's key are ready
 pub on_key_ready : OnKeyIsReady
 on_key_ready = grind (arith, all_seated, whole_cables)
 
@@ -56,65 +60,81 @@ reading_ready m s machine legal h = on_key_ready m s machine legal h.key
 own_window : (m : Parts) → physical_key m ≡ key_with_window (physical_key m) (window_of m)
 own_window m = grind arith
 
--- a machine on the day's key has the day's cipher, whatever letters both show
-rotor_key : (m : RotorParts) (s : RotorDay) (window : List ℕ) → AreCables m.cables → IsLegalRotorDay s → IsRotorOnKey m s
+-- a machine on the day's key has the day's key, once both show the same letters
+rotor_key : (m : RotorParts) (s : RotorDay) (window : List ℕ) → AreCables m.cables → IsLegalRotorDay s
+    → IsRotorOnKey m s
     → key_with_window (physical_key (Rotor m)) window ≡ key_with_window (sheet_key (OfRotors s)) window
 rotor_key m s window cables legal h =
     let wheels = wheels_of_slots m s.wheels h.slots in
-    let rings = read_all (ring_at m) (λ w. w.ring) s.wheels (recursion_from_All (λ (w : SheetWheel). ring_at m w.wheel ≡ Some w.ring) s.wheels h.rings) in
+    let rings =
+    read_all (ring_at m) (λ w. w.ring) s.wheels
+    (recursion_from_All (λ (w : SheetWheel). ring_at m w.wheel ≡ Some w.ring) s.wheels h.rings) in
     let whole = whole_cables m.cables s.pairs legal.pairs.apart h.cables in
-    let plugs = same_pairs_exchange_alike (plugged_pairs m) s.pairs (no_letter_twice m.cables cables whole) legal.pairs.apart (pairs_joined m.cables s.pairs whole h.cables) in
+    let plugs =
+    same_pairs_exchange_alike (plugged_pairs m) s.pairs (no_letter_twice m.cables cables whole) legal.pairs.apart
+    (pairs_joined m.cables s.pairs whole h.cables) in
     grind (arith, wheels, rings, h.reflector, plugs)
 
--- bars that read as the same rows in another order are met as often
-converter_alike : (pins : List (List Bool)) (letters : List ℕ) (rows others : List (ℕ × ℕ)) (text : List ℕ) → IsPermutation rows others
-    → converter_cipher (record { pins = pins; letters = letters; rows = rows }) text ≡ converter_cipher (record { pins = pins; letters = letters; rows = others }) text
+-- the order of the rows doesn't matter to the ciphertext
+converter_alike : (pins : List (List Bool)) (letters : List ℕ) (rows others : List (ℕ × ℕ)) (text : List ℕ)
+    → IsPermutation rows others
+    → converter_cipher (record { pins = pins; letters = letters; rows = rows }) text
+    ≡ converter_cipher (record { pins = pins; letters = letters; rows = others }) text
 converter_alike pins letters rows others text moved = grind (arith, sum_by-IsPermutation, moved)
 
 key_on_key : (m : Parts) (s : Day) (window text : List ℕ) → IsMachine m → IsLegalDay s → OnKey m s
     → cipher (key_with_window (physical_key m) window) text ≡ cipher (key_with_window (sheet_key s) window) text
-key_on_key (Rotor m) (OfRotors s) window text machine legal h = ap (λ key. cipher key text) (rotor_key m s window machine.legal.cables legal h)
+key_on_key (Rotor m) (OfRotors s) window text machine legal h =
+    ap (λ key. cipher key text) (rotor_key m s window machine.legal.cables legal h)
 key_on_key m s window text machine legal h = grind (arith, converter_alike)
 
 pub on_key_cipher : OnKeyIsItsCipher
 on_key_cipher m s text machine legal h =
-    sym (engine_cipher m text) ∙ ap (λ key. cipher key text) (own_window m) ∙ key_on_key m s (window_of m) text machine legal h
+    sym (engine_cipher m text) ∙ ap (λ key. cipher key text) (own_window m)
+    ∙ key_on_key m s (window_of m) text machine legal h
 
 pub reading_cipher : ReadingIsItsCipher
 reading_cipher (Rotor m) (OfRotors s) text machine legal h =
     let shows = ap (filter_map (letter_at m)) (wheels_of_slots m s.wheels h.key.slots)
-    ∙ read_all (letter_at m) (λ w. w.letter) s.wheels (recursion_from_All (λ (w : SheetWheel). letter_at m w.wheel ≡ Some w.letter) s.wheels h.window) in
-    on_key_cipher (Rotor m) (OfRotors s) text machine legal h.key ∙ ap (λ window. cipher (key_with_window (sheet_key (OfRotors s)) window) text) shows
+    ∙ read_all (letter_at m) (λ w. w.letter) s.wheels
+    (recursion_from_All (λ (w : SheetWheel). letter_at m w.wheel ≡ Some w.letter) s.wheels h.window) in
+    on_key_cipher (Rotor m) (OfRotors s) text machine legal h.key
+    ∙ ap (λ window. cipher (key_with_window (sheet_key (OfRotors s)) window) text) shows
 reading_cipher (Pin m) (OfPins s) text machine legal h =
-    on_key_cipher (Pin m) (OfPins s) text machine legal h.key ∙ ap (λ window. cipher (key_with_window (sheet_key (OfPins s)) window) text) h.window
+    on_key_cipher (Pin m) (OfPins s) text machine legal h.key
+    ∙ ap (λ window. cipher (key_with_window (sheet_key (OfPins s)) window) text) h.window
 reading_cipher m s text machine legal h = absurd h.key
 
--- what one enciphers the other deciphers
+-- enciphering twice from the same letters gives the text back
 pub twice_on_key : TheDayDeciphersItself
 twice_on_key = grind (arith, pairs_make_a_plugboard, enigma.twice_gives_back, drum.twice_gives_back)
 
 pub equally_set : EquallySetDecipher
 equally_set m n s text machine other legal h k same letters =
     let key : List ℕ → EngineKey = key_with_window (sheet_key s) in
-    ap (physical_cipher n) (on_key_cipher m s text machine legal h) ∙ on_key_cipher n s (cipher (key (window_of m)) text) other legal k
-    ∙ ap (λ window. cipher (key window) (cipher (key (window_of m)) text)) (sym same) ∙ twice_on_key s (window_of m) text legal letters
+    ap (physical_cipher n) (on_key_cipher m s text machine legal h)
+    ∙ on_key_cipher n s (cipher (key (window_of m)) text) other legal k
+    ∙ ap (λ window. cipher (key window) (cipher (key (window_of m)) text)) (sym same)
+    ∙ twice_on_key s (window_of m) text legal letters
 
--- turned to other letters
+-- turned to other letters, a machine on the day's key stays on it
 pub turned_on_key : TurnedIsOnKey
 turned_on_key m n s window turned h = grind arith
 
--- the key of the turned machine, but for the letters that it shows
+-- the key of the turned machine is the key with the other letters
 pub turned_key : TurnedHasItsKey
 turned_key m n window turned = grind (arith, Rotor, Pin)
 
--- so an engine with the machine's key, turned to other letters, enciphers as the turned machine
+-- an engine turned to other letters enciphers as the turned machine
 pub turned_engine : TurnedEngineIsTheTurnedMachine
-turned_engine m n window text turned = ap (λ key. cipher key text) (sym (turned_key m n window turned)) ∙ engine_cipher n text
+turned_engine m n window text turned =
+    ap (λ key. cipher key text) (sym (turned_key m n window turned)) ∙ engine_cipher n text
 
 pub turned_cipher : TurnedHasTheDaysCipher
-turned_cipher m n s window text machine legal h turned = sym (turned_engine m n window text turned) ∙ key_on_key m s window text machine legal h
+turned_cipher m n s window text machine legal h turned =
+    sym (turned_engine m n window text turned) ∙ key_on_key m s window text machine legal h
 
--- a text in pieces
+-- a text in two pieces is enciphered piece by piece
 pub cipher_in_turn : CipherInTurn
 cipher_in_turn = grind (arith, enigma.cipher_in_turn, drum.cipher_in_turn)
 

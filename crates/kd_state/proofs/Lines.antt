@@ -1,4 +1,4 @@
--- Lines: words are told by them, a text's part before a byte by the text, and settings by the words of their lines.
+-- Lemmas on lines: a line determines its words, a setting's line the setting, and a list's text the list.
 use Rattle.kd_state.proofs.Prelude.{All, All-append, All-cons, All-from_get_or, All-from_recursion, All-nil, All-push}
 use Rattle.kd_state.proofs.Prelude.{All-weaker, AllByRecursion, AllPass-from_list_all, BeginsWith, BeginsWithLine}
 use Rattle.kd_state.proofs.Prelude.{BeginsWithNoLine, Bool, Decides, IsAscii-decimal, IsInRange, IsList, IsReadOff}
@@ -20,39 +20,51 @@ use Rattle.std.proofs.lemmas.List.{Concat.flat_map-append, Splits.slice_split_no
 use Rattle.std.proofs.lemmas.Str.{Parse.{IsNumeralModel, numerals_by_value, tells_by_index}, IsUtf8-from_ascii}
 use Rattle.std.specs.{Fmt.decimal, Int.IsInRange as IsFigure, Result.result_ok, Str.{Parse.digits_value, IsUtf8}}
 
--- ---- the part before a byte
+-- ---- the text before a byte
 
 none_is : (byte : ℕ) (text : List ℕ) → IsWithout byte text → All (λ b. eqb b byte ≡ false) text
 none_is byte text h = grind (arith, All-weaker, ne_eqb)
 
-split_off : (byte : ℕ) (part rest : List ℕ) → IsWithout byte part → slice_split (λ b. eqb b byte) (part ++ byte ∷ rest) ≡ part ∷ slice_split (λ b. eqb b byte) rest
-split_off byte part rest h = grind (arith, slice_split_at, none_is, eq-eqb)
+slice_split-first : (byte : ℕ) (part rest : List ℕ) → IsWithout byte part
+    → slice_split (λ b. eqb b byte) (part ++ byte ∷ rest) ≡ part ∷ slice_split (λ b. eqb b byte) rest
+slice_split-first byte part rest h = grind (arith, slice_split_at, none_is, eq-eqb)
 
 pub texts_tell_first_parts : TextsTellFirstParts
 texts_tell_first_parts byte first other rest more a b e =
-    grind (arith, split_off byte first rest a, split_off byte other more b, append_cancel_left other (byte ∷ rest) (byte ∷ more))
+    grind (
+      arith,
+      slice_split-first byte first rest a,
+      slice_split-first byte other more b,
+      append_cancel_left other (byte ∷ rest) (byte ∷ more),
+    )
 
 -- ---- words
 
-split_line : (word : List ℕ) (words : List (List ℕ)) → AllByRecursion IsWord (word ∷ words) → words_of (line_of (word ∷ words)) ≡ word ∷ words
-split_line word [] a = grind (arith, slice_split_none, none_is)
-split_line word (next ∷ words) a = grind (arith, split_off 32 word (line_of (next ∷ words)), split_line next words a.1)
+words_of-line_of : (word : List ℕ) (words : List (List ℕ)) → AllByRecursion IsWord (word ∷ words)
+    → words_of (line_of (word ∷ words)) ≡ word ∷ words
+words_of-line_of word [] a = grind (arith, slice_split_none, none_is)
+words_of-line_of word (next ∷ words) a =
+    grind (arith, slice_split-first 32 word (line_of (next ∷ words)), words_of-line_of next words a.1)
 
 pub lines_split_into_words : LinesSplitIntoWords
 lines_split_into_words [] filled a = absurd (filled refl)
-lines_split_into_words (word ∷ words) filled a = split_line word words (recursion_from_All IsWord (word ∷ words) a)
+lines_split_into_words (word ∷ words) filled a =
+    words_of-line_of word words (recursion_from_All IsWord (word ∷ words) a)
 
 pub parts_make_lines : PartsMakeLines
 parts_make_lines line = join_with_byte-slice_split 32 line
 
-lines_tell : (words others : List (List ℕ)) → AllByRecursion IsWord words → AllByRecursion IsWord others → line_of words ≡ line_of others → words ≡ others
-lines_tell [] [] a b e = refl
-lines_tell [] (word ∷ words) a b e = grind (arith, split_line word words b, b.0.filled)
-lines_tell (word ∷ words) [] a b e = grind (arith, split_line word words a, a.0.filled)
-lines_tell (word ∷ words) (other ∷ others) a b e = grind (arith, split_line word words a, split_line other others b)
+words-same_line : (words others : List (List ℕ)) → AllByRecursion IsWord words → AllByRecursion IsWord others
+    → line_of words ≡ line_of others → words ≡ others
+words-same_line [] [] a b e = refl
+words-same_line [] (word ∷ words) a b e = grind (arith, words_of-line_of word words b, b.0.filled)
+words-same_line (word ∷ words) [] a b e = grind (arith, words_of-line_of word words a, a.0.filled)
+words-same_line (word ∷ words) (other ∷ others) a b e =
+    grind (arith, words_of-line_of word words a, words_of-line_of other others b)
 
 pub lines_tell_words : LinesTellWords
-lines_tell_words words others a b e = lines_tell words others (recursion_from_All IsWord words a) (recursion_from_All IsWord others b) e
+lines_tell_words words others a b e =
+    words-same_line words others (recursion_from_All IsWord words a) (recursion_from_All IsWord others b) e
 
 one_line : (words : List (List ℕ)) → AllByRecursion IsWord words → IsWithout 10 (line_of words)
 one_line [] a = All-nil (λ b. b ≢ 10)
@@ -62,30 +74,33 @@ one_line (word ∷ next ∷ words) a = grind (arith, common_steps, All-append, A
 pub words_make_one_line : WordsMakeOneLine
 words_make_one_line words a = one_line words (recursion_from_All IsWord words a)
 
--- ---- a line that is split from its front
+-- ---- splitting a line word by word
 
--- what is appended to a list of texts, is to what they hold
+-- appending a word to a list of borrowed words appends it to the words
 pub appended : (words more : List (Bor (List ℕ))) (word : Bor (List ℕ)) → more ≡ words ++ word ∷ []
     → map (λ (w : Bor (List ℕ)). w.now) more ≡ map (λ (w : Bor (List ℕ)). w.now) words ++ word.now ∷ []
 appended words more word e = grind (arith, map_push)
 
--- words that are taken and the words of the rest are those of the line
+-- the words taken so far and the words of the rest are the words of the line
 pub record AreTaken (line rest : List ℕ) (taken : List (List ℕ)) : Type 0 where
   pub joined : taken ++ words_of rest ≡ words_of line
 
-pub one_more_taken : (line text word rest : List ℕ) (taken : List (List ℕ)) → AreTaken line text taken → IsFirstPart 32 text word rest
+pub one_more_taken : (line text word rest : List ℕ) (taken : List (List ℕ)) → AreTaken line text taken
+    → IsFirstPart 32 text word rest
     → AreTaken line rest (taken ++ word ∷ [])
 one_more_taken line text word rest taken a first =
-    let parts = split_off 32 word rest first.without in
+    let parts = slice_split-first 32 word rest first.without in
     record { joined = rw append_assoc (cc) }
 
-pub last_taken : (line rest : List ℕ) (taken : List (List ℕ)) → AreTaken line rest taken → IsWithout 32 rest → taken ++ rest ∷ [] ≡ words_of line
+pub last_taken : (line rest : List ℕ) (taken : List (List ℕ)) → AreTaken line rest taken → IsWithout 32 rest
+    → taken ++ rest ∷ [] ≡ words_of line
 last_taken line rest taken a without = grind (arith, slice_split_none, none_is)
 
-pub more_words : (line rest : List ℕ) (taken : List (List ℕ)) → AreTaken line rest taken → length taken < length (words_of line)
+pub more_words : (line rest : List ℕ) (taken : List (List ℕ)) → AreTaken line rest taken
+    → length taken < length (words_of line)
 more_words line rest taken a = search (rules, length-append, length-slice_split)
 
--- ---- words by their bytes, and by a test that computes
+-- ---- recognizing words by their bytes
 
 pub word_by_bytes : (word : List ℕ) → word ≢ [] → All (λ b. 32 < b) word → IsWord word
 word_by_bytes word filled a = grind (arith, All-weaker)
@@ -98,37 +113,50 @@ figures = numerals_by_value (λ ds. (i : ℕ) → i < length ds → IsFigure 48 
 
 pub numbers_are_words : NumbersAreWords
 numbers_are_words number small =
-    grind (arith, word_by_bytes, decimal_nonempty number small, All-from_get_or (λ b. 32 < b) (decimal number) 0, digits_decimal figures number small, ap (length {A = ℕ}))
+    grind (
+      arith,
+      word_by_bytes,
+      decimal_nonempty number small,
+      All-from_get_or (λ b. 32 < b) (decimal number) 0,
+      digits_decimal figures number small,
+      ap (length {A = ℕ}),
+    )
 
 pub letters_are_words : LettersAreWords
 letters_are_words letter = grind (arith, word_by_bytes, All-from_recursion)
 
--- ---- numbers by their texts
+-- ---- numbers from their texts
 
 pub no_text : {S E : Type 0} (bs : List ℕ) (r : Result S E) (P : S → Type 0) (Q : E → Type 0)
-    → MatchResult r P (λ e. ¬ (IsUtf8 bs) × Q e) → result_ok r ≡ None → (number : ℕ) → number < 2 ^ 16 → decimal number ≢ bs
+    → MatchResult r P (λ e. ¬ (IsUtf8 bs) × Q e) → result_ok r ≡ None → (number : ℕ) → number < 2 ^ 16
+    → decimal number ≢ bs
 no_text bs r P Q e d number g = grind (arith, IsUtf8-from_ascii, IsAscii-decimal)
 
--- what holds of the value of an Ok
-pub ok_part : {S E : Type 0} (r : Result S E) (s : S) (P : S → Type 0) (Q : E → Type 0) → MatchResult r P Q → Some s ≡ result_ok r → P s
+-- the value of an `Ok` has what the contract says of it
+pub ok_part : {S E : Type 0} (r : Result S E) (s : S) (P : S → Type 0) (Q : E → Type 0) → MatchResult r P Q
+    → Some s ≡ result_ok r → P s
 ok_part r s P Q e d = grind arith
 
 pub no_number : {E : Type 0} (bs : List ℕ) (r : Result ℕ E) → ParsesUnsigned 16 10 bs r → result_ok r ≡ None
     → (number : ℕ) → number < 2 ^ 16 → decimal number ≢ bs
 no_number bs r h none number small e = grind (arith, parse-decimal 16 number bs r small (omega arith) (sym e) h)
 
-pub only_number : {E : Type 0} (bs : List ℕ) (r : Result ℕ E) (m : ℕ) (test : Bool) → ParsesUnsigned 16 10 bs r → result_ok r ≡ Some m
+pub only_number : {E : Type 0} (bs : List ℕ) (r : Result ℕ E) (m : ℕ) (test : Bool) → ParsesUnsigned 16 10 bs r
+    → result_ok r ≡ Some m
     → Decides test (decimal m ≡ bs)
-    → MatchOption (then_some test m) ((number : ℕ) → number < 2 ^ 16 → decimal number ≢ bs) (λ number. decimal number ≡ bs)
+    → MatchOption (then_some test m) ((number : ℕ) → number < 2 ^ 16 → decimal number ≢ bs)
+    (λ number. decimal number ≡ bs)
 only_number bs r m true h some d = d.0 refl
 only_number bs r m false h some d = λ number small e. grind (arith, parse-decimal 16 number bs r small, d)
 
 pub ruleset splitting = (common_steps, eqb-true, more_words, appended, one_more_taken, last_taken)
 
--- ---- names: each is a word, and no two are the same
+-- ---- names: each is a word, and different things have different names
 
 pub same_place : (x y : Place) → place_text x ≡ place_text y → x ≡ y
-same_place = told place_text (named place_text places One) (λ x. elim x as (λ p. named place_text places One (place_text p) ≡ p) [ One ↦ refl | _ ↦ refl ])
+same_place =
+    told place_text (named place_text places One)
+    (λ x. elim x as (λ p. named place_text places One (place_text p) ≡ p) [ One ↦ refl | _ ↦ refl ])
 
 wheel_is_word : (x : Wheel) → IsWord (wheel_text x)
 wheel_is_word x = grind (arith, word_by_test)
@@ -152,7 +180,17 @@ byte_is_word n small = numbers_are_words n (omega arith)
 
 words_are_words : (x : Setting) → IsInRange x → AllByRecursion IsWord (setting_words x)
 words_are_words x r =
-    grind (arith, word_by_test, byte_is_word, letters_are_words, wheel_is_word, reflector_is_word, pin_is_word, lug_is_word, place_is_word)
+    grind (
+      arith,
+      word_by_test,
+      byte_is_word,
+      letters_are_words,
+      wheel_is_word,
+      reflector_is_word,
+      pin_is_word,
+      lug_is_word,
+      place_is_word,
+    )
 
 pub setting_words_are_words : (x : Setting) → IsInRange x → All IsWord (setting_words x)
 setting_words_are_words x r = All-from_recursion IsWord (setting_words x) (words_are_words x r)
@@ -160,12 +198,12 @@ setting_words_are_words x r = All-from_recursion IsWord (setting_words x) (words
 pub same_settings : (x y : Setting) → IsInRange x → IsInRange y → setting_words x ≡ setting_words y → x ≡ y
 same_settings x y e d g = grind (arith, decimal_injective, one_wheel, one_reflector, same_place)
 
--- ---- what the words of a form are
+-- ---- the number of words of a setting's line
 
 pub setting_has_words : (x : Setting) → (2 ≤ length (setting_words x)) × (length (setting_words x) ≤ 4)
 setting_has_words x = grind arith
 
--- ---- the words of a text that is a setting's line
+-- ---- the words of a setting's line
 
 words_of_line : (x : Setting) (text : List ℕ) → IsInRange x → setting_line x ≡ text → setting_words x ≡ words_of text
 words_of_line x text r e = grind (arith, setting_has_words, lines_split_into_words, setting_words_are_words)
@@ -173,7 +211,8 @@ words_of_line x text r e = grind (arith, setting_has_words, lines_split_into_wor
 pub too_many_words : (text : List ℕ) → 4 < length (words_of text) → (x : Setting) → IsInRange x → setting_line x ≢ text
 too_many_words text many x r e = grind (arith, setting_has_words, words_of_line)
 
-pub read_by_words : (text : List ℕ) (words : List (List ℕ)) (r : Option Setting) → words ≡ words_of text → IsReadOff words r
+pub read_by_words : (text : List ℕ) (words : List (List ℕ)) (r : Option Setting) → words ≡ words_of text
+    → IsReadOff words r
     → MatchOption r ((x : Setting) → IsInRange x → setting_line x ≢ text) (λ x. setting_line x ≡ text)
 read_by_words text words r e d = grind (arith, words_of_line, parts_make_lines)
 
@@ -183,39 +222,47 @@ line_has_no_break x r = words_make_one_line (setting_words x) (setting_words_are
 pub lines_tell_settings : (x y : Setting) → IsInRange x → IsInRange y → setting_line x ≡ setting_line y → x ≡ y
 lines_tell_settings x y r s e = search (rules, same_settings, lines_tell_words, setting_words_are_words)
 
--- ---- lists of settings are told by their texts, and a text that is none has one fault
+-- ---- a text determines its list of settings; any other text has exactly one fault
 
-pub text_of_more : (x : Setting) (xs : List Setting) (rest : List ℕ) → list_text (x ∷ xs) ++ rest ≡ setting_line x ++ 10 ∷ (list_text xs ++ rest)
+pub text_of_more : (x : Setting) (xs : List Setting) (rest : List ℕ)
+    → list_text (x ∷ xs) ++ rest ≡ setting_line x ++ 10 ∷ (list_text xs ++ rest)
 text_of_more x xs rest = grind (arith, append_assoc)
 
-nothing_begins : BeginsWithNoLine []
-nothing_begins x rest r e = grind (arith, length-append, ap length e)
+BeginsWithNoLine-empty : BeginsWithNoLine []
+BeginsWithNoLine-empty x rest r e = grind (arith, length-append, ap length e)
 
--- one line at the front
-same_first : (x y : Setting) (xs ys : List Setting) (rest more : List ℕ) → IsInRange x → IsInRange y → list_text (x ∷ xs) ++ rest ≡ list_text (y ∷ ys) ++ more
+-- equal texts that begin with a setting's line begin with the same setting
+same_first : (x y : Setting) (xs ys : List Setting) (rest more : List ℕ) → IsInRange x → IsInRange y
+    → list_text (x ∷ xs) ++ rest ≡ list_text (y ∷ ys) ++ more
     → (x ≡ y) × (list_text xs ++ rest ≡ list_text ys ++ more)
 same_first x y xs ys rest more r s e =
-    let parts = texts_tell_first_parts 10 (setting_line x) (setting_line y) (list_text xs ++ rest) (list_text ys ++ more) in
+    let parts =
+    texts_tell_first_parts 10 (setting_line x) (setting_line y) (list_text xs ++ rest) (list_text ys ++ more) in
     grind (arith, parts, line_has_no_break x, line_has_no_break y, text_of_more, lines_tell_settings x y)
 
--- two lists after which no line follows are one
-same_lists : (xs ys : List Setting) (rest more : List ℕ) → AllByRecursion IsInRange xs → AllByRecursion IsInRange ys → list_text xs ++ rest ≡ list_text ys ++ more
+-- two lists are the same if their lines and what follows are the same text, and no setting's line follows
+same_lists : (xs ys : List Setting) (rest more : List ℕ) → AllByRecursion IsInRange xs → AllByRecursion IsInRange ys
+    → list_text xs ++ rest ≡ list_text ys ++ more
     → BeginsWithNoLine rest → BeginsWithNoLine more → (xs ≡ ys) × (rest ≡ more)
 same_lists [] [] rest more r s e none nor = (refl, e)
 same_lists [] (y ∷ ys) rest more r s e none nor = grind (arith, none, text_of_more)
 same_lists (x ∷ xs) [] rest more r s e none nor = grind (arith, nor, text_of_more)
 same_lists (x ∷ xs) (y ∷ ys) rest more r s e none nor = grind (arith, same_first, same_lists xs ys rest more r.1 s.1)
 
--- and no list is longer than one after which none follows
-longest : (xs ys : List Setting) (rest more : List ℕ) → AllByRecursion IsInRange xs → AllByRecursion IsInRange ys → list_text xs ++ rest ≡ list_text ys ++ more
+-- in one text, no list of lines is longer than a list that no setting's line follows
+length-same_lines : (xs ys : List Setting) (rest more : List ℕ) → AllByRecursion IsInRange xs
+    → AllByRecursion IsInRange ys
+    → list_text xs ++ rest ≡ list_text ys ++ more
     → BeginsWithNoLine rest → length ys ≤ length xs
-longest xs [] rest more r s e none = omega arith
-longest [] (y ∷ ys) rest more r s e none = grind (arith, none, text_of_more)
-longest (x ∷ xs) (y ∷ ys) rest more r s e none = grind (arith, same_first, longest xs ys rest more r.1 s.1)
+length-same_lines xs [] rest more r s e none = omega arith
+length-same_lines [] (y ∷ ys) rest more r s e none = grind (arith, none, text_of_more)
+length-same_lines (x ∷ xs) (y ∷ ys) rest more r s e none =
+    grind (arith, same_first, length-same_lines xs ys rest more r.1 s.1)
 
--- ---- what is read, line by line
+-- ---- reading line by line
 
-pub one_more : (bytes : List ℕ) (xs : List Setting) (rest : List ℕ) (x : Setting) (after : List ℕ) → BeginsWith bytes xs rest → BeginsWithLine rest x after
+pub one_more : (bytes : List ℕ) (xs : List Setting) (rest : List ℕ) (x : Setting) (after : List ℕ)
+    → BeginsWith bytes xs rest → BeginsWithLine rest x after
     → BeginsWith bytes (xs ++ x ∷ []) after
 one_more bytes xs rest x after b l = grind (arith, common_steps, text_of_more, append_assoc, flat_map-append, All-push)
 
@@ -223,30 +270,35 @@ pub no_line_without_break : (bytes : List ℕ) → IsWithout 10 bytes → Begins
 no_line_without_break bytes without x rest r e =
     grind (arith, common_steps, length-append, get_or_at, without (length (setting_line x)) 0)
 
-pub no_line_by_first : (bytes line rest : List ℕ) → IsFirstPart 10 bytes line rest → ((x : Setting) → IsInRange x → setting_line x ≢ line) → BeginsWithNoLine bytes
+pub no_line_by_first : (bytes line rest : List ℕ) → IsFirstPart 10 bytes line rest
+    → ((x : Setting) → IsInRange x → setting_line x ≢ line) → BeginsWithNoLine bytes
 no_line_by_first bytes line rest first none x other r e = grind (arith, texts_tell_first_parts, line_has_no_break, none)
 
 -- ---- laws
 
-begins : (bytes : List ℕ) (xs : List Setting) → IsList bytes xs → BeginsWith bytes xs []
-begins bytes xs l = grind (arith, append-nil)
+BeginsWith-IsList : (bytes : List ℕ) (xs : List Setting) → IsList bytes xs → BeginsWith bytes xs []
+BeginsWith-IsList bytes xs l = grind (arith, append-nil)
 
-pub same_end : (bytes : List ℕ) (xs ys : List Setting) (rest more : List ℕ) → BeginsWith bytes xs rest → BeginsWith bytes ys more
+pub same_end : (bytes : List ℕ) (xs ys : List Setting) (rest more : List ℕ) → BeginsWith bytes xs rest
+    → BeginsWith bytes ys more
     → BeginsWithNoLine rest → BeginsWithNoLine more → (xs ≡ ys) × (rest ≡ more)
 same_end bytes xs ys rest more a b = grind (arith, same_lists, recursion_from_All)
 
-pub not_longer : (bytes : List ℕ) (xs ys : List Setting) (rest more : List ℕ) → BeginsWith bytes xs rest → BeginsWith bytes ys more
+pub not_longer : (bytes : List ℕ) (xs ys : List Setting) (rest more : List ℕ) → BeginsWith bytes xs rest
+    → BeginsWith bytes ys more
     → BeginsWithNoLine rest → length ys ≤ length xs
-not_longer bytes xs ys rest more a b = grind (arith, longest, recursion_from_All)
+not_longer bytes xs ys rest more a b = grind (arith, length-same_lines, recursion_from_All)
 
 pub texts_tell_lists : TextsTellLists
-texts_tell_lists bytes xs ys a b = (same_end bytes xs ys [] [] (begins bytes xs a) (begins bytes ys b) nothing_begins nothing_begins).0
+texts_tell_lists bytes xs ys a b =
+    (same_end bytes xs ys [] [] (BeginsWith-IsList bytes xs a)
+    (BeginsWith-IsList bytes ys b) BeginsWithNoLine-empty BeginsWithNoLine-empty).0
 
 pub lists_have_no_fault : ListsHaveNoFault
 lists_have_no_fault bytes xs (BadLine line) a f =
-    f.5 (sym (same_end bytes xs f.0 [] f.1 (begins bytes xs a) f.2 nothing_begins f.6).1)
+    f.5 (sym (same_end bytes xs f.0 [] f.1 (BeginsWith-IsList bytes xs a) f.2 BeginsWithNoLine-empty f.6).1)
 lists_have_no_fault bytes xs TooMany a f =
-    omega (arith, not_longer bytes xs f.0 [] f.1 (begins bytes xs a) f.2 nothing_begins, a.few, f.3)
+    omega (arith, not_longer bytes xs f.0 [] f.1 (BeginsWith-IsList bytes xs a) f.2 BeginsWithNoLine-empty, a.few, f.3)
 
 pub one_list_fault : OneListFault
 one_list_fault bytes (BadLine line) (BadLine other) f g =

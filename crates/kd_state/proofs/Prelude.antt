@@ -1,44 +1,82 @@
--- The words of other crates, and of this one's definitions, that its proofs speak of.
+-- Names of other crates and of this crate's definitions that its proofs use.
 pub use Rattle.kd_drum.specs.Converter.{OnWheels, PinKey, acts_after, bars_met, converter_cipher}
 pub use Rattle.kd_enigma.specs.Plugs.{NoLetterTwice, letters_plugged}
 pub use Rattle.kd_state.specs.ToldApart.{has_reflector, has_wheel, numbered, place_in_box, same_reflector, same_wheel}
-pub use Rattle.kd_state.specs.Changes.{IsKept, IsSeatOf, Makes, MovesLug, Seats, SetsOnly, TheBar, TheCable, TheLetter, ThePin, TheReflector, TheRing, TheShown, TheSlot, Thing, Turns, letters_in}
+pub use Rattle.kd_state.specs.Changes.{IsKept, IsSeatOf, Makes, MovesLug, Seats, SetsOnly, TheBar, TheCable, TheLetter}
+pub use Rattle.kd_state.specs.Changes.{ThePin, TheReflector, TheRing, TheShown, TheSlot, Thing, Turns, letters_in}
 pub use Rattle.kd_state.specs.Costs.{bar_cost, cable_cost, column_letters, columns_of, differ, lies_in_one}
-pub use Rattle.kd_state.specs.Laws.{AllowedWheelsLieInTheBox, CipherInTurn, ColumnsAreThePairs, CostTablesAreSquare, DaysWheelsHaveTheirPlaces, EngineIsTheMachine, EquallySetDecipher, KeyInTurn, ListsHaveNoFault, MachinesCanBeTurned, OnKeyIsItsCipher, OnKeyIsReady, OneListFault, PlacesTellWheels, ReadingIsItsCipher, ReadingIsReady, RefusalsAreTold, SettingsAreTold, SettingsKeepMachines, TellingIsMaking, TestsTellLetters, TextsTellLists, TheDayDeciphersItself, ThirteenColumns, TurnedEngineIsTheTurnedMachine, TurnedHasItsKey, TurnedHasTheDaysCipher, TurnedIsOnKey}
-pub use Rattle.kd_state.specs.Line.{BeginsWith, BeginsWithLine, BeginsWithNoLine, IsInRange, IsList, IsReadOff, list_text, pin_text, setting_line, setting_words}
-pub use Rattle.kd_state.specs.Machine.{AreAllowed, AreApart, AreCables, AreLetters, AreOnWheels, HasAllPins, IsLegalPin, IsLegalRotor, IsMachine, StandsAt, cable_in, cable_letters, cables_ordered, letter_at, letter_in, model_of, ordered, plugged_letters, ring_at, ring_in, slot_in, standing_in}
-pub use Rattle.kd_state.specs.OnKey.{AreTheLetters, AreThePairs, IsJoined, IsPaired, IsPinOnKey, IsRotorOnKey, Joins, OnKey, SameLetters, ShowsWindow}
+pub use Rattle.kd_state.specs.Laws.{AllowedWheelsLieInTheBox, CipherInTurn, ColumnsAreThePairs, CostTablesAreSquare}
+pub use Rattle.kd_state.specs.Laws.{DaysWheelsHaveTheirPlaces, EngineIsTheMachine, EquallySetDecipher, KeyInTurn}
+pub use Rattle.kd_state.specs.Laws.{ListsHaveNoFault, MachinesCanBeTurned, OnKeyIsItsCipher, OnKeyIsReady, OneListFault}
+pub use Rattle.kd_state.specs.Laws.{PlacesTellWheels, ReadingIsItsCipher, ReadingIsReady, RefusalsAreTold}
+pub use Rattle.kd_state.specs.Laws.{SettingsAreTold, SettingsKeepMachines, TellingIsMaking, TestsTellLetters}
+pub use Rattle.kd_state.specs.Laws.{TextsTellLists, TheDayDeciphersItself, ThirteenColumns}
+pub use Rattle.kd_state.specs.Laws.{TurnedEngineIsTheTurnedMachine, TurnedHasItsKey, TurnedHasTheDaysCipher}
+pub use Rattle.kd_state.specs.Laws.{TurnedIsOnKey}
+pub use Rattle.kd_state.specs.Line.{BeginsWith, BeginsWithLine, BeginsWithNoLine, IsInRange, IsList, IsReadOff}
+pub use Rattle.kd_state.specs.Line.{list_text, pin_text, setting_line, setting_words}
+pub use Rattle.kd_state.specs.Machine.{AreAllowed, AreApart, AreCables, AreLetters, AreOnWheels, HasAllPins, IsLegalPin}
+pub use Rattle.kd_state.specs.Machine.{IsLegalRotor, IsMachine, StandsAt, cable_in, cable_letters, cables_ordered}
+pub use Rattle.kd_state.specs.Machine.{letter_at, letter_in, model_of, ordered, plugged_letters, ring_at, ring_in}
+pub use Rattle.kd_state.specs.Machine.{slot_in, standing_in}
+pub use Rattle.kd_state.specs.OnKey.{AreTheLetters, AreThePairs, IsJoined, IsPaired, IsPinOnKey, IsRotorOnKey, Joins}
+pub use Rattle.kd_state.specs.OnKey.{OnKey, SameLetters, ShowsWindow}
 pub use Rattle.kd_state.specs.Pins.{pin_at, pin_set, wheel_pins, with_pin}
-pub use Rattle.kd_state.specs.Setting.{Carries, Leads, Stands, are_new, cable_at, cable_with, cable_without, changed, has_letter, is_at, is_plugged, lies_beyond, lug_place, other_lug, reasons, why_refused, with_letter, with_lug, with_lug_at, without}
-pub use Rattle.kd_state.specs.SheetDay.{Day, HasLetters, IsLegalDay, IsLegalRotorDay, OfPins, OfRotors, PinDay, RotorDay, seats}
-pub use Rattle.kd_state.specs.TwoCiphers.{EngineKey, IsRotorReady, OfDrum, OfWheels, both_ends, cipher, key_with_window, physical_cipher, physical_key, plugged_pairs, seated_wheels, sheet_key, window_of}
+pub use Rattle.kd_state.specs.Setting.{Carries, Leads, Stands, are_new, cable_at, cable_with, cable_without, changed}
+pub use Rattle.kd_state.specs.Setting.{has_letter, is_at, is_plugged, lies_beyond, lug_place, other_lug, reasons}
+pub use Rattle.kd_state.specs.Setting.{why_refused, with_letter, with_lug, with_lug_at, without}
+pub use Rattle.kd_state.specs.SheetDay.{Day, HasLetters, IsLegalDay, IsLegalRotorDay, OfPins, OfRotors, PinDay}
+pub use Rattle.kd_state.specs.SheetDay.{RotorDay, seats}
+pub use Rattle.kd_state.specs.TwoCiphers.{EngineKey, IsRotorReady, OfDrum, OfWheels, both_ends, cipher, key_with_window}
+pub use Rattle.kd_state.specs.TwoCiphers.{physical_cipher, physical_key, plugged_pairs, seated_wheels, sheet_key}
+pub use Rattle.kd_state.specs.TwoCiphers.{window_of}
 pub use Rattle.kd_state.specs.declared.machine.parts.Parts.{Parts, TheVariants.Pin, TheVariants.Rotor}
 pub use Rattle.kd_state.specs.declared.machine.{pin_parts.PinParts.PinParts, rotor_parts.RotorParts.RotorParts}
 pub use Rattle.kd_state.specs.declared.{setting.Setting.Setting, setting.why.Why.Why}
-pub use Rattle.kd_state.specs.declared.setting.Setting.TheVariants.{LugTo, PinTo, Pull, Put, RingTo, Seat, SeatReflector, Turn}
-pub use Rattle.kd_state.specs.declared.setting.why.Why.TheVariants.{NoLooseEnd, NoSuchBar, NoSuchCable, NotOnWheel, NotThere, OtherModel, PlaceTaken, SlotEmpty, SocketTaken, WheelNotAllowed, WouldPass}
+pub use Rattle.kd_state.specs.declared.setting.Setting.TheVariants.{LugTo, PinTo, Pull, Put, RingTo, Seat}
+pub use Rattle.kd_state.specs.declared.setting.Setting.TheVariants.{SeatReflector, Turn}
+pub use Rattle.kd_state.specs.declared.setting.why.Why.TheVariants.{NoLooseEnd, NoSuchBar, NoSuchCable, NotOnWheel}
+pub use Rattle.kd_state.specs.declared.setting.why.Why.TheVariants.{NotThere, OtherModel, PlaceTaken, SlotEmpty}
+pub use Rattle.kd_state.specs.declared.setting.why.Why.TheVariants.{SocketTaken, WheelNotAllowed, WouldPass}
 pub use Rattle.kd_state.specs.declared.sheet_day.rotor_entry.SheetWheel.{SheetWheel}
 pub use Rattle.kd_tables.specs.{Permutation.alphabet, Permutation.exchange, Rings.place_on}
 pub use Rattle.kd_tables.specs.Places.{IsBefore, IsReading, lug_text, place_number, place_text, places, reading_of}
-pub use Rattle.kd_tables.specs.Tables.{IsAllowed, box_of, lies_in, reflector_text, reflectors_of, slots_of, wheel_text, wheels_for}
+pub use Rattle.kd_tables.specs.Tables.{IsAllowed, box_of, lies_in, reflector_text, reflectors_of, slots_of, wheel_text}
+pub use Rattle.kd_tables.specs.Tables.{wheels_for}
 pub use Rattle.kd_tables.specs.declared.{lug.Lug.Lug, lug.Lug.TheVariants.Left, model.Model.Model, place.Place.Place}
 pub use Rattle.kd_tables.specs.declared.{model.Model.TheVariants.M209, place.Place.TheVariants.One}
 pub use Rattle.kd_tables.specs.declared.{reflector.Reflector.Reflector, wheel.Wheel.Wheel}
 pub use Rattle.kd_tables.specs.declared.wheel.Wheel.TheVariants.{Beta, Gamma, I, II, III, IV, V, VI, VII, VIII}
-pub use Rattle.std.proofs.lemmas.Bool.{and_from, and_parts, both_ways, cases_Bool, cases_eq, cond_both, eq-eqb, eqb-false, eqb-true, false_from_ne_true, false≢true, le-leb, le-ltb, leb-false, leb-true, lt-ltb, ltb-true, ne_eqb, not-false, not-true, or_from, or_parts, true_from_ne_false, true≢false}
+pub use Rattle.std.proofs.lemmas.Bool.{and_from, and_parts, both_ways, cases_Bool, cases_eq, cond_both, eq-eqb}
+pub use Rattle.std.proofs.lemmas.Bool.{eqb-false, eqb-true, false_from_ne_true, false≢true, le-leb, le-ltb, leb-false}
+pub use Rattle.std.proofs.lemmas.Bool.{leb-true, lt-ltb, ltb-true, ne_eqb, not-false, not-true, or_from, or_parts}
+pub use Rattle.std.proofs.lemmas.Bool.{true_from_ne_false, true≢false}
 pub use Rattle.std.proofs.lemmas.Bool.Decides.{Decides-and, Decides-eqb, Decides-like, nat_tests}
-pub use Rattle.std.proofs.lemmas.Fmt.{IsAscii-decimal, decimal_injective, decimal_nonempty, digits_decimal, parse-decimal}
-pub use Rattle.std.proofs.lemmas.List.{append-nil, append_assoc, append_cancel_left, drop_all, drop_more, get_or-map, get_or_at, get_or_default, length-append, length-map, length-replicate, length-set, length_push, map-set, map_push}
-pub use Rattle.std.proofs.lemmas.List.Elements.{All-append, All-cons, All-contains, All-from_get_or, All-from_recursion, All-head, All-map, All-nil, All-push, All-set, All-tail, All-weaker, Contains-append_cases, Contains-append_left, Contains-append_right, Contains-get_or, recursion_from_All}
+pub use Rattle.std.proofs.lemmas.Fmt.{IsAscii-decimal, decimal_injective, decimal_nonempty, digits_decimal}
+pub use Rattle.std.proofs.lemmas.Fmt.{parse-decimal}
+pub use Rattle.std.proofs.lemmas.List.{append-nil, append_assoc, append_cancel_left, drop_all, drop_more, get_or-map}
+pub use Rattle.std.proofs.lemmas.List.{get_or_at, get_or_default, length-append, length-map, length-replicate}
+pub use Rattle.std.proofs.lemmas.List.{length-set, length_push, map-set, map_push}
+pub use Rattle.std.proofs.lemmas.List.Elements.{All-append, All-cons, All-contains, All-from_get_or, All-from_recursion}
+pub use Rattle.std.proofs.lemmas.List.Elements.{All-head, All-map, All-nil, All-push, All-set, All-tail, All-weaker}
+pub use Rattle.std.proofs.lemmas.List.Elements.{Contains-append_cases, Contains-append_left, Contains-append_right}
+pub use Rattle.std.proofs.lemmas.List.Elements.{Contains-get_or, recursion_from_All}
 pub use Rattle.std.proofs.lemmas.{Grind.common_steps, List.Quantifiers.position-Some}
-pub use Rattle.std.proofs.lemmas.List.Sorted.{All-permutation, Contains-permutation, IsPermutation-append, IsPermutation-append_comm, IsPermutation-append_left, IsPermutation-append_right, IsPermutation-refl, IsPermutation-sym, IsPermutation-trans, ranks_by, sorted_far, sum_by-IsPermutation}
-pub use Rattle.std.proofs.lemmas.List.Sums.{AllPass-from_list_all, passes_at_first, position_or_len_is, sum_by-cons, sum_by-le, sum_by_more}
+pub use Rattle.std.proofs.lemmas.List.Sorted.{All-permutation, Contains-permutation, IsPermutation-append}
+pub use Rattle.std.proofs.lemmas.List.Sorted.{IsPermutation-append_comm, IsPermutation-append_left}
+pub use Rattle.std.proofs.lemmas.List.Sorted.{IsPermutation-append_right, IsPermutation-refl, IsPermutation-sym}
+pub use Rattle.std.proofs.lemmas.List.Sorted.{IsPermutation-trans, ranks_by, sorted_far, sum_by-IsPermutation}
+pub use Rattle.std.proofs.lemmas.List.Sums.{AllPass-from_list_all, passes_at_first, position_or_len_is, sum_by-cons}
+pub use Rattle.std.proofs.lemmas.List.Sums.{sum_by-le, sum_by_more}
 pub use Rattle.std.proofs.lemmas.Map.Made.{Contains-tail, is_member-Decides}
-pub use Rattle.std.proofs.lemmas.Option.{get_or_from_slice_get, gets, none-some, same_Some, slice_get-get_or, slice_get-map, slice_get_cases, slice_get_past, slice_get_within}
+pub use Rattle.std.proofs.lemmas.Option.{get_or_from_slice_get, gets, none-some, same_Some, slice_get-get_or}
+pub use Rattle.std.proofs.lemmas.Option.{slice_get-map, slice_get_cases, slice_get_past, slice_get_within}
 pub use Rattle.std.specs.{Bool.Decides, Bool.then_some, Cmp.Lexicographic.pointwise_decides, Str.Parse.ParsesUnsigned}
 pub use Rattle.std.specs.Cmp.{IsStrictWeakOrder, nat_cmp_total, on_total, then_total}
-pub use Rattle.std.specs.List.{All, AllByRecursion, AllWithin, cons_option, count_by, enumerate_from, list_all, list_any, position_or_len, range_with_len, slice_split}
-pub use Rattle.std.specs.Option.{IsSome, SomeIff, is_none, is_some, option_and_then, option_eq, option_map, option_map_or, option_or, option_to_list, unwrap_or}
+pub use Rattle.std.specs.List.{All, AllByRecursion, AllWithin, cons_option, count_by, enumerate_from, list_all}
+pub use Rattle.std.specs.List.{list_any, position_or_len, range_with_len, slice_split}
+pub use Rattle.std.specs.Option.{IsSome, SomeIff, is_none, is_some, option_and_then, option_eq, option_map}
+pub use Rattle.std.specs.Option.{option_map_or, option_or, option_to_list, unwrap_or}
 pub use Rattle.kd_pins.specs.{PinWheels.pins_of, declared.pin_set.PinSet.PinSet}
 unfoldable pub use Rattle.{kd_tables.specs.Rings.ring_of, std.specs.List.IsDistinct}
 pub use Rattle.std.proofs.Common.{Bool, Contains, List, MatchOption, None, Option, Some, [], ap, arith, drop, false}

@@ -1,4 +1,4 @@
--- Things counted from 1: what stands in the slots, and the letters and pins of the six pin wheels.
+-- Lemmas on elements counted from 1: slots, and the letters and pins of the pin wheels.
 use Rattle.kd_state.proofs.Prelude.{OnWheels, numbered, AreAllowed, AreOnWheels, HasAllPins, has_letter, place_on}
 use Rattle.kd_state.proofs.Prelude.{box_of, Model, Wheel, cases_Bool, eqb-true, le-ltb, lt-ltb, Decides-eqb}
 use Rattle.kd_state.proofs.Prelude.{Decides-like, position-Some, is_member-Decides, get_or_from_slice_get, gets}
@@ -7,7 +7,7 @@ use Rattle.kd_state.proofs.Prelude.{ring_of, Contains, List, Option, Some, arith
 use Rattle.kd_state.proofs.Prelude.{slice_get, sym, ℕ, ◌+◌, ◌-◌, ◌<◌, ◌∙◌, ◌≡◌, ◌≢◌, ◌≤◌, common_steps}
 use Rattle.{std.proofs.Common.add-one, kd_state.proofs.Wheels.{placed, first_within, first_nowhere}}
 
--- what has a number, stands at a place
+-- `x` is element `number`, counted from 1: it is at place `number - 1`
 pub record IsNumbered {X : Type 0} (xs : List X) (number : ℕ) (x : X) : Type 0 where
   pub first : 1 ≤ number
   pub last : number ≤ length xs
@@ -17,54 +17,64 @@ pub record IsNumbered {X : Type 0} (xs : List X) (number : ℕ) (x : X) : Type 0
 pub is_numbered : {X : Type 0} (xs : List X) (number : ℕ) (x : X) → numbered xs number ≡ Some x → IsNumbered xs number x
 is_numbered xs number x e = grind (arith, slice_get_within)
 
-pub stands : {X : Type 0} (xs : List X) (number : ℕ) (d : X) → is_none (numbered xs number) ≡ false → IsNumbered xs number (unwrap_or (numbered xs number) d)
+pub stands : {X : Type 0} (xs : List X) (number : ℕ) (d : X) → is_none (numbered xs number) ≡ false
+    → IsNumbered xs number (unwrap_or (numbered xs number) d)
 stands xs number d some = grind (arith, is_numbered)
 
 pub numbered_at : {X : Type 0} (xs : List X) (place : ℕ) → numbered xs (place + 1) ≡ slice_get xs place
 numbered_at xs place = rw add-one refl
 
--- one thing was set: what is read there, and at another place or number
-pub set_here : {X : Type 0} (xs : List X) (place : ℕ) (x : X) → place < length xs → slice_get (set xs place x) place ≡ Some x
+-- after a write: what is at the written place, and at other places or numbers
+pub set_here : {X : Type 0} (xs : List X) (place : ℕ) (x : X) → place < length xs
+    → slice_get (set xs place x) place ≡ Some x
 set_here xs place x below = grind (arith, common_steps, gets)
 
-pub set_other : {X : Type 0} (xs : List X) (place at : ℕ) (x : X) → at ≢ place → slice_get (set xs place x) at ≡ slice_get xs at
+pub set_other : {X : Type 0} (xs : List X) (place at : ℕ) (x : X) → at ≢ place
+    → slice_get (set xs place x) at ≡ slice_get xs at
 set_other xs place at x h = grind (arith, common_steps, gets)
 
-pub numbered_here : {X : Type 0} (xs : List X) (number : ℕ) (x : X) → 1 ≤ number → number ≤ length xs → numbered (set xs (number - 1) x) number ≡ Some x
+pub numbered_here : {X : Type 0} (xs : List X) (number : ℕ) (x : X) → 1 ≤ number → number ≤ length xs
+    → numbered (set xs (number - 1) x) number ≡ Some x
 numbered_here xs number x e d = grind (arith, set_here)
 
-pub numbered_other : {X : Type 0} (xs : List X) (number other : ℕ) (x : X) → 1 ≤ number → other ≢ number → numbered (set xs (number - 1) x) other ≡ numbered xs other
+pub numbered_other : {X : Type 0} (xs : List X) (number other : ℕ) (x : X) → 1 ≤ number → other ≢ number
+    → numbered (set xs (number - 1) x) other ≡ numbered xs other
 numbered_other xs number other x e d = grind (arith, set_other)
 
--- a wheel that is seated is one of the box
-pub seated_in_box : (model : Model) (slots : List (Option Wheel)) (slot : ℕ) (wheel : Wheel) → AreAllowed model slots → numbered slots slot ≡ Some (Some wheel) → Contains (box_of model) wheel
+-- a wheel in a slot is one of the box
+pub seated_in_box : (model : Model) (slots : List (Option Wheel)) (slot : ℕ) (wheel : Wheel) → AreAllowed model slots
+    → numbered slots slot ≡ Some (Some wheel) → Contains (box_of model) wheel
 seated_in_box model slots slot wheel allowed e =
     let at = is_numbered slots slot (Some wheel) e in
     (placed model (slot - 1 + 1) wheel (allowed (slot - 1) wheel at.here)).in_box
 
--- the letter is one of these, and has a place then
+-- the letter is among these exactly if it has a place there
 pub has_letter-Decides : (letters : List ℕ) (letter : ℕ) → Decides (has_letter letters letter) (Contains letters letter)
-has_letter-Decides letters letter = is_member-Decides {eq = λ x y. nat_eq y x} (λ x y. Decides-like _ sym sym (Decides-eqb y x)) letters letter
+has_letter-Decides letters letter =
+    is_member-Decides {eq = λ x y. nat_eq y x} (λ x y. Decides-like _ sym sym (Decides-eqb y x)) letters letter
 
 pub is_some-place_on : (letters : List ℕ) (letter : ℕ) → is_some (place_on letters letter) ≡ has_letter letters letter
 is_some-place_on letters letter = grind (arith, cases_Bool, lt-ltb, first_within, first_nowhere, le-ltb)
 
-pub place_there : (letters : List ℕ) (letter : ℕ) → Contains letters letter → place_on letters letter ≡ Some (unwrap_or (place_on letters letter) 0)
+pub place_there : (letters : List ℕ) (letter : ℕ) → Contains letters letter
+    → place_on letters letter ≡ Some (unwrap_or (place_on letters letter) 0)
 place_there letters letter h = grind (arith, is_some-place_on letters letter, has_letter-Decides letters letter)
 
-pub only_place : (letters : List ℕ) (letter other place : ℕ) → place_on letters letter ≡ Some place → place_on letters other ≡ Some place → other ≡ letter
+pub only_place : (letters : List ℕ) (letter other place : ℕ) → place_on letters letter ≡ Some place
+    → place_on letters other ≡ Some place → other ≡ letter
 only_place letters letter other place e f =
     let here = position-Some (λ (l : ℕ). nat_eq l letter) letters place 0 e in
     let there = position-Some (λ (l : ℕ). nat_eq l other) letters place 0 f in
     sym (eqb-true _ _ there.1) ∙ eqb-true _ _ here.1
 
--- ---- six letters, each on its wheel: wheel by wheel, and place by place
+-- ---- six letters, each on its wheel
 
 pub are_on_wheels : (letters : List ℕ) → length letters ≡ 6 → OnWheels letters → AreOnWheels letters
 are_on_wheels letters six on = grind (arith, is_numbered, get_or_from_slice_get, on)
 
--- arrays of these lengths are all the pins
-pub all_pins : (pins : PinSet) → length pins.w1 ≡ 26 → length pins.w2 ≡ 25 → length pins.w3 ≡ 23 → length pins.w4 ≡ 21 → length pins.w5 ≡ 19 → length pins.w6 ≡ 17 → HasAllPins pins
+-- pins in arrays of these lengths are all pins
+pub all_pins : (pins : PinSet) → length pins.w1 ≡ 26 → length pins.w2 ≡ 25 → length pins.w3 ≡ 23 → length pins.w4 ≡ 21
+    → length pins.w5 ≡ 19 → length pins.w6 ≡ 17 → HasAllPins pins
 unfolding ring_of
 all_pins pins e d g h o q = grind arith
 

@@ -1,53 +1,71 @@
--- Two lists that are sorted, and hold the same elements as often, are one list.
+-- Sorted lists that count alike are equal: so lists are permutations exactly if sorting makes them equal.
 use Rattle.kd_state.proofs.Prelude.{false_from_ne_true, IsPermutation-sym, IsPermutation-trans, sorted_far}
 use Rattle.kd_state.proofs.Prelude.{sum_by-IsPermutation, sum_by-cons, sum_by-le, Decides, IsStrictWeakOrder}
 use Rattle.kd_state.proofs.Prelude.{pointwise_decides, count_by, Bool, List, [], ap, arith, false, length, refl, subst}
 use Rattle.kd_state.proofs.Prelude.{suc, sym, true, ℕ, ◌+◌, ◌<◌, ◌↔◌, ◌∙◌, ◌∷◌, ◌≡◌, ◌≤◌, IsPermutation, pointwise}
 use Rattle.std.specs.Prelude.{if◌then◌else◌, slice_index_or, IsSortedBy}
 
--- 1 where it holds
+-- 1 if it holds, else 0
 abbrev pub once : Bool → ℕ
 once holds = if holds then 1 else 0
 
--- an element more
+-- counting one more element
 pub count_by-cons : {X : Type 0} (p : X → Bool) (x : X) (xs : List X) → count_by p (x ∷ xs) ≡ once (p x) + count_by p xs
 count_by-cons p x xs = sum_by-cons (λ y. once (p y)) x xs
 
--- elements that don't pass aren't counted
-none_counted : {X : Type 0} (p : X → Bool) (xs : List X) → ((k : ℕ) (d : X) → k < length xs → p (slice_index_or xs k d) ≡ false) → count_by p xs ≡ 0
-none_counted p xs none = omega (arith, sum_by-le (λ x. once (p x)) 0 xs (λ k d below. let zero : once (p (slice_index_or xs k d)) ≡ 0 = ap once (none k d below) in omega arith))
+-- if no element passes, the count is 0
+count_by-none : {X : Type 0} (p : X → Bool) (xs : List X)
+    → ((k : ℕ) (d : X) → k < length xs → p (slice_index_or xs k d) ≡ false) → count_by p xs ≡ 0
+count_by-none p xs none =
+    omega (
+      arith,
+      sum_by-le (λ x. once (p x)) 0 xs
+          (λ k d below. let zero : once (p (slice_index_or xs k d)) ≡ 0 = ap once (none k d below) in omega arith),
+    )
 
-module _ {X : Type 0} (lt : X → X → Bool) (order : IsStrictWeakOrder lt) (same : (x y : X) → lt x y ≡ false → lt y x ≡ false → x ≡ y) where
-  -- nothing comes before what stands before it
-  abbrev Rises : List X → Type 0
-  Rises xs = (i j : ℕ) (d : X) → i ≤ j → j < length xs → lt (slice_index_or xs j d) (slice_index_or xs i d) ≡ false
+module _ {X : Type 0} (lt : X → X → Bool) (order : IsStrictWeakOrder lt)
+    (same : (x y : X) → lt x y ≡ false → lt y x ≡ false → x ≡ y) where
+  -- no element is less than one before it
+  abbrev IsRising : List X → Type 0
+  IsRising xs = (i j : ℕ) (d : X) → i ≤ j → j < length xs → lt (slice_index_or xs j d) (slice_index_or xs i d) ≡ false
 
-  -- the other list's first element doesn't come before a sorted list's first
-  not_before : (x : X) (xs : List X) (y : X) (ys : List X) → Rises (y ∷ ys) → ((p : X → Bool) → count_by p (x ∷ xs) ≡ count_by p (y ∷ ys)) → lt x y ≡ false
+  -- the first element of a list that counts alike isn't less than a sorted list's first
+  not_before : (x : X) (xs : List X) (y : X) (ys : List X) → IsRising (y ∷ ys)
+      → ((p : X → Bool) → count_by p (x ∷ xs) ≡ count_by p (y ∷ ys)) → lt x y ≡ false
   not_before x xs y ys rising counts = false_from_ne_true (lt x y) (λ is.
       let p : X → Bool = λ z. lt z y in
-      let none : count_by p (y ∷ ys) ≡ 0 = none_counted p (y ∷ ys) (λ k d below. rising 0 k d (omega arith) below) in
+      let none : count_by p (y ∷ ys) ≡ 0 = count_by-none p (y ∷ ys) (λ k d below. rising 0 k d (omega arith) below) in
       let here : once (lt x y) ≡ 1 = ap once is in
       omega (arith, count_by-cons p x xs, counts p, none, here))
 
-  pub sorted_alike : (xs ys : List X) → Rises xs → Rises ys → ((p : X → Bool) → count_by p xs ≡ count_by p ys) → xs ≡ ys
+  pub sorted_alike : (xs ys : List X) → IsRising xs → IsRising ys → ((p : X → Bool) → count_by p xs ≡ count_by p ys)
+      → xs ≡ ys
   sorted_alike [] [] up rising counts = refl
-  sorted_alike [] (y ∷ ys) up rising counts = absurd (omega (arith, counts (λ _. true), count_by-cons (λ (_ : X). true) y ys))
-  sorted_alike (x ∷ xs) [] up rising counts = absurd (omega (arith, counts (λ _. true), count_by-cons (λ (_ : X). true) x xs))
+  sorted_alike [] (y ∷ ys) up rising counts =
+      absurd (omega (arith, counts (λ _. true), count_by-cons (λ (_ : X). true) y ys))
+  sorted_alike (x ∷ xs) [] up rising counts =
+      absurd (omega (arith, counts (λ _. true), count_by-cons (λ (_ : X). true) x xs))
   sorted_alike (x ∷ xs) (y ∷ ys) up rising counts =
-      let first : x ≡ y = same x y (not_before x xs y ys rising counts) (not_before y ys x xs up (λ p. sym (counts p))) in
+      let first : x ≡ y =
+      same x y (not_before x xs y ys rising counts) (not_before y ys x xs up (λ p. sym (counts p))) in
       let rest : xs ≡ ys = sorted_alike xs ys (λ i j d le below. up (suc i) (suc j) d (omega arith) (omega arith))
       (λ i j d le below. rising (suc i) (suc j) d (omega arith) (omega arith))
       (λ p. omega (arith, counts p, count_by-cons p x xs, count_by-cons p y ys, ap (λ z. once (p z)) first)) in
       cc
 
-  -- so lists have the same elements exactly where they are one list once they are sorted
-  pub sorted_tell : (eq : X → X → Bool) → ((x y : X) → Decides (eq x y) (x ≡ y)) → (xs ys up rising : List X) (tested : Bool) → IsPermutation xs up → IsPermutation ys rising
-      → IsSortedBy lt up → IsSortedBy lt rising → tested ≡ pointwise eq up rising → (tested ≡ true) ↔ IsPermutation xs ys
+  -- lists are permutations of each other exactly if sorting makes them equal
+  pub sorted_tell : (eq : X → X → Bool) → ((x y : X) → Decides (eq x y) (x ≡ y))
+      → (xs ys up rising : List X) (tested : Bool) → IsPermutation xs up → IsPermutation ys rising
+      → IsSortedBy lt up → IsSortedBy lt rising → tested ≡ pointwise eq up rising
+      → (tested ≡ true) ↔ IsPermutation xs ys
   sorted_tell eq decides xs ys up rising tested moved other sorted rises is =
       let decided = pointwise_decides decides up rising in (
-        λ yes. IsPermutation-trans xs up ys moved (subst (λ all. IsPermutation all ys) (sym (decided.0 (sym is ∙ yes))) (IsPermutation-sym ys rising other)),
+        λ yes. IsPermutation-trans xs up ys moved
+            (subst (λ all. IsPermutation all ys) (sym (decided.0 (sym is ∙ yes))) (IsPermutation-sym ys rising other)),
         λ same.
-            let across : IsPermutation up rising = IsPermutation-trans up xs rising (IsPermutation-sym xs up moved) (IsPermutation-trans xs ys rising same other) in
-            is ∙ decided.1 (sorted_alike up rising (sorted_far lt order up sorted) (sorted_far lt order rising rises) (λ p. sym (sum_by-IsPermutation (λ y. once (p y)) up rising across))),
+            let across : IsPermutation up rising =
+            IsPermutation-trans up xs rising (IsPermutation-sym xs up moved)
+            (IsPermutation-trans xs ys rising same other) in
+            is ∙ decided.1 (sorted_alike up rising (sorted_far lt order up sorted) (sorted_far lt order rising rises)
+            (λ p. sym (sum_by-IsPermutation (λ y. once (p y)) up rising across))),
       )

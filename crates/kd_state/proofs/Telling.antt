@@ -1,4 +1,4 @@
--- What the readers of a machine tell is all that it is; so what they tell of a setting tells the machine that it makes.
+-- The readers show all of a machine, so what they show of a change determines the machine after it.
 pub mod Refusing
 unfoldable pub use Refusing.*
 use Rattle.kd_state.proofs.Prelude.{Seats, TheRing, TheShown, Turns, letters_in, TellingIsMaking, cable_in, letter_in}
@@ -7,7 +7,7 @@ use Rattle.kd_state.proofs.Prelude.{get_or-map, slice_get_cases, slice_get_past,
 use Rattle.kd_state.proofs.{Cables.{new_tells, tests_tell_letters}}
 use Rattle.std.proofs.{Common.IfSome, lemmas.List.FromFn.get_or-map-range_with_len}
 
--- ---- lists, by what stands at their places and by what has a place in them
+-- ---- lists, by the elements at their places
 
 same_slices : {X : Type 0} (xs ys : List X) → ((place : ℕ) → slice_get xs place ≡ slice_get ys place) → xs ≡ ys
 same_slices [] [] same = refl
@@ -17,7 +17,7 @@ same_slices xs ys same = grind (arith, same 0)
 same_numbered : {X : Type 0} (xs ys : List X) → ((number : ℕ) → numbered xs number ≡ numbered ys number) → xs ≡ ys
 same_numbered xs ys same = same_slices xs ys (λ place. same (suc place))
 
--- a list of values of things is told by the value of each thing, where each thing has its own place among the things
+-- lists with a value for each thing are equal if each thing has the same value, and its own place, in both
 by_things : {W X : Type 0} (place_of : W → Option ℕ) (all : List W) (xs ys : List X)
     → map place_of all ≡ map Some (range_with_len 0 (length all))
     → length xs ≡ length all → length ys ≡ length all
@@ -27,7 +27,9 @@ by_things place_of all xs ys placed long also same =
     same_slices xs ys (λ place. elim (slice_get_cases all place).1 [
       | inl (w, below, _, at) ↦
           let read = get_or-map-range_with_len Some 0 (length all) place place None below (omega arith) in
-          let is = ap place_of (sym at) ∙ sym (get_or-map place_of all place w None below) ∙ ap (λ l. get_or l place None) placed ∙ read in
+          let is =
+          ap place_of (sym at) ∙ sym (get_or-map place_of all place w None below)
+          ∙ ap (λ l. get_or l place None) placed ∙ read in
           rw is at (same w)
       | inr (past, _) ↦ grind (arith, slice_get_past, past)
     ])
@@ -35,7 +37,8 @@ by_things place_of all xs ys placed long also same =
 abbrev box_place : Model → Wheel → Option ℕ
 box_place model wheel = Some (place_in_box model wheel)
 
-wheels_have_places : (model : Model) → map (box_place model) (box_of model) ≡ map Some (range_with_len 0 (length (box_of model)))
+wheels_have_places : (model : Model)
+    → map (box_place model) (box_of model) ≡ map Some (range_with_len 0 (length (box_of model)))
 wheels_have_places model = grind arith
 
 pub letters_have_places : (wheel : ℕ)
@@ -55,15 +58,24 @@ told_rotor m n l k model kept =
     let all = wheels_have_places m.model in
     let rings = by_things (box_place m.model) (box_of m.model) n.rings m.rings all (k.rings.count ∙ box) l.rings.count
     (λ wheel. rw model at (kept (TheRing wheel))) in
-    let letters = by_things (box_place m.model) (box_of m.model) n.letters m.letters all (k.letters.count ∙ box) l.letters.count
+    let letters =
+    by_things (box_place m.model) (box_of m.model) n.letters m.letters all (k.letters.count ∙ box) l.letters.count
     (λ wheel. rw model at (kept (TheLetter wheel))) in
     let cables = same_numbered n.cables m.cables (λ cable. kept (TheCable cable)) in
-    λ i. record { model = model i; slots = slots i; reflector = reflector i; rings = rings i; letters = letters i; cables = cables i }
+    λ i. record {
+      model = model i;
+      slots = slots i;
+      reflector = reflector i;
+      rings = rings i;
+      letters = letters i;
+      cables = cables i;
+    }
 
 told_pin : (m n : PinParts) → IsLegalPin m → IsLegalPin n → ((thing : Thing) → IsKept (Pin m) (Pin n) thing) → n ≡ m
 told_pin m n l k kept =
     let wheel : (w : ℕ) → wheel_pins n.pins w ≡ wheel_pins m.pins w =
-    λ w. by_things (place_on (ring_of w)) (ring_of w) (wheel_pins n.pins w) (wheel_pins m.pins w) (letters_have_places w) (k.pins w) (l.pins w)
+    λ w. by_things (place_on (ring_of w)) (ring_of w) (wheel_pins n.pins w) (wheel_pins m.pins w)
+    (letters_have_places w) (k.pins w) (l.pins w)
     (λ letter. kept (ThePin w letter)) in
     let letters = same_numbered n.letters m.letters (λ w. kept (TheShown w)) in
     let bars = same_numbered n.bars m.bars (λ bar. kept (TheBar bar)) in
@@ -79,7 +91,7 @@ told_machine (Rotor m) (Rotor n) h k model kept = ap Rotor (told_rotor m n h.leg
 told_machine (Pin m) (Pin n) h k model kept = ap Pin (told_pin m n h.legal k.legal kept)
 told_machine m n h k model kept = let same = kept TheReflector in cc
 
--- ---- things are told apart, and what two machines keep of a third is alike
+-- ---- comparing things, and two machines that keep the same of a third
 
 cases_wheel : (wheel other : Wheel) → (wheel ≡ other) ⊎ (wheel ≢ other)
 cases_wheel wheel other = grind (arith, cases_Bool, same_wheel-Decides)
@@ -90,18 +102,19 @@ cases_thing thing other = grind (arith, cases_eq, cases_wheel)
 kept_alike : (m n o : Parts) (thing : Thing) → IsKept m n thing → IsKept m o thing → IsKept o n thing
 kept_alike m n o thing = grind arith
 
--- two machines are alike that differ from a third at one thing at most, and are alike there
+-- two machines are alike in everything if both differ from a third only in one thing, and are alike in it
 alike_but : (thing : Thing) (m n o : Parts) → SetsOnly thing m n → SetsOnly thing m o → IsKept o n thing
     → (other : Thing) → IsKept o n other
-alike_but thing m n o one two here other = grind (arith, cases_thing thing other, kept_alike m n o other, one.others, two.others, here)
+alike_but thing m n o one two here other =
+    grind (arith, cases_thing thing other, kept_alike m n o other, one.others, two.others, here)
 
--- ---- a cable is told by the letters in it
+-- ---- a cable is determined by the letters in it
 
 same_sizes : {X : Type 0} (xs ys : List X) (place : ℕ) → length xs ≡ length ys
     → is_none (slice_get xs place) ≡ is_none (slice_get ys place)
 same_sizes xs ys place same = grind (arith, slice_get_cases xs place, slice_get_cases ys place)
 
--- a cable of a machine: in order, and its letters are new before those of some other cables
+-- the cable is in order, and its letters are new before others
 record IsInOrder (cable : Option ℕ × Option ℕ) : Type 0 where
   ordered : ordered cable.0 cable.1 ≡ cable
   rest : List ℕ
@@ -110,7 +123,8 @@ record IsInOrder (cable : Option ℕ × Option ℕ) : Type 0 where
 cables_in_order : (cables : List (Option ℕ × Option ℕ)) (place : ℕ) → all_ordered cables ≡ cables
     → IsDistinct nat_eq (plugged_letters cables) → IfSome (slice_get cables place) IsInOrder
 cables_in_order [] place same apart = tt
-cables_in_order (cable ∷ cables) zero same apart = grind (arith, (new_tells (cable_letters cable) (plugged_letters cables)).0 apart)
+cables_in_order (cable ∷ cables) zero same apart =
+    grind (arith, (new_tells (cable_letters cable) (plugged_letters cables)).0 apart)
 cables_in_order (cable ∷ cables) (suc place) same apart =
     grind (arith, cables_in_order cables place, (new_tells (cable_letters cable) (plugged_letters cables)).0 apart)
 
@@ -131,30 +145,42 @@ same_cable cable other one two same = grind (arith, common_steps, in_turn, same)
 by_found : (found other : Option (Option ℕ × Option ℕ)) → is_none found ≡ is_none other → IfSome found IsInOrder
     → IfSome other IsInOrder
     → SameLetters (option_map_or cable_letters found []) (option_map_or cable_letters other []) → found ≡ other
-by_found (Some cable) (Some other) size one two same = ap Some (same_cable cable other one two ((tests_tell_letters _ _).0 same))
+by_found (Some cable) (Some other) size one two same =
+    ap Some (same_cable cable other one two ((tests_tell_letters _ _).0 same))
 by_found found other size one two same = grind arith
 
 no_converter : (m : RotorParts) → IsLegalRotor m → m.model ≡ M209 → ⊥
-no_converter m l e = let none = subst (λ model. Contains (reflectors_of model) m.reflector) e l.reflector in omega (arith, none.1)
+no_converter m l e =
+    let none = subst (λ model. Contains (reflectors_of model) m.reflector) e l.reflector in omega (arith, none.1)
 
 cable_alike : (m n : Parts) (cable : ℕ) → IsMachine m → IsMachine n → model_of n ≡ model_of m
     → SameLetters (letters_in n cable) (letters_in m cable) → cable_in n cable ≡ cable_in m cable
 cable_alike m n cable e d g h = grind (arith, by_found, same_sizes, cables_in_order, in_their_order, no_converter)
 
--- ---- what a setting makes is alike, as the readers tell it
+-- ---- two machines that a setting makes are alike, as the readers show them
 
 kept_model : (m n : Parts) (x : Setting) → Makes m x n → model_of n ≡ model_of m
 kept_model m n x e = grind arith
 
--- a wheel is seated there, or not
+-- the slot holds the wheel, or it doesn't
 cases_held : (wheel : Wheel) (held : Option (Option Wheel)) → (held ≡ Some (Some wheel)) ⊎ (held ≢ Some (Some wheel))
 cases_held wheel held = grind (arith, cases_wheel)
 
 seats_alike : (m n o : Parts) (slot : ℕ) (wheel : Wheel) → Seats m slot wheel n → Seats m slot wheel o
     → (thing : Thing) → IsKept o n thing
 seats_alike m n o slot wheel one two (TheSlot other) =
-    grind (arith, cases_eq other slot, cases_held wheel (slot_in m other), one.left other, two.left other, kept_alike m n o (TheSlot other), one.others.others (TheSlot other), two.others.others (TheSlot other))
-seats_alike m n o slot wheel one two thing = grind (arith, kept_alike m n o thing, one.others.others thing, two.others.others thing)
+    grind (
+      arith,
+      cases_eq other slot,
+      cases_held wheel (slot_in m other),
+      one.left other,
+      two.left other,
+      kept_alike m n o (TheSlot other),
+      one.others.others (TheSlot other),
+      two.others.others (TheSlot other),
+    )
+seats_alike m n o slot wheel one two thing =
+    grind (arith, kept_alike m n o thing, one.others.others thing, two.others.others thing)
 
 turns_alike : (m n o : Parts) (slot letter : ℕ) → Turns m slot letter n → Turns m slot letter o → (thing : Thing)
     → IsKept o n thing

@@ -1,4 +1,4 @@
--- Wheels and reflectors by their names, and where the wheels of the box may stand.
+-- Lemmas on wheels and reflectors by their names, and on the slots and places that wheels have.
 use Rattle.kd_state.proofs.Prelude.{has_reflector, has_wheel, place_in_box, same_reflector, same_wheel}
 use Rattle.kd_state.proofs.Prelude.{AllowedWheelsLieInTheBox, DaysWheelsHaveTheirPlaces, PlacesTellWheels, StandsAt}
 use Rattle.kd_state.proofs.Prelude.{ShowsWindow, Day, OfPins, PinDay, AllByRecursion, All-from_recursion}
@@ -14,11 +14,12 @@ use Rattle.{kd_tables.specs.contracts.wheel.Wheel.the_type, kd_tables.specs.decl
 use Rattle.{std.proofs.Common.{cond, ◌==◌}, std.proofs.lemmas.Slice.Eq.bytes_eq-Decides, std.specs.Str.bytes_eq}
 use denote.Enum.Bare.{sameb, same_true, same_false}
 
--- a name tells what has it, where it is found again by the name
+-- the thing in `all` with this name, or `d`
 abbrev pub named : {T : Type 0} → (T → List ℕ) → List T → T → List ℕ → T
 named name all d text = unwrap_or (find (λ x. bytes_eq (name x) text) all) d
 
-pub told : {T : Type 0} (name : T → List ℕ) (back : List ℕ → T) → ((x : T) → back (name x) ≡ x) → (x y : T) → name x ≡ name y → x ≡ y
+pub told : {T : Type 0} (name : T → List ℕ) (back : List ℕ → T) → ((x : T) → back (name x) ≡ x) → (x y : T)
+    → name x ≡ name y → x ≡ y
 told name back undone x y e = grind (arith, undone)
 
 pub one_wheel : (x y : Wheel) → wheel_text x ≡ wheel_text y → x ≡ y
@@ -27,11 +28,12 @@ one_wheel x y e = grind arith
 pub one_reflector : (x y : Reflector) → reflector_text x ≡ reflector_text y → x ≡ y
 one_reflector x y e = grind arith
 
--- no two wheels have one name, and no two reflectors
+-- `same_wheel` decides equality of wheels; so does `same_reflector` of reflectors
 pub same_wheel-Decides : (wheel other : Wheel) → Decides (same_wheel wheel other) (wheel ≡ other)
 same_wheel-Decides wheel other = grind (arith, Decides-like, one_wheel, bytes_eq-Decides)
 
-pub same_reflector-Decides : (reflector other : Reflector) → Decides (same_reflector reflector other) (reflector ≡ other)
+pub same_reflector-Decides : (reflector other : Reflector)
+    → Decides (same_reflector reflector other) (reflector ≡ other)
 same_reflector-Decides reflector other = grind (arith, Decides-like, one_reflector, bytes_eq-Decides)
 
 pub same_wheel_self : (wheel : Wheel) → same_wheel wheel wheel ≡ true
@@ -40,14 +42,15 @@ same_wheel_self wheel = grind (arith, same_wheel-Decides)
 pub same_wheel_differs : (wheel other : Wheel) → wheel ≢ other → same_wheel wheel other ≡ false
 same_wheel_differs wheel other h = grind (arith, false_from_ne_true, same_wheel-Decides)
 
--- the wheel is one of these, and the reflector is
+-- `has_wheel` decides whether a wheel is one of these; so does `has_reflector` for reflectors
 pub has_wheel-Decides : (wheels : List Wheel) (wheel : Wheel) → Decides (has_wheel wheels wheel) (Contains wheels wheel)
 has_wheel-Decides wheels wheel = is_member-Decides same_wheel-Decides wheels wheel
 
-pub has_reflector-Decides : (reflectors : List Reflector) (reflector : Reflector) → Decides (has_reflector reflectors reflector) (Contains reflectors reflector)
+pub has_reflector-Decides : (reflectors : List Reflector) (reflector : Reflector)
+    → Decides (has_reflector reflectors reflector) (Contains reflectors reflector)
 has_reflector-Decides reflectors reflector = is_member-Decides same_reflector-Decides reflectors reflector
 
--- the first that passes is within the list, where one passes; where none does, the length stands for it
+-- if an element passes, the place of the first that does is below the length
 pub first_within : {X : Type 0} (p : X → Bool) (xs : List X) → list_any p xs ≡ true → position_or_len p xs < length xs
 first_within p [] h = cc
 first_within p (x ∷ xs) h = grind (arith, cases_Bool, first_within p xs)
@@ -56,14 +59,17 @@ pub first_nowhere : {X : Type 0} (p : X → Bool) (xs : List X) → list_any p x
 first_nowhere p [] h = refl
 first_nowhere p (x ∷ xs) h = grind (arith, cases_Bool, first_nowhere p xs)
 
-pub place_within : (model : Model) (wheel : Wheel) → Contains (box_of model) wheel → place_in_box model wheel < length (box_of model)
+pub place_within : (model : Model) (wheel : Wheel) → Contains (box_of model) wheel
+    → place_in_box model wheel < length (box_of model)
 place_within model wheel h = grind (arith, first_within, has_wheel-Decides)
 
-pub place_nowhere : (model : Model) (wheel : Wheel) → ¬ (Contains (box_of model) wheel) → place_in_box model wheel ≡ length (box_of model)
+pub place_nowhere : (model : Model) (wheel : Wheel) → ¬ (Contains (box_of model) wheel)
+    → place_in_box model wheel ≡ length (box_of model)
 place_nowhere model wheel h = grind (arith, first_nowhere, false_from_ne_true, has_wheel-Decides)
 
--- a wheel that may stand in a slot, is one of the box, and the slot is one of the model's
-in_some : (b : Bool) (wheels : List Wheel) (wheel : Wheel) → Contains (cond b wheels []) wheel → (b ≡ true) × Contains wheels wheel
+-- a wheel that is allowed in a slot is in the box, and the slot is one of the model's
+in_some : (b : Bool) (wheels : List Wheel) (wheel : Wheel) → Contains (cond b wheels []) wheel
+    → (b ≡ true) × Contains wheels wheel
 in_some b wheels wheel e = grind arith
 
 lies_in_both : (first last number : ℕ) → lies_in first last number ≡ true → (first ≤ number) × (number ≤ last)
@@ -75,7 +81,8 @@ pub record IsPlaced (model : Model) (slot : ℕ) (wheel : Wheel) : Type 0 where
   pub in_box : Contains (box_of model) wheel
 
 placed_in_m4 : (first : Bool) (slot : ℕ) (wheel : Wheel) → (slot == 1) ≡ first
-    → Contains (cond first (wheels_for M4 1) (cond (lies_in 2 4 slot) (wheels_for M4 2) [])) wheel → IsPlaced M4 slot wheel
+    → Contains (cond first (wheels_for M4 1) (cond (lies_in 2 4 slot) (wheels_for M4 2) [])) wheel
+    → IsPlaced M4 slot wheel
 placed_in_m4 true slot wheel e h = search (rules, eqb-true, Contains-append_right)
 placed_in_m4 false slot wheel e h = grind (arith, in_some, lies_in_both, Contains-append_left)
 
@@ -86,29 +93,34 @@ placed model slot wheel h = grind (arith, in_some, lies_in_both)
 pub lacks_wheel : (wheels : List Wheel) (wheel : Wheel) → ¬ (Contains wheels wheel) → has_wheel wheels wheel ≡ false
 lacks_wheel wheels wheel h = grind (arith, false_from_ne_true, has_wheel-Decides)
 
--- what `==` of the program says of a wheel of the box
+-- `==` in the program agrees with `same_wheel`
 pub same_tested : (wheel other : Wheel) (b : Bool) → sameb the_type other wheel ≡ b → same_wheel wheel other ≡ b
 same_tested wheel other b e = grind (arith, same_wheel-Decides, same_true, same_wheel_differs, same_false)
 
--- the first place of the box at which the wheel stands
-pub found_in_box : (model : Model) (wheel : Wheel) (place : ℕ) → place < length (box_of model) → ((k : ℕ) → k < place → same_wheel wheel (get_or (box_of model) k I) ≡ false)
-    → same_wheel wheel (get_or (box_of model) place I) ≡ true → Contains (box_of model) wheel × (place ≡ place_in_box model wheel)
+-- the place at which a search finds a wheel in the box is `place_in_box`
+pub found_in_box : (model : Model) (wheel : Wheel) (place : ℕ) → place < length (box_of model)
+    → ((k : ℕ) → k < place → same_wheel wheel (get_or (box_of model) k I) ≡ false)
+    → same_wheel wheel (get_or (box_of model) place I) ≡ true
+    → Contains (box_of model) wheel × (place ≡ place_in_box model wheel)
 found_in_box model wheel place within before here =
     search (rules, same_wheel-Decides, Contains-get_or, position_or_len_is)
 
--- ---- the wheels of the box, and those of a day, have places of their own in it
+-- ---- each wheel of the box, and so of a day, has its own place
 
 pub allowed_in_box : AllowedWheelsLieInTheBox
 allowed_in_box model slot wheel h = (placed model slot wheel h).in_box
 
--- what stands at a wheel's place is the wheel
-at_its_place : (model : Model) (wheel : Wheel) → Contains (box_of model) wheel → wheel ≡ get_or (box_of model) (place_in_box model wheel) I
+-- the wheel at a wheel's place is this wheel
+at_its_place : (model : Model) (wheel : Wheel) → Contains (box_of model) wheel
+    → wheel ≡ get_or (box_of model) (place_in_box model wheel) I
 at_its_place model wheel h = grind (arith, same_wheel-Decides, passes_at_first, place_within)
 
 pub places_tell_wheels : PlacesTellWheels
-places_tell_wheels model wheel other h k e = at_its_place model wheel h ∙ ap (λ place. get_or (box_of model) place I) e ∙ sym (at_its_place model other k)
+places_tell_wheels model wheel other h k e =
+    at_its_place model wheel h ∙ ap (λ place. get_or (box_of model) place I) e ∙ sym (at_its_place model other k)
 
-seated : (wheels : List SheetWheel) (i : ℕ) (d : SheetWheel) → i < length wheels → StandsAt (seats wheels) i (get_or wheels i d).wheel
+seated : (wheels : List SheetWheel) (i : ℕ) (d : SheetWheel) → i < length wheels
+    → StandsAt (seats wheels) i (get_or wheels i d).wheel
 seated wheels i d lt = grind (arith, slice_get-map, slice_get-get_or)
 
 pub days_wheels_have_their_places : DaysWheelsHaveTheirPlaces
@@ -118,13 +130,16 @@ days_wheels_have_their_places model wheels h i j d before within same =
 seat_Decides : (one other : Option Wheel) → Decides (option_eq (sameb the_type) one other) (one ≡ other)
 seat_Decides one other = grind (arith, same_true, same_false, same_Some)
 
-pub seats_Decides : (slots others : List (Option Wheel)) → Decides (pointwise (option_eq (sameb the_type)) slots others) (slots ≡ others)
+pub seats_Decides : (slots others : List (Option Wheel))
+    → Decides (pointwise (option_eq (sameb the_type)) slots others) (slots ≡ others)
 seats_Decides = grind (arith, pointwise_decides, seat_Decides)
 
--- what a test goes by that goes along a list
-pub all_tested : {X : Type 0} (P : X → Type 0) (xs ys : List X) (b : Bool) → Decides b (AllByRecursion P xs) → xs ≡ ys → Decides b (All P ys)
+-- a test that goes along an equal list decides the property of all elements
+pub all_tested : {X : Type 0} (P : X → Type 0) (xs ys : List X) (b : Bool) → Decides b (AllByRecursion P xs) → xs ≡ ys
+    → Decides b (All P ys)
 all_tested P xs ys b d e = grind (arith, All-from_recursion, recursion_from_All)
 
--- the letters that the pin wheels show
-pub pin_letters_show : (p : Parts) (m : PinParts) (s : Day) (r : PinDay) → p ≡ Pin m → s ≡ OfPins r → (m.letters ≡ r.window) ↔ ShowsWindow p s
+-- a Converter shows the day's letters exactly if its letters are the day's window
+pub pin_letters_show : (p : Parts) (m : PinParts) (s : Day) (r : PinDay) → p ≡ Pin m → s ≡ OfPins r
+    → (m.letters ≡ r.window) ↔ ShowsWindow p s
 pin_letters_show p m s r is day = grind arith

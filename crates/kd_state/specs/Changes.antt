@@ -1,4 +1,5 @@
--- Which settings a machine carries out, and what they change at it, as the machine's readers tell it.
+-- Which settings a machine carries out, and what they change, as the machine's readers show it. `m` is the
+-- machine before a setting, `n` the machine after it.
 use Rattle.std.specs.Prelude.{◌≡◌, ◌≢◌, ◌⊎◌, ◌↔◌, ℕ, ◌<◌, List, [], length, Contains, Option, Some, None, IsSome}
 use Rattle.std.specs.Option.{option_map, option_map_or}
 use Rattle.kd_tables.specs.declared.wheel.Wheel.{Wheel}
@@ -9,11 +10,13 @@ use Rattle.kd_tables.specs.Tables.{box_of, reflectors_of, IsAllowed}
 use Rattle.kd_state.specs.declared.machine.parts.Parts.{Parts}
 use Rattle.kd_state.specs.declared.machine.parts.Parts.TheVariants.{Rotor, Pin}
 use Rattle.kd_state.specs.declared.setting.Setting.{Setting}
-use Rattle.kd_state.specs.declared.setting.Setting.TheVariants.{Pull, Put, Seat, SeatReflector, RingTo, Turn, PinTo, LugTo}
-use Rattle.kd_state.specs.Machine.{cable_letters, model_of, slot_in, reflector_in, ring_in, letter_in, cable_in, pin_in, shown_in, standing_in}
+use Rattle.kd_state.specs.declared.setting.Setting.TheVariants.{Pull, Put, Seat, SeatReflector, RingTo, Turn, PinTo}
+use Rattle.kd_state.specs.declared.setting.Setting.TheVariants.{LugTo}
+use Rattle.kd_state.specs.Machine.{cable_letters, model_of, slot_in, reflector_in, ring_in, letter_in, cable_in, pin_in}
+use Rattle.kd_state.specs.Machine.{shown_in, standing_in}
 use Rattle.kd_state.specs.Setting.{lug_place, other_lug, with_lug, Stands}
 
--- a thing of which a reader tells: slots, cables, pin wheels and bars by their numbers, a pin by its wheel and its letter
+-- what a reader can be asked for: slots, cables, pin wheels and bars by number, pins by wheel and letter
 pub data Thing : Type 0 where
   TheSlot : ℕ → Thing
   TheReflector : Thing
@@ -24,7 +27,7 @@ pub data Thing : Type 0 where
   TheShown : ℕ → Thing
   TheBar : ℕ → Thing
 
--- the reader tells the same of the thing at both machines
+-- the reader shows the same of the thing at both machines
 abbrev pub IsKept : Parts → Parts → Thing → Type 0
 IsKept m n (TheSlot slot) = slot_in n slot ≡ slot_in m slot
 IsKept m n TheReflector = reflector_in n ≡ reflector_in m
@@ -35,44 +38,44 @@ IsKept m n (ThePin wheel letter) = pin_in n wheel letter ≡ pin_in m wheel lett
 IsKept m n (TheShown wheel) = shown_in n wheel ≡ shown_in m wheel
 IsKept m n (TheBar bar) = standing_in n bar ≡ standing_in m bar
 
--- the model is kept, and every thing but those that are touched
+-- the model is the same, and so is every thing that isn't touched
 pub record KeepsAllBut (IsTouched : Thing → Type 0) (m n : Parts) : Type 0 where
   pub model : model_of n ≡ model_of m
   pub others : (thing : Thing) → ¬ (IsTouched thing) → IsKept m n thing
 
--- everything but this thing is kept
+-- every thing but this one is the same
 abbrev pub SetsOnly : Thing → Parts → Parts → Type 0
 SetsOnly thing m n = KeepsAllBut (λ other. other ≡ thing) m n
 
--- the letters that lie in the cable of that number
+-- the letters in a cable
 abbrev pub letters_in : Parts → ℕ → List ℕ
 letters_in m cable = option_map_or cable_letters (cable_in m cable) []
 
--- where that lug of the bar stands
+-- where a lug of a bar stands
 abbrev pub lug_in : Parts → ℕ → Lug → Option Place
 lug_in m bar lug = option_map (lug_place lug) (standing_in m bar)
 
--- it is this slot, or one that held the wheel
+-- the thing is this slot, or one that held the wheel
 abbrev pub IsSeatOf : Parts → ℕ → Wheel → Thing → Type 0
 IsSeatOf m slot wheel thing =
     (thing ≡ TheSlot slot) ⊎ ((held : ℕ) × (thing ≡ TheSlot held) × (slot_in m held ≡ Some (Some wheel)))
 
--- The wheel stands in this slot, in no other one, and what held it before is empty. The wheel that stood here stands nowhere
--- then: it lies in the box, with its ring and its letter.
+-- The wheel stands in this slot and in no other. A slot that held it before is empty now. The wheel that was in
+-- this slot lies in the box, with its ring and its letter.
 pub record Seats (m : Parts) (slot : ℕ) (wheel : Wheel) (n : Parts) : Type 0 where
   pub here : slot_in n slot ≡ Some (Some wheel)
   pub only : (other : ℕ) → slot_in n other ≡ Some (Some wheel) → other ≡ slot
   pub left : (held : ℕ) → held ≢ slot → slot_in m held ≡ Some (Some wheel) → slot_in n held ≡ Some None
   pub others : KeepsAllBut (IsSeatOf m slot wheel) m n
 
--- the wheel that is seated in the slot shows the letter; of a Converter M-209, the pin wheel of that number
+-- the wheel in the slot shows the letter; on a Converter M-209, the pin wheel with this number
 abbrev pub Turns : Parts → ℕ → ℕ → Parts → Type 0
 Turns (Rotor m) slot letter n =
     (wheel : Wheel) × (slot_in (Rotor m) slot ≡ Some (Some wheel))
     × (letter_in n wheel ≡ Some letter) × SetsOnly (TheLetter wheel) (Rotor m) n
 Turns (Pin m) wheel letter n = (shown_in n wheel ≡ Some letter) × SetsOnly (TheShown wheel) (Pin m) n
 
--- the letters of the cable are those that lay in it, but this one; or those, and this one
+-- the cable loses the letter, and keeps the others; or it gains the letter, and keeps the others
 abbrev pub TakesOut : Parts → ℕ → ℕ → Parts → Type 0
 TakesOut m cable letter n =
     (other : ℕ) → Contains (letters_in n cable) other ↔ (Contains (letters_in m cable) other × (other ≢ letter))
@@ -86,7 +89,7 @@ pub record MovesLug (m : Parts) (bar : ℕ) (lug : Lug) (place : Place) (n : Par
   pub moved : lug_in n bar lug ≡ Some place
   pub other : lug_in n bar (other_lug lug) ≡ lug_in m bar (other_lug lug)
 
--- the setting makes the other machine of this one
+-- `n` is what the setting makes of `m`, as the readers show it
 abbrev pub Makes : Parts → Setting → Parts → Type 0
 Makes m (Pull cable letter) n = TakesOut m cable letter n × SetsOnly (TheCable cable) m n
 Makes m (Put cable letter) n = PutsIn m cable letter n × SetsOnly (TheCable cable) m n
@@ -98,20 +101,22 @@ Makes m (PinTo wheel letter effective) n =
     (pin_in n wheel letter ≡ Some effective) × SetsOnly (ThePin wheel letter) m n
 Makes m (LugTo bar lug place) n = MovesLug m bar lug place n × SetsOnly (TheBar bar) m n
 
--- ---- which settings it carries out
+-- ---- which settings a machine carries out
 
--- an end of the cable lies loose
+-- an end of the cable is loose
 abbrev pub HasLooseEnd : Parts → ℕ → Type 0
 HasLooseEnd m cable = (held : Option ℕ × Option ℕ) × (cable_in m cable ≡ Some held) × (length (cable_letters held) < 2)
 
--- a wheel is seated in the slot; or it is a pin wheel, and the letter is on it
+-- a wheel stands in the slot; or the number is a pin wheel's, and the letter is on it
 abbrev pub CanShow : Parts → ℕ → ℕ → Type 0
 CanShow m slot letter =
-    ((wheel : Wheel) × (slot_in m slot ≡ Some (Some wheel))) ⊎ (IsSome (shown_in m slot) × Contains (ring_of slot) letter)
+    ((wheel : Wheel) × (slot_in m slot ≡ Some (Some wheel)))
+    ⊎ (IsSome (shown_in m slot) × Contains (ring_of slot) letter)
 
--- the bar stands so that its left lug comes before its right one with the lug at the place
+-- with this lug moved to the place, the bar's left lug still stands before its right one
 abbrev pub CanMove : Parts → ℕ → Lug → Place → Type 0
-CanMove m bar lug place = (standing : Place × Place) × (standing_in m bar ≡ Some standing) × Stands (with_lug lug place standing)
+CanMove m bar lug place =
+    (standing : Place × Place) × (standing_in m bar ≡ Some standing) × Stands (with_lug lug place standing)
 
 -- the machine doesn't refuse the setting
 abbrev pub Allows : Parts → Setting → Type 0

@@ -1,5 +1,7 @@
--- How much of a machine differs from a day of the sheet, and what it costs to put it right.
-use Rattle.std.specs.Prelude.{ℕ, ◌+◌, ◌-◌, nat_eq, nat_lt, min, Bool, false, not, ◌&&◌, List, [], ◌∷◌, ◌++◌, length, slice_index_or, map, filter, find, fold, zip, sum, count_by, replicate, Option, Some, None, if◌then◌else◌}
+-- How much of a machine differs from a day, and what it costs to change its cables and bars.
+use Rattle.std.specs.Prelude.{ℕ, ◌+◌, ◌-◌, nat_eq, nat_lt, min, Bool, false, not, ◌&&◌, List, [], ◌∷◌, ◌++◌, length}
+use Rattle.std.specs.Prelude.{slice_index_or, map, filter, find, fold, zip, sum, count_by, replicate, Option, Some}
+use Rattle.std.specs.Prelude.{None, if◌then◌else◌}
 use Rattle.std.specs.Option.{option_map_or}
 use Rattle.kd_tables.specs.declared.place.Place.{Place}
 use Rattle.kd_tables.specs.declared.place.Place.TheVariants.{One, ZeroLeft, Two, Three, Four, Five, Six}
@@ -15,98 +17,101 @@ use Rattle.kd_state.specs.Machine.{cable_letters, ring_at, letter_at}
 use Rattle.kd_state.specs.Setting.{has_letter, is_at}
 use Rattle.kd_state.specs.SheetDay.{RotorDay, PinDay, Day, OfRotors, OfPins}
 
--- one of the two holds, and not the other
+-- exactly one of the two holds
 abbrev pub differ : Bool → Bool → Bool
 differ a b = if a then not b else b
 
--- 1 where they differ
+-- 1 if they differ, else 0
 abbrev pub unless_same : Bool → ℕ
 unless_same same = if same then 0 else 1
 
--- the letters of a pair, or of nothing
+-- the letters of a pair; no pair has none
 abbrev pub column_letters : Option (ℕ × ℕ) → List ℕ
 column_letters None = []
 column_letters (Some pair) = pair.0 ∷ pair.1 ∷ []
 
--- the letter lies in the cable or is one of the pair, and not both
+-- the letter is in the cable or in the pair, and not in both
 abbrev pub lies_in_one : Option ℕ × Option ℕ → Option (ℕ × ℕ) → ℕ → Bool
-lies_in_one cable column letter = differ (has_letter (cable_letters cable) letter) (has_letter (column_letters column) letter)
+lies_in_one cable column letter =
+    differ (has_letter (cable_letters cable) letter) (has_letter (column_letters column) letter)
 
--- what it costs to make of a cable a pair, or nothing: how many letters lie in one of the two alone
+-- the cost of making a cable this pair, or empty: how many letters are in only one of the two
 abbrev pub cable_cost : Option ℕ × Option ℕ → Option (ℕ × ℕ) → ℕ
 cable_cost cable column = count_by (lies_in_one cable column) alphabet
 
--- how many of the two lugs stand at other places
+-- how many of the two lugs stand at different places
 abbrev pub lugs_moved : Place × Place → Place × Place → ℕ
 lugs_moved standing other = unless_same (is_at standing.0 other.0) + unless_same (is_at standing.1 other.1)
 
--- the standing reads as the row
+-- the standing reads as this row
 abbrev pub reads_as_row : ℕ × ℕ → Place × Place → Bool
 reads_as_row row standing =
     let reading = reading_of standing.0 standing.1 in nat_eq reading.0 row.0 && nat_eq reading.1 row.1
 
--- the standings that read as the row, in order
+-- the standings that read as this row, in order
 unfoldable pub standings_as : ℕ × ℕ → List (Place × Place)
 standings_as row = filter (reads_as_row row) standings
 
--- the place at which the pin wheel of that number acts
+-- the place at which this pin wheel acts
 abbrev pub place_at : ℕ → Place
 place_at wheel = slice_index_or (ZeroLeft ∷ One ∷ Two ∷ Three ∷ Four ∷ Five ∷ Six ∷ []) wheel Six
 
--- the standing with the lugs at these two places
+-- the standing with its lugs at these two places
 abbrev pub across : Place → Place → Place × Place
 across one other = if nat_lt (place_rank one) (place_rank other) then (one, other) else (other, one)
 
--- what it costs to make a bar read as a row: the least number of lugs to be moved, over the standings that read so; there
--- are two lugs
+-- the cost of making a bar read as this row: the least number of lugs to move. There are two lugs, so it is at
+-- most 2.
 abbrev pub bar_cost : Place × Place → ℕ × ℕ → ℕ
 bar_cost standing row = fold min 2 (map (lugs_moved standing) (standings_as row))
 
--- of the standings that read as the row, the first that costs the least
+-- the standing that reads as the row and costs the least, the first one of equals
 abbrev pub nearest_standing : Place × Place → ℕ × ℕ → Option (Place × Place)
 nearest_standing standing row =
     find (λ other. nat_eq (lugs_moved standing other) (bar_cost standing row)) (standings_as row)
 
--- the day's pairs, and then nothings up to 13
+-- the day's pairs, and then no pair, up to 13 columns
 abbrev pub columns_of : List (ℕ × ℕ) → List (Option (ℕ × ℕ))
 columns_of pairs = map Some pairs ++ replicate (13 - length pairs) None
 
--- the cost of each cable to each pair or nothing, and of each bar to each row
+-- the cost of each cable at each column, and of each bar at each row
 abbrev pub cable_costs : List (Option ℕ × Option ℕ) → List (ℕ × ℕ) → List (List ℕ)
 cable_costs cables pairs = map (λ cable. map (cable_cost cable) (columns_of pairs)) cables
 
 abbrev pub bar_costs : List (Place × Place) → List (ℕ × ℕ) → List (List ℕ)
 bar_costs bars rows = map (λ bar. map (bar_cost bar) rows) bars
 
--- what it costs to make of a machine's cables the day's pairs, or of its bars the day's rows
+-- the cost table of a machine and a day: of its cables, or of its bars
 abbrev pub cost_table : Parts → Day → List (List ℕ)
 cost_table (Rotor m) (OfRotors s) = cable_costs m.cables s.pairs
 cost_table (Pin m) (OfPins s) = bar_costs m.bars s.rows
 cost_table _ _ = []
 
--- the slots that hold another wheel than the day's, or none
+-- how many slots hold no wheel, or another wheel than the day's
 abbrev pub loose_slots : RotorParts → RotorDay → ℕ
 loose_slots m s = count_by (λ slot. not (option_map_or (same_wheel slot.1.wheel) slot.0 false)) (zip m.slots s.wheels)
 
--- the reflector, if it is another one
+-- 1 if the reflector isn't the day's, else 0
 abbrev pub loose_reflector : RotorParts → RotorDay → ℕ
 loose_reflector m s = unless_same (same_reflector m.reflector s.reflector)
 
--- the day's wheels whose rings differ, and those whose letters do, wherever they lie
+-- how many of the day's wheels have another ring than the day's, and how many another letter, in a slot or not
 abbrev pub loose_rings : RotorParts → RotorDay → ℕ
 loose_rings m s = count_by (λ w. not (option_map_or (nat_eq w.ring) (ring_at m w.wheel) false)) s.wheels
 
 abbrev pub loose_letters : RotorParts → RotorDay → ℕ
 loose_letters m s = count_by (λ w. not (option_map_or (nat_eq w.letter) (letter_at m w.wheel) false)) s.wheels
 
--- the pins that differ, and the letters of pin wheels that do
+-- how many pins differ, and how many of the letters that the pin wheels show
 abbrev pub loose_pins : PinParts → PinDay → ℕ
-loose_pins m s = sum (map (λ wheel. count_by (λ pin. differ pin.0 pin.1) (zip wheel.0 wheel.1)) (zip (pins_of m.pins) (pins_of s.pins)))
+loose_pins m s =
+    sum (map (λ wheel. count_by (λ pin. differ pin.0 pin.1) (zip wheel.0 wheel.1))
+    (zip (pins_of m.pins) (pins_of s.pins)))
 
 abbrev pub loose_pin_letters : PinParts → PinDay → ℕ
 loose_pin_letters m s = count_by (λ letter. not (nat_eq letter.0 letter.1)) (zip m.letters s.window)
 
--- all things that differ, cables and bars apart
+-- how many things differ, without cables and bars
 abbrev pub loose_count : Parts → Day → ℕ
 loose_count (Rotor m) (OfRotors s) = loose_slots m s + loose_reflector m s + loose_rings m s + loose_letters m s
 loose_count (Pin m) (OfPins s) = loose_pins m s + loose_pin_letters m s

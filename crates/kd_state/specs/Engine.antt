@@ -1,16 +1,16 @@
--- What an engine has inside.
+-- The parts of an engine.
 use Rattle.std.specs.Prelude.{◌≡◌, length}
 use Rattle.kd_state.specs.declared.engine.Mechanism.{Mechanism}
 use Rattle.kd_state.specs.declared.engine.Mechanism.TheVariants.{ThreeWheels, FourWheels, Drum}
 use Rattle.kd_state.specs.TwoCiphers.{EngineKey, OfWheels, OfDrum}
 
--- the key to which the mechanism is set
+-- the key that the mechanism is set to
 abbrev pub mechanism_key : Mechanism → EngineKey
 mechanism_key (ThreeWheels key) = OfWheels key
 mechanism_key (FourWheels key) = OfWheels key
 mechanism_key (Drum key) = OfDrum key
 
--- as many wheels as the form says
+-- the key has as many wheels as the mechanism
 abbrev pub HasItsWheels : Mechanism → Type 0
 HasItsWheels (ThreeWheels key) = length key.wheels ≡ 3
 HasItsWheels (FourWheels key) = length key.wheels ≡ 4

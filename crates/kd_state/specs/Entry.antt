@@ -1,4 +1,4 @@
--- What an entry of a key sheet says.
+-- The values of a day's entry.
 use Rattle.kd_state.specs.declared.sheet_day.rotor_entry.RotorEntry.{RotorEntry}
 use Rattle.kd_state.specs.declared.sheet_day.pin_entry.PinEntry.{PinEntry}
 use Rattle.kd_state.specs.declared.sheet_day.entry.Entry.{Entry}
@@ -7,13 +7,20 @@ use Rattle.kd_state.specs.SheetDay.{RotorDay, PinDay, Day, OfRotors, OfPins}
 
 -- the values of a day of a rotor model
 abbrev pub rotor_values : RotorEntry → RotorDay
-rotor_values e = record { day = e.day; model = e.model; reflector = e.reflector; wheels = e.wheels; pairs = e.pairs.items; groups = e.groups.items }
+rotor_values e = record {
+  day = e.day;
+  model = e.model;
+  reflector = e.reflector;
+  wheels = e.wheels;
+  pairs = e.pairs.items;
+  groups = e.groups.items;
+}
 
 -- the values of a day of the Converter M-209
 abbrev pub pin_values : PinEntry → PinDay
 pin_values e = record { day = e.day; rows = e.rows; pins = e.pins; window = e.window; list = e.list }
 
--- the values of the entry
+-- the values of an entry
 abbrev pub values_of : Entry → Day
 values_of (Rotor e) = OfRotors (rotor_values e)
 values_of (Pin e) = OfPins (pin_values e)

@@ -1,5 +1,6 @@
--- What holds of machines, settings and days of a sheet.
-use Rattle.std.specs.Prelude.{◌≡◌, ◌≢◌, ◌↔◌, ℕ, ◌+◌, ◌<◌, ◌≤◌, List, ◌++◌, length, slice_index_or, slice_get, All, AllPairs, Option, None, MatchOption, Contains}
+-- What the laws say of machines, settings and days.
+use Rattle.std.specs.Prelude.{◌≡◌, ◌≢◌, ◌↔◌, ℕ, ◌+◌, ◌<◌, ◌≤◌, List, ◌++◌, length, slice_index_or, slice_get, All}
+use Rattle.std.specs.Prelude.{AllPairs, Option, None, MatchOption, Contains}
 use Rattle.std.specs.Bool.{Decides}
 use Rattle.kd_tables.specs.declared.model.Model.{Model}
 use Rattle.kd_tables.specs.declared.wheel.Wheel.{Wheel}
@@ -21,41 +22,46 @@ use Rattle.kd_state.specs.Line.{setting_words, setting_line, IsInRange, IsList, 
 use Rattle.kd_state.specs.SheetDay.{seats, AreSeated, Day, IsLegalDay}
 use Rattle.kd_state.specs.OnKey.{SameLetters, OnKey, ReadsAs}
 use Rattle.kd_state.specs.Costs.{columns_of, cable_cost, cost_table}
-use Rattle.kd_state.specs.TwoCiphers.{EngineKey, cipher, key_left, key_with_window, IsWindow, IsReady, window_of, physical_key, physical_cipher, sheet_key, sheet_cipher, IsTurned}
+use Rattle.kd_state.specs.TwoCiphers.{EngineKey, cipher, key_left, key_with_window, IsWindow, IsReady, window_of}
+use Rattle.kd_state.specs.TwoCiphers.{physical_key, physical_cipher, sheet_key, sheet_cipher, IsTurned}
 
--- no two wheels have one name, and no two reflectors
+-- different wheels have different names, and so have different reflectors
 abbrev pub NamesTellWheels : Type 0
 NamesTellWheels = (wheel other : Wheel) → Decides (same_wheel wheel other) (wheel ≡ other)
 
 abbrev pub NamesTellReflectors : Type 0
 NamesTellReflectors = (reflector other : Reflector) → Decides (same_reflector reflector other) (reflector ≡ other)
 
--- a wheel that may stand in a slot lies in the box; it has a place there, and no other wheel has that place
+-- a wheel that is allowed in a slot is in the box; each wheel of the box has its own place there
 abbrev pub AllowedWheelsLieInTheBox : Type 0
-AllowedWheelsLieInTheBox = (model : Model) (slot : ℕ) (wheel : Wheel) → IsAllowed model slot wheel → Contains (box_of model) wheel
+AllowedWheelsLieInTheBox =
+    (model : Model) (slot : ℕ) (wheel : Wheel) → IsAllowed model slot wheel → Contains (box_of model) wheel
 
 abbrev pub WheelsHavePlaces : Type 0
-WheelsHavePlaces = (model : Model) (wheel : Wheel) → Contains (box_of model) wheel → place_in_box model wheel < length (box_of model)
+WheelsHavePlaces =
+    (model : Model) (wheel : Wheel) → Contains (box_of model) wheel → place_in_box model wheel < length (box_of model)
 
 abbrev pub PlacesTellWheels : Type 0
 PlacesTellWheels = (model : Model) (wheel other : Wheel) → Contains (box_of model) wheel → Contains (box_of model) other
     → place_in_box model wheel ≡ place_in_box model other → wheel ≡ other
 
--- no two wheels of a day have one place in the box
+-- two wheels of a day have different places in the box
 abbrev pub DaysWheelsHaveTheirPlaces : Type 0
 DaysWheelsHaveTheirPlaces = (model : Model) (wheels : List SheetWheel) → AreSeated model (seats wheels)
     → AllPairs (λ (w other : SheetWheel). place_in_box model w.wheel ≢ place_in_box model other.wheel) wheels
 
--- a setting that is carried out makes a machine of a machine, and so does a list of them
+-- a machine stays a machine when a setting, or a list of settings, is carried out
 abbrev pub SettingsKeepMachines : Type 0
 SettingsKeepMachines = (m n : Parts) (x : Setting) → IsMachine m → IsInRange x → Carries m x n → IsMachine n
 
 abbrev pub ListsKeepMachines : Type 0
 ListsKeepMachines = (m n : Parts) (xs : List Setting) → IsMachine m → All IsInRange xs → Leads m xs n → IsMachine n
 
--- a machine refuses a setting, or carries it, and never both; it carries it to one machine only
+-- a machine either refuses a setting or carries it out, and with one result only; a list has one result too
 abbrev pub RefusesOrCarries : Type 0
-RefusesOrCarries = (m : Parts) (x : Setting) → MatchOption (why_refused m x) ((n : Parts) × Carries m x n) (λ why. (n : Parts) → ¬ (Carries m x n))
+RefusesOrCarries =
+    (m : Parts) (x : Setting)
+    → MatchOption (why_refused m x) ((n : Parts) × Carries m x n) (λ why. (n : Parts) → ¬ (Carries m x n))
 
 abbrev pub CarriesToOne : Type 0
 CarriesToOne = (m n o : Parts) (x : Setting) → Carries m x n → Carries m x o → n ≡ o
@@ -63,48 +69,57 @@ CarriesToOne = (m n o : Parts) (x : Setting) → Carries m x n → Carries m x o
 abbrev pub LeadsToOne : Type 0
 LeadsToOne = (m n o : Parts) (xs : List Setting) → Leads m xs n → Leads m xs o → n ≡ o
 
--- what a setting that is carried out changes, and that it changes nothing else, as the readers tell it
+-- a setting that is carried out changes what it names and nothing else, as the readers show it
 abbrev pub SettingsAreTold : Type 0
 SettingsAreTold = (m n : Parts) (x : Setting) → IsMachine m → Carries m x n → Makes m x n
 
--- and a machine of which they tell just that was made so
+-- if the readers show just this change and the setting isn't refused, it was carried out
 abbrev pub TellingIsMaking : Type 0
-TellingIsMaking = (m n : Parts) (x : Setting) → IsMachine m → IsMachine n → IsInRange x → Allows m x → Makes m x n → Carries m x n
+TellingIsMaking =
+    (m n : Parts) (x : Setting) → IsMachine m → IsMachine n → IsInRange x → Allows m x → Makes m x n → Carries m x n
 
--- what is refused, as the readers tell it
+-- a setting is refused exactly if the readers show that it isn't allowed
 abbrev pub RefusalsAreTold : Type 0
 RefusalsAreTold = (m : Parts) (x : Setting) → IsMachine m → (why_refused m x ≡ None) ↔ Allows m x
 
--- a seat, a reflector and a ring are refused exactly where the tables don't allow them
+-- a machine refuses a seat, a reflector or a ring exactly if the tables don't allow it
 abbrev pub SeatsAreByTheTables : Type 0
-SeatsAreByTheTables = (m : RotorParts) (slot : ℕ) (wheel : Wheel) → (why_refused (Rotor m) (Seat slot wheel) ≡ None) ↔ IsAllowed m.model slot wheel
+SeatsAreByTheTables =
+    (m : RotorParts) (slot : ℕ) (wheel : Wheel)
+    → (why_refused (Rotor m) (Seat slot wheel) ≡ None) ↔ IsAllowed m.model slot wheel
 
 abbrev pub ReflectorsAreByTheTables : Type 0
-ReflectorsAreByTheTables = (m : RotorParts) (reflector : Reflector) → (why_refused (Rotor m) (SeatReflector reflector) ≡ None) ↔ Contains (reflectors_of m.model) reflector
+ReflectorsAreByTheTables =
+    (m : RotorParts) (reflector : Reflector)
+    → (why_refused (Rotor m) (SeatReflector reflector) ≡ None) ↔ Contains (reflectors_of m.model) reflector
 
 abbrev pub RingsAreByTheTables : Type 0
-RingsAreByTheTables = (m : RotorParts) (wheel : Wheel) (letter : ℕ) → (why_refused (Rotor m) (RingTo wheel letter) ≡ None) ↔ Contains (box_of m.model) wheel
+RingsAreByTheTables =
+    (m : RotorParts) (wheel : Wheel) (letter : ℕ)
+    → (why_refused (Rotor m) (RingTo wheel letter) ≡ None) ↔ Contains (box_of m.model) wheel
 
--- what a setting's line is made of are words
+-- the parts of a setting's line are words
 abbrev pub SettingsHaveWords : Type 0
 SettingsHaveWords = (x : Setting) → IsInRange x → All IsWord (setting_words x)
 
--- no two settings have one line
+-- different settings have different lines
 abbrev pub LinesTellSettings : Type 0
 LinesTellSettings = (x y : Setting) → IsInRange x → IsInRange y → setting_line x ≡ setting_line y → x ≡ y
 
--- bytes that are a list are so of one list, and have no fault
+-- bytes are the text of at most one list; the text of a list has no fault, and no text has two faults
 abbrev pub TextsTellLists : Type 0
 TextsTellLists = (bytes : List ℕ) (xs ys : List Setting) → IsList bytes xs → IsList bytes ys → xs ≡ ys
 
 abbrev pub ListsHaveNoFault : Type 0
-ListsHaveNoFault = (bytes : List ℕ) (xs : List Setting) (fault : ListFault) → IsList bytes xs → ¬ (IsListFault bytes fault)
+ListsHaveNoFault =
+    (bytes : List ℕ) (xs : List Setting) (fault : ListFault) → IsList bytes xs → ¬ (IsListFault bytes fault)
 
 abbrev pub OneListFault : Type 0
-OneListFault = (bytes : List ℕ) (fault other : ListFault) → IsListFault bytes fault → IsListFault bytes other → fault ≡ other
+OneListFault =
+    (bytes : List ℕ) (fault other : ListFault) → IsListFault bytes fault → IsListFault bytes other → fault ≡ other
 
--- an engine with the machine's key makes of each text what the machine makes of it; and so does one that is turned to other
--- letters, of the machine that shows these
+-- an engine with the machine's key enciphers as the machine's own parts do; turned to other letters, as the
+-- machine that shows these letters
 abbrev pub EngineIsTheMachine : Type 0
 EngineIsTheMachine = (m : Parts) (text : List ℕ) → cipher (physical_key m) text ≡ physical_cipher m text
 
@@ -112,14 +127,16 @@ abbrev pub TurnedEngineIsTheTurnedMachine : Type 0
 TurnedEngineIsTheTurnedMachine = (m n : Parts) (window text : List ℕ) → IsTurned m window n
     → cipher (key_with_window (physical_key m) window) text ≡ physical_cipher n text
 
--- a machine that reads as the day is ready, and enciphers as the day's own machine
+-- a machine that reads as the day is ready, and enciphers as the day asks
 abbrev pub ReadingIsReady : Type 0
 ReadingIsReady = (m : Parts) (s : Day) → IsMachine m → IsLegalDay s → ReadsAs m s → IsReady m
 
 abbrev pub ReadingIsItsCipher : Type 0
-ReadingIsItsCipher = (m : Parts) (s : Day) (text : List ℕ) → IsMachine m → IsLegalDay s → ReadsAs m s → physical_cipher m text ≡ sheet_cipher s text
+ReadingIsItsCipher =
+    (m : Parts) (s : Day) (text : List ℕ) → IsMachine m → IsLegalDay s → ReadsAs m s
+    → physical_cipher m text ≡ sheet_cipher s text
 
--- a machine that is on the day's key is ready, and enciphers as the day's own machine that shows the same letters
+-- a machine on the day's key is ready, and enciphers as the day asks, from the letters that it shows
 abbrev pub OnKeyIsReady : Type 0
 OnKeyIsReady = (m : Parts) (s : Day) → IsMachine m → IsLegalDay s → OnKey m s → IsReady m
 
@@ -127,54 +144,65 @@ abbrev pub OnKeyIsItsCipher : Type 0
 OnKeyIsItsCipher = (m : Parts) (s : Day) (text : List ℕ) → IsMachine m → IsLegalDay s → OnKey m s
     → physical_cipher m text ≡ cipher (key_with_window (sheet_key s) (window_of m)) text
 
--- and so does each machine that differs from it in the letters that show
+-- a machine on the day's key that is turned to other letters enciphers as the day asks, from these letters
 abbrev pub TurnedHasTheDaysCipher : Type 0
-TurnedHasTheDaysCipher = (m n : Parts) (s : Day) (window text : List ℕ) → IsMachine m → IsLegalDay s → OnKey m s → IsTurned m window n
+TurnedHasTheDaysCipher =
+    (m n : Parts) (s : Day) (window text : List ℕ) → IsMachine m → IsLegalDay s → OnKey m s → IsTurned m window n
     → physical_cipher n text ≡ cipher (key_with_window (sheet_key s) window) text
 
 -- a ready machine can be turned to each window
 abbrev pub MachinesCanBeTurned : Type 0
-MachinesCanBeTurned = (m : Parts) (window : List ℕ) → IsMachine m → IsReady m → IsWindow (physical_key m) window → (n : Parts) × IsTurned m window n × IsMachine n
+MachinesCanBeTurned =
+    (m : Parts) (window : List ℕ) → IsMachine m → IsReady m → IsWindow (physical_key m) window
+    → (n : Parts) × IsTurned m window n × IsMachine n
 
--- and another machine on the key, that shows the same letters, deciphers
+-- of two machines on the day's key that show the same letters, one deciphers what the other enciphers
 abbrev pub EquallySetDecipher : Type 0
-EquallySetDecipher = (m n : Parts) (s : Day) (text : List ℕ) → IsMachine m → IsMachine n → IsLegalDay s → OnKey m s → OnKey n s
+EquallySetDecipher =
+    (m n : Parts) (s : Day) (text : List ℕ) → IsMachine m → IsMachine n → IsLegalDay s → OnKey m s → OnKey n s
     → window_of m ≡ window_of n → All (λ letter. letter < 26) text → physical_cipher n (physical_cipher m text) ≡ text
 
--- what the day's own machine enciphers, it deciphers if it shows the same letters again
+-- an engine set as the day says deciphers its own ciphertext, from the same letters
 abbrev pub TheDayDeciphersItself : Type 0
 TheDayDeciphersItself = (s : Day) (window text : List ℕ) → IsLegalDay s → All (λ letter. letter < 26) text
     → cipher (key_with_window (sheet_key s) window) (cipher (key_with_window (sheet_key s) window) text) ≡ text
 
--- with other letters a machine on the key is on the key still, and its key is the same but for the letters
+-- a machine on the day's key stays on it when it is turned to other letters, and only the letters in its key
+-- change
 abbrev pub TurnedIsOnKey : Type 0
 TurnedIsOnKey = (m n : Parts) (s : Day) (window : List ℕ) → IsTurned m window n → OnKey m s → OnKey n s
 
 abbrev pub TurnedHasItsKey : Type 0
-TurnedHasItsKey = (m n : Parts) (window : List ℕ) → IsTurned m window n → physical_key n ≡ key_with_window (physical_key m) window
+TurnedHasItsKey =
+    (m n : Parts) (window : List ℕ) → IsTurned m window n → physical_key n ≡ key_with_window (physical_key m) window
 
--- a text in two pieces is enciphered piece by piece, on the key that the first piece leaves
+-- a text can be enciphered in two pieces, the second with the key that the first leaves
 abbrev pub CipherInTurn : Type 0
-CipherInTurn = (key : EngineKey) (first rest : List ℕ) → cipher key (first ++ rest) ≡ cipher key first ++ cipher (key_left key (length first)) rest
+CipherInTurn =
+    (key : EngineKey) (first rest : List ℕ)
+    → cipher key (first ++ rest) ≡ cipher key first ++ cipher (key_left key (length first)) rest
 
 abbrev pub KeyInTurn : Type 0
 KeyInTurn = (key : EngineKey) (m n : ℕ) → key_left (key_left key m) n ≡ key_left key (m + n)
 
--- two lists have the same letters exactly where the same tests hold of them
+-- two lists have the same letters exactly if each letter is in both or in neither
 abbrev pub TestsTellLetters : Type 0
 TestsTellLetters = (xs ys : List ℕ) → SameLetters xs ys ↔ ((letter : ℕ) → has_letter xs letter ≡ has_letter ys letter)
 
--- the columns of a day are 13: its pairs in their order, and then nothings
+-- a day has 13 columns: its pairs in their order, and then no pair
 abbrev pub ThirteenColumns : Type 0
 ThirteenColumns = (pairs : List (ℕ × ℕ)) → length pairs ≤ 13 → length (columns_of pairs) ≡ 13
 
 abbrev pub ColumnsAreThePairs : Type 0
-ColumnsAreThePairs = (pairs : List (ℕ × ℕ)) (place : ℕ) → slice_index_or (columns_of pairs) place None ≡ slice_get pairs place
+ColumnsAreThePairs =
+    (pairs : List (ℕ × ℕ)) (place : ℕ) → slice_index_or (columns_of pairs) place None ≡ slice_get pairs place
 
--- a cable differs from a pair, or from nothing, in four letters at most
+-- a cable costs at most 4 at each column
 abbrev pub CablesCostFour : Type 0
 CablesCostFour = (cable : Option ℕ × Option ℕ) (column : Option (ℕ × ℕ)) → cable_cost cable column ≤ 4
 
--- the table of costs is square
+-- the cost tables are square
 abbrev pub CostTablesAreSquare : Type 0
-CostTablesAreSquare = (m : Parts) (s : Day) → IsMachine m → IsLegalDay s → All (λ row. length row ≡ length (cost_table m s)) (cost_table m s)
+CostTablesAreSquare =
+    (m : Parts) (s : Day) → IsMachine m → IsLegalDay s
+    → All (λ row. length row ≡ length (cost_table m s)) (cost_table m s)

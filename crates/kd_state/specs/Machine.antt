@@ -1,5 +1,6 @@
--- The physical machine as it stands on the desk: its parts, which parts make a machine, and what can be read off it.
-use Rattle.std.specs.Prelude.{◌≡◌, ℕ, ◌+◌, ◌<◌, nat_eq, nat_le, Bool, List, ◌++◌, length, map, All, Contains, slice_get, Option, Some, None, if◌then◌else◌}
+-- The machine on the desk: which parts make a machine, and what its readers show.
+use Rattle.std.specs.Prelude.{◌≡◌, ℕ, ◌+◌, ◌<◌, nat_eq, nat_le, Bool, List, ◌++◌, length, map, All, Contains, slice_get}
+use Rattle.std.specs.Prelude.{Option, Some, None, if◌then◌else◌}
 use Rattle.std.specs.List.{flat_map, IsDistinct}
 use Rattle.std.specs.Option.{option_to_list}
 use Rattle.kd_tables.specs.declared.model.Model.{Model}
@@ -18,15 +19,15 @@ use Rattle.kd_state.specs.declared.machine.parts.Parts.{Parts}
 use Rattle.kd_state.specs.declared.machine.parts.Parts.TheVariants.{Rotor, Pin}
 use Rattle.kd_state.specs.ToldApart.{place_in_box, numbered}
 
--- the letters that lie in a cable
+-- the letters in a cable
 abbrev pub cable_letters : Option ℕ × Option ℕ → List ℕ
 cable_letters cable = option_to_list cable.0 ++ option_to_list cable.1
 
--- the letters that lie in any of the cables
+-- the letters in all cables
 abbrev pub plugged_letters : List (Option ℕ × Option ℕ) → List ℕ
 plugged_letters cables = flat_map cable_letters cables
 
--- the wheel stands so many places to the right of the first slot
+-- the wheel stands in the slot with this index, counted from the left from 0
 abbrev pub StandsAt : List (Option Wheel) → ℕ → Wheel → Type 0
 StandsAt slots place wheel = slice_get slots place ≡ Some (Some wheel)
 
@@ -36,25 +37,26 @@ AreAllowed model slots = (place : ℕ) (wheel : Wheel) → StandsAt slots place 
 
 -- no wheel stands in two slots
 abbrev pub AreApart : List (Option Wheel) → Type 0
-AreApart slots = (place other : ℕ) (wheel : Wheel) → StandsAt slots place wheel → StandsAt slots other wheel → place ≡ other
+AreApart slots =
+    (place other : ℕ) (wheel : Wheel) → StandsAt slots place wheel → StandsAt slots other wheel → place ≡ other
 
--- so many letters, each by its place in the alphabet
+-- there are `number` letters, each below 26
 pub record AreLetters (number : ℕ) (letters : List ℕ) : Type 0 where
   pub count : length letters ≡ number
   pub within : All (λ letter. letter < 26) letters
 
--- 13 cables with letters of the alphabet, no letter in two places
+-- there are 13 cables; their letters are below 26, and none is in two places
 pub record AreCables (cables : List (Option ℕ × Option ℕ)) : Type 0 where
   pub count : length cables ≡ 13
   pub within : All (λ letter. letter < 26) (plugged_letters cables)
   pub apart : IsDistinct nat_eq (plugged_letters cables)
 
--- a letter for each of the six wheels, and it is on the wheel
+-- there are six letters, each on its wheel
 pub record AreOnWheels (letters : List ℕ) : Type 0 where
   pub count : length letters ≡ 6
   pub each : (wheel letter : ℕ) → numbered letters wheel ≡ Some letter → Contains (ring_of wheel) letter
 
--- as many pins as the wheel has letters
+-- each wheel has a pin for each of its letters
 abbrev pub HasAllPins : PinSet → Type 0
 HasAllPins pins = (wheel : ℕ) → length (wheel_pins pins wheel) ≡ length (ring_of wheel)
 
@@ -79,18 +81,19 @@ abbrev pub IsLegal : Parts → Type 0
 IsLegal (Rotor m) = IsLegalRotor m
 IsLegal (Pin m) = IsLegalPin m
 
--- a cable's letters in alphabetical order, a single letter first
+-- the cable with these letters in alphabetical order, a single letter first
 abbrev pub ordered : Option ℕ → Option ℕ → Option ℕ × Option ℕ
 ordered None other = (other, None)
 ordered (Some letter) None = (Some letter, None)
-ordered (Some letter) (Some other) = if nat_le letter other then (Some letter, Some other) else (Some other, Some letter)
+ordered (Some letter) (Some other) =
+    if nat_le letter other then (Some letter, Some other) else (Some other, Some letter)
 
--- the same machine, with the letters of each cable in order: a cable holds a set of letters
+-- the same machine with the letters of each cable in order: a cable is a set of letters
 abbrev pub cables_ordered : Parts → Parts
 cables_ordered (Rotor m) = Rotor (record m { cables = map (λ cable. ordered cable.0 cable.1) m.cables })
 cables_ordered (Pin m) = Pin m
 
--- what a machine on the desk is: legal parts, with each cable's letters in order
+-- the parts are those of a machine: legal, with each cable's letters in order
 pub record IsMachine (m : Parts) : Type 0 where
   pub legal : IsLegal m
   pub cables : cables_ordered m ≡ m
@@ -100,14 +103,14 @@ abbrev pub model_of : Parts → Model
 model_of (Rotor m) = m.model
 model_of (Pin m) = M209
 
--- the ring and the window letter of a wheel of the box, seated or not
+-- the ring and the window letter of a wheel of the box, in a slot or not
 abbrev pub ring_at : RotorParts → Wheel → Option ℕ
 ring_at m wheel = slice_get m.rings (place_in_box m.model wheel)
 
 abbrev pub letter_at : RotorParts → Wheel → Option ℕ
 letter_at m wheel = slice_get m.letters (place_in_box m.model wheel)
 
--- what is seated in the slot of that number, if there is one
+-- what is in this slot, if there is such a slot
 abbrev pub slot_in : Parts → ℕ → Option (Option Wheel)
 slot_in (Rotor m) slot = numbered m.slots slot
 slot_in (Pin m) slot = None
@@ -117,7 +120,7 @@ abbrev pub reflector_in : Parts → Option Reflector
 reflector_in (Rotor m) = Some m.reflector
 reflector_in (Pin m) = None
 
--- the ring and the window letter of the wheel, if it is in the machine's box
+-- the ring and the window letter of a wheel, if it is in the machine's box
 abbrev pub ring_in : Parts → Wheel → Option ℕ
 ring_in (Rotor m) wheel = ring_at m wheel
 ring_in (Pin m) wheel = None
@@ -126,13 +129,13 @@ abbrev pub letter_in : Parts → Wheel → Option ℕ
 letter_in (Rotor m) wheel = letter_at m wheel
 letter_in (Pin m) wheel = None
 
--- the letters in the cable of that number, if there is one
+-- the letters in this cable, if there is such a cable
 abbrev pub cable_in : Parts → ℕ → Option (Option ℕ × Option ℕ)
 cable_in (Rotor m) cable = numbered m.cables cable
 cable_in (Pin m) cable = None
 
--- whether the pin wheel's pin at the letter is effective, the letter that the wheel shows, and where the bar's lugs stand,
--- if the machine has the thing
+-- whether this pin is effective, which letter this pin wheel shows, and where this bar's lugs stand; `None` if
+-- the machine has no such pin, wheel or bar
 abbrev pub pin_in : Parts → ℕ → ℕ → Option Bool
 pin_in (Rotor m) wheel letter = None
 pin_in (Pin m) wheel letter = pin_at m.pins wheel letter

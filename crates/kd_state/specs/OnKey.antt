@@ -1,5 +1,6 @@
--- When a machine is on the key of a day, and when it reads as the day.
-use Rattle.std.specs.Prelude.{◌≡◌, ◌≢◌, ◌⊎◌, ◌↔◌, ℕ, List, [], ◌∷◌, map, All, Any, Contains, IsPermutation, Option, Some}
+-- When a machine is on a day's key, and when it reads as the day.
+use Rattle.std.specs.Prelude.{◌≡◌, ◌≢◌, ◌⊎◌, ◌↔◌, ℕ, List, [], ◌∷◌, map, All, Any, Contains, IsPermutation, Option}
+use Rattle.std.specs.Prelude.{Some}
 use Rattle.kd_tables.specs.Places.{reading_of}
 use Rattle.kd_state.specs.declared.machine.rotor_parts.RotorParts.{RotorParts}
 use Rattle.kd_state.specs.declared.machine.pin_parts.PinParts.{PinParts}
@@ -12,29 +13,29 @@ use Rattle.kd_state.specs.SheetDay.{RotorDay, PinDay, Day, OfRotors, OfPins, sea
 abbrev pub SameLetters : List ℕ → List ℕ → Type 0
 SameLetters xs ys = (letter : ℕ) → Contains xs letter ↔ Contains ys letter
 
--- the two letters are the pair's, in either order
+-- the two letters are the letters of the pair, in either order
 abbrev pub AreTheLetters : ℕ → ℕ → ℕ × ℕ → Type 0
 AreTheLetters one other pair = ((one ≡ pair.0) × (other ≡ pair.1)) ⊎ ((other ≡ pair.0) × (one ≡ pair.1))
 
--- the cable's letters are the pair's
+-- the cable's letters are the letters of the pair
 pub record Joins (cable : Option ℕ × Option ℕ) (pair : ℕ × ℕ) : Type 0 where
   pub letters : SameLetters (cable_letters cable) (pair.0 ∷ pair.1 ∷ [])
 
--- the cable is empty, or its letters are those of one of the pairs
+-- the cable is empty, or joins one of the pairs
 pub record IsPaired (pairs : List (ℕ × ℕ)) (cable : Option ℕ × Option ℕ) : Type 0 where
   pub joins : cable_letters cable ≢ [] → Any (Joins cable) pairs
 
--- one of the cables has the pair's letters
+-- one of the cables joins the pair
 pub record IsJoined (cables : List (Option ℕ × Option ℕ)) (pair : ℕ × ℕ) : Type 0 where
   pub joins : Any (λ cable. Joins cable pair) cables
 
--- The set of the cables that aren't empty, each a set of letters, is the set of the pairs: each such cable has the
--- letters of a pair, and each pair's letters lie in a cable.
+-- The cables that aren't empty are exactly the pairs: each joins a pair, and each pair is joined. No order
+-- matters.
 pub record AreThePairs (cables : List (Option ℕ × Option ℕ)) (pairs : List (ℕ × ℕ)) : Type 0 where
   pub pair : All (IsPaired pairs) cables
   pub cable : All (IsJoined cables) pairs
 
--- each slot has the day's wheel with the day's ring, the reflector is the day's, and the cables are the day's pairs
+-- each slot has the day's wheel with the day's ring; reflector and cables are the day's
 pub record IsRotorOnKey (m : RotorParts) (s : RotorDay) : Type 0 where
   pub model : m.model ≡ s.model
   pub slots : m.slots ≡ seats s.wheels
@@ -42,24 +43,24 @@ pub record IsRotorOnKey (m : RotorParts) (s : RotorDay) : Type 0 where
   pub reflector : m.reflector ≡ s.reflector
   pub cables : AreThePairs m.cables s.pairs
 
--- the pins are the day's, and the bars read as the day's rows, in whichever order
+-- the pins are the day's, and the bars read as the day's rows in any order
 pub record IsPinOnKey (m : PinParts) (s : PinDay) : Type 0 where
   pub pins : m.pins ≡ s.pins
   pub rows : IsPermutation (map (λ bar. reading_of bar.0 bar.1) m.bars) s.rows
 
--- the machine is set as the day says, whatever letters show
+-- the machine is set as the day says, whichever letters it shows
 abbrev pub OnKey : Parts → Day → Type 0
 OnKey (Rotor m) (OfRotors s) = IsRotorOnKey m s
 OnKey (Pin m) (OfPins s) = IsPinOnKey m s
 OnKey _ _ = ⊥
 
--- the letters that show are the day's
+-- the machine shows the day's letters
 abbrev pub ShowsWindow : Parts → Day → Type 0
 ShowsWindow (Rotor m) (OfRotors s) = All (λ w. letter_at m w.wheel ≡ Some w.letter) s.wheels
 ShowsWindow (Pin m) (OfPins s) = m.letters ≡ s.window
 ShowsWindow _ _ = ⊥
 
--- the machine is set as the day says, and shows the day's letters
+-- the machine is set as the day says and shows the day's letters
 pub record ReadsAs (m : Parts) (s : Day) : Type 0 where
   pub key : OnKey m s
   pub window : ShowsWindow m s

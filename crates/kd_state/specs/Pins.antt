@@ -1,4 +1,4 @@
--- The pins of the Converter M-209's six wheels, by the wheels' numbers and letters.
+-- The pins of the Converter's six wheels, by wheel number and letter.
 use Rattle.std.specs.Prelude.{ℕ, ◌-◌, Bool, List, [], slice_get, slice_set, slice_index_or, Option, unwrap_or}
 use Rattle.std.specs.Option.{option_and_then}
 use Rattle.kd_tables.specs.Rings.{ring_of, place_on}
@@ -6,15 +6,15 @@ use Rattle.kd_pins.specs.declared.pin_set.PinSet.{PinSet}
 use Rattle.kd_pins.specs.PinWheels.{pins_of}
 use Rattle.kd_state.specs.ToldApart.{numbered}
 
--- the pins of the wheel of that number, by its own order; none for another number
+-- the pins of this wheel in its own order; none for other numbers
 abbrev pub wheel_pins : PinSet → ℕ → List Bool
 wheel_pins pins wheel = unwrap_or (numbered (pins_of pins) wheel) []
 
--- whether the wheel's pin at the letter is effective, if the wheel has the letter
+-- whether this pin is effective, if the wheel has the letter
 abbrev pub pin_at : PinSet → ℕ → ℕ → Option Bool
 pin_at pins wheel letter = option_and_then (slice_get (wheel_pins pins wheel)) (place_on (ring_of wheel) letter)
 
--- six wheels with these pins
+-- the six lists as pins of the six wheels
 abbrev pub pin_set : List (List Bool) → PinSet
 pin_set lists = record {
   w1 = slice_index_or lists 0 [];
@@ -25,7 +25,8 @@ pin_set lists = record {
   w6 = slice_index_or lists 5 [];
 }
 
--- the pins, with the wheel's pin at the letter effective or not
+-- the pins with this one made effective or not
 abbrev pub with_pin : PinSet → ℕ → ℕ → Bool → PinSet
 with_pin pins wheel letter effective =
-    pin_set (slice_set (pins_of pins) (wheel - 1) (slice_set (wheel_pins pins wheel) (unwrap_or (place_on (ring_of wheel) letter) 0) effective))
+    pin_set (slice_set (pins_of pins) (wheel - 1)
+    (slice_set (wheel_pins pins wheel) (unwrap_or (place_on (ring_of wheel) letter) 0) effective))

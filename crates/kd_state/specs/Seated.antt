@@ -1,4 +1,4 @@
--- The wheels in the slots of a machine, with their rings and their window letters.
+-- The wheels in a machine's slots, with their rings and window letters.
 use Rattle.std.specs.Prelude.{ℕ, List, map, Option, Some, None}
 use Rattle.kd_tables.specs.declared.wheel.Wheel.{Wheel}
 use Rattle.kd_tables.specs.declared.reflector.Reflector.{Reflector}
@@ -7,17 +7,17 @@ use Rattle.kd_state.specs.declared.machine.rotor_parts.RotorParts.{RotorParts}
 use Rattle.kd_state.specs.declared.sheet_day.rotor_entry.SheetWheel.{SheetWheel}
 use Rattle.kd_state.specs.Machine.{ring_at, letter_at}
 
--- the wheel with this ring and this letter, if there are both
+-- the wheel with this ring and this letter, if it has both
 abbrev pub wheel_with : Wheel → Option ℕ → Option ℕ → Option SheetWheel
 wheel_with wheel (Some ring) (Some letter) = Some (record { wheel = wheel; ring = ring; letter = letter })
 wheel_with wheel _ _ = None
 
--- what is seated, with its ring and its window letter
+-- the wheel in a slot with its ring and its window letter, if there is one
 abbrev pub seated_wheel : RotorParts → Option Wheel → Option SheetWheel
 seated_wheel m None = None
 seated_wheel m (Some wheel) = wheel_with wheel (ring_at m wheel) (letter_at m wheel)
 
--- the key of wheels with their rings and window letters
+-- the key of a rotor machine with these wheels
 abbrev pub key_of_wheels : List SheetWheel → Reflector → List ℕ → RotorKey
 key_of_wheels wheels reflector plugs = record {
   wheels = map (λ w. w.wheel) wheels;

@@ -1,5 +1,7 @@
--- A single setting of a machine: why it is refused, and what it changes. And lists of them.
-use Rattle.std.specs.Prelude.{◌≡◌, ℕ, ◌-◌, nat_eq, nat_lt, ◌+◌, Bool, true, false, not, ◌&&◌, List, [], ◌∷◌, ◌++◌, map, find, slice_set, length, Option, Some, None, is_none, unwrap_or, Result, MatchResult, ⊤, if◌then◌else◌}
+-- A single setting: why a machine refuses it, and what it changes. Then lists of settings.
+use Rattle.std.specs.Prelude.{◌≡◌, ℕ, ◌-◌, nat_eq, nat_lt, ◌+◌, Bool, true, false, not, ◌&&◌, List, [], ◌∷◌, ◌++◌, map}
+use Rattle.std.specs.Prelude.{find, slice_set, length, Option, Some, None, is_none, unwrap_or, Result, MatchResult, ⊤}
+use Rattle.std.specs.Prelude.{if◌then◌else◌}
 use Rattle.std.specs.List.{list_any}
 use Rattle.std.specs.Option.{option_map, option_map_or, option_or}
 use Rattle.kd_tables.specs.declared.wheel.Wheel.{Wheel}
@@ -15,34 +17,37 @@ use Rattle.kd_state.specs.declared.machine.pin_parts.PinParts.{PinParts}
 use Rattle.kd_state.specs.declared.machine.parts.Parts.{Parts}
 use Rattle.kd_state.specs.declared.machine.parts.Parts.TheVariants.{Rotor, Pin}
 use Rattle.kd_state.specs.declared.setting.Setting.{Setting}
-use Rattle.kd_state.specs.declared.setting.Setting.TheVariants.{Pull, Put, Seat, SeatReflector, RingTo, Turn, PinTo, LugTo}
+use Rattle.kd_state.specs.declared.setting.Setting.TheVariants.{Pull, Put, Seat, SeatReflector, RingTo, Turn, PinTo}
+use Rattle.kd_state.specs.declared.setting.Setting.TheVariants.{LugTo}
 use Rattle.kd_state.specs.declared.setting.why.Why.{Why}
-use Rattle.kd_state.specs.declared.setting.why.Why.TheVariants.{OtherModel, NoSuchCable, NotThere, NoLooseEnd, SocketTaken, WheelNotAllowed, SlotEmpty, NotOnWheel, NoSuchBar, PlaceTaken, WouldPass}
+use Rattle.kd_state.specs.declared.setting.why.Why.TheVariants.{OtherModel, NoSuchCable, NotThere, NoLooseEnd}
+use Rattle.kd_state.specs.declared.setting.why.Why.TheVariants.{SocketTaken, WheelNotAllowed, SlotEmpty, NotOnWheel}
+use Rattle.kd_state.specs.declared.setting.why.Why.TheVariants.{NoSuchBar, PlaceTaken, WouldPass}
 use Rattle.kd_state.specs.ToldApart.{same_wheel, has_wheel, has_reflector, place_in_box, numbered}
 use Rattle.kd_state.specs.Machine.{cable_letters, plugged_letters, ordered}
 
--- the letter lies among these
+-- the letter is one of these
 abbrev pub has_letter : List ℕ → ℕ → Bool
 has_letter letters letter = list_any (λ other. nat_eq other letter) letters
 
--- none of the letters comes again, among the later ones of them or among the others
+-- the letters differ from each other and from the others
 abbrev pub are_new : List ℕ → List ℕ → Bool
 are_new [] others = true
 are_new (letter ∷ letters) others = not (has_letter (letters ++ others) letter) && are_new letters others
 
--- the cable of that number: an empty one where there is none
+-- cable `cable`, counted from 1; an empty one if there is no such cable
 abbrev pub cable_at : RotorParts → ℕ → Option ℕ × Option ℕ
 cable_at m cable = unwrap_or (numbered m.cables cable) (None, None)
 
--- the wheel that is seated in the slot: none where there is no such slot
+-- the wheel in the slot; none if the slot is empty or there is no such slot
 abbrev pub seated_in : RotorParts → ℕ → Option Wheel
 seated_in m slot = unwrap_or (numbered m.slots slot) None
 
--- both ends of a cable are plugged
+-- both ends of the cable have letters
 abbrev pub is_plugged : Option ℕ × Option ℕ → Bool
 is_plugged cable = not (is_none cable.0) && not (is_none cable.1)
 
--- the place at which a lug of the bar stands
+-- where this lug of the bar stands
 abbrev pub lug_place : Lug → Place × Place → Place
 lug_place Left bar = bar.0
 lug_place Right bar = bar.1
@@ -51,20 +56,20 @@ abbrev pub other_lug : Lug → Lug
 other_lug Left = Right
 other_lug Right = Left
 
--- the two places are one
+-- the two places are the same
 abbrev pub is_at : Place → Place → Bool
 is_at place other = nat_eq (place_rank place) (place_rank other)
 
--- the lug's place would not be on its own side of the place where the other lug stands
+-- at `place` the lug would stand on the wrong side of the other lug, which is at `other`
 abbrev pub lies_beyond : Lug → Place → Place → Bool
 lies_beyond Left place other = nat_lt (place_rank other) (place_rank place)
 lies_beyond Right place other = nat_lt (place_rank place) (place_rank other)
 
--- where the other lug of the bar stands
+-- where the bar's other lug stands
 abbrev pub other_place : PinParts → ℕ → Lug → Option Place
 other_place m bar lug = option_map (lug_place (other_lug lug)) (numbered m.bars bar)
 
--- The reasons for which a machine refuses a setting, in the order in which they are tested, each with whether it holds.
+-- The reasons to refuse a setting, in the order of testing, each with whether it holds.
 abbrev pub reasons : Parts → Setting → List (Bool × Why)
 reasons (Rotor m) (Pull cable letter) =
     (is_none (numbered m.cables cable), NoSuchCable)
@@ -76,7 +81,8 @@ reasons (Rotor m) (Put cable letter) =
     ∷ (has_letter (plugged_letters m.cables) letter, SocketTaken)
     ∷ []
 reasons (Rotor m) (Seat slot wheel) = (not (has_wheel (wheels_for m.model slot) wheel), WheelNotAllowed) ∷ []
-reasons (Rotor m) (SeatReflector reflector) = (not (has_reflector (reflectors_of m.model) reflector), WheelNotAllowed) ∷ []
+reasons (Rotor m) (SeatReflector reflector) =
+    (not (has_reflector (reflectors_of m.model) reflector), WheelNotAllowed) ∷ []
 reasons (Rotor m) (RingTo wheel letter) = (not (has_wheel (box_of m.model) wheel), WheelNotAllowed) ∷ []
 reasons (Rotor m) (Turn slot letter) = (is_none (seated_in m slot), SlotEmpty) ∷ []
 reasons (Rotor m) (PinTo wheel letter effective) = (true, OtherModel) ∷ []
@@ -97,42 +103,42 @@ reasons (Pin m) (LugTo bar lug place) =
     ∷ (option_map_or (lies_beyond lug place) (other_place m bar lug) false, WouldPass)
     ∷ []
 
--- the first reason that holds, for which the machine refuses the setting
+-- the first reason that holds; the machine refuses the setting for it
 abbrev pub why_refused : Parts → Setting → Option Why
 why_refused m x = option_map (λ reason. reason.1) (find (λ reason. reason.0) (reasons m x))
 
--- the cable without the letter, and with it: its letters in alphabetical order
+-- the cable without the letter, and with it in alphabetical order
 abbrev pub cable_without : ℕ → Option ℕ × Option ℕ → Option ℕ × Option ℕ
 cable_without letter cable = if option_map_or (nat_eq letter) cable.0 false then (cable.1, None) else (cable.0, None)
 
 abbrev pub cable_with : ℕ → Option ℕ × Option ℕ → Option ℕ × Option ℕ
 cable_with letter cable = ordered (option_or cable.0 cable.1) (Some letter)
 
--- what a slot holds once the wheel has been taken out, if it was there
+-- what is in a slot once the wheel has been taken out, if it was there
 abbrev pub without : Wheel → Option Wheel → Option Wheel
 without wheel seated = if option_map_or (same_wheel wheel) seated false then None else seated
 
--- the window letters, with this one for the wheel, if there is one
+-- the window letters with this one for the wheel, if there is a wheel
 abbrev pub with_letter : RotorParts → Option Wheel → ℕ → List ℕ
 with_letter m None letter = m.letters
 with_letter m (Some wheel) letter = slice_set m.letters (place_in_box m.model wheel) letter
 
--- the standing with one of its lugs at the place
+-- the standing with this lug at the place
 abbrev pub with_lug : Lug → Place → Place × Place → Place × Place
 with_lug Left place bar = (place, bar.1)
 with_lug Right place bar = (bar.0, place)
 
--- the left lug's place comes before the right one's
+-- the left lug stands before the right one
 abbrev pub Stands : Place × Place → Type 0
 Stands bar = IsBefore bar.0 bar.1
 
--- the bars, with one lug of the bar of that number at the place
+-- the bars, with this lug of bar `bar` at the place
 abbrev pub with_lug_at : PinParts → ℕ → Lug → Place → List (Place × Place)
 with_lug_at m bar lug place =
     option_map_or (λ standing. slice_set m.bars (bar - 1) (with_lug lug place standing)) (numbered m.bars bar) m.bars
 
--- What a setting makes of a machine that doesn't refuse it. A wheel that is seated leaves the slot that held it, and the
--- wheel that was there goes to the box; rings and window letters stay with their wheels.
+-- What a setting makes of a machine that doesn't refuse it. A wheel that is put into a slot leaves its old
+-- slot, and the wheel that was there goes to the box. Wheels keep their rings and window letters.
 abbrev pub changed : Parts → Setting → Parts
 changed (Rotor m) (Pull cable letter) =
     Rotor (record m { cables = slice_set m.cables (cable - 1) (cable_without letter (cable_at m cable)) })
@@ -141,7 +147,8 @@ changed (Rotor m) (Put cable letter) =
 changed (Rotor m) (Seat slot wheel) =
     Rotor (record m { slots = slice_set (map (without wheel) m.slots) (slot - 1) (Some wheel) })
 changed (Rotor m) (SeatReflector reflector) = Rotor (record m { reflector = reflector })
-changed (Rotor m) (RingTo wheel letter) = Rotor (record m { rings = slice_set m.rings (place_in_box m.model wheel) letter })
+changed (Rotor m) (RingTo wheel letter) =
+    Rotor (record m { rings = slice_set m.rings (place_in_box m.model wheel) letter })
 changed (Rotor m) (Turn slot letter) = Rotor (record m { letters = with_letter m (seated_in m slot) letter })
 changed (Rotor m) (PinTo wheel letter effective) = Rotor m
 changed (Rotor m) (LugTo bar lug place) = Rotor m
@@ -154,22 +161,23 @@ changed (Pin m) (Seat slot wheel) = Pin m
 changed (Pin m) (SeatReflector reflector) = Pin m
 changed (Pin m) (RingTo wheel letter) = Pin m
 
--- the machine does not refuse the setting, and the setting makes the other machine of it
+-- the machine `m` doesn't refuse the setting, which makes the machine `n` of it
 pub record Carries (m : Parts) (x : Setting) (n : Parts) : Type 0 where
   pub allowed : why_refused m x ≡ None
   pub made : n ≡ changed m x
 
--- what a machine answers to a setting: it carries it, and the other machine is made; or it refuses it for the first reason
--- that holds, and stays as it was
+-- the machine's answer to a setting: it carries it out; or it refuses it for the first reason that holds and
+-- stays as it was
 abbrev pub Answers : Parts → Setting → Parts → Result ⊤ Why → Type 0
 Answers m x n answer = MatchResult answer (λ _. Carries m x n) (λ why. (why_refused m x ≡ Some why) × (n ≡ m))
 
--- a chain of machines whose neighbours are such settings by the lines, one after another
+-- the settings, carried out one after another, make the machine `n` of the machine `m`
 abbrev pub Leads : Parts → List Setting → Parts → Type 0
 Leads m [] n = n ≡ m
 Leads m (x ∷ xs) n = (between : Parts) × Carries m x between × Leads between xs n
 
--- the line, counted from 1, is the first that the machine refuses in its turn, for this reason
+-- the setting on this line, counted from 1, is the first that the machine refuses when it comes to it, for this
+-- reason
 pub record IsFirstIllegal (m : Parts) (settings : List Setting) (line : ℕ) (why : Why) : Type 0 where
   pub front : List Setting
   pub setting : Setting

@@ -1,5 +1,6 @@
--- A day of a key sheet: an entry's values, and which values an accepted entry has.
-use Rattle.std.specs.Prelude.{◌≡◌, ℕ, ◌<◌, ◌≤◌, List, length, map, All, Any, Contains, IsPermutation, Option, Some, None}
+-- A day of a key sheet: its values, and which values a key sheet can have.
+use Rattle.std.specs.Prelude.{◌≡◌, ℕ, ◌<◌, ◌≤◌, List, length, map, All, Any, Contains, IsPermutation, Option, Some}
+use Rattle.std.specs.Prelude.{None}
 use Rattle.std.specs.Option.{option_map}
 use Rattle.kd_tables.specs.declared.model.Model.{Model}
 use Rattle.kd_tables.specs.declared.model.Model.TheVariants.{M209}
@@ -13,8 +14,8 @@ use Rattle.kd_state.specs.declared.sheet_day.rotor_entry.SheetWheel.{SheetWheel}
 use Rattle.kd_state.specs.ToldApart.{numbered}
 use Rattle.kd_state.specs.Machine.{AreAllowed, AreApart, AreLetters, AreOnWheels, HasAllPins}
 
--- A day of a rotor model: its number, the model, the reflector, for each slot from the left a wheel with its ring and
--- its window letter, the pairs that are plugged, and the groups of the day's messages.
+-- The values of a day of a rotor machine. There is a wheel for each slot, from the left, with its ring and its
+-- window letter; `pairs` are the plugged pairs, and `groups` the groups of the day's messages.
 pub record RotorDay : Type 0 where
   pub day : ℕ
   pub model : Model
@@ -23,8 +24,8 @@ pub record RotorDay : Type 0 where
   pub pairs : List (ℕ × ℕ)
   pub groups : List (List ℕ)
 
--- A day of the Converter M-209: its number, what the bars are to read as, the effective pins, the letters that show, and
--- the two letters of the key list.
+-- The values of a day of the Converter M-209: the readings asked of the bars, the effective pins, the letters
+-- that show, and the two letters of the key list.
 pub record PinDay : Type 0 where
   pub day : ℕ
   pub rows : List (ℕ × ℕ)
@@ -36,33 +37,33 @@ pub data Day : Type 0 where
   OfRotors : RotorDay → Day
   OfPins : PinDay → Day
 
--- a day of a month
+-- the number is a day of a month
 pub record IsDayNumber (number : ℕ) : Type 0 where
   pub first : 1 ≤ number
   pub last : number ≤ 31
 
--- at most 13 pairs of letters, no letter in two places
+-- at most 13 pairs of letters below 26, with no letter in two places
 pub record ArePairs (pairs : List (ℕ × ℕ)) : Type 0 where
   pub few : length pairs ≤ 13
   pub within : All (λ letter. letter < 26) (letters_plugged pairs)
   pub apart : NoLetterTwice pairs
 
--- ring and window letter of a sheet's wheel are letters of the alphabet
+-- the wheel's ring and its window letter are below 26
 pub record HasLetters (wheel : SheetWheel) : Type 0 where
   pub ring : wheel.ring < 26
   pub letter : wheel.letter < 26
 
--- the seats that the wheels take
+-- the wheels alone, each in its slot
 abbrev pub seats : List SheetWheel → List (Option Wheel)
 seats wheels = map (λ w. Some w.wheel) wheels
 
--- the wheels fill the model's slots, each is allowed in its own, and none stands in two
+-- the wheels fill the model's slots; each is allowed in its slot, and none is in two
 pub record AreSeated (model : Model) (slots : List (Option Wheel)) : Type 0 where
   pub count : length slots ≡ slots_of model
   pub allowed : AreAllowed model slots
   pub apart : AreApart slots
 
--- an accepted entry of a sheet has these values
+-- a key sheet can have a day with these values
 pub record IsLegalRotorDay (s : RotorDay) : Type 0 where
   pub day : IsDayNumber s.day
   pub reflector : Contains (reflectors_of s.model) s.reflector
@@ -84,7 +85,7 @@ abbrev pub IsLegalDay : Day → Type 0
 IsLegalDay (OfRotors s) = IsLegalRotorDay s
 IsLegalDay (OfPins s) = IsLegalPinDay s
 
--- the day's number, and its model
+-- the day's number and its model
 abbrev pub day_number : Day → ℕ
 day_number (OfRotors s) = s.day
 day_number (OfPins s) = s.day
@@ -93,7 +94,7 @@ abbrev pub day_model : Day → Model
 day_model (OfRotors s) = s.model
 day_model (OfPins s) = M209
 
--- the day as one of a rotor model, and as one of the Converter M-209
+-- the values of a rotor machine's day, and of a Converter's
 abbrev pub rotor_day : Day → Option RotorDay
 rotor_day (OfRotors s) = Some s
 rotor_day (OfPins s) = None
@@ -102,21 +103,21 @@ abbrev pub pin_day : Day → Option PinDay
 pin_day (OfRotors s) = None
 pin_day (OfPins s) = Some s
 
--- the wheel in the slot of that number, with its ring and its window letter
+-- the wheel in this slot, with its ring and its window letter
 abbrev pub sheet_wheel : Day → ℕ → Option SheetWheel
 sheet_wheel (OfRotors s) slot = numbered s.wheels slot
 sheet_wheel (OfPins s) slot = None
 
--- the letter in the window of the slot, or on the pin wheel, of that number
+-- the letter in the window of this slot, or on this pin wheel
 abbrev pub shown_letter : Day → ℕ → Option ℕ
 shown_letter (OfRotors s) slot = option_map (λ w. w.letter) (numbered s.wheels slot)
 shown_letter (OfPins s) wheel = numbered s.window wheel
 
--- the letters are those of one of the groups, in any order
+-- the letters are one of the groups, in any order
 abbrev pub AreOfAGroup : List (List ℕ) → List ℕ → Type 0
 AreOfAGroup groups letters = Any (λ group. IsPermutation group letters) groups
 
--- and the group is one of the day's, which has groups on a rotor machine
+-- the letters are one of the day's groups, in any order; only rotor machines have groups
 abbrev pub AreOfADaysGroup : Day → List ℕ → Type 0
 AreOfADaysGroup (OfRotors s) letters = AreOfAGroup s.groups letters
 AreOfADaysGroup (OfPins s) letters = ⊥

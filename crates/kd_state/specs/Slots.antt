@@ -8,11 +8,11 @@ abbrev pub slot_values : {T : Type 0} → Slots T → List T
 slot_values (Three values) = values
 slot_values (Four values) = values
 
--- as many as the form says
+-- there are as many values as the variant says
 abbrev pub HasSlots : {T : Type 0} → Slots T → Type 0
 HasSlots (Three values) = length values ≡ 3
 HasSlots (Four values) = length values ≡ 4
 
--- the form of so many values
+-- three values, or else four
 abbrev pub slots_of_values : {T : Type 0} → List T → Slots T
 slots_of_values values = if length values == 3 then Three values else Four values

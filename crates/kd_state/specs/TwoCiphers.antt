@@ -1,5 +1,5 @@
--- The cipher of the machine as it stands, and the cipher that a day of the sheet asks for. Neither names the other's parts: the
--- machine's is said by its slots, cables and lugs, and the day's by the wheels, pairs and rows of the entry.
+-- The cipher of a machine as it stands, and the cipher that a day asks for. They are defined apart: the
+-- machine's by its slots, cables and lugs, the day's by the wheels, pairs and rows of its entry.
 use Rattle.std.specs.Prelude.{◌≡◌, ◌≢◌, ℕ, List, length, map, All, IsSome, Option, Some, None}
 use Rattle.std.specs.List.{filter_map}
 use Rattle.kd_tables.specs.declared.wheel.Wheel.{Wheel}
@@ -15,12 +15,12 @@ use Rattle.kd_state.specs.Machine.{cable_letters, ring_at, letter_at, AreLetters
 use Rattle.kd_state.specs.SheetDay.{Day, OfRotors, OfPins}
 use Rattle.kd_state.specs.Lugs.{lugs_cipher}
 
--- the key of an engine: that of a rotor machine, or that of a Converter M-209
+-- the key of an engine: of a rotor machine, or of a Converter M-209
 pub data EngineKey : Type 0 where
   OfWheels : RotorKey → EngineKey
   OfDrum : PinKey → EngineKey
 
--- what it makes of a text, the key that is left after so many letters, and the key with these letters in the windows
+-- the ciphertext of a text, the key after `n` letters, and the key with other letters in the windows
 abbrev pub cipher : EngineKey → List ℕ → List ℕ
 cipher (OfWheels key) text = enigma_cipher key text
 cipher (OfDrum key) text = converter_cipher key text
@@ -33,12 +33,12 @@ abbrev pub key_with_window : EngineKey → List ℕ → EngineKey
 key_with_window (OfWheels key) window = OfWheels (key_turned key window)
 key_with_window (OfDrum key) window = OfDrum (pin_key_turned key window)
 
--- one letter for each slot, or for each pin wheel, and it is on the wheel
+-- the letters are a window: one for each slot, or one for each pin wheel and on it
 abbrev pub IsWindow : EngineKey → List ℕ → Type 0
 IsWindow (OfWheels key) window = AreLetters (length key.wheels) window
 IsWindow (OfDrum key) window = AreOnWheels window
 
--- no slot is empty, and no cable has one letter
+-- no slot is empty, and no cable has exactly one letter
 pub record IsRotorReady (m : RotorParts) : Type 0 where
   pub slots : All (λ seated. IsSome seated) m.slots
   pub cables : All (λ cable. length (cable_letters cable) ≢ 1) m.cables
@@ -47,16 +47,16 @@ abbrev pub IsReady : Parts → Type 0
 IsReady (Rotor m) = IsRotorReady m
 IsReady (Pin m) = Unit {0}
 
--- the wheels that are seated, from the left
+-- the wheels in the slots, from the left
 abbrev pub seated_wheels : RotorParts → List Wheel
 seated_wheels m = filter_map (λ seated. seated) m.slots
 
--- the letters that show: in the windows of the slots, or on the pin wheels
+-- the letters in the windows of the slots, or on the pin wheels
 abbrev pub window_of : Parts → List ℕ
 window_of (Rotor m) = filter_map (letter_at m) (seated_wheels m)
 window_of (Pin m) = m.letters
 
--- the pair that a cable of two letters exchanges
+-- the pair of letters that a cable exchanges, if it has two
 abbrev pub both_ends : Option ℕ → Option ℕ → Option (ℕ × ℕ)
 both_ends (Some letter) (Some other) = Some (letter, other)
 both_ends _ _ = None
@@ -64,8 +64,8 @@ both_ends _ _ = None
 abbrev pub plugged_pairs : RotorParts → List (ℕ × ℕ)
 plugged_pairs m = filter_map (λ cable. both_ends cable.0 cable.1) m.cables
 
--- The key of an engine that is made of the machine: the seated wheels with their rings and letters, the reflector, and the
--- cables of two letters; or the pins, the letters, and what each bar reads as.
+-- The key of a machine as it stands: its wheels with their rings and letters, its reflector, and its cables of
+-- two letters; or its pins, its letters, and the readings of its bars.
 abbrev pub physical_key : Parts → EngineKey
 physical_key (Rotor m) = OfWheels (record {
   wheels = seated_wheels m;
@@ -91,16 +91,17 @@ sheet_key (OfRotors s) = OfWheels (record {
 })
 sheet_key (OfPins s) = OfDrum (record { pins = pins_of s.pins; letters = s.window; rows = s.rows })
 
--- what a ready machine makes of a text, by its seated wheels, reflector and cables, or by its pins, letters and lugs
+-- the ciphertext that a ready machine makes, by its wheels, reflector and cables, or by its pins, letters and
+-- lugs
 abbrev pub physical_cipher : Parts → List ℕ → List ℕ
 physical_cipher (Rotor m) text = cipher (physical_key (Rotor m)) text
 physical_cipher (Pin m) text = lugs_cipher m text
 
--- what the day's own machine makes of a text
+-- the ciphertext that a machine set as the day says makes
 abbrev pub sheet_cipher : Day → List ℕ → List ℕ
 sheet_cipher s = cipher (sheet_key s)
 
--- the other machine differs from this one in letters alone, and shows these; letters of wheels in the box are left open
+-- `n` is the machine `m` turned to these letters; letters of wheels in the box are left open
 abbrev pub IsTurned : Parts → List ℕ → Parts → Type 0
 IsTurned (Rotor m) window (Rotor n) = (n ≡ record m { letters = n.letters }) × (window_of (Rotor n) ≡ window)
 IsTurned (Pin m) window (Pin n) = n ≡ record m { letters = window }

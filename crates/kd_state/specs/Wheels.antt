@@ -9,12 +9,13 @@ wheel_values (Five values) = values
 wheel_values (Eight values) = values
 wheel_values (Ten values) = values
 
--- as many as the form says
+-- there are as many values as the variant says
 abbrev pub HasWheels : {T : Type 0} → Wheels T → Type 0
 HasWheels (Five values) = length values ≡ 5
 HasWheels (Eight values) = length values ≡ 8
 HasWheels (Ten values) = length values ≡ 10
 
--- the form of so many values
+-- five values, or eight, or else ten
 abbrev pub wheels_of_values : {T : Type 0} → List T → Wheels T
-wheels_of_values values = if length values == 5 then Five values else (if length values == 8 then Eight values else Ten values)
+wheels_of_values values =
+    if length values == 5 then Five values else (if length values == 8 then Eight values else Ten values)

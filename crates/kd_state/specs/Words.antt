@@ -1,4 +1,4 @@
--- Lines as words with one space between them, and texts as what stands before a byte and after it.
+-- Lines as words with single spaces between them, and texts split at a byte.
 use Rattle.std.specs.Prelude.{decimal, ◌≡◌, ◌≢◌, ◌==◌, ℕ, ◌+◌, ◌^◌, ◌<◌, List, [], ◌∷◌, ◌++◌, All}
 use Rattle.std.specs.List.{slice_split, join_with_byte}
 
@@ -6,51 +6,53 @@ use Rattle.std.specs.List.{slice_split, join_with_byte}
 abbrev pub words_of : List ℕ → List (List ℕ)
 words_of line = slice_split (λ byte. byte == 32) line
 
--- the words with one space between them
+-- the words with single spaces between them
 abbrev pub line_of : List (List ℕ) → List ℕ
 line_of words = join_with_byte 32 words
 
--- the byte doesn't stand in the text
+-- the byte isn't in the text
 abbrev pub IsWithout : ℕ → List ℕ → Type 0
 IsWithout byte text = All (λ other. other ≢ byte) text
 
--- not empty, without a space and without LF
+-- a word: not empty, without a space and without LF
 pub record IsWord (word : List ℕ) : Type 0 where
   pub filled : word ≢ []
   pub spaceless : IsWithout 32 word
   pub unbroken : IsWithout 10 word
 
--- the capital letter with the place in the alphabet
+-- the letter with this place in the alphabet, as a capital letter
 abbrev pub letter_text : ℕ → List ℕ
 letter_text letter = (letter + 65) ∷ []
 
--- this stands before the first such byte of the text, and the rest follows it
+-- `part` is what stands before the first `byte` of the text, and `rest` what follows it
 pub record IsFirstPart (byte : ℕ) (text part rest : List ℕ) : Type 0 where
   pub joined : text ≡ part ++ byte ∷ rest
   pub without : IsWithout byte part
 
--- words are told by their line
+-- a line determines its words
 abbrev pub LinesTellWords : Type 0
-LinesTellWords = (words others : List (List ℕ)) → All IsWord words → All IsWord others → line_of words ≡ line_of others → words ≡ others
+LinesTellWords =
+    (words others : List (List ℕ)) → All IsWord words → All IsWord others → line_of words ≡ line_of others
+    → words ≡ others
 
--- one word or more are the parts of their line, and every line is that of its parts
+-- splitting the line of some words gives the words, and joining the parts of a line gives the line
 abbrev pub LinesSplitIntoWords : Type 0
 LinesSplitIntoWords = (words : List (List ℕ)) → words ≢ [] → All IsWord words → words_of (line_of words) ≡ words
 
 abbrev pub PartsMakeLines : Type 0
 PartsMakeLines = (line : List ℕ) → line_of (words_of line) ≡ line
 
--- there is no LF in the line of words
+-- a line of words has no LF
 abbrev pub WordsMakeOneLine : Type 0
 WordsMakeOneLine = (words : List (List ℕ)) → All IsWord words → IsWithout 10 (line_of words)
 
--- what stands before the first such byte of a text is told by the text, and so is what follows it
+-- a text determines what stands before its first `byte`, and what follows it
 abbrev pub TextsTellFirstParts : Type 0
 TextsTellFirstParts =
     (byte : ℕ) (first other rest more : List ℕ) → IsWithout byte first → IsWithout byte other
     → first ++ byte ∷ rest ≡ other ++ byte ∷ more → (first ≡ other) × (rest ≡ more)
 
--- numbers and letters are words
+-- decimal numbers and single letters are words
 abbrev pub NumbersAreWords : Type 0
 NumbersAreWords = (number : ℕ) → number < 2 ^ 64 → IsWord (decimal number)
 

@@ -1,3 +1,5 @@
+//! What it costs to change a cable or a bar of the machine into what a day asks for.
+
 pub(crate) mod tables;
 
 ghost use Rattle.std.specs.Prelude.{◌≡◌, ◌≢◌, ◌≤◌, ◌∷◌, Some};
@@ -10,7 +12,7 @@ ghost use Rattle.kd_state.specs.Costs.{column_letters};
 use crate::machine::cable::{Cable, lies_in};
 use kd_tables::{Letter, Place, Reading, Standing};
 
-/// What it costs to make of a cable a pair, or nothing: how many letters lie in one of the two alone.
+/// The cost of making `cable` the pair `column`, or empty: how many letters are in only one of the two.
 #[tactic(auto, using(crate::proofs::CostTable::at_most_four, crate::proofs::CostTable::counted_more))]
 pub fn cable_cost(cable: Cable, column: Option<(Letter, Letter)>) -> u8
     ensures cost { result ≡ costs.cable_cost cable column }
@@ -25,7 +27,7 @@ pub fn cable_cost(cable: Cable, column: Option<(Letter, Letter)>) -> u8
     cost
 }
 
-/// Whether the letter is one of the pair.
+/// Whether `letter` is one of the pair's letters. No pair has none.
 pub fn lies_in_column(column: Option<(Letter, Letter)>, letter: Letter) -> bool
     ensures { result ≡ has_letter (column_letters column) letter }
 {
@@ -35,7 +37,7 @@ pub fn lies_in_column(column: Option<(Letter, Letter)>, letter: Letter) -> bool
     }
 }
 
-/// What it costs to make a bar read as a row: the least number of lugs that have to be moved.
+/// The cost of making a bar read as `row`: the least number of lugs to move.
 pub fn bar_cost(standing: Standing, row: Reading) -> u8
     ensures cost { result ≡ costs.bar_cost standing row }
     ensures bound { result ≤ 2 }
@@ -43,7 +45,7 @@ pub fn bar_cost(standing: Standing, row: Reading) -> u8
     lugs_moved(standing, nearest_standing(standing, row))
 }
 
-/// Of the standings that read as the row, the first in the order of standings to which the fewest lugs have to be moved.
+/// The standing that reads as `row` and needs the fewest lugs moved, the first one of equals.
 #[tactic(auto, using(crate::proofs::Prelude::nat_tests))]
 pub fn nearest_standing(standing: Standing, row: Reading) -> Standing
     ensures nearest { costs.nearest_standing standing row ≡ Some result }
@@ -57,25 +59,25 @@ pub fn nearest_standing(standing: Standing, row: Reading) -> Standing
     }
 }
 
-/// The standings that read as a row, in order: two where one of its numbers is 0, else one.
+/// The standings that read as `row`, in order: two if a number of `row` is 0 and the other isn't, else one.
 #[tactic(auto, using(crate::proofs::CostTable::zeros, crate::proofs::CostTable::one_zero, crate::proofs::CostTable::no_zero))]
 fn standings_of(row: Reading) -> (Standing, Option<Standing>)
     ensures { costs.standings_as row ≡ result.0 ∷ option_to_list result.1 }
 {
     let (smaller, larger) = row.numbers();
     if larger == 0 {
-        (across(Place::ZeroLeft, Place::ZeroRight), None)
+        (standing_across(Place::ZeroLeft, Place::ZeroRight), None)
     } else if smaller == 0 {
         let place = place_of(larger);
-        let first = across(Place::ZeroLeft, place);
-        (first, Some(across(place, Place::ZeroRight)))
+        let first = standing_across(Place::ZeroLeft, place);
+        (first, Some(standing_across(place, Place::ZeroRight)))
     } else {
-        (across(place_of(smaller), place_of(larger)), None)
+        (standing_across(place_of(smaller), place_of(larger)), None)
     }
 }
 
-/// The standing with the lugs at the two places.
-fn across(one: Place, other: Place) -> Standing
+/// The standing with its lugs at the places `one` and `other`.
+fn standing_across(one: Place, other: Place) -> Standing
     requires { place_rank one ≢ place_rank other }
     ensures { result ≡ costs.across one other }
 {
@@ -86,7 +88,7 @@ fn across(one: Place, other: Place) -> Standing
     }
 }
 
-/// The place at which the wheel of that number acts.
+/// The place at which the pin wheel `number` acts.
 fn place_of(number: u8) -> Place
     requires { (1 ≤ number) × (number ≤ 6) }
     ensures { result ≡ costs.place_at number }
@@ -101,16 +103,16 @@ fn place_of(number: u8) -> Place
     }
 }
 
-/// How many of the two lugs stand at other places.
+/// How many of the two lugs stand at different places in `standing` and `other`.
 fn lugs_moved(standing: Standing, other: Standing) -> u8
     ensures value { result ≡ costs.lugs_moved standing other }
     ensures bound { result ≤ 2 }
 {
-    is_moved(standing.left(), other.left()) + is_moved(standing.right(), other.right())
+    lug_cost(standing.left(), other.left()) + lug_cost(standing.right(), other.right())
 }
 
-/// 1 where a lug stands at another place, else 0.
-fn is_moved(place: Place, other: Place) -> u8
+/// 1 if the places differ, else 0.
+fn lug_cost(place: Place, other: Place) -> u8
     ensures value { result ≡ costs.unless_same (is_at place other) }
     ensures bound { result ≤ 1 }
 {

@@ -1,8 +1,8 @@
-//! Things that are counted from 1.
+//! Slices whose elements are counted from 1.
 ghost use Rattle.std.specs.Prelude.{◌≡◌, ◌-◌, ◌<◌, ◌≤◌, length, slice_set};
 ghost use Rattle.kd_state.specs.ToldApart.{numbered};
 
-/// The thing of that number.
+/// Element `number` of `things`, counted from 1.
 pub(crate) fn numbered<T: Copy>(things: &[T], number: u8) -> Option<T>
     ensures { result ≡ numbered things.now number }
 {
@@ -12,8 +12,8 @@ pub(crate) fn numbered<T: Copy>(things: &[T], number: u8) -> Option<T>
     things.get(usize::from(number) - 1).copied()
 }
 
-/// Puts a thing in a place, counted from 0.
-pub(crate) fn put<T: Copy>(things: &mut [T], place: usize, thing: T)
+/// Sets the element at `place`, counted from 0.
+pub(crate) fn set_at<T: Copy>(things: &mut [T], place: usize, thing: T)
     requires { place < length things.old }
     ensures value { things.new ≡ slice_set things.old place thing }
     ensures len { length things.new ≡ length things.old }
@@ -21,7 +21,7 @@ pub(crate) fn put<T: Copy>(things: &mut [T], place: usize, thing: T)
     things[place] = thing;
 }
 
-/// Puts a thing in the place of the one of that number.
+/// Sets element `number`, counted from 1.
 pub(crate) fn set_numbered<T: Copy>(things: &mut [T], number: u8, thing: T)
     requires first { 1 ≤ number }
     requires last { number ≤ length things.old }

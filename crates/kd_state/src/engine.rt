@@ -1,3 +1,5 @@
+//! An engine: a machine of any model that enciphers and deciphers texts.
+
 mod ready;
 
 ghost use Rattle.std.specs.Prelude.{◌≡◌, ◌↔◌, IsTrue};
@@ -7,7 +9,7 @@ ghost use Rattle.kd_drum.specs.Converter.{pin_key_turned};
 ghost use Rattle.kd_state.specs.Machine.{AreLetters, AreOnWheels};
 ghost use Rattle.kd_state.specs.TwoCiphers.{sheet_key};
 
-use crate::facts::are_letters;
+use crate::facts::learn_letters;
 use crate::sheet_day::SheetDay;
 use crate::sheet_day::entry::Entry;
 use crate::sheet_day::rotor_entry::SheetWheel;
@@ -18,7 +20,7 @@ use kd_tables::{Letter, Reading, Reflector};
 pub use ready::NotReady;
 use std::marker::Model;
 
-/// A machine of any model that is set to a key, ready for texts to be enciphered and deciphered.
+/// A machine of any model, set to a key and ready to encipher and decipher texts.
 #[derive(Drop)]
 pub struct Engine {
     mechanism: Mechanism,
@@ -49,7 +51,7 @@ impl Engine {
     ghost use Rattle.kd_state.specs.Seated.{key_of_wheels};
     ghost use Rattle.kd_state.specs.TwoCiphers.{OfWheels, OfDrum, cipher, key_left, key_with_window, IsWindow};
 
-    /// Enciphers a text in its place, or deciphers it.
+    /// Enciphers or deciphers `text` in place. The wheels step on with each letter.
     pub fn run(&mut self, text: &mut [Letter])
         ensures cipher { text.new ≡ cipher self.old text.old }
         ensures after { self.new ≡ key_left self.old (length text.old) }
@@ -61,8 +63,10 @@ impl Engine {
         }
     }
 
-    /// Turns the wheels until they show these letters, from the left, or from the first pin wheel on. False, and no wheel is
-    /// turned, where there isn't a letter for each slot or pin wheel, or one isn't on its wheel.
+    /// Turns the wheels until they show `letters`: from the left, or from pin wheel 1 on.
+    ///
+    /// Returns false and turns no wheel if `letters` hasn't one letter for each slot or pin wheel, or if a
+    /// letter isn't on its pin wheel.
     pub fn turn_to(&mut self, letters: &[Letter]) -> bool
         ensures window { IsTrue result ↔ IsWindow self.old letters.now }
         ensures turned { OnTrue result (self.new ≡ key_with_window self.old letters.now) }
@@ -75,8 +79,8 @@ impl Engine {
         }
     }
 
-    /// The engine of a rotor machine with these wheels from the left, of which there are three or four.
-    fn of_wheels(wheels: &[SheetWheel], reflector: Reflector, plugs: Plugs) -> Engine
+    /// Creates the engine of a rotor machine from its three or four `wheels`, from the left.
+    fn from_wheels(wheels: &[SheetWheel], reflector: Reflector, plugs: Plugs) -> Engine
         requires { (length wheels.now ≡ 3) ⊎ (length wheels.now ≡ 4) }
         ensures { result ≡ OfWheels (key_of_wheels wheels.now reflector plugs) }
     {
@@ -100,9 +104,9 @@ impl Engine {
         Engine { mechanism }
     }
 
-    /// The engine of a Converter M-209 with these pins, the letters that its wheels show, and what its bars read as.
+    /// Creates the engine of a Converter M-209 from its pins, the letters that show, and the bars' readings.
     #[tactic(auto, using(crate::proofs::Slots::stand_on_wheels))]
-    fn of_drum(pins: PinSet, letters: [Letter; 6], rows: [Reading; 27]) -> Engine
+    fn from_drum(pins: PinSet, letters: [Letter; 6], rows: [Reading; 27]) -> Engine
         requires { AreOnWheels letters }
         ensures { result ≡ OfDrum (record { pins = pins_of pins; letters = letters; rows = rows }) }
     {
@@ -112,26 +116,26 @@ impl Engine {
     }
 }
 
-/// The day's own machine, set to its key.
+/// Creates the engine of a machine that is set as `day` says.
 pub fn own_engine(day: &SheetDay) -> Engine
     ensures { result ≡ sheet_key day.now }
 {
     match day.entry() {
         Entry::Rotor(entry) => {
             let plugs = Plugs::from_pairs(entry.pairs.as_slice()).unwrap();
-            Engine::of_wheels(entry.wheels.as_slice(), entry.reflector, plugs)
+            Engine::from_wheels(entry.wheels.as_slice(), entry.reflector, plugs)
         }
-        Entry::Pin(entry) => Engine::of_drum(entry.pins, entry.window, entry.rows),
+        Entry::Pin(entry) => Engine::from_drum(entry.pins, entry.window, entry.rows),
     }
 }
 
-/// Turns a rotor machine's wheels until these letters show in its windows, if there is one for each.
+/// Turns a rotor machine's wheels until they show `letters`, if there is one letter for each wheel.
 fn turn_wheels<const S: usize>(enigma: &mut Enigma<S>, letters: &[Letter]) -> bool
     ensures window { IsTrue result ↔ AreLetters S letters.now }
     ensures turned { OnTrue result (enigma.new ≡ key_turned enigma.old letters.now) }
     ensures unchanged { OnFalse result (enigma.new ≡ enigma.old) }
 {
-    are_letters(letters);
+    learn_letters(letters);
     match <[Letter; S]>::try_from(letters) {
         Ok(window) => {
             enigma.turn_to(window);
@@ -141,7 +145,7 @@ fn turn_wheels<const S: usize>(enigma: &mut Enigma<S>, letters: &[Letter]) -> bo
     }
 }
 
-/// Turns the Converter's wheels until they show these letters, if there is one for each and it is on its wheel.
+/// Turns the Converter's wheels until they show `letters`, if there are six and each is on its wheel.
 fn turn_drum(converter: &mut Converter, letters: &[Letter]) -> bool
     ensures window { IsTrue result ↔ AreOnWheels letters.now }
     ensures turned { OnTrue result (converter.new ≡ pin_key_turned converter.old letters.now) }

@@ -1,4 +1,6 @@
-//! What the types say of arrays and of the elements of lists. All this does nothing when the program runs.
+//! Functions that show the prover what arrays and lists have by their element types.
+//!
+//! They do nothing when the program runs.
 ghost use Rattle.std.specs.Prelude.{◌≡◌, ◌<◌, ◌^◌, All, length};
 ghost use Rattle.kd_tables.specs.Places.{IsBefore, IsReading};
 ghost use Rattle.kd_enigma.specs.Plugs.{letters_plugged};
@@ -12,8 +14,8 @@ use crate::sheet_day::rotor_entry::SheetWheel;
 use kd_pins::PinSet;
 use kd_tables::{Letter, Reading, Standing};
 
-/// Letters are letters of the alphabet.
-pub(crate) fn are_letters(letters: &[Letter])
+/// Shows that each letter is below 26.
+pub(crate) fn learn_letters(letters: &[Letter])
     ensures { All (λ letter. letter < 26) letters.now }
 {
     for letter in letters {
@@ -21,8 +23,8 @@ pub(crate) fn are_letters(letters: &[Letter])
     }
 }
 
-/// The letters of the pairs are of the alphabet.
-pub(crate) fn are_pair_letters(pairs: &[(Letter, Letter)])
+/// Shows that each letter of the pairs is below 26.
+pub(crate) fn learn_pair_letters(pairs: &[(Letter, Letter)])
     ensures { All (λ letter. letter < 26) (letters_plugged pairs.now) }
 {
     for (one, other) in pairs {
@@ -30,8 +32,8 @@ pub(crate) fn are_pair_letters(pairs: &[(Letter, Letter)])
     }
 }
 
-/// The wheels' rings and window letters are of the alphabet.
-pub(crate) fn have_letters(wheels: &[SheetWheel])
+/// Shows that each wheel's ring and window letter are below 26.
+pub(crate) fn learn_wheel_letters(wheels: &[SheetWheel])
     ensures { All HasLetters wheels.now }
 {
     for wheel in wheels {
@@ -39,17 +41,17 @@ pub(crate) fn have_letters(wheels: &[SheetWheel])
     }
 }
 
-/// The groups are of three letters of the alphabet.
-pub(crate) fn are_words(groups: &[[Letter; 3]])
+/// Shows that each group has three letters below 26.
+pub(crate) fn learn_group_letters(groups: &[[Letter; 3]])
     ensures { All (AreLetters 3) groups.now }
 {
     for group in groups {
-        are_letters(group);
+        learn_letters(group);
     }
 }
 
-/// The rows are readings.
-pub(crate) fn are_readings(rows: &[Reading])
+/// Shows that each row is a reading.
+pub(crate) fn learn_readings(rows: &[Reading])
     ensures { All IsReading rows.now }
 {
     for row in rows {
@@ -57,8 +59,8 @@ pub(crate) fn are_readings(rows: &[Reading])
     }
 }
 
-/// A bar's left lug stands before its right one.
-pub(crate) fn are_standings(bars: &[Standing; 27])
+/// Shows that each bar's left lug stands before its right one.
+pub(crate) fn learn_standings(bars: &[Standing; 27])
     ensures count { length bars.now ≡ 27 }
     ensures each { All (λ bar. IsBefore bar.0 bar.1) bars.now }
 {
@@ -67,54 +69,54 @@ pub(crate) fn are_standings(bars: &[Standing; 27])
     }
 }
 
-/// The letters in cables are letters of the alphabet.
-pub(crate) fn are_plugged_letters(cables: &[Cable; 13])
+/// Shows that each letter in the cables is below 26.
+pub(crate) fn learn_cable_letters(cables: &[Cable; 13])
     ensures count { length cables.now ≡ 13 }
     ensures each { All (λ letter. letter < 26) (plugged_letters cables.now) }
 {
     for cable in cables {
-        is_plugged_letter(cable);
+        learn_letters_of_cable(cable);
     }
 }
 
-/// The letters in a cable are letters of the alphabet.
-fn is_plugged_letter(cable: &Cable)
+/// Shows that each letter in the cable is below 26.
+fn learn_letters_of_cable(cable: &Cable)
     ensures { All (λ letter. letter < 26) (cable_letters cable.now) }
 {
     match *cable {
         (None, None) => (),
-        (Some(letter), None) | (None, Some(letter)) => are_letters(&[letter]),
-        (Some(one), Some(other)) => are_letters(&[one, other]),
+        (Some(letter), None) | (None, Some(letter)) => learn_letters(&[letter]),
+        (Some(one), Some(other)) => learn_letters(&[one, other]),
     }
 }
 
-/// A wheel has as many pins as letters.
+/// Shows that the pins have an entry for each letter of their wheels.
 #[tactic(auto, using(crate::proofs::Slots::all_pins))]
-pub(crate) fn are_all_pins(pins: PinSet)
+pub(crate) fn learn_pins(pins: PinSet)
     ensures { HasAllPins pins }
 {
     prove!(pins.w1.len() == 26);
 }
 
-/// The numbers of a setting are bytes, and its letter is one of the alphabet.
-pub(crate) fn is_in_range(setting: &Setting)
+/// Shows that the setting's number is a byte and its letter is below 26.
+pub(crate) fn learn_setting_range(setting: &Setting)
     ensures { IsInRange setting.now }
 {
     match *setting {
         Setting::Pull { cable, letter } | Setting::Put { cable, letter } => {
-            are_in_range(cable, letter);
+            learn_range(cable, letter);
         }
-        Setting::RingTo { letter, .. } => are_in_range(0, letter),
-        Setting::Turn { slot, letter } => are_in_range(slot, letter),
-        Setting::PinTo { wheel, letter, .. } => are_in_range(wheel, letter),
-        Setting::Seat { slot, .. } => are_in_range(slot, Letter::A),
-        Setting::LugTo { bar, .. } => are_in_range(bar, Letter::A),
+        Setting::RingTo { letter, .. } => learn_range(0, letter),
+        Setting::Turn { slot, letter } => learn_range(slot, letter),
+        Setting::PinTo { wheel, letter, .. } => learn_range(wheel, letter),
+        Setting::Seat { slot, .. } => learn_range(slot, Letter::A),
+        Setting::LugTo { bar, .. } => learn_range(bar, Letter::A),
         Setting::SeatReflector { .. } => (),
     }
 }
 
-/// The number is a byte, and the letter is one of the alphabet.
-fn are_in_range(number: u8, letter: Letter)
+/// Shows that `number` is a byte and `letter` is below 26.
+fn learn_range(number: u8, letter: Letter)
     ensures { (number < 2 ^ 8) × (letter < 26) }
 {
     prove!(letter.index() < 26);

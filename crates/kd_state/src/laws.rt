@@ -1,19 +1,20 @@
-//! Laws over machines, settings and days of a sheet alone.
-ghost use Rattle.kd_state.specs.Words.{LinesTellWords, LinesSplitIntoWords, PartsMakeLines, WordsMakeOneLine, TextsTellFirstParts};
-ghost use Rattle.kd_state.specs.Words.{NumbersAreWords, LettersAreWords};
-ghost use Rattle.kd_state.specs.Laws.{NamesTellWheels, NamesTellReflectors};
-ghost use Rattle.kd_state.specs.Laws.{AllowedWheelsLieInTheBox, WheelsHavePlaces, PlacesTellWheels, DaysWheelsHaveTheirPlaces};
-ghost use Rattle.kd_state.specs.Laws.{SettingsHaveWords, LinesTellSettings, TextsTellLists, ListsHaveNoFault, OneListFault};
-ghost use Rattle.kd_state.specs.Laws.{SettingsKeepMachines, ListsKeepMachines, RefusesOrCarries, CarriesToOne, LeadsToOne};
-ghost use Rattle.kd_state.specs.Laws.{SettingsAreTold, TellingIsMaking, RefusalsAreTold};
+//! Laws of machines, settings and days.
+ghost use Rattle.kd_state.specs.Words.{LinesTellWords, LinesSplitIntoWords, PartsMakeLines, WordsMakeOneLine};
+ghost use Rattle.kd_state.specs.Words.{TextsTellFirstParts, NumbersAreWords, LettersAreWords};
+ghost use Rattle.kd_state.specs.Laws.{NamesTellWheels, NamesTellReflectors, AllowedWheelsLieInTheBox};
+ghost use Rattle.kd_state.specs.Laws.{WheelsHavePlaces, PlacesTellWheels, DaysWheelsHaveTheirPlaces};
+ghost use Rattle.kd_state.specs.Laws.{SettingsHaveWords, LinesTellSettings, TextsTellLists, ListsHaveNoFault};
+ghost use Rattle.kd_state.specs.Laws.{OneListFault, SettingsKeepMachines, ListsKeepMachines, RefusesOrCarries};
+ghost use Rattle.kd_state.specs.Laws.{CarriesToOne, LeadsToOne, SettingsAreTold, TellingIsMaking, RefusalsAreTold};
 ghost use Rattle.kd_state.specs.Laws.{SeatsAreByTheTables, ReflectorsAreByTheTables, RingsAreByTheTables};
-ghost use Rattle.kd_state.specs.Laws.{EngineIsTheMachine, TurnedEngineIsTheTurnedMachine};
-ghost use Rattle.kd_state.specs.Laws.{ReadingIsReady, ReadingIsItsCipher, OnKeyIsReady, OnKeyIsItsCipher};
-ghost use Rattle.kd_state.specs.Laws.{TurnedIsOnKey, TurnedHasItsKey, TurnedHasTheDaysCipher, MachinesCanBeTurned, EquallySetDecipher};
-ghost use Rattle.kd_state.specs.Laws.{TheDayDeciphersItself, CipherInTurn, KeyInTurn};
-ghost use Rattle.kd_state.specs.Laws.{TestsTellLetters, ThirteenColumns, ColumnsAreThePairs, CablesCostFour, CostTablesAreSquare};
+ghost use Rattle.kd_state.specs.Laws.{EngineIsTheMachine, TurnedEngineIsTheTurnedMachine, ReadingIsReady};
+ghost use Rattle.kd_state.specs.Laws.{ReadingIsItsCipher, OnKeyIsReady, OnKeyIsItsCipher, TurnedIsOnKey};
+ghost use Rattle.kd_state.specs.Laws.{TurnedHasItsKey, TurnedHasTheDaysCipher, MachinesCanBeTurned};
+ghost use Rattle.kd_state.specs.Laws.{EquallySetDecipher, TheDayDeciphersItself, CipherInTurn, KeyInTurn};
+ghost use Rattle.kd_state.specs.Laws.{TestsTellLetters, ThirteenColumns, ColumnsAreThePairs, CablesCostFour};
+ghost use Rattle.kd_state.specs.Laws.{CostTablesAreSquare};
 
-/// Words, joined by one space, are told by their line, and split off it again. Their line has no LF.
+/// Joining words with single spaces and splitting the line are inverses. The line has no LF.
 #[tactic(auto, using(crate::proofs::Lines::lines_tell_words, crate::proofs::Lines::lines_split_into_words, crate::proofs::Lines::parts_make_lines, crate::proofs::Lines::words_make_one_line))]
 pub fn lines_tell_words()
     ensures told { LinesTellWords }
@@ -22,27 +23,28 @@ pub fn lines_tell_words()
     ensures one_line { WordsMakeOneLine }
 {}
 
-/// What stands before the first of a byte in a text, as a space or LF, and what follows it, is told by the text.
+/// A text determines what stands before the first space, LF or other given byte, and what follows it.
 #[tactic(auto, using(crate::proofs::Lines::texts_tell_first_parts))]
 pub fn texts_tell_first_parts()
     ensures { TextsTellFirstParts }
 {}
 
-/// Numbers in decimal and letters are words.
+/// Decimal numbers and single letters are words.
 #[tactic(auto, using(crate::proofs::Lines::numbers_are_words, crate::proofs::Lines::letters_are_words))]
 pub fn numbers_and_letters_are_words()
     ensures numbers { NumbersAreWords }
     ensures letters { LettersAreWords }
 {}
 
-/// So are the words of settings' lines.
+/// The parts of a setting's line are words.
 #[tactic(auto, using(crate::proofs::Lines::setting_words_are_words))]
 pub fn settings_have_words()
     ensures { SettingsHaveWords }
 {}
 
-/// No two settings have one line. Bytes are the text of one list of settings at most; those that are have no fault, and no
-/// bytes have two. That bytes which are no list have one, `read_list` tells.
+/// Different settings have different lines, and different lists have different texts.
+///
+/// The text of a list has no fault, and no text has two faults. `read_list` finds the fault of any other text.
 pub fn texts_tell_settings()
     ensures setting { LinesTellSettings }
     ensures list { TextsTellLists }
@@ -50,9 +52,11 @@ pub fn texts_tell_settings()
     ensures one_fault { OneListFault }
 {}
 
-/// No two wheels have one name, and no two reflectors. A wheel that may stand in a slot lies in the box, and each wheel of the
-/// box has a place of its own there. So no two wheels of a day have one place. Two lists have the same letters exactly where
-/// the same tests hold of them.
+/// Different wheels have different names, and so have different reflectors.
+///
+/// A wheel that is allowed in a slot is in the model's box. Each wheel of the box has its own place there, so
+/// two wheels of a day have different places. Two lists have the same letters exactly if each letter is in both
+/// or in neither.
 pub fn parts_are_told_apart()
     ensures names { NamesTellWheels }
     ensures reflectors { NamesTellReflectors }
@@ -63,13 +67,13 @@ pub fn parts_are_told_apart()
     ensures letters { TestsTellLetters }
 {}
 
-/// A setting that is carried out makes a machine of a machine, and so does a list of them.
+/// A machine stays a machine when a setting, or a list of settings, is carried out.
 pub fn settings_keep_machines()
     ensures one { SettingsKeepMachines }
     ensures lists { ListsKeepMachines }
 {}
 
-/// A machine refuses a setting, or carries it, and never both; it carries it to one machine only, and a list too.
+/// A machine refuses a setting or carries it out, with one result only. So it is for a list.
 #[tactic(auto, using(crate::proofs::Telling::Refusing::refuses_or_carries, crate::proofs::Telling::Refusing::carries_to_one, crate::proofs::Telling::Refusing::leads_to_one))]
 pub fn a_setting_is_refused_or_carried()
     ensures either { RefusesOrCarries }
@@ -77,8 +81,10 @@ pub fn a_setting_is_refused_or_carried()
     ensures lists_to_one { LeadsToOne }
 {}
 
-/// A setting that is carried out changes what it says, and nothing else: as each reader of the machine tells it. Where they
-/// tell just that, and the setting isn't refused, it was carried out; and they tell what is refused.
+/// A setting that is carried out changes what it names and nothing else, as the machine's readers show.
+///
+/// Conversely, if the readers show just this change and the setting isn't refused, then it was carried out. The
+/// readers show which settings are refused, too.
 #[tactic(auto, using(crate::proofs::Telling::Refusing::Changing::settings_are_told, crate::proofs::Telling::telling_is_making, crate::proofs::Telling::Refusing::refusals_are_told))]
 pub fn readers_tell_what_settings_change()
     ensures told { SettingsAreTold }
@@ -86,37 +92,37 @@ pub fn readers_tell_what_settings_change()
     ensures refused { RefusalsAreTold }
 {}
 
-/// A seat, a reflector and a ring are refused exactly where the tables don't allow them.
+/// A machine refuses a seat, a reflector or a ring exactly if the tables don't allow it.
 pub fn tables_say_what_is_refused()
     ensures seats { SeatsAreByTheTables }
     ensures reflectors { ReflectorsAreByTheTables }
     ensures rings { RingsAreByTheTables }
 {}
 
-/// An engine with a machine's key enciphers as the machine itself, by its own parts; turned to other letters, as the machine
-/// that shows these.
+/// An engine enciphers as the machine that it is made of does, also turned to other letters.
 #[tactic(auto, using(crate::proofs::Keys::engine_cipher, crate::proofs::Keys::turned_engine))]
 pub fn engines_encipher_as_their_machines()
     ensures standing { EngineIsTheMachine }
     ensures turned { TurnedEngineIsTheTurnedMachine }
 {}
 
-/// A machine that reads as the day is ready, and enciphers as the day's own machine.
+/// A machine that reads as the day is ready, and enciphers as the day asks.
 #[tactic(auto, using(crate::proofs::Keys::reading_ready, crate::proofs::Keys::reading_cipher))]
 pub fn reading_as_the_day_is_its_cipher()
     ensures ready { ReadingIsReady }
     ensures cipher { ReadingIsItsCipher }
 {}
 
-/// A machine that is on the day's key is ready, and enciphers as the day's own machine that shows the same letters.
+/// A machine on the day's key is ready, and enciphers as the day asks, from the letters that it shows.
 #[tactic(auto, using(crate::proofs::Keys::on_key_ready, crate::proofs::Keys::on_key_cipher))]
 pub fn being_on_the_key_is_its_cipher()
     ensures ready { OnKeyIsReady }
     ensures cipher { OnKeyIsItsCipher }
 {}
 
-/// With other letters a machine has the same key but for the letters, and on a day's key it stays on it, with the cipher of the
-/// day's own machine that shows these letters.
+/// A machine that is turned to other letters keeps the rest of its key.
+///
+/// If it was on the day's key it stays on it, and enciphers as the day asks from these letters.
 #[tactic(auto, using(crate::proofs::Keys::turned_key, crate::proofs::Keys::turned_on_key, crate::proofs::Keys::turned_cipher))]
 pub fn turning_keeps_the_key()
     ensures key { TurnedHasItsKey }
@@ -124,28 +130,32 @@ pub fn turning_keeps_the_key()
     ensures cipher { TurnedHasTheDaysCipher }
 {}
 
-/// A ready machine can be turned to each window that has a letter for each slot, or for each pin wheel and on it.
+/// A ready machine can be turned to any window.
+///
+/// A window has a letter for each slot, or one for each pin wheel and on it.
 #[tactic(auto, using(crate::proofs::Seating::can_be_turned))]
 pub fn ready_machines_can_be_turned()
     ensures { MachinesCanBeTurned }
 {}
 
-/// What a machine on the day's key enciphers, another one on the key deciphers that shows the same letters; and so does the
-/// day's own machine, if it shows them again.
+/// Of two machines on the day's key that show the same letters, one deciphers what the other enciphers.
+///
+/// An engine set as the day says also deciphers its own ciphertext, from the same letters.
 pub fn equally_set_machines_decipher()
     ensures another { EquallySetDecipher }
     ensures itself { TheDayDeciphersItself }
 {}
 
-/// A text in two pieces is enciphered piece by piece, on the key that the first piece leaves.
+/// A text can be enciphered in two pieces, the second with the key that the first leaves.
 #[tactic(auto, using(crate::proofs::Keys::cipher_in_turn, crate::proofs::Keys::key_in_turn))]
 pub fn pieces_are_enciphered_in_turn()
     ensures cipher { CipherInTurn }
     ensures after { KeyInTurn }
 {}
 
-/// A day has 13 columns: its pairs in their order, and then nothings. There are as many costs for each cable, or bar, as
-/// there are cables, or bars, and a cable costs four at most.
+/// The cost tables are square, and a cable costs at most 4.
+///
+/// A day has 13 columns: its pairs in their order, and then no pair.
 #[tactic(auto, using(crate::proofs::CostTable::at_most_four, crate::proofs::CostTable::columns_are_the_pairs, crate::proofs::CostTable::cost_tables_are_square, crate::proofs::CostTable::thirteen_columns))]
 pub fn cost_tables_are_square()
     ensures count { ThirteenColumns }

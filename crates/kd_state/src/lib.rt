@@ -1,4 +1,4 @@
-//! The physical machine on the desk, single settings, the days of a key sheet, and the ciphers of both.
+//! The machine on the desk, single settings, the days of a key sheet, and how machine and day encipher.
 #![tactic(auto)]
 
 mod costs;

@@ -1,3 +1,5 @@
+//! The machine on the desk.
+
 pub(crate) mod cable;
 mod on_key;
 pub(crate) mod one_model;
@@ -10,7 +12,7 @@ pub(crate) mod readers;
 pub(crate) mod rotor_parts;
 pub(crate) mod seats;
 
-use crate::facts::is_in_range;
+use crate::facts::learn_setting_range;
 use crate::setting::Setting;
 use crate::setting::why::Illegal;
 use parts::Parts;
@@ -41,9 +43,11 @@ impl Machine {
     ghost use Rattle.kd_state.specs.Machine.{IsLegalRotor, IsLegalPin, IsMachine, cables_ordered};
     ghost use Rattle.kd_state.specs.Setting.{Carries, why_refused};
 
-    /// The rotor machine of these parts: none where there are more or fewer slots than the model has, a wheel stands in two
-    /// slots or may not stand where it does, a letter lies in two places of the cables, or the reflector, the rings or the
-    /// letters are not the model's. The letters of a cable may come in either order.
+    /// Creates a rotor machine, or `None` if `parts` aren't legal.
+    ///
+    /// Legal parts have the model's slots, a reflector of the model, and rings and letters for its box. Each
+    /// wheel is allowed in its slot, no wheel is in two slots, and no letter is in two places of the cables. A
+    /// cable's letters may come in either order.
     pub fn rotor(parts: RotorParts) -> Option<Machine>
         ensures exists { IsSome result ↔ IsLegalRotor parts }
         ensures value { IfSome result (λ machine. machine ≡ cables_ordered (Parts.Rotor parts)) }
@@ -56,7 +60,7 @@ impl Machine {
         })
     }
 
-    /// The Converter M-209 of these parts: none where a letter is not on its wheel.
+    /// Creates a Converter M-209, or `None` if a letter isn't on its wheel.
     pub fn pin(parts: PinParts) -> Option<Machine>
         ensures exists { IsSome result ↔ IsLegalPin parts }
         ensures value { IfSome result (λ machine. machine ≡ Parts.Pin parts) }
@@ -69,21 +73,23 @@ impl Machine {
         })
     }
 
-    /// Carries a setting out. If the machine refuses it, nothing changes, and the answer is the first reason that holds.
+    /// Carries `setting` out.
+    ///
+    /// If the machine refuses it, the machine stays as it was, and the error has the first reason that holds.
     pub fn carry(&mut self, setting: Setting) -> Result<(), Illegal>
         ensures carried { OnOk result (Carries self.old setting self.new) }
         ensures refused { IfErr result
             (λ illegal. why_refused self.old setting ≡ Some illegal.why) }
         ensures unchanged { OnErr result (self.new ≡ self.old) }
     {
-        is_in_range(&setting);
+        learn_setting_range(&setting);
         match self.parts.carry(setting) {
             Ok(()) => Ok(()),
             Err(why) => Err(Illegal { why }),
         }
     }
 
-    /// The parts.
+    /// The machine's parts.
     pub fn parts(&self) -> &Parts
         ensures parts { result.now ≡ self.now }
         ensures legal { IsMachine self.now }

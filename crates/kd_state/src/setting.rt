@@ -1,3 +1,5 @@
+//! A single setting that an operator makes at a machine.
+
 pub(crate) mod carrying;
 mod line;
 pub(crate) mod list;
@@ -7,46 +9,47 @@ pub(crate) mod why;
 
 use kd_tables::{Letter, Lug, Place, Reflector, Wheel};
 
-/// One setting that an operator makes at a machine. Slots are counted from the left, from 1; cables, pin wheels and bars
-/// from 1.
+/// One setting that an operator makes at a machine.
+///
+/// Slots are counted from 1 from the left; cables, pin wheels and bars from 1.
 #[derive(Clone, Copy)]
 pub enum Setting {
-    /// The letter is taken out of the cable.
+    /// Takes the letter out of the cable.
     Pull {
         cable: u8,
         letter: Letter,
     },
-    /// The letter is put into the cable.
+    /// Puts the letter into the cable.
     Put {
         cable: u8,
         letter: Letter,
     },
-    /// The wheel is seated in the slot.
+    /// Puts the wheel into the slot.
     Seat {
         slot: u8,
         wheel: Wheel,
     },
-    /// The reflector is changed.
+    /// Changes the reflector.
     SeatReflector {
         reflector: Reflector,
     },
-    /// The wheel's ring is set to the letter, seated or in the box.
+    /// Sets the wheel's ring to the letter, in a slot or in the box.
     RingTo {
         wheel: Wheel,
         letter: Letter,
     },
-    /// The wheel in the slot, or the pin wheel of that number, is turned until the letter shows.
+    /// Turns the wheel in the slot, or the pin wheel with this number, until the letter shows.
     Turn {
         slot: u8,
         letter: Letter,
     },
-    /// The pin wheel's pin at the letter is made effective, or not.
+    /// Makes the pin wheel's pin at the letter effective, or not.
     PinTo {
         wheel: u8,
         letter: Letter,
         effective: bool,
     },
-    /// The left or the right lug of the bar is moved to the place.
+    /// Moves the left or the right lug of the bar to the place.
     LugTo {
         bar: u8,
         lug: Lug,
@@ -54,7 +57,7 @@ pub enum Setting {
     },
 }
 
-/// What stands in the unused places of a list of settings.
+/// The setting that fills unused places of a list.
 impl Default for Setting {
     ghost use Rattle.std.specs.Prelude.{◌≡◌};
     ghost use Rattle.kd_tables.specs.declared.reflector.Reflector.TheVariants as reflectors;

@@ -1,3 +1,5 @@
+//! A day of a key sheet.
+
 pub(crate) mod entry;
 pub(crate) mod pin_entry;
 pub(crate) mod rotor_entry;
@@ -31,13 +33,15 @@ impl std::marker::Model for SheetDay {
 impl SheetDay {
     ghost use Rattle.std.specs.Prelude.{◌≡◌, ◌↔◌, ◌≤◌, length, IsTrue, IfSome, MatchOption};
     ghost use Rattle.std.specs.Option.{option_copied, option_map};
-    ghost use Rattle.kd_state.specs.SheetDay.{RotorDay, PinDay, OfRotors, OfPins, IsLegalDay, IsLegalRotorDay, IsLegalPinDay, IsDayNumber, AreOfADaysGroup};
+    ghost use Rattle.kd_state.specs.SheetDay.{RotorDay, PinDay, OfRotors, OfPins, IsLegalDay, IsLegalRotorDay};
+    ghost use Rattle.kd_state.specs.SheetDay.{IsLegalPinDay, IsDayNumber, AreOfADaysGroup};
     ghost use Rattle.kd_state.specs.SheetDay.{day_number, day_model, rotor_day, pin_day, sheet_wheel, shown_letter};
     ghost use Rattle.kd_state.specs.Entry.{values_of};
 
-    /// The day of a rotor model, with a wheel for each slot from the left, the pairs that are plugged, and the groups of the
-    /// day's messages: none where no sheet has these values. The day is from 1 to 31; there are at most 13 pairs, with no
-    /// letter in two places, and at most 4 groups.
+    /// Creates a day of a rotor machine, or `None` if no key sheet can have these values.
+    ///
+    /// `wheels` has a wheel for each slot, from the left. The day is from 1 to 31. There are at most 13 pairs,
+    /// which share no letter, and at most 4 groups.
     pub fn rotor(
         day: u8,
         model: Model,
@@ -74,8 +78,11 @@ impl SheetDay {
         }
     }
 
-    /// The day of the Converter M-209, with what the bars are to read as, the effective pins, the letter that each wheel
-    /// shows, and the two letters of the key list: none where the day isn't from 1 to 31, or a letter isn't on its wheel.
+    /// Creates a day of the Converter M-209.
+    ///
+    /// `rows` are the readings asked of the bars, `pins` the effective pins, `window` the letter of each wheel,
+    /// and `list` the two letters of the key list. `None` if the day isn't from 1 to 31, or a letter isn't on
+    /// its wheel.
     pub fn pin(
         day: u8,
         rows: [Reading; 27],
@@ -131,21 +138,21 @@ impl SheetDay {
         }
     }
 
-    /// The wheel in a slot, counted from the left from 1; none on the Converter M-209.
+    /// The wheel in slot `slot`, counted from the left from 1. `None` on the Converter M-209.
     pub fn slot(&self, slot: u8) -> Option<Wheel>
         ensures { result ≡ option_map (λ seated. seated.wheel) (sheet_wheel self.now slot) }
     {
         Some(self.seated(slot)?.wheel)
     }
 
-    /// The ring of the wheel in a slot, counted from the left from 1: 01 is A. None on the Converter M-209.
+    /// The ring of the wheel in slot `slot`, counted from 1 from the left: 01 is A. `None` on the M-209.
     pub fn ring(&self, slot: u8) -> Option<Letter>
         ensures { result ≡ option_map (λ seated. seated.ring) (sheet_wheel self.now slot) }
     {
         Some(self.seated(slot)?.ring)
     }
 
-    /// The letter in the window of a slot, counted from the left from 1, or on the pin wheel of that number.
+    /// The letter in the window of slot `slot`, counted from 1 from the left, or on pin wheel `slot`.
     pub fn window(&self, slot: u8) -> Option<Letter>
         ensures { result ≡ shown_letter self.now slot }
     {
@@ -155,7 +162,7 @@ impl SheetDay {
         }
     }
 
-    /// The reflector; none on the Converter M-209.
+    /// The reflector. `None` on the Converter M-209.
     pub fn reflector(&self) -> Option<Reflector>
         ensures { result ≡ option_map (λ s. s.reflector) (rotor_day self.now) }
     {
@@ -165,7 +172,7 @@ impl SheetDay {
         }
     }
 
-    /// The pairs that are plugged, at most 13, in the sheet's order; none on the Converter M-209.
+    /// The plugged pairs, at most 13, in the sheet's order. `None` on the Converter M-209.
     pub fn pairs(&self) -> Option<&[(Letter, Letter)]>
         ensures value { option_copied result ≡ option_map (λ s. s.pairs) (rotor_day self.now) }
         ensures few { IfSome result (λ pairs. length pairs.now ≤ 13) }
@@ -176,7 +183,7 @@ impl SheetDay {
         }
     }
 
-    /// The groups of the day's messages, at most 4; none on the Converter M-209.
+    /// The groups of the day's messages, at most 4. `None` on the Converter M-209.
     pub fn groups(&self) -> Option<&[[Letter; 3]]>
         ensures value { option_copied result ≡ option_map (λ s. s.groups) (rotor_day self.now) }
         ensures few { IfSome result (λ groups. length groups.now ≤ 4) }
@@ -187,7 +194,7 @@ impl SheetDay {
         }
     }
 
-    /// Whether these are the letters of one of the day's groups, in any order; no letters are on the Converter M-209.
+    /// Whether `letters` are one of the day's groups, in any order. Never on the Converter M-209.
     pub fn has_group(&self, letters: [Letter; 3]) -> bool
         ensures { IsTrue result ↔ AreOfADaysGroup self.now letters }
     {
@@ -197,7 +204,7 @@ impl SheetDay {
         }
     }
 
-    /// What the bars of the Converter M-209 are to read as, in whichever order.
+    /// The readings asked of the Converter's bars, in any order. `None` on rotor machines.
     pub fn rows(&self) -> Option<[Reading; 27]>
         ensures { result ≡ option_map (λ s. s.rows) (pin_day self.now) }
     {
@@ -207,7 +214,7 @@ impl SheetDay {
         }
     }
 
-    /// Which pins of the Converter M-209 are effective.
+    /// The effective pins of the Converter M-209. `None` on rotor machines.
     pub fn pins(&self) -> Option<PinSet>
         ensures { result ≡ option_map (λ s. s.pins) (pin_day self.now) }
     {
@@ -217,7 +224,7 @@ impl SheetDay {
         }
     }
 
-    /// The two letters of the Converter M-209's key list.
+    /// The two letters of the Converter's key list. `None` on rotor machines.
     pub fn list(&self) -> Option<[Letter; 2]>
         ensures { result ≡ option_map (λ s. s.list) (pin_day self.now) }
     {
@@ -227,7 +234,7 @@ impl SheetDay {
         }
     }
 
-    /// The wheel in a slot, with its ring and its window letter.
+    /// The wheel in slot `slot` with its ring and window letter. `None` on the Converter M-209.
     fn seated(&self, slot: u8) -> Option<SheetWheel>
         ensures { result ≡ sheet_wheel self.now slot }
     {
@@ -237,7 +244,7 @@ impl SheetDay {
         }
     }
 
-    /// The values of the day, as its entry in the sheet has them.
+    /// The day's values, by kind of machine.
     pub fn entry(&self) -> &Entry
         ensures value { values_of result.now ≡ self.now }
         ensures legal { IsLegalDay self.now }

@@ -1,5 +1,6 @@
-//! The words of a line, and the numbers and letters among them.
-ghost use Rattle.std.specs.Prelude.{◌≡◌, ◌≢◌, ◌↔◌, ℕ, ◌+◌, ◌^◌, ◌<◌, ◌≤◌, ◌++◌, length, map, decimal, IsTrue, MatchOption};
+//! Splitting a line into words, and reading and writing numbers and letters.
+ghost use Rattle.std.specs.Prelude.{◌≡◌, ◌≢◌, ◌↔◌, ℕ, ◌+◌, ◌^◌, ◌<◌, ◌≤◌, ◌++◌, length, map, decimal, IsTrue};
+ghost use Rattle.std.specs.Prelude.{MatchOption};
 ghost use Rattle.arrayvec.specs.ArrayString.{array_string_len};
 ghost use Rattle.kd_state.specs.SheetDay.{IsDayNumber};
 ghost use Rattle.kd_state.specs.Words.{words_of, letter_text, IsWithout, IsFirstPart};
@@ -10,7 +11,7 @@ use itoa::Buffer;
 use kd_tables::Letter;
 use std::str;
 
-/// What stands before the first such byte of a text, and what follows it; none where there is no such byte.
+/// Splits `text` at the first `byte` into what stands before it and what follows. `None` without that byte.
 pub fn split_once(text: &[u8], byte: u8) -> Option<(&[u8], &[u8])>
     ensures { MatchOption result
         (IsWithout byte text.now)
@@ -24,7 +25,7 @@ pub fn split_once(text: &[u8], byte: u8) -> Option<(&[u8], &[u8])>
     None
 }
 
-/// The parts of a line between its spaces, in order; none where there are more than `N`.
+/// Splits `line` at its spaces. `None` if there are more than `N` parts.
 #[tactic(auto, using(crate::proofs::Lines::splitting))]
 pub fn split_words<const N: usize>(line: &[u8]) -> Option<ArrayVec<&[u8], N>>
     ensures { MatchOption result
@@ -47,14 +48,14 @@ pub fn split_words<const N: usize>(line: &[u8]) -> Option<ArrayVec<&[u8], N>>
     Some(words)
 }
 
-/// Whether the text is the word.
+/// Whether `text` is `word`.
 pub(crate) fn is_word(text: &[u8], word: &str) -> bool
     ensures { IsTrue result ↔ (word.now ≡ text.now) }
 {
     word.as_bytes() == text
 }
 
-/// The number below 65,536 that is written so: in decimal, without leading zeros and without a sign.
+/// Reads a number below 65,536 in decimal, without leading zeros and without a sign.
 pub fn wide_number_of_text(text: &[u8]) -> Option<u16>
     ensures { MatchOption result
         ((number : ℕ) → number < 2 ^ 16 → decimal number ≢ text.now)
@@ -65,7 +66,7 @@ pub fn wide_number_of_text(text: &[u8]) -> Option<u16>
     is_word(text, buffer.format(number)).then_some(number)
 }
 
-/// The number below 256 that is written so.
+/// Reads a number below 256 in decimal, without leading zeros and without a sign.
 #[tactic(auto, using(std::proofs::lemmas::Fmt::decimal_injective))]
 pub fn number_of_text(text: &[u8]) -> Option<u8>
     ensures { MatchOption result
@@ -75,7 +76,7 @@ pub fn number_of_text(text: &[u8]) -> Option<u8>
     u8::try_from(wide_number_of_text(text)?).ok()
 }
 
-/// The day of a month that is written so.
+/// Reads a day of a month in decimal: from 1 to 31.
 #[tactic(auto, using(std::proofs::lemmas::Fmt::decimal_injective))]
 pub fn day_of_text(text: &[u8]) -> Option<u8>
     ensures { MatchOption result
@@ -86,7 +87,7 @@ pub fn day_of_text(text: &[u8]) -> Option<u8>
     is_day_number(day).then_some(day)
 }
 
-/// The letter that is written so: as one capital letter.
+/// Reads one capital letter.
 pub fn letter_of_text(text: &[u8]) -> Option<Letter>
     ensures { MatchOption result
         ((letter : ℕ) → letter < 26 → letter_text letter ≢ text.now)
@@ -98,7 +99,7 @@ pub fn letter_of_text(text: &[u8]) -> Option<Letter>
     }
 }
 
-/// Appends a number, in decimal.
+/// Appends `number` in decimal.
 pub fn push_number<const N: usize>(text: &mut ArrayString<N>, number: u8)
     requires { array_string_len text.old + 3 ≤ N }
     ensures bytes { text.new.bytes ≡ text.old.bytes ++ decimal number }
@@ -108,7 +109,7 @@ pub fn push_number<const N: usize>(text: &mut ArrayString<N>, number: u8)
     text.push_str(buffer.format(number));
 }
 
-/// Appends a letter, as a capital letter.
+/// Appends `letter` as a capital letter.
 pub fn push_letter<const N: usize>(text: &mut ArrayString<N>, letter: Letter)
     requires { array_string_len text.old < N }
     ensures bytes { text.new.bytes ≡ text.old.bytes ++ letter_text letter }

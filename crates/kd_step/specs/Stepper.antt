@@ -1,57 +1,63 @@
--- The stepping of the wheels, by the letters that show in their windows. A place of a wheel is counted from the right,
--- from 0: the right wheel, the middle wheel, the left wheel, and on the M4 the Greek wheel, which never moves.
-use Rattle.std.specs.Prelude.{◌≡◌, ◌↔◌, ℕ, zero, suc, ◌+◌, ◌-◌, ◌%◌, ◌≤◌, List, ◌++◌, length, take, drop, map, slice_get, slice_index, IsTrue, IsFalse, Bool, false, if◌then◌else◌}
+-- How the wheels step, by the letters in their windows. The place of a wheel is counted from the right, from 0:
+-- the right wheel, the middle wheel, the left wheel, and on the M4 the Greek wheel, which never moves.
+use Rattle.std.specs.Prelude.{◌≡◌, ◌↔◌, ℕ, zero, suc, ◌+◌, ◌-◌, ◌%◌, ◌≤◌, List, ◌++◌, length, take, drop, map}
+use Rattle.std.specs.Prelude.{slice_get, slice_index, IsTrue, IsFalse, Bool, false, if◌then◌else◌}
 use Rattle.std.specs.Option.{option_map_or}
 use Rattle.kd_tables.specs.Tables.{is_notch}
 use Rattle.kd_tables.specs.declared.wheel.Wheel.{Wheel}
 
--- what the clauses see of a stepper
+-- the value of a stepper in contracts: its wheels and the letters in their windows, from the left
 pub record Stepping : Type 0 where
   pub wheels : List Wheel
   pub window : List ℕ
 
--- the letter after a letter, with A after Z
+-- the letter after `letter`, with A after Z
 abbrev pub next_letter : ℕ → ℕ
 next_letter letter = (letter + 1) % 26
 
--- the wheel at the place stands at one of its notches
+-- the wheel at `place` stands at one of its notches
 abbrev pub stands_at_notch : List Wheel → List ℕ → ℕ → Bool
 stands_at_notch wheels window place =
     let slot = length window - (place + 1) in
     option_map_or (λ wheel. is_notch wheel (slice_index window slot)) (slice_get wheels slot) false
 
--- the window with the letters of the last so many wheels one on
+-- `window` with each of its last `count` letters moved on by one
 abbrev pub moved : ℕ → List ℕ → List ℕ
 moved count window = take (length window - count) window ++ map next_letter (drop (length window - count) window)
 
--- One step: where the middle wheel stands at a notch, the left, the middle and the right wheel move; else where the
--- right wheel does, the middle and the right wheel; else the right wheel alone.
+-- One step. If the middle wheel stands at a notch, the left, middle and right wheels move. Otherwise the middle
+-- and right wheels move if the right wheel stands at a notch, and else only the right wheel.
 pub record IsStep (wheels : List Wheel) (before after : List ℕ) : Type 0 where
   pub from_middle_notch : IsTrue (stands_at_notch wheels before 1) → after ≡ moved 3 before
-  pub from_right_notch : IsFalse (stands_at_notch wheels before 1) → IsTrue (stands_at_notch wheels before 0) → after ≡ moved 2 before
-  pub from_no_notch : IsFalse (stands_at_notch wheels before 1) → IsFalse (stands_at_notch wheels before 0) → after ≡ moved 1 before
+  pub from_right_notch : IsFalse (stands_at_notch wheels before 1) → IsTrue (stands_at_notch wheels before 0)
+      → after ≡ moved 2 before
+  pub from_no_notch : IsFalse (stands_at_notch wheels before 1) → IsFalse (stands_at_notch wheels before 0)
+      → after ≡ moved 1 before
 
--- a chain of so many steps leads from the one window to the other
+-- `n` steps lead from the window `first` to the window `last`
 abbrev pub LeadsInSteps : List Wheel → List ℕ → ℕ → List ℕ → Type 0
 LeadsInSteps wheels first zero last = last ≡ first
-LeadsInSteps wheels first (suc n) last = (between : List ℕ) × LeadsInSteps wheels first n between × IsStep wheels between last
+LeadsInSteps wheels first (suc n) last =
+    (between : List ℕ) × LeadsInSteps wheels first n between × IsStep wheels between last
 
--- the window to which one step leads
+-- the window after one step
 abbrev pub next_window : List Wheel → List ℕ → List ℕ
 next_window wheels window =
     if stands_at_notch wheels window 1 then moved 3 window
     else (if stands_at_notch wheels window 0 then moved 2 window else moved 1 window)
 
--- the window to which a chain of so many steps leads
+-- the window after `n` steps
 abbrev pub window_after : List Wheel → List ℕ → ℕ → List ℕ
 window_after wheels window zero = window
 window_after wheels window (suc n) = next_window wheels (window_after wheels window n)
 
--- a chain of so many steps leads to that window, and to no other
+-- `n` steps lead to `window_after`, and to no other window
 abbrev pub ChainsEndInWindowAfter : Type 0
-ChainsEndInWindowAfter = (wheels : List Wheel) (first last : List ℕ) (n : ℕ) → LeadsInSteps wheels first n last ↔ (last ≡ window_after wheels first n)
+ChainsEndInWindowAfter =
+    (wheels : List Wheel) (first last : List ℕ) (n : ℕ)
+    → LeadsInSteps wheels first n last ↔ (last ≡ window_after wheels first n)
 
--- a step that leaves the letter of the middle wheel leaves all letters but the right wheel's
+-- if the middle wheel's letter stays in a step, all letters but the right wheel's stay
 abbrev pub SlowWheelsMoveTogether : Type 0
 SlowWheelsMoveTogether =
     (wheels : List Wheel) (before after : List ℕ) → IsStep wheels before after → 3 ≤ length before

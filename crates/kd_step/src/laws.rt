@@ -1,12 +1,12 @@
-//! Laws over the definition of stepping alone.
+//! Laws that follow from the definition of a step alone.
 ghost use Rattle.kd_step.specs.Stepper.{ChainsEndInWindowAfter, SlowWheelsMoveTogether};
 
-/// A chain of steps leads to one window, and to each number of steps there is a chain.
+/// Each number of steps from a window leads to exactly one window: the one that `window_after` gives.
 pub fn chains_end_in_window_after()
     ensures { ChainsEndInWindowAfter }
 {}
 
-/// A step that leaves the middle wheel as it stands leaves all wheels but the right one so.
+/// If the middle wheel stays in a step, all wheels but the right one stay.
 pub fn slow_wheels_move_together()
     ensures { SlowWheelsMoveTogether }
 {}

@@ -1,4 +1,4 @@
-//! The stepping of the wheels of a rotor machine.
+//! How the wheels of a rotor machine step.
 #![tactic(auto)]
 
 pub mod laws;

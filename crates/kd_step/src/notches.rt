@@ -1,9 +1,10 @@
+//! The notches of a wheel, as a table.
 ghost use Rattle.std.specs.Prelude.{◌≡◌};
 ghost use Rattle.kd_step.specs.Notches.{IsNotchTable};
 
 use kd_tables::{Letter, Wheel, notched};
 
-/// At which letters in its window the wheel stands at a notch.
+/// Tabulates the notches of `wheel`: entry `i` says whether letter `i` in its window is a notch.
 pub(crate) fn notches(wheel: Wheel) -> [bool; 26]
     ensures { IsNotchTable wheel result }
 {

@@ -1,3 +1,4 @@
+//! The wheels of a rotor machine, and how a key press moves them.
 ghost use Rattle.std.specs.Prelude.{◌≡◌, ◌<◌, ◌≤◌, length, map, slice_index};
 ghost use Rattle.kd_step.specs.Stepper.{IsStep, moved, next_letter, window_after};
 
@@ -5,12 +6,14 @@ use super::notches::notches;
 use kd_tables::{Letter, Wheel};
 use std::marker::Model;
 
-/// The wheels in their slots, from the left, and the letters in their windows.
+/// The wheels in their slots and the letters in their windows, from the left.
 #[derive(Drop)]
 pub struct Stepper<const S: usize> {
     wheels: [Wheel; S],
     window: [Letter; S],
+    /// The notches of the middle wheel, by the letter in its window.
     middle: [bool; 26],
+    /// The notches of the right wheel, by the letter in its window.
     right: [bool; 26],
 }
 
@@ -28,7 +31,7 @@ impl<const S: usize> Model for Stepper<S> {
 }
 
 impl<const S: usize> Stepper<S> {
-    /// Wheels that show these letters. There are three or four slots, counted from the left.
+    /// Creates a stepper of three or four `wheels` that show `window`, both from the left.
     pub fn new(wheels: [Wheel; S], window: [Letter; S]) -> Self
         requires least { 3 ≤ S }
         requires most { S ≤ 4 }
@@ -44,7 +47,7 @@ impl<const S: usize> Stepper<S> {
         }
     }
 
-    /// Moves the wheels as a key press does.
+    /// Moves the wheels as one key press does.
     pub fn step(&mut self)
         ensures step { IsStep self.old.wheels self.old.window self.new.window }
         ensures after { self.new.window ≡ window_after self.old.wheels self.old.window 1 }
@@ -59,7 +62,7 @@ impl<const S: usize> Stepper<S> {
         }
     }
 
-    /// The letters that show, from the left.
+    /// The letters in the windows, from the left.
     pub fn window(&self) -> [Letter; S]
         ensures { result ≡ self.now.window }
     {
@@ -67,7 +70,7 @@ impl<const S: usize> Stepper<S> {
         *window
     }
 
-    /// The letter that shows in a slot, counted from the left, from 0.
+    /// The letter in the window of `slot`, counted from the left from 0.
     pub fn shown(&self, slot: usize) -> Letter
         requires { slot < S }
         ensures value { result ≡ slice_index self.now.window slot }
@@ -78,7 +81,7 @@ impl<const S: usize> Stepper<S> {
     }
 }
 
-/// Moves the last so many letters one on.
+/// Moves each of the last `count` letters on by one, Z to A.
 fn move_last(window: &mut [Letter], count: usize)
     requires { count ≤ length window.old }
     ensures { window.new ≡ moved count window.old }
@@ -87,7 +90,7 @@ fn move_last(window: &mut [Letter], count: usize)
     advance(&mut window[first..]);
 }
 
-/// Moves each letter one on.
+/// Moves each letter on by one, Z to A.
 fn advance(letters: &mut [Letter])
     ensures { letters.new ≡ map next_letter letters.old }
 {

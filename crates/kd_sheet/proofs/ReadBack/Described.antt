@@ -14,7 +14,7 @@ reflector_there model table reflector e = grind (arith, given, there_was, found_
 
 -- ---- groups, rows and bars
 
--- so many of them, and each is one
+-- there are `count` elements, and each satisfies `P`
 abbrev Each : {A : Type 0} → (A → Type 0) → ℕ → List A → Type 0
 Each P count xs = (length xs ≡ count) × All P xs
 
@@ -46,7 +46,7 @@ text_pins : (ring : List ℕ) (item : Data) (pins : List Bool) → pins_of_item 
 unfolding pins_of_item pins_of_text
 text_pins ring item pins e = grind (arith, common_steps, there_was, some_if, none-some)
 
--- each list has as many pins as its wheel has letters
+-- each wheel's list has a pin for each letter of the wheel
 abbrev Fit : List (List Bool) → Type 0
 Fit lists = (place : ℕ) (d : List Bool) → place < length lists
     → length (get_or lists place d) ≡ length (ring_of (place + 1))
@@ -94,11 +94,11 @@ pin_parts_legal table =
 
 -- ---- days
 
--- the day is legal, and has the number
+-- the day is legal and has this number
 abbrev pub IsDay : ℕ → Day → Type 0
 IsDay number day = IsLegalDay day × (day_number day ≡ number)
 
--- what is made where a thing is legal, and not else, is there
+-- a constructor that fails only for illegal values gives a value for legal ones
 pub legal_is_some : {A P : Type 0} (Q : A → Type 0) (made : Option A) → MatchOption made (P → ⊥) Q → P → IsSome made
 legal_is_some Q None none legal = absurd (none legal)
 legal_is_some Q (Some x) some legal = refl
@@ -142,7 +142,7 @@ pub day_again : (number : ℕ) (model : Model) (table : Members) (day : Day) →
 unfolding day_in new_number_in
 day_again number model table day is of_model rest = grind (arith, then_read, number_in)
 
--- what a table tells that describes a day behind others
+-- the day of a table is legal, and no day before has its number
 pub record Tells (days : List Day) (table : Members) (day : Day) : Type 0 where
   pub legal : IsLegalDay day
   pub number : IsDayNumber (day_number day)
@@ -167,7 +167,7 @@ described days table day e =
     let alone = day_again number.0 model.0 table day new.0 model.1 model.2 in
     record { legal = is.0; number = rw is.1 new.1; free = rw is.1 new.2; alone = alone }
 
--- the day has the number
+-- the day has this number
 abbrev has : ℕ → Day → Bool
 has number day = day_number day == number
 
@@ -181,7 +181,7 @@ month_at : (days : List Day) (place : ℕ) (d : Option Day) → place < 31
 month_at days place d within = get_or-map-range_with_len (λ n. find (has n) days) 1 31 place (suc place) d within
     (omega arith)
 
--- the month's day of a number is the first of the days that has it
+-- the month's day of a number is the first of `days` with this number
 pub day_of_month : (days : List Day) (number : ℕ) → IsDayNumber number
     → day_of (month_of days) number ≡ find (has number) days
 day_of_month days zero is = let first = is.first in absurd (omega arith)
@@ -190,7 +190,7 @@ day_of_month days (suc place) is =
     ap (option_and_then (λ d. d)) (slice_get-get_or (month_of days) place None (omega (arith, month_size days)))
     ∙ month_at days place None (omega arith)
 
--- one of the days has the number where one is found
+-- a day with this number is found exactly if there is one
 any_found : (days : List Day) (number : ℕ) → is_some (find (has number) days) ≡ list_any (has number) days
 any_found [] number = refl
 any_found (day ∷ days) number = grind (arith, cases_Bool, has, any_found days number)
@@ -199,21 +199,21 @@ pub taken : (days : List Day) (number : ℕ) → IsDayNumber number
     → is_some (day_of (month_of days) number) ≡ list_any (has number) days
 taken days number is = rw (day_of_month days number is) (any_found days number)
 
--- a month has no day but at its numbers
+-- a month has days at the numbers from 1 to 31 only
 within_month : (days : List Day) (number : ℕ) (day : Day) → day_of (month_of days) number ≡ Some day
     → IsDayNumber number
 within_month days zero day e = absurd (none-some day e)
 within_month days (suc place) day e = grind (arith, slice_get_cases (month_of days) place)
 
--- there is no day in an empty month
+-- the empty month is a month
 pub empty_month : IsMonth (month_of [])
 empty_month = record { count = refl; each = λ number day e. grind (arith, within_month [] number day, day_of_month []) }
 
--- 31 places without a day
+-- a month of 31 empty places is the empty month
 pub blank_month : (month : List (Option Day)) → AllOfLen (λ day. day ≡ None) month 31 → month ≡ month_of []
 blank_month month blank = grind (arith, same_lists, blank.at, get_or-map-range_with_len)
 
--- a day is put at its number
+-- a month stays one when a day is put at its own number
 pub put_day : (month : List (Option Day)) (place : ℕ) (new : Day) → IsMonth month → place + 1 ≡ day_number new → place < 31
     → IsMonth (set month place (Some new))
 put_day month place new before here left =
@@ -224,14 +224,15 @@ put_day month place new before here left =
           grind (arith, cases_eq number (day_number new), numbered_here, numbered_other, same_Some, before.each);
     })
 
--- the day at a place has its number
+-- the day at a place of the month has the place's number
 pub number_at : (month : List (Option Day)) (number place : ℕ) (found : Option Day) → IsMonth month
     → place < length month → number ≡ suc place → found ≡ get_or month place found
     → IfSome found (λ day. day_number day ≡ number)
 number_at month number place None is within same here = tt
 number_at month number place (Some day) is within same here = is.each number day (grind (arith, slice_get-get_or))
 
--- one more day, of a number that none has
+-- with one more day, of a new number, a search finds this day for its number and for others what it found
+-- before
 found_more : (days : List Day) (new : Day) (number : ℕ) → list_any (has (day_number new)) days ≡ false
     → find (has number) (days ++ new ∷ []) ≡ cond (nat_eq (day_number new) number) (Some new) (find (has number) days)
 found_more days new number free = grind (arith, nat_tests, find-append, any_found days number)
@@ -255,7 +256,7 @@ month_more days new is free =
 
 -- ---- the days of entries
 
--- an item that is read is the table of an entry
+-- an item that is read as a day is a table that describes the day
 record IsEntry (days : List Day) (item : Data) (day : Day) : Type 0 where
   entry : Members
   is : item ≡ toml.table entry
@@ -271,19 +272,19 @@ entry_read days item day e =
       tells = described days members.0 day members.2;
     }
 
--- an entry among the items describes the day of that number
+-- an entry among the items describes the day of this number
 abbrev IsTold : List Data → ℕ → Day → Type 0
 IsTold items number day = (entry : Members) × Contains items (toml.table entry) × (day_in [] entry ≡ Ok day)
     × (day_number day ≡ number)
 
--- what is found passes; and what passes is found, where nothing before it does
+-- the element at `k` is the one that `find` finds, if it passes and none before it does
 first_found : {X : Type 0} (p : X → Bool) (xs : List X) (k : ℕ) (d : X) → k < length xs → p (get_or xs k d) ≡ true
     → list_any p (take k xs) ≡ false → find p xs ≡ Some (get_or xs k d)
 first_found p [] k d within here none = absurd (omega arith)
 first_found p (x ∷ xs) zero d within here none = rw here refl
 first_found p (x ∷ xs) (suc k) d within here none = grind (arith, nat_tests, first_found p xs k d)
 
--- what is found among the days is what an entry among the items describes
+-- searching `days` for a number finds the day that an entry of `items` describes
 module _ (items : List Data) (days : List Day) (read : in_turn day_for items ≡ Ok days) where
   day_at : (k : ℕ) (e : Data) (d : Day) → k < length days
       → (k < length items) × IsEntry (take k days) (get_or items k e) (get_or days k d)

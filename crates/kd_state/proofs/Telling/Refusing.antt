@@ -1,23 +1,28 @@
--- What a machine refuses, as its readers tell it; and settings and lists of them, refused and carried out.
+-- What a machine refuses, as its readers show it. Then settings and lists, refused and carried out.
 pub mod Changing
 unfoldable pub use Changing.*
 pub use Rattle.kd_state.proofs.Prelude.{RefusalsAreTold, HasAllPins, Carries, Leads, Stands, has_letter, is_plugged}
 pub use Rattle.kd_state.proofs.Prelude.{NoLooseEnd, NoSuchBar, NoSuchCable, NotOnWheel, NotThere, OtherModel}
 pub use Rattle.kd_state.proofs.Prelude.{PlaceTaken, SlotEmpty, SocketTaken, WheelNotAllowed, IsAllowed, Reflector}
-pub use Rattle.kd_state.proofs.Prelude.{false_from_ne_true, false≢true, All-head, slice_get-get_or, take, get_or, ◌++◌, Decides, IsSome}
+pub use Rattle.kd_state.proofs.Prelude.{false_from_ne_true, false≢true, All-head, slice_get-get_or, take, get_or, ◌++◌}
+pub use Rattle.kd_state.proofs.Prelude.{Decides, IsSome}
 pub use Rattle.std.proofs.{Math.Seq.drop-cons, lemmas.List.{length-take-le, take-append-drop, take_more}}
 pub use Rattle.kd_state.proofs.{Prelude.is_some, Prelude.MatchOption, Prelude.not, Slots.is_some-place_on}
 pub use Rattle.kd_state.specs.Setting.{IsFirstIllegal}
 
-pub lists_keep_machines : (m n : Parts) (xs : List Setting) → IsMachine m → All IsInRange xs → Leads m xs n → IsMachine n
+pub lists_keep_machines : (m n : Parts) (xs : List Setting) → IsMachine m → All IsInRange xs → Leads m xs n
+    → IsMachine n
 lists_keep_machines m n [] h r l = subst IsMachine (sym l) h
 lists_keep_machines m n (x ∷ xs) h r l =
-    lists_keep_machines l.0 n xs (settings_keep_machines m l.0 x h (All-head IsInRange x xs r) l.1) (All-tail IsInRange x xs r) l.2
+    lists_keep_machines l.0 n xs (settings_keep_machines m l.0 x h (All-head IsInRange x xs r) l.1)
+    (All-tail IsInRange x xs r) l.2
 
-either : (m : Parts) (x : Setting) (why : Option Why) → why_refused m x ≡ why → MatchOption why ((n : Parts) × Carries m x n) (λ why. (n : Parts) → ¬ (Carries m x n))
+either : (m : Parts) (x : Setting) (why : Option Why) → why_refused m x ≡ why
+    → MatchOption why ((n : Parts) × Carries m x n) (λ why. (n : Parts) → ¬ (Carries m x n))
 either m x why e = grind (arith, changed, none-some)
 
-pub refuses_or_carries : (m : Parts) (x : Setting) → MatchOption (why_refused m x) ((n : Parts) × Carries m x n) (λ why. (n : Parts) → ¬ (Carries m x n))
+pub refuses_or_carries : (m : Parts) (x : Setting)
+    → MatchOption (why_refused m x) ((n : Parts) × Carries m x n) (λ why. (n : Parts) → ¬ (Carries m x n))
 refuses_or_carries m x = either m x (why_refused m x) refl
 
 pub carries_to_one : (m n o : Parts) (x : Setting) → Carries m x n → Carries m x o → n ≡ o
@@ -27,7 +32,7 @@ pub leads_to_one : (m n o : Parts) (xs : List Setting) → Leads m xs n → Lead
 leads_to_one m n o [] one other = one ∙ sym other
 leads_to_one m n o (x ∷ xs) one other = grind (arith, leads_to_one one.0 n o xs one.2, carries_to_one)
 
--- ---- settings one after another, up to one of their places
+-- ---- carrying out the first settings of a list
 pub leads_join : (m between n : Parts) (front rest : List Setting) → Leads m front between → Leads between rest n
     → Leads m (front ++ rest) n
 leads_join m between n [] rest first leads = subst (λ machine. Leads machine rest n) first leads
@@ -35,49 +40,63 @@ leads_join m between n (x ∷ front) rest first leads =
     (first.0, first.1, leads_join first.0 between n front rest first.2 leads)
 
 -- one more setting is carried out
-pub leads_next : (m n o : Parts) (xs : List Setting) (place : ℕ) (x : Setting) → place < length xs → get_or xs place x ≡ x
+pub leads_next : (m n o : Parts) (xs : List Setting) (place : ℕ) (x : Setting) → place < length xs
+    → get_or xs place x ≡ x
     → Leads m (take place xs) n → Carries n x o → Leads m (take (place + 1) xs) o
 leads_next m n o xs place x within is leads carries =
-    grind (arith, take_more xs place x within, within, leads_join m n o (take place xs) (x ∷ []) leads (o, carries, refl))
+    grind (
+      arith,
+      take_more xs place x within,
+      within,
+      leads_join m n o (take place xs) (x ∷ []) leads (o, carries, refl),
+    )
 
--- it is refused
+-- the next setting is refused
 pub stops_at : (m n : Parts) (xs : List Setting) (place : ℕ) (x : Setting) (why : Why) → place < length xs
     → get_or xs place x ≡ x
     → Leads m (take place xs) n → why_refused n x ≡ Some why → IsFirstIllegal m xs (place + 1) why
 stops_at m n xs place x why within is leads refused =
     grind (arith, take-append-drop place xs, drop-cons xs place x within, within, length-take-le place xs (omega arith))
 
--- a refusal by one test alone
-pub by_one_test : {P : Type 0} (may : Bool) (why : Why) → Decides may P → (first_reason ((not may, why) ∷ []) ≡ None) ↔ P
+-- a refusal that depends on one test only
+pub by_one_test : {P : Type 0} (may : Bool) (why : Why) → Decides may P
+    → (first_reason ((not may, why) ∷ []) ≡ None) ↔ P
 by_one_test may why tells = grind (arith, not-false, no_reason, tells.1)
 
-pub seats_by_the_tables : (m : RotorParts) (slot : ℕ) (wheel : Wheel) → (why_refused (Rotor m) (Seat slot wheel) ≡ None) ↔ IsAllowed m.model slot wheel
+pub seats_by_the_tables : (m : RotorParts) (slot : ℕ) (wheel : Wheel)
+    → (why_refused (Rotor m) (Seat slot wheel) ≡ None) ↔ IsAllowed m.model slot wheel
 seats_by_the_tables m slot wheel = by_one_test _ WheelNotAllowed (has_wheel-Decides (wheels_for m.model slot) wheel)
 
-pub reflectors_by_the_tables : (m : RotorParts) (reflector : Reflector) → (why_refused (Rotor m) (SeatReflector reflector) ≡ None) ↔ Contains (reflectors_of m.model) reflector
-reflectors_by_the_tables m reflector = by_one_test _ WheelNotAllowed (has_reflector-Decides (reflectors_of m.model) reflector)
+pub reflectors_by_the_tables : (m : RotorParts) (reflector : Reflector)
+    → (why_refused (Rotor m) (SeatReflector reflector) ≡ None) ↔ Contains (reflectors_of m.model) reflector
+reflectors_by_the_tables m reflector =
+    by_one_test _ WheelNotAllowed (has_reflector-Decides (reflectors_of m.model) reflector)
 
-pub rings_by_the_tables : (m : RotorParts) (wheel : Wheel) (letter : ℕ) → (why_refused (Rotor m) (RingTo wheel letter) ≡ None) ↔ Contains (box_of m.model) wheel
+pub rings_by_the_tables : (m : RotorParts) (wheel : Wheel) (letter : ℕ)
+    → (why_refused (Rotor m) (RingTo wheel letter) ≡ None) ↔ Contains (box_of m.model) wheel
 rings_by_the_tables m wheel letter = by_one_test _ WheelNotAllowed (has_wheel-Decides (box_of m.model) wheel)
 
 -- ---- cables
 
--- a letter lies in one of the cables where it lies in the cable of some number
-pulled : (found : Option (Option ℕ × Option ℕ)) (letter : ℕ)
-    → (first_reason ((is_none found, NoSuchCable) ∷ (not (has_letter (cable_letters (unwrap_or found (None, None))) letter), NotThere) ∷ []) ≡ None)
+-- a letter can be pulled exactly if it is in the cable
+pull_allowed : (found : Option (Option ℕ × Option ℕ)) (letter : ℕ)
+    → (first_reason ((is_none found, NoSuchCable)
+    ∷ (not (has_letter (cable_letters (unwrap_or found (None, None))) letter), NotThere) ∷ []) ≡ None)
     ↔ Contains (option_map_or cable_letters found []) letter
-pulled found letter = grind (arith, none-some, by_one_test, has_letter-Decides)
+pull_allowed found letter = grind (arith, none-some, by_one_test, has_letter-Decides)
 
 lies_somewhere : (cables : List (Option ℕ × Option ℕ)) (letter : ℕ) → Contains (plugged_letters cables) letter
     → (place : ℕ) × Contains (option_map_or cable_letters (slice_get cables place) []) letter
 lies_somewhere [] letter lies = absurd (omega (arith, lies.1))
-lies_somewhere (cable ∷ cables) letter lies = elim (Contains-append_cases (cable_letters cable) (plugged_letters cables) letter lies) [
-  | inl here ↦ (0, here)
-  | inr later ↦ let there = lies_somewhere cables letter later in (suc there.0, there.1)
-]
+lies_somewhere (cable ∷ cables) letter lies =
+    elim (Contains-append_cases (cable_letters cable) (plugged_letters cables) letter lies) [
+      | inl here ↦ (0, here)
+      | inr later ↦ let there = lies_somewhere cables letter later in (suc there.0, there.1)
+    ]
 
 lies_in_all : (cables : List (Option ℕ × Option ℕ)) (number letter : ℕ)
-    → Contains (option_map_or cable_letters (numbered cables number) []) letter → Contains (plugged_letters cables) letter
+    → Contains (option_map_or cable_letters (numbered cables number) []) letter
+    → Contains (plugged_letters cables) letter
 lies_in_all cables zero letter lies = absurd (omega (arith, lies.1))
 lies_in_all cables (suc place) letter lies = lies_plugged cables place letter lies
 
@@ -86,17 +105,18 @@ loose_in : {P : Type 0} (cable : Option ℕ × Option ℕ) (taken : Bool) → De
     ↔ (((held : Option ℕ × Option ℕ) × (Some cable ≡ Some held) × (length (cable_letters held) < 2)) × ¬ P)
 loose_in cable taken tells few = grind (arith, few, no_reason, false, false_from_ne_true, tells.0)
 
-put_in : {P : Type 0} (found : Option (Option ℕ × Option ℕ)) (taken : Bool) → Decides taken P
-    → (first_reason ((is_none found, NoSuchCable) ∷ (is_plugged (unwrap_or found (None, None)), NoLooseEnd) ∷ (taken, SocketTaken) ∷ []) ≡ None)
+put_allowed : {P : Type 0} (found : Option (Option ℕ × Option ℕ)) (taken : Bool) → Decides taken P
+    → (first_reason ((is_none found, NoSuchCable) ∷ (is_plugged (unwrap_or found (None, None)), NoLooseEnd)
+    ∷ (taken, SocketTaken) ∷ []) ≡ None)
     ↔ (((held : Option ℕ × Option ℕ) × (found ≡ Some held) × (length (cable_letters held) < 2)) × ¬ P)
-put_in found taken e = grind (arith, none-some, loose_in, same_Some)
+put_allowed found taken e = grind (arith, none-some, loose_in, same_Some)
 
 -- ---- wheels, pins and lugs
 
-turned : {P : Type 0} (found : Option (Option Wheel)) → ¬ P
+turn_allowed : {P : Type 0} (found : Option (Option Wheel)) → ¬ P
     → (first_reason ((is_none (unwrap_or found None), SlotEmpty) ∷ []) ≡ None)
     ↔ (((wheel : Wheel) × (found ≡ Some (Some wheel))) ⊎ P)
-turned found e = grind (arith, none-some)
+turn_allowed found e = grind (arith, none-some)
 
 shown : {P Q : Type 0} (found : Option ℕ) (on : Bool) → Decides on P → ¬ Q
     → (first_reason ((is_none found, SlotEmpty) ∷ (not on, NotOnWheel) ∷ []) ≡ None) ↔ (Q ⊎ (IsSome found × P))
@@ -115,7 +135,8 @@ pin_told m wheel letter all =
     )
 
 apart_before : (lug : Lug) (place : Place) (bar : Place × Place) → Stands (with_lug lug place bar)
-    → (is_at place (lug_place (other_lug lug) bar) ≡ false) × (lies_beyond lug place (lug_place (other_lug lug) bar) ≡ false)
+    → (is_at place (lug_place (other_lug lug) bar) ≡ false)
+    × (lies_beyond lug place (lug_place (other_lug lug) bar) ≡ false)
 apart_before lug place bar e = grind arith
 
 abbrev lug_reasons : Lug → Place → Option (Place × Place) → List (Bool × Why)
@@ -125,29 +146,35 @@ lug_reasons lug place found =
     ∷ (option_map_or (lies_beyond lug place) (option_map (lug_place (other_lug lug)) found) false, WouldPass)
     ∷ []
 
-moved : (lug : Lug) (place : Place) (found : Option (Place × Place))
+lug_allowed : (lug : Lug) (place : Place) (found : Option (Place × Place))
     → (first_reason (lug_reasons lug place found) ≡ None)
     ↔ ((standing : Place × Place) × (found ≡ Some standing) × Stands (with_lug lug place standing))
-moved lug place found = grind (arith, none-some, no_reason, still_before, same_Some, apart_before)
+lug_allowed lug place found = grind (arith, none-some, no_reason, still_before, same_Some, apart_before)
 
 -- ---- each setting
 
-never : {P : Type 0} → ¬ P → (first_reason ((true, OtherModel) ∷ []) ≡ None) ↔ P
-never other = grind (arith, none-some)
+other_model_refused : {P : Type 0} → ¬ P → (first_reason ((true, OtherModel) ∷ []) ≡ None) ↔ P
+other_model_refused other = grind (arith, none-some)
 
 pub refusals_are_told : RefusalsAreTold
-refusals_are_told (Rotor m) (Pull cable letter) h = pulled (numbered m.cables cable) letter
+refusals_are_told (Rotor m) (Pull cable letter) h = pull_allowed (numbered m.cables cable) letter
 refusals_are_told (Rotor m) (Put cable letter) h =
     let plugged = plugged_letters m.cables in
-    let by_found = put_in (numbered m.cables cable) (has_letter plugged letter) (has_letter-Decides plugged letter) in (
+    let by_found =
+    put_allowed (numbered m.cables cable) (has_letter plugged letter) (has_letter-Decides plugged letter) in (
       λ e. let may = by_found.0 e in (may.0, λ other lies. may.1 (lies_in_all m.cables other letter lies)),
-      λ may. by_found.1 (may.0, λ lies. let somewhere = lies_somewhere m.cables letter lies in may.1 (suc somewhere.0) somewhere.1),
+      λ may. by_found.1 (
+        may.0,
+        λ lies. let somewhere = lies_somewhere m.cables letter lies in may.1
+            (suc somewhere.0) somewhere.1,
+      ),
     )
 refusals_are_told (Rotor m) (Seat slot wheel) h = seats_by_the_tables m slot wheel
 refusals_are_told (Rotor m) (SeatReflector reflector) h = reflectors_by_the_tables m reflector
 refusals_are_told (Rotor m) (RingTo wheel letter) h = rings_by_the_tables m wheel letter
-refusals_are_told (Rotor m) (Turn slot letter) h = turned (numbered m.slots slot) (λ may. false≢true may.0)
+refusals_are_told (Rotor m) (Turn slot letter) h = turn_allowed (numbered m.slots slot) (λ may. false≢true may.0)
 refusals_are_told (Pin m) (Turn wheel letter) h = grind (arith, shown, has_letter-Decides, none-some)
-refusals_are_told (Pin m) (PinTo wheel letter effective) h = by_one_test _ NotOnWheel (pin_told m wheel letter h.legal.pins)
-refusals_are_told (Pin m) (LugTo bar lug place) h = moved lug place (numbered m.bars bar)
-refusals_are_told m x h = never (λ may. grind arith)
+refusals_are_told (Pin m) (PinTo wheel letter effective) h =
+    by_one_test _ NotOnWheel (pin_told m wheel letter h.legal.pins)
+refusals_are_told (Pin m) (LugTo bar lug place) h = lug_allowed lug place (numbered m.bars bar)
+refusals_are_told m x h = other_model_refused (λ may. grind arith)

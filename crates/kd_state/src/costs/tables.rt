@@ -1,4 +1,4 @@
-//! The tables of costs: what it costs to make of each cable each column, and of each bar each row.
+//! The cost tables: each cable against each column, and each bar against each row.
 ghost use Rattle.std.specs.Prelude.{◌≡◌, ◌≤◌, None, length, map, slice_index_or};
 ghost use Rattle.kd_state.specs.Costs as costs;
 ghost use Rattle.kd_state.specs.Costs.{columns_of};
@@ -7,7 +7,7 @@ use crate::costs::{bar_cost, cable_cost};
 use crate::machine::cable::Cable;
 use kd_tables::{Letter, Reading, Standing};
 
-/// The column at the place, counted from 0: the day's pairs in their order, and nothing behind the last one.
+/// Column `place`, counted from 0: a pair of the day, or `None` after the last pair.
 #[tactic(auto, using(std::proofs::lemmas::Option::gets, crate::proofs::CostTable::columns_are_the_pairs))]
 pub fn column_at(pairs: &[(Letter, Letter)], place: usize) -> Option<(Letter, Letter)>
     ensures { result ≡ slice_index_or (columns_of pairs.now) place None }
@@ -15,8 +15,10 @@ pub fn column_at(pairs: &[(Letter, Letter)], place: usize) -> Option<(Letter, Le
     pairs.get(place).copied()
 }
 
-/// What each cable costs at each column. There is a row for each cable, and in it a cost for each pair and then for each
-/// nothing; both are counted from 0.
+/// The cost of each cable at each column.
+///
+/// Entry `[i][j]` is for cable `i` and column `j`, both counted from 0. The columns are the day's pairs, and
+/// then no pair up to 13.
 pub fn cable_costs(cables: &[Cable; 13], pairs: &[(Letter, Letter)]) -> [[u8; 13]; 13]
     requires { length pairs.now ≤ 13 }
     ensures { result ≡ costs.cable_costs cables.now pairs.now }
@@ -28,7 +30,7 @@ pub fn cable_costs(cables: &[Cable; 13], pairs: &[(Letter, Letter)]) -> [[u8; 13
     costs
 }
 
-/// What a cable costs at each column.
+/// The cost of one cable at each column.
 fn costs_of_cable(cable: &Cable, pairs: &[(Letter, Letter)]) -> [u8; 13]
     requires { length pairs.now ≤ 13 }
     ensures { result ≡ map (costs.cable_cost cable.now) (columns_of pairs.now) }
@@ -40,8 +42,9 @@ fn costs_of_cable(cable: &Cable, pairs: &[(Letter, Letter)]) -> [u8; 13]
     costs
 }
 
-/// What each bar costs at each of the sheet's rows. There is a row of the table for each bar, and in it a cost for each of
-/// the sheet's rows; both are counted from 0.
+/// The cost of each bar at each of the sheet's rows.
+///
+/// Entry `[i][j]` is for bar `i` and row `j`, both counted from 0.
 pub fn bar_costs(bars: &[Standing; 27], rows: &[Reading; 27]) -> [[u8; 27]; 27]
     ensures { result ≡ costs.bar_costs bars.now rows.now }
 {
@@ -52,7 +55,7 @@ pub fn bar_costs(bars: &[Standing; 27], rows: &[Reading; 27]) -> [[u8; 27]; 27]
     costs
 }
 
-/// What a bar costs at each of the sheet's rows.
+/// The cost of one bar at each of the sheet's rows.
 fn costs_of_bar(bar: Standing, rows: &[Reading; 27]) -> [u8; 27]
     ensures { result ≡ map (costs.bar_cost bar) rows.now }
 {

@@ -1,5 +1,6 @@
-//! When a machine is ready, and its engine.
-ghost use Rattle.std.specs.Prelude.{◌≡◌, ◌≢◌, ◌↔◌, ◌<◌, ◌≤◌, ◌+◌, ◌++◌, length, map, filter_map, All, Contains, IsTrue, IsSome, IfSome, MatchOption, Some, None};
+//! Whether a machine is ready to encipher, and the engine made of it.
+ghost use Rattle.std.specs.Prelude.{◌≡◌, ◌≢◌, ◌↔◌, ◌<◌, ◌≤◌, ◌+◌, ◌++◌, length, map, filter_map, All, Contains, IsTrue};
+ghost use Rattle.std.specs.Prelude.{IsSome, IfSome, MatchOption, Some, None};
 ghost use Rattle.std.specs.Option.{option_to_list};
 ghost use Rattle.arrayvec.specs.ArrayVec.{array_vec_len};
 ghost use Rattle.kd_tables.specs.Permutation.{exchange};
@@ -14,7 +15,7 @@ use crate::machine::Machine;
 use crate::machine::cable::Cable;
 use crate::machine::parts::Parts;
 use crate::machine::pin_parts::readings_of;
-use crate::machine::readers::of_wheel;
+use crate::machine::readers::letter_of_wheel;
 use crate::machine::rotor_parts::RotorParts;
 use crate::sheet_day::rotor_entry::SheetWheel;
 use arrayvec::ArrayVec;
@@ -22,7 +23,7 @@ use kd_enigma::Plugs;
 use kd_tables::{Letter, Refusal, Text, Wheel};
 use thiserror::Error;
 
-/// A machine with an empty slot, or with a cable that has one letter.
+/// The machine isn't ready: a slot is empty, or a cable has exactly one letter.
 #[derive(Clone, Copy, Debug, Error)]
 #[error("{}", self.text())]
 pub struct NotReady;
@@ -40,27 +41,29 @@ impl Machine {
     ghost use Rattle.std.specs.Prelude.{IsOk, IfOk};
     ghost use Rattle.kd_state.specs.TwoCiphers.{IsReady};
 
-    /// Whether no slot is empty, and no cable has one letter.
+    /// Whether every slot has a wheel, and no cable has exactly one letter.
     pub fn is_ready(&self) -> bool
         ensures { IsTrue result ↔ IsReady self.now }
     {
         match self.parts() {
             Parts::Rotor(parts) => {
                 let mut slots = parts.slots.as_slice().iter();
-                slots.all(|seated| seated.is_some()) && are_whole(&parts.cables)
+                slots.all(|seated| seated.is_some()) && have_no_single_letter(&parts.cables)
             }
             Parts::Pin(_) => true,
         }
     }
 
-    /// The engine of the machine as it stands. Refused where a slot is empty, or a cable has one letter.
+    /// Creates an engine of the machine as it stands.
+    ///
+    /// Refused if a slot is empty or a cable has exactly one letter.
     pub fn engine(&self) -> Result<Engine, NotReady>
         ensures ready { IsOk result ↔ IsReady self.now }
         ensures key { IfOk result (λ engine. engine ≡ physical_key self.now) }
     {
         match self.parts() {
             Parts::Rotor(parts) => rotor_engine(parts).ok_or(NotReady),
-            Parts::Pin(parts) => Ok(Engine::of_drum(
+            Parts::Pin(parts) => Ok(Engine::from_drum(
                 parts.pins,
                 parts.letters,
                 readings_of(&parts.bars),
@@ -69,7 +72,7 @@ impl Machine {
     }
 }
 
-/// The engine of a rotor machine, if it is ready.
+/// Creates the engine of a rotor machine, if the machine is ready.
 #[tactic(auto, using(crate::proofs::Seating::not_ready))]
 fn rotor_engine(parts: &RotorParts) -> Option<Engine>
     requires { IsLegalRotor parts.now }
@@ -78,10 +81,10 @@ fn rotor_engine(parts: &RotorParts) -> Option<Engine>
 {
     let wheels = seated_wheels(parts)?;
     let plugs = plugs_of(&parts.cables)?;
-    Some(Engine::of_wheels(wheels.as_slice(), parts.reflector, plugs))
+    Some(Engine::from_wheels(wheels.as_slice(), parts.reflector, plugs))
 }
 
-/// The wheels in the slots, if there is one in each.
+/// The wheels in the slots with their rings and letters, if no slot is empty.
 fn seated_wheels(parts: &RotorParts) -> Option<ArrayVec<SheetWheel, 4>>
     requires { IsLegalRotor parts.now }
     ensures { MatchOption result (Contains (map (seated_wheel parts.now) parts.now.slots) None)
@@ -95,15 +98,15 @@ fn seated_wheels(parts: &RotorParts) -> Option<ArrayVec<SheetWheel, 4>>
     Some(wheels)
 }
 
-/// The wheel that is seated, with its ring and its window letter.
+/// The seated wheel with its ring and its window letter.
 fn seated_wheel(parts: &RotorParts, seated: Option<Wheel>) -> Option<SheetWheel>
     requires rings { length parts.now.rings ≡ length (box_of parts.now.model) }
     requires letters { length parts.now.letters ≡ length (box_of parts.now.model) }
     ensures { result ≡ seated_wheel parts.now seated }
 {
     let wheel = seated?;
-    let ring = of_wheel(parts.model, &parts.rings, wheel)?;
-    let letter = of_wheel(parts.model, &parts.letters, wheel)?;
+    let ring = letter_of_wheel(parts.model, &parts.rings, wheel)?;
+    let letter = letter_of_wheel(parts.model, &parts.letters, wheel)?;
     Some(SheetWheel {
         wheel,
         ring,
@@ -111,7 +114,7 @@ fn seated_wheel(parts: &RotorParts, seated: Option<Wheel>) -> Option<SheetWheel>
     })
 }
 
-/// What the cables exchange, if none has one letter.
+/// The exchange of letters that the cables make, if no cable has exactly one letter.
 #[tactic(auto, using(crate::proofs::Cables::no_letter_twice))]
 fn plugs_of(cables: &[Cable; 13]) -> Option<Plugs>
     requires { AreCables cables.now }
@@ -119,14 +122,14 @@ fn plugs_of(cables: &[Cable; 13]) -> Option<Plugs>
     ensures plugs { IfSome result
         (λ plugs. plugs ≡ exchange (filter_map (λ cable. both_ends cable.0 cable.1) cables.now)) }
 {
-    if !are_whole(cables) {
+    if !have_no_single_letter(cables) {
         return None;
     }
     Some(Plugs::from_pairs(plugged_pairs(cables).as_slice()).unwrap())
 }
 
-/// Whether no cable has one letter.
-fn are_whole(cables: &[Cable; 13]) -> bool
+/// Whether no cable has exactly one letter.
+fn have_no_single_letter(cables: &[Cable; 13]) -> bool
     ensures { IsTrue result ↔ All (λ cable. length (cable_letters cable) ≢ 1) cables.now }
 {
     cables
@@ -134,7 +137,7 @@ fn are_whole(cables: &[Cable; 13]) -> bool
         .all(|cable| cable.0.is_some() == cable.1.is_some())
 }
 
-/// The letters of the cables that have two.
+/// The pairs of letters of the cables that have two.
 fn plugged_pairs(cables: &[Cable; 13]) -> ArrayVec<(Letter, Letter), 13>
     ensures { result.items ≡ filter_map (λ cable. both_ends cable.0 cable.1) cables.now }
 {
@@ -145,7 +148,7 @@ fn plugged_pairs(cables: &[Cable; 13]) -> ArrayVec<(Letter, Letter), 13>
     pairs
 }
 
-/// Appends the letters of a cable, if it has two.
+/// Appends the letters of `cable`, if it has two.
 fn push_pair(pairs: &mut ArrayVec<(Letter, Letter), 13>, cable: Cable)
     requires { array_vec_len pairs.old < 13 }
     ensures pairs { pairs.new.items

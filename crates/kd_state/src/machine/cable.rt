@@ -1,4 +1,4 @@
-//! The letters in the cables of the plugboard.
+//! The plugboard's cables, and the letters in them.
 ghost use Rattle.std.specs.Prelude.{◌≡◌, ◌↔◌, IsTrue, map, nat_eq};
 ghost use Rattle.std.specs.List.{IsDistinct};
 ghost use Rattle.std.specs.Option.{option_to_list};
@@ -8,10 +8,10 @@ ghost use Rattle.kd_state.specs.Setting.{has_letter, are_new, cable_without};
 
 use kd_tables::Letter;
 
-/// The letters in a cable: none, one or two.
+/// A cable's letters: none, one or two.
 pub type Cable = (Option<Letter>, Option<Letter>);
 
-/// The letters in their order, a single one first.
+/// The cable with these letters in alphabetical order, a single letter first.
 pub(crate) fn ordered(one: Option<Letter>, other: Option<Letter>) -> Cable
     ensures { result ≡ ordered one other }
 {
@@ -23,7 +23,7 @@ pub(crate) fn ordered(one: Option<Letter>, other: Option<Letter>) -> Cable
     }
 }
 
-/// Puts the letters of each cable in order.
+/// Puts the letters of each cable in alphabetical order, a single letter first.
 pub(crate) fn put_in_order(cables: &mut [Cable])
     ensures { cables.new ≡ map (λ cable. ordered cable.0 cable.1) cables.old }
 {
@@ -33,21 +33,21 @@ pub(crate) fn put_in_order(cables: &mut [Cable])
     }
 }
 
-/// Whether the letter lies in the cable.
+/// Whether `letter` is in `cable`.
 pub fn lies_in(cable: &Cable, letter: Letter) -> bool
     ensures { result ≡ has_letter (cable_letters cable.now) letter }
 {
     is_letter(cable.0, letter) || is_letter(cable.1, letter)
 }
 
-/// Whether the letter is plugged into the cable's end.
+/// Whether `end` has `letter`.
 fn is_letter(end: Option<Letter>, letter: Letter) -> bool
     ensures { result ≡ has_letter (option_to_list end) letter }
 {
     end == Some(letter)
 }
 
-/// Whether the letter lies in one of the cables.
+/// Whether `letter` is in one of the cables.
 pub(crate) fn lies_in_any(cables: &[Cable], letter: Letter) -> bool
     ensures { result ≡ has_letter (plugged_letters cables.now) letter }
 {
@@ -59,7 +59,7 @@ pub(crate) fn lies_in_any(cables: &[Cable], letter: Letter) -> bool
     false
 }
 
-/// The two letters in alphabetical order.
+/// `one` and `other` in alphabetical order.
 pub fn letters_in_order(one: Letter, other: Letter) -> (Letter, Letter)
     ensures { result ≡ in_order one other }
 {
@@ -70,7 +70,7 @@ pub fn letters_in_order(one: Letter, other: Letter) -> (Letter, Letter)
     }
 }
 
-/// The cable without the letter.
+/// `cable` without `letter`.
 pub(crate) fn without(cable: &Cable, letter: Letter) -> Cable
     ensures { result ≡ cable_without letter cable.now }
 {
@@ -81,7 +81,7 @@ pub(crate) fn without(cable: &Cable, letter: Letter) -> Cable
     }
 }
 
-/// Whether no letter lies in two places of the cables.
+/// Whether no letter is in two places of the cables.
 pub(crate) fn are_apart(cables: &[Cable]) -> bool
     ensures { IsTrue result ↔ IsDistinct nat_eq (plugged_letters cables.now) }
 {
@@ -94,7 +94,7 @@ pub(crate) fn are_apart(cables: &[Cable]) -> bool
     true
 }
 
-/// Whether the cable's letters differ, and lie in none of the others.
+/// Whether the letters of `cable` differ, and are in none of `others`.
 pub fn is_new(cable: &Cable, others: &[Cable]) -> bool
     ensures { result ≡ are_new (cable_letters cable.now) (plugged_letters others.now) }
 {

@@ -1,3 +1,4 @@
+//! Comparing a machine with a day: whether it is on the day's key, and whether it reads as the day.
 ghost use Rattle.std.specs.Prelude.{◌≡◌, ◌↔◌, IsTrue, IsPermutation, Some, true, [], ◌∷◌, length, slice_get};
 ghost use Rattle.std.specs.List.{AllByRecursion};
 ghost use Rattle.std.specs.Option.{option_map_or};
@@ -13,7 +14,7 @@ use crate::machine::cable::{Cable, lies_in};
 use crate::machine::parts::Parts;
 use crate::machine::per_wheel::PerWheel;
 use crate::machine::pin_parts::readings_of;
-use crate::machine::readers::of_wheel;
+use crate::machine::readers::letter_of_wheel;
 use crate::machine::rotor_parts::RotorParts;
 use crate::sheet_day::SheetDay;
 use crate::sheet_day::entry::Entry;
@@ -23,27 +24,28 @@ use kd_tables::{Letter, Model, Reading};
 impl Machine {
     ghost use Rattle.kd_state.specs.OnKey.{OnKey, ReadsAs, ShowsWindow};
 
-    /// Whether the machine is set as the day says, whatever letters show.
+    /// Whether the machine is set as `day` says, whichever letters it shows.
     pub fn on_key(&self, day: &SheetDay) -> bool
         ensures { IsTrue result ↔ OnKey self.now day.now }
     {
         match (self.parts(), day.entry()) {
             (Parts::Rotor(parts), Entry::Rotor(entry)) => is_rotor_on_key(parts, entry),
             (Parts::Pin(parts), Entry::Pin(entry)) => {
-                parts.pins.same(&entry.pins) && are_the_same(readings_of(&parts.bars), entry.rows)
+                parts.pins.same(&entry.pins)
+                    && are_same_readings(readings_of(&parts.bars), entry.rows)
             }
             _ => false,
         }
     }
 
-    /// Whether the machine is set as the day says, and shows the day's letters.
+    /// Whether the machine is set as `day` says and shows the day's letters.
     pub fn reads_as(&self, day: &SheetDay) -> bool
         ensures { IsTrue result ↔ ReadsAs self.now day.now }
     {
         self.on_key(day) && self.shows_window(day)
     }
 
-    /// Whether the letters that show are the day's.
+    /// Whether the machine shows the day's letters.
     fn shows_window(&self, day: &SheetDay) -> bool
         ensures { IsTrue result ↔ ShowsWindow self.now day.now }
     {
@@ -57,7 +59,7 @@ impl Machine {
     }
 }
 
-/// Whether each slot has the day's wheel with the day's ring, and reflector and cables are the day's.
+/// Whether wheels, rings, reflector and cables are the day's.
 fn is_rotor_on_key(parts: &RotorParts, entry: &RotorEntry) -> bool
     requires { IsLegalRotor parts.now }
     ensures { IsTrue result ↔ IsRotorOnKey parts.now (rotor_values entry.now) }
@@ -75,7 +77,7 @@ fn is_rotor_on_key(parts: &RotorParts, entry: &RotorEntry) -> bool
     are_the_pairs(&parts.cables, entry.pairs.as_slice())
 }
 
-/// Whether each wheel has its ring among these, wherever it lies.
+/// Whether each of the day's wheels has its ring in `rings`, in a slot or in the box.
 fn have_rings(model: Model, rings: &PerWheel<Letter>, wheels: &[SheetWheel]) -> bool
     requires { length rings.now ≡ length (box_of model) }
     ensures { IsTrue result
@@ -84,13 +86,13 @@ fn have_rings(model: Model, rings: &PerWheel<Letter>, wheels: &[SheetWheel]) -> 
     match wheels {
         [] => true,
         [first, rest @ ..] => {
-            of_wheel(model, rings, first.wheel) == Some(first.ring)
+            letter_of_wheel(model, rings, first.wheel) == Some(first.ring)
                 && have_rings(model, rings, rest)
         }
     }
 }
 
-/// Whether each wheel shows its letter among these, wherever it lies.
+/// Whether each of the day's wheels has its letter in `letters`, in a slot or in the box.
 fn show_letters(model: Model, letters: &PerWheel<Letter>, wheels: &[SheetWheel]) -> bool
     requires { length letters.now ≡ length (box_of model) }
     ensures { IsTrue result
@@ -99,14 +101,14 @@ fn show_letters(model: Model, letters: &PerWheel<Letter>, wheels: &[SheetWheel])
     match wheels {
         [] => true,
         [first, rest @ ..] => {
-            of_wheel(model, letters, first.wheel) == Some(first.letter)
+            letter_of_wheel(model, letters, first.wheel) == Some(first.letter)
                 && show_letters(model, letters, rest)
         }
     }
 }
 
-/// Whether these are the same readings, each as often, whatever their order.
-fn are_the_same(readings: [Reading; 27], rows: [Reading; 27]) -> bool
+/// Whether `readings` are `rows` in any order, each as often.
+fn are_same_readings(readings: [Reading; 27], rows: [Reading; 27]) -> bool
     ensures { IsTrue result ↔ IsPermutation readings rows }
 {
     let (mut readings, mut rows) = (readings, rows);
@@ -115,14 +117,14 @@ fn are_the_same(readings: [Reading; 27], rows: [Reading; 27]) -> bool
     readings == rows
 }
 
-/// Whether the cables that aren't empty are the pairs, whatever their order and that of the letters of a pair.
+/// Whether the cables that aren't empty are exactly `pairs`. No order matters.
 fn are_the_pairs(cables: &[Cable], pairs: &[(Letter, Letter)]) -> bool
     ensures { IsTrue result ↔ AreThePairs cables.now pairs.now }
 {
     are_paired(cables, pairs) && are_joined(pairs, cables)
 }
 
-/// Whether each cable is empty or joins one of the pairs.
+/// Whether each cable is empty or joins one of `pairs`.
 fn are_paired(cables: &[Cable], pairs: &[(Letter, Letter)]) -> bool
     ensures { IsTrue result ↔ AllByRecursion (IsPaired pairs.now) cables.now }
 {
@@ -132,7 +134,7 @@ fn are_paired(cables: &[Cable], pairs: &[(Letter, Letter)]) -> bool
     }
 }
 
-/// Whether each pair is joined by one of the cables.
+/// Whether one of `cables` joins each pair.
 fn are_joined(pairs: &[(Letter, Letter)], cables: &[Cable]) -> bool
     ensures { IsTrue result ↔ AllByRecursion (IsJoined cables.now) pairs.now }
 {
@@ -142,33 +144,33 @@ fn are_joined(pairs: &[(Letter, Letter)], cables: &[Cable]) -> bool
     }
 }
 
-/// Whether the cable is empty, or joins one of the pairs.
+/// Whether `cable` is empty or joins one of `pairs`.
 fn is_paired(cable: Cable, pairs: &[(Letter, Letter)]) -> bool
     ensures { IsTrue result ↔ IsPaired pairs.now cable }
 {
     cable == (None, None) || pairs.iter().any(|pair| joins(cable, *pair))
 }
 
-/// Whether one of the cables joins the pair.
+/// Whether one of `cables` joins `pair`.
 fn is_joined(cables: &[Cable], pair: (Letter, Letter)) -> bool
     ensures { IsTrue result ↔ IsJoined cables.now pair }
 {
     cables.iter().any(|cable| joins(*cable, pair))
 }
 
-/// Whether the cable's letters are those of the pair, in whichever order: each lies in the other.
+/// Whether the letters of `cable` are those of `pair`, in either order.
 #[tactic(auto, using(crate::proofs::Cables::joined_by_tests, crate::proofs::Cables::tests_of_joined))]
 fn joins(cable: Cable, pair: (Letter, Letter)) -> bool
     ensures { IsTrue result ↔ Joins cable pair }
 {
     lies_in(&cable, pair.0)
         && lies_in(&cable, pair.1)
-        && is_one_of(cable.0, &pair)
-        && is_one_of(cable.1, &pair)
+        && is_loose_or_of(cable.0, &pair)
+        && is_loose_or_of(cable.1, &pair)
 }
 
-/// Whether the end is loose, or its letter is one of the pair.
-fn is_one_of(end: Option<Letter>, pair: &(Letter, Letter)) -> bool
+/// Whether `end` is loose, or has a letter of `pair`.
+fn is_loose_or_of(end: Option<Letter>, pair: &(Letter, Letter)) -> bool
     ensures { result ≡ option_map_or (has_letter (pair.now.0 ∷ pair.now.1 ∷ [])) end true }
 {
     match end {

@@ -1,3 +1,4 @@
+//! The parts of a machine of any model.
 ghost use Rattle.kd_state.specs.Machine.{IsLegal};
 ghost use Rattle.kd_state.specs.Setting.{Answers};
 
@@ -16,7 +17,7 @@ pub enum Parts {
 }
 
 impl Parts {
-    /// Carries a setting out.
+    /// Carries `setting` out, or refuses it for the first reason that holds.
     pub(crate) fn carry(&mut self, setting: Setting) -> Result<(), Why>
         requires { IsLegal self.old }
         ensures { Answers self.old setting self.new result }

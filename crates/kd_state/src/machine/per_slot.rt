@@ -1,12 +1,13 @@
+//! A value for each slot of a rotor machine.
 ghost use Rattle.std.specs.Prelude.{◌≡◌, ◌⊎◌, ◌↔◌, ◌<◌, length, map, slice_set, IsSome, IfSome};
 ghost use Rattle.kd_state.specs.Setting.{without};
 
-use crate::counted::put;
+use crate::counted::set_at;
 use crate::sheet_day::rotor_entry::SheetWheel;
 use kd_tables::Wheel;
 use std::marker::Model;
 
-/// A value for each slot of a rotor machine, from the left: three or four.
+/// Three or four values: one for each slot of a rotor machine, from the left.
 #[derive(Clone, Copy)]
 pub struct PerSlot<T> {
     values: Slots<T>,
@@ -33,7 +34,7 @@ impl<T> Model for PerSlot<T> {
 }
 
 impl<T: Copy> PerSlot<T> {
-    /// These values, if there are three or four.
+    /// `values`, if there are three or four.
     pub fn new(values: &[T]) -> Option<Self>
         ensures exists { IsSome result ↔ ((length values.now ≡ 3) ⊎ (length values.now ≡ 4)) }
         ensures value { IfSome result (λ slots. slots ≡ values.now) }
@@ -56,20 +57,20 @@ impl<T: Copy> PerSlot<T> {
         }
     }
 
-    /// Puts a value in its place, counted from the left from 0.
+    /// Sets the value of `place`, counted from the left from 0.
     pub fn set(&mut self, place: usize, value: T)
         requires { place < length self.old }
         ensures { self.new ≡ slice_set self.old place value }
     {
         match &mut self.values {
-            Slots::Three(values) => put(values, place, value),
-            Slots::Four(values) => put(values, place, value),
+            Slots::Three(values) => set_at(values, place, value),
+            Slots::Four(values) => set_at(values, place, value),
         }
     }
 }
 
 impl PerSlot<Option<Wheel>> {
-    /// Takes the wheel out of the slot in which it stands, if it is there.
+    /// Takes `wheel` out of its slot, if it is in one.
     pub(crate) fn take_out(&mut self, wheel: Wheel)
         ensures { self.new ≡ map (without wheel) self.old }
     {
@@ -77,18 +78,18 @@ impl PerSlot<Option<Wheel>> {
             Slots::Three(slots) => {
                 let [left, middle, right] = *slots;
                 *slots = [
-                    left_in(left, wheel),
-                    left_in(middle, wheel),
-                    left_in(right, wheel),
+                    without_wheel(left, wheel),
+                    without_wheel(middle, wheel),
+                    without_wheel(right, wheel),
                 ];
             }
             Slots::Four(slots) => {
                 let [first, left, middle, right] = *slots;
                 *slots = [
-                    left_in(first, wheel),
-                    left_in(left, wheel),
-                    left_in(middle, wheel),
-                    left_in(right, wheel),
+                    without_wheel(first, wheel),
+                    without_wheel(left, wheel),
+                    without_wheel(middle, wheel),
+                    without_wheel(right, wheel),
                 ];
             }
         }
@@ -98,7 +99,7 @@ impl PerSlot<Option<Wheel>> {
 impl PerSlot<SheetWheel> {
     ghost use Rattle.kd_state.specs.SheetDay.{seats};
 
-    /// The seats that the wheels take.
+    /// The wheels alone, each in its slot.
     pub(crate) fn seats(&self) -> PerSlot<Option<Wheel>>
         ensures { result ≡ seats self.now }
     {
@@ -119,8 +120,8 @@ impl PerSlot<SheetWheel> {
     }
 }
 
-/// What is left in a slot once the wheel has been taken out, if it was there.
-fn left_in(seated: Option<Wheel>, wheel: Wheel) -> Option<Wheel>
+/// What stays in a slot once `wheel` has been taken out, if it was there.
+fn without_wheel(seated: Option<Wheel>, wheel: Wheel) -> Option<Wheel>
     ensures { result ≡ without wheel seated }
 {
     if seated == Some(wheel) { None } else { seated }

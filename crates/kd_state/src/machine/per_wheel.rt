@@ -1,9 +1,10 @@
+//! A value for each wheel of a rotor machine's box.
 ghost use Rattle.std.specs.Prelude.{◌≡◌, ◌⊎◌, ◌↔◌, ◌<◌, length, slice_set, IsSome, IfSome};
 
-use crate::counted::put;
+use crate::counted::set_at;
 use std::marker::Model;
 
-/// A value for each wheel of a rotor machine's box, in box order: five, eight or ten.
+/// Five, eight or ten values: one for each wheel of a rotor machine's box, in box order.
 #[derive(Clone, Copy)]
 pub struct PerWheel<T> {
     values: Wheels<T>,
@@ -31,7 +32,7 @@ impl<T> Model for PerWheel<T> {
 }
 
 impl<T: Copy> PerWheel<T> {
-    /// These values, if there are five, eight or ten.
+    /// `values`, if there are five, eight or ten.
     pub fn new(values: &[T]) -> Option<Self>
         ensures exists { IsSome result
             ↔ ((length values.now ≡ 5) ⊎ (length values.now ≡ 8) ⊎ (length values.now ≡ 10)) }
@@ -58,15 +59,15 @@ impl<T: Copy> PerWheel<T> {
         }
     }
 
-    /// Puts a value in its place, counted from 0.
+    /// Sets the value of `place` in box order, counted from 0.
     pub fn set(&mut self, place: usize, value: T)
         requires { place < length self.old }
         ensures { self.new ≡ slice_set self.old place value }
     {
         match &mut self.values {
-            Wheels::Five(values) => put(values, place, value),
-            Wheels::Eight(values) => put(values, place, value),
-            Wheels::Ten(values) => put(values, place, value),
+            Wheels::Five(values) => set_at(values, place, value),
+            Wheels::Eight(values) => set_at(values, place, value),
+            Wheels::Ten(values) => set_at(values, place, value),
         }
     }
 }

@@ -1,8 +1,9 @@
+//! The parts of a Converter M-209.
 ghost use Rattle.std.specs.Prelude.{◌≡◌, ◌↔◌, IsTrue, map};
 ghost use Rattle.kd_tables.specs.Places.{reading_of};
 ghost use Rattle.kd_state.specs.Machine.{IsLegalPin, AreOnWheels};
 
-use crate::facts::{are_all_pins, are_standings};
+use crate::facts::{learn_pins, learn_standings};
 use crate::machine::pin_rings::is_on_wheel;
 use kd_pins::PinSet;
 use kd_tables::{Letter, Reading, Standing};
@@ -14,17 +15,17 @@ pub struct PinParts {
     pub pins: PinSet,
     /// The letter that each wheel shows, from wheel 1 to wheel 6.
     pub letters: [Letter; 6],
-    /// Where the lugs of the bars 1 to 27 stand.
+    /// Where the lugs of each bar stand, from bar 1 to bar 27.
     pub bars: [Standing; 27],
 }
 
 impl PinParts {
-    /// Whether the parts make a machine: each letter is on its wheel.
+    /// Whether these are a machine's parts: each letter is on its wheel.
     pub(crate) fn is_legal(&self) -> bool
         ensures { IsTrue result ↔ IsLegalPin self.now }
     {
-        are_all_pins(self.pins);
-        are_standings(&self.bars);
+        learn_pins(self.pins);
+        learn_standings(&self.bars);
         are_on_wheels(&self.letters)
     }
 }
@@ -42,7 +43,7 @@ pub(crate) fn are_on_wheels(letters: &[Letter; 6]) -> bool
     true
 }
 
-/// What the bars read as.
+/// The reading of each bar.
 pub(crate) fn readings_of(bars: &[Standing; 27]) -> [Reading; 27]
     ensures { result ≡ map (λ bar. reading_of bar.0 bar.1) bars.now }
 {

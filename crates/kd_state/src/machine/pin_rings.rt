@@ -1,4 +1,4 @@
-//! The letters and the pins of the Converter's six wheels, by the wheels' numbers.
+//! The letters and pins of the Converter's six wheels, by wheel number.
 ghost use Rattle.std.specs.Prelude.{◌≡◌, ◌↔◌, ◌≤◌, slice_set, unwrap_or, Contains, IsSome, IsTrue};
 ghost use Rattle.kd_tables.specs.Rings.{ring_of, place_on};
 ghost use Rattle.kd_state.specs.Pins.{pin_at, wheel_pins, with_pin};
@@ -7,7 +7,7 @@ ghost use Rattle.kd_state.specs.Setting.{has_letter};
 use kd_pins::PinSet;
 use kd_tables::{Letter, Ring, place_on_wheel, ring1, ring2, ring3, ring4, ring5, ring6};
 
-/// Whether the letter is on the wheel of that number.
+/// Whether `letter` is on pin wheel `wheel`, counted from 1.
 #[tactic(auto, using(crate::proofs::Slots::on_wheels))]
 pub(crate) fn is_on_wheel(wheel: u8, letter: Letter) -> bool
     ensures value { result ≡ has_letter (ring_of wheel) letter }
@@ -17,7 +17,7 @@ pub(crate) fn is_on_wheel(wheel: u8, letter: Letter) -> bool
     place_on_wheel(wheel, letter).is_some()
 }
 
-/// Whether the pin at the letter is effective on the wheel of that number, if the wheel has the letter.
+/// Whether the pin at `letter` of pin wheel `wheel` is effective. `None` if the wheel lacks the letter.
 pub(crate) fn pin_at(pins: &PinSet, wheel: u8, letter: Letter) -> Option<bool>
     ensures { result ≡ pin_at pins.now wheel letter }
 {
@@ -25,7 +25,7 @@ pub(crate) fn pin_at(pins: &PinSet, wheel: u8, letter: Letter) -> Option<bool>
     pins_on(pins, wheel).get(place).copied()
 }
 
-/// The pins of the wheel of that number, and no pin where there is no such wheel.
+/// The pins of pin wheel `wheel`, counted from 1. Empty if there is no such wheel.
 fn pins_on(pins: &PinSet, wheel: u8) -> &[bool]
     ensures { result.now ≡ wheel_pins pins.now wheel }
 {
@@ -40,7 +40,7 @@ fn pins_on(pins: &PinSet, wheel: u8) -> &[bool]
     }
 }
 
-/// Makes the pin at the letter effective or not on the wheel of that number, which has the letter.
+/// Makes the pin at `letter` of pin wheel `wheel` effective or not. The wheel has to have the letter.
 pub(crate) fn set_pin(pins: &mut PinSet, wheel: u8, letter: Letter, effective: bool)
     requires wheel { (1 ≤ wheel) × (wheel ≤ 6) }
     requires there { IsSome (place_on (ring_of wheel) letter) }
@@ -57,7 +57,7 @@ pub(crate) fn set_pin(pins: &mut PinSet, wheel: u8, letter: Letter, effective: b
     }
 }
 
-/// Makes a wheel's pin at the letter effective or not.
+/// Makes the pin at `letter` effective or not, on the wheel with the letters `ring`.
 fn set_pin_on<const N: usize>(ring: &Ring<N>, pins: &mut [bool; N], letter: Letter, effective: bool)
     requires { IsSome (place_on ring.now letter) }
     ensures { pins.new ≡ slice_set pins.old (unwrap_or (place_on ring.now letter) 0) effective }

@@ -1,7 +1,9 @@
+//! Reading a machine: its slots, rings, letters, cables, pins and lugs.
 ghost use Rattle.std.specs.Prelude.{◌≡◌, length, slice_get};
 ghost use Rattle.kd_tables.specs.Tables.{box_of};
 ghost use Rattle.kd_state.specs.ToldApart.{place_in_box};
-ghost use Rattle.kd_state.specs.Machine.{model_of, slot_in, reflector_in, ring_in, letter_in, cable_in, pin_in, shown_in, standing_in};
+ghost use Rattle.kd_state.specs.Machine.{model_of, slot_in, reflector_in, ring_in, letter_in, cable_in, pin_in};
+ghost use Rattle.kd_state.specs.Machine.{shown_in, standing_in};
 
 use super::Machine;
 use crate::counted::numbered;
@@ -23,7 +25,7 @@ impl Machine {
         }
     }
 
-    /// What is seated in a slot, counted from the left from 1: a wheel, or nothing.
+    /// What is in slot `slot`, counted from the left from 1: a wheel or nothing. `None` without that slot.
     pub fn slot(&self, slot: u8) -> Option<Option<Wheel>>
         ensures { result ≡ slot_in self.now slot }
     {
@@ -33,7 +35,7 @@ impl Machine {
         }
     }
 
-    /// The reflector.
+    /// The reflector. `None` on the Converter M-209.
     pub fn reflector(&self) -> Option<Reflector>
         ensures { result ≡ reflector_in self.now }
     {
@@ -43,27 +45,27 @@ impl Machine {
         }
     }
 
-    /// The ring of a wheel of the box, seated or not: 01 is A.
+    /// The ring of a wheel of the box, in a slot or not. 01 is A.
     pub fn ring(&self, wheel: Wheel) -> Option<Letter>
         ensures { result ≡ ring_in self.now wheel }
     {
         match &self.parts {
-            Parts::Rotor(parts) => of_wheel(parts.model, &parts.rings, wheel),
+            Parts::Rotor(parts) => letter_of_wheel(parts.model, &parts.rings, wheel),
             Parts::Pin(_) => None,
         }
     }
 
-    /// The window letter of a wheel of the box, seated or not.
+    /// The window letter of a wheel of the box, in a slot or not.
     pub fn letter(&self, wheel: Wheel) -> Option<Letter>
         ensures { result ≡ letter_in self.now wheel }
     {
         match &self.parts {
-            Parts::Rotor(parts) => of_wheel(parts.model, &parts.letters, wheel),
+            Parts::Rotor(parts) => letter_of_wheel(parts.model, &parts.letters, wheel),
             Parts::Pin(_) => None,
         }
     }
 
-    /// The letters in a cable, counted from 1: in alphabetical order, a single letter first.
+    /// The letters in cable `cable`, counted from 1: in alphabetical order, a single letter first.
     pub fn cable(&self, cable: u8) -> Option<Cable>
         ensures { result ≡ cable_in self.now cable }
     {
@@ -73,7 +75,7 @@ impl Machine {
         }
     }
 
-    /// Whether the pin at a letter of the pin wheel of that number, counted from 1, is effective.
+    /// Whether the pin at `letter` of pin wheel `wheel`, counted from 1, is effective.
     pub fn pin_at(&self, wheel: u8, letter: Letter) -> Option<bool>
         ensures { result ≡ pin_in self.now wheel letter }
     {
@@ -83,7 +85,7 @@ impl Machine {
         }
     }
 
-    /// The letter that the pin wheel of that number, counted from 1, shows.
+    /// The letter that pin wheel `wheel`, counted from 1, shows.
     pub fn shown(&self, wheel: u8) -> Option<Letter>
         ensures { result ≡ shown_in self.now wheel }
     {
@@ -93,7 +95,7 @@ impl Machine {
         }
     }
 
-    /// Where the lugs of a bar, counted from 1, stand.
+    /// Where the lugs of bar `bar`, counted from 1, stand.
     pub fn standing(&self, bar: u8) -> Option<Standing>
         ensures { result ≡ standing_in self.now bar }
     {
@@ -104,9 +106,13 @@ impl Machine {
     }
 }
 
-/// The letter that stands for a wheel of the box.
+/// The letter of `wheel` in `letters`, which are in box order. `None` if the box lacks the wheel.
 #[tactic(auto, using(crate::proofs::Wheels::place_nowhere, crate::proofs::Prelude::slice_get_past))]
-pub(crate) fn of_wheel(model: Model, letters: &PerWheel<Letter>, wheel: Wheel) -> Option<Letter>
+pub(crate) fn letter_of_wheel(
+    model: Model,
+    letters: &PerWheel<Letter>,
+    wheel: Wheel,
+) -> Option<Letter>
     requires { length letters.now ≡ length (box_of model) }
     ensures { result ≡ slice_get letters.now (place_in_box model wheel) }
 {

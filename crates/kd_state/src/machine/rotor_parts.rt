@@ -1,8 +1,9 @@
+//! The parts of a rotor machine.
 ghost use Rattle.std.specs.Prelude.{◌≡◌, ◌↔◌, IsTrue, length};
 ghost use Rattle.kd_tables.specs.Tables.{box_of};
 ghost use Rattle.kd_state.specs.Machine.{IsLegalRotor, AreLetters, cables_ordered};
 
-use crate::facts::{are_letters, are_plugged_letters};
+use crate::facts::{learn_cable_letters, learn_letters};
 use crate::machine::cable::{self, Cable};
 use crate::machine::parts::Parts;
 use crate::machine::per_slot::PerSlot;
@@ -14,31 +15,31 @@ use kd_tables::{Letter, Model, Reflector, Wheel, allowed_reflector};
 #[derive(Clone, Copy)]
 pub struct RotorParts {
     pub model: Model,
-    /// A wheel or nothing for each slot, from the left.
+    /// The wheel in each slot, or nothing, from the left.
     pub slots: PerSlot<Option<Wheel>>,
     pub reflector: Reflector,
-    /// A ring for each wheel of the box, seated or not, in box order: 01 is A.
+    /// The ring of each wheel of the box, in a slot or not, in box order. 01 is A.
     pub rings: PerWheel<Letter>,
-    /// A window letter for each wheel of the box, seated or not, in box order.
+    /// The window letter of each wheel of the box, in a slot or not, in box order.
     pub letters: PerWheel<Letter>,
-    /// The letters in the cables 1 to 13.
+    /// The letters in each cable, from cable 1 to cable 13.
     pub cables: [Cable; 13],
 }
 
 impl RotorParts {
-    /// Whether the parts make a machine.
+    /// Whether these are a machine's parts.
     pub(crate) fn is_legal(&self) -> bool
         ensures { IsTrue result ↔ IsLegalRotor self.now }
     {
-        are_plugged_letters(&self.cables);
+        learn_cable_letters(&self.cables);
         seats::are_legal(self.model, &self.slots)
             && allowed_reflector(self.model, self.reflector)
-            && are_for_the_box(self.model, &self.rings)
-            && are_for_the_box(self.model, &self.letters)
+            && fill_box(self.model, &self.rings)
+            && fill_box(self.model, &self.letters)
             && cable::are_apart(&self.cables)
     }
 
-    /// The same parts, with the letters of each cable in order.
+    /// These parts, with the letters of each cable in order.
     pub(crate) fn in_order(&self) -> RotorParts
         ensures { Parts.Rotor result ≡ cables_ordered (Parts.Rotor self.now) }
     {
@@ -48,11 +49,11 @@ impl RotorParts {
     }
 }
 
-/// Whether there is a letter for each wheel of the model's box.
-fn are_for_the_box(model: Model, letters: &PerWheel<Letter>) -> bool
+/// Whether `letters` has a letter for each wheel of the model's box.
+fn fill_box(model: Model, letters: &PerWheel<Letter>) -> bool
     ensures { IsTrue result ↔ AreLetters (length (box_of model)) letters.now }
 {
     let letters = letters.as_slice();
-    are_letters(letters);
+    learn_letters(letters);
     letters.len() == model.wheels().len()
 }

@@ -1,4 +1,4 @@
-//! The wheels in the slots.
+//! Which wheels may stand in which slots.
 ghost use Rattle.std.specs.Prelude.{◌≡◌, ◌↔◌, ℕ, ◌≤◌, IsTrue, IfSome, Some, Contains, length};
 ghost use Rattle.std.specs.Option.{SomeIff};
 ghost use Rattle.kd_tables.specs.Tables.{box_of, slots_of, IsAllowed};
@@ -8,7 +8,7 @@ ghost use Rattle.kd_state.specs.Machine.{AreAllowed, AreApart, StandsAt};
 use crate::machine::per_slot::PerSlot;
 use kd_tables::{Model, Wheel, allowed};
 
-/// The place of a wheel in the model's box, counted from 0.
+/// The place of `wheel` in the model's box, counted from 0.
 pub(crate) fn place_in_box(model: Model, wheel: Wheel) -> Option<usize>
     ensures { SomeIff result (Contains (box_of model) wheel) (place_in_box model wheel) }
 {
@@ -20,7 +20,7 @@ pub(crate) fn place_in_box(model: Model, wheel: Wheel) -> Option<usize>
     None
 }
 
-/// Whether there are as many slots as the model has, each wheel may stand in its slot, and none stands in two.
+/// Whether `slots` are the model's, each wheel is allowed in its slot, and no wheel is in two.
 pub(crate) fn are_legal(model: Model, slots: &PerSlot<Option<Wheel>>) -> bool
     ensures { IsTrue result ↔ (length slots.now ≡ slots_of model) × AreAllowed model slots.now
         × AreApart slots.now }
@@ -29,7 +29,7 @@ pub(crate) fn are_legal(model: Model, slots: &PerSlot<Option<Wheel>>) -> bool
     slots.len() == usize::from(model.slots()) && are_allowed(model, slots) && are_apart(slots)
 }
 
-/// Whether each wheel may stand in its slot.
+/// Whether each wheel is allowed in its slot.
 #[tactic(auto, using(crate::proofs::Prelude::gets, crate::proofs::Prelude::slice_get_within))]
 fn are_allowed(model: Model, slots: &[Option<Wheel>]) -> bool
     requires { length slots.now ≤ 4 }
@@ -43,7 +43,7 @@ fn are_allowed(model: Model, slots: &[Option<Wheel>]) -> bool
     true
 }
 
-/// Whether the wheel that is seated in the slot, if any, may stand there.
+/// Whether `seated` is allowed in slot `slot`, counted from the left from 1. An empty slot always is.
 fn may_stand(model: Model, slot: u8, seated: Option<Wheel>) -> bool
     ensures { IsTrue result ↔ IfSome seated (IsAllowed model slot) }
 {
@@ -53,7 +53,7 @@ fn may_stand(model: Model, slot: u8, seated: Option<Wheel>) -> bool
     }
 }
 
-/// Whether no wheel stands in two slots.
+/// Whether no wheel is in two slots.
 fn are_apart(slots: &[Option<Wheel>]) -> bool
     ensures { IsTrue result ↔ AreApart slots.now }
 {
@@ -65,7 +65,7 @@ fn are_apart(slots: &[Option<Wheel>]) -> bool
     true
 }
 
-/// Whether the wheel that is seated at a place, if any, stands at no other one.
+/// Whether the wheel `seated` at `place`, if any, is in no other slot.
 fn is_alone(slots: &[Option<Wheel>], place: usize, seated: Option<Wheel>) -> bool
     ensures { IsTrue result ↔ IfSome seated
         (λ wheel. (other : ℕ) → StandsAt slots.now other wheel → other ≡ place) }

@@ -1,11 +1,11 @@
-//! The text of a setting: its line on a card or in a list.
+//! The text of a setting, as in a card or in a list.
 ghost use Rattle.std.specs.Prelude.{◌≡◌, ◌≢◌, ◌<◌, ◌≤◌, [], ◌∷◌, ◌++◌, length, map, decimal, IfSome, MatchOption};
 ghost use Rattle.arrayvec.specs.ArrayString.{array_string_len};
 ghost use Rattle.kd_state.specs.declared.setting.Setting.TheVariants.{SeatReflector, RingTo, LugTo};
 ghost use Rattle.kd_state.specs.Words.{letter_text};
 ghost use Rattle.kd_state.specs.Line.{setting_line, pin_text, IsInRange, IsReadOff};
 
-use crate::facts::is_in_range;
+use crate::facts::learn_setting_range;
 use crate::setting::Setting;
 use crate::words::{
     is_word, letter_of_text, number_of_text, push_letter, push_number, split_words,
@@ -14,18 +14,18 @@ use arrayvec::ArrayString;
 use kd_tables::{Letter, Lug, Place, Reflector, Wheel};
 
 impl Setting {
-    /// The setting's line, without the LF at its end. Its numbers are bytes, and its letter is one of the alphabet.
+    /// The setting's line, without LF.
     pub fn line(&self) -> ArrayString<24>
         ensures value { result.bytes ≡ setting_line self.now }
         ensures short { array_string_len result < 24 }
         ensures in_range { IsInRange self.now }
     {
-        is_in_range(self);
+        learn_setting_range(self);
         match *self {
-            Setting::Pull { cable, letter } => with_letter("PULL", cable, letter),
-            Setting::Put { cable, letter } => with_letter("PUT", cable, letter),
+            Setting::Pull { cable, letter } => letter_line("PULL", cable, letter),
+            Setting::Put { cable, letter } => letter_line("PUT", cable, letter),
             Setting::Seat { slot, wheel } => {
-                let mut line = with_number("SEAT", slot);
+                let mut line = line_prefix("SEAT", slot);
                 line.push_str(wheel.text().as_str());
                 line
             }
@@ -36,18 +36,18 @@ impl Setting {
                 line
             }
             Setting::RingTo { wheel, letter } => ring_line(wheel, letter),
-            Setting::Turn { slot, letter } => with_letter("TURN", slot, letter),
+            Setting::Turn { slot, letter } => letter_line("TURN", slot, letter),
             Setting::PinTo {
                 wheel,
                 letter,
                 effective,
             } => {
-                let mut line = with_letter("PIN", wheel, letter);
+                let mut line = letter_line("PIN", wheel, letter);
                 line.push_str(if effective { " ON" } else { " OFF" });
                 line
             }
             Setting::LugTo { bar, lug, place } => {
-                let mut line = with_number("LUG", bar);
+                let mut line = line_prefix("LUG", bar);
                 line.push_str(lug.text().as_str());
                 line.push_str(" ");
                 line.push_str(place.text().as_str());
@@ -56,7 +56,7 @@ impl Setting {
         }
     }
 
-    /// The setting whose line this is, without the LF at its end.
+    /// Reads a line without LF as a setting.
     #[tactic(auto, using(crate::proofs::Lines::too_many_words, crate::proofs::Lines::read_by_words))]
     pub fn from_line(text: &[u8]) -> Option<Self>
         ensures value { MatchOption result
@@ -65,12 +65,12 @@ impl Setting {
         ensures in_range { IfSome result IsInRange }
     {
         let words = split_words::<4>(text)?;
-        of_words(words.as_slice())
+        setting_of_words(words.as_slice())
     }
 }
 
-/// The front of a line: its first word and a number, with a space behind each.
-fn with_number(word: &str, number: u8) -> ArrayString<24>
+/// The prefix of a line: `word` and `number`, each with a space after it.
+fn line_prefix(word: &str, number: u8) -> ArrayString<24>
     requires { length word.now ≤ 4 }
     ensures bytes { result.bytes ≡ word.now ++ 32 ∷ decimal number ++ 32 ∷ [] }
     ensures short { array_string_len result ≤ 9 }
@@ -83,18 +83,18 @@ fn with_number(word: &str, number: u8) -> ArrayString<24>
     line
 }
 
-/// A line's first word, a number and a letter.
-fn with_letter(word: &str, number: u8, letter: Letter) -> ArrayString<24>
+/// A whole line: `word`, `number` and `letter`.
+fn letter_line(word: &str, number: u8, letter: Letter) -> ArrayString<24>
     requires { length word.now ≤ 4 }
     ensures bytes { result.bytes ≡ word.now ++ 32 ∷ decimal number ++ 32 ∷ letter_text letter }
     ensures short { array_string_len result ≤ 10 }
 {
-    let mut line = with_number(word, number);
+    let mut line = line_prefix(word, number);
     push_letter(&mut line, letter);
     line
 }
 
-/// The line that sets a wheel's ring.
+/// The line of a ring setting.
 fn ring_line(wheel: Wheel, letter: Letter) -> ArrayString<24>
     ensures value { result.bytes ≡ setting_line (RingTo wheel letter) }
     ensures short { array_string_len result < 24 }
@@ -107,20 +107,20 @@ fn ring_line(wheel: Wheel, letter: Letter) -> ArrayString<24>
     line
 }
 
-/// The setting whose line has these words.
-fn of_words(words: &[&[u8]]) -> Option<Setting>
+/// Reads the words of a line as a setting.
+fn setting_of_words(words: &[&[u8]]) -> Option<Setting>
     ensures { IsReadOff (map (λ word. word.now) words.now) result }
 {
     match words {
-        [keyword, value] => with_one_value(keyword, value),
-        [keyword, first, second] => with_two_values(keyword, first, second),
-        [keyword, first, second, third] => with_three_values(keyword, first, second, third),
+        [keyword, value] => setting_of_two_words(keyword, value),
+        [keyword, first, second] => setting_of_three_words(keyword, first, second),
+        [keyword, first, second, third] => setting_of_four_words(keyword, first, second, third),
         _ => None,
     }
 }
 
-/// The setting whose line has these two words.
-fn with_one_value(keyword: &[u8], value: &[u8]) -> Option<Setting>
+/// Reads a line of two words as a setting.
+fn setting_of_two_words(keyword: &[u8], value: &[u8]) -> Option<Setting>
     ensures { IsReadOff (keyword.now ∷ value.now ∷ []) result }
 {
     if !is_word(keyword, "REFLECTOR") {
@@ -131,8 +131,8 @@ fn with_one_value(keyword: &[u8], value: &[u8]) -> Option<Setting>
     })
 }
 
-/// The setting whose line has these three words.
-fn with_two_values(keyword: &[u8], first: &[u8], second: &[u8]) -> Option<Setting>
+/// Reads a line of three words as a setting.
+fn setting_of_three_words(keyword: &[u8], first: &[u8], second: &[u8]) -> Option<Setting>
     ensures { IsReadOff (keyword.now ∷ first.now ∷ second.now ∷ []) result }
 {
     if is_word(keyword, "RING") {
@@ -169,8 +169,13 @@ fn with_two_values(keyword: &[u8], first: &[u8], second: &[u8]) -> Option<Settin
     }
 }
 
-/// The setting whose line has these four words.
-fn with_three_values(keyword: &[u8], first: &[u8], second: &[u8], third: &[u8]) -> Option<Setting>
+/// Reads a line of four words as a setting.
+fn setting_of_four_words(
+    keyword: &[u8],
+    first: &[u8],
+    second: &[u8],
+    third: &[u8],
+) -> Option<Setting>
     ensures { IsReadOff (keyword.now ∷ first.now ∷ second.now ∷ third.now ∷ []) result }
 {
     let number = number_of_text(first)?;
@@ -191,7 +196,7 @@ fn with_three_values(keyword: &[u8], first: &[u8], second: &[u8], third: &[u8]) 
     }
 }
 
-/// Whether a pin is effective, as it is written.
+/// Reads whether a pin is effective: `ON` or `OFF`.
 fn effective_of_text(text: &[u8]) -> Option<bool>
     ensures { MatchOption result
         ((effective : _) → pin_text effective ≢ text.now)

@@ -1,5 +1,6 @@
-//! The settings of a Converter M-209. Each is carried out, or refused for the first reason that holds; then nothing
-//! changes.
+//! Carrying out settings on a Converter M-209.
+//!
+//! A setting that is refused changes nothing. The error is the first reason that holds.
 ghost use Rattle.kd_state.specs.Setting.{Answers, lug_place, other_lug, is_at, with_lug, Stands};
 ghost use Rattle.std.specs.Prelude.{◌≡◌, ◌↔◌, IsSome, IfSome};
 
@@ -12,7 +13,7 @@ use crate::setting::why::Why;
 use kd_tables::{Letter, Lug, Place, Standing};
 
 impl PinParts {
-    /// Carries a setting out.
+    /// Carries `setting` out.
     pub(crate) fn carry(&mut self, setting: Setting) -> Result<(), Why>
         ensures { Answers (Parts.Pin self.old) setting (Parts.Pin self.new) result }
     {
@@ -28,7 +29,7 @@ impl PinParts {
         }
     }
 
-    /// Turns the wheel of that number until the letter shows.
+    /// Turns pin wheel `wheel` until `letter` shows.
     fn turn(&mut self, wheel: u8, letter: Letter) -> Result<(), Why>
         ensures { Answers (Parts.Pin self.old) (Setting.Turn wheel letter)
             (Parts.Pin self.new) result }
@@ -41,7 +42,7 @@ impl PinParts {
         Ok(())
     }
 
-    /// Makes the wheel's pin at the letter effective, or not.
+    /// Makes the pin at `letter` of pin wheel `wheel` effective, or not.
     #[tactic(auto, using(crate::proofs::Slots::on_wheels))]
     fn pin_to(&mut self, wheel: u8, letter: Letter, effective: bool) -> Result<(), Why>
         ensures { Answers (Parts.Pin self.old) (Setting.PinTo wheel letter effective)
@@ -54,7 +55,7 @@ impl PinParts {
         Ok(())
     }
 
-    /// Moves a lug of the bar to the place.
+    /// Moves the lug `lug` of bar `bar` to `place`.
     #[tactic(auto, using(crate::proofs::Slots::is_numbered))]
     fn lug_to(&mut self, bar: u8, lug: Lug, place: Place) -> Result<(), Why>
         ensures { Answers (Parts.Pin self.old) (Setting.LugTo bar lug place)
@@ -75,7 +76,7 @@ impl PinParts {
     }
 }
 
-/// Where the other lug of a bar stands.
+/// Where the bar's other lug stands.
 fn other_place(standing: Standing, lug: Lug) -> Place
     ensures { result ≡ lug_place (other_lug lug) standing }
 {
@@ -85,14 +86,14 @@ fn other_place(standing: Standing, lug: Lug) -> Place
     }
 }
 
-/// Whether two places are one.
+/// Whether the two places are the same.
 fn is_at(place: Place, other: Place) -> bool
     ensures { result ≡ is_at place other }
 {
     place == other
 }
 
-/// The standing with one of its lugs at the place, if the left one's place is before the right one's then.
+/// `standing` with its lug `lug` at `place`, if the left lug is still before the right one.
 fn with_lug(standing: Standing, lug: Lug, place: Place) -> Option<Standing>
     ensures exists { IsSome result ↔ Stands (with_lug lug place standing) }
     ensures value { IfSome result (λ moved. moved ≡ with_lug lug place standing) }

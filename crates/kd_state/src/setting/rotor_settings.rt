@@ -1,4 +1,6 @@
-//! The settings of a rotor machine. Each is carried out, or refused for the first reason that holds; then nothing changes.
+//! Carrying out settings on a rotor machine.
+//!
+//! A setting that is refused changes nothing. The error is the first reason that holds.
 ghost use Rattle.kd_state.specs.Machine.{IsLegalRotor};
 ghost use Rattle.kd_state.specs.Setting.{Answers};
 
@@ -12,7 +14,7 @@ use crate::setting::why::Why;
 use kd_tables::{Letter, Reflector, Wheel, allowed, allowed_reflector};
 
 impl RotorParts {
-    /// Carries a setting out.
+    /// Carries `setting` out.
     pub(crate) fn carry(&mut self, setting: Setting) -> Result<(), Why>
         requires { IsLegalRotor self.old }
         ensures { Answers (Parts.Rotor self.old) setting (Parts.Rotor self.new) result }
@@ -28,7 +30,7 @@ impl RotorParts {
         }
     }
 
-    /// Takes the letter out of the cable.
+    /// Takes `letter` out of cable `cable`.
     fn pull(&mut self, cable: u8, letter: Letter) -> Result<(), Why>
         ensures { Answers (Parts.Rotor self.old) (Setting.Pull cable letter)
             (Parts.Rotor self.new) result }
@@ -42,7 +44,7 @@ impl RotorParts {
         Ok(())
     }
 
-    /// Puts the letter into the cable.
+    /// Puts `letter` into cable `cable`.
     fn put(&mut self, cable: u8, letter: Letter) -> Result<(), Why>
         ensures { Answers (Parts.Rotor self.old) (Setting.Put cable letter)
             (Parts.Rotor self.new) result }
@@ -59,7 +61,9 @@ impl RotorParts {
         Ok(())
     }
 
-    /// Seats the wheel in the slot. It leaves the slot that held it, and the wheel that was there goes to the box.
+    /// Puts `wheel` into slot `slot`.
+    ///
+    /// The wheel leaves the slot that it was in, and the wheel that was in `slot` goes to the box.
     #[tactic(auto, using(crate::proofs::Wheels::lacks_wheel, std::proofs::lemmas::Bool::iff_false))]
     fn seat(&mut self, slot: u8, wheel: Wheel) -> Result<(), Why>
         requires { IsLegalRotor self.old }
@@ -86,7 +90,7 @@ impl RotorParts {
         Ok(())
     }
 
-    /// Sets the wheel's ring, and leaves its window letter.
+    /// Sets the ring of `wheel` to `letter`. The window letter stays.
     #[tactic(auto, using(crate::proofs::Wheels::lacks_wheel))]
     fn ring_to(&mut self, wheel: Wheel, letter: Letter) -> Result<(), Why>
         requires { IsLegalRotor self.old }
@@ -98,7 +102,7 @@ impl RotorParts {
         Ok(())
     }
 
-    /// Turns the wheel in the slot until the letter shows.
+    /// Turns the wheel in slot `slot` until `letter` shows.
     fn turn(&mut self, slot: u8, letter: Letter) -> Result<(), Why>
         requires { IsLegalRotor self.old }
         ensures { Answers (Parts.Rotor self.old) (Setting.Turn slot letter)

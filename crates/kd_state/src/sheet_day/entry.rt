@@ -1,10 +1,11 @@
+//! A day's values, for rotor machines or for the Converter M-209.
 ghost use Rattle.std.specs.Prelude.{◌↔◌, IsTrue};
 ghost use Rattle.kd_state.specs.SheetDay.{IsDayNumber};
 
 use crate::sheet_day::pin_entry::PinEntry;
 use crate::sheet_day::rotor_entry::RotorEntry;
 
-/// An entry of a key sheet.
+/// The entry of a day in a key sheet.
 #[derive(Drop)]
 pub enum Entry {
     /// For an Enigma I, an M3 or an M4.
@@ -13,7 +14,7 @@ pub enum Entry {
     Pin(PinEntry),
 }
 
-/// Whether there can be such a day of a month.
+/// Whether `day` is from 1 to 31.
 pub(crate) fn is_day_number(day: u8) -> bool
     ensures { IsTrue result ↔ IsDayNumber day }
 {

@@ -1,14 +1,15 @@
-use crate::facts::{are_all_pins, are_readings};
+//! The values of a Converter's day.
+use crate::facts::{learn_pins, learn_readings};
 use crate::machine::pin_parts::are_on_wheels;
 use crate::sheet_day::entry::is_day_number;
 use kd_pins::PinSet;
 use kd_tables::{Letter, Reading};
 
-/// A day of the Converter M-209.
+/// The values of a day of the Converter M-209.
 #[derive(Clone, Copy)]
 pub struct PinEntry {
     pub day: u8,
-    /// What the bars are to read as.
+    /// The readings asked of the bars, in any order.
     pub rows: [Reading; 27],
     /// Which pins are effective.
     pub pins: PinSet,
@@ -23,12 +24,12 @@ impl PinEntry {
     ghost use Rattle.kd_state.specs.SheetDay.{IsLegalPinDay};
     ghost use Rattle.kd_state.specs.Entry.{pin_values};
 
-    /// Whether an accepted entry has these values.
+    /// Whether a key sheet can have this day.
     pub(crate) fn is_legal(&self) -> bool
         ensures { IsTrue result ↔ IsLegalPinDay (pin_values self.now) }
     {
-        are_readings(&self.rows);
-        are_all_pins(self.pins);
+        learn_readings(&self.rows);
+        learn_pins(self.pins);
         prove!(self.list[0].index() < 26 && self.list[1].index() < 26);
         is_day_number(self.day) && are_on_wheels(&self.window)
     }

@@ -1,6 +1,7 @@
+//! The values of a rotor machine's day.
 ghost use Rattle.std.specs.Prelude.{◌↔◌, IsPermutation, IsTrue};
 
-use crate::facts::{are_pair_letters, are_words, have_letters};
+use crate::facts::{learn_group_letters, learn_pair_letters, learn_wheel_letters};
 use crate::machine::per_slot::PerSlot;
 use crate::machine::seats;
 use crate::sheet_day::entry::is_day_number;
@@ -8,7 +9,7 @@ use arrayvec::ArrayVec;
 use kd_enigma::Plugs;
 use kd_tables::{Letter, Model, Reflector, Wheel, allowed_reflector};
 
-/// A wheel of a sheet's day, with its ring and the letter in its window.
+/// A wheel of a day, with its ring and its window letter.
 #[derive(Clone, Copy)]
 pub struct SheetWheel {
     pub wheel: Wheel,
@@ -34,7 +35,7 @@ impl Default for SheetWheel {
     }
 }
 
-/// A day of a rotor model.
+/// The values of a day of a rotor machine.
 #[derive(Drop)]
 pub struct RotorEntry {
     pub day: u8,
@@ -42,7 +43,7 @@ pub struct RotorEntry {
     pub reflector: Reflector,
     /// A wheel for each slot, from the left.
     pub wheels: PerSlot<SheetWheel>,
-    /// The pairs that are plugged, in the sheet's order.
+    /// The plugged pairs, in the sheet's order.
     pub pairs: ArrayVec<(Letter, Letter), 13>,
     /// The groups of the day's messages.
     pub groups: ArrayVec<[Letter; 3], 4>,
@@ -52,21 +53,21 @@ impl RotorEntry {
     ghost use Rattle.kd_state.specs.SheetDay.{IsLegalRotorDay, AreOfAGroup};
     ghost use Rattle.kd_state.specs.Entry.{rotor_values};
 
-    /// Whether an accepted entry has these values.
+    /// Whether a key sheet can have this day.
     pub(crate) fn is_legal(&self) -> bool
         ensures { IsTrue result ↔ IsLegalRotorDay (rotor_values self.now) }
     {
         let (pairs, groups) = (self.pairs.as_slice(), self.groups.as_slice());
-        have_letters(self.wheels.as_slice());
-        are_pair_letters(pairs);
-        are_words(groups);
+        learn_wheel_letters(self.wheels.as_slice());
+        learn_pair_letters(pairs);
+        learn_group_letters(groups);
         is_day_number(self.day)
             && allowed_reflector(self.model, self.reflector)
             && seats::are_legal(self.model, &self.wheels.seats())
             && Plugs::from_pairs(pairs).is_ok()
     }
 
-    /// Whether these are the letters of one of the groups, in any order.
+    /// Whether `letters` are the letters of a group, in any order.
     pub(crate) fn has_group(&self, letters: [Letter; 3]) -> bool
         ensures { IsTrue result ↔ AreOfAGroup self.now.groups.items letters }
     {
@@ -77,7 +78,7 @@ impl RotorEntry {
     }
 }
 
-/// Whether these are the same letters, each as often, in any order.
+/// Whether `group` and `letters` are the same letters in any order.
 fn are_reordered(group: [Letter; 3], letters: [Letter; 3]) -> bool
     ensures { IsTrue result ↔ IsPermutation group letters }
 {

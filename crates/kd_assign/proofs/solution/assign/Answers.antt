@@ -1,5 +1,6 @@
-use Rattle.kd_assign.proofs.Counting.{scans_of_all, scans_of_trees-most}
-use Rattle.{kd_assign.proofs.Whole.{columns_at_most, fits, is_least, price_sum_is, rows_at_most}, std.proofs.Common.arith}
+use Rattle.kd_assign.proofs.Counting.{scans_of_trees-all, scans_of_trees-most}
+use Rattle.kd_assign.proofs.Whole.{columns_at_most, fits, is_least, price_sum_is, rows_at_most}
+use Rattle.std.proofs.Common.{arith}
 use Rattle.kd_assign.proofs.solution.assign.Goals as goal
 
 pub assign_row-requires : goal.assign_row-requires
@@ -26,4 +27,4 @@ returns-clause-least g c =
     c.cost_of-total.ensures
 
 pub returns-clause-most_scans : goal.returns-clause-most_scans
-returns-clause-most_scans g c = grind (arith, scans_of_all g.row.N)
+returns-clause-most_scans g c = grind (arith, scans_of_trees-all g.row.N)

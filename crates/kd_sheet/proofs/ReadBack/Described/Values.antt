@@ -1,36 +1,37 @@
--- What the values of keys say: names, numbers and letters, wheels in their slots, cables and pairs, and pins.
+-- Lemmas on the values of keys: names, numbers and letters, wheels in slots, cables and pairs, and pins.
 pub mod InTurn
 unfoldable pub use InTurn.*
 use Rattle.std.{proofs.lemmas.List.Folds.find_at, specs.List.position_or_len}
 
 -- ---- names
 
--- a list has nothing of a name that none has
+-- searching for a name that nothing has finds nothing
 find_unnamed : {A : Type 0} (text_of : A → List ℕ) (name : List ℕ) → ((x : A) → text_of x ≢ name) → (xs : List A)
     → find (λ x. bytes_eq (text_of x) name) xs ≡ None
 find_unnamed text_of name none [] = refl
 find_unnamed text_of name none (x ∷ xs) =
     grind (arith, cases_Bool, none, bytes_eq-Decides, find_unnamed text_of name none xs)
 
--- what has the name is what the list finds, where the list finds each by its own name
+-- searching for a name finds the thing that has it, if each thing is found by its own name
 pub find_named : {A : Type 0} (text_of : A → List ℕ) (xs : List A)
     → ((x : A) → find (λ y. bytes_eq (text_of y) (text_of x)) xs ≡ Some x) → (name : List ℕ) (found : Option A)
     → MatchOption found ((x : A) → text_of x ≢ name) (λ x. text_of x ≡ name)
     → found ≡ find (λ x. bytes_eq (text_of x) name) xs
 find_named text_of xs own name None none = sym (find_unnamed text_of name none xs)
-find_named text_of xs own name (Some x) named = sym (own x) ∙ ap (λ text. find (λ y. bytes_eq (text_of y) text) xs) named
+find_named text_of xs own name (Some x) named =
+    sym (own x) ∙ ap (λ text. find (λ y. bytes_eq (text_of y) text) xs) named
 
--- each model is the one of its name
+-- each model is found by its name
 pub model_by_name-text : (model : Model) → model_by_name (model_text model) ≡ Some model
 unfolding model_by_name
 model_by_name-text model = grind arith
 
--- each wheel is the one of its name
+-- each wheel is found by its name
 pub wheel_by_name-text : (wheel : Wheel) → wheel_by_name (wheel_text wheel) ≡ Some wheel
 unfolding wheel_by_name
 wheel_by_name-text wheel = grind arith
 
--- what is found is there, and passes
+-- an element that `find` finds is in the list
 pub found_there : {X : Type 0} (p : X → Bool) (xs : List X) (x : X) → find p xs ≡ Some x → Contains xs x
 found_there p xs x e =
     let at = sym (find_at p xs) ∙ e in
@@ -40,7 +41,7 @@ pub passes : {X : Type 0} (p : X → Bool) (xs : List X) (x : X) → find p xs �
 passes p [] x e = absurd (none-some x e)
 passes p (y ∷ xs) x e = grind (arith, cases_Bool, same_Some, passes p xs x)
 
--- each standing is the one of its text
+-- each standing is found by its text
 pub standing_again : (bar : Place × Place) → IsBefore bar.0 bar.1 → standing_by_text (standing_text bar) ≡ Some bar
 unfolding standing_by_text
 standing_again bar before = grind arith
@@ -49,17 +50,20 @@ pub standing_read : (text : List ℕ) (bar : Place × Place) → standing_by_tex
 unfolding standing_by_text
 standing_read text bar e =
     ltb-true _ _ (All-contains (λ bar. nat_lt (place_rank bar.0) (place_rank bar.1) ≡ true) standings bar
-    (AllPass-from_list_all (λ bar. nat_lt (place_rank bar.0) (place_rank bar.1)) standings refl) (found_there (λ standing. bytes_eq (standing_text standing) text) standings bar e))
+    (AllPass-from_list_all (λ bar. nat_lt (place_rank bar.0) (place_rank bar.1)) standings refl)
+    (found_there (λ standing. bytes_eq (standing_text standing) text) standings bar e))
 
 no_standing : (text : List ℕ) → ((bar : Place × Place) → IsBefore bar.0 bar.1 → standing_text bar ≢ text)
     → (found : Option (Place × Place)) → standing_by_text text ≡ found → None ≡ found
 unfolding standing_by_text
 no_standing text none None e = refl
 no_standing text none (Some bar) e =
-    absurd (none bar (standing_read text bar e) (grind (arith, bytes_eq-Decides, passes (λ s. bytes_eq (standing_text s) text) standings bar e)))
+    absurd (none bar (standing_read text bar e)
+    (grind (arith, bytes_eq-Decides, passes (λ s. bytes_eq (standing_text s) text) standings bar e)))
 
 pub standing_told : (text : List ℕ) (found : Option (Place × Place))
-    → MatchOption found ((bar : Place × Place) → IsBefore bar.0 bar.1 → standing_text bar ≢ text) (λ bar. standing_text bar ≡ text)
+    → MatchOption found ((bar : Place × Place) → IsBefore bar.0 bar.1 → standing_text bar ≢ text)
+    (λ bar. standing_text bar ≡ text)
     → IfSome found (λ bar. IsBefore bar.0 bar.1) → found ≡ standing_by_text text
 standing_told text None none before = no_standing text none (standing_by_text text) refl
 standing_told text (Some bar) named before = sym (standing_again bar before) ∙ ap standing_by_text named
@@ -104,7 +108,7 @@ letters_at_are key count table letters e = grind (arith, given, there_was, capit
 
 -- ---- one seat
 
--- some slot seats the wheel
+-- `is_seated` decides whether the wheel stands in a slot
 pub is_seated-Decides : (slots : List (Option Wheel)) (wheel : Wheel)
     → Decides (is_seated slots wheel) (Contains slots (Some wheel))
 unfolding is_seated
@@ -127,7 +131,7 @@ wheel_read : (key : Key) (model : Model) (slots : List (Option Wheel)) (name : L
 unfolding wheel_for
 wheel_read key model slots name wheel e = grind (arith, given, passed, has_wheel-Decides, is_seated-Decides, not-true)
 
--- what an item seats behind these slots
+-- what a reader ensures of a seat: its wheel may stand there, and it is empty only in a machine file
 record IsSeat (key : Key) (model : Model) (slots : List (Option Wheel)) (seat : Option Wheel) : Type 0 where
   free : IfSome seat (CanBeSeated model slots)
   filled : may_be_empty key ≡ false → IsSome seat
@@ -139,7 +143,7 @@ seat_read key model slots item seat e = record { free = grind (arith, wheel_read
 
 -- ---- the slots that an array fills
 
--- a wheel that stands in a slot is free behind the slots before it
+-- each wheel of an array may stand in its slot, and stands in none before
 stands_free : (key : Key) (model : Model) (items : List Data) (slots : List (Option Wheel))
     → in_turn (seat_of_item key model) items ≡ Ok slots → (place : ℕ) (wheel : Wheel) → StandsAt slots place wheel
     → (place < length slots) × CanBeSeated model (take place slots) wheel
@@ -152,12 +156,12 @@ stands_free key model items slots e place wheel stands =
           )).free,
     )
 
--- a wheel that stands further left isn't free
+-- a wheel that can be seated in a slot stands in no slot further left
 not_free : (model : Model) (slots : List (Option Wheel)) (place other : ℕ) (wheel : Wheel) → StandsAt slots place wheel
     → CanBeSeated model (take other slots) wheel → other ≤ length slots → other ≤ place
 not_free model slots place other wheel stands free within = grind (arith, common_steps, gets, cases_lt place other)
 
--- each wheel stands where it may, and none in two slots
+-- each wheel is allowed in its slot, none stands in two slots, and slots are empty only in a machine file
 pub record FillsSlots (key : Key) (model : Model) (slots : List (Option Wheel)) : Type 0 where
   pub allowed : AreAllowed model slots
   pub apart : AreApart slots
@@ -185,7 +189,7 @@ seats_in_fill key model table = each_read _ (FillsSlots key model) (fill_slots k
 
 -- ---- the wheels of a day
 
--- the seats of the wheels are the slots
+-- the wheels of a day stand in its slots
 pub seats-sheet_wheels : (slots : List (Option Wheel)) (rings letters : List ℕ) → AllByRecursion IsSome slots
     → length rings ≡ length slots → length letters ≡ length slots → seats (sheet_wheels slots rings letters) ≡ slots
 seats-sheet_wheels [] rings letters filled same equal = refl
@@ -216,7 +220,7 @@ pub all_parts : {X : Type 0} (P : X → Type 0) (xs ys : List X) → AllByRecurs
 all_parts P [] ys all = (tt, all)
 all_parts P (x ∷ xs) ys all = let rest = all_parts P xs ys all.1 in ((all.0, rest.0), rest.1)
 
--- letters of the alphabet, of which none lies in what is plugged before
+-- the letters of `x` are letters of the alphabet, and in nothing before it
 pub record IsFree {X : Type 0} (letters_in : X → List ℕ) (before : List X) (x : X) : Type 0 where
   pub within : All (λ letter. letter < 26) (letters_in x)
   pub new : are_new (letters_in x) (flat_map letters_in before) ≡ true
@@ -236,7 +240,7 @@ module _ {X : Type 0} (letters_in : X → List ℕ) where
         apart = rw now ((apart_behind _ _).1 (free.new, so_far.apart));
       }
 
-  -- of so many items at most
+  -- at most `count` items are read, and each is free of the letters before it
   pub all_free : (reading : List X → Data → Result X SheetFault)
       → ((before : List X) (item : Data) (x : X) → reading before item ≡ Ok x → IsFree letters_in before x)
       → (key : Key) (count : ℕ) (value : Data)
@@ -246,7 +250,7 @@ module _ {X : Type 0} (letters_in : X → List ℕ) where
       (record { within = All-nil (λ letter. letter < 26); apart = no_letters })
       (λ plugged item x so_far is. one_more plugged x so_far (free plugged item x is)))
 
-  -- each is free behind those before it
+  -- of things that share no letters, each is free of the letters before it
   pub free_at : (plugged : List X) (k : ℕ) (x : X) → AreFree letters_in plugged → slice_get plugged k ≡ Some x
       → IsFree letters_in (take k plugged) x
   free_at plugged k x free at =
@@ -279,7 +283,7 @@ none_in : (n : ℕ) → plugged_letters (replicate n (None, None)) ≡ []
 none_in zero = refl
 none_in (suc n) = none_in n
 
--- with empty cables behind them
+-- cables that share no letter are the cables of a machine, once empty ones fill them up to 13
 filled_up : (cables : List (Option ℕ × Option ℕ)) → length cables ≤ 13 → AreFree cable_letters cables
     → AreCables (thirteen cables)
 filled_up cables few free =
@@ -315,7 +319,7 @@ are_pairs table =
 abbrev is_own : ℕ × ℕ → Bool
 is_own numbered = has_letter (ring_of numbered.0) numbered.1
 
--- letters that pass the test are on their wheels
+-- if the test passes, the letters are on their wheels
 pub on_wheels : (letters : List ℕ) → length letters ≡ 6 → are_on_wheels letters ≡ true → AreOnWheels letters
 on_wheels letters long all =
     on_all_wheels letters long (λ wheel low high.
@@ -326,7 +330,7 @@ on_wheels letters long all =
     (has_letter-Decides _ _).0 (subst (λ ring. has_letter (ring_of ring) (get_or letters (wheel - 1) 0) ≡ true) same
     (rw (get_or-enumerate_from 1 letters (wheel - 1) (0, 0) within) at here)))
 
--- and letters on their wheels pass it
+-- if the letters are on their wheels, the test passes
 pub are_own : (letters : List ℕ) → AreOnWheels letters → are_on_wheels letters ≡ true
 are_own letters are =
     list_all-from_AllPass is_own (enumerate_from 1 letters) (λ place d within.
@@ -346,9 +350,10 @@ ring_letters wheel place d within =
 
 pub letters_below : (letters : List ℕ) → AreOnWheels letters → All (λ letter. letter < 26) letters
 letters_below letters are place d within =
-    All-contains (λ letter. letter < 26) _ _ (ring_letters (suc place)) (are.each (suc place) _ (slice_get-get_or letters place d within))
+    All-contains (λ letter. letter < 26) _ _ (ring_letters (suc place))
+    (are.each (suc place) _ (slice_get-get_or letters place d within))
 
--- none of the letters comes again
+-- no letter comes twice
 abbrev are_apart : List ℕ → Bool
 are_apart [] = true
 are_apart (letter ∷ letters) = not (has_letter letters letter) && are_apart letters
@@ -360,7 +365,7 @@ letters_apart wheel = grind arith
 letter_there : (ring : List ℕ) (k d : ℕ) → k < length ring → has_letter ring (get_or ring k d) ≡ true
 letter_there ring k d within = (has_letter-Decides ring (get_or ring k d)).1 (Contains-get_or ring k d within)
 
--- how often the text of the pins has a letter
+-- how often the text has the letter
 abbrev counted : List ℕ → ℕ → ℕ
 counted text letter = count_by (λ byte. byte == letter + 65) text
 
@@ -384,7 +389,7 @@ none_counted (x ∷ ring) [] letter absent = refl
 none_counted (x ∷ ring) (pin ∷ pins) letter absent =
     grind (arith, nat_tests, sum_by-cons, none_counted ring pins letter)
 
--- a letter of the wheel stands once in the text where its pin is effective, and else not
+-- the text of a wheel's pins has a letter once if its pin is effective, and else not
 once_counted : (ring : List ℕ) (pins : List Bool) (k d : ℕ) (e : Bool) → are_apart ring ≡ true
     → length pins ≡ length ring → k < length ring
     → counted (pins_text ring pins) (get_or ring k d) ≡ cond (get_or pins k e) 1 0
@@ -394,7 +399,7 @@ once_counted (x ∷ ring) (pin ∷ pins) (suc k) d e apart same within =
     rw first_counted (grind (arith, nat_tests, once_counted ring pins k d e, letter_there ring k d))
 once_counted ring pins k d e apart same within = absurd (omega arith)
 
--- what holds of the letters of effective pins, holds of the text
+-- a test that the letters of all effective pins pass is passed by the text
 all_of_pins : (test : ℕ → Bool) (ring : List ℕ) (pins : List Bool) → length pins ≡ length ring
     → ((k : ℕ) → k < length ring → get_or pins k false ≡ true → test (get_or ring k 0 + 65) ≡ true)
     → list_all test (pins_text ring pins) ≡ true

@@ -1,4 +1,5 @@
-use Rattle.kd_sheet.proofs.ReadBack.Described.{OfPins, arith, common_steps, legal_is_some, pin_day, pin_day_in, table_view}
+use Rattle.kd_sheet.proofs.ReadBack.Described.{OfPins, arith, common_steps, legal_is_some, pin_day, pin_day_in}
+use Rattle.kd_sheet.proofs.ReadBack.Described.{table_view}
 use Rattle.kd_sheet.proofs.day_table.pin_day_in.Goals as goal
 
 pub unwrap-requires : goal.unwrap-requires

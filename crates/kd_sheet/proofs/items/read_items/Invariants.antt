@@ -1,7 +1,7 @@
 use Rattle.kd_sheet.proofs.ReadBack.Described.Values.InTurn.{drop, in_turn, length, map, on, view, ◌≡◌}
 use Rattle.kd_sheet.proofs.items.read_items.Given as goal
 
--- what is read of all items is read on behind the values so far
+-- reading all items gives the same as reading the rest after the values so far
 abbrev pub invariant-loop-item : goal.invariant-loop-item
 invariant-loop-item g l = record {
   count : length l.values.items ≡ l.item-index;

@@ -2,7 +2,7 @@ use Rattle.{kd_tables.specs.{Tables.letters_of, Text.is_capital}, std.proofs.Com
 use Rattle.std.specs.List.{list_all}
 use Rattle.kd_sheet.proofs.letters.capital_letters.Given as goal
 
--- the bytes so far are capital letters, and these are their letters
+-- the bytes so far are capital letters, and `letters` has their letters
 abbrev pub invariant-loop-byte : goal.invariant-loop-byte
 invariant-loop-byte g l = record {
   count : length l.letters.items ≡ l.byte-index;

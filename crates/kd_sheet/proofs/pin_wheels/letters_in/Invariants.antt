@@ -1,7 +1,7 @@
 use Rattle.{kd_sheet.specs.PinWheels.has_capital, std.proofs.Common.{length, map, take, ◌≡◌}}
 use Rattle.kd_sheet.proofs.pin_wheels.letters_in.Given as goal
 
--- the letters so far are found where the text has them
+-- `found` says of each letter so far whether the text has it
 abbrev pub invariant-loop-place : goal.invariant-loop-place
 invariant-loop-place g l = record {
   count : length l.found ≡ g.row.N;

@@ -1,4 +1,5 @@
--- What a setting that is carried out makes of a machine: a machine again, in which the readers tell what was set, and all else as before.
+-- What a setting makes of a machine that carries it out: a machine, in which the readers show what was set and
+-- everything else as before.
 pub use Rattle.kd_state.proofs.Prelude.{numbered, place_in_box, IsKept, IsSeatOf, Makes, MovesLug, SetsOnly, TheBar}
 pub use Rattle.kd_state.proofs.Prelude.{TheCable, TheLetter, ThePin, TheReflector, TheSlot, Thing, SettingsAreTold}
 pub use Rattle.kd_state.proofs.Prelude.{SettingsKeepMachines, IsInRange, AreAllowed, AreApart, AreCables, AreLetters}
@@ -33,22 +34,24 @@ unfoldable pub use Rattle.kd_state.proofs.Prelude.{ring_of}
 abbrev pub first_reason : List (Bool × Why) → Option Why
 first_reason reasons = option_map (λ reason. reason.1) (find (λ reason. reason.0) reasons)
 
--- where nothing is refused, no reason holds
-pub no_reason : (reasons : List (Bool × Why)) → first_reason reasons ≡ None → AllByRecursion (λ reason. reason.0 ≡ false) reasons
+-- if nothing is refused, no reason holds
+pub no_reason : (reasons : List (Bool × Why)) → first_reason reasons ≡ None
+    → AllByRecursion (λ reason. reason.0 ≡ false) reasons
 no_reason [] e = tt
 no_reason ((holds, why) ∷ rest) e = grind (arith, none-some, no_reason rest)
 
--- the setting changes what it says, and makes a machine
+-- the setting changes what it names, and makes a machine
 record IsCarried (m : Parts) (x : Setting) : Type 0 where
   told : Makes m x (changed m x)
   kept : IsInRange x → IsMachine (changed m x)
 
--- a thing is kept, unless it is the one that is set
+-- a thing is the same, unless it is the one that is set
 abbrev Keeps : Thing → Parts → Parts → Thing → Type 0
 Keeps thing m n other = other ≢ thing → IsKept m n other
 
 pub in_their_order : (m : RotorParts) → cables_ordered (Rotor m) ≡ Rotor m → all_ordered m.cables ≡ m.cables
-in_their_order m e = let same : record m { cables = all_ordered m.cables } ≡ m = cc in ap (λ (k : RotorParts). k.cables) same
+in_their_order m e =
+    let same : record m { cables = all_ordered m.cables } ≡ m = cc in ap (λ (k : RotorParts). k.cables) same
 
 rotor_machine : (m : RotorParts) → IsLegalRotor m → all_ordered m.cables ≡ m.cables → IsMachine (Rotor m)
 rotor_machine m legal e = record { legal = legal; cables = ap (λ cs. Rotor (record m { cables = cs })) e }
@@ -58,7 +61,7 @@ pin_machine m legal = record { legal = legal; cables = refl }
 
 -- ---- cables
 
--- letters of the alphabet, none of them twice
+-- the letters are all different and below 26
 record AreFree (letters : List ℕ) : Type 0 where
   within : All (λ letter. letter < 26) letters
   apart : IsDistinct nat_eq letters
@@ -67,9 +70,11 @@ moved_free : (letters others : List ℕ) → IsPermutation letters others → Ar
 moved_free letters others moved h = search (rules, All-permutation, moved, IsDistinct-IsPermutation, eqb_flips)
 
 pub lies_plugged : (cables : List (Option ℕ × Option ℕ)) (place letter : ℕ)
-    → Contains (option_map_or cable_letters (slice_get cables place) []) letter → Contains (plugged_letters cables) letter
+    → Contains (option_map_or cable_letters (slice_get cables place) []) letter
+    → Contains (plugged_letters cables) letter
 lies_plugged [] place letter lies = lies
-lies_plugged (first ∷ cables) zero letter lies = Contains-append_left (cable_letters first) (plugged_letters cables) letter lies
+lies_plugged (first ∷ cables) zero letter lies =
+    Contains-append_left (cable_letters first) (plugged_letters cables) letter lies
 lies_plugged (first ∷ cables) (suc place) letter lies =
     Contains-append_right (cable_letters first) (plugged_letters cables) letter (lies_plugged cables place letter lies)
 
@@ -78,46 +83,67 @@ keeps_cables : (m : RotorParts) (cable : ℕ) (new : Option ℕ × Option ℕ) �
 keeps_cables m cable new first = grind (arith, numbered_other)
 
 with_cable : (m : RotorParts) (cable : ℕ) (new : Option ℕ × Option ℕ) → IsMachine (Rotor m) → ordered new.0 new.1 ≡ new
-    → AreFree (plugged_letters (set m.cables (cable - 1) new)) → IsMachine (Rotor (record m { cables = set m.cables (cable - 1) new }))
+    → AreFree (plugged_letters (set m.cables (cable - 1) new))
+    → IsMachine (Rotor (record m { cables = set m.cables (cable - 1) new }))
 with_cable m cable new h o free = grind (arith, length-set, rotor_machine, map-set, ordered, in_their_order)
 
--- parts that are legal make a machine once their cables are in order
+-- legal parts make a machine once their cables are in order
 pub ordered_parts : (m : RotorParts) → IsLegalRotor m → IsMachine (cables_ordered (Rotor m))
 ordered_parts m l =
-    let free = moved_free _ _ (all_ordered_move m.cables) (record { within = l.cables.within; apart = l.cables.apart }) in
+    let free =
+    moved_free _ _ (all_ordered_move m.cables) (record { within = l.cables.within; apart = l.cables.apart }) in
     grind (arith, rotor_machine, length-map, all_ordered_again)
 
 -- ---- slots
 
-numbered-map : {X Y : Type 0} (f : X → Y) (xs : List X) (number : ℕ) → numbered (map f xs) number ≡ option_map f (numbered xs number)
+numbered-map : {X Y : Type 0} (f : X → Y) (xs : List X) (number : ℕ)
+    → numbered (map f xs) number ≡ option_map f (numbered xs number)
 numbered-map f xs number = grind (arith, slice_get-map)
 
--- what a slot holds once the wheel was taken out: what it held, unless it was the wheel
-not_held : (wheel : Wheel) (held : Option (Option Wheel)) → held ≢ Some (Some wheel) → option_map (without wheel) held ≡ held
+-- taking a wheel out of a slot that doesn't hold it changes nothing
+not_held : (wheel : Wheel) (held : Option (Option Wheel)) → held ≢ Some (Some wheel)
+    → option_map (without wheel) held ≡ held
 not_held wheel held e = grind (arith, same_wheel_differs)
 
-left_standing : (wheel other : Wheel) (held : Option (Option Wheel)) → option_map (without wheel) held ≡ Some (Some other) → (held ≡ Some (Some other)) × (other ≢ wheel)
+left_standing : (wheel other : Wheel) (held : Option (Option Wheel))
+    → option_map (without wheel) held ≡ Some (Some other) → (held ≡ Some (Some other)) × (other ≢ wheel)
 left_standing wheel other held e = grind (arith, same_Some, cases_Bool, none-some, both_ways, same_wheel-Decides)
 
--- a wheel that stands once another was seated is that one in its slot, or stood there before
-seat_cases : (slots : List (Option Wheel)) (at : ℕ) (wheel : Wheel) (place : ℕ) (other : Wheel) → StandsAt (set (map (without wheel) slots) at (Some wheel)) place other
+-- after a wheel was put into a slot, each wheel in a slot is this one, or was there before
+seat_cases : (slots : List (Option Wheel)) (at : ℕ) (wheel : Wheel) (place : ℕ) (other : Wheel)
+    → StandsAt (set (map (without wheel) slots) at (Some wheel)) place other
     → ((place ≡ at) × (other ≡ wheel)) ⊎ (StandsAt slots place other × (other ≢ wheel))
 seat_cases slots at wheel place other stands =
-    grind (arith, cases_eq place at, slice_get_within, length-set, set_here, same_Some, left_standing, set_other, slice_get-map)
+    grind (
+      arith,
+      cases_eq place at,
+      slice_get_within,
+      length-set,
+      set_here,
+      same_Some,
+      left_standing,
+      set_other,
+      slice_get-map,
+    )
 
 -- ---- rings and window letters
 
-pub letters_set : (number : ℕ) (letters : List ℕ) (place letter : ℕ) → letter < 26 → AreLetters number letters → AreLetters number (set letters place letter)
+pub letters_set : (number : ℕ) (letters : List ℕ) (place letter : ℕ) → letter < 26 → AreLetters number letters
+    → AreLetters number (set letters place letter)
 letters_set number letters place letter within h = grind (arith, common_steps, length-set, All-set)
 
--- a letter that is set for a wheel of the box is read for that wheel, and for no other one
-for_wheel : (model : Model) (letters : List ℕ) (wheel : Wheel) (letter : ℕ) → Contains (box_of model) wheel → AreLetters (length (box_of model)) letters
+-- a letter set for a wheel of the box is read for this wheel and for no other one
+for_wheel : (model : Model) (letters : List ℕ) (wheel : Wheel) (letter : ℕ) → Contains (box_of model) wheel
+    → AreLetters (length (box_of model)) letters
     → (slice_get (set letters (place_in_box model wheel) letter) (place_in_box model wheel) ≡ Some letter)
-    × ((other : Wheel) → other ≢ wheel → slice_get (set letters (place_in_box model wheel) letter) (place_in_box model other) ≡ slice_get letters (place_in_box model other))
+    × ((other : Wheel) → other ≢ wheel
+    → slice_get (set letters (place_in_box model wheel) letter) (place_in_box model other)
+    ≡ slice_get letters (place_in_box model other))
 for_wheel model letters wheel letter boxed h =
     grind (arith, set_here, place_within, set_other, cases_Bool, places_tell_wheels, has_wheel-Decides, place_nowhere)
 
-pub with_letters : (m : RotorParts) (rings letters : List ℕ) → IsMachine (Rotor m) → AreLetters (length (box_of m.model)) rings → AreLetters (length (box_of m.model)) letters
+pub with_letters : (m : RotorParts) (rings letters : List ℕ) → IsMachine (Rotor m)
+    → AreLetters (length (box_of m.model)) rings → AreLetters (length (box_of m.model)) letters
     → IsMachine (Rotor (record m { rings = rings; letters = letters }))
 with_letters m rings letters h are also = grind (arith, rotor_machine, in_their_order)
 
@@ -126,28 +152,35 @@ keeps_letters : (m : RotorParts) (wheel : Wheel) (letters : List ℕ)
     → SetsOnly (TheLetter wheel) (Rotor m) (Rotor (record m { letters = letters }))
 keeps_letters m wheel letters same = grind (arith, same)
 
-is_seated : (held : Option (Option Wheel)) → is_none (unwrap_or held None) ≡ false → (wheel : Wheel) × (held ≡ Some (Some wheel))
+is_seated : (held : Option (Option Wheel)) → is_none (unwrap_or held None) ≡ false
+    → (wheel : Wheel) × (held ≡ Some (Some wheel))
 is_seated held e = grind arith
 
 -- ---- the Converter
 
--- six lists are the pins that are made of them
-pub six_lists : (pins : PinSet) (place : ℕ) (list : List Bool) → pins_of (pin_set (set (pins_of pins) place list)) ≡ set (pins_of pins) place list
+-- the pins made of six lists have these lists
+pub six_lists : (pins : PinSet) (place : ℕ) (list : List Bool)
+    → pins_of (pin_set (set (pins_of pins) place list)) ≡ set (pins_of pins) place list
 six_lists pins place list = grind arith
 
--- another letter's pin, of the pins of one wheel
-other_pin : (ring : List ℕ) (list : List Bool) (letter other place : ℕ) (effective : Bool) (found : Option ℕ) → place_on ring letter ≡ Some place → place_on ring other ≡ found → other ≢ letter
+-- setting the pin of one letter leaves the pins of other letters
+other_pin : (ring : List ℕ) (list : List Bool) (letter other place : ℕ) (effective : Bool) (found : Option ℕ)
+    → place_on ring letter ≡ Some place → place_on ring other ≡ found → other ≢ letter
     → option_and_then (slice_get (set list place effective)) found ≡ option_and_then (slice_get list) found
 other_pin ring list letter other place effective found e d g = grind (arith, set_other, only_place)
 
 filled : (found : Option (List Bool)) (place : ℕ) → place < length (unwrap_or found []) → is_none found ≡ false
 filled found place within = grind arith
 
--- a lug that is set stands there, the other one where it stood, and the left one before the right one unless it lies beyond the other
-lug_set : (lug : Lug) (place : Place) (bar : Place × Place) → (lug_place lug (with_lug lug place bar) ≡ place) × (lug_place (other_lug lug) (with_lug lug place bar) ≡ lug_place (other_lug lug) bar)
+-- a lug that is moved stands at its new place, and the bar's other lug where it stood
+lug_set : (lug : Lug) (place : Place) (bar : Place × Place)
+    → (lug_place lug (with_lug lug place bar) ≡ place)
+    × (lug_place (other_lug lug) (with_lug lug place bar) ≡ lug_place (other_lug lug) bar)
 lug_set lug place bar = grind arith
 
-pub still_before : (lug : Lug) (place : Place) (bar : Place × Place) → is_at place (lug_place (other_lug lug) bar) ≡ false → lies_beyond lug place (lug_place (other_lug lug) bar) ≡ false
+pub still_before : (lug : Lug) (place : Place) (bar : Place × Place)
+    → is_at place (lug_place (other_lug lug) bar) ≡ false
+    → lies_beyond lug place (lug_place (other_lug lug) bar) ≡ false
     → IsBefore (with_lug lug place bar).0 (with_lug lug place bar).1
 still_before lug place bar e d = grind arith
 
@@ -161,9 +194,12 @@ keeps_bars m bar new first = record {
   ];
 }
 
--- a lug that would pass the other one
-pub would_pass : (m : PinParts) (bar : ℕ) (lug : Lug) (place : Place) (standing : Place × Place) → numbered m.bars bar ≡ Some standing
-    → is_at place (lug_place (other_lug lug) standing) ≡ false → ¬ (IsBefore (with_lug lug place standing).0 (with_lug lug place standing).1) → why_refused (Pin m) (LugTo bar lug place) ≡ Some WouldPass
+-- a lug that would end on the wrong side of the other lug is refused
+pub would_pass : (m : PinParts) (bar : ℕ) (lug : Lug) (place : Place) (standing : Place × Place)
+    → numbered m.bars bar ≡ Some standing
+    → is_at place (lug_place (other_lug lug) standing) ≡ false
+    → ¬ (IsBefore (with_lug lug place standing).0 (with_lug lug place standing).1)
+    → why_refused (Pin m) (LugTo bar lug place) ≡ Some WouldPass
 would_pass m bar lug place standing here apart not_before = grind (arith, true_from_ne_false, not_before, still_before)
 
 -- ---- each setting
@@ -176,17 +212,25 @@ carried (Rotor m) (Pull cable letter) h allowed =
     let left = set m.cables (cable - 1) new in
     let at = stands m.cables cable (None, None) allowed.0 in
     let now = numbered_here m.cables cable new at.first at.last in
-    let moved : IsPermutation (cable_letters old) (letter ∷ cable_letters new) = without_moves letter old.0 old.1 (not-false _ allowed.1.0) in
-    let moves : IsPermutation (plugged_letters m.cables) (letter ∷ plugged_letters left) = set_moves [] (letter ∷ []) m.cables (cable - 1) old new at.here moved in
+    let moved : IsPermutation (cable_letters old) (letter ∷ cable_letters new) =
+    without_moves letter old.0 old.1 (not-false _ allowed.1.0) in
+    let moves : IsPermutation (plugged_letters m.cables) (letter ∷ plugged_letters left) =
+    set_moves [] (letter ∷ []) m.cables (cable - 1) old new at.here moved in
     let free = moved_free _ _ moves (record { within = h.legal.cables.within; apart = h.legal.cables.apart }) in
-    let gone = All-from_recursion (λ (l : ℕ). nat_eq letter l ≡ false) (plugged_letters left) (IsDistinct-head nat_eq letter (plugged_letters left) free.apart) in
+    let gone =
+    All-from_recursion (λ (l : ℕ). nat_eq letter l ≡ false) (plugged_letters left)
+    (IsDistinct-head nat_eq letter (plugged_letters left) free.apart) in
     let there = set_here m.cables (cable - 1) new (slice_get_within m.cables (cable - 1) old at.here) in
-    let out : (other : ℕ) → Contains (cable_letters new) other ↔ (Contains (cable_letters old) other × (other ≢ letter)) = λ other. (
+    let out : (other : ℕ) → Contains (cable_letters new) other
+    ↔ (Contains (cable_letters old) other × (other ≢ letter)) = λ other. (
       λ lies. (
-        Contains-permutation _ _ other (IsPermutation-sym _ _ moved) (Contains-append_right (letter ∷ []) (cable_letters new) other lies),
-        λ e. eqb-false letter other (All-contains (λ (l : ℕ). nat_eq letter l ≡ false) (plugged_letters left) other gone (lies_plugged left (cable - 1) other (rw there lies))) (sym e),
+        Contains-permutation _ _ other (IsPermutation-sym _ _ moved)
+            (Contains-append_right (letter ∷ []) (cable_letters new) other lies),
+        λ e. eqb-false letter other (All-contains (λ (l : ℕ). nat_eq letter l ≡ false) (plugged_letters left) other gone
+            (lies_plugged left (cable - 1) other (rw there lies))) (sym e),
       ),
-      λ lay. Contains-tail letter (cable_letters new) other (λ e. lay.1 (sym e)) (Contains-permutation _ _ other moved lay.0),
+      λ lay. Contains-tail letter (cable_letters new) other (λ e. lay.1 (sym e))
+          (Contains-permutation _ _ other moved lay.0),
     )
     in
     record {
@@ -201,13 +245,16 @@ carried (Rotor m) (Put cable letter) h allowed =
     let new = cable_with letter old in
     let at = stands m.cables cable (None, None) allowed.0 in
     let now = numbered_here m.cables cable new at.first at.last in
-    let moved : IsPermutation (letter ∷ cable_letters old) (cable_letters new) = with_moves letter old.0 old.1 allowed.1.0 in
+    let moved : IsPermutation (letter ∷ cable_letters old) (cable_letters new) =
+    with_moves letter old.0 old.1 allowed.1.0 in
     let moves = set_moves (letter ∷ []) [] m.cables (cable - 1) old new at.here moved in
-    let into : (other : ℕ) → Contains (cable_letters new) other ↔ (Contains (cable_letters old) other ⊎ (other ≡ letter)) = λ other. (
-      λ lies. elim (Contains-append_cases (letter ∷ []) (cable_letters old) other (Contains-permutation _ _ other (IsPermutation-sym _ _ moved) lies)) [
-        | inl here ↦ inr (of_one letter other here)
-        | inr lay ↦ inl lay
-      ],
+    let into : (other : ℕ) → Contains (cable_letters new) other
+    ↔ (Contains (cable_letters old) other ⊎ (other ≡ letter)) = λ other. (
+      λ lies. elim (Contains-append_cases (letter ∷ []) (cable_letters old) other
+          (Contains-permutation _ _ other (IsPermutation-sym _ _ moved) lies)) [
+            | inl here ↦ inr (of_one letter other here)
+            | inr lay ↦ inl lay
+          ],
       λ lay. Contains-permutation _ _ other moved (elim lay [
         | inl lay ↦ Contains-append_right (letter ∷ []) (cable_letters old) other lay
         | inr e ↦ (0, omega arith, sym e)
@@ -216,10 +263,13 @@ carried (Rotor m) (Put cable letter) h allowed =
     in
     record {
       told = (rw (now, at.is) into, keeps_cables m cable new at.first);
-      kept = λ r. with_cable m cable new h (ordered_again (option_or old.0 old.1) (Some letter)) (moved_free _ _ moves (record {
-        within = All-cons (λ (l : ℕ). l < 26) letter (plugged_letters m.cables) r.1 h.legal.cables.within;
-        apart = IsDistinct-cons nat_eq letter (plugged_letters m.cables) ((free_tells (plugged_letters m.cables) letter).0 allowed.1.1.0) h.legal.cables.apart;
-      }));
+      kept = λ r. with_cable m cable new h (ordered_again (option_or old.0 old.1) (Some letter))
+          (moved_free _ _ moves (record {
+            within = All-cons (λ (l : ℕ). l < 26) letter (plugged_letters m.cables) r.1 h.legal.cables.within;
+            apart =
+                IsDistinct-cons nat_eq letter (plugged_letters m.cables)
+                ((free_tells (plugged_letters m.cables) letter).0 allowed.1.1.0) h.legal.cables.apart;
+          }));
     }
 carried (Rotor m) (Seat slot wheel) h allowed =
     let l = h.legal in
@@ -229,20 +279,27 @@ carried (Rotor m) (Seat slot wheel) h allowed =
     let new = set left (slot - 1) (Some wheel) in
     let within : slot ≤ length left = omega (arith, length-map m.slots (without wheel), l.slots, at.last) in
     let gone : without wheel (Some wheel) ≡ None = rw (same_wheel_self wheel) refl in
-    let other_is : (other : ℕ) → other ≢ slot → numbered new other ≡ option_map (without wheel) (numbered m.slots other) =
+    let other_is : (other : ℕ) → other ≢ slot
+    → numbered new other ≡ option_map (without wheel) (numbered m.slots other) =
     λ other ne. numbered_other left slot other (Some wheel) at.first ne ∙ numbered-map (without wheel) m.slots other in
     let cases = seat_cases m.slots (slot - 1) wheel in
     record {
       told = record {
         here = numbered_here left slot (Some wheel) at.first within;
-        only = λ other e. elim (cases_eq other slot) [ inl same ↦ same | inr ne ↦ absurd ((left_standing wheel wheel (numbered m.slots other) (sym (other_is other ne) ∙ e)).1 refl) ];
+        only = λ other e. elim (cases_eq other slot) [
+          | inl same ↦ same
+          | inr ne ↦ absurd ((left_standing wheel wheel (numbered m.slots other)
+              (sym (other_is other ne) ∙ e)).1 refl)
+        ];
         left = λ held ne e. other_is held ne ∙ ap (option_map (without wheel)) e ∙ ap Some gone;
         others = record {
           model = refl;
-          others = λ thing. elim thing as (λ t. ¬ (IsSeatOf (Rotor m) slot wheel t) → IsKept (Rotor m) (Rotor (record m { slots = new })) t) [
-            | TheSlot other ↦ λ free. other_is other (λ e. free (inl (ap TheSlot e))) ∙ not_held wheel (numbered m.slots other) (λ e. free (inr (other, refl, e)))
-            | _ ↦ λ _. refl
-          ];
+          others = λ thing. elim thing as (λ t. ¬ (IsSeatOf (Rotor m) slot wheel t)
+              → IsKept (Rotor m) (Rotor (record m { slots = new })) t) [
+                | TheSlot other ↦ λ free. other_is other (λ e. free (inl (ap TheSlot e)))
+                    ∙ not_held wheel (numbered m.slots other) (λ e. free (inr (other, refl, e)))
+                | _ ↦ λ _. refl
+              ];
         };
       };
       kept = λ _.
@@ -260,7 +317,9 @@ carried (Rotor m) (SeatReflector reflector) h allowed =
 carried (Rotor m) (RingTo wheel letter) h allowed =
     let l = h.legal in
     let place = place_in_box m.model wheel in
-    let reads = for_wheel m.model m.rings wheel letter ((has_wheel-Decides (box_of m.model) wheel).0 (not-false _ allowed.0)) l.rings in
+    let reads =
+    for_wheel m.model m.rings wheel letter ((has_wheel-Decides (box_of m.model) wheel).0 (not-false _ allowed.0))
+    l.rings in
     record {
       told = grind arith;
       kept = λ within. with_letters m _ m.letters h (letters_set _ m.rings place letter within l.rings) l.letters;
@@ -270,7 +329,9 @@ carried (Rotor m) (Turn slot letter) h allowed =
     let found = is_seated (numbered m.slots slot) allowed.0 in
     let wheel = found.0 in
     let place = place_in_box m.model wheel in
-    let reads = for_wheel m.model m.letters wheel letter (seated_in_box m.model m.slots slot wheel l.allowed found.1) l.letters in
+    let reads =
+    for_wheel m.model m.letters wheel letter
+    (seated_in_box m.model m.slots slot wheel l.allowed found.1) l.letters in
     let turned = ap (λ held. with_letter m (unwrap_or held None) letter) found.1 in
     record {
       told = rw turned (wheel, found.1, reads.0, keeps_letters m wheel (set m.letters place letter) reads.1);
@@ -286,7 +347,14 @@ carried (Pin m) (Turn wheel letter) h allowed =
       kept = λ _.
           let letters : AreOnWheels (set m.letters (wheel - 1) letter) = record {
             count = length-set m.letters (wheel - 1) letter ∙ l.letters.count;
-            each = λ other shown reads. grind (arith, cases_eq other wheel, shown, same_Some, numbered_other, l.letters.each other shown);
+            each = λ other shown reads. grind (
+              arith,
+              cases_eq other wheel,
+              shown,
+              same_Some,
+              numbered_other,
+              l.letters.each other shown,
+            );
           }
           in
           grind (arith, pin_machine);
@@ -294,25 +362,30 @@ carried (Pin m) (Turn wheel letter) h allowed =
 carried (Pin m) (PinTo wheel letter effective) h allowed =
     let l = h.legal in
     let place = unwrap_or (place_on (ring_of wheel) letter) 0 in
-    let there = place_there (ring_of wheel) letter ((has_letter-Decides (ring_of wheel) letter).0 (not-false _ allowed.0)) in
+    let there =
+    place_there (ring_of wheel) letter ((has_letter-Decides (ring_of wheel) letter).0 (not-false _ allowed.0)) in
     let old = wheel_pins m.pins wheel in
-    let within : place < length old = omega (arith, l.pins wheel, (position-Some (λ (l : ℕ). nat_eq l letter) (ring_of wheel) place 0 there).0) in
+    let within : place < length old =
+    omega (arith, l.pins wheel, (position-Some (λ (l : ℕ). nat_eq l letter) (ring_of wheel) place 0 there).0) in
     let at = stands (pins_of m.pins) wheel [] (filled (numbered (pins_of m.pins) wheel) place within) in
     let new = set old place effective in
     let pins = with_pin m.pins wheel letter effective in
     let lists = six_lists m.pins (wheel - 1) new in
-    let here : wheel_pins pins wheel ≡ new = grind (arith, lists, numbered_here (pins_of m.pins) wheel new at.first at.last) in
+    let here : wheel_pins pins wheel ≡ new =
+    grind (arith, lists, numbered_here (pins_of m.pins) wheel new at.first at.last) in
     let elsewhere : (other : ℕ) → other ≢ wheel → wheel_pins pins other ≡ wheel_pins m.pins other =
     λ other ne. grind (arith, lists, numbered_other (pins_of m.pins) wheel other new at.first ne) in
     record {
       told = (
-        ap (λ list. option_and_then (slice_get list) (place_on (ring_of wheel) letter)) here ∙ ap (option_and_then (slice_get new)) there ∙ set_here old place effective within,
+        ap (λ list. option_and_then (slice_get list) (place_on (ring_of wheel) letter)) here
+            ∙ ap (option_and_then (slice_get new)) there ∙ set_here old place effective within,
         record {
           model = refl;
           others = λ thing. elim thing as (Keeps (ThePin wheel letter) (Pin m) (Pin (record m { pins = pins }))) [
             | ThePin turned other ↦ λ free. elim (cases_eq turned wheel) [
               | inl e ↦ grind (arith, pin_at, other_pin)
-              | inr ne ↦ ap (λ list. option_and_then (slice_get list) (place_on (ring_of turned) other)) (elsewhere turned ne)
+              | inr ne ↦
+                  ap (λ list. option_and_then (slice_get list) (place_on (ring_of turned) other)) (elsewhere turned ne)
             ]
             | _ ↦ λ _. refl
           ];
@@ -327,9 +400,12 @@ carried (Pin m) (LugTo bar lug place) h allowed =
     let bars = set m.bars (bar - 1) new in
     let now = numbered_here m.bars bar new at.first at.last in
     let all : with_lug_at m bar lug place ≡ bars = rw at.is refl in
-    let moved : MovesLug (Pin m) bar lug place (Pin (record m { bars = bars })) = grind (arith, now, at.is, lug_set lug place standing) in
+    let moved : MovesLug (Pin m) bar lug place (Pin (record m { bars = bars })) =
+    grind (arith, now, at.is, lug_set lug place standing) in
     record {
-      told = subst (λ bars. Makes (Pin m) (LugTo bar lug place) (Pin (record m { bars = bars }))) (sym all) (moved, keeps_bars m bar new at.first);
+      told =
+          subst (λ bars. Makes (Pin m) (LugTo bar lug place) (Pin (record m { bars = bars }))) (sym all)
+          (moved, keeps_bars m bar new at.first);
       kept = grind (arith, common_steps, pin_machine, length-set, All-set, still_before);
     }
 carried m x h allowed = absurd (true≢false allowed.0)
@@ -338,4 +414,5 @@ pub settings_are_told : SettingsAreTold
 settings_are_told m n x h c = subst (Makes m x) (sym c.made) (carried m x h (no_reason (reasons m x) c.allowed)).told
 
 pub settings_keep_machines : SettingsKeepMachines
-settings_keep_machines m n x h r c = subst IsMachine (sym c.made) ((carried m x h (no_reason (reasons m x) c.allowed)).kept r)
+settings_keep_machines m n x h r c =
+    subst IsMachine (sym c.made) ((carried m x h (no_reason (reasons m x) c.allowed)).kept r)

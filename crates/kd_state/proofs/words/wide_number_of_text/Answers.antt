@@ -4,7 +4,8 @@ use Rattle.kd_state.proofs.words.wide_number_of_text.Goals as goal
 pub returns-in_err-ok : goal.returns-in_err-ok
 returns-in_err-ok c =
     rw c.from_residual.ensures
-    (no_text c.args.text.now c.from_utf8.result _ _ c.from_utf8.ensures.cases (sym c.ok.ensures.value ∙ c.in_err-ok.was))
+    (no_text c.args.text.now c.from_utf8.result _ _ c.from_utf8.ensures.cases
+    (sym c.ok.ensures.value ∙ c.in_err-ok.was))
 
 pub returns-in_err-number : goal.returns-in_err-number
 returns-in_err-number c = grind (arith, ok_part, no_number)

@@ -1,5 +1,5 @@
--- What is read of a document, and of items one after another, each given what those before it are; and what a reading
--- that succeeds has found on its way.
+-- Lemmas on reading a document, and on reading items one after another: what a reading that succeeds has passed
+-- on its way, and what holds of its value.
 pub use Rattle.kd_sheet.specs.Document.{demand, each_at, in_turn, items_at, items_in, list_of, result_map, up_to}
 pub use Rattle.kd_sheet.specs.MachineText.{cable_text, key_line, listed, pin_texts, pins_text, quoted, seat_text}
 pub use Rattle.kd_state.proofs.Slots.{all_pins, are_on_wheels as on_all_wheels, has_letter-Decides, numbered_here}
@@ -69,27 +69,29 @@ pub use Rattle.kd_sheet.specs.declared.key.Key.TheVariants as keys
 
 -- ---- a document
 
--- bytes that were parsed
-pub document_parsed : (bytes : List ℕ) (table : Members) → IsUtf8 bytes → parse_document bytes ≡ Some table → document_of bytes ≡ Ok table
+-- bytes that the parser takes are this document
+pub document_parsed : (bytes : List ℕ) (table : Members) → IsUtf8 bytes → parse_document bytes ≡ Some table
+    → document_of bytes ≡ Ok table
 unfolding document_of
 document_parsed bytes table text parsed = rw (is_utf8-from_IsUtf8 bytes text, parsed)
 
--- bytes that are no text or that the parser refuses
+-- bytes that aren't UTF-8, or that the parser refuses, are no document
 pub document_refused : (bytes : List ℕ) → (IsUtf8 bytes → parse_document bytes ≡ None) → document_of bytes ≡ Err NotToml
 unfolding document_of
 document_refused bytes refused = grind (arith, cases_Bool, bytes, refused, IsUtf8-from_is_utf8)
 
--- a list's items, in order
+-- the items of a list's array are the list
 pub list_of-items_of : (items : List Data) → list_of (items_of items) ≡ items
 list_of-items_of [] = refl
 list_of-items_of (first ∷ rest) = ap (λ more. first ∷ more) (list_of-items_of rest)
 
--- the items of an array, as a call found them
-pub items_in_found : (key : Key) (value : Data) (found : Option (Bor (Vec Value Global))) → option_map (λ v. array_view v.now) found ≡ as_array value
+-- reading an array's items gives what a call to the library gives
+pub items_in_found : (key : Key) (value : Data) (found : Option (Bor (Vec Value Global)))
+    → option_map (λ v. array_view v.now) found ≡ as_array value
     → result_map (λ items. map view items.now.items) (ok_or found (BadValue key)) ≡ items_in key value
 items_in_found key value found e = grind (arith, option_map, list_of-items_of)
 
--- ---- on the way of a reading
+-- ---- steps of a reading
 
 abbrev found : {A : Type 0} → A → Result A SheetFault
 found x = Ok x
@@ -97,24 +99,25 @@ found x = Ok x
 pub same_found : {A : Type 0} (x y : A) → found x ≡ found y → x ≡ y
 same_found x y e = cc
 
--- what was read before it
+-- if two readings in a row succeed, the first gave a value and the second succeeded on it
 pub given : {A B : Type 0} (first : Result A SheetFault) (next : A → Result B SheetFault) (value : B)
     → (first >>= next) ≡ Ok value → (x : A) × (first ≡ Ok x) × (next x ≡ Ok value)
 given first next value e = grind arith
 
--- a test that passed
+-- if a test and a reading succeed, the test passed
 pub passed : {B : Type 0} (test : Bool) (fault : SheetFault) (next : Result B SheetFault) (value : B)
     → (demand test fault >> next) ≡ Ok value → (test ≡ true) × (next ≡ Ok value)
 passed test fault next value e = grind arith
 
--- what holds of what is read, where something is
+-- if the reading succeeds, its value satisfies `P`
 abbrev pub Gives : {A : Type 0} → Result A SheetFault → (A → Type 0) → Type 0
 Gives answer P = (x : _) → answer ≡ Ok x → P x
 
 pub done : {A : Type 0} (P : A → Type 0) (x : A) → P x → Gives (Ok x) P
 done P x holds y e = subst P (same_found x y e) holds
 
--- of what is read first, and then of what is read by it
+-- `Q` holds of what two readings in a row give, if `P` holds of the first value and the second reading turns
+-- `P` into `Q`
 pub after : {A B : Type 0} (first : Result A SheetFault) (next : A → Result B SheetFault) (P : A → Type 0)
     (Q : B → Type 0) → Gives first P → ((x : A) → P x → Gives (next x) Q) → Gives (first >>= next) Q
 after first next P Q here rest y e =
@@ -124,13 +127,13 @@ pub after_any : {A B : Type 0} (first : Result A SheetFault) (next : A → Resul
     → ((x : A) → Gives (next x) Q) → Gives (first >>= next) Q
 after_any first next Q rest y e = let before = given first next y e in rest before.0 y before.2
 
--- of what may be absent
+-- `P` holds of what a reading of an optional key gives, if it holds of each value read and of the default
 pub if_there : {A : Type 0} (there : Option Data) (reading : Data → Result A SheetFault) (none : A) (P : A → Type 0)
     → ((value : Data) → Gives (reading value) P) → P none → Gives (option_map_or reading there (Ok none)) P
 if_there None reading none P each holds = done P none holds
 if_there (Some value) reading none P each holds = each value
 
--- what there was
+-- a required thing that was read was there
 pub there_was : {A : Type 0} (thing : Option A) (fault : SheetFault) (value : A) → ok_or thing fault ≡ Ok value
     → thing ≡ Some value
 there_was thing fault value e = grind (arith, same_found)
@@ -139,7 +142,7 @@ pub some_if : {A : Type 0} (test : Bool) (x value : A) → cond test (Some x) No
     → (test ≡ true) × (x ≡ value)
 some_if test x value e = grind (arith, same_Some, none-some)
 
--- and what is read on, where all goes well
+-- two readings in a row give what the second gives, if the first succeeds
 pub then_read : {A B : Type 0} (first : Result A SheetFault) (next : A
     → Result B SheetFault) (x : A) (result : Result B SheetFault) → first ≡ Ok x
     → next x ≡ result → (first >>= next) ≡ result
@@ -151,12 +154,12 @@ passing test fault next result e d = grind arith
 
 -- ---- items, one after another
 
--- what is read for an item past the end
+-- a value in place of an item past the end
 abbrev pub nothing : Data
 nothing = string []
 
 module _ {A : Type 0} where
-  -- the values of some items, and what is read of more behind them
+  -- the result of reading `items` after the items with the values `values`
   abbrev pub on : (List A → Data → Result A SheetFault) → List A → List Data → Result (List A) SheetFault
   on reading values items = in_turn (λ more. reading (values ++ more)) items >>= (λ more. Ok (values ++ more))
 
@@ -175,18 +178,18 @@ module _ {A : Type 0} where
         let viewed = get_or-map view items place item (view item) left ∙ ap view (sym here) in
         rw (drop_more (map view items) place (view item) (omega (arith, length-map items view)), viewed) refl
 
-    -- one item more
+    -- an item that is read joins the values
     pub read_more : (value : A) → Ok value ≡ reading values (view item)
         → on reading values (drop place (map view items))
         ≡ on reading (values ++ value ∷ []) (drop (place + 1) (map view items))
     read_more value is = rw (next, append-nil, ← is) (simp append_assoc (grind arith))
 
-    -- the first fault
+    -- an item that isn't read makes its fault the result
     pub read_stops : (fault : SheetFault) → Err fault ≡ reading values (view item)
         → on reading values (drop place (map view items)) ≡ Err fault
     read_stops fault is = rw (next, append-nil, ← is) refl
 
-  -- as many values as items, and each is read of its item behind the earlier ones
+  -- there are as many values as items
   pub as_many : (reading : List A → Data → Result A SheetFault) (items : List Data)
       → Gives (in_turn reading items) (λ values. length values ≡ length items)
   as_many reading [] values e = ap length (sym (same_found _ _ e))
@@ -207,14 +210,14 @@ module _ {A : Type 0} where
       subst (λ vs. reading (take (suc k) vs) (get_or items k d) ≡ Ok (get_or vs (suc k) e)) (same_found _ _ more.2)
       (read_at (λ earlier. reading (first.0 ∷ earlier)) items more.0 more.1 k d e (omega arith))
 
-  -- what holds of each value that is read
+  -- each value satisfies `P`, if every value that the reading can give does
   pub each_is : (reading : List A → Data → Result A SheetFault) (P : A → Type 0)
       → ((earlier : List A) (item : Data) (x : A) → reading earlier item ≡ Ok x → P x)
       → (items : List Data) → Gives (in_turn reading items) (All P)
   each_is reading P has items values e k d within =
       grind (arith, as_many, read_at reading items values e k nothing d, has)
 
-  -- what holds of no values, and with each one that is read of one more, holds of all
+  -- `Holds` holds of all values, if it holds of none and each further value keeps it
   pub keeps : (reading : List A → Data → Result A SheetFault) (Holds : List A → Type 0) → Holds []
       → ((done : List A) (item : Data) (value : A) → Holds done → reading done item ≡ Ok value
       → Holds (done ++ value ∷ []))
@@ -226,7 +229,7 @@ module _ {A : Type 0} where
       (keeps (λ done. reading (value ∷ done)) (λ ys. Holds (value ∷ ys)) so_far (λ done. more (value ∷ done)) items)
       (λ values all. done Holds (value ∷ values) all))
 
-  -- what is so read of an array of which the number of items is told
+  -- `Holds` for the values of an array of exactly `count` items, or of at most `count`
   module _ (reading : List A → Data → Result A SheetFault) (Holds : List A → Type 0)
       (all : (items : List Data) → Gives (in_turn reading items) Holds) (key : Key) (count : ℕ) where
     pub each_read : (table : Members)
@@ -237,7 +240,7 @@ module _ {A : Type 0} where
         → Gives (up_to key count reading value) (λ values. (length values ≤ count) × Holds values)
     some_read value values e = grind (arith, given, passed, leb-true, as_many, all)
 
-  -- things that are read again, by their texts
+  -- things are read back from their texts, if each is
   pub again : (reading : List A → Data → Result A SheetFault) (text_of : A → List ℕ) (all : List A)
       → ((k : ℕ) (x : A) → slice_get all k ≡ Some x → reading (take k all) (string (text_of x)) ≡ Ok x)
       → in_turn reading (map string (map text_of all)) ≡ Ok all
@@ -245,6 +248,6 @@ module _ {A : Type 0} where
   again reading text_of (x ∷ all) each =
       rw (each 0 x refl, again (λ done. reading (x ∷ done)) text_of all (λ k. each (suc k))) refl
 
--- what stands at a place has what all have
+-- an element of a list satisfies what all elements do
 pub held : {X : Type 0} (P : X → Type 0) (xs : List X) (k : ℕ) (x : X) → All P xs → slice_get xs k ≡ Some x → P x
 held P xs k x all at = grind (arith, common_steps, gets, slice_get_within)

@@ -2,4 +2,6 @@ use Rattle.kd_state.proofs.Prelude.{ordered, drop, map, ◌++◌, ◌≡◌, tak
 use Rattle.kd_state.proofs.machine.cable.put_in_order.Given as goal
 
 abbrev pub invariant-loop-cable : goal.invariant-loop-cable
-invariant-loop-cable l = l.cables ≡ map (λ cable. ordered cable.0 cable.1) (take l.cable-index l.initial.cables) ++ drop l.cable-index l.initial.cables
+invariant-loop-cable l =
+    l.cables ≡ map (λ cable. ordered cable.0 cable.1) (take l.cable-index l.initial.cables)
+    ++ drop l.cable-index l.initial.cables

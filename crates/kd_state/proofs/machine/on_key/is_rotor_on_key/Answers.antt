@@ -14,10 +14,13 @@ returns c =
     let rings = all_tested _ _ _ _ c.have_rings.ensures c.as_slice-3.ensures.value in (
       λ yes. record {
         model = search rules;
-        slots = sym c.as_slice.ensures.value ∙ seats.0 (not-false _ (sym c.ne-2.ensures ∙ c.if-ne-3.false)) ∙ c.as_slice-2.ensures.value ∙ c.seats-seats.ensures;
+        slots =
+            sym c.as_slice.ensures.value ∙ seats.0 (not-false _ (sym c.ne-2.ensures ∙ c.if-ne-3.false))
+            ∙ c.as_slice-2.ensures.value ∙ c.seats-seats.ensures;
         rings = rings.0 c.if-not-have_rings.false;
         reflector = search rules;
         cables = subst (AreThePairs c.args.parts.now.cables) c.as_slice-4.ensures.value (c.are_the_pairs.ensures.0 yes);
       },
-      λ key. c.are_the_pairs.ensures.1 (subst (AreThePairs c.args.parts.now.cables) (sym c.as_slice-4.ensures.value) key.cables),
+      λ key. c.are_the_pairs.ensures.1 (subst (AreThePairs c.args.parts.now.cables)
+          (sym c.as_slice-4.ensures.value) key.cables),
     )

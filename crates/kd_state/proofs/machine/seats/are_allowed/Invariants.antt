@@ -2,4 +2,5 @@ use Rattle.kd_state.proofs.Prelude.{StandsAt, IsAllowed, Wheel, ℕ, ◌+◌, �
 use Rattle.kd_state.proofs.machine.seats.are_allowed.Given as goal
 
 abbrev pub invariant-loop-place : goal.invariant-loop-place
-invariant-loop-place l = (place : ℕ) (wheel : Wheel) → place < l.place → StandsAt l.slots place wheel → IsAllowed l.model (place + 1) wheel
+invariant-loop-place l =
+    (place : ℕ) (wheel : Wheel) → place < l.place → StandsAt l.slots place wheel → IsAllowed l.model (place + 1) wheel

@@ -7,4 +7,5 @@ returns-in_err-line c = rw c.from_residual.ensures (no_line_without_break c.args
 pub returns-in_err-from_line : goal.returns-in_err-from_line
 returns-in_err-from_line c =
     rw c.from_residual-in_err-from_line.ensures
-    (no_line_by_first c.args.text.now c.in_ok-line.line.now c.in_ok-line.rest.now c.in_ok-line.ensures c.in_err-from_line.ensures.value)
+    (no_line_by_first c.args.text.now c.in_ok-line.line.now c.in_ok-line.rest.now c.in_ok-line.ensures
+    c.in_err-from_line.ensures.value)

@@ -7,6 +7,7 @@ returns-then-is_full c =
     let full = eqb-true _ _ (sym c.is_full.ensures.value ∙ c.if-is_full.true) in (
       settings ++ c.in-Some.setting ∷ [],
       c.in-Some.after.now,
-      one_more c.args.text.now settings c.loop-setting.rest.now c.in-Some.setting c.in-Some.after.now c.loop-setting.invariant.begins c.in-Some.ensures,
+      one_more c.args.text.now settings c.loop-setting.rest.now c.in-Some.setting c.in-Some.after.now
+          c.loop-setting.invariant.begins c.in-Some.ensures,
       omega (arith, full, length_push settings c.in-Some.setting),
     )

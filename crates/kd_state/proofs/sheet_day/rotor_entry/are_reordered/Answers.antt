@@ -2,7 +2,7 @@ use Rattle.kd_state.proofs.Prelude.{Decides-eqb, nat_tests, ranks_by, nat_cmp_to
 use Rattle.kd_state.proofs.{Prelude.is_lt, Prelude.nat_cmp, SortedAlike.sorted_tell}
 use Rattle.kd_state.proofs.sheet_day.rotor_entry.are_reordered.Goals as goal
 
--- a letter comes before another in the alphabet
+-- `one` comes before `other` in the alphabet
 abbrev before : ℕ → ℕ → Bool
 before one other = is_lt (nat_cmp one other)
 
@@ -11,5 +11,7 @@ neither_before one other after earlier = grind (arith, nat_tests)
 
 pub returns : goal.returns
 returns c =
-    sorted_tell before (ranks_by nat_cmp_total (λ (letter : ℕ). letter)) neither_before nat_eq Decides-eqb c.args.group c.args.letters _ _ _
-    c.sort_unstable.ensures.permutation c.sort_unstable-2.ensures.permutation c.sort_unstable.ensures.sorted c.sort_unstable-2.ensures.sorted c.eq.ensures
+    sorted_tell before (ranks_by nat_cmp_total (λ (letter : ℕ). letter))
+    neither_before nat_eq Decides-eqb c.args.group c.args.letters _ _ _
+    c.sort_unstable.ensures.permutation c.sort_unstable-2.ensures.permutation c.sort_unstable.ensures.sorted
+    c.sort_unstable-2.ensures.sorted c.eq.ensures

@@ -1,5 +1,5 @@
 use Rattle.kd_sheet.proofs.ReadBack.Described.{day_for, next_month, read_stops, rules, ◌∙◌}
-use Rattle.kd_sheet.proofs.sheet_file.month.Goals as goal
+use Rattle.kd_sheet.proofs.sheet_file.month_of_items.Goals as goal
 
 pub loop-item-preserved : goal.loop-item-preserved
 loop-item-preserved c =

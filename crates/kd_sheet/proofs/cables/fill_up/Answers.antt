@@ -1,5 +1,5 @@
 use Rattle.std.proofs.{Common.{None, ap, length, ◌++◌}, lemmas.List.drop-replicate}
-use Rattle.kd_sheet.proofs.cables.thirteen.Goals as goal
+use Rattle.kd_sheet.proofs.cables.fill_up.Goals as goal
 
 pub returns : goal.returns
 returns c =
