@@ -165,8 +165,7 @@ refusals_are_told (Rotor m) (Put cable letter) h =
       λ e. let may = by_found.0 e in (may.0, λ other lies. may.1 (lies_in_all m.cables other letter lies)),
       λ may. by_found.1 (
         may.0,
-        λ lies. let somewhere = lies_somewhere m.cables letter lies in may.1
-            (suc somewhere.0) somewhere.1,
+        λ lies. let there = lies_somewhere m.cables letter lies in may.1 (suc there.0) there.1,
       ),
     )
 refusals_are_told (Rotor m) (Seat slot wheel) h = seats_by_the_tables m slot wheel
