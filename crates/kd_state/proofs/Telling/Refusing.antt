@@ -44,12 +44,8 @@ pub leads_next : (m n o : Parts) (xs : List Setting) (place : ℕ) (x : Setting)
     → get_or xs place x ≡ x
     → Leads m (take place xs) n → Carries n x o → Leads m (take (place + 1) xs) o
 leads_next m n o xs place x within is leads carries =
-    grind (
-      arith,
-      take_more xs place x within,
-      within,
-      leads_join m n o (take place xs) (x ∷ []) leads (o, carries, refl),
-    )
+    let joined = leads_join m n o (take place xs) (x ∷ []) leads (o, carries, refl) in
+    grind (arith, take_more xs place x within, within, joined)
 
 -- the next setting is refused
 pub stops_at : (m n : Parts) (xs : List Setting) (place : ℕ) (x : Setting) (why : Why) → place < length xs
