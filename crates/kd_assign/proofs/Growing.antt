@@ -21,7 +21,7 @@ module _ {n root : ℕ} {cost : List (List ℕ)} {prices ceilings : List ℤ} {h
   outside-exists few = grind (arith, free_column, outside)
 
   module _ {end : ℕ} (nearest : IsNearest n prices reached ceilings end) where
-    -- the row that takes column `end`, and the plan that leaves this row free
+    -- the row that takes column `end`, and the plan in which this row has no column
     abbrev from : ℕ
     from = get_or near end 0
 
@@ -119,7 +119,7 @@ module _ {n root : ℕ} {cost : List (List ℕ)} {prices ceilings : List ℤ} {h
         taken = plan.taken;
       }
 
-      -- `plan'` is a plan for the new tree that leaves `holder` free
+      -- `plan'` is a plan for the new tree in which `holder` has no column
       plan_moved : IsPlan n cost prices holders root reached' ceilings' plan' holder
       plan_moved = record {
         places = length-set plan end (Some from) ∙ plan_is.places;

@@ -33,7 +33,7 @@ pub record IsCompared (reached : Bool) (row : ℕ) (offer : ℤ) (near : ℕ) (c
   pub least : ceiling' ≤ℤ ceiling
   pub here : reached ≡ false → ceiling' ≤ℤ offer
 
--- each column was compared with `row`, whose offer is `level` plus its cost at the column
+-- each column was compared with `row`; the offer is `level` plus the row's cost at the column
 pub record AreCompared (n : ℕ) (cost : List (List ℕ)) (reached : List Bool) (row : ℕ) (level : ℤ) (near : List ℕ)
     (ceilings : List ℤ) (near' : List ℕ) (ceilings' : List ℤ) : Type 0 where
   pub at : (j : ℕ) → j < n
@@ -54,7 +54,7 @@ module _ (n : ℕ) (cost : List (List ℕ)) (prices : List ℤ) (holders : List 
     pub taken : (j : ℕ) → is_some (slice_index_or plan j None) ≡ is_some (slice_index_or holders j None)
 
   -- Each column of the tree is taken, and was nearer than those outside. Each column outside is the cheapest
-  -- one for its nearest row; `plans` has a plan that leaves this row free to take it.
+  -- one for its nearest row, and `plans` has a plan in which this row has no column.
   pub record IsGrown (near : List ℕ) (plans : List (List (Option ℕ))) : Type 0 where
     pub places : length reached ≡ n
     pub plan_places : length plans ≡ n

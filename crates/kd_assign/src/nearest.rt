@@ -87,7 +87,7 @@ impl<const N: usize> Nearest<N> {
 
     /// What `row` adds to each of its costs as it joins the tree by its own `column`.
     ///
-    /// Its cost at `column` and this level make the ceiling of `column`.
+    /// The cost of `row` at `column`, plus this level, is the ceiling of `column`.
     pub fn level(&self, cost: &[[u8; N]; N], row: usize, column: usize) -> i16
         requires row { row < N }
         requires column { column < N }

@@ -161,14 +161,8 @@ one_letter : (pairs : List (ℕ × ℕ)) (cable : Option ℕ × Option ℕ) (let
     → ((x : ℕ) → Contains (cable_letters cable) x → x ≡ letter) → Any (Joins cable) pairs → ⊥
 one_letter pairs cable letter apart only there =
     let pair = there.1 in
-    grind (
-      arith,
-      only pair.0,
-      only pair.1,
-      there.4.letters pair.0,
-      there.4.letters pair.1,
-      apart_at pairs there.0 pair apart there.2,
-    )
+    let unequal = apart_at pairs there.0 pair apart there.2 in
+    grind (arith, only pair.0, only pair.1, there.4.letters pair.0, there.4.letters pair.1, unequal)
 
 whole_cable : (pairs : List (ℕ × ℕ)) (cable : Option ℕ × Option ℕ) → NoLetterTwice pairs → IsPaired pairs cable
     → length (cable_letters cable) ≢ 1

@@ -31,12 +31,9 @@ slice_split-first byte part rest h = grind (arith, slice_split_at, none_is, eq-e
 
 pub texts_tell_first_parts : TextsTellFirstParts
 texts_tell_first_parts byte first other rest more a b e =
-    grind (
-      arith,
-      slice_split-first byte first rest a,
-      slice_split-first byte other more b,
-      append_cancel_left other (byte ∷ rest) (byte ∷ more),
-    )
+    let one = slice_split-first byte first rest a in
+    let two = slice_split-first byte other more b in
+    grind (arith, one, two, append_cancel_left other (byte ∷ rest) (byte ∷ more))
 
 -- ---- words
 
@@ -113,14 +110,10 @@ figures = numerals_by_value (λ ds. (i : ℕ) → i < length ds → IsFigure 48 
 
 pub numbers_are_words : NumbersAreWords
 numbers_are_words number small =
-    grind (
-      arith,
-      word_by_bytes,
-      decimal_nonempty number small,
-      All-from_get_or (λ b. 32 < b) (decimal number) 0,
-      digits_decimal figures number small,
-      ap (length {A = ℕ}),
-    )
+    let filled = decimal_nonempty number small in
+    let digits = digits_decimal figures number small in
+    let above = All-from_get_or (λ b. 32 < b) (decimal number) 0 in
+    grind (arith, word_by_bytes, filled, above, digits, ap (length {A = ℕ}))
 
 pub letters_are_words : LettersAreWords
 letters_are_words letter = grind (arith, word_by_bytes, All-from_recursion)

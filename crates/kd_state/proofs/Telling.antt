@@ -169,16 +169,11 @@ cases_held wheel held = grind (arith, cases_wheel)
 seats_alike : (m n o : Parts) (slot : ℕ) (wheel : Wheel) → Seats m slot wheel n → Seats m slot wheel o
     → (thing : Thing) → IsKept o n thing
 seats_alike m n o slot wheel one two (TheSlot other) =
-    grind (
-      arith,
-      cases_eq other slot,
-      cases_held wheel (slot_in m other),
-      one.left other,
-      two.left other,
-      kept_alike m n o (TheSlot other),
-      one.others.others (TheSlot other),
-      two.others.others (TheSlot other),
-    )
+    let same = kept_alike m n o (TheSlot other) in
+    let first = one.others.others (TheSlot other) in
+    let second = two.others.others (TheSlot other) in
+    let cases = cases_held wheel (slot_in m other) in
+    grind (arith, cases_eq other slot, cases, one.left other, two.left other, same, first, second)
 seats_alike m n o slot wheel one two thing =
     grind (arith, kept_alike m n o thing, one.others.others thing, two.others.others thing)
 

@@ -44,12 +44,8 @@ pub leads_next : (m n o : Parts) (xs : List Setting) (place : ℕ) (x : Setting)
     → get_or xs place x ≡ x
     → Leads m (take place xs) n → Carries n x o → Leads m (take (place + 1) xs) o
 leads_next m n o xs place x within is leads carries =
-    grind (
-      arith,
-      take_more xs place x within,
-      within,
-      leads_join m n o (take place xs) (x ∷ []) leads (o, carries, refl),
-    )
+    let joined = leads_join m n o (take place xs) (x ∷ []) leads (o, carries, refl) in
+    grind (arith, take_more xs place x within, within, joined)
 
 -- the next setting is refused
 pub stops_at : (m n : Parts) (xs : List Setting) (place : ℕ) (x : Setting) (why : Why) → place < length xs
@@ -165,8 +161,7 @@ refusals_are_told (Rotor m) (Put cable letter) h =
       λ e. let may = by_found.0 e in (may.0, λ other lies. may.1 (lies_in_all m.cables other letter lies)),
       λ may. by_found.1 (
         may.0,
-        λ lies. let somewhere = lies_somewhere m.cables letter lies in may.1
-            (suc somewhere.0) somewhere.1,
+        λ lies. let there = lies_somewhere m.cables letter lies in may.1 (suc there.0) there.1,
       ),
     )
 refusals_are_told (Rotor m) (Seat slot wheel) h = seats_by_the_tables m slot wheel

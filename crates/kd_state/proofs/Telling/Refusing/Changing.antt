@@ -114,17 +114,8 @@ seat_cases : (slots : List (Option Wheel)) (at : ℕ) (wheel : Wheel) (place : �
     → StandsAt (set (map (without wheel) slots) at (Some wheel)) place other
     → ((place ≡ at) × (other ≡ wheel)) ⊎ (StandsAt slots place other × (other ≢ wheel))
 seat_cases slots at wheel place other stands =
-    grind (
-      arith,
-      cases_eq place at,
-      slice_get_within,
-      length-set,
-      set_here,
-      same_Some,
-      left_standing,
-      set_other,
-      slice_get-map,
-    )
+    let cases = cases_eq place at in
+    grind (arith, cases, slice_get_within, length-set, set_here, same_Some, left_standing, set_other, slice_get-map)
 
 -- ---- rings and window letters
 
@@ -347,14 +338,9 @@ carried (Pin m) (Turn wheel letter) h allowed =
       kept = λ _.
           let letters : AreOnWheels (set m.letters (wheel - 1) letter) = record {
             count = length-set m.letters (wheel - 1) letter ∙ l.letters.count;
-            each = λ other shown reads. grind (
-              arith,
-              cases_eq other wheel,
-              shown,
-              same_Some,
-              numbered_other,
-              l.letters.each other shown,
-            );
+            each = λ other shown reads.
+                let was = l.letters.each other shown in
+                grind (arith, cases_eq other wheel, shown, same_Some, numbered_other, was);
           }
           in
           grind (arith, pin_machine);

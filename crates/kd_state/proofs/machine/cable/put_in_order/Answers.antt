@@ -4,9 +4,6 @@ use Rattle.kd_state.proofs.machine.cable.put_in_order.Goals as goal
 
 pub loop-cable-preserved : goal.loop-cable-preserved
 loop-cable-preserved c =
-    grind (
-      arith,
-      map_over_more (λ (cable : Option ℕ × Option ℕ). ordered cable.0 cable.1)
-          c.args.cables.now c.loop-cable.cables c.loop-cable.cable-index,
-      get_or_default,
-    )
+    let ends : Option ℕ × Option ℕ → Option ℕ × Option ℕ = λ cable. ordered cable.0 cable.1 in
+    let more = map_over_more ends c.args.cables.now c.loop-cable.cables c.loop-cable.cable-index in
+    grind (arith, more, get_or_default)

@@ -3,8 +3,6 @@ use Rattle.kd_state.proofs.machine.rotor_parts.RotorParts.turn.Goals as goal
 
 pub unwrap-place-requires : goal.unwrap-place-requires
 unwrap-place-requires c =
-    grind (
-      arith,
-      seated_in_box c.args.self.now.model c.args.self.now.slots c.args.slot c.in-Some-Some.wheel
-          c.requires.allowed,
-    )
+    let m = c.args.self.now in
+    let boxed = seated_in_box m.model m.slots c.args.slot c.in-Some-Some.wheel c.requires.allowed in
+    grind (arith, boxed)
