@@ -3,7 +3,7 @@ ghost use Rattle.std.specs.Prelude.{◌≡◌, ℕ, ◌+◌, ◌<◌, ◌↔◌,
 
 use std::marker::Model;
 
-/// How many ceilings have been compared.
+/// How many slacks have been compared.
 ///
 /// The field is private to this module, so that no other module can set the count by a formula.
 #[derive(Clone, Copy)]
@@ -27,14 +27,14 @@ impl Scans {
         Scans { count: 0 }
     }
 
-    /// Whether `offer` is below `ceiling`, counting this comparison.
-    pub fn closer(&mut self, ceiling: i16, offer: i16) -> bool
+    /// Whether `new` is less than `slack`, counting this comparison.
+    pub fn closer(&mut self, slack: i16, new: i16) -> bool
         requires room { self.old < 4294967295 }
-        ensures less { IsTrue result ↔ (offer <ℤ ceiling) }
+        ensures less { IsTrue result ↔ (new <ℤ slack) }
         ensures counted { self.new ≡ self.old + 1 }
     {
         self.count += 1;
-        offer < ceiling
+        new < slack
     }
 
     /// The number of comparisons.
