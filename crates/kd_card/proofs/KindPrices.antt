@@ -154,42 +154,70 @@ all_kinds floor (kind ∷ kinds) are = All-cons IsPricedKind kind kinds are.0 (a
 -- ---- kinds, read
 
 -- These kinds have been read: with those that the rest begins with they are all. The next has at least this rank and
--- stands in that line, and they are of so many things.
-pub record HasRead (name : Name) (line : ℕ) (text rest : List ℕ) (floor total at : ℕ) (kept : List PricedKind) : Type 0 where
+-- stands in that line, and they are of so many things. They are kept while these are no more than there have to be.
+pub record HasRead (name : Name) (number line : ℕ) (text rest : List ℕ) (floor total at : ℕ) (kept : List PricedKind) : Type 0 where
+  pub read : List PricedKind
   pub goes_on : (more : List PricedKind) (end : List ℕ) → BeginsWithKinds name floor rest more end
-      → BeginsWithKinds name 0 text (kept ++ more) end
+      → BeginsWithKinds name 0 text (read ++ more) end
   pub low : floor ≤ 703
   pub most : total ≤ 255 * floor
-  pub few : length kept ≤ floor
-  pub total_is : total ≡ counted kept
-  pub at_is : at ≡ line + length kept
+  pub few : length read ≤ floor
+  pub some : length read ≤ total
+  pub total_is : total ≡ counted read
+  pub at_is : at ≡ line + length read
+  pub keeps : total ≤ number → kept ≡ read
 
-pub reads_none : (name : Name) (line : ℕ) (text : List ℕ) (kept : List PricedKind) → kept ≡ []
-    → HasRead name line text text 0 0 line kept
-reads_none name line text kept none = grind arith
+pub reads_none : (name : Name) (number line : ℕ) (text : List ℕ) (kept : List PricedKind) → kept ≡ []
+    → HasRead name number line text text 0 0 line kept
+reads_none name number line text kept none = record {
+  read = [];
+  goes_on = λ more end begins. begins;
+  low = omega arith;
+  most = omega arith;
+  few = omega arith;
+  some = omega arith;
+  total_is = refl;
+  at_is = omega arith;
+  keeps = λ within. none;
+}
 
-pub reads_on : {name : Name} {line : ℕ} {text rest after : List ℕ} {floor total at count rank : ℕ} {kept more : List PricedKind} {kind : PricedKind}
-    → HasRead name line text rest floor total at kept → IsNextKind name floor rest kind after → rank ≡ look_rank kind.look → rank < 703
-    → count ≡ kind.count → more ≡ kept ++ kind ∷ [] → HasRead name line text after (rank + 1) (total + count) (at + 1) more
-reads_on {name} {line} {text} {after} {total} {at} {count} {rank} {kept} {kind} read next ranked low counts keeps =
-    let longer = length-append kept (kind ∷ []) in
+pub reads_on : {name : Name} {number line : ℕ} {text rest after : List ℕ} {floor total at count rank : ℕ} {kept more : List PricedKind} {kind : PricedKind}
+    → HasRead name number line text rest floor total at kept → IsNextKind name floor rest kind after → rank ≡ look_rank kind.look → rank < 703
+    → count ≡ kind.count → (total + count ≤ number → more ≡ kept ++ kind ∷ [])
+    → HasRead name number line text after (rank + 1) (total + count) (at + 1) more
+reads_on {name} {number} {line} {text} {after} {total} {at} {count} {rank} {kept} {kind} so_far next ranked low counts keeps =
+    let read = so_far.read in
+    let longer = length-append read (kind ∷ []) in
     let above = next.above in
     let most = next.good.most in
-    subst (HasRead name line text after (rank + 1) (total + count) (at + 1)) (sym keeps) (record {
+    let some = next.good.some in
+    record {
+      read = read ++ kind ∷ [];
       goes_on = λ more end begins.
           let behind = subst (λ r. BeginsWithKinds name (r + 1) after more end) ranked begins in
-          subst (λ kinds. BeginsWithKinds name 0 text kinds end) (sym (append_assoc kept (kind ∷ []) more))
-          (read.goes_on (kind ∷ more) end (first_kind next behind));
+          subst (λ kinds. BeginsWithKinds name 0 text kinds end) (sym (append_assoc read (kind ∷ []) more))
+          (so_far.goes_on (kind ∷ more) end (first_kind next behind));
       low = omega arith;
-      most = omega (arith, read.most);
-      few = omega (arith, read.few);
-      total_is = omega (arith, counted-append kept (kind ∷ []), read.total_is);
-      at_is = omega (arith, read.at_is);
-    })
+      most = omega (arith, so_far.most);
+      few = omega (arith, so_far.few);
+      some = omega (arith, so_far.some);
+      total_is = omega (arith, counted-append read (kind ∷ []), so_far.total_is);
+      at_is = omega (arith, so_far.at_is);
+      keeps = λ within. keeps within ∙ ap (λ kinds. kinds ++ kind ∷ []) (so_far.keeps (omega arith));
+    }
 
-pub all_read : {name : Name} {line : ℕ} {text rest : List ℕ} {floor total at : ℕ} {kept : List PricedKind}
-    → HasRead name line text rest floor total at kept → HasNoNext name floor rest
-    → BeginsWithKinds name 0 text kept rest
-all_read {name} {text} {rest} {kept} read none =
-    subst (λ kinds. BeginsWithKinds name 0 text kinds rest) (append-nil kept)
+-- so there is room for one more
+pub has_room : {name : Name} {number line : ℕ} {text rest after : List ℕ} {floor total at count : ℕ} {kept : List PricedKind} {kind : PricedKind}
+    → HasRead name number line text rest floor total at kept → IsNextKind name floor rest kind after → count ≡ kind.count → total + count ≤ number
+    → length kept < number
+has_room read next counts within =
+    let some = next.good.some in
+    let kept = ap length (read.keeps (omega arith)) in
+    omega (arith, read.some)
+
+pub all_read : {name : Name} {number line : ℕ} {text rest : List ℕ} {floor total at : ℕ} {kept : List PricedKind}
+    → (read : HasRead name number line text rest floor total at kept) → HasNoNext name floor rest
+    → BeginsWithKinds name 0 text read.read rest
+all_read {name} {text} {rest} read none =
+    subst (λ kinds. BeginsWithKinds name 0 text kinds rest) (append-nil read.read)
     (read.goes_on [] rest (record { lines = refl; called = tt; in_order = tt; none_more = none }))

@@ -15,9 +15,6 @@ use arrayvec::{ArrayString, ArrayVec};
 use itoa::Buffer;
 use kd_state::{number_of_text, push_number, split_words};
 
-/// No group has more kinds in order, each once: their ranks are below this.
-const MOST: usize = 703;
-
 /// The kind of things of that name whose line has these words behind its first one, which is the name.
 #[tactic(auto, using(crate::proofs::Lines::words_in_place))]
 fn kind_behind(name: Name, behind: Option<&[u8]>) -> Option<PricedKind>
@@ -77,15 +74,15 @@ fn next_kind(
     }
 }
 
-/// The kinds of a group of things of that name, in lines of which the first is that of this number, and what follows
-/// them. They are in order, each once, and of so many things together.
+/// Reads the kinds of a group of `number` things called `name`, whose first line is line `line`. Answers them and what
+/// follows. Kinds that would count more than `number` things are read and not kept.
 #[tactic(auto, using(crate::proofs::KindPrices::reads_none))]
 pub(crate) fn read_kinds<'a>(
     text: &'a [u8],
     name: Name,
     number: usize,
     line: usize,
-) -> Result<(ArrayVec<PricedKind, MOST>, &'a [u8]), CardFault>
+) -> Result<(ArrayVec<PricedKind, 27>, &'a [u8]), CardFault>
     requires few { number ≤ 27 }
     requires near { line < 300 }
     ensures { MatchResult result
@@ -107,7 +104,9 @@ pub(crate) fn read_kinds<'a>(
         };
         floor = kind.look.rank() + 1;
         total += usize::from(kind.count);
-        kinds.push(kind);
+        if total <= number {
+            kinds.push(kind);
+        }
         rest = after;
         at += 1;
     }
