@@ -1,5 +1,8 @@
--- Things grouped into kinds, rank by rank.
-use Rattle.kd_prices.proofs.Prelude.{few_kinds, low_rank, ◌≡◌, ◌≢◌, ℕ, ◌+◌, ◌-◌, ◌<◌, ◌≤◌, inl, inr, Bool, true, false, cond, eqb, ltb, List, [], ◌∷◌, length, count_by, refl, sym, ap, ◌∙◌, subst, arith, ℤ, pos, unsigned_abs, None, All, cases_lt, lt-ltb, ne_eqb, eq-eqb, nat_tests, All-nil, All-cons, All-head, All-tail, All-get_or, All-from_get_or, All-weaker, Look, Pair, PricedKind, look_name, look_rank, counted, IsInForm, IsPricedKind, AreKinds, AreCalled, price_at, AreWithinReach, look_at, alike_count, IsPriced, HasCount, AreAlikePriced, IsKindAt, AreKindsOf, AreWithPrices}
+-- Things grouped into kinds, by rank from the lowest one on.
+use Rattle.kd_prices.proofs.Prelude.{few_kinds, floor_behind, low_rank, below_more, ◌≡◌, ℕ, suc, ◌+◌, ◌<◌, ◌≤◌, inl, inr, Bool, true, false, cond, eqb, ltb, List, [], ◌∷◌, ◌++◌, length}
+use Rattle.kd_prices.proofs.Prelude.{count_by, refl, sym, ap, ◌∙◌, subst, arith, ℤ, pos, unsigned_abs, None, All, cases_lt, lt-ltb, le-ltb, eq-eqb, nat_tests, All-nil, All-push, All-head, All-tail, All-get_or}
+use Rattle.kd_prices.proofs.Prelude.{All-from_get_or, length-append, Look, Pair, PricedKind, look_name, look_rank, counted, IsInForm, IsPricedKind, AreKinds, AreCalled, price_at, AreWithinReach, look_at, alike_count}
+use Rattle.kd_prices.proofs.Prelude.{HasPrice, IsPriced, HasCount, AreAlikePriced, IsKindAt, IsLowest, AreKindsOf, AreWithPrices}
 use Rattle.std.proofs.lemmas.List.Sums.{sum_by-cons, sum_by-le, count_by-le-length, get_or-le-sum_by}
 use Rattle.kd_prices.proofs.Meaning.{one_price}
 
@@ -45,67 +48,94 @@ some_counted looks place inside =
     let here = ap (λ b. cond {A = ℕ} b 1 0) (eq-eqb (look_rank look) (look_rank look) refl) in
     omega arith
 
--- ---- all ranks are below 703
+same_counted : (p q : Look → Bool) (looks : List Look) → ((place : ℕ) → place < length looks → p (look_at looks place) ≡ q (look_at looks place))
+    → count_by p looks ≡ count_by q looks
+same_counted p q [] same = refl
+same_counted p q (look ∷ looks) same =
+    let one = sum_by-cons (λ l. cond {A = ℕ} (p l) 1 0) look looks in
+    let other = sum_by-cons (λ l. cond {A = ℕ} (q l) 1 0) look looks in
+    let here : cond {A = ℕ} (p look) 1 0 ≡ cond (q look) 1 0 = ap (λ b. cond {A = ℕ} b 1 0) (same 0 (omega arith)) in
+    omega (arith, same_counted p q looks (λ place inside. same (suc place) (omega arith)))
+
+-- ---- the place of the lowest rank
+
+pub lowest_here : {floor number : ℕ} {looks : List Look} → floor ≤ look_rank (look_at looks number)
+    → ((other : ℕ) → other < number → floor ≤ look_rank (look_at looks other) → look_rank (look_at looks number) ≤ look_rank (look_at looks other))
+    → IsLowest floor looks (number + 1) number
+lowest_here {floor} {number} {looks} from lower = record {
+  inside = omega arith;
+  from = from;
+  lowest = below_more _ number lower (λ high. omega arith);
+}
+
+pub still_lowest : {floor number place : ℕ} {looks : List Look} → IsLowest floor looks number place
+    → (floor ≤ look_rank (look_at looks number) → look_rank (look_at looks place) ≤ look_rank (look_at looks number))
+    → IsLowest floor looks (number + 1) place
+still_lowest {number} so_far here =
+    let inside = so_far.inside in
+    record { inside = omega arith; from = so_far.from; lowest = below_more _ number so_far.lowest here }
+
+-- ---- kinds, all of ranks below 703
 
 low_look : (look : Look) → IsInForm look → look_rank look < 703
 low_look look e = grind (arith, low_rank)
 
--- ---- kinds
+counted-append : (kinds more : List PricedKind) → counted (kinds ++ more) ≡ counted kinds + counted more
+counted-append [] more = omega arith
+counted-append (first ∷ kinds) more = omega (arith, counted-append kinds more)
 
-from_lower : (floor : ℕ) (kinds : List PricedKind) → AreKinds (floor + 1) kinds → AreKinds floor kinds
-from_lower floor [] are = tt
-from_lower floor (kind ∷ kinds) are = let above = are.1 in (are.0, omega (arith, above), are.2)
+behind : (floor : ℕ) (kinds : List PricedKind) (kind : PricedKind) → AreKinds floor kinds → IsPricedKind kind → floor_behind floor kinds ≤ look_rank kind.look
+    → AreKinds floor (kinds ++ kind ∷ [])
+behind floor [] kind are good above = (good, above, tt)
+behind floor (first ∷ kinds) kind are good above = (are.0, are.1, behind (look_rank first.look + 1) kinds kind are.2 good above)
 
--- ---- rank by rank, from the highest one on
+floor_of_last : (floor : ℕ) (kinds : List PricedKind) (kind : PricedKind) → floor_behind floor (kinds ++ kind ∷ []) ≡ look_rank kind.look + 1
+floor_of_last floor [] kind = refl
+floor_of_last floor (first ∷ kinds) kind = floor_of_last (look_rank first.look + 1) kinds kind
 
--- the kinds are those of all things of that rank and of higher ones, each with the price of one of its things
-pub record AreGrouped (looks : List Look) (prices : List ℤ) (rank : ℕ) (kinds : List PricedKind) : Type 0 where
-  pub in_order : AreKinds rank kinds
+called_behind : (name : _) (kinds : List PricedKind) (kind : PricedKind) → AreCalled name kinds → look_name kind.look ≡ name → AreCalled name (kinds ++ kind ∷ [])
+called_behind name [] kind are called = (called, tt)
+called_behind name (first ∷ kinds) kind are called = (are.0, called_behind name kinds kind are.1 called)
+
+priced_before : (look : Look) (price : ℤ) (kinds : List PricedKind) (kind : PricedKind) → IsPriced look price kinds → IsPriced look price (kinds ++ kind ∷ [])
+priced_before look price [] kind none = absurd none
+priced_before look price (first ∷ kinds) kind (inl has) = inl has
+priced_before look price (first ∷ kinds) kind (inr later) = inr (priced_before look price kinds kind later)
+
+priced_last : (look : Look) (price : ℤ) (kinds : List PricedKind) (kind : PricedKind) → HasPrice look price kind → IsPriced look price (kinds ++ kind ∷ [])
+priced_last look price [] kind has = inl has
+priced_last look price (first ∷ kinds) kind has = inr (priced_last look price kinds kind has)
+
+-- ---- from the lowest rank on
+
+-- the kinds are those of all things of lower ranks than this one, each with the price of one of its things
+pub record AreGrouped (looks : List Look) (prices : List ℤ) (floor : ℕ) (kinds : List PricedKind) : Type 0 where
+  pub in_order : AreKinds 0 kinds
+  pub above : floor_behind 0 kinds ≤ floor
   pub called : (name : _) → All (λ look. look_name look ≡ name) looks → AreCalled name kinds
-  pub count : counted kinds + count_by (below rank) looks ≡ length looks
+  pub count : counted kinds ≡ count_by (below floor) looks
   pub counts : All (HasCount looks) kinds
   pub each :
-      AreAlikePriced looks prices → (place : ℕ) → place < length looks → rank ≤ look_rank (look_at looks place)
+      AreAlikePriced looks prices → (place : ℕ) → place < length looks → look_rank (look_at looks place) < floor
       → IsPriced (look_at looks place) (price_at prices place) kinds
 
--- no thing has a higher rank
-pub grouped_none : (looks : List Look) (prices : List ℤ) → All IsInForm looks → AreGrouped looks prices 703 []
-grouped_none looks prices form = record {
+-- no thing has a rank below 0
+pub grouped_none : (looks : List Look) (prices : List ℤ) → AreGrouped looks prices 0 []
+grouped_none looks prices = record {
   in_order = tt;
+  above = omega arith;
   called = λ name all. tt;
-  count =
-      let low = All-weaker IsInForm (λ look. below 703 look ≡ true) (λ look e. lt-ltb (look_rank look) 703 (low_look look e)) looks form in
-      omega (arith, all_counted (below 703) looks low);
+  count = sym (none_counted (below 0) looks (λ place inside. grind (arith, nat_tests)));
   counts = All-nil (HasCount looks);
-  each = λ alike place inside high. absurd (omega (arith, low_look _ (All-get_or IsInForm looks place (Pair None) inside form)));
+  each = λ alike place inside low. absurd (omega arith);
 }
-
-pub counted_down : {looks : List Look} {prices : List ℤ} {rank : ℕ} {kinds : List PricedKind} → 0 < rank → AreGrouped looks prices rank kinds
-    → AreGrouped looks prices (rank - 1 + 1) kinds
-counted_down {looks} {prices} {kinds} some = subst (λ r. AreGrouped looks prices r kinds) (omega arith)
-
--- no thing has the rank
-pub grouped_past : (looks : List Look) (prices : List ℤ) (rank : ℕ) (kinds : List PricedKind)
-    → ((place : ℕ) → place < length looks → look_rank (look_at looks place) ≢ rank) → AreGrouped looks prices (rank + 1) kinds
-    → AreGrouped looks prices rank kinds
-grouped_past looks prices rank kinds none so_far =
-    let count = so_far.count in
-    let nothing = none_counted (of_rank rank) looks
-    (λ place inside. ne_eqb (look_rank (look_at looks place)) rank (none place inside)) in
-    record {
-      in_order = from_lower rank kinds so_far.in_order;
-      called = so_far.called;
-      count = omega (arith, count_more rank looks);
-      counts = so_far.counts;
-      each = λ alike place inside high. let away = none place inside in so_far.each alike place inside (omega arith);
-    }
 
 -- a kind more: at most 27 things, each in its form and with a price that may stand on a card
 module _ (looks : List Look) (prices : List ℤ) (few : length looks ≤ 27) (each : length prices ≡ length looks)
     (form : All IsInForm looks) (reach : AreWithinReach prices)
-    (rank place : ℕ) (kinds : List PricedKind) (kind : PricedKind) (ranked : look_rank (look_at looks place) ≡ rank)
+    (floor place : ℕ) (kinds : List PricedKind) (kind : PricedKind) (lowest : IsLowest floor looks (length looks) place)
     (is : IsKindAt looks prices place kind)
-    (so_far : AreGrouped looks prices (rank + 1) kinds) where
+    (so_far : AreGrouped looks prices floor kinds) where
   good_kind : IsPricedKind kind
   good_kind =
       let inside = is.inside in
@@ -120,40 +150,58 @@ module _ (looks : List Look) (prices : List ℤ) (few : length looks ≤ 27) (ea
             (All-get_or (λ price. unsigned_abs price ≤ 9999) prices place (pos 0) (omega arith) reach);
       }
 
-  pub grouped_on : AreGrouped looks prices rank (kind ∷ kinds)
+  ranked : look_rank kind.look ≡ look_rank (look_at looks place)
+  ranked = ap look_rank is.look
+
+  -- no thing has a rank between
+  none_between : count_by (below (look_rank kind.look)) looks ≡ count_by (below floor) looks
+  none_between = same_counted (below (look_rank kind.look)) (below floor) looks (λ other within.
+      let from = lowest.from in
+      elim (cases_lt (look_rank (look_at looks other)) floor) [
+        | inl low ↦ lt-ltb _ _ (omega (arith, ranked)) ∙ sym (lt-ltb _ _ low)
+        | inr high ↦
+            let up = lowest.lowest other within (omega arith) in
+            le-ltb _ _ (omega (arith, ranked)) ∙ sym (le-ltb _ _ high)
+      ])
+
+  pub grouped_on : AreGrouped looks prices (look_rank (look_at looks place) + 1) (kinds ++ kind ∷ [])
   grouped_on =
-      let count = so_far.count in
-      let here = is.count in
-      let same : look_rank kind.look ≡ rank = ap look_rank is.look ∙ ranked in
-      let these = ap (λ r. count_by (of_rank r) looks) same in
+      let from = lowest.from in
+      let low = so_far.above in
       record {
-        in_order = (good_kind, omega arith, subst (λ r. AreKinds (r + 1) kinds) (sym same) so_far.in_order);
-        called = λ name all.
-            (ap look_name is.look ∙ All-get_or (λ look. look_name look ≡ name) looks place (Pair None) is.inside all, so_far.called name all);
-        count = omega (arith, count_more rank looks);
-        counts = All-cons (HasCount looks) kind kinds (record { count = is.count }) so_far.counts;
-        each = λ alike other inside high.
-            elim (cases_lt rank (look_rank (look_at looks other))) [
-              | inl higher ↦ inr (so_far.each alike other inside (omega arith))
-              | inr low ↦
-                  let equal : look_rank (look_at looks other) ≡ rank = omega arith in
-                  inl (record { alike = same ∙ sym equal; price = is.price ∙ alike place other is.inside inside (ranked ∙ sym equal) })
+        in_order = behind 0 kinds kind so_far.in_order good_kind (omega (arith, ranked));
+        above = omega (arith, floor_of_last 0 kinds kind, ranked);
+        called = λ name all. called_behind name kinds kind (so_far.called name all)
+            (ap look_name is.look ∙ All-get_or (λ look. look_name look ≡ name) looks place (Pair None) is.inside all);
+        count = counted-append kinds (kind ∷ [])
+            ∙ omega (arith, so_far.count, is.count, none_between, count_more (look_rank kind.look) looks)
+            ∙ ap (λ r. count_by (below (r + 1)) looks) ranked;
+        counts = All-push (HasCount looks) kinds kind so_far.counts (record { count = is.count });
+        each = λ alike other inside below.
+            elim (cases_lt (look_rank (look_at looks other)) floor) [
+              | inl lower ↦ priced_before _ _ kinds kind (so_far.each alike other inside lower)
+              | inr high ↦
+                  let up = lowest.lowest other inside (omega arith) in
+                  let equal : look_rank (look_at looks place) ≡ look_rank (look_at looks other) = omega arith in
+                  priced_last _ _ kinds kind (record { alike = ranked ∙ equal; price = is.price ∙ alike place other is.inside inside equal })
             ];
       }
 
   pub room : length kinds < 27
   room =
       let count = grouped_on.count in
-      let short = few_kinds rank (kind ∷ kinds) grouped_on.in_order in
-      omega arith
+      let short = few_kinds 0 (kinds ++ kind ∷ []) grouped_on.in_order in
+      let most = count_by-le-length (below (look_rank (look_at looks place) + 1)) looks in
+      omega (arith, length-append kinds (kind ∷ []))
 
--- the end: all ranks are passed
-module _ (looks : List Look) (prices : List ℤ) (kinds : List PricedKind) (grouped : AreGrouped looks prices 0 kinds) where
-  pub all_kinds : AreKindsOf looks kinds
-  all_kinds =
-      let none = none_counted (below 0) looks (λ place inside. grind (arith, nat_tests)) in
-      let count = grouped.count in
-      record { in_order = grouped.in_order; count = omega arith; called = grouped.called }
+-- the end: no thing has such a rank or a higher one
+pub all_kinds : {looks : List Look} {prices : List ℤ} {floor : ℕ} {kinds : List PricedKind}
+    → ((place : ℕ) → place < length looks → look_rank (look_at looks place) < floor) → AreGrouped looks prices floor kinds → AreKindsOf looks kinds
+all_kinds {looks} {floor} low grouped = record {
+  in_order = grouped.in_order;
+  count = grouped.count ∙ all_counted (below floor) looks (All-from_get_or (λ look. below floor look ≡ true) looks (Pair None) (λ i inside. lt-ltb _ _ (low i inside)));
+  called = grouped.called;
+}
 
 -- ---- what has one price for each kind has equal prices where it is alike
 

@@ -1,5 +1,5 @@
 -- Cards that can have one price for each kind.
-use Rattle.std.specs.Prelude.{◌≡◌, ℕ, ◌<◌, List, length, All, ℤ}
+use Rattle.std.specs.Prelude.{◌≡◌, ℕ, ◌<◌, ◌≤◌, List, length, All, ℤ}
 use Rattle.kd_state.specs.declared.machine.parts.Parts.{Parts}
 use Rattle.kd_state.specs.SheetDay.{Day}
 use Rattle.kd_card.specs.declared.card.Card.{Card}
@@ -39,6 +39,12 @@ abbrev pub AreAlikePriced : List Look → List ℤ → Type 0
 AreAlikePriced looks prices =
     (place other : ℕ) → place < length looks → other < length looks
     → look_rank (look_at looks place) ≡ look_rank (look_at looks other) → price_at prices place ≡ price_at prices other
+
+-- of the first looks, so many, the one at that place has the lowest rank from that one on
+pub record IsLowest (floor : ℕ) (looks : List Look) (number place : ℕ) : Type 0 where
+  pub inside : place < number
+  pub from : floor ≤ look_rank (look_at looks place)
+  pub lowest : (other : ℕ) → other < number → floor ≤ look_rank (look_at looks other) → look_rank (look_at looks place) ≤ look_rank (look_at looks other)
 
 -- the kind of the thing at that place: its look, how many look so, and its price
 pub record IsKindAt (looks : List Look) (prices : List ℤ) (place : ℕ) (kind : PricedKind) : Type 0 where

@@ -1,12 +1,12 @@
 //! Cards with one price for each kind.
-ghost use Rattle.std.specs.Prelude.{◌≡◌, ◌≢◌, ◌↔◌, ℕ, ◌<◌, ◌≤◌, length, All};
+ghost use Rattle.std.specs.Prelude.{◌≡◌, ◌↔◌, ℕ, ◌<◌, ◌≤◌, length, All};
 ghost use Rattle.std.specs.Prelude.{IfSome, IsSome, MatchOption};
 ghost use Rattle.kd_card.specs.Kinds.{look_rank, IsInForm};
 ghost use Rattle.kd_card.specs.Prices.{AreWithinReach};
 ghost use Rattle.kd_card.specs.CardText.{row_name, column_name, price_count};
 ghost use Rattle.kd_card.specs.Proving.{look_at, AreExpanded};
 ghost use Rattle.kd_prices.specs.KindCards.{CanBeByKind, IsByKind, AreByKind, AreAlikePriced};
-ghost use Rattle.kd_prices.specs.KindCards.{IsKindAt, AreKindsOf, AreWithPrices, AreThings, AreOfGroup};
+ghost use Rattle.kd_prices.specs.KindCards.{IsLowest, IsKindAt, AreKindsOf, AreWithPrices, AreThings, AreOfGroup};
 
 use super::checking::are_of_one_model;
 use super::expanding::{alike_count, priced};
@@ -14,9 +14,6 @@ use super::looks::{column_looks, row_looks};
 use arrayvec::ArrayVec;
 use kd_card::{Card, Group, Look, PricedKind, Prices, Version};
 use kd_state::{Machine, SheetDay};
-
-/// The ranks of all looks in their one form are below this.
-const RANKS: usize = 703;
 
 /// The same card with one price for each kind of cables or bars, and for each of pairs and nothings or rows; `check`
 /// expands these prices to the card's own. None where machine, day and prices are of different models, where the
@@ -107,21 +104,31 @@ fn first_kinds(looks: &[Look], prices: &[i16]) -> ArrayVec<PricedKind, 27>
         → AreExpanded looks.now result.items prices.now }
 {
     let mut kinds = ArrayVec::new();
-    for rank in (0..RANKS).rev() {
-        if let Some(place) = place_of(rank, looks) {
-            kinds.insert(0, kind_at(place, looks, prices));
-        }
+    let mut floor = 0;
+    while let Some(place) = lowest_place(floor, looks) {
+        floor = looks[place].rank() + 1;
+        kinds.push(kind_at(place, looks, prices));
     }
     kinds
 }
 
-/// A place of a look with that rank, counted from 0, if there is one.
-fn place_of(rank: usize, looks: &[Look]) -> Option<usize>
+/// The place, counted from 0, of a look with the lowest rank from `floor` on.
+fn lowest_place(floor: usize, looks: &[Look]) -> Option<usize>
     ensures { MatchOption result
-        ((place : ℕ) → place < length looks.now → look_rank (look_at looks.now place) ≢ rank)
-        (λ place. (place < length looks.now) × (look_rank (look_at looks.now place) ≡ rank)) }
+        ((place : ℕ) → place < length looks.now → look_rank (look_at looks.now place) < floor)
+        (IsLowest floor looks.now (length looks.now)) }
 {
-    looks.iter().position(|look| look.rank() == rank)
+    let mut lowest = None;
+    for (place, look) in looks.iter().enumerate() {
+        let is_lower = match lowest {
+            Some(other) => look.rank() < looks[other].rank(),
+            None => true,
+        };
+        if is_lower && floor <= look.rank() {
+            lowest = Some(place);
+        }
+    }
+    lowest
 }
 
 /// The kind of the thing at that place, with the thing's price.

@@ -1,30 +1,22 @@
-use Rattle.kd_prices.proofs.Prelude.{◌≡◌, subst, arith}
-use Rattle.kd_prices.proofs.Grouping.{AreGrouped, grouped_none, counted_down, grouped_past, grouped_on, room, all_kinds}
+use Rattle.kd_prices.proofs.Prelude.{◌≡◌, ◌∙◌, None, Pair, ap, arith, get_or_default, look_at, look_rank}
+use Rattle.kd_prices.proofs.Grouping.{all_kinds, grouped_none, grouped_on, room}
 use Rattle.kd_prices.proofs.kind_cards.first_kinds.Goals as goal
 
-pub loop-rank-init : goal.loop-rank-init
-loop-rank-init c = rw c.new-kinds.ensures (grouped_none _ _ c.requires.form)
+pub loop-place-init : goal.loop-place-init
+loop-place-init c = rw c.new-kinds.ensures (grouped_none _ _)
 
-pub insert-requires : goal.insert-requires
-insert-requires c = (
+pub push-requires : goal.push-requires
+push-requires c = (
   omega arith,
-  (
-    omega arith,
-    room _ _ c.requires.few c.requires.each c.requires.form c.requires.reach _ _ _ _ c.in-Some.ensures.1 c.kind_at.ensures
-        (counted_down c.loop-rank-test.true c.loop-rank.invariant),
-  ),
+  omega (arith, room _ _ c.requires.few c.requires.each c.requires.form c.requires.reach _ _ _ _ c.in-Some.ensures c.kind_at.ensures c.loop-place.invariant),
 )
 
-pub loop-rank-preserved-in-Some : goal.loop-rank-preserved-in-Some
-loop-rank-preserved-in-Some c =
-    rw c.insert.ensures.items
-    (grouped_on _ _ c.requires.few c.requires.each c.requires.form c.requires.reach _ _ _ _ c.in-Some.ensures.1 c.kind_at.ensures
-    (counted_down c.loop-rank-test.true c.loop-rank.invariant))
-
-pub loop-rank-preserved : goal.loop-rank-preserved
-loop-rank-preserved c = grouped_past _ _ _ _ c.in_default.ensures (counted_down c.loop-rank-test.true c.loop-rank.invariant)
+pub loop-place-preserved : goal.loop-place-preserved
+loop-place-preserved c =
+    let rank : c.rank-floor.result ≡ look_rank (look_at c.args.looks.now c.in-Some.place) =
+    c.rank-floor.ensures.value ∙ ap look_rank (c.index-looks-place.is ∙ get_or_default _ _ _ (Pair None) c.kind_at.ensures.inside) in
+    rw (c.push.ensures.items, rank)
+    (grouped_on _ _ c.requires.few c.requires.each c.requires.form c.requires.reach _ _ _ _ c.in-Some.ensures c.kind_at.ensures c.loop-place.invariant)
 
 pub returns-clause-kinds : goal.returns-clause-kinds
-returns-clause-kinds c =
-    let last : c.loop-rank.rank ≡ 0 = omega arith in
-    all_kinds _ _ _ (subst (λ rank. AreGrouped c.args.looks.now c.args.prices.now rank c.loop-rank.kinds.items) last c.loop-rank.invariant)
+returns-clause-kinds c = all_kinds c.in_default.ensures c.loop-place.invariant
