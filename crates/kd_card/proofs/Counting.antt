@@ -147,10 +147,6 @@ all_counted (Rotor m) (OfRotors s) machine legal same =
 all_counted (Pin m) (OfPins s) machine legal same = pin_counted m s machine.legal.pins legal.pins
 all_counted m s machine legal same = record { count = refl; priced = refl }
 
-pub as_many : (m : Parts) (s : Day) (xs : List Setting) → IsMachine m → IsLegalDay s → model_of m ≡ day_model s
-    → xs ≡ loose_lines m s → length xs ≡ loose_count m s
-as_many m s xs machine legal same e = rw e (omega (arith, (all_counted m s machine legal same).count))
-
 -- ---- there is room for all of them
 pub few_in_box : (model : Model) → length (box_of model) ≤ 10
 few_in_box model = grind arith

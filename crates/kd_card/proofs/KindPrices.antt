@@ -127,7 +127,7 @@ first_kind {rest} {kind} {kinds} next behind = record {
   none_more = behind.none_more;
 }
 
-counted-append : (kinds more : List PricedKind) → counted (kinds ++ more) ≡ counted kinds + counted more
+pub counted-append : (kinds more : List PricedKind) → counted (kinds ++ more) ≡ counted kinds + counted more
 counted-append [] more = omega arith
 counted-append (first ∷ kinds) more = omega (arith, counted-append kinds more)
 

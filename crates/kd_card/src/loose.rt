@@ -1,38 +1,128 @@
-//! What is loose on a machine beside a day: what isn't as the day has it, cables and bars apart.
-ghost use Rattle.std.specs.Prelude.{◌≡◌, ◌+◌, ◌≤◌, ◌++◌, length};
-ghost use Rattle.std.specs.Option.{option_to_list};
-ghost use Rattle.arrayvec.specs.ArrayVec.{array_vec_len};
-ghost use Rattle.kd_state.specs.Machine.{model_of};
-ghost use Rattle.kd_state.specs.SheetDay.{day_model};
-ghost use Rattle.kd_state.specs.Costs.{loose_count};
-ghost use Rattle.kd_card.specs.Loose.{loose_lines};
+//! How many things of a machine aren't as a day has them, cables and bars apart.
+ghost use Rattle.std.specs.Prelude.{◌≡◌, ◌≤◌, false, not, nat_eq, length, map, sum, count_by, zip};
+ghost use Rattle.std.specs.Option.{option_map_or};
+ghost use Rattle.kd_pins.specs.PinWheels.{pins_of};
+ghost use Rattle.kd_state.specs.ToldApart.{same_wheel, same_reflector};
+ghost use Rattle.kd_state.specs.Machine.{ring_in, letter_in};
+ghost use Rattle.kd_state.specs.Costs as costs;
+ghost use Rattle.kd_state.specs.Costs.{differ, unless_same};
 
-use super::pin_lines::pin_settings;
-use super::rotor_lines::rotor_settings;
-use kd_state::{Machine, OneModel, Setting, Settings, SheetDay};
+use kd_pins::PinSet;
+use kd_state::{Entry, Machine, Parts, SheetDay, SheetWheel};
+use kd_tables::{Letter, Reflector, Wheel};
 
-/// A setting for each thing of the machine that isn't as the day has it, cables and bars apart, in the order in
-/// which they are made: wheels and reflector, rings and letters, or pins and letters. Machine and day have to be
-/// of one model.
-pub fn loose_settings(machine: &Machine, day: &SheetDay) -> Settings
-    requires { model_of machine.now ≡ day_model day.now }
-    ensures lines { result.items ≡ loose_lines machine.now day.now }
-    ensures count { length result.items ≡ loose_count machine.now day.now }
-    ensures few { length result.items ≤ 137 }
+/// Counts the slots, the reflector, the rings and the letters that aren't as the day has them, or the pins and the
+/// letters of pin wheels. It is 0 for a rotor machine and a day of the Converter M-209, and the other way round.
+pub fn loose_count(machine: &Machine, day: &SheetDay) -> usize
+    ensures value { result ≡ costs.loose_count machine.now day.now }
+    ensures few { result ≤ 137 }
 {
-    match machine.of_one_model(day).unwrap() {
-        OneModel::Rotor(parts, entry) => rotor_settings(machine, parts, entry),
-        OneModel::Pin(parts, entry) => pin_settings(parts, entry),
+    match (machine.parts(), day.entry()) {
+        (Parts::Rotor(parts), Entry::Rotor(entry)) => {
+            let wheels = entry.wheels.as_slice();
+            let slots = loose_slots(parts.slots.as_slice(), wheels);
+            let reflector = loose_reflector(parts.reflector, entry.reflector);
+            slots + reflector + loose_rings(machine, wheels) + loose_letters(machine, wheels)
+        }
+        (Parts::Pin(parts), Entry::Pin(entry)) => {
+            let letters = loose_pin_letters(&parts.letters, &entry.window);
+            loose_pins(&parts.pins, &entry.pins) + letters
+        }
+        _ => 0,
     }
 }
 
-/// Appends the setting of a line, if there is one.
-pub fn push_line(settings: &mut Settings, line: Option<Setting>)
-    requires { array_vec_len settings.old + 1 ≤ 192 }
-    ensures items { settings.new.items ≡ settings.old.items ++ option_to_list line }
-    ensures few { array_vec_len settings.new ≤ array_vec_len settings.old + 1 }
+/// Counts the slots that hold another wheel than the day's, or none.
+fn loose_slots(slots: &[Option<Wheel>], wheels: &[SheetWheel]) -> usize
+    ensures value { result ≡ count_by
+        (λ slot. not (option_map_or (same_wheel slot.1.wheel) slot.0 false)) (zip slots.now wheels.now) }
+    ensures few { result ≤ length wheels.now }
 {
-    if let Some(line) = line {
-        settings.push(line);
+    if let [seated, slots @ ..] = slots
+        && let [wanted, wheels @ ..] = wheels
+    {
+        usize::from(*seated != Some(wanted.wheel)) + loose_slots(slots, wheels)
+    } else {
+        0
+    }
+}
+
+/// Counts the reflector, if it is another one.
+fn loose_reflector(present: Reflector, wanted: Reflector) -> usize
+    ensures value { result ≡ unless_same (same_reflector present wanted) }
+    ensures few { result ≤ 1 }
+{
+    usize::from(present != wanted)
+}
+
+/// Counts the day's wheels whose rings differ.
+fn loose_rings(machine: &Machine, wheels: &[SheetWheel]) -> usize
+    ensures value { result ≡ count_by
+        (λ w. not (option_map_or (nat_eq w.ring) (ring_in machine.now w.wheel) false)) wheels.now }
+    ensures few { result ≤ length wheels.now }
+{
+    match wheels {
+        [] => 0,
+        [wanted, rest @ ..] => {
+            usize::from(machine.ring(wanted.wheel) != Some(wanted.ring))
+                + loose_rings(machine, rest)
+        }
+    }
+}
+
+/// Counts the day's wheels whose letters differ.
+fn loose_letters(machine: &Machine, wheels: &[SheetWheel]) -> usize
+    ensures value { result ≡ count_by
+        (λ w. not (option_map_or (nat_eq w.letter) (letter_in machine.now w.wheel) false)) wheels.now }
+    ensures few { result ≤ length wheels.now }
+{
+    match wheels {
+        [] => 0,
+        [wanted, rest @ ..] => {
+            usize::from(machine.letter(wanted.wheel) != Some(wanted.letter))
+                + loose_letters(machine, rest)
+        }
+    }
+}
+
+/// Counts the pins that differ, on all six wheels.
+fn loose_pins(present: &PinSet, wanted: &PinSet) -> usize
+    ensures value { result ≡ sum (map (λ wheel. count_by (λ pin. differ pin.0 pin.1) (zip wheel.0 wheel.1))
+        (zip (pins_of present.now) (pins_of wanted.now))) }
+    ensures few { result ≤ 131 }
+{
+    loose_wheel_pins(&present.w1, &wanted.w1)
+        + loose_wheel_pins(&present.w2, &wanted.w2)
+        + loose_wheel_pins(&present.w3, &wanted.w3)
+        + loose_wheel_pins(&present.w4, &wanted.w4)
+        + loose_wheel_pins(&present.w5, &wanted.w5)
+        + loose_wheel_pins(&present.w6, &wanted.w6)
+}
+
+/// Counts the pins of one wheel that differ.
+fn loose_wheel_pins(present: &[bool], wanted: &[bool]) -> usize
+    ensures value { result ≡ count_by (λ pin. differ pin.0 pin.1) (zip present.now wanted.now) }
+    ensures few { result ≤ length present.now }
+{
+    if let [now, present @ ..] = present
+        && let [due, wanted @ ..] = wanted
+    {
+        usize::from(now != due) + loose_wheel_pins(present, wanted)
+    } else {
+        0
+    }
+}
+
+/// Counts the pin wheels that show another letter than the day's.
+fn loose_pin_letters(letters: &[Letter], window: &[Letter]) -> usize
+    ensures value { result ≡ count_by (λ letter. not (nat_eq letter.0 letter.1)) (zip letters.now window.now) }
+    ensures few { result ≤ length letters.now }
+{
+    if let [present, letters @ ..] = letters
+        && let [wanted, window @ ..] = window
+    {
+        usize::from(present != wanted) + loose_pin_letters(letters, window)
+    } else {
+        0
     }
 }

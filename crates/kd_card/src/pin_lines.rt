@@ -7,14 +7,15 @@ ghost use Rattle.kd_state.specs.SheetDay.{OfPins};
 ghost use Rattle.kd_state.specs.Entry.{pin_values};
 ghost use Rattle.kd_card.specs.Loose.{unless_so, lines_from, wheel_pin_lines, pin_lines, pin_turn_of, loose_lines};
 
-use super::loose::push_line;
+use super::line::push_line;
 use arrayvec::ArrayVec;
 use kd_pins::PinSet;
 use kd_state::{PinEntry, PinParts, Setting, Settings};
 use kd_tables::{Letter, ring1, ring2, ring3, ring4, ring5, ring6};
 
-/// What isn't as the day has it on a Converter M-209, bars apart, line by line.
-pub(crate) fn pin_settings(parts: &PinParts, entry: &PinEntry) -> Settings
+/// A setting for each thing of a Converter M-209 that isn't as the day has it, bars apart, in the order in which they are
+/// made: pins and letters.
+pub fn pin_settings(parts: &PinParts, entry: &PinEntry) -> Settings
     ensures lines { result.items ≡ loose_lines (Pin parts.now) (OfPins (pin_values entry.now)) }
     ensures few { length result.items ≤ 137 }
 {

@@ -9,14 +9,15 @@ ghost use Rattle.kd_state.specs.SheetDay.{OfRotors};
 ghost use Rattle.kd_state.specs.Entry.{rotor_values};
 ghost use Rattle.kd_card.specs.Loose.{unless_so, lines_from, seat_of, ring_of_wheel, turn_of, loose_lines};
 
-use super::loose::push_line;
+use super::line::push_line;
 use arrayvec::ArrayVec;
 use kd_state::{Machine, RotorEntry, RotorParts, Setting, Settings, SheetWheel};
 use kd_tables::{Reflector, Wheel};
 
-/// What isn't as the day has it on a rotor machine, cables apart, line by line.
+/// A setting for each thing of a rotor machine that isn't as the day has it, cables apart, in the order in which they are
+/// made: wheels, reflector, rings and letters. `parts` are those of `machine`.
 #[tactic(auto, using(crate::proofs::Counting::few_in_box))]
-pub(crate) fn rotor_settings(machine: &Machine, parts: &RotorParts, entry: &RotorEntry) -> Settings
+pub fn rotor_settings(machine: &Machine, parts: &RotorParts, entry: &RotorEntry) -> Settings
     requires { machine.now ≡ Rotor parts.now }
     ensures lines { result.items
         ≡ loose_lines (Rotor parts.now) (OfRotors (rotor_values entry.now)) }

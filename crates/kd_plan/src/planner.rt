@@ -7,7 +7,7 @@ ghost use Rattle.kd_state.specs.{Entry.{rotor_values, pin_values}, Machine.{IsMa
 
 use super::card_prices::prices_due;
 use super::other_model::OtherModel;
-use super::paired::paired_settings;
+use super::paired::{pin_lines, rotor_lines};
 use super::spares::keep_spares_free;
 use kd_assign::{Solution, assign};
 use kd_card::{Card, Prices, Version};
@@ -41,21 +41,22 @@ fn planned_card(machine: &Machine, day: &SheetDay) -> Option<Card>
     ensures legal { IsLegalDay day.now }
 {
     match machine.of_one_model(day)? {
-        OneModel::Rotor(parts, entry) => Some(rotor_card(machine, day, parts, entry)),
-        OneModel::Pin(parts, entry) => Some(pin_card(machine, day, parts, entry)),
+        OneModel::Rotor(parts, entry) => Some(rotor_card(machine, parts, entry)),
+        OneModel::Pin(parts, entry) => Some(pin_card(parts, entry)),
     }
 }
 
-/// The card of a rotor machine.
+/// The card of a rotor machine, of which these are the parts.
 #[tactic(auto, using(crate::proofs::Planning::planned, crate::proofs::Planning::four_at_most, crate::proofs::Planning::all_within))]
-fn rotor_card(machine: &Machine, day: &SheetDay, parts: &RotorParts, entry: &RotorEntry) -> Card
+fn rotor_card(machine: &Machine, parts: &RotorParts, entry: &RotorEntry) -> Card
     requires parts { machine.now ≡ Parts.Rotor parts.now }
-    requires entry { day.now ≡ OfRotors (rotor_values entry.now) }
-    requires model { model_of machine.now ≡ day_model day.now }
-    requires machine { IsMachine machine.now }
-    requires legal { IsLegalDay day.now }
-    ensures planned { IsPlanned machine.now day.now result.settings.items result.prices }
-    ensures spares { SparesStayFree machine.now day.now result.settings.items }
+    requires model { parts.now.model ≡ entry.now.model }
+    requires machine { IsMachine (Parts.Rotor parts.now) }
+    requires legal { IsLegalDay (OfRotors (rotor_values entry.now)) }
+    ensures planned { let day = OfRotors (rotor_values entry.now) in
+        IsPlanned (Parts.Rotor parts.now) day result.settings.items result.prices }
+    ensures spares { let day = OfRotors (rotor_values entry.now) in
+        SparesStayFree (Parts.Rotor parts.now) day result.settings.items }
 {
     let pairs = entry.pairs.as_slice();
     let costs = cable_costs(&parts.cables, pairs);
@@ -68,17 +69,15 @@ fn rotor_card(machine: &Machine, day: &SheetDay, parts: &RotorParts, entry: &Rot
     } = assign(&costs);
     keep_spares_free(&parts.cables, pairs, &mut to);
     let prices = Prices::cables(prices_due(total, row), prices_due(total, col)).unwrap();
-    let settings = paired_settings(machine, day, &to);
+    let settings = rotor_lines(machine, parts, entry, &to);
     Card { settings, prices }
 }
 
 /// The card of a Converter M-209.
 #[tactic(auto, using(crate::proofs::Planning::planned, crate::proofs::Planning::two_at_most, crate::proofs::Planning::all_within))]
-fn pin_card(machine: &Machine, day: &SheetDay, parts: &PinParts, entry: &PinEntry) -> Card
-    requires parts { machine.now ≡ Parts.Pin parts.now }
-    requires entry { day.now ≡ OfPins (pin_values entry.now) }
-    requires model { model_of machine.now ≡ day_model day.now }
-    ensures { IsPlanned machine.now day.now result.settings.items result.prices }
+fn pin_card(parts: &PinParts, entry: &PinEntry) -> Card
+    ensures { let day = OfPins (pin_values entry.now) in
+        IsPlanned (Parts.Pin parts.now) day result.settings.items result.prices }
 {
     let costs = bar_costs(&parts.bars, &entry.rows);
     let Solution {
@@ -89,6 +88,6 @@ fn pin_card(machine: &Machine, day: &SheetDay, parts: &PinParts, entry: &PinEntr
         ..
     } = assign(&costs);
     let prices = Prices::bars(prices_due(total, row), prices_due(total, col)).unwrap();
-    let settings = paired_settings(machine, day, &to);
+    let settings = pin_lines(parts, entry, &to);
     Card { settings, prices }
 }

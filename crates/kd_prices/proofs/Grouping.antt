@@ -1,5 +1,5 @@
 -- Things grouped into kinds, by rank from the lowest one on.
-use Rattle.kd_prices.proofs.Prelude.{few_kinds, floor_behind, low_rank, below_more, ◌≡◌, ℕ, suc, ◌+◌, ◌<◌, ◌≤◌, inl, inr, Bool, true, false, cond, eqb, ltb, List, [], ◌∷◌, ◌++◌, length}
+use Rattle.kd_prices.proofs.Prelude.{counted-append, few_kinds, floor_behind, low_rank, below_more, ◌≡◌, ℕ, suc, ◌+◌, ◌<◌, ◌≤◌, inl, inr, Bool, true, false, cond, eqb, ltb, List, [], ◌∷◌, ◌++◌, length}
 use Rattle.kd_prices.proofs.Prelude.{count_by, refl, sym, ap, ◌∙◌, subst, arith, ℤ, pos, unsigned_abs, None, All, cases_lt, lt-ltb, le-ltb, eq-eqb, nat_tests, All-nil, All-push, All-head, All-tail, All-get_or}
 use Rattle.kd_prices.proofs.Prelude.{All-from_get_or, length-append, Look, Pair, PricedKind, look_name, look_rank, counted, IsInForm, IsPricedKind, AreKinds, AreCalled, price_at, AreWithinReach, look_at, alike_count}
 use Rattle.kd_prices.proofs.Prelude.{HasPrice, IsPriced, HasCount, AreAlikePriced, IsKindAt, IsLowest, AreKindsOf, AreWithPrices}
@@ -79,10 +79,6 @@ still_lowest {number} so_far here =
 
 low_look : (look : Look) → IsInForm look → look_rank look < 703
 low_look look e = grind (arith, low_rank)
-
-counted-append : (kinds more : List PricedKind) → counted (kinds ++ more) ≡ counted kinds + counted more
-counted-append [] more = omega arith
-counted-append (first ∷ kinds) more = omega (arith, counted-append kinds more)
 
 behind : (floor : ℕ) (kinds : List PricedKind) (kind : PricedKind) → AreKinds floor kinds → IsPricedKind kind → floor_behind floor kinds ≤ look_rank kind.look
     → AreKinds floor (kinds ++ kind ∷ [])

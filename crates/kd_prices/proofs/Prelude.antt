@@ -8,7 +8,7 @@ pub use Rattle.std.proofs.lemmas.List.{append-nil, drop_all, drop_more, ext_get_
 pub use Rattle.std.proofs.lemmas.List.Elements.{All-cons, All-contains_itself, All-from_get_or, All-from_recursion, All-get_or, All-head, All-map, All-more, All-nil, All-push, All-same, All-tail, All-weaker, recursion_from_All}
 pub use Rattle.std.proofs.lemmas.Option.{slice_get-get_or, slice_get_past, unwrap_or-slice_get}
 pub use Rattle.std.specs.{List.{All, AllByRecursion}, Prelude.{drop, map, take, ◌↔◌, Err, IfErr, IsOk, Ok, Result}}
-pub use Rattle.kd_card.proofs.{KindPrices.{few_kinds, size_of}, KindWords.{low_rank, ranks_tell_looks}}
+pub use Rattle.kd_card.proofs.{KindPrices.{counted-append, few_kinds, size_of}, KindWords.{low_rank, ranks_tell_looks}}
 pub use Rattle.kd_card.specs.CardFault.{floor_behind}
 pub use Rattle.kd_card.specs.CardText.{column_name, group_of, price_count, row_name}
 pub use Rattle.kd_card.specs.Kinds.{AreCalled, AreEnds, AreKinds, IsInForm, IsPricedKind, counted, look_name, look_rank}

@@ -7,7 +7,7 @@ ghost use Rattle.kd_card.specs.Proving as proving;
 ghost use Rattle.kd_prices.specs.Doubt.{SaysCarried, SaysNeeded};
 
 use super::doubt::Doubt;
-use kd_card::loose_settings;
+use kd_card::loose_count;
 use kd_state::{Machine, Setting, SheetDay};
 
 /// Where the lines of a card lead, and whether each of them is needed, or the first doubt about one.
@@ -26,13 +26,13 @@ pub(crate) fn walked(machine: &Machine, day: &SheetDay, settings: &[Setting]) ->
     ensures refused { IfErr result (λ doubt. SaysCarried machine.now settings.now (Err doubt)) }
 {
     let mut reached = *machine;
-    let mut loose = loose_settings(machine, day).len();
+    let mut loose = loose_count(machine, day);
     let mut needed = Ok(());
     for (place, setting) in settings.iter().enumerate() {
         if let Err(illegal) = reached.carry(*setting) {
             return Err(Doubt::IllegalAt(place + 1, illegal.why));
         }
-        let left = loose_settings(&reached, day).len();
+        let left = loose_count(&reached, day);
         needed = needed.and(judged(setting, place + 1, loose, left));
         loose = left;
     }

@@ -119,13 +119,10 @@ spares_stay_free m s to machine legal same size once last cable letter (k, lt, e
     let all = All-append (LeavesSpares m s) _ _ (All-append (LeavesSpares m s) _ _ loose pulls) puts in
     subst (LeavesSpares m s) e (all k (Put cable letter) lt)
 
-pub spared : (m : Parts) (s : Day) (parts : RotorParts) (entry : RotorDay) (pairs : List (ℕ × ℕ)) (to : List ℕ)
-    (settings : List Setting)
-    → m ≡ Rotor parts → s ≡ OfRotors entry → IsMachine m → IsLegalDay s → model_of m ≡ day_model s → pairs ≡ entry.pairs
-    → length to ≡ 13 → IsOneToOne to → SparesComeLast parts.cables (length pairs) to → settings ≡ planned_lines m s to
-    → SparesStayFree m s settings
-spared m s parts entry pairs to settings rotor day machine legal same alike size once last lines =
-    rw (lines, rotor, day)
-    (spares_stay_free parts entry to (subst IsMachine rotor machine) (subst IsLegalDay day legal)
-    (sym (ap model_of rotor) ∙ same ∙ ap day_model day)
-    size once (subst (λ all. SparesComeLast parts.cables (length all) to) alike last))
+pub spared : (m : RotorParts) (s : RotorDay) (pairs : List (ℕ × ℕ)) (to : List ℕ) (settings : List Setting)
+    → IsMachine (Rotor m) → IsLegalDay (OfRotors s) → m.model ≡ s.model → pairs ≡ s.pairs
+    → length to ≡ 13 → IsOneToOne to → SparesComeLast m.cables (length pairs) to
+    → settings ≡ planned_lines (Rotor m) (OfRotors s) to → SparesStayFree (Rotor m) (OfRotors s) settings
+spared m s pairs to settings machine legal same alike size once last lines =
+    rw lines
+    (spares_stay_free m s to machine legal same size once (subst (λ all. SparesComeLast m.cables (length all) to) alike last))
