@@ -9,6 +9,7 @@ use Rattle.kd_card.proofs.Prelude.{same_reflector, same_wheel, seconds-zip, subs
 use Rattle.kd_card.proofs.Prelude.{sum_by-cons, sums_add, sym, true, zero, zip, ℕ, ◌++◌, ◌+◌, ◌∙◌, ◌∷◌, ◌≡◌, ◌≢◌, ◌≤◌}
 use Rattle.kd_card.specs.Loose.{lines_from, loose_lines, pin_lines, pin_of, pin_turn_of, ring_lines, ring_of_wheel}
 use Rattle.kd_card.specs.Loose.{seat_of, turn_of, unless_so, wheel_pin_lines}
+use Rattle.kd_card.specs.Laws.{LooseThingsAreCounted}
 use Rattle.kd_state.proofs.Wheels.{allowed_in_box, has_wheel-Decides, same_wheel-Decides, same_wheel_differs}
 use Rattle.kd_state.specs.{Machine.HasAllPins, Pins.wheel_pins, SheetDay.AreSeated, SheetDay.seats}
 use Rattle.kd_state.specs.{ToldApart.has_wheel, declared.sheet_day.rotor_entry.SheetWheel.SheetWheel}
@@ -146,6 +147,9 @@ all_counted (Rotor m) (OfRotors s) machine legal same =
     rotor_counted m s (subst (λ model. AreSeated model (seats s.wheels)) (sym same) legal.wheels)
 all_counted (Pin m) (OfPins s) machine legal same = pin_counted m s machine.legal.pins legal.pins
 all_counted m s machine legal same = record { count = refl; priced = refl }
+
+pub loose_things_are_counted : LooseThingsAreCounted
+loose_things_are_counted m s machine legal same = omega (arith, (all_counted m s machine legal same).count)
 
 -- ---- there is room for all of them
 pub few_in_box : (model : Model) → length (box_of model) ≤ 10

@@ -11,8 +11,14 @@ use Rattle.kd_card.specs.declared.look.Look.{Look}
 use Rattle.kd_card.specs.Kinds.{look_name, look_rank, IsInForm}
 use Rattle.kd_card.specs.Prices.{Fits, price_sum, ArePrices, AreTight}
 use Rattle.kd_card.specs.CardText.{IsCard}
+use Rattle.kd_card.specs.Loose.{loose_lines}
 use Rattle.kd_card.specs.CardFault.{SaysCard, IsCardFault}
 use Rattle.kd_card.specs.Proving.{AreNeeded, AreOfKind, ProvesByNumber, Proves, IsShortest, LeadsToTheDay, priced_count}
+
+-- there are as many settings for loose things as loose things
+abbrev pub LooseThingsAreCounted : Type 0
+LooseThingsAreCounted =
+    (m : Parts) (s : Day) → IsMachine m → IsLegalDay s → model_of m ≡ day_model s → length (loose_lines m s) ≡ loose_count m s
 
 -- Where prices fit, no settings whatever that lead the machine to the day are fewer than the loose things and the sum of
 -- the prices.

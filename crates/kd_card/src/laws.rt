@@ -1,6 +1,6 @@
 //! What holds of cards.
 ghost use Rattle.kd_card.specs.Laws.{RanksTellLooks, TextsTellCards, NoCardBeginsAnother, CardsAreSaid};
-ghost use Rattle.kd_card.specs.Laws.{CardsHaveNoFault, OneCardFault, FittingPricesBoundLists, AsFewAreNeeded};
+ghost use Rattle.kd_card.specs.Laws.{CardsHaveNoFault, OneCardFault, LooseThingsAreCounted, FittingPricesBoundLists, AsFewAreNeeded};
 ghost use Rattle.kd_card.specs.Months.{CardsAreFewestInAll};
 ghost use Rattle.kd_card.specs.Laws.{ProvingCardsAreAsLong, ProvingCardsAreShortest, ProvingPricesAreTight};
 
@@ -12,6 +12,12 @@ pub fn no_two_cards_have_one_text()
     ensures said { CardsAreSaid }
     ensures no_fault { CardsHaveNoFault }
     ensures one_fault { OneCardFault }
+{}
+
+/// There are as many settings for loose things as loose things.
+#[tactic(auto, using(crate::proofs::Counting::loose_things_are_counted))]
+pub fn loose_things_are_counted()
+    ensures { LooseThingsAreCounted }
 {}
 
 /// Where prices fit, no settings whatever that lead a machine to the day are fewer than its loose things and the sum of

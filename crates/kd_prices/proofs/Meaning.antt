@@ -1,5 +1,8 @@
 -- Prices mean one list of prices by number at most, and those are of the same model.
-use Rattle.kd_prices.proofs.Prelude.{below_more, ◌≡◌, ◌≢◌, Some, ℕ, ◌+◌, ◌-◌, drop, take, take_all, ◌<◌, ◌≤◌, inl, inr, List, [], ◌∷◌, ◌++◌, length, get_or, sym, ◌∙◌, subst, arith, ℤ, pos, unsigned_abs, Option, None, MatchOption, All-from_get_or, Pair, ext_get_or, get_or_default, Parts, Setting, Day, Look, PricedKind, PriceParts, Group, ByNumber, ByKind, look_rank, AreKinds, version_of, row_kinds, column_kinds, ArePrices, row_prices, column_prices, price_at, AreWithinReach, group_of, AreOfKind, row_looks, column_looks, IsPriced, look_at, AreExpanded, Expands, Same, Expanded, group_of_machine, Proves, AreOfOneModel, AreNumbered}
+use Rattle.kd_prices.proofs.Prelude.{below_more, ◌≡◌, ◌≢◌, Some, ℕ, ◌+◌, ◌-◌, drop, take, take_all, ◌<◌, ◌≤◌, inl, inr, List, [], ◌∷◌, ◌++◌, length, get_or, sym, ◌∙◌, subst, arith, ℤ, pos, unsigned_abs, Option, None, MatchOption, All-from_get_or, Pair, ext_get_or, get_or_default, Parts, Setting, Day, Look, PricedKind, PriceParts, Group, ByNumber, ByKind, look_rank, AreKinds, version_of, row_kinds, column_kinds, ArePrices, row_prices, column_prices, price_at, AreWithinReach, group_of, AreOfKind, row_looks, column_looks, IsPriced, look_at, AreExpanded, Expands, Same, Expanded, group_of_machine, Proves, AreOfOneModel, AreNumbered, AreParted, ap}
+use Rattle.kd_state.specs.{Machine.{model_of}, SheetDay.{day_model}}
+use Rattle.kd_state.specs.declared.machine.one_model.OneModel.{OneModel}
+use Rattle.kd_state.specs.declared.machine.one_model.OneModel.TheVariants as both
 use Rattle.{std.proofs.lemmas.List.{get_or_append_left, get_or_at}, kd_card.specs.CardFault.numbered}
 
 above : (floor : ℕ) (kinds : List PricedKind) (look : Look) (price : ℤ) → AreKinds floor kinds → IsPriced look price kinds → floor ≤ look_rank look
@@ -50,6 +53,15 @@ of_one_model m s settings prices h = grind (arith, same_group, group_is)
 
 pub are_numbered : (m : Parts) (s : Day) (prices numbered : PriceParts) → AreOfOneModel m s prices → Expands m s prices numbered → AreNumbered m s numbered
 are_numbered m s prices numbered model expands = grind (arith, same_group, kind_is)
+
+-- a machine and a day that are taken apart together are of one model
+pub one_model : (m : Parts) (s : Day) (both : OneModel) → AreParted m s both → model_of m ≡ day_model s
+one_model m s (both.Rotor parts entry) h = ap model_of h.0 ∙ h.2 ∙ sym (ap day_model h.1)
+one_model m s (both.Pin parts entry) h = ap model_of h.0 ∙ sym (ap day_model h.1)
+
+pub other_kind : {m : Parts} {s : Day} {prices : PriceParts} {group other : Group} → group_of_machine m ≡ group → group_of prices ≡ other → group ≢ other
+    → ¬ (AreOfOneModel m s prices)
+other_kind machine are differ one = differ (sym machine ∙ sym one.group ∙ are)
 
 -- ---- prices found
 

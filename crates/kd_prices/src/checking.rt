@@ -1,17 +1,16 @@
-ghost use Rattle.std.specs.Prelude.{◌≡◌, ◌↔◌, ◌≤◌, length, IsTrue, IsOk, IfErr, MatchOption};
+ghost use Rattle.std.specs.Prelude.{◌≡◌, ◌↔◌, ◌≤◌, length, IsOk, IfErr, MatchOption};
 ghost use Rattle.kd_state.specs.Costs.{cost_table};
-ghost use Rattle.kd_card.specs.Prices.{Fits};
-ghost use Rattle.kd_card.specs.CardText.{group_of};
-ghost use Rattle.kd_card.specs.Proving.{Proves, group_of_machine, priced_count};
-ghost use Rattle.kd_prices.specs.Doubt.{AreOfOneModel, AreNumbered, IsFirstTooHigh, SaysChecked};
-ghost use Rattle.kd_prices.specs.Doubt.{SaysByNumber, IsDoubt};
+ghost use Rattle.kd_state.specs.{Machine.{model_of}, SheetDay.{day_model}};
+ghost use Rattle.kd_card.specs.Prices.{Fits, how_many};
+ghost use Rattle.kd_card.specs.Proving.{Proves, priced_count};
+ghost use Rattle.kd_prices.specs.Doubt.{AreOfOneModel, IsFirstTooHigh, SaysChecked, SaysByNumber, IsDoubt};
 
 use super::doubt::Doubt;
 use super::expanding::expanded;
 use super::fitting::{Cell, first_too_high};
 use super::walking::{is_priced, walked};
-use kd_card::{Card, Group, PriceParts, Prices};
-use kd_state::{Machine, OneModel, Parts, Setting, SheetDay, bar_costs, cable_costs};
+use kd_card::{Card, Group, Prices};
+use kd_state::{Machine, OneModel, Setting, SheetDay, bar_costs, cable_costs};
 
 /// Whether the card proves itself, whoever made it: its lines lead the machine to the day, and its prices show that no
 /// settings that do are fewer. Else the first doubt, in the order in which `Doubt` has them.
@@ -28,23 +27,51 @@ pub fn check(machine: &Machine, day: &SheetDay, card: &Card) -> Result<(), Doubt
 fn judged(machine: &Machine, day: &SheetDay, card: &Card) -> Result<(), Doubt>
     ensures { SaysChecked machine.now day.now card.now.settings.items card.now.prices result }
 {
-    if !are_of_one_model(machine, day, &card.prices) {
+    let Some(one_model) = machine.of_one_model(day) else {
         return Err(Doubt::OtherModel);
+    };
+    match (one_model, card.prices.group()) {
+        (OneModel::Rotor(parts, entry), Group::OfCables) => {
+            let costs = cable_costs(&parts.cables, entry.pairs.as_slice());
+            judged_by_costs(machine, day, card, &costs)
+        }
+        (OneModel::Pin(parts, entry), Group::OfBars) => {
+            let costs = bar_costs(&parts.bars, &entry.rows);
+            judged_by_costs(machine, day, card, &costs)
+        }
+        _ => Err(Doubt::OtherModel),
     }
+}
+
+/// The same where machine, day and prices are of one kind, by the table of costs.
+fn judged_by_costs<const N: usize>(
+    machine: &Machine,
+    day: &SheetDay,
+    card: &Card,
+    costs: &[[u8; N]; N],
+) -> Result<(), Doubt>
+    requires model { AreOfOneModel machine.now day.now card.now.prices }
+    requires costs { costs.now ≡ cost_table machine.now day.now }
+    requires size { how_many card.now.prices ≡ N }
+    ensures { SaysChecked machine.now day.now card.now.settings.items card.now.prices result }
+{
     let Some(numbered) = expanded(machine, day, &card.prices) else {
         return Err(Doubt::PriceMissing);
     };
-    judged_by_number(machine, day, card.settings.as_slice(), &numbered)
+    judged_by_number(machine, day, card.settings.as_slice(), costs, &numbered)
 }
 
 /// The same of prices by number.
-fn judged_by_number(
+fn judged_by_number<const N: usize>(
     machine: &Machine,
     day: &SheetDay,
     settings: &[Setting],
+    costs: &[[u8; N]; N],
     prices: &Prices,
 ) -> Result<(), Doubt>
-    requires numbered { AreNumbered machine.now day.now prices.now }
+    requires model { model_of machine.now ≡ day_model day.now }
+    requires costs { costs.now ≡ cost_table machine.now day.now }
+    requires size { how_many prices.now ≡ N }
     requires few { length settings.now ≤ 192 }
     ensures { SaysByNumber machine.now day.now settings.now prices.now result }
 {
@@ -52,7 +79,7 @@ fn judged_by_number(
     if !walk.reached.reads_as(day) {
         return Err(Doubt::NotTheSheet);
     }
-    if let Some(cell) = too_high(machine, day, prices) {
+    if let Some(cell) = too_high(costs, prices) {
         return Err(Doubt::PriceTooHigh(cell.row as u8 + 1, cell.column as u8 + 1));
     }
     if prices.sum() != priced_count(settings) as i32 {
@@ -61,41 +88,16 @@ fn judged_by_number(
     walk.needed
 }
 
-/// Whether machine and day are of one model, and the prices of their kind.
-pub(crate) fn are_of_one_model(machine: &Machine, day: &SheetDay, prices: &Prices) -> bool
-    ensures { IsTrue result ↔ AreOfOneModel machine.now day.now prices.now }
+/// The first row and column whose prices are together above the cost there.
+fn too_high<const N: usize>(costs: &[[u8; N]; N], prices: &Prices) -> Option<Cell>
+    requires { how_many prices.now ≡ N }
+    ensures { MatchOption result
+        (Fits costs.now prices.now)
+        (λ cell. IsFirstTooHigh costs.now prices.now cell.row cell.column) }
 {
-    machine.model() == day.model() && are_of_kind(machine, prices)
-}
-
-/// Whether the prices are of cables for a rotor machine, and of bars for a Converter M-209.
-fn are_of_kind(machine: &Machine, prices: &Prices) -> bool
-    ensures { IsTrue result ↔ (group_of prices.now ≡ group_of_machine machine.now) }
-{
-    matches!(
-        (machine.parts(), prices.group()),
-        (Parts::Rotor(_), Group::OfCables) | (Parts::Pin(_), Group::OfBars)
-    )
-}
-
-/// The first row and column whose prices are together above what the machine's cable or bar costs there.
-fn too_high(machine: &Machine, day: &SheetDay, prices: &Prices) -> Option<Cell>
-    requires { AreNumbered machine.now day.now prices.now }
-    ensures { let costs = cost_table machine.now day.now in
-        MatchOption result (Fits costs prices.now)
-        (λ cell. IsFirstTooHigh costs prices.now cell.row cell.column) }
-{
-    match (machine.of_one_model(day).unwrap(), prices.parts()) {
-        (OneModel::Rotor(parts, entry), PriceParts::Cables(rows, columns)) => {
-            let costs = cable_costs(&parts.cables, entry.pairs.as_slice());
-            first_too_high(&costs, &rows, &columns)
-        }
-        (OneModel::Pin(parts, entry), PriceParts::Bars(rows, columns)) => {
-            let costs = bar_costs(&parts.bars, &entry.rows);
-            first_too_high(&costs, &rows, &columns)
-        }
-        _ => unreachable!(),
-    }
+    let rows = prices.row_prices();
+    let columns = prices.column_prices();
+    first_too_high(costs, rows.as_slice(), columns.as_slice())
 }
 
 /// How many of the settings change a cable or a bar.

@@ -13,9 +13,11 @@ pub(crate) struct Cell {
 /// The first cell, by its row and then its column, at which the row's price and the column's are together above the cost.
 pub(crate) fn first_too_high<const N: usize>(
     costs: &[[u8; N]; N],
-    rows: &[i16; N],
-    columns: &[i16; N],
+    rows: &[i16],
+    columns: &[i16],
 ) -> Option<Cell>
+    requires rows { length rows.now ≡ N }
+    requires columns { length columns.now ≡ N }
     ensures { MatchOption result
         ((i j : ℕ) → i < N → j < N → AreWithin costs.now rows.now columns.now i j)
         (λ cell. IsFirstWithout (AreWithin costs.now rows.now columns.now) N cell.row cell.column) }

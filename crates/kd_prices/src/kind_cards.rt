@@ -8,12 +8,11 @@ ghost use Rattle.kd_card.specs.Proving.{look_at, AreExpanded};
 ghost use Rattle.kd_prices.specs.KindCards.{CanBeByKind, IsByKind, AreByKind, AreAlikePriced};
 ghost use Rattle.kd_prices.specs.KindCards.{IsLowest, IsKindAt, AreKindsOf, AreWithPrices, AreThings, AreOfGroup};
 
-use super::checking::are_of_one_model;
 use super::expanding::{alike_count, priced};
 use super::looks::{column_looks, row_looks};
 use arrayvec::ArrayVec;
-use kd_card::{Card, Group, Look, PricedKind, Prices, Version};
-use kd_state::{Machine, SheetDay};
+use kd_card::{Card, Group, Look, PriceParts, PricedKind, Prices};
+use kd_state::{Machine, OneModel, SheetDay};
 
 /// The same card with one price for each kind of cables or bars, and for each of pairs and nothings or rows; `check`
 /// expands these prices to the card's own. None where machine, day and prices are of different models, where the
@@ -35,18 +34,16 @@ fn prices_by_kind(machine: &Machine, day: &SheetDay, prices: &Prices) -> Option<
         (¬ (CanBeByKind machine.now day.now prices.now))
         (AreByKind machine.now day.now prices.now) }
 {
-    if !are_of_one_model(machine, day, prices) {
-        return None;
-    }
-    match prices.version() {
-        Version::ByNumber => of_group(
-            prices.group(),
-            row_looks(machine).as_slice(),
-            prices.row_prices().as_slice(),
-            column_looks(day).as_slice(),
-            prices.column_prices().as_slice(),
-        ),
-        Version::ByKind => None,
+    let (rows, columns) = (row_looks(machine), column_looks(day));
+    let (rows, columns) = (rows.as_slice(), columns.as_slice());
+    match (machine.of_one_model(day)?, prices.parts()) {
+        (OneModel::Rotor(..), PriceParts::Cables(cables, pairs)) => {
+            of_group(Group::OfCables, rows, &cables, columns, &pairs)
+        }
+        (OneModel::Pin(..), PriceParts::Bars(bars, others)) => {
+            of_group(Group::OfBars, rows, &bars, columns, &others)
+        }
+        _ => None,
     }
 }
 

@@ -1,24 +1,48 @@
-use Rattle.kd_prices.proofs.{AlikeLooks.by_kind_told, Prelude.sym, Prelude.◌∙◌}
-use Rattle.kd_prices.proofs.Things.{columns_are_things, groups_meet, rows_are_things}
+use Rattle.kd_prices.proofs.Prelude.{AreOfOneModel, AreParted, ArePrices, OfBars, OfCables, ap, group_of_machine, refl, subst, sym, ◌∙◌}
+use Rattle.kd_prices.proofs.{AlikeLooks.by_kind_told, Meaning.one_model}
+use Rattle.kd_prices.proofs.Things.{columns_of_day, group_of_day, rows_of}
 use Rattle.kd_prices.proofs.kind_cards.prices_by_kind.Goals as goal
 
 pub of_group-requires-clause-rows : goal.of_group-requires-clause-rows
 of_group-requires-clause-rows c =
-    let one = c.are_of_one_model.ensures.0 c.if-not-are_of_one_model.false in
-    rw (c.group.ensures, c.as_slice.ensures.value, c.row_looks.ensures.looks, one.group) (rows_are_things _ c.row_looks.ensures.machine)
+    let parted = subst (AreParted _ _) c.in-Rotor-Cables.is-0 c.in_ok-of_one_model.ensures.parted in
+    rw (c.as_slice-rows.ensures.value, c.row_looks-rows.ensures.looks)
+    (rows_of OfCables _ c.in_ok-of_one_model.ensures.machine (ap group_of_machine parted.0))
 
 pub of_group-requires-clause-columns : goal.of_group-requires-clause-columns
 of_group-requires-clause-columns c =
-    let one = c.are_of_one_model.ensures.0 c.if-not-are_of_one_model.false in
-    let meet = groups_meet _ _ c.row_looks.ensures.machine c.column_looks.ensures.day one.model in
-    rw (c.group.ensures, c.as_slice-in-ByNumber-2.ensures.value, c.column_looks.ensures.looks, one.group, ← meet)
-    (columns_are_things _ c.column_looks.ensures.day)
+    let parted = subst (AreParted _ _) c.in-Rotor-Cables.is-0 c.in_ok-of_one_model.ensures.parted in
+    rw (c.as_slice-columns.ensures.value, c.column_looks-columns.ensures.looks)
+    (columns_of_day OfCables _ c.in_ok-of_one_model.ensures.day (ap group_of_day parted.1))
 
-pub returns-in-ByNumber : goal.returns-in-ByNumber
-returns-in-ByNumber c =
-    by_kind_told
-    _ _ _ c.row_looks.ensures.machine c.column_looks.ensures.day c.row_prices.ensures.are_prices
-    (c.are_of_one_model.ensures.0 c.if-not-are_of_one_model.false) (sym c.version.ensures.value ∙ c.in-ByNumber.is) _
-    (rw (c.as_slice-in-ByNumber-2.ensures.value, c.column_looks.ensures.looks, c.as_slice-in-ByNumber-3.ensures.value, c.column_prices.ensures.value)
-    at (rw (c.group.ensures, c.as_slice.ensures.value, c.row_looks.ensures.looks, c.as_slice-in-ByNumber.ensures.value, c.row_prices.ensures.value)
+pub of_group-requires-in-Pin-Bars-clause-rows : goal.of_group-requires-in-Pin-Bars-clause-rows
+of_group-requires-in-Pin-Bars-clause-rows c =
+    let parted = subst (AreParted _ _) c.in-Pin-Bars.is-0 c.in_ok-of_one_model.ensures.parted in
+    rw (c.as_slice-rows.ensures.value, c.row_looks-rows.ensures.looks)
+    (rows_of OfBars _ c.in_ok-of_one_model.ensures.machine (ap group_of_machine parted.0))
+
+pub of_group-requires-in-Pin-Bars-clause-columns : goal.of_group-requires-in-Pin-Bars-clause-columns
+of_group-requires-in-Pin-Bars-clause-columns c =
+    let parted = subst (AreParted _ _) c.in-Pin-Bars.is-0 c.in_ok-of_one_model.ensures.parted in
+    rw (c.as_slice-columns.ensures.value, c.column_looks-columns.ensures.looks)
+    (columns_of_day OfBars _ c.in_ok-of_one_model.ensures.day (ap group_of_day parted.1))
+
+pub returns-in-Rotor-Cables : goal.returns-in-Rotor-Cables
+returns-in-Rotor-Cables c =
+    let so = c.in_ok-of_one_model.ensures in
+    let parted = subst (AreParted _ _) c.in-Rotor-Cables.is-0 so.parted in
+    let one : AreOfOneModel _ _ _ = record { model = one_model _ _ _ so.parted; group = sym (ap group_of_machine parted.0) } in
+    rw (sym c.parts.ensures.value ∙ c.in-Rotor-Cables.is-1)
+    (by_kind_told _ _ _ so.machine so.day (subst ArePrices c.in-Rotor-Cables.is-1 c.parts.ensures.are_prices) one refl _
+    (rw (c.as_slice-rows.ensures.value, c.row_looks-rows.ensures.looks, c.as_slice-columns.ensures.value, c.column_looks-columns.ensures.looks)
     at c.of_group.ensures))
+
+pub returns-in-Pin-Bars : goal.returns-in-Pin-Bars
+returns-in-Pin-Bars c =
+    let so = c.in_ok-of_one_model.ensures in
+    let parted = subst (AreParted _ _) c.in-Pin-Bars.is-0 so.parted in
+    let one : AreOfOneModel _ _ _ = record { model = one_model _ _ _ so.parted; group = sym (ap group_of_machine parted.0) } in
+    rw (sym c.parts.ensures.value ∙ c.in-Pin-Bars.is-1)
+    (by_kind_told _ _ _ so.machine so.day (subst ArePrices c.in-Pin-Bars.is-1 c.parts.ensures.are_prices) one refl _
+    (rw (c.as_slice-rows.ensures.value, c.row_looks-rows.ensures.looks, c.as_slice-columns.ensures.value, c.column_looks-columns.ensures.looks)
+    at c.of_group-in-Pin-Bars.ensures))
