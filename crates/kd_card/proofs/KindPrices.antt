@@ -155,7 +155,8 @@ all_kinds floor (kind ∷ kinds) are = All-cons IsPricedKind kind kinds are.0 (a
 
 -- These kinds have been read: with those that the rest begins with they are all. The next has at least this rank and
 -- stands in that line, and they are of so many things. They are kept while these are no more than there have to be.
-pub record HasRead (name : Name) (number line : ℕ) (text rest : List ℕ) (floor total at : ℕ) (kept : List PricedKind) : Type 0 where
+pub record HasRead (name : Name) (number line : ℕ) (text rest : List ℕ) (floor total at : ℕ) (kept : List PricedKind)
+    : Type 0 where
   pub read : List PricedKind
   pub goes_on : (more : List PricedKind) (end : List ℕ) → BeginsWithKinds name floor rest more end
       → BeginsWithKinds name 0 text (read ++ more) end
@@ -181,11 +182,13 @@ reads_none name number line text kept none = record {
   keeps = λ within. none;
 }
 
-pub reads_on : {name : Name} {number line : ℕ} {text rest after : List ℕ} {floor total at count rank : ℕ} {kept more : List PricedKind} {kind : PricedKind}
-    → HasRead name number line text rest floor total at kept → IsNextKind name floor rest kind after → rank ≡ look_rank kind.look → rank < 703
+pub reads_on : {name : Name} {number line : ℕ} {text rest after : List ℕ} {floor total at count rank : ℕ}
+    {kept more : List PricedKind} {kind : PricedKind}
+    → HasRead name number line text rest floor total at kept → IsNextKind name floor rest kind after
+    → rank ≡ look_rank kind.look → rank < 703
     → count ≡ kind.count → (total + count ≤ number → more ≡ kept ++ kind ∷ [])
     → HasRead name number line text after (rank + 1) (total + count) (at + 1) more
-reads_on {name} {number} {line} {text} {after} {total} {at} {count} {rank} {kept} {kind} so_far next ranked low counts keeps =
+reads_on {name} {text} {after} {kind} so_far next ranked low counts keeps =
     let read = so_far.read in
     let longer = length-append read (kind ∷ []) in
     let above = next.above in
@@ -207,8 +210,10 @@ reads_on {name} {number} {line} {text} {after} {total} {at} {count} {rank} {kept
     }
 
 -- so there is room for one more
-pub has_room : {name : Name} {number line : ℕ} {text rest after : List ℕ} {floor total at count : ℕ} {kept : List PricedKind} {kind : PricedKind}
-    → HasRead name number line text rest floor total at kept → IsNextKind name floor rest kind after → count ≡ kind.count → total + count ≤ number
+pub has_room : {name : Name} {number line : ℕ} {text rest after : List ℕ} {floor total at count : ℕ}
+    {kept : List PricedKind} {kind : PricedKind}
+    → HasRead name number line text rest floor total at kept → IsNextKind name floor rest kind after
+    → count ≡ kind.count → total + count ≤ number
     → length kept < number
 has_room read next counts within =
     let some = next.good.some in

@@ -18,7 +18,8 @@ use Rattle.kd_card.specs.Proving.{AreNeeded, AreOfKind, ProvesByNumber, Proves, 
 -- there are as many settings for loose things as loose things
 abbrev pub LooseThingsAreCounted : Type 0
 LooseThingsAreCounted =
-    (m : Parts) (s : Day) → IsMachine m → IsLegalDay s → model_of m ≡ day_model s → length (loose_lines m s) ≡ loose_count m s
+    (m : Parts) (s : Day) → IsMachine m → IsLegalDay s → model_of m ≡ day_model s
+    → length (loose_lines m s) ≡ loose_count m s
 
 -- Where prices fit, no settings whatever that lead the machine to the day are fewer than the loose things and the sum of
 -- the prices.

@@ -1,6 +1,7 @@
 //! What holds of cards.
 ghost use Rattle.kd_card.specs.Laws.{RanksTellLooks, TextsTellCards, NoCardBeginsAnother, CardsAreSaid};
-ghost use Rattle.kd_card.specs.Laws.{CardsHaveNoFault, OneCardFault, LooseThingsAreCounted, FittingPricesBoundLists, AsFewAreNeeded};
+ghost use Rattle.kd_card.specs.Laws.{CardsHaveNoFault, OneCardFault, LooseThingsAreCounted, AsFewAreNeeded};
+ghost use Rattle.kd_card.specs.Laws.{FittingPricesBoundLists};
 ghost use Rattle.kd_card.specs.Months.{CardsAreFewestInAll};
 ghost use Rattle.kd_card.specs.Laws.{ProvingCardsAreAsLong, ProvingCardsAreShortest, ProvingPricesAreTight};
 

@@ -38,13 +38,11 @@ fn loose_slots(slots: &[Option<Wheel>], wheels: &[SheetWheel]) -> usize
         (λ slot. not (option_map_or (same_wheel slot.1.wheel) slot.0 false)) (zip slots.now wheels.now) }
     ensures few { result ≤ length wheels.now }
 {
-    if let [seated, slots @ ..] = slots
-        && let [wanted, wheels @ ..] = wheels
-    {
-        usize::from(*seated != Some(wanted.wheel)) + loose_slots(slots, wheels)
-    } else {
-        0
-    }
+    slots
+        .iter()
+        .zip(wheels)
+        .filter(|(seated, wanted)| **seated != Some(wanted.wheel))
+        .count()
 }
 
 /// Counts the reflector, if it is another one.
@@ -61,13 +59,10 @@ fn loose_rings(machine: &Machine, wheels: &[SheetWheel]) -> usize
         (λ w. not (option_map_or (nat_eq w.ring) (ring_in machine.now w.wheel) false)) wheels.now }
     ensures few { result ≤ length wheels.now }
 {
-    match wheels {
-        [] => 0,
-        [wanted, rest @ ..] => {
-            usize::from(machine.ring(wanted.wheel) != Some(wanted.ring))
-                + loose_rings(machine, rest)
-        }
-    }
+    wheels
+        .iter()
+        .filter(|w| machine.ring(w.wheel) != Some(w.ring))
+        .count()
 }
 
 /// Counts the day's wheels whose letters differ.
@@ -76,13 +71,10 @@ fn loose_letters(machine: &Machine, wheels: &[SheetWheel]) -> usize
         (λ w. not (option_map_or (nat_eq w.letter) (letter_in machine.now w.wheel) false)) wheels.now }
     ensures few { result ≤ length wheels.now }
 {
-    match wheels {
-        [] => 0,
-        [wanted, rest @ ..] => {
-            usize::from(machine.letter(wanted.wheel) != Some(wanted.letter))
-                + loose_letters(machine, rest)
-        }
-    }
+    wheels
+        .iter()
+        .filter(|w| machine.letter(w.wheel) != Some(w.letter))
+        .count()
 }
 
 /// Counts the pins that differ, on all six wheels.
@@ -104,13 +96,11 @@ fn loose_wheel_pins(present: &[bool], wanted: &[bool]) -> usize
     ensures value { result ≡ count_by (λ pin. differ pin.0 pin.1) (zip present.now wanted.now) }
     ensures few { result ≤ length present.now }
 {
-    if let [now, present @ ..] = present
-        && let [due, wanted @ ..] = wanted
-    {
-        usize::from(now != due) + loose_wheel_pins(present, wanted)
-    } else {
-        0
-    }
+    present
+        .iter()
+        .zip(wanted)
+        .filter(|(now, due)| now != due)
+        .count()
 }
 
 /// Counts the pin wheels that show another letter than the day's.
@@ -118,11 +108,9 @@ fn loose_pin_letters(letters: &[Letter], window: &[Letter]) -> usize
     ensures value { result ≡ count_by (λ letter. not (nat_eq letter.0 letter.1)) (zip letters.now window.now) }
     ensures few { result ≤ length letters.now }
 {
-    if let [present, letters @ ..] = letters
-        && let [wanted, window @ ..] = window
-    {
-        usize::from(present != wanted) + loose_pin_letters(letters, window)
-    } else {
-        0
-    }
+    letters
+        .iter()
+        .zip(window)
+        .filter(|(present, wanted)| present != wanted)
+        .count()
 }

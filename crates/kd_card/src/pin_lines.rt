@@ -13,8 +13,8 @@ use kd_pins::PinSet;
 use kd_state::{PinEntry, PinParts, Setting, Settings};
 use kd_tables::{Letter, ring1, ring2, ring3, ring4, ring5, ring6};
 
-/// A setting for each thing of a Converter M-209 that isn't as the day has it, bars apart, in the order in which they are
-/// made: pins and letters.
+/// A setting for each thing of a Converter M-209 that isn't as the day has it, bars apart, in the order in which they
+/// are made: pins and letters.
 pub fn pin_settings(parts: &PinParts, entry: &PinEntry) -> Settings
     ensures lines { result.items ≡ loose_lines (Pin parts.now) (OfPins (pin_values entry.now)) }
     ensures few { length result.items ≤ 137 }

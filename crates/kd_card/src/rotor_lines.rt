@@ -14,8 +14,8 @@ use arrayvec::ArrayVec;
 use kd_state::{Machine, RotorEntry, RotorParts, Setting, Settings, SheetWheel};
 use kd_tables::{Reflector, Wheel};
 
-/// A setting for each thing of a rotor machine that isn't as the day has it, cables apart, in the order in which they are
-/// made: wheels, reflector, rings and letters. `parts` are those of `machine`.
+/// A setting for each thing of a rotor machine that isn't as the day has it, cables apart, in the order in which they
+/// are made: wheels, reflector, rings and letters. `parts` are those of `machine`.
 #[tactic(auto, using(crate::proofs::Counting::few_in_box))]
 pub fn rotor_settings(machine: &Machine, parts: &RotorParts, entry: &RotorEntry) -> Settings
     requires { machine.now ≡ Rotor parts.now }

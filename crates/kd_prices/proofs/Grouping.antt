@@ -1,8 +1,14 @@
 -- Things grouped into kinds, by rank from the lowest one on.
-use Rattle.kd_prices.proofs.Prelude.{counted-append, few_kinds, floor_behind, low_rank, below_more, ◌≡◌, ℕ, suc, ◌+◌, ◌<◌, ◌≤◌, inl, inr, Bool, true, false, cond, eqb, ltb, List, [], ◌∷◌, ◌++◌, length}
-use Rattle.kd_prices.proofs.Prelude.{count_by, refl, sym, ap, ◌∙◌, subst, arith, ℤ, pos, unsigned_abs, None, All, cases_lt, lt-ltb, le-ltb, eq-eqb, nat_tests, All-nil, All-push, All-head, All-tail, All-get_or}
-use Rattle.kd_prices.proofs.Prelude.{All-from_get_or, length-append, Look, Pair, PricedKind, look_name, look_rank, counted, IsInForm, IsPricedKind, AreKinds, AreCalled, price_at, AreWithinReach, look_at, alike_count}
-use Rattle.kd_prices.proofs.Prelude.{HasPrice, IsPriced, HasCount, AreAlikePriced, IsKindAt, IsLowest, AreKindsOf, AreWithPrices}
+use Rattle.kd_prices.proofs.Prelude.{counted-append, few_kinds, floor_behind, low_rank, below_more, ◌≡◌, ℕ, suc, ◌+◌}
+use Rattle.kd_prices.proofs.Prelude.{◌<◌, ◌≤◌, inl, inr, Bool, true, false, cond, eqb, ltb, List, [], ◌∷◌, ◌++◌, length}
+use Rattle.kd_prices.proofs.Prelude.{count_by, refl, sym, ap, ◌∙◌, subst, arith, ℤ, pos, unsigned_abs, None, All}
+use Rattle.kd_prices.proofs.Prelude.{cases_lt, lt-ltb, le-ltb, eq-eqb, nat_tests, All-nil, All-push, All-head, All-tail}
+use Rattle.kd_prices.proofs.Prelude.{All-get_or}
+use Rattle.kd_prices.proofs.Prelude.{All-from_get_or, length-append, Look, Pair, PricedKind, look_name, look_rank}
+use Rattle.kd_prices.proofs.Prelude.{counted, IsInForm, IsPricedKind, AreKinds, AreCalled, price_at, AreWithinReach}
+use Rattle.kd_prices.proofs.Prelude.{look_at, alike_count}
+use Rattle.kd_prices.proofs.Prelude.{HasPrice, IsPriced, HasCount, AreAlikePriced, IsKindAt, IsLowest, AreKindsOf}
+use Rattle.kd_prices.proofs.Prelude.{AreWithPrices}
 use Rattle.std.proofs.lemmas.List.Sums.{sum_by-cons, sum_by-le, count_by-le-length, get_or-le-sum_by}
 use Rattle.kd_prices.proofs.Meaning.{one_price}
 
@@ -48,7 +54,8 @@ some_counted looks place inside =
     let here = ap (λ b. cond {A = ℕ} b 1 0) (eq-eqb (look_rank look) (look_rank look) refl) in
     omega arith
 
-same_counted : (p q : Look → Bool) (looks : List Look) → ((place : ℕ) → place < length looks → p (look_at looks place) ≡ q (look_at looks place))
+same_counted : (p q : Look → Bool) (looks : List Look)
+    → ((place : ℕ) → place < length looks → p (look_at looks place) ≡ q (look_at looks place))
     → count_by p looks ≡ count_by q looks
 same_counted p q [] same = refl
 same_counted p q (look ∷ looks) same =
@@ -60,7 +67,8 @@ same_counted p q (look ∷ looks) same =
 -- ---- the place of the lowest rank
 
 pub lowest_here : {floor number : ℕ} {looks : List Look} → floor ≤ look_rank (look_at looks number)
-    → ((other : ℕ) → other < number → floor ≤ look_rank (look_at looks other) → look_rank (look_at looks number) ≤ look_rank (look_at looks other))
+    → ((other : ℕ) → other < number → floor ≤ look_rank (look_at looks other)
+    → look_rank (look_at looks number) ≤ look_rank (look_at looks other))
     → IsLowest floor looks (number + 1) number
 lowest_here {floor} {number} {looks} from lower = record {
   inside = omega arith;
@@ -80,25 +88,31 @@ still_lowest {number} so_far here =
 low_look : (look : Look) → IsInForm look → look_rank look < 703
 low_look look e = grind (arith, low_rank)
 
-behind : (floor : ℕ) (kinds : List PricedKind) (kind : PricedKind) → AreKinds floor kinds → IsPricedKind kind → floor_behind floor kinds ≤ look_rank kind.look
+behind : (floor : ℕ) (kinds : List PricedKind) (kind : PricedKind) → AreKinds floor kinds → IsPricedKind kind
+    → floor_behind floor kinds ≤ look_rank kind.look
     → AreKinds floor (kinds ++ kind ∷ [])
 behind floor [] kind are good above = (good, above, tt)
-behind floor (first ∷ kinds) kind are good above = (are.0, are.1, behind (look_rank first.look + 1) kinds kind are.2 good above)
+behind floor (first ∷ kinds) kind are good above =
+    (are.0, are.1, behind (look_rank first.look + 1) kinds kind are.2 good above)
 
-floor_of_last : (floor : ℕ) (kinds : List PricedKind) (kind : PricedKind) → floor_behind floor (kinds ++ kind ∷ []) ≡ look_rank kind.look + 1
+floor_of_last : (floor : ℕ) (kinds : List PricedKind) (kind : PricedKind)
+    → floor_behind floor (kinds ++ kind ∷ []) ≡ look_rank kind.look + 1
 floor_of_last floor [] kind = refl
 floor_of_last floor (first ∷ kinds) kind = floor_of_last (look_rank first.look + 1) kinds kind
 
-called_behind : (name : _) (kinds : List PricedKind) (kind : PricedKind) → AreCalled name kinds → look_name kind.look ≡ name → AreCalled name (kinds ++ kind ∷ [])
+called_behind : (name : _) (kinds : List PricedKind) (kind : PricedKind) → AreCalled name kinds
+    → look_name kind.look ≡ name → AreCalled name (kinds ++ kind ∷ [])
 called_behind name [] kind are called = (called, tt)
 called_behind name (first ∷ kinds) kind are called = (are.0, called_behind name kinds kind are.1 called)
 
-priced_before : (look : Look) (price : ℤ) (kinds : List PricedKind) (kind : PricedKind) → IsPriced look price kinds → IsPriced look price (kinds ++ kind ∷ [])
+priced_before : (look : Look) (price : ℤ) (kinds : List PricedKind) (kind : PricedKind) → IsPriced look price kinds
+    → IsPriced look price (kinds ++ kind ∷ [])
 priced_before look price [] kind none = absurd none
 priced_before look price (first ∷ kinds) kind (inl has) = inl has
 priced_before look price (first ∷ kinds) kind (inr later) = inr (priced_before look price kinds kind later)
 
-priced_last : (look : Look) (price : ℤ) (kinds : List PricedKind) (kind : PricedKind) → HasPrice look price kind → IsPriced look price (kinds ++ kind ∷ [])
+priced_last : (look : Look) (price : ℤ) (kinds : List PricedKind) (kind : PricedKind) → HasPrice look price kind
+    → IsPriced look price (kinds ++ kind ∷ [])
 priced_last look price [] kind has = inl has
 priced_last look price (first ∷ kinds) kind has = inr (priced_last look price kinds kind has)
 
@@ -179,7 +193,8 @@ module _ (looks : List Look) (prices : List ℤ) (few : length looks ≤ 27) (ea
               | inr high ↦
                   let up = lowest.lowest other inside (omega arith) in
                   let equal : look_rank (look_at looks place) ≡ look_rank (look_at looks other) = omega arith in
-                  priced_last _ _ kinds kind (record { alike = ranked ∙ equal; price = is.price ∙ alike place other is.inside inside equal })
+                  let price = is.price ∙ alike place other is.inside inside equal in
+                  priced_last _ _ kinds kind (record { alike = ranked ∙ equal; price = price })
             ];
       }
 
@@ -192,10 +207,13 @@ module _ (looks : List Look) (prices : List ℤ) (few : length looks ≤ 27) (ea
 
 -- the end: no thing has such a rank or a higher one
 pub all_kinds : {looks : List Look} {prices : List ℤ} {floor : ℕ} {kinds : List PricedKind}
-    → ((place : ℕ) → place < length looks → look_rank (look_at looks place) < floor) → AreGrouped looks prices floor kinds → AreKindsOf looks kinds
+    → ((place : ℕ) → place < length looks → look_rank (look_at looks place) < floor)
+    → AreGrouped looks prices floor kinds → AreKindsOf looks kinds
 all_kinds {looks} {floor} low grouped = record {
   in_order = grouped.in_order;
-  count = grouped.count ∙ all_counted (below floor) looks (All-from_get_or (λ look. below floor look ≡ true) looks (Pair None) (λ i inside. lt-ltb _ _ (low i inside)));
+  count =
+      let all = All-from_get_or (λ look. below floor look ≡ true) looks (Pair None) (λ i inside. lt-ltb _ _ (low i inside)) in
+      grouped.count ∙ all_counted (below floor) looks all;
   called = grouped.called;
 }
 

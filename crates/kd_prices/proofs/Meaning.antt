@@ -1,5 +1,12 @@
 -- Prices mean one list of prices by number at most, and those are of the same model.
-use Rattle.kd_prices.proofs.Prelude.{below_more, ◌≡◌, ◌≢◌, Some, ℕ, ◌+◌, ◌-◌, drop, take, take_all, ◌<◌, ◌≤◌, inl, inr, List, [], ◌∷◌, ◌++◌, length, get_or, sym, ◌∙◌, subst, arith, ℤ, pos, unsigned_abs, Option, None, MatchOption, All-from_get_or, Pair, ext_get_or, get_or_default, Parts, Setting, Day, Look, PricedKind, PriceParts, Group, ByNumber, ByKind, look_rank, AreKinds, version_of, row_kinds, column_kinds, ArePrices, row_prices, column_prices, price_at, AreWithinReach, group_of, AreOfKind, row_looks, column_looks, IsPriced, look_at, AreExpanded, Expands, Same, Expanded, group_of_machine, Proves, AreOfOneModel, AreNumbered, AreParted, ap}
+use Rattle.kd_prices.proofs.Prelude.{below_more, ◌≡◌, ◌≢◌, Some, ℕ, ◌+◌, ◌-◌, drop, take, take_all, ◌<◌, ◌≤◌, inl, inr}
+use Rattle.kd_prices.proofs.Prelude.{List, [], ◌∷◌, ◌++◌, length, get_or, sym, ◌∙◌, subst, arith, ℤ, pos, unsigned_abs}
+use Rattle.kd_prices.proofs.Prelude.{Option, None, MatchOption, All-from_get_or, Pair, ext_get_or, get_or_default}
+use Rattle.kd_prices.proofs.Prelude.{Parts, Setting, Day, Look, PricedKind, PriceParts, Group, ByNumber, ByKind}
+use Rattle.kd_prices.proofs.Prelude.{look_rank, AreKinds, version_of, row_kinds, column_kinds, ArePrices, row_prices}
+use Rattle.kd_prices.proofs.Prelude.{column_prices, price_at, AreWithinReach, group_of, AreOfKind, row_looks}
+use Rattle.kd_prices.proofs.Prelude.{column_looks, IsPriced, look_at, AreExpanded, Expands, Same, Expanded}
+use Rattle.kd_prices.proofs.Prelude.{group_of_machine, Proves, AreOfOneModel, AreNumbered, AreParted, ap}
 use Rattle.kd_state.specs.{Machine.{model_of}, SheetDay.{day_model}}
 use Rattle.kd_state.specs.declared.machine.one_model.OneModel.{OneModel}
 use Rattle.kd_state.specs.declared.machine.one_model.OneModel.TheVariants as both
@@ -59,7 +66,8 @@ pub one_model : (m : Parts) (s : Day) (both : OneModel) → AreParted m s both �
 one_model m s (both.Rotor parts entry) h = ap model_of h.0 ∙ h.2 ∙ sym (ap day_model h.1)
 one_model m s (both.Pin parts entry) h = ap model_of h.0 ∙ sym (ap day_model h.1)
 
-pub other_kind : {m : Parts} {s : Day} {prices : PriceParts} {group other : Group} → group_of_machine m ≡ group → group_of prices ≡ other → group ≢ other
+pub other_kind : {m : Parts} {s : Day} {prices : PriceParts} {group other : Group} → group_of_machine m ≡ group
+    → group_of prices ≡ other → group ≢ other
     → ¬ (AreOfOneModel m s prices)
 other_kind machine are differ one = differ (sym machine ∙ sym one.group ∙ are)
 

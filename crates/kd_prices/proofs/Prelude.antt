@@ -5,7 +5,9 @@ pub use Rattle.std.proofs.lemmas.Bool.{cases_lt, cases_order, eq-eqb, eqb-false,
 pub use Rattle.std.proofs.lemmas.{Bool.Decides.{Decides-int_eq, nat_tests}, Grind.common_steps}
 pub use Rattle.std.proofs.lemmas.Int.{ints, to_z-of_z, to_z_pos}
 pub use Rattle.std.proofs.lemmas.List.{append-nil, drop_all, drop_more, ext_get_or, get_or-map, get_or-set_other, get_or-set_same, get_or_default, length-map, length-set, length-take, take-append-drop, take_all}
-pub use Rattle.std.proofs.lemmas.List.Elements.{All-cons, All-contains_itself, All-from_get_or, All-from_recursion, All-get_or, All-head, All-map, All-more, All-nil, All-push, All-same, All-tail, All-weaker, recursion_from_All}
+pub use Rattle.std.proofs.lemmas.List.Elements.{All-cons, All-contains_itself, All-from_get_or, All-from_recursion}
+pub use Rattle.std.proofs.lemmas.List.Elements.{All-get_or, All-head, All-map, All-more, All-nil, All-push, All-same}
+pub use Rattle.std.proofs.lemmas.List.Elements.{All-tail, All-weaker, recursion_from_All}
 pub use Rattle.std.proofs.lemmas.Option.{slice_get-get_or, slice_get_past, unwrap_or-slice_get}
 pub use Rattle.std.specs.{List.{All, AllByRecursion}, Prelude.{drop, map, take, ◌↔◌, Err, IfErr, IsOk, Ok, Result}}
 pub use Rattle.kd_card.proofs.{KindPrices.{counted-append, few_kinds, size_of}, KindWords.{low_rank, ranks_tell_looks}}
@@ -14,7 +16,9 @@ pub use Rattle.kd_card.specs.CardText.{column_name, group_of, price_count, row_n
 pub use Rattle.kd_card.specs.Kinds.{AreCalled, AreEnds, AreKinds, IsInForm, IsPricedKind, counted, look_name, look_rank}
 pub use Rattle.kd_card.proofs.Shortest.{no_rotors, proving_cards_are_shortest, proving_prices_are_tight}
 pub use Rattle.kd_card.specs.Prices.{ArePrices, AreTight, AreWithinReach, Fits, column_kinds, column_prices, cost_at, how_many, price_at, price_sum, row_kinds, row_prices, version_of}
-pub use Rattle.kd_card.specs.Proving.{AreExpanded, AreNeeded, AreOfKind, Expanded, Expands, HasCount, HasPrice, IsNeeded, IsPriced, Proves, Same, alike_count, column_looks, group_of_machine, look_at, pair_in_order, priced_count, row_looks}
+pub use Rattle.kd_card.specs.Proving.{AreExpanded, AreNeeded, AreOfKind, Expanded, Expands, HasCount, HasPrice}
+pub use Rattle.kd_card.specs.Proving.{IsNeeded, IsPriced, Proves, Same, alike_count, column_looks, group_of_machine}
+pub use Rattle.kd_card.specs.Proving.{look_at, pair_in_order, priced_count, row_looks}
 pub use Rattle.kd_card.specs.declared.{group.Group.{Group, TheVariants.{OfBars, OfCables}}, kinds.PricedKind.PricedKind}
 pub use Rattle.kd_card.specs.declared.look.Look.{Look, TheVariants.{Bar, Cable, Pair, Row}}
 pub use Rattle.kd_card.specs.declared.prices.PriceParts.{PriceParts, TheVariants.{BarKinds, Bars, CableKinds, Cables}}
@@ -22,7 +26,8 @@ pub use Rattle.kd_card.specs.declared.prices.Version.TheVariants.{ByKind, ByNumb
 pub use Rattle.{kd_enigma.specs.Plugs.{NoLetterTwice, letters_plugged}, kd_prices.specs.Alike.{ReadAlike, StandAlike}}
 pub use Rattle.kd_prices.specs.Doubt.{AreNumbered, AreOfOneModel, IsFirstNeedless, IsFirstTooHigh, IsFirstWithout}
 pub use Rattle.kd_prices.specs.Fitting.{AreWithin, IsWithin}
-pub use Rattle.kd_prices.specs.KindCards.{AreAlikePriced, AreByKind, AreKindsOf, AreOfGroup, AreThings, AreWithPrices, CanBeByKind, IsKindAt, IsLowest}
+pub use Rattle.kd_prices.specs.KindCards.{AreAlikePriced, AreByKind, AreKindsOf, AreOfGroup, AreThings, AreWithPrices}
+pub use Rattle.kd_prices.specs.KindCards.{CanBeByKind, IsKindAt, IsLowest}
 pub use Rattle.kd_prices.specs.Laws.{AlikePricesAreEqual, AreEqualWhereAlike, RestIsShortest}
 pub use Rattle.kd_prices.specs.declared.doubt.Doubt.TheVariants.{IllegalAt, NeedlessLine, NotTheSheet, OtherModel, PriceMissing, PriceTooHigh, SumDiffers}
 pub use Rattle.kd_state.specs.Costs.{bar_cost, cable_cost, columns_of, cost_table}

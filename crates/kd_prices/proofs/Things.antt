@@ -1,7 +1,14 @@
 -- What a machine's cables or bars look like, and a day's pairs and nothings or rows: so many, called so, each in its form.
 use Rattle.{kd_state.specs.Machine.model_of, kd_state.specs.SheetDay.day_model}
 use Rattle.std.specs.List.{IsDistinct}
-use Rattle.kd_prices.proofs.Prelude.{no_rotors, ◌≡◌, ℕ, zero, suc, ◌-◌, ◌<◌, false, eqb, List, [], ◌∷◌, ◌++◌, length, get_or, replicate, Option, Some, None, refl, sym, ap, ◌∙◌, arith, AllByRecursion, eqb-false, length-map, All-from_recursion, recursion_from_All, All-map, letters_plugged, NoLetterTwice, Parts, Rotor, Pin, plugged_letters, ordered, IsMachine, Day, OfRotors, OfPins, IsLegalDay, columns_of, thirteen_columns, Look, Cable, Pair, Bar, Row, look_name, IsInForm, All, nat_tests, Group, OfCables, OfBars, row_name, column_name, price_count, row_looks, column_looks, pair_in_order, group_of_machine, AreThings, map, subst}
+use Rattle.kd_prices.proofs.Prelude.{no_rotors, ◌≡◌, ℕ, zero, suc, ◌-◌, ◌<◌, false, eqb, List, [], ◌∷◌, ◌++◌, length}
+use Rattle.kd_prices.proofs.Prelude.{get_or, replicate, Option, Some, None, refl, sym, ap, ◌∙◌, arith, AllByRecursion}
+use Rattle.kd_prices.proofs.Prelude.{eqb-false, length-map, All-from_recursion, recursion_from_All, All-map}
+use Rattle.kd_prices.proofs.Prelude.{letters_plugged, NoLetterTwice, Parts, Rotor, Pin, plugged_letters, ordered}
+use Rattle.kd_prices.proofs.Prelude.{IsMachine, Day, OfRotors, OfPins, IsLegalDay, columns_of, thirteen_columns, Look}
+use Rattle.kd_prices.proofs.Prelude.{Cable, Pair, Bar, Row, look_name, IsInForm, All, nat_tests, Group, OfCables}
+use Rattle.kd_prices.proofs.Prelude.{OfBars, row_name, column_name, price_count, row_looks, column_looks, pair_in_order}
+use Rattle.kd_prices.proofs.Prelude.{group_of_machine, AreThings, map, subst}
 
 abbrev in_each_order : List (Option ℕ × Option ℕ) → List (Option ℕ × Option ℕ)
 in_each_order cables = map (λ cable. ordered cable.0 cable.1) cables
@@ -72,8 +79,12 @@ columns_are_things (OfPins s) legal =
     things (λ numbers. Row numbers) s.rows (column_name OfBars) 27 (λ x. refl) legal.count (All-map IsInForm (λ numbers. Row numbers) s.rows legal.rows)
 
 -- of a group that is named
-pub rows_of : (group : Group) (m : Parts) → IsMachine m → group_of_machine m ≡ group → AreThings (row_name group) (price_count group) (row_looks m)
-rows_of group m machine is = subst (λ g. AreThings (row_name g) (price_count g) (row_looks m)) is (rows_are_things m machine)
+pub rows_of : (group : Group) (m : Parts) → IsMachine m → group_of_machine m ≡ group
+    → AreThings (row_name group) (price_count group) (row_looks m)
+rows_of group m machine is =
+    subst (λ g. AreThings (row_name g) (price_count g) (row_looks m)) is (rows_are_things m machine)
 
-pub columns_of_day : (group : Group) (s : Day) → IsLegalDay s → group_of_day s ≡ group → AreThings (column_name group) (price_count group) (column_looks s)
-columns_of_day group s legal is = subst (λ g. AreThings (column_name g) (price_count g) (column_looks s)) is (columns_are_things s legal)
+pub columns_of_day : (group : Group) (s : Day) → IsLegalDay s → group_of_day s ≡ group
+    → AreThings (column_name group) (price_count group) (column_looks s)
+columns_of_day group s legal is =
+    subst (λ g. AreThings (column_name g) (price_count g) (column_looks s)) is (columns_are_things s legal)

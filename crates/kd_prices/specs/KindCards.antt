@@ -44,7 +44,8 @@ AreAlikePriced looks prices =
 pub record IsLowest (floor : ℕ) (looks : List Look) (number place : ℕ) : Type 0 where
   pub inside : place < number
   pub from : floor ≤ look_rank (look_at looks place)
-  pub lowest : (other : ℕ) → other < number → floor ≤ look_rank (look_at looks other) → look_rank (look_at looks place) ≤ look_rank (look_at looks other)
+  pub lowest : (other : ℕ) → other < number → floor ≤ look_rank (look_at looks other)
+      → look_rank (look_at looks place) ≤ look_rank (look_at looks other)
 
 -- the kind of the thing at that place: its look, how many look so, and its price
 pub record IsKindAt (looks : List Look) (prices : List ℤ) (place : ℕ) (kind : PricedKind) : Type 0 where

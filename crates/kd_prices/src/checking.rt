@@ -105,8 +105,5 @@ fn priced_count(settings: &[Setting]) -> usize
     ensures value { result ≡ priced_count settings.now }
     ensures few { result ≤ length settings.now }
 {
-    match settings {
-        [] => 0,
-        [setting, rest @ ..] => usize::from(is_priced(setting)) + priced_count(rest),
-    }
+    settings.iter().filter(|setting| is_priced(setting)).count()
 }

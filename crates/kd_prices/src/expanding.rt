@@ -85,10 +85,10 @@ pub(crate) fn alike_count(look: &Look, looks: &[Look]) -> usize
     ensures value { result ≡ proving.alike_count look.now looks.now }
     ensures few { result ≤ length looks.now }
 {
-    match looks {
-        [] => 0,
-        [other, rest @ ..] => usize::from(other.rank() == look.rank()) + alike_count(look, rest),
-    }
+    looks
+        .iter()
+        .filter(|other| other.rank() == look.rank())
+        .count()
 }
 
 /// The price of the kind that looks so.

@@ -125,4 +125,5 @@ pub spared : (m : RotorParts) (s : RotorDay) (pairs : List (ℕ × ℕ)) (to : L
     → settings ≡ planned_lines (Rotor m) (OfRotors s) to → SparesStayFree (Rotor m) (OfRotors s) settings
 spared m s pairs to settings machine legal same alike size once last lines =
     rw lines
-    (spares_stay_free m s to machine legal same size once (subst (λ all. SparesComeLast m.cables (length all) to) alike last))
+    (spares_stay_free m s to machine legal same size once
+    (subst (λ all. SparesComeLast m.cables (length all) to) alike last))

@@ -13,7 +13,8 @@ returns-in-Err c =
 pub kind-preserved : goal.kind-preserved
 kind-preserved c =
     let next = rw c.in-Some.is at c.in-Ok.ensures in
-    reads_on c.kind.invariant next c.rank-floor.ensures.value (c.rank-floor.ensures.few next.good.form) c.from-total.ensures
+    reads_on c.kind.invariant next c.rank-floor.ensures.value (c.rank-floor.ensures.few next.good.form)
+    c.from-total.ensures
     (λ within. elim c.if-total-number.branch [
       | then-total-number w ↦ cc
       | else-total-number w ↦ absurd (omega (arith, w.if-total-number.false, c.from-total.ensures))
@@ -22,7 +23,8 @@ kind-preserved c =
 pub push-requires : goal.push-requires
 push-requires c =
     let next = rw c.in-Some.is at c.in-Ok.ensures in
-    (omega arith, omega (arith, c.requires.few, has_room c.kind.invariant next c.from-total.ensures c.if-total-number.true))
+    let room = has_room c.kind.invariant next c.from-total.ensures c.if-total-number.true in
+    (omega arith, omega (arith, c.requires.few, room))
 
 pub returns-then-total-number-2 : goal.returns-then-total-number-2
 returns-then-total-number-2 c =

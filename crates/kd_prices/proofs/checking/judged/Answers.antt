@@ -8,11 +8,11 @@ returns-in_default c = Refused OtherModel ((λ same one. c.in_default.ensures.pa
 pub returns-in_default-2 : goal.returns-in_default-2
 returns-in_default-2 c =
     let parted = subst (AreParted _ _) c.in_default-2.is-0 c.in-Some.ensures.parted in
-    Refused OtherModel
-    ((λ same one. other_kind (ap group_of_machine parted.0) (sym c.group.ensures ∙ c.in_default-2.is-1) (λ e. cc) one), refl) refl
+    let prices = sym c.group.ensures ∙ c.in_default-2.is-1 in
+    Refused OtherModel ((λ same one. other_kind (ap group_of_machine parted.0) prices (λ e. cc) one), refl) refl
 
 pub returns-in_default-2-2 : goal.returns-in_default-2-2
 returns-in_default-2-2 c =
     let parted = subst (AreParted _ _) c.in_default-2.is-0 c.in-Some.ensures.parted in
-    Refused OtherModel
-    ((λ same one. other_kind (ap group_of_machine parted.0) (sym c.group.ensures ∙ c.in_default-2.is-1) (λ e. cc) one), refl) refl
+    let prices = sym c.group.ensures ∙ c.in_default-2.is-1 in
+    Refused OtherModel ((λ same one. other_kind (ap group_of_machine parted.0) prices (λ e. cc) one), refl) refl

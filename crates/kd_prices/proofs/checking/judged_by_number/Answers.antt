@@ -22,7 +22,8 @@ pub returns-then-sum-priced_count : goal.returns-then-sum-priced_count
 returns-then-sum-priced_count g c =
     let differs : price_sum c.args.prices.now ≢ pos (priced_count c.args.settings.now) = search rules in
     Found c.in_ok-walk.walk.reached c.in_ok-walk.ensures.leads (Found tt (c.reads_as.ensures.0 c.if-not-reads_as.false)
-    (Found tt (rw c.requires.costs at c.in_default.ensures) (Refused SumDiffers ((λ same sum. differs sum), refl) refl)))
+    (Found tt (rw c.requires.costs at c.in_default.ensures)
+    (Refused SumDiffers ((λ same sum. differs sum), refl) refl)))
 
 -- a sum and a count that are alike in 32 bits
 same_sum : (sum : ℤ) (count : ℕ) → SFits w32 sum → count < 2 ^ 31 → of_z w32 sum ≡ count → sum ≡ pos count
