@@ -212,7 +212,8 @@ pub all_kinds : {looks : List Look} {prices : List ℤ} {floor : ℕ} {kinds : L
 all_kinds {looks} {floor} low grouped = record {
   in_order = grouped.in_order;
   count =
-      let all = All-from_get_or (λ look. below floor look ≡ true) looks (Pair None) (λ i inside. lt-ltb _ _ (low i inside)) in
+      let all =
+      All-from_get_or (λ look. below floor look ≡ true) looks (Pair None) (λ i inside. lt-ltb _ _ (low i inside)) in
       grouped.count ∙ all_counted (below floor) looks all;
   called = grouped.called;
 }

@@ -1,3 +1,4 @@
+//! Whether a card proves itself, or the first doubt about it.
 ghost use Rattle.std.specs.Prelude.{◌≡◌, ◌↔◌, ◌≤◌, length, IsOk, IfErr, MatchOption};
 ghost use Rattle.kd_state.specs.Costs.{cost_table};
 ghost use Rattle.kd_state.specs.{Machine.{model_of}, SheetDay.{day_model}};
