@@ -34,6 +34,5 @@ pub fn run_receive<R: Source, W: Sink>(
         (port W.taken W.has_failed sink.old sink.new) (is_device result) }
 {
     let (machine, day) = find_day(alloc, machine, sheet, number)?;
-    receive_stream(&machine, &day, form, sink)?;
-    Ok(())
+    receive_stream(&machine, &day, form, sink).map_err(DeskFault::from)
 }

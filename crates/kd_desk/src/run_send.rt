@@ -34,6 +34,5 @@ pub fn run_send<R: Source, W: Sink>(
         (port W.taken W.has_failed sink.old sink.new) (is_device result) }
 {
     let (machine, day) = find_day(alloc, machine, sheet, number)?;
-    send_stream(&machine, &day, order, sink)?;
-    Ok(())
+    send_stream(&machine, &day, order, sink).map_err(DeskFault::from)
 }

@@ -36,6 +36,5 @@ pub fn run_type<R: Source, W: Sink>(
         (port W.taken W.has_failed sink.old sink.new) (is_device result) }
 {
     let machine = read_machine(alloc, machine)?;
-    type_stream(&machine, source, sink)?;
-    Ok(())
+    type_stream(&machine, source, sink).map_err(DeskFault::from)
 }
