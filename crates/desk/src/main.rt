@@ -1,4 +1,4 @@
-//! The key desk's program: it hands the words, the files and the three streams of the host to the desk, and ends as that says.
+//! The key desk's program: it hands the host's words, files and streams to the desk, and ends as that says.
 #![tactic(auto)]
 
 use kd_desk::{HostFiles, ReaderSource, Stop, WriterSink, end, run_desk};

@@ -1,5 +1,6 @@
 -- How the program ends, by its answer.
-use Rattle.kd_desk.proofs.Prelude.{◌≡◌, ℕ, Bool, ◌||◌, List, [], Option, None, Some, Result, Ok, Err, refl, sym, subst, false, true, Port, port, Stop}
+use Rattle.kd_desk.proofs.Prelude.{◌≡◌, ℕ, Bool, true, false, ◌||◌, List, [], Option, None, Some, Result, Ok, Err}
+use Rattle.kd_desk.proofs.Prelude.{refl, sym, subst, Port, port, Stop}
 use Rattle.std.proofs.Common.{append-nil, is_err}
 use Rattle.std.specs.Io.KnownBytes.{Appends}
 use Rattle.kd_tables.specs.declared.writing.Device.{Device}
@@ -15,8 +16,8 @@ adds_none None = tt
 adds_none (Some bytes) = sym (append-nil bytes)
 
 -- where all was done, nothing is told
-pub ends_well : {E : Type 0} (taken : E → Option (List ℕ)) (failed : E → Bool) (errors : E) (answer : Result (Unit {0}) Stop) → answer ≡ Ok tt
-    → EndsAs answer (port taken failed errors errors) 0
+pub ends_well : {E : Type 0} (taken : E → Option (List ℕ)) (failed : E → Bool) (errors : E)
+    (answer : Result (Unit {0}) Stop) → answer ≡ Ok tt → EndsAs answer (port taken failed errors errors) 0
 ends_well taken failed errors answer is = subst (λ a. EndsAs a (port taken failed errors errors) 0) (sym is) (record {
   ends = refl;
   written = Ok tt;
@@ -25,9 +26,10 @@ ends_well taken failed errors answer is = subst (λ a. EndsAs a (port taken fail
 })
 
 -- what stopped the program is told in its line
-pub ends_told : (answer : Result (Unit {0}) Stop) (errors : Port) (stop : Stop) (bytes : List ℕ) (written : Result (Unit {0}) Device)
-    → answer ≡ Err stop → bytes ≡ stop_line stop → Writes errors.had errors.has bytes written
-    → errors.has_failed ≡ (errors.had_failed || is_err written) → EndsAs answer errors (status_of (Err stop))
+pub ends_told : (answer : Result (Unit {0}) Stop) (errors : Port) (stop : Stop) (bytes : List ℕ)
+    (written : Result (Unit {0}) Device) → answer ≡ Err stop → bytes ≡ stop_line stop
+    → Writes errors.had errors.has bytes written → errors.has_failed ≡ (errors.had_failed || is_err written)
+    → EndsAs answer errors (status_of (Err stop))
 ends_told answer errors stop bytes written is line told failed =
     subst (λ a. EndsAs a errors (status_of (Err stop))) (sym is) (record {
       ends = refl;

@@ -1,10 +1,15 @@
 -- Files that are read one after another, and what the program answers to a command.
 use Rattle.kd_desk.specs.{Program.is_stopped_before, RunSteps.is_refused_before, Stops.stop_after}
-use Rattle.kd_desk.specs.declared.{fault.DeskFault.DeskFault, fault.DeskFault.TheVariants.{Device, File}, stop.Stop.TheVariants.{ReadFailed, Refused}}
+use Rattle.kd_desk.specs.declared.{fault.DeskFault.DeskFault, fault.DeskFault.TheVariants.{Device, File}}
+use Rattle.kd_desk.specs.declared.stop.Stop.TheVariants.{ReadFailed, Refused}
 use Rattle.kd_sheet.specs.declared.fault.SheetFault.TheVariants.{NoMemory}
 use Rattle.kd_desk.{proofs.Failing.err_is, proofs.SaidCommands.same_command, specs.CommandLine.desk_grammar}
 use Rattle.{kd_desk.specs.declared.files.fault.FileFault.FileFault, std.proofs.Common.arith}
-use Rattle.kd_desk.proofs.Prelude.{◌≡◌, ℕ, Bool, true, false, List, [], ◌∷◌, ◌++◌, Option, Some, None, IfSome, IsSomeAnd, Result, Ok, Err, IsErrAnd, IsTrue, refl, sym, ap, ◌∙◌, subst, inl, inr, append_assoc, Row, subcommand_of, Stop, Unread, Named, IsOf, Says, KnownCommand, command_over, AskFor, AsksFor, Asking, MissesOne, had, missed, is_ok, CarriesOut, IsDone, Gives, Opened, Port, map, ◌≢◌, Usage}
+use Rattle.kd_desk.proofs.Prelude.{◌≡◌, ℕ, Bool, true, false, List, [], ◌∷◌, ◌++◌, Option, Some, None, IfSome}
+use Rattle.kd_desk.proofs.Prelude.{IsSomeAnd, Result, Ok, Err, IsErrAnd, IsTrue, refl, sym, ap, ◌∙◌, subst, inl, inr}
+use Rattle.kd_desk.proofs.Prelude.{append_assoc, Row, subcommand_of, Stop, Unread, Named, IsOf, Says, KnownCommand}
+use Rattle.kd_desk.proofs.Prelude.{command_over, AskFor, AsksFor, Asking, MissesOne, had, missed, is_ok, CarriesOut}
+use Rattle.kd_desk.proofs.Prelude.{IsDone, Gives, Opened, Port, map, ◌≢◌, Usage}
 
 -- what is known of files
 abbrev Known : Type 0
@@ -16,13 +21,13 @@ joined : (one : Asking) (old new rest : List Asking) → new ≡ old ++ one ∷ 
 joined one old new rest is = ap (λ l. l ++ rest) is ∙ append_assoc old (one ∷ []) rest
 
 -- one was had, and then all others were
-pub all_on : (name : List ℕ) (names : List (List ℕ)) (old new newer : List Asking) → new ≡ old ++ had name ∷ [] → newer ≡ new ++ map had names
-    → newer ≡ old ++ map had (name ∷ names)
+pub all_on : (name : List ℕ) (names : List (List ℕ)) (old new newer : List Asking)
+    → new ≡ old ++ had name ∷ [] → newer ≡ new ++ map had names → newer ≡ old ++ map had (name ∷ names)
 all_on name names old new newer is more = more ∙ joined (had name) old new (map had names) is
 
 -- one was had, and then one was not
-pub misses_on : (name : List ℕ) (names : List (List ℕ)) (old new newer : List Asking) → new ≡ old ++ had name ∷ [] → MissesOne names new newer
-    → MissesOne (name ∷ names) old newer
+pub misses_on : (name : List ℕ) (names : List (List ℕ)) (old new newer : List Asking)
+    → new ≡ old ++ had name ∷ [] → MissesOne names new newer → MissesOne (name ∷ names) old newer
 misses_on name names old new newer is more = record {
   before = name ∷ more.before;
   name = more.name;
@@ -32,13 +37,16 @@ misses_on name names old new newer is more = record {
 }
 
 -- the first was not had
-pub misses_first : (name : List ℕ) (names : List (List ℕ)) (old new : List Asking) → new ≡ old ++ missed name ∷ [] → MissesOne (name ∷ names) old new
+pub misses_first : (name : List ℕ) (names : List (List ℕ)) (old new : List Asking) → new ≡ old ++ missed name ∷ []
+    → MissesOne (name ∷ names) old new
 misses_first name names old new is = record { before = []; name = name; after = names; names_are = refl; asked = is }
 
 -- and that is what `?` answers
-pub misses_so : {T : Type 0} (names : List (List ℕ)) (old new : List Asking) (answer : Result T FileFault) (fault : FileFault)
-    → IsErrAnd answer (λ made. made ≡ fault) → MissesOne names old new → AskFor names old new (is_ok answer)
-misses_so names old new answer fault made misses = subst (λ a. AskFor names old new (is_ok a)) (sym (err_is answer fault made)) misses
+pub misses_so : {T : Type 0} (names : List (List ℕ)) (old new : List Asking) (answer : Result T FileFault)
+    (fault : FileFault) → IsErrAnd answer (λ made. made ≡ fault) → MissesOne names old new
+    → AskFor names old new (is_ok answer)
+misses_so names old new answer fault made misses =
+    subst (λ a. AskFor names old new (is_ok a)) (sym (err_is answer fault made)) misses
 
 -- ---- what the program asks for
 
@@ -54,17 +62,18 @@ module _ (names : List (List ℕ)) (asked : List Asking) where
   asked_none answer (Refused fault) made memory none =
       subst Asks (sym (err_is answer (Refused fault) made)) (inr (none, grind (arith, memory)))
 
-  pub asked_yet : (answer : Result (Unit {0}) Stop) (fault : FileFault) → IsErrAnd answer (λ made. made ≡ Unread fault) → AskFor names [] asked false
-      → Asks answer
+  pub asked_yet : (answer : Result (Unit {0}) Stop) (fault : FileFault) → IsErrAnd answer (λ made. made ≡ Unread fault)
+      → AskFor names [] asked false → Asks answer
   asked_yet answer fault made asks = subst Asks (sym (err_is answer (Unread fault) made)) asks
 
-  asks_after : (file_failed : Bool) (told : Result (Unit {0}) DeskFault) → AskFor names [] asked true → Asks (stop_after file_failed told)
+  asks_after : (file_failed : Bool) (told : Result (Unit {0}) DeskFault) → AskFor names [] asked true
+      → Asks (stop_after file_failed told)
   asks_after file_failed (Ok done) asks = asks
   asks_after true (Err Device) asks = asks
   asks_after file_failed (Err fault) asks = inl asks
 
-  pub asked_all : (command : KnownCommand) (source sink : Port) (answer : Result (Unit {0}) Stop) → IsDone command source sink answer
-      → AskFor names [] asked true → Asks answer
+  pub asked_all : (command : KnownCommand) (source sink : Port) (answer : Result (Unit {0}) Stop)
+      → IsDone command source sink answer → AskFor names [] asked true → Asks answer
   asked_all command source sink answer done asks = subst Asks (sym done.answers) (asks_after _ done.told asks)
 
 -- ---- what the words say

@@ -1,5 +1,6 @@
 -- What the desk makes of what is told of a message.
-use Rattle.kd_desk.proofs.Prelude.{arith, ◌≡◌, Result, Ok, Err, IsErrAnd, MatchResult, IsTrue, FormFault, Port, Fail, DeskFault, answer_to_message, is_refused_before, is_device}
+use Rattle.kd_desk.proofs.Prelude.{arith, ◌≡◌, Result, Ok, Err, IsErrAnd, MatchResult, IsTrue, FormFault, Port, Fail}
+use Rattle.kd_desk.proofs.Prelude.{DeskFault, answer_to_message, is_refused_before, is_device}
 use Rattle.kd_desk.{proofs.Failing.err_is, specs.Messages.fault_of_message}
 use Rattle.kd_form.specs.Streams as streams
 use Rattle.kd_form.specs.Streams.{is_off_key}
@@ -16,6 +17,7 @@ fails source sink told answer is failed = grind arith
 
 -- `map_err` answers the desk's own refusal
 pub passed_on : (told : Result (Unit {0}) FormFault) (answer : Result (Unit {0}) DeskFault)
-    → MatchResult told (λ x. answer ≡ Ok x) (λ e. IsErrAnd answer (λ made. made ≡ fault_of_message e)) → answer ≡ answer_to_message told
+    → MatchResult told (λ x. answer ≡ Ok x) (λ e. IsErrAnd answer (λ made. made ≡ fault_of_message e))
+    → answer ≡ answer_to_message told
 passed_on (Ok done) answer is = is
 passed_on (Err fault) answer made = err_is answer (fault_of_message fault) made

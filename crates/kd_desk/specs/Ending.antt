@@ -33,8 +33,8 @@ status_of (Err (Unread fault)) = 1
 status_of (Err ReadFailed) = 1
 status_of (Err (Refused fault)) = 1
 
--- The program ends with the status of this answer, and what is told of the answer was written to standard error, or a prefix
--- of it where that failed.
+-- The program ends with the status of this answer. What is told of it was written to standard error, or a prefix where
+-- that failed.
 pub record EndsAs (answer : Result (Unit {0}) Stop) (errors : Port) (status : ℕ) : Type 0 where
   pub ends : status ≡ status_of answer
   pub written : Result (Unit {0}) Device

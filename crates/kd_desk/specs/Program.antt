@@ -1,5 +1,6 @@
 -- What the program does: the command that its words say, on the files that they name.
-use Rattle.std.specs.Prelude.{◌≡◌, ◌⊎◌, ℕ, Bool, true, false, List, [], ◌++◌, take, Option, None, Some, IfSome, Result, Ok, Err, IfOk, IfErr, IsTrue}
+use Rattle.std.specs.Prelude.{◌≡◌, ◌⊎◌, ℕ, Bool, true, false, List, [], ◌++◌, Option, None, Some, IfSome}
+use Rattle.std.specs.Prelude.{Result, Ok, Err, IfOk, IfErr, IsTrue}
 use Rattle.kd_sheet.specs.declared.fault.SheetFault.TheVariants.{NoMemory}
 use Rattle.kd_sheet.specs.MachineFile.{machine_of}
 use Rattle.kd_state.specs.declared.machine.parts.Parts.{Parts}
@@ -139,8 +140,8 @@ abbrev pub is_stopped_by_port : Result (Unit {0}) Stop → Bool
 is_stopped_by_port (Err (Refused fault)) = is_device (Err fault)
 is_stopped_by_port _ = false
 
--- Which files were asked for, by the answer: each up to the first that could not be had; none where memory ran out over the
--- words; and else all of them.
+-- Which files were asked for, by the answer: each up to the first that could not be had; none where memory ran out over
+-- the words; and else all of them.
 abbrev pub AsksFor : List (List ℕ) → List Asking → Result (Unit {0}) Stop → Type 0
 AsksFor names asked (Err Usage) = asked ≡ []
 AsksFor names asked (Err (Unread fault)) = AskFor names [] asked false
@@ -148,8 +149,8 @@ AsksFor names asked (Err (Refused fault)) = AskFor names [] asked true ⊎ ((ask
 AsksFor names asked answer = AskFor names [] asked true
 
 -- What the program answered to its words, over files of which so much is known, and which names it asked for.
-pub record IsRun (words : List (List ℕ)) (known : Option (List ℕ → Option (List ℕ))) (asked : List Asking) (source sink : Port)
-    (Untouched : Type 0) (answer : Result (Unit {0}) Stop) : Type 0 where
+pub record IsRun (words : List (List ℕ)) (known : Option (List ℕ → Option (List ℕ))) (asked : List Asking)
+    (source sink : Port) (Untouched : Type 0) (answer : Result (Unit {0}) Stop) : Type 0 where
   pub carried : (command : Named) → Says words command
       → IfSome known (λ held. CarriesOut (command_over held command) source sink answer)
   pub asks : (command : Named) → Says words command → AsksFor (files_of command) asked answer

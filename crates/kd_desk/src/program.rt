@@ -3,8 +3,9 @@ ghost use Rattle.std.specs.Prelude.{◌≡◌, ◌≤◌, ◌⊎◌, ◌||◌, [
 ghost use Rattle.kd_desk.specs.CommandLine.{named, action_named, task_named, files_of, action_files, task_files};
 ghost use Rattle.kd_desk.specs.CommandLine.{with_opened, with_action_opened, with_task_opened, opened_by, action_opened, task_opened};
 ghost use Rattle.kd_desk.specs.CommandLine.{Says, SaysNothing};
-ghost use Rattle.kd_desk.specs.Program.{command_over, action_over, task_over, AsksFor, CarriesOut, DoesTask, IsDone, IsTaskDone};
-ghost use Rattle.kd_desk.specs.Program.{HasEnded, IsRun, StopsForMemory, IsUnfailed, is_stopped_before, is_stopped_by_port};
+ghost use Rattle.kd_desk.specs.Program.{command_over, action_over, task_over, AsksFor, CarriesOut, DoesTask, IsDone};
+ghost use Rattle.kd_desk.specs.Program.{HasEnded, IsRun, IsTaskDone, StopsForMemory};
+ghost use Rattle.kd_desk.specs.Program.{IsUnfailed, is_stopped_before, is_stopped_by_port};
 ghost use Rattle.kd_desk.specs.Files.{AskFor, Gives, IsReading, opened};
 ghost use Rattle.kd_desk.specs.OnDay.{OnDay};
 ghost use Rattle.kd_tables.specs.Ports.{Fail, port};
@@ -24,13 +25,12 @@ use kd_tables::{Sink, Source};
 use std::alloc::Global;
 use std::convert::AsStr;
 
-/// Carries out the command that the program's words say, the program's own name first, on the files that they name. Answers
-/// the status with which the program ends, and writes a line to `errors` that tells why it is not 0.
+/// Carries out the command that the program's words say, the program's own name first, on the files that they name.
 ///
-/// Words that say no command are told by the usage line, with status 2; every refusal has status 1. The files are taken in the
-/// order of the words, each once: an order and a form are opened, every other file is read whole before the next. Where one
-/// can't be had, nothing is read from the source or written to the sink. An order or a form is read as the command is
-/// carried out.
+/// Answers the status with which the program ends, and writes a line to `errors` that tells why it is not 0. The usage
+/// line has status 2, every refusal status 1. The files are taken in the order of the words, each once: an order and a
+/// form are opened, every other file is read whole before the next. Where one can't be had, nothing is read from the
+/// source or written to the sink. An order or a form is read as the command is carried out.
 pub fn run_desk<'n, S: AsStr, F: Files<'n>, R: Source, W: Sink, E: Sink>(
     alloc: Global,
     words: &'n [S],

@@ -85,8 +85,8 @@ fn refused_line(fault: DeskFault) -> Line
     line
 }
 
-/// Ends the program with this answer: writes the line that tells what stopped it, and answers the status, whether or not
-/// the line could be written.
+/// Ends the program with this answer: writes the line that tells what stopped it, and answers the status, even where
+/// the line could not be written.
 pub fn end<E: Sink>(answer: Result<(), Stop>, errors: &mut E) -> u8
     ensures { EndsAs answer (port E.taken E.has_failed errors.old errors.new) result }
 {

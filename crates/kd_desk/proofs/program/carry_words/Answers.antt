@@ -14,13 +14,17 @@ pub returns-clause-asked : goal.returns-clause-asked
 returns-clause-asked g c = grind (arith, said_command, asked_all)
 
 pub returns-in_err-command-2-clause-other_words : goal.returns-in_err-command-2-clause-other_words
-returns-in_err-command-2-clause-other_words g c = λ none. absurd (none (named c.in_ok-command.command) c.in_ok-command.ensures.said)
+returns-in_err-command-2-clause-other_words g c =
+    λ none. absurd (none (named c.in_ok-command.command) c.in_ok-command.ensures.said)
 
 pub returns-in_err-command-2-clause-none_asked : goal.returns-in_err-command-2-clause-none_asked
-returns-in_err-command-2-clause-none_asked g c = λ none. absurd (none (named c.in_ok-command.command) c.in_ok-command.ensures.said)
+returns-in_err-command-2-clause-none_asked g c =
+    λ none. absurd (none (named c.in_ok-command.command) c.in_ok-command.ensures.said)
 
 pub returns-clause-other_words : goal.returns-clause-other_words
-returns-clause-other_words g c = λ none. absurd (none (named c.in_ok-command.command) c.in_ok-command.ensures.said)
+returns-clause-other_words g c =
+    λ none. absurd (none (named c.in_ok-command.command) c.in_ok-command.ensures.said)
 
 pub returns-clause-none_asked : goal.returns-clause-none_asked
-returns-clause-none_asked g c = λ none. absurd (none (named c.in_ok-command.command) c.in_ok-command.ensures.said)
+returns-clause-none_asked g c =
+    λ none. absurd (none (named c.in_ok-command.command) c.in_ok-command.ensures.said)

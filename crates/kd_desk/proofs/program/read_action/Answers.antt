@@ -9,7 +9,8 @@ returns-in_err-list-in-Apply-clause-asked g c =
 pub returns-in_err-sheet-in-OnDay-clause-asked : goal.returns-in_err-sheet-in-OnDay-clause-asked
 returns-in_err-sheet-in-OnDay-clause-asked g c =
     rw c.in-OnDay.is
-    (misses_so _ _ _ _ _ c.from_residual-in_err-sheet-in-OnDay.ensures.1 (misses_first _ _ _ _ c.in_err-sheet-in-OnDay.ensures.asked))
+    (misses_so _ _ _ _ _ c.from_residual-in_err-sheet-in-OnDay.ensures.1
+    (misses_first _ _ _ _ c.in_err-sheet-in-OnDay.ensures.asked))
 
 pub returns-in_err-task-in-OnDay-clause-asked : goal.returns-in_err-task-in-OnDay-clause-asked
 returns-in_err-task-in-OnDay-clause-asked g c =

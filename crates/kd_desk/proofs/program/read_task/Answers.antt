@@ -9,4 +9,5 @@ returns-in_err-card-in-Check-clause-asked g c =
 pub returns-in_err-file-in-Message-clause-asked : goal.returns-in_err-file-in-Message-clause-asked
 returns-in_err-file-in-Message-clause-asked g c =
     rw c.in-Message.is
-    (misses_so _ _ _ _ _ c.from_residual-in_err-file-in-Message.ensures.1 (misses_first _ _ _ _ c.in_err-file-in-Message.ensures.asked))
+    (misses_so _ _ _ _ _ c.from_residual-in_err-file-in-Message.ensures.1
+    (misses_first _ _ _ _ c.in_err-file-in-Message.ensures.asked))

@@ -8,7 +8,11 @@ returns-in_err-machine-clause-sends g c =
 pub returns-clause-sends : goal.returns-clause-sends
 returns-clause-sends g c =
     on_day _ _ _ _ _ _ _ c.in_ok-machine.ensures.day
-    (record { told = c.send_stream.result; so = c.send_stream.ensures.streamed; answers = passed_on _ _ c.map_err.ensures.cases })
+    (record {
+      told = c.send_stream.result;
+      so = c.send_stream.ensures.streamed;
+      answers = passed_on _ _ c.map_err.ensures.cases;
+    })
 
 pub returns-clause-untouched : goal.returns-clause-untouched
 returns-clause-untouched g c =

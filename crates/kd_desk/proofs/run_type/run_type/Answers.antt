@@ -1,4 +1,5 @@
-use Rattle.kd_desk.proofs.{Prelude.{machine_of, port, Types, LacksMemory}, Applying.of_read, Streaming.{fails, off_key, passed_on}}
+use Rattle.kd_desk.proofs.{Prelude.{machine_of, port, Types, LacksMemory}, Applying.of_read}
+use Rattle.kd_desk.proofs.Streaming.{fails, off_key, passed_on}
 use Rattle.kd_desk.proofs.run_type.run_type.Goals as goal
 
 pub returns-clause-typed : goal.returns-clause-typed
@@ -7,7 +8,11 @@ returns-clause-typed g c =
     let sink = port g.W.Sink.taken g.W.Sink.has_failed c.args.sink.now c.type_stream.new.sink in
     let answer = c.map_err.result in
     of_read (machine_of c.args.machine.now) c.in_ok-machine.machine (λ m. Types m source sink answer) (LacksMemory answer) c.in_ok-machine.ensures
-    (record { told = c.type_stream.result; so = c.type_stream.ensures.streamed; answers = passed_on _ _ c.map_err.ensures.cases })
+    (record {
+      told = c.type_stream.result;
+      so = c.type_stream.ensures.streamed;
+      answers = passed_on _ _ c.map_err.ensures.cases;
+    })
 
 pub returns-clause-untouched : goal.returns-clause-untouched
 returns-clause-untouched g c =

@@ -9,5 +9,7 @@ returns-in_default g c = ends_well g.E.Sink.taken g.E.Sink.has_failed c.args.err
 pub returns : goal.returns
 returns g c =
     let errors = port g.E.Sink.taken g.E.Sink.has_failed c.args.errors.now c.put_all.new.sink in
-    subst (EndsAs c.args.answer errors) (sym c.status.ensures) (ends_told c.args.answer errors c.in-Err.stop _ c.put_all.result c.in-Err.is
-    (c.as_bytes.ensures.value ∙ c.as_str.ensures.value ∙ c.line.ensures) c.put_all.ensures.text c.put_all.ensures.failed)
+    let line = c.as_bytes.ensures.value ∙ c.as_str.ensures.value ∙ c.line.ensures in
+    subst (EndsAs c.args.answer errors) (sym c.status.ensures)
+    (ends_told c.args.answer errors c.in-Err.stop _ c.put_all.result c.in-Err.is line
+    c.put_all.ensures.text c.put_all.ensures.failed)
