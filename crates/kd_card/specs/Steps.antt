@@ -1,13 +1,13 @@
--- What is answered of a thing, step by step: a step answers with what it finds, or with why there is none, and the first
--- such reason is the answer.
+-- Answers that are found step by step: each step finds something or has a fault, and the first fault is the
+-- answer.
 use Rattle.std.specs.Prelude.{◌≡◌, Result, Ok, Err, refl}
 use Rattle.std.proofs.Common.{sym, ap, ◌∙◌, subst}
 
--- what is said of an answer
+-- a property of an answer: what was found, or a fault
 abbrev pub Says : Type 0 → Type 0 → Type 1
 Says F X = Result X F → Type 0
 
--- One step, and the next ones where it finds something.
+-- The first step has a fault, which is the answer; or it finds something, and the next steps give the answer.
 pub data Then {F X Y : Type 0} (Says : Result X F → Type 0) (Next : X → Result Y F → Type 0) (answer : Result Y F) : Type 0 where
   Refused : (fault : F) → Says (Err fault) → answer ≡ Err fault → Then Says Next answer
   Found : (x : X) → Says (Ok x) → Next x answer → Then Says Next answer
@@ -16,25 +16,25 @@ infixl 10 ◌>>=◌
 abbrev pub ◌>>=◌ : {F X Y : Type 0} → Says F X → (X → Says F Y) → Says F Y
 says >>= next = Then says next
 
--- what was found
+-- the answer is `x`
 abbrev pub Only : {F X : Type 0} → X → Says F X
 Only x answer = answer ≡ Ok x
 
--- something of which this holds; where there is none, that is the reason
+-- an item that satisfies `Holds`, or the fault `due` if there is none
 abbrev pub Finds : {F X : Type 0} → (X → Type 0) → F → Says F X
 Finds Holds due (Ok x) = Holds x
 Finds {X} Holds due (Err fault) = ((x : X) → ¬ (Holds x)) × (fault ≡ due)
 
--- the same of a condition
+-- success if `Holds`, else the fault `due`
 abbrev pub Demands : {F : Type 0} → Type 0 → F → Says F (Unit {0})
 Demands Holds due = Finds (λ _. Holds) due
 
--- something of which this holds, as there always is
+-- an item that satisfies `Holds`; there always is one
 abbrev pub Takes : {F X : Type 0} → (X → Type 0) → Says F X
 Takes Holds (Ok x) = Holds x
 Takes Holds (Err fault) = ⊥
 
--- ---- steps have one answer at most, where each of them has
+-- ---- at most one answer, if each step has at most one
 
 abbrev pub IsOnly : {F X : Type 0} → (Result X F → Type 0) → Type 0
 IsOnly {F} {X} Says = (v w : Result X F) → Says v → Says w → v ≡ w
@@ -80,7 +80,7 @@ only_takes one (Ok x) (Ok y) a b = ap Ok (one x y a b)
 only_takes one (Ok x) (Err f) a b = absurd b
 only_takes one (Err f) w a b = absurd a
 
--- what the first of several steps has found, where the last one is reached
+-- What the first step has found, if all steps find something.
 pub record Passed {F X Y : Type 0} (Says : Result X F → Type 0) (Next : X → Result Y F → Type 0) (y : Y) : Type 0 where
   pub found : X
   pub says : Says (Ok found)
