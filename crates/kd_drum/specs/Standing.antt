@@ -1,17 +1,17 @@
--- The wheels as they stand in the Converter, and the key that they make.
+-- The six wheels in the Converter, and the key to which they and the bars are set.
 use Rattle.std.specs.Prelude.{◌≡◌, ℕ, List, [], ◌∷◌}
 use Rattle.kd_tables.specs.Rings.{ring_of}
 use Rattle.kd_pins.specs.PinWheel.{TurnedWheel, IsWheel, letter_shown}
 use Rattle.kd_pins.specs.PinWheels.{offset_of}
 use Rattle.kd_drum.specs.Converter.{PinKey}
 
--- the wheel is that of the number, and has so many places
+-- The wheel is wheel `number`, and has `size` places.
 pub record StandsAs (number size : ℕ) (wheel : TurnedWheel) : Type 0 where
   pub ring : wheel.ring ≡ ring_of number
   pub offset : wheel.offset ≡ offset_of number
   pub turned : IsWheel size wheel
 
--- six wheels stand as the first to the sixth
+-- The six wheels are wheels 1 to 6.
 pub record AllStand (w1 w2 w3 w4 w5 w6 : TurnedWheel) : Type 0 where
   pub first : StandsAs 1 26 w1
   pub second : StandsAs 2 25 w2
