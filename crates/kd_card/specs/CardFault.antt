@@ -1,5 +1,6 @@
 -- The card that bytes describe, or the first fault of these bytes. Lines are counted from 1.
-use Rattle.std.specs.Prelude.{codes, decimal, ◌≡◌, ◌≢◌, ℕ, ◌+◌, ◌≤◌, ◌⊎◌, List, [], ◌∷◌, ◌++◌, length, map, All, ℤ, Bool, true, false, Ok, Err}
+use Rattle.std.specs.Prelude.{codes, decimal, ◌≡◌, ◌≢◌, ℕ, ◌+◌, ◌≤◌, ◌⊎◌, List, [], ◌∷◌, ◌++◌, length, map, All, ℤ}
+use Rattle.std.specs.Prelude.{Bool, true, false, Ok, Err}
 use Rattle.std.specs.Fmt.{signed_decimal}
 use Rattle.kd_state.specs.declared.setting.Setting.{Setting}
 use Rattle.kd_state.specs.Words.{words_of, line_of, IsFirstPart}
@@ -14,11 +15,14 @@ use Rattle.kd_card.specs.declared.group.Group.TheVariants.{OfCables, OfBars}
 use Rattle.kd_card.specs.declared.look.Name.{Name}
 use Rattle.kd_card.specs.declared.kinds.PricedKind.{PricedKind}
 use Rattle.kd_card.specs.declared.fault.CardFault.{CardFault}
-use Rattle.kd_card.specs.declared.fault.CardFault.TheVariants.{BadHead, BadLine, TooMany, PriceMissing, CountWrong, Trailing}
+use Rattle.kd_card.specs.declared.fault.CardFault.TheVariants.{BadHead, BadLine, TooMany, PriceMissing, CountWrong}
+use Rattle.kd_card.specs.declared.fault.CardFault.TheVariants.{Trailing}
 use Rattle.kd_card.specs.Steps.{Says, ◌>>=◌, Only, Finds, Demands, Takes}
-use Rattle.kd_card.specs.Kinds.{name_text, look_name, look_rank, kind_words, kinds_text, counted, IsPricedKind, AreKinds, AreCalled}
+use Rattle.kd_card.specs.Kinds.{name_text, look_name, look_rank, kind_words, kinds_text, counted, IsPricedKind}
+use Rattle.kd_card.specs.Kinds.{AreKinds, AreCalled}
 use Rattle.kd_card.specs.Prices.{price_sum, AreWithinReach}
-use Rattle.kd_card.specs.CardText.{row_word, column_word, row_name, column_name, price_count, head_words, price_lines, HaveKinds}
+use Rattle.kd_card.specs.CardText.{row_word, column_word, row_name, column_name, price_count, head_words, price_lines}
+use Rattle.kd_card.specs.CardText.{HaveKinds}
 
 -- ---- numbers and prices as they are written
 
@@ -33,7 +37,8 @@ IsNumberText (digit ∷ digits) = IsDigit digit × All IsDigit digits × ((digit
 -- an unsigned number, or a signed one: `-` before it makes it negative, and `-0` isn't one
 abbrev pub IsNumeral : Bool → List ℕ → Type 0
 IsNumeral false text = IsNumberText text
-IsNumeral true text = IsNumberText text ⊎ ((digits : List ℕ) × (text ≡ 45 ∷ digits) × IsNumberText digits × (digits ≢ codes "0"))
+IsNumeral true text =
+    IsNumberText text ⊎ ((digits : List ℕ) × (text ≡ 45 ∷ digits) × IsNumberText digits × (digits ≢ codes "0"))
 
 -- ---- lines
 
@@ -50,7 +55,9 @@ pub record HasWords (bytes : List ℕ) (words : List (List ℕ)) (rest : List �
 -- A line of `front` and the number `due`: another form is a bad line, another number a wrong count.
 abbrev pub SaysValue : Bool → List ℕ → List ℕ → ℕ → List ℕ → Says CardFault (List ℕ)
 SaysValue signed front due line bytes = do
-  found ← Finds (λ (found : List ℕ × List ℕ). IsNumeral signed found.0 × (bytes ≡ front ++ found.0 ++ 10 ∷ found.1)) (BadLine line)
+  found ← Finds
+      (λ (found : List ℕ × List ℕ). IsNumeral signed found.0 × (bytes ≡ front ++ found.0 ++ 10 ∷ found.1))
+      (BadLine line)
   _ ← Demands (found.0 ≡ due) CountWrong
   Only found.1
 
@@ -81,7 +88,8 @@ SaysHead bytes = Finds (λ (head : Version × ℕ × List ℕ). BeginsWithHead b
 abbrev pub SaysSettings : List ℕ → Says CardFault (List Setting × List ℕ)
 SaysSettings bytes (Ok list) = BeginsWithSettings bytes list.0 list.1
 SaysSettings bytes (Err fault) =
-    ((settings : List Setting) × (rest : List ℕ) × BeginsWith bytes settings rest × (length settings ≡ 193)) × (fault ≡ TooMany)
+    ((settings : List Setting) × (rest : List ℕ) × BeginsWith bytes settings rest × (length settings ≡ 193))
+    × (fault ≡ TooMany)
 
 abbrev pub SaysNumber : ℕ → List ℕ → Says CardFault (List ℕ)
 SaysNumber number bytes = SaysValue false (codes "SETTINGS ") (decimal number) (number + 2) bytes

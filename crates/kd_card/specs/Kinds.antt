@@ -1,5 +1,6 @@
 -- Kinds: what equal cables, pairs, bars or rows have in common, how many there are, and the price of each.
-use Rattle.std.specs.Prelude.{codes, decimal, ◌≡◌, ℕ, ◌+◌, ◌*◌, ◌<◌, ◌≤◌, List, [], ◌∷◌, ◌++◌, replicate, flat_map, ℤ, unsigned_abs, Option, Some, None}
+use Rattle.std.specs.Prelude.{codes, decimal, ◌≡◌, ℕ, ◌+◌, ◌*◌, ◌<◌, ◌≤◌, List, [], ◌∷◌, ◌++◌, replicate, flat_map, ℤ}
+use Rattle.std.specs.Prelude.{unsigned_abs, Option, Some, None}
 use Rattle.std.specs.Fmt.{signed_decimal}
 use Rattle.kd_tables.specs.declared.place.Place.{Place}
 use Rattle.kd_tables.specs.Places.{place_rank, standing_text, reading_text, IsBefore, IsReading}
@@ -103,7 +104,8 @@ pub record IsPricedKind (kind : PricedKind) : Type 0 where
 -- Valid kinds, each once and in the order of their ranks from `floor` on.
 abbrev pub AreKinds : ℕ → List PricedKind → Type 0
 AreKinds floor [] = Unit {0}
-AreKinds floor (kind ∷ kinds) = IsPricedKind kind × (floor ≤ look_rank kind.look) × AreKinds (look_rank kind.look + 1) kinds
+AreKinds floor (kind ∷ kinds) =
+    IsPricedKind kind × (floor ≤ look_rank kind.look) × AreKinds (look_rank kind.look + 1) kinds
 
 -- All kinds are of things called `name`.
 abbrev pub AreCalled : Name → List PricedKind → Type 0
@@ -121,7 +123,8 @@ prices_of_kinds kinds = flat_map (λ kind. replicate kind.count kind.price) kind
 
 -- the words of a kind's line: name, look, count and price
 abbrev pub kind_words : PricedKind → List (List ℕ)
-kind_words kind = name_text (look_name kind.look) ∷ look_text kind.look ∷ decimal kind.count ∷ signed_decimal kind.price ∷ []
+kind_words kind =
+    name_text (look_name kind.look) ∷ look_text kind.look ∷ decimal kind.count ∷ signed_decimal kind.price ∷ []
 
 -- These are the words of the line of `kind`, whose things are called `name`.
 pub record HasKindWords (name : Name) (words : List (List ℕ)) (kind : PricedKind) : Type 0 where

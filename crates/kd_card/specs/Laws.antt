@@ -24,14 +24,16 @@ LooseThingsAreCounted =
 -- If prices fit, no list that reaches the day is shorter than the loose things plus the sum of the prices.
 abbrev pub FittingPricesBoundLists : Type 0
 FittingPricesBoundLists =
-    (m : Parts) (s : Day) (prices : PriceParts) (settings : List Setting) → IsMachine m → IsLegalDay s → ArePrices prices → AreOfKind m prices
+    (m : Parts) (s : Day) (prices : PriceParts) (settings : List Setting) → IsMachine m → IsLegalDay s
+    → ArePrices prices → AreOfKind m prices
     → Fits (cost_table m s) prices → LeadsToTheDay m s settings
     → (pos (loose_count m s) +ℤ price_sum prices) ≤ℤ pos (length settings)
 
 -- A list that reaches the day needs each of its settings if at most as many as the loose things are unpriced.
 abbrev pub AsFewAreNeeded : Type 0
 AsFewAreNeeded =
-    (m : Parts) (s : Day) (settings : List Setting) → IsLegalDay s → model_of m ≡ day_model s → LeadsToTheDay m s settings
+    (m : Parts) (s : Day) (settings : List Setting) → IsLegalDay s → model_of m ≡ day_model s
+    → LeadsToTheDay m s settings
     → length settings ≤ loose_count m s + priced_count settings → AreNeeded m s settings
 
 -- A card by number that proves itself has as many settings as loose things plus the sum of its prices.
@@ -43,24 +45,29 @@ ProvingCardsAreAsLong =
 
 abbrev pub ProvingCardsAreShortest : Type 0
 ProvingCardsAreShortest =
-    (m : Parts) (s : Day) (settings : List Setting) (prices : PriceParts) → IsMachine m → IsLegalDay s → ArePrices prices → Proves m s settings prices
+    (m : Parts) (s : Day) (settings : List Setting) (prices : PriceParts) → IsMachine m → IsLegalDay s
+    → ArePrices prices → Proves m s settings prices
     → IsShortest m s settings
 
 -- In a card by number that proves itself, no price can be raised alone: each row and each column has a tight
 -- place.
 abbrev pub ProvingPricesAreTight : Type 0
 ProvingPricesAreTight =
-    (m : Parts) (s : Day) (settings : List Setting) (prices : PriceParts) → IsMachine m → IsLegalDay s → ArePrices prices → ProvesByNumber m s settings prices
+    (m : Parts) (s : Day) (settings : List Setting) (prices : PriceParts) → IsMachine m → IsLegalDay s
+    → ArePrices prices → ProvesByNumber m s settings prices
     → AreTight (cost_table m s) prices
 
 -- Two valid looks with one name and one rank are equal.
 abbrev pub RanksTellLooks : Type 0
-RanksTellLooks = (look other : Look) → look_name look ≡ look_name other → IsInForm look → IsInForm other → look_rank look ≡ look_rank other → look ≡ other
+RanksTellLooks =
+    (look other : Look) → look_name look ≡ look_name other → IsInForm look → IsInForm other
+    → look_rank look ≡ look_rank other → look ≡ other
 
 -- Different cards have different texts, and no card's text is a proper prefix of another's.
 abbrev pub TextsTellCards : Type 0
 TextsTellCards =
-    (bytes : List ℕ) (day other : ℕ) (xs ys : List Setting) (prices others : PriceParts) → IsCard bytes day xs prices → IsCard bytes other ys others
+    (bytes : List ℕ) (day other : ℕ) (xs ys : List Setting) (prices others : PriceParts) → IsCard bytes day xs prices
+    → IsCard bytes other ys others
     → (day ≡ other) × (xs ≡ ys) × (prices ≡ others)
 
 abbrev pub NoCardBeginsAnother : Type 0
@@ -76,7 +83,10 @@ CardsAreSaid =
 
 -- The text of a card has no fault, and any bytes have at most one.
 abbrev pub CardsHaveNoFault : Type 0
-CardsHaveNoFault = (bytes : List ℕ) (day : ℕ) (xs : List Setting) (prices : PriceParts) (fault : CardFault) → IsCard bytes day xs prices → ¬ (IsCardFault bytes fault)
+CardsHaveNoFault =
+    (bytes : List ℕ) (day : ℕ) (xs : List Setting) (prices : PriceParts) (fault : CardFault)
+    → IsCard bytes day xs prices → ¬ (IsCardFault bytes fault)
 
 abbrev pub OneCardFault : Type 0
-OneCardFault = (bytes : List ℕ) (fault other : CardFault) → IsCardFault bytes fault → IsCardFault bytes other → fault ≡ other
+OneCardFault =
+    (bytes : List ℕ) (fault other : CardFault) → IsCardFault bytes fault → IsCardFault bytes other → fault ≡ other

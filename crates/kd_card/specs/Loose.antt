@@ -1,5 +1,6 @@
 -- The settings that change each thing of a machine, except cables and bars, to the day's, in a fixed order.
-use Rattle.std.specs.Prelude.{ℕ, nat_eq, Bool, false, not, List, [], ◌∷◌, ◌++◌, ◌+◌, flat_map, find, zip, Option, Some, None, if◌then◌else◌}
+use Rattle.std.specs.Prelude.{ℕ, nat_eq, Bool, false, not, List, [], ◌∷◌, ◌++◌, ◌+◌, flat_map, find, zip, Option, Some}
+use Rattle.std.specs.Prelude.{None, if◌then◌else◌}
 use Rattle.std.specs.Option.{option_and_then, option_map_or, option_to_list}
 use Rattle.kd_tables.specs.declared.wheel.Wheel.{Wheel}
 use Rattle.kd_tables.specs.declared.reflector.Reflector.{Reflector}
@@ -41,14 +42,17 @@ reflector_lines present wanted = option_to_list (unless_so (same_reflector prese
 -- RING for a wheel of the day whose ring isn't the day's, and for all wheels in the order of the box
 abbrev pub ring_of_wheel : RotorParts → List SheetWheel → Wheel → List Setting
 ring_of_wheel m wheels wheel =
-    option_to_list (option_and_then (λ w. unless_so (option_map_or (nat_eq w.ring) (ring_at m w.wheel) false) (RingTo w.wheel w.ring)) (find (λ w. same_wheel wheel w.wheel) wheels))
+    option_to_list (option_and_then
+    (λ w. unless_so (option_map_or (nat_eq w.ring) (ring_at m w.wheel) false) (RingTo w.wheel w.ring))
+    (find (λ w. same_wheel wheel w.wheel) wheels))
 
 abbrev pub ring_lines : RotorParts → List SheetWheel → List Setting
 ring_lines m wheels = flat_map (ring_of_wheel m wheels) (box_of m.model)
 
 -- TURN for a slot whose wheel shows another letter than the day's, and for all slots
 abbrev pub turn_of : RotorParts → ℕ → SheetWheel → List Setting
-turn_of m slot w = option_to_list (unless_so (option_map_or (nat_eq w.letter) (letter_at m w.wheel) false) (Turn slot w.letter))
+turn_of m slot w =
+    option_to_list (unless_so (option_map_or (nat_eq w.letter) (letter_at m w.wheel) false) (Turn slot w.letter))
 
 abbrev pub turn_lines : RotorParts → List SheetWheel → List Setting
 turn_lines m wheels = lines_from (turn_of m) 1 wheels
@@ -61,7 +65,8 @@ abbrev pub wheel_pin_lines : ℕ → List ℕ → List Bool → List Bool → Li
 wheel_pin_lines wheel ring present wanted = flat_map (pin_of wheel) (zip ring (zip present wanted))
 
 abbrev pub pin_lines : PinSet → PinSet → List Setting
-pin_lines present wanted = lines_from (λ wheel z. wheel_pin_lines wheel (ring_of wheel) z.0 z.1) 1 (zip (pins_of present) (pins_of wanted))
+pin_lines present wanted =
+    lines_from (λ wheel z. wheel_pin_lines wheel (ring_of wheel) z.0 z.1) 1 (zip (pins_of present) (pins_of wanted))
 
 -- TURN for a pin wheel that shows another letter than the day's, and for all pin wheels
 abbrev pub pin_turn_of : ℕ → ℕ × ℕ → List Setting

@@ -1,6 +1,7 @@
 -- The prices of a card, by number or by kind, and what it means that prices fit. Rows and columns are counted
 -- from 0.
-use Rattle.std.specs.Prelude.{◌≡◌, ℕ, ◌<◌, ◌≤◌, List, [], ◌++◌, length, map, All, fold, slice_index, slice_index_or, ℤ, pos, unsigned_abs, ◌+ℤ◌, ◌≤ℤ◌}
+use Rattle.std.specs.Prelude.{◌≡◌, ℕ, ◌<◌, ◌≤◌, List, [], ◌++◌, length, map, All, fold, slice_index, slice_index_or, ℤ}
+use Rattle.std.specs.Prelude.{pos, unsigned_abs, ◌+ℤ◌, ◌≤ℤ◌}
 use Rattle.kd_card.specs.declared.prices.PriceParts.{PriceParts}
 use Rattle.kd_card.specs.declared.prices.PriceParts.TheVariants.{Cables, Bars, CableKinds, BarKinds}
 use Rattle.kd_card.specs.declared.prices.Version.{Version}
@@ -73,7 +74,8 @@ price_at prices i = slice_index_or prices i (pos 0)
 
 -- The prices of row `i` and column `j` are together at most the cost where they meet.
 abbrev pub FitsAt : List (List ℕ) → PriceParts → ℕ → ℕ → Type 0
-FitsAt costs prices i j = (price_at (row_prices prices) i +ℤ price_at (column_prices prices) j) ≤ℤ pos (cost_at costs i j)
+FitsAt costs prices i j =
+    (price_at (row_prices prices) i +ℤ price_at (column_prices prices) j) ≤ℤ pos (cost_at costs i j)
 
 abbrev pub Fits : List (List ℕ) → PriceParts → Type 0
 Fits costs prices = (i j : ℕ) → i < how_many prices → j < how_many prices → FitsAt costs prices i j
@@ -84,7 +86,8 @@ price_sum prices = fold (λ sum price. sum +ℤ price) (pos 0) (row_prices price
 
 -- The prices of row `i` and column `j` are together exactly the cost where they meet.
 abbrev pub IsTightAt : List (List ℕ) → PriceParts → ℕ → ℕ → Type 0
-IsTightAt costs prices i j = (price_at (row_prices prices) i +ℤ price_at (column_prices prices) j) ≡ pos (cost_at costs i j)
+IsTightAt costs prices i j =
+    (price_at (row_prices prices) i +ℤ price_at (column_prices prices) j) ≡ pos (cost_at costs i j)
 
 -- Each row has a column where its price is tight, and each column a row.
 pub record AreTight (costs : List (List ℕ)) (prices : PriceParts) : Type 0 where

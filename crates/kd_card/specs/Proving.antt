@@ -1,11 +1,13 @@
 -- A card that proves itself: its settings lead the machine to the day, and its prices show that no shorter list
 -- does.
-use Rattle.std.specs.Prelude.{◌≡◌, ℕ, ◌+◌, ◌<◌, ◌≤◌, nat_eq, Bool, true, false, List, [], ◌∷◌, length, map, slice_index_or, count_by, All, ◌⊎◌, ℤ, pos, IsFalse, Option, Some, None}
+use Rattle.std.specs.Prelude.{◌≡◌, ℕ, ◌+◌, ◌<◌, ◌≤◌, nat_eq, Bool, true, false, List, [], ◌∷◌, length, map}
+use Rattle.std.specs.Prelude.{slice_index_or, count_by, All, ◌⊎◌, ℤ, pos, IsFalse, Option, Some, None}
 use Rattle.kd_tables.specs.Places.{in_order}
 use Rattle.kd_state.specs.declared.machine.parts.Parts.{Parts}
 use Rattle.kd_state.specs.declared.machine.parts.Parts.TheVariants.{Rotor, Pin}
 use Rattle.kd_state.specs.declared.setting.Setting.{Setting}
-use Rattle.kd_state.specs.declared.setting.Setting.TheVariants.{Pull, Put, Seat, SeatReflector, RingTo, Turn, PinTo, LugTo}
+use Rattle.kd_state.specs.declared.setting.Setting.TheVariants.{Pull, Put, Seat, SeatReflector, RingTo, Turn, PinTo}
+use Rattle.kd_state.specs.declared.setting.Setting.TheVariants.{LugTo}
 use Rattle.kd_state.specs.Machine.{model_of}
 use Rattle.kd_state.specs.Setting.{Leads, changed}
 use Rattle.kd_state.specs.SheetDay.{Day, OfRotors, OfPins, day_model}
@@ -20,7 +22,8 @@ use Rattle.kd_card.specs.declared.look.Look.{Look}
 use Rattle.kd_card.specs.declared.look.Look.TheVariants.{Cable, Pair, Bar, Row}
 use Rattle.kd_card.specs.declared.kinds.PricedKind.{PricedKind}
 use Rattle.kd_card.specs.Kinds.{look_rank}
-use Rattle.kd_card.specs.Prices.{version_of, row_kinds, column_kinds, row_prices, column_prices, price_at, price_sum, Fits, ArePrices}
+use Rattle.kd_card.specs.Prices.{version_of, row_kinds, column_kinds, row_prices, column_prices, price_at, price_sum}
+use Rattle.kd_card.specs.Prices.{Fits, ArePrices}
 use Rattle.kd_card.specs.CardText.{group_of}
 
 -- The prices are by number, and belong to the machine's model: cables of a rotor machine, or bars of a
@@ -104,7 +107,8 @@ pub record AreExpanded (looks : List Look) (kinds : List PricedKind) (prices : L
 -- row.
 pub data Expands (m : Parts) (s : Day) (prices numbered : PriceParts) : Type 0 where
   Same : version_of prices ≡ ByNumber → prices ≡ numbered → Expands m s prices numbered
-  Expanded : version_of prices ≡ ByKind → version_of numbered ≡ ByNumber → group_of prices ≡ group_of numbered → ArePrices prices → ArePrices numbered
+  Expanded : version_of prices ≡ ByKind → version_of numbered ≡ ByNumber → group_of prices ≡ group_of numbered
+      → ArePrices prices → ArePrices numbered
       → AreExpanded (row_looks m) (row_kinds prices) (row_prices numbered)
       → AreExpanded (column_looks s) (column_kinds prices) (column_prices numbered) → Expands m s prices numbered
 

@@ -8,7 +8,8 @@ abbrev pub Says : Type 0 → Type 0 → Type 1
 Says F X = Result X F → Type 0
 
 -- The first step has a fault, which is the answer; or it finds something, and the next steps give the answer.
-pub data Then {F X Y : Type 0} (Says : Result X F → Type 0) (Next : X → Result Y F → Type 0) (answer : Result Y F) : Type 0 where
+pub data Then {F X Y : Type 0} (Says : Result X F → Type 0) (Next : X → Result Y F → Type 0)
+    (answer : Result Y F) : Type 0 where
   Refused : (fault : F) → Says (Err fault) → answer ≡ Err fault → Then Says Next answer
   Found : (x : X) → Says (Ok x) → Next x answer → Then Says Next answer
 
@@ -56,7 +57,8 @@ same_ok {x} e = ap (value_or x) e
 
 pub only_then : {F X Y : Type 0} {Says : Result X F → Type 0} {Next : X → Result Y F → Type 0} → IsOnly Says
     → ((x : X) → Says (Ok x) → IsOnly (Next x)) → IsOnly (Then Says Next)
-only_then only next v w (Refused f a e) (Refused g b d) = e ∙ ap Err (ap (fault_or f) (only (Err f) (Err g) a b)) ∙ sym d
+only_then only next v w (Refused f a e) (Refused g b d) =
+    e ∙ ap Err (ap (fault_or f) (only (Err f) (Err g) a b)) ∙ sym d
 only_then only next v w (Refused f a e) (Found y b m) = absurd (subst Succeeds (only (Ok y) (Err f) b a) tt)
 only_then only next v w (Found x a l) (Refused g b d) = absurd (subst Succeeds (only (Ok x) (Err g) a b) tt)
 only_then {Next} only next v w (Found x a l) (Found y b m) =
@@ -75,7 +77,8 @@ only_finds due one (Err f) (Err g) a b = ap Err (a.1 ∙ sym b.1)
 pub only_demands : {F : Type 0} (Holds : Type 0) (due : F) → IsOnly (Demands Holds due)
 only_demands Holds due = only_finds due (λ x y a b. refl)
 
-pub only_takes : {F X : Type 0} {Holds : X → Type 0} → ((x y : X) → Holds x → Holds y → x ≡ y) → IsOnly {F = F} (Takes Holds)
+pub only_takes : {F X : Type 0} {Holds : X → Type 0} → ((x y : X) → Holds x → Holds y → x ≡ y)
+    → IsOnly {F = F} (Takes Holds)
 only_takes one (Ok x) (Ok y) a b = ap Ok (one x y a b)
 only_takes one (Ok x) (Err f) a b = absurd b
 only_takes one (Err f) w a b = absurd a
@@ -86,7 +89,8 @@ pub record Passed {F X Y : Type 0} (Says : Result X F → Type 0) (Next : X → 
   pub says : Says (Ok found)
   pub next : Next found (Ok y)
 
-pub passed : {F X Y : Type 0} {Says : Result X F → Type 0} {Next : X → Result Y F → Type 0} {y : Y} → Then Says Next (Ok y)
+pub passed : {F X Y : Type 0} {Says : Result X F → Type 0} {Next : X → Result Y F → Type 0} {y : Y}
+    → Then Says Next (Ok y)
     → Passed Says Next y
 passed (Refused f a e) = absurd (subst Succeeds e tt)
 passed (Found x a next) = record { found = x; says = a; next = next }

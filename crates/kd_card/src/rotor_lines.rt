@@ -1,5 +1,6 @@
 //! The settings for wheels, reflector, rings and window letters.
-ghost use Rattle.std.specs.Prelude.{◌≡◌, ◌+◌, ◌<◌, ◌≤◌, ◌++◌, false, nat_eq, length, find, flat_map, option_and_then, zip};
+ghost use Rattle.std.specs.Prelude.{◌≡◌, ◌+◌, ◌<◌, ◌≤◌, ◌++◌, false, nat_eq, length, find, flat_map};
+ghost use Rattle.std.specs.Prelude.{option_and_then, zip};
 ghost use Rattle.std.specs.Option.{option_map_or};
 ghost use Rattle.arrayvec.specs.ArrayVec.{array_vec_len};
 ghost use Rattle.kd_state.specs.declared.machine.parts.Parts.TheVariants.{Rotor};
