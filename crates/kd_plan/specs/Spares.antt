@@ -1,5 +1,6 @@
 -- Spare cables, and settings that leave them free.
-use Rattle.std.specs.Prelude.{ℕ, ◌-◌, ◌≤◌, not, ◌&&◌, Bool, IsTrue, List, length, count_by, take, Contains, Option, is_none}
+use Rattle.std.specs.Prelude.{ℕ, ◌-◌, ◌≤◌, not, ◌&&◌, Bool, IsTrue, List, length, count_by, take, Contains, Option}
+use Rattle.std.specs.Prelude.{is_none}
 use Rattle.kd_state.specs.declared.machine.parts.Parts.{Parts}
 use Rattle.kd_state.specs.declared.machine.parts.Parts.TheVariants.{Rotor, Pin}
 use Rattle.kd_state.specs.declared.setting.Setting.{Setting}
