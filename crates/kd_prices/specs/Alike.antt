@@ -9,7 +9,9 @@ use Rattle.kd_state.specs.OnKey.{SameLetters}
 -- The cables at the two places have the same letters, or the bars at these places stand alike.
 abbrev pub StandAlike : Parts → ℕ → ℕ → Type 0
 StandAlike (Rotor m) place other =
-    SameLetters (cable_letters (slice_index_or m.cables place (None, None))) (cable_letters (slice_index_or m.cables other (None, None)))
+    SameLetters
+    (cable_letters (slice_index_or m.cables place (None, None)))
+    (cable_letters (slice_index_or m.cables other (None, None)))
 StandAlike (Pin m) place other = slice_get m.bars place ≡ slice_get m.bars other
 
 -- The day has no pair for either of the two places, or its rows at these places have one reading.

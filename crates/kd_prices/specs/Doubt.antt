@@ -14,7 +14,8 @@ use Rattle.kd_card.specs.Prices.{Fits, FitsAt, how_many, price_sum}
 use Rattle.kd_card.specs.CardText.{group_of}
 use Rattle.kd_card.specs.Proving.{AreOfKind, Expands, group_of_machine, IsNeeded, AreNeeded, priced_count}
 use Rattle.kd_prices.specs.declared.doubt.Doubt.{Doubt}
-use Rattle.kd_prices.specs.declared.doubt.Doubt.TheVariants.{OtherModel, PriceMissing, IllegalAt, NotTheSheet, PriceTooHigh, SumDiffers, NeedlessLine}
+use Rattle.kd_prices.specs.declared.doubt.Doubt.TheVariants.{OtherModel, PriceMissing, IllegalAt, NotTheSheet}
+use Rattle.kd_prices.specs.declared.doubt.Doubt.TheVariants.{PriceTooHigh, SumDiffers, NeedlessLine}
 
 -- Machine, day and prices are of one model.
 pub record AreOfOneModel (m : Parts) (s : Day) (prices : PriceParts) : Type 0 where

@@ -15,11 +15,13 @@ use Rattle.kd_prices.specs.Alike.{StandAlike, ReadAlike}
 -- A card that proves itself has no doubt, and no card has two.
 abbrev pub ProvingCardsAreInNoDoubt : Type 0
 ProvingCardsAreInNoDoubt =
-    (m : Parts) (s : Day) (settings : List Setting) (prices : PriceParts) (doubt : Doubt) → Proves m s settings prices → ¬ (IsDoubt m s settings prices doubt)
+    (m : Parts) (s : Day) (settings : List Setting) (prices : PriceParts) (doubt : Doubt) → Proves m s settings prices
+    → ¬ (IsDoubt m s settings prices doubt)
 
 abbrev pub OneDoubt : Type 0
 OneDoubt =
-    (m : Parts) (s : Day) (settings : List Setting) (prices : PriceParts) (doubt other : Doubt) → IsDoubt m s settings prices doubt → IsDoubt m s settings prices other
+    (m : Parts) (s : Day) (settings : List Setting) (prices : PriceParts) (doubt other : Doubt)
+    → IsDoubt m s settings prices doubt → IsDoubt m s settings prices other
     → doubt ≡ other
 
 -- The settings are `number` ones that lead the machine to the day, and no list that does is shorter.
@@ -31,7 +33,8 @@ pub record AreShortest (m : Parts) (s : Day) (settings : List Setting) (number :
 -- After any number of lines of a card that proves itself, the rest is a shortest list to the day.
 abbrev pub RestIsShortest : Type 0
 RestIsShortest =
-    (m between : Parts) (s : Day) (settings : List Setting) (prices : PriceParts) (lines : ℕ) → IsMachine m → IsLegalDay s → ArePrices prices
+    (m between : Parts) (s : Day) (settings : List Setting) (prices : PriceParts) (lines : ℕ) → IsMachine m
+    → IsLegalDay s → ArePrices prices
     → Proves m s settings prices → lines ≤ length settings → Leads m (take lines settings) between
     → AreShortest between s (drop lines settings) (length settings - lines)
 
@@ -47,5 +50,6 @@ pub record AreEqualWhereAlike (m : Parts) (s : Day) (prices : PriceParts) : Type
 -- In a card by number that proves itself, equal things have equal prices.
 abbrev pub AlikePricesAreEqual : Type 0
 AlikePricesAreEqual =
-    (m : Parts) (s : Day) (settings : List Setting) (prices : PriceParts) → IsMachine m → IsLegalDay s → ArePrices prices → ProvesByNumber m s settings prices
+    (m : Parts) (s : Day) (settings : List Setting) (prices : PriceParts) → IsMachine m → IsLegalDay s
+    → ArePrices prices → ProvesByNumber m s settings prices
     → AreEqualWhereAlike m s prices
