@@ -51,4 +51,6 @@ path key window =
 -- step.
 abbrev pub enigma_cipher : RotorKey → List ℕ → List ℕ
 enigma_cipher key text =
-    map (λ numbered. slice_index (path key (window_after key.wheels key.window numbered.0)) numbered.1) (enumerate_from 1 text)
+    map
+    (λ numbered. slice_index (path key (window_after key.wheels key.window numbered.0)) numbered.1)
+    (enumerate_from 1 text)

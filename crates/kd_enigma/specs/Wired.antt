@@ -16,7 +16,8 @@ slow slots = take (length slots - 1) slots
 -- others.
 abbrev pub seats : List ℕ → List Wheel → List ℕ → List SeatedWheel
 seats plugs (wheel ∷ []) (ring ∷ rings) = record { wheel = wheel; ring = ring; board = plugs } ∷ []
-seats plugs (wheel ∷ wheels) (ring ∷ rings) = record { wheel = wheel; ring = ring; board = alphabet } ∷ seats plugs wheels rings
+seats plugs (wheel ∷ wheels) (ring ∷ rings) =
+    record { wheel = wheel; ring = ring; board = alphabet } ∷ seats plugs wheels rings
 seats plugs _ _ = []
 
 -- the key to which these parts are set

@@ -1,5 +1,6 @@
 //! The rotor machine: an Enigma of three or four slots that is set to a key.
-ghost use Rattle.std.specs.Prelude.{◌≡◌, ◌<◌, ◌≤◌, ◌+◌, nat_lt, ◌∷◌, [], length, slice_index, slice_index_or, if◌then◌else◌};
+ghost use Rattle.std.specs.Prelude.{◌≡◌, ◌<◌, ◌≤◌, ◌+◌, nat_lt, ◌∷◌, [], length, slice_index, slice_index_or};
+ghost use Rattle.std.specs.Prelude.{if◌then◌else◌};
 ghost use Rattle.kd_enigma.specs.Around.{around};
 ghost use Rattle.kd_enigma.specs.Cipher.{enigma_cipher, key_after, key_turned, path};
 ghost use Rattle.kd_enigma.specs.Wired.{slow};
