@@ -1,6 +1,7 @@
 -- The cipher of the Converter M-209 by the number of bars met (War Department TM 11-380). Wheels have numbers
 -- from 1 to 6; letters of a text and places of a wheel are counted from 0.
-use Rattle.std.specs.Prelude.{ℕ, ◌+◌, ◌-◌, ◌%◌, ◌≤◌, nat_le, Bool, ◌&&◌, ◌||◌, List, map, slice_index, unwrap_or, Contains}
+use Rattle.std.specs.Prelude.{ℕ, ◌+◌, ◌-◌, ◌%◌, ◌≤◌, nat_le, Bool, ◌&&◌, ◌||◌, List, map, slice_index, unwrap_or}
+use Rattle.std.specs.Prelude.{Contains}
 use Rattle.std.specs.List.{count_by, enumerate_from}
 use Rattle.kd_tables.specs.Rings.{ring_of, place_on}
 use Rattle.kd_pins.specs.PinWheel.{is_effective}

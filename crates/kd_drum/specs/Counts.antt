@@ -1,6 +1,7 @@
 -- How many bars are met, for each set of wheels. A set is a number below 64: wheel 1 is in the set if its
 -- lowest bit is 1, wheel 2 if the second bit is 1, and so on.
-use Rattle.std.specs.Prelude.{◌≡◌, ℕ, ◌-◌, ◌/◌, ◌%◌, ◌^◌, ◌<◌, nat_le, nat_eq, Bool, ◌&&◌, ◌||◌, List, length, slice_index}
+use Rattle.std.specs.Prelude.{◌≡◌, ℕ, ◌-◌, ◌/◌, ◌%◌, ◌^◌, ◌<◌, nat_le, nat_eq, Bool, ◌&&◌, ◌||◌, List, length}
+use Rattle.std.specs.Prelude.{slice_index}
 use Rattle.std.specs.List.{count_by}
 
 -- whether there is a wheel with this number, and it is in the set

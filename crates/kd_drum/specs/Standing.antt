@@ -21,9 +21,11 @@ pub record AllStand (w1 w2 w3 w4 w5 w6 : TurnedWheel) : Type 0 where
   pub sixth : StandsAs 6 17 w6
 
 -- the key that six wheels and the readings of the bars make
-abbrev pub key_of : TurnedWheel → TurnedWheel → TurnedWheel → TurnedWheel → TurnedWheel → TurnedWheel → List (ℕ × ℕ) → PinKey
+abbrev pub key_of : TurnedWheel → TurnedWheel → TurnedWheel → TurnedWheel → TurnedWheel → TurnedWheel → List (ℕ × ℕ)
+    → PinKey
 key_of w1 w2 w3 w4 w5 w6 rows = record {
   pins = w1.pins ∷ w2.pins ∷ w3.pins ∷ w4.pins ∷ w5.pins ∷ w6.pins ∷ [];
-  letters = letter_shown w1 ∷ letter_shown w2 ∷ letter_shown w3 ∷ letter_shown w4 ∷ letter_shown w5 ∷ letter_shown w6 ∷ [];
+  letters =
+      letter_shown w1 ∷ letter_shown w2 ∷ letter_shown w3 ∷ letter_shown w4 ∷ letter_shown w5 ∷ letter_shown w6 ∷ [];
   rows = rows;
 }

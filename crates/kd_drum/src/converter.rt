@@ -1,8 +1,10 @@
 //! The Converter M-209, set to a key.
-ghost use Rattle.std.specs.Prelude.{◌≡◌, ◌↔◌, ◌<◌, ◌≤◌, ◌+◌, ◌-◌, ◌%◌, ◌||◌, [], ◌∷◌, length, Contains, IsOk, IsTrue, IfOk, OnOk, OnErr};
+ghost use Rattle.std.specs.Prelude.{◌≡◌, ◌↔◌, ◌<◌, ◌≤◌, ◌+◌, ◌-◌, ◌%◌, ◌||◌, [], ◌∷◌, length, Contains, IsOk};
+ghost use Rattle.std.specs.Prelude.{IsTrue, IfOk, OnOk, OnErr};
 ghost use Rattle.kd_pins.specs.PinWheel.{TurnedWheel, IsWheel, letter_shown};
 ghost use Rattle.kd_pins.specs.PinWheels.{pins_of};
-ghost use Rattle.kd_drum.specs.Converter.{OnWheels, acts_after, bars_met, converter_cipher, pin_key_after, pin_key_turned};
+ghost use Rattle.kd_drum.specs.Converter.{OnWheels, acts_after, bars_met, converter_cipher, pin_key_after};
+ghost use Rattle.kd_drum.specs.Converter.{pin_key_turned};
 ghost use Rattle.kd_drum.specs.Counts.{is_in};
 
 use super::counts::counts;
