@@ -2,7 +2,8 @@
 use Rattle.std.specs.Prelude.{◌≡◌, ◌↔◌, ℕ, ◌+◌, ◌-◌, ◌%◌, ◌<◌, ◌≤◌, List, length, slice_index, Some}
 use Rattle.kd_tables.specs.declared.wheel.Wheel.{Wheel}
 use Rattle.kd_tables.specs.declared.reflector.Reflector.{Reflector}
-use Rattle.kd_tables.specs.Permutation.{alphabet, followed_by, inverse, shift, IsPermutation26, IsOwnInverse, MovesEachLetter}
+use Rattle.kd_tables.specs.Permutation.{alphabet, followed_by, inverse, shift, IsPermutation26, IsOwnInverse}
+use Rattle.kd_tables.specs.Permutation.{MovesEachLetter}
 use Rattle.kd_tables.specs.Rings.{IsRing, place_on}
 use Rattle.kd_tables.specs.Tables.{wiring_of, reflector_of}
 
@@ -23,10 +24,13 @@ ReflectorsMoveEachLetter = (reflector : Reflector) → MovesEachLetter (reflecto
 -- How products, inverses and shifts act on one letter. In a product, the second permutation acts on what the
 -- first one gives. The inverse takes `y` to `x` exactly if the permutation takes `x` to `y`.
 abbrev pub ProductsByLetter : Type 0
-ProductsByLetter = (p q : List ℕ) (x : ℕ) → x < length p → slice_index (followed_by p q) x ≡ slice_index q (slice_index p x)
+ProductsByLetter =
+    (p q : List ℕ) (x : ℕ) → x < length p → slice_index (followed_by p q) x ≡ slice_index q (slice_index p x)
 
 abbrev pub InversesByLetter : Type 0
-InversesByLetter = (p : List ℕ) (x y : ℕ) → IsPermutation26 p → x < 26 → y < 26 → (slice_index p x ≡ y) ↔ (slice_index (inverse p) y ≡ x)
+InversesByLetter =
+    (p : List ℕ) (x y : ℕ) → IsPermutation26 p → x < 26 → y < 26
+    → (slice_index p x ≡ y) ↔ (slice_index (inverse p) y ≡ x)
 
 abbrev pub ShiftsByLetter : Type 0
 ShiftsByLetter = (k x : ℕ) → x < 26 → slice_index (shift k) x ≡ (x + k) % 26
@@ -50,7 +54,9 @@ InverseUndoesBefore = (p : List ℕ) → IsPermutation26 p → followed_by (inve
 
 -- the inverse of a product, and the inverse of a shift
 abbrev pub ProductsBackwards : Type 0
-ProductsBackwards = (p q : List ℕ) → IsPermutation26 p → IsPermutation26 q → inverse (followed_by p q) ≡ followed_by (inverse q) (inverse p)
+ProductsBackwards =
+    (p q : List ℕ) → IsPermutation26 p → IsPermutation26 q
+    → inverse (followed_by p q) ≡ followed_by (inverse q) (inverse p)
 
 abbrev pub ShiftsBackwards : Type 0
 ShiftsBackwards = (k : ℕ) → k ≤ 26 → inverse (shift k) ≡ shift (26 - k)
@@ -59,8 +65,10 @@ ShiftsBackwards = (k : ℕ) → k ≤ 26 → inverse (shift k) ≡ shift (26 - k
 -- one sought.
 abbrev pub LettersLeadToPlaces : Type 0
 LettersLeadToPlaces =
-    (size : ℕ) (ring : List ℕ) → IsRing size ring → (place : ℕ) → place < size → place_on ring (slice_index ring place) ≡ Some place
+    (size : ℕ) (ring : List ℕ) → IsRing size ring → (place : ℕ) → place < size
+    → place_on ring (slice_index ring place) ≡ Some place
 
 abbrev pub PlacesLeadToLetters : Type 0
 PlacesLeadToLetters =
-    (size : ℕ) (ring : List ℕ) → IsRing size ring → (place letter : ℕ) → place_on ring letter ≡ Some place → slice_index ring place ≡ letter
+    (size : ℕ) (ring : List ℕ) → IsRing size ring → (place letter : ℕ) → place_on ring letter ≡ Some place
+    → slice_index ring place ≡ letter

@@ -1,5 +1,6 @@
 -- The places of the two lugs on a bar of the Converter M-209's drum, and how a bar stands and reads.
-use Rattle.std.specs.Prelude.{codes, ◌≡◌, ℕ, ◌+◌, ◌<◌, ◌≤◌, nat_lt, min, max, List, [], ◌∷◌, ◌++◌, map, filter, flat_map}
+use Rattle.std.specs.Prelude.{codes, ◌≡◌, ℕ, ◌+◌, ◌<◌, ◌≤◌, nat_lt, min, max, List, [], ◌∷◌, ◌++◌, map, filter}
+use Rattle.std.specs.Prelude.{flat_map}
 use Rattle.kd_tables.specs.declared.place.Place.{Place}
 use Rattle.kd_tables.specs.declared.place.Place.TheVariants.{One, ZeroLeft, Two, Three, Four, Five, ZeroRight, Six}
 use Rattle.kd_tables.specs.declared.lug.Lug.{Lug}
@@ -54,7 +55,10 @@ lug_text lugs.Right = codes "R"
 -- all standings of a bar, in which the left lug is before the right one; ordered by the left lug's place, then
 -- by the right lug's
 abbrev pub standings : List (Place × Place)
-standings = flat_map (λ left. map (λ right. (left, right)) (filter (λ right. nat_lt (place_rank left) (place_rank right)) places)) places
+standings =
+    flat_map
+    (λ left. map (λ right. (left, right)) (filter (λ right. nat_lt (place_rank left) (place_rank right)) places))
+    places
 
 -- the place of the left lug and that of the right lug, with `-` between them
 abbrev pub standing_text : Place × Place → List ℕ

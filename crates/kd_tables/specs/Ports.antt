@@ -1,6 +1,7 @@
 -- What a put adds to the bytes that a sink has taken, what a get takes from those that a source has, and when a
 -- call fails.
-use Rattle.std.specs.Prelude.{◌≡◌, ◌⊎◌, ℕ, ◌<◌, ◌≤◌, Bool, true, false, List, [], ◌∷◌, length, take, Option, Result, IfOk, OnErr, Ok, Err, IsTrue}
+use Rattle.std.specs.Prelude.{◌≡◌, ◌⊎◌, ℕ, ◌<◌, ◌≤◌, Bool, true, false, List, [], ◌∷◌, length, take, Option, Result}
+use Rattle.std.specs.Prelude.{IfOk, OnErr, Ok, Err, IsTrue}
 use Rattle.std.specs.Io.KnownBytes.{Appends, Consumes, Keeps, IsAtEnd}
 use Rattle.kd_tables.specs.declared.failed.Failed.{Failed}
 use Rattle.kd_tables.specs.declared.writing.Device.{Device}
@@ -48,7 +49,8 @@ pub record Port : Type 0 where
   pub has_failed : Bool
 
 abbrev pub port : {P : Type 0} → (P → Option (List ℕ)) → (P → Bool) → P → P → Port
-port bytes failed old new = record { had = bytes old; has = bytes new; had_failed = failed old; has_failed = failed new }
+port bytes failed old new =
+    record { had = bytes old; has = bytes new; had_failed = failed old; has_failed = failed new }
 
 -- No get or put has failed during the call, unless one had failed before it.
 abbrev pub IsWell : Port → Type 0

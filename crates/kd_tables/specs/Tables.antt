@@ -1,5 +1,6 @@
 -- The published tables of the Wehrmacht's and the Kriegsmarine's rotor machines, and the parts of each model.
-use Rattle.std.specs.Prelude.{codes, ℕ, ◌-◌, ◌==◌, nat_le, Bool, ◌&&◌, if◌then◌else◌, List, [], ◌∷◌, ◌++◌, map, Contains}
+use Rattle.std.specs.Prelude.{codes, ℕ, ◌-◌, ◌==◌, nat_le, Bool, ◌&&◌, if◌then◌else◌, List, [], ◌∷◌, ◌++◌, map}
+use Rattle.std.specs.Prelude.{Contains}
 use Rattle.std.specs.List.{list_any}
 use Rattle.kd_tables.specs.declared.wheel.Wheel.{Wheel}
 use Rattle.kd_tables.specs.declared.wheel.Wheel.TheVariants.{I, II, III, IV, V, VI, VII, VIII, Beta, Gamma}
@@ -94,7 +95,8 @@ abbrev pub wheels_for : Model → ℕ → List Wheel
 wheels_for EnigmaI slot = if lies_in 1 3 slot then I ∷ II ∷ III ∷ IV ∷ V ∷ [] else []
 wheels_for M3 slot = if lies_in 1 3 slot then I ∷ II ∷ III ∷ IV ∷ V ∷ VI ∷ VII ∷ VIII ∷ [] else []
 wheels_for M4 slot =
-    if slot == 1 then Beta ∷ Gamma ∷ [] else (if lies_in 2 4 slot then I ∷ II ∷ III ∷ IV ∷ V ∷ VI ∷ VII ∷ VIII ∷ [] else [])
+    if slot == 1 then Beta ∷ Gamma ∷ []
+    else (if lies_in 2 4 slot then I ∷ II ∷ III ∷ IV ∷ V ∷ VI ∷ VII ∷ VIII ∷ [] else [])
 wheels_for M209 slot = []
 
 -- the wheels of the model's box in its order: all that may be in one of the slots

@@ -1,5 +1,6 @@
 //! A source in memory, for tests.
-ghost use Rattle.std.specs.Prelude.{◌≡◌, ◌≤◌, ◌<◌, ◌-◌, ◌↔◌, ◌||◌, false, min, length, drop, Some, IfOk, OnErr, IsErr, is_err};
+ghost use Rattle.std.specs.Prelude.{◌≡◌, ◌≤◌, ◌<◌, ◌-◌, ◌↔◌, ◌||◌, false, min, length, drop, Some, IfOk};
+ghost use Rattle.std.specs.Prelude.{OnErr, IsErr, is_err};
 ghost use Rattle.std.specs.Option.{option_map};
 ghost use Rattle.kd_tables.specs.Ports.{Gets};
 
