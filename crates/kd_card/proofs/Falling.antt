@@ -1,5 +1,5 @@
--- What a pairing of cables with pairs, or of bars with rows, costs falls by at most one with each setting that changes a
--- cable or a bar. Another one puts at most one loose thing right.
+-- The cost of an assignment falls by at most one with each setting that changes a cable or a bar. Any other
+-- setting puts at most one loose thing right.
 use Rattle.kd_card.proofs.Prelude.{count_by-cons, six_lists, ◌≡◌, ℕ, suc, ◌+◌, ◌-◌, ◌≤◌, nat_eq, min, Bool, false, inl, inr, List, [], ◌∷◌, get_or, set, map, fold, count_by, Option, None, unwrap_or, ℤ, sym, ◌∙◌, subst, arith, length, Place, alphabet, RotorParts, Parts, Rotor, Pin, Setting, Pull, Put, LugTo, cable_letters, plugged_letters, IsLegal, has_letter, reasons, why_refused, cable_at, cable_without, cable_with, with_lug, changed, Leads, differ, unless_same, column_letters, cable_cost, lugs_moved, bar_cost, All-set, length-set, numbered, common_steps, All, no_reason, still_before, IsPermutation, refl, true, ◌||◌, ◌⊎◌, not-false, Contains-permutation, IsPermutation-sym, IsDistinct-IsPermutation, IsDistinct-cons, IsDistinct-tail, get_or_from_slice_get, IsDistinct, eqb_flips, free_tells, set_moves, with_moves, without_moves, tests_tell_letters, stands, PinParts, Stands, with_lug_at, ◌≢◌, zero, not, cond, zip, sum, AllPairs, Some, slice_get, ap, AllByRecursion, sum_by, option_map_or, bytes_eq, cases_eq, eq-eqb, recursion_from_All, map-id, sum-map, sum_by-cons, unwrap_or-slice_get, bytes_eq-Decides, Model, wheel_text, reflector_text, Seat, SeatReflector, RingTo, Turn, PinTo, same_wheel, same_reflector, place_in_box, model_of, ring_at, letter_at, seated_in, without, with_letter, RotorDay, PinDay, Day, OfRotors, OfPins, IsLegalDay, day_model, ReadsAs, loose_slots, loose_reflector, loose_rings, loose_letters, loose_pins, loose_pin_letters, loose_count, is_priced, set_other, days_wheels_have_their_places, is_none}
 use Rattle.kd_state.specs.{Costs.standings_as, declared.sheet_day.rotor_entry.SheetWheel.SheetWheel}
 use Rattle.kd_state.specs.{Pins.wheel_pins, Pins.with_pin}
@@ -13,7 +13,7 @@ not_differing b = grind arith
 pub one_less : (place : ℕ) → suc place - 1 ≡ place
 one_less place = omega arith
 
--- What holds of a machine's cables, or bars, and is kept by every setting.
+-- What holds for the cables or bars of a machine, and is kept by every setting.
 pub record HasCables (cables : List (Option ℕ × Option ℕ)) : Type 0 where
   pub count : length cables ≡ 13
   pub apart : IsDistinct nat_eq (plugged_letters cables)
@@ -24,7 +24,7 @@ pub record HasBars (bars : List (Place × Place)) : Type 0 where
 
 -- ---- a letter is pulled out of a cable, or put into one
 
--- the letters are the same, one letter apart
+-- The two lists have the same letters, except for one letter.
 abbrev pub SameBut : ℕ → List ℕ → List ℕ → Type 0
 SameBut x letters others =
     (letter : ℕ) → (has_letter letters letter ≡ has_letter others letter) ⊎ (nat_eq x letter ≡ true)
@@ -42,7 +42,7 @@ one_apart x fewer letters order letter =
     in
     in_front (nat_eq x letter) (has_letter letters letter) (has_letter fewer letter) (same letter)
 
--- this is made of the cable of that number, as the letter is pulled or put
+-- `new` is cable number `cable` after the letter was pulled out or put in.
 pub record ChangesCable (m : RotorParts) (cable letter : ℕ) (new : Option ℕ × Option ℕ) : Type 0 where
   pub here : get_or m.cables (cable - 1) (cable_at m cable) ≡ cable_at m cable
   pub same : SameBut letter (cable_letters (cable_at m cable)) (cable_letters new)
@@ -163,7 +163,7 @@ list_keeps m n (x ∷ xs) leads h = list_keeps leads.0 n xs leads.2 (subst HasAl
 zip_set_lowers : {X Y : Type 0} (p : X × Y → Bool) (xs : List X) (ys : List Y) (i : ℕ) (v : X) → count_by p (zip xs ys) ≤ count_by p (zip (set xs i v) ys) + 1
 zip_set_lowers p xs ys i v = zip_set (λ z. cond (p z) 1 0) xs ys i v v (λ y. omega (arith, at_most_one (p (get_or xs i v, y))))
 
--- Letters of which one is set: of things at different places at most one is right then that was not.
+-- Setting one letter puts at most one thing right, if the things are at different places.
 module _ {X : Type 0} (place target : X → ℕ) where
   abbrev wrong : List ℕ → X → Bool
   wrong letters x = not (option_map_or (nat_eq (target x)) (slice_get letters (place x)) false)
@@ -192,7 +192,7 @@ module _ {X : Type 0} (place target : X → ℕ) where
             omega (arith, now, later, head, set_lowers letters p l xs (λ i j d before within. h (suc i) (suc j) d (omega arith) (omega arith)))
       ]
 
--- a slot that becomes empty is not right
+-- Emptying a slot doesn't put it right.
 abbrev wrong_slot : Option Wheel × SheetWheel → Bool
 wrong_slot slot = not (option_map_or (same_wheel slot.1.wheel) slot.0 false)
 
@@ -205,17 +205,18 @@ without_raises wheel (now ∷ slots) [] = omega arith
 without_raises wheel (now ∷ slots) (wanted ∷ wheels) =
     grind (arith, common_steps, count_by-cons, empty_wrong, without_raises wheel slots wheels)
 
--- no two of these wheels have one place in the box
+-- No two of the day's wheels have one place in the box.
 abbrev pub HaveTheirPlaces : Model → List SheetWheel → Type 0
 HaveTheirPlaces model wheels = AllPairs (λ (w other : SheetWheel). place_in_box model w.wheel ≢ place_in_box model other.wheel) wheels
 
--- What is still to be done: things to put right, and what it costs to make of the cables these columns, or of the bars these rows.
+-- what is left to do: loose things, and the cost of turning the cables into these columns or the bars into
+-- these rows
 abbrev pub left : List (Option (ℕ × ℕ) × ℤ) → List ((ℕ × ℕ) × ℤ) → Parts → Day → ℕ
 left columns rows (Rotor m) (OfRotors s) = loose_count (Rotor m) (OfRotors s) + pairing_cost cable_cost m.cables columns
 left columns rows (Pin m) (OfPins s) = loose_count (Pin m) (OfPins s) + pairing_cost bar_cost m.bars rows
 left columns rows m s = 0
 
--- each setting does one of these things at most
+-- Each setting leaves at most one less to do.
 module _ (columns : List (Option (ℕ × ℕ) × ℤ)) (rows : List ((ℕ × ℕ) × ℤ)) (m : RotorParts) (s : RotorDay) (apart : HaveTheirPlaces m.model s.wheels) where
   abbrev place : SheetWheel → ℕ
   place w = place_in_box m.model w.wheel
@@ -235,7 +236,7 @@ module _ (columns : List (Option (ℕ × ℕ) × ℤ)) (rows : List ((ℕ × ℕ
   rotor_lowers (Turn slot letter) e = omega (arith, turned_lowers (seated_in m slot) letter)
   rotor_lowers x e = omega arith
 
--- a pin is set
+-- PIN, which sets one pin.
 abbrev differing : List Bool × List Bool → ℕ
 differing wheel = count_by (λ (pin : Bool × Bool). differ pin.0 pin.1) (zip wheel.0 wheel.1)
 
@@ -263,7 +264,7 @@ pin_machine_lowers : (columns : List (Option (ℕ × ℕ) × ℤ)) (rows : List 
 pin_machine_lowers columns rows m s (LugTo bar lug place) e = omega (arith, (lug_moves m rows bar lug place e).0)
 pin_machine_lowers columns rows m s x e = grind (arith, zip_set_lowers, pin_lowers)
 
--- whatever the setting and the machine
+-- The same for any machine and any setting.
 pub lowers : (columns : List (Option (ℕ × ℕ) × ℤ)) (rows : List ((ℕ × ℕ) × ℤ)) (m : Parts) (s : Day) (x : Setting) → IsLegalDay s
     → model_of m ≡ day_model s → why_refused m x ≡ None → left columns rows m s ≤ left columns rows (changed m x) s + 1
 lowers columns rows (Rotor m) (OfRotors s) x h same e =
@@ -271,14 +272,14 @@ lowers columns rows (Rotor m) (OfRotors s) x h same e =
 lowers columns rows (Pin m) (OfPins s) x h same e = pin_machine_lowers columns rows m s x e
 lowers columns rows m s x h same e = omega arith
 
--- no setting makes another model of a machine, and those of cables and bars leave what is loose
+-- No setting changes the model. A setting that changes a cable or a bar leaves the number of loose things.
 pub model_of-changed : (m : Parts) (x : Setting) → model_of (changed m x) ≡ model_of m
 model_of-changed m x = grind arith
 
 pub leaves : (m : Parts) (s : Day) (x : Setting) → is_priced x ≡ true → loose_count (changed m x) s ≡ loose_count m s
 leaves m s x e = grind arith
 
--- a machine that reads as the day has nothing loose
+-- A machine that reads as the day has no loose things.
 itself : (name : List ℕ) → bytes_eq name name ≡ true
 itself name = (bytes_eq-Decides name name).1 refl
 

@@ -1,4 +1,4 @@
--- Kinds: the prices of their things, one for each, and kinds that are read one after another.
+-- The prices of kinds: one for each thing, and kinds that are read one after another.
 use Rattle.kd_card.proofs.Prelude.{◌≡◌, ◌↔◌, ℕ, ◌+◌, ◌≤◌, List, [], ◌∷◌, length, replicate, refl, sym, ap, ◌∙◌, length-append, arith, unsigned_abs, ◌++◌, map, Option, None, length-replicate, All-append, All-nil, All-replicate, PricedKind, PriceParts, CableKinds, BarKinds, ByKind, look_rank, counted, prices_of_kinds, AreKinds, look_name, kind_words, kinds_text, cable_kind, pair_kind, bar_kind, row_kind, AreCalled, version_of, how_many, row_kinds, column_kinds, row_prices, column_prices, AreWithinReach, ArePrices, flat_map-append, flat_map-map, Place, One, line_of, Look, Cable, Pair, Bar, Row, Name, Group, group_of, row_name, column_name, price_count, lines_text, price_lines, IsGroup, HaveKinds, with_line, rules, common_steps, map-id, ◌<◌, zero, suc, ◌*◌, take, get_or, subst, append_assoc, All, All-cons, IsPricedKind, IsNextKind, BeginsWithKinds, append-nil, HasNoNext}
 use Rattle.{std.proofs.lemmas.Simd.map-map, arrayvec.specs.ArrayVec.ArrayVec}
 use Rattle.kd_card.specs.declared.kinds.{CableKind.CableKind, PairKind.PairKind, BarKind.BarKind, RowKind.RowKind}
@@ -16,12 +16,12 @@ reach_of_kinds floor [] are = All-nil (λ price. unsigned_abs price ≤ 9999)
 reach_of_kinds floor (kind ∷ kinds) are =
     grind (arith, common_steps, All-append, All-replicate, reach_of_kinds (look_rank kind.look + 1) kinds are.2)
 
--- each kind is of one thing at least
+-- There are at most as many kinds as things, because each kind counts at least one.
 pub few_kinds : (floor : ℕ) (kinds : List PricedKind) → AreKinds floor kinds → length kinds ≤ counted kinds
 few_kinds floor [] are = omega arith
 few_kinds floor (kind ∷ kinds) are = omega (arith, few_kinds (look_rank kind.look + 1) kinds are.2)
 
--- prices by kind that may stand on a card
+-- Valid prices by kind have valid kinds and prices.
 pub prices_of : (parts : PriceParts) → version_of parts ≡ ByKind
     → (row_prices parts ≡ prices_of_kinds (row_kinds parts)) × (column_prices parts ≡ prices_of_kinds (column_kinds parts))
 prices_of parts e = grind arith
@@ -56,7 +56,7 @@ pub text_by_kind : (prices : PriceParts) → version_of prices ≡ ByKind
     → lines_text (price_lines prices) ≡ kinds_text (row_kinds prices) ++ kinds_text (column_kinds prices)
 text_by_kind prices e = grind (arith, flat_map-append, flat_map-map)
 
--- ---- both groups are called as they should be, and of as many things
+-- ---- the kinds of both groups have the right names and count the right numbers of things
 
 all_called : {K : Type 0} (priced : K → PricedKind) (name : Name)
     → ((kind : K) → look_name (priced kind).look ≡ name) → (kinds : List K)
@@ -75,7 +75,7 @@ both_groups (CableKinds row col) by are = search (rules, group_of_kinds)
 both_groups (BarKinds row col) by are = search (rules, group_of_kinds)
 both_groups prices by are = cc
 
--- ---- kinds tell the prices
+-- ---- equal kinds have equal prices
 
 told : {A B : Type 0} (there : A → B) (back : B → A) → ((x : A) → back (there x) ≡ x) → (a b : ArrayVec A)
     → map there a.items ≡ map there b.items → a ≡ b
@@ -139,7 +139,7 @@ counted_within [] i inside is = absurd (omega arith)
 counted_within (first ∷ kinds) zero inside is = let same = ap (λ (k : PricedKind). k.count) is in omega arith
 counted_within (first ∷ kinds) (suc i) inside is = omega (arith, counted_within kinds i (omega arith) is)
 
--- ---- what kinds are called
+-- ---- the names of kinds
 
 pub called_at : (name : Name) (kinds : List PricedKind) (i : ℕ) (kind : PricedKind) → i < length kinds → kind ≡ get_or kinds i kind → AreCalled name kinds
     → look_name kind.look ≡ name
@@ -151,10 +151,11 @@ pub all_kinds : (floor : ℕ) (kinds : List PricedKind) → AreKinds floor kinds
 all_kinds floor [] are = All-nil IsPricedKind
 all_kinds floor (kind ∷ kinds) are = All-cons IsPricedKind kind kinds are.0 (all_kinds (look_rank kind.look + 1) kinds are.2)
 
--- ---- kinds, read
+-- ---- kinds that are read
 
--- These kinds have been read: with those that the rest begins with they are all. The next has at least this rank and
--- stands in that line, and they are of so many things. They are kept while these are no more than there have to be.
+-- `kept` are the kinds read so far, which count `total` things; together with those that begin `rest` they are
+-- all kinds. The next kind has a rank from `floor` on and is on line `at`. Kinds are kept while they count at
+-- most `number` things.
 pub record HasRead (name : Name) (number line : ℕ) (text rest : List ℕ) (floor total at : ℕ) (kept : List PricedKind)
     : Type 0 where
   pub read : List PricedKind
@@ -209,7 +210,7 @@ reads_on {name} {text} {after} {kind} so_far next ranked low counts keeps =
       keeps = λ within. keeps within ∙ ap (λ kinds. kinds ++ kind ∷ []) (so_far.keeps (omega arith));
     }
 
--- so there is room for one more
+-- So there is room for one more kind.
 pub has_room : {name : Name} {number line : ℕ} {text rest after : List ℕ} {floor total at count : ℕ}
     {kept : List PricedKind} {kind : PricedKind}
     → HasRead name number line text rest floor total at kept → IsNextKind name floor rest kind after

@@ -1,13 +1,13 @@
--- The words of kinds' lines, and the looks that they tell.
+-- The words of kinds' lines, and the looks that they give.
 use Rattle.kd_card.proofs.Prelude.{same_place, ltb, codes, ◌≡◌, ◌≢◌, ℕ, ◌<◌, true, List, [], ◌∷◌, ◌++◌, get_or, drop, subst, ℤ, Option, sym, ap, ◌∙◌, append_assoc, length-append, arith, decimal, All, list_all, decimal_injective, signed_decimal_injective, All-append, All-weaker, All-from_recursion, Place, One, place_text, place_rank, places, standing_text, IsWord, IsWithout, Look, Cable, Pair, Bar, Name, PricedKind, look_name, name_text, look_text, look_rank, ends_rank, pair_rank, kind_words, AreEnds, IsPairInOrder, IsInForm, IsPricedKind, kinds_text, HasKindWords, RanksTellLooks, signed_decimal, append-nil, HasWords, BeginsWithWord, EndsGroup, AtNothing, AtOther, IsNextKind, HasNoNext, common_steps, numbers_are_words, texts_tell_first_parts, word_by_bytes, word_by_test, EndsAt, IsBadAt}
 use Rattle.kd_card.proofs.Lines.{bytes_above, same_words, some_bytes, bytes_are_word, signed_word, small}
 
--- ---- names and places by their texts
+-- ---- texts of names and places
 
 pub same_name : (n m : Name) → name_text n ≡ name_text m → n ≡ m
 same_name n m e = grind arith
 
--- a place is told by its rank, of which there are 8, and no byte of its text is - or comes before it
+-- A place is determined by its rank, which is below 8, and each byte of its text comes after `-`.
 about_place : (p : Place) → (get_or places (place_rank p) One ≡ p) × (place_rank p < 8) × (list_all (ltb 45) (place_text p) ≡ true)
 about_place p = grind arith
 
@@ -38,7 +38,7 @@ look_is_word look = grind (arith, bytes_are_word, word_by_bytes, length-append, 
 pub kind_is_words : (kind : PricedKind) → IsPricedKind kind → All IsWord (kind_words kind)
 kind_is_words kind good = grind (arith, All-from_recursion, name_is_word, look_is_word, numbers_are_words, signed_word)
 
--- ---- looks by their texts
+-- ---- texts of looks
 
 alike : {A B : Type 0} (make : A → B → Look) {a c : A} {b d : B} → a ≡ c → b ≡ d → make a b ≡ make c d
 alike make one other = cc
@@ -74,7 +74,7 @@ same_kind kind other a b e =
     let make : Look → ℕ → ℤ → PricedKind = λ look count price. record { look = look; count = count; price = price } in
     ap (λ look. make look kind.count kind.price) looks ∙ ap (λ count. make other.look count kind.price) counts ∙ ap (make other.look other.count) prices
 
--- ---- looks by their ranks
+-- ---- ranks of looks
 
 ranked_ends : (a b c d : Option ℕ) → AreEnds a b → AreEnds c d → ends_rank a b ≡ ends_rank c d → Cable (a, b) ≡ Cable (c, d)
 ranked_ends a b c d e g h = grind (arith, alike)
@@ -85,7 +85,7 @@ ranked_pair a b e d g = grind (arith, alike)
 pub ranks_tell_looks : RanksTellLooks
 ranks_tell_looks = grind (arith, ranked_ends, ranked_pair, alike, same_rank, low_rank)
 
--- ---- a line of a group, read
+-- ---- reading a line of a group
 
 pub no_count : (name : Name) (look count price : List ℕ) → decimal 0 ≡ count
     → (kind : PricedKind) → ¬ (HasKindWords name (name_text name ∷ look ∷ count ∷ price ∷ []) kind)
@@ -96,7 +96,7 @@ no_count name look count price zero kind has =
 one_word : {bytes word other : List ℕ} → BeginsWithWord word bytes → BeginsWithWord other bytes → word ≡ other
 one_word a b = ap (λ words. get_or words 0 []) (same_words a.has b.has).0
 
--- the line of a kind begins with its name
+-- The line of a kind begins with the kind's name.
 pub kind_begins : {name : Name} {floor : ℕ} {bytes : List ℕ} {kind : PricedKind} {rest : List ℕ}
     → IsNextKind name floor bytes kind rest → BeginsWithWord (name_text name) bytes
 kind_begins {bytes} {kind} {rest} next = record {
@@ -112,7 +112,7 @@ end_has_no_next floor (AtOther word begins differs) kind rest next = differs (on
 pub ends_at : {name : Name} {bytes : List ℕ} (floor : ℕ) → EndsGroup name bytes → EndsAt name floor bytes
 ends_at floor ends = record { ends = ends; none_more = end_has_no_next floor ends }
 
--- no line stands there, though there are bytes
+-- The group doesn't end, but no kind follows: there are bytes without a whole line.
 pub unended : {name : Name} {bytes : List ℕ} (floor : ℕ) → bytes ≢ []
     → ((found : List (List ℕ) × List ℕ) → ¬ (HasWords bytes found.0 found.1)) → IsBadAt name floor bytes
 unended floor some none = record {
@@ -123,7 +123,7 @@ unended floor some none = record {
   none_more = λ kind rest next. none (kind_words kind, rest) next.line;
 }
 
--- or a line of that name that isn't a kind's
+-- The group doesn't end, but no kind follows: the line with the name isn't that of a kind.
 pub no_kind : {name : Name} {bytes : List ℕ} (floor : ℕ) → BeginsWithWord (name_text name) bytes → HasNoNext name floor bytes
     → IsBadAt name floor bytes
 no_kind floor begins none = record {
@@ -144,7 +144,7 @@ module _ {name : Name} {text : List ℕ} {words : List (List ℕ)} {rest : List 
       let same : kind ≡ other = same_kind kind other is.good next.good (is.written ∙ sym (words_are next).written) in
       omega (arith, ap (λ (k : PricedKind). look_rank k.look) same)
 
--- ---- a line, written
+-- ---- writing a line
 
 pub line_in_pieces : (front : List ℕ) (kind : PricedKind)
     → (((((((front ++ name_text (look_name kind.look)) ++ 32 ∷ []) ++ look_text kind.look) ++ 32 ∷ []) ++ decimal kind.count) ++ 32 ∷ []) ++ signed_decimal kind.price)

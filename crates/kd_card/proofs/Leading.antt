@@ -1,4 +1,4 @@
--- Settings carried out one after another, and that the lines of loose things lead to a machine that has them as the day does.
+-- Settings carried out in turn: those for loose things lead to a machine that has these things as the day does.
 use Rattle.kd_card.proofs.Prelude.{All, AllByRecursion, AllPairs, Bool, Contains, IsMachine, Leads, List, Model, None, OfPins, OfRotors, Option, Parts, Pin, PinDay, PinParts, Rotor, RotorDay, RotorParts, Setting, Some, [], ap, append-nil, append_assoc, arith, changed, common_steps, cond, days_wheels_have_their_places, eqb-true, false, fold, get_or, get_or-map, get_or_at, get_or_from_slice_get, has_letter, is_some, length, length-append, length-map, length-set, length-zip, map, option_map_or, place_in_box, recursion_from_All, refl, reflectors_of, ring_at, same_wheel}
 use Rattle.kd_card.proofs.Prelude.{seconds-zip, set, set_other, slice_get, subst, suc, sym, true, unwrap_or, why_refused, without, zero, zip, ℕ, ◌++◌, ◌+◌, ◌<◌, ◌∙◌, ◌∷◌, ◌≡◌, ◌≢◌}
 use Rattle.kd_card.specs.Loose.{lines_from, loose_lines, pin_lines, pin_of, pin_turn_lines, pin_turn_of}
@@ -19,19 +19,19 @@ use Rattle.std.proofs.lemmas.List.{FromFn.{fill_by_all, get_or-range_with_len, l
 use Rattle.std.proofs.lemmas.{Option.{slice_get-get_or, slice_get-map, slice_get_within}, Slice.Zip.firsts-zip}
 unfoldable use Rattle.kd_tables.specs.Rings.{ring_of}
 
--- the element in the middle
+-- Properties of the item between two parts of a list.
 module _ {X : Type 0} where
   pub seam_get : (front : List X) (x : X) (back : List X) → slice_get (front ++ x ∷ back) (length front) ≡ Some x
   seam_get [] x back = refl
   seam_get (y ∷ front) x back = seam_get front x back
 
-  -- what holds of each element
+  -- A property of all items holds for each part.
   pub all_parts : (P : X → Type 0) (front : List X) (x : X) (back : List X) → AllByRecursion P (front ++ x ∷ back)
       → AllByRecursion P front × P x × AllByRecursion P back
   all_parts P [] x back h = (tt, h.0, h.1)
   all_parts P (y ∷ front) x back h = let rest = all_parts P front x back h.1 in ((h.0, rest.0), rest.1, rest.2)
 
--- of things no two of which are alike in something, one is unlike those in front of it
+-- If no two items are equal in `f`, an item differs from those before it.
 apart_before : {X Y : Type 0} (f : X → Y) (front : List X) (x : X) (back : List X)
     → AllPairs (λ w v. f w ≢ f v) (front ++ x ∷ back) → AllByRecursion (λ v. f x ≢ f v) front
 apart_before f [] x back apart = tt
@@ -44,7 +44,7 @@ apart_before f (y ∷ front) x back apart =
 pub seam_map : {X Y : Type 0} (f : X → Y) (xs front back : List X) (x : X) → xs ≡ front ++ x ∷ back → slice_get (map f xs) (length front) ≡ Some (f x)
 seam_map f xs front back x e = rw (e, map-append) (rw length-map at (seam_get (map f front) (f x) (map f back)))
 
--- ---- settings carried out one after another.
+-- ---- settings carried out in turn
 pub record Led (m : Parts) (xs : List Setting) (n : Parts) : Type 0 where
   pub leads : Leads m xs n
 
@@ -57,14 +57,15 @@ led_cons {k = k} allowed made rest = record { leads = (k, record { allowed = all
 pub led_append : (xs ys : List Setting) {m k n : Parts} → Led m xs k → Led k ys n → Led m (xs ++ ys) n
 led_append xs ys first second = record { leads = leads_join _ _ _ xs ys first.leads second.leads }
 
--- a setting that is left out where things are so already
+-- The setting for a thing, which is left out if the thing is right already.
 pub led_unless : (so : Bool) (m n : Parts) (x : Setting) → (so ≡ true → n ≡ m) → (so ≡ false → changed m x ≡ n)
     → (so ≡ false → why_refused m x ≡ None)
     → Led m (option_to_list (unless_so so x)) n
 led_unless true m n x same made allowed = led_none (same refl)
 led_unless false m n x same made allowed = led_cons (allowed refl) (made refl) (led_none refl)
 
--- Things one after another, each with lines of its own: the machine is told by the things that are done and those that aren't.
+-- Things in turn, each with its settings. The state of the machine depends on which things are done and which
+-- aren't.
 module _ {Z : Type 0} (state : List Z → List Z → Parts) (lines : ℕ → Z → List Setting) where
   abbrev pub LeadsOn : List Z → Z → List Z → Type 0
   LeadsOn front z back = Led (state front (z ∷ back)) (lines (suc (length front)) z) (state (front ++ z ∷ []) back)
@@ -82,7 +83,8 @@ module _ {Z : Type 0} (state : List Z → List Z → Parts) (lines : ℕ → Z �
       → Led (state [] zs) (lines_from lines 1 zs) (state zs [])
   things_led zs each = led_from [] zs 1 refl each
 
--- Things side by side, each of which its own lines change alone: the machine is made of what they are before and after.
+-- Things side by side, each of which only its own settings change. The machine is made of these things before
+-- and after.
 module _ {Z A : Type 0} (put : List A → Parts) (before after : Z → A) (lines : ℕ → Z → List Setting) where
   abbrev pub LeadsAt : List A → Z → List A → Type 0
   LeadsAt front z back = Led (put (front ++ before z ∷ back)) (lines (suc (length front)) z) (put (front ++ after z ∷ back))
@@ -95,14 +97,14 @@ module _ {Z A : Type 0} (put : List A → Parts) (before after : Z → A) (lines
       (λ front back z e. simp (map-append, append_assoc) (rw length-map at (each front back z e)))))
 
 -- ---- SEAT, REFLECTOR, RING and TURN of a rotor machine
--- the box has no wheel twice
+-- The box has no wheel twice.
 places_in_box : (model : Model) → map (place_in_box model) (box_of model) ≡ range_with_len 0 (length (box_of model))
 places_in_box model = grind arith
 
 place_is : (model : Model) (k : ℕ) (d : Wheel) → k < length (box_of model) → place_in_box model (get_or (box_of model) k d) ≡ k
 place_is model k d lt = grind (arith, get_or-map, places_in_box, get_or-range_with_len)
 
--- SEAT: a slot that is right already is never emptied, since the day's wheels differ
+-- SEAT: because the day's wheels differ, a slot that is right already is never emptied.
 kept_seat : (wheel other : Wheel) (seated : Option Wheel) → wheel ≢ other
     → option_map_or (same_wheel other) (without wheel seated) false ≡ option_map_or (same_wheel other) seated false
 kept_seat wheel other seated e = grind (arith, cond_both, same_wheel-Decides)
@@ -120,11 +122,11 @@ module _ (m : RotorParts) where
   abbrev pub with_slots : List (Option Wheel) → Parts
   with_slots slots = Rotor (record m { slots = slots })
 
-  -- the wheel stands in none of the slots
+  -- The wheel is in none of the slots.
   abbrev IsAbsent : List (Option Wheel) → SheetWheel → Type 0
   IsAbsent slots w = map (without w.wheel) slots ≡ slots
 
-  -- what stands behind a slot once its wheel is seated
+  -- the slots after the one in which the wheel is seated
   abbrev behind : Option Wheel → SheetWheel → List (Option Wheel) → List (Option Wheel)
   behind now w slots = cond (option_map_or (same_wheel w.wheel) now false) slots (map (without w.wheel) slots)
 
@@ -164,7 +166,7 @@ is_the_one : (wheel : Wheel) (wheels : List SheetWheel) (w : SheetWheel)
 is_the_one wheel [] w e = absurd cc
 is_the_one wheel (v ∷ wheels) w e = grind (arith, same_wheel-Decides, is_the_one wheel wheels w)
 
--- all of its lines
+-- all settings of a rotor machine
 module _ (m : RotorParts) (s : RotorDay) (machine : IsMachine (Rotor m)) (legal : IsLegalRotorDay s) (same : m.model ≡ s.model) where
   are_seated : AreSeated m.model (seats s.wheels)
   are_seated = subst (λ model. AreSeated model (seats s.wheels)) (sym same) legal.wheels
@@ -180,7 +182,7 @@ module _ (m : RotorParts) (s : RotorDay) (machine : IsMachine (Rotor m)) (legal 
       seats_led m [] m.slots s.wheels 1 refl (grind (arith, length-map)) (λ k n wheel e at. rw e (are_seated.allowed k wheel at))
       (λ k d lt. refl) (λ i j d before lt same. places_differ i j d before lt (ap (place_in_box m.model) same))
 
-  -- RING: the day's wheel that is one of the box, if there is one, and the rings by the wheels of the box
+  -- RING: the day's wheel that is this wheel of the box, if there is one, and the rings in the order of the box
   abbrev the_one : Wheel → Option SheetWheel
   the_one wheel = find (λ (w : SheetWheel). same_wheel wheel w.wheel) s.wheels
 
@@ -262,7 +264,7 @@ module _ (m : RotorParts) (s : RotorDay) (machine : IsMachine (Rotor m)) (legal 
       let reflector = reflector_led m (seats s.wheels) s.reflector (subst (λ model. Contains (reflectors_of model) s.reflector) (sym same) legal.reflector) in
       led_append _ _ (led_append _ _ (led_append _ _ seats_lead reflector) rings_lead) turns_lead
 
-  -- each of the day's wheels is set as it is due
+  -- Each of the day's wheels has its ring and its letter.
   pub shown : (k : ℕ) (d : SheetWheel) → k < length s.wheels → let w = get_or s.wheels k d in
       (ring_at turned_all w.wheel ≡ Some w.ring) × (slice_get turned_all.letters (place w) ≡ Some w.letter)
   shown k d lt =
@@ -272,7 +274,7 @@ module _ (m : RotorParts) (s : RotorDay) (machine : IsMachine (Rotor m)) (legal 
       let letter = is_set m.letters s.wheels k d places_differ lt (omega (arith, within, machine.legal.letters.count)) in
       (grind (arith, slice_get-map, slice_get-get_or, place_is, one_is k d lt, there), letter)
 
--- ---- PIN and TURN of a Converter M-209: wheel after wheel, and on each wheel letter after letter, each of which stands at its own place
+-- ---- PIN and TURN of a Converter M-209: wheel by wheel, and on each wheel letter by letter
 has_place : (number k letter : ℕ) → slice_get (ring_of number) k ≡ Some letter → place_on (ring_of number) letter ≡ Some k
 has_place number k letter e =
     let many = length (ring_of number) in
@@ -288,7 +290,7 @@ second_map : {A B C : Type 0} (f : B → C) (xs : List A) (ys : List B) → leng
     → map (λ (z : A × B). f z.1) (zip xs ys) ≡ map f ys
 second_map f xs ys e = sym (map-map f (λ z. z.1) (zip xs ys)) ∙ ap (map f) (seconds-zip xs ys e)
 
--- a letter of a wheel, with its pin and the day's, and a wheel's pins beside the day's
+-- a letter of a wheel, with its pin and the day's; and the pins of a wheel with the day's
 abbrev Cell : Type 0
 Cell = ℕ × (Bool × Bool)
 

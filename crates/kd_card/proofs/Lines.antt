@@ -1,4 +1,4 @@
--- Lines of words as they are written and as they are split; prices by their texts; and what stands in a card's lines.
+-- Lines of words as they are written and split, texts of prices, and what the lines of a card have.
 use Rattle.kd_card.proofs.Prelude.{figures, ◌≡◌, ◌≢◌, ℕ, ◌<◌, true, false, eqb, ltb, List, [], ◌∷◌, ◌++◌, length, refl, sym, ap, ◌∙◌, append_assoc, length-append, append_cancel_left, arith, ℤ, All, list_all, flat_map, signed_decimal, ne_eqb, ltb-true, append-nil, get_or_at, take_all, flat_map-append, AllPass-from_list_all, All-weaker, All-from_recursion, flat_map-map, Setting, words_of, line_of, IsWord, IsWithout, IsFirstPart, setting_line, list_text, PriceParts, Version, version_of, price_sum, head_words, settings_words, price_words, sum_words, lines_text, price_lines, card_text, with_line, HasWords, common_steps, lines_split_into_words, texts_tell_first_parts, words_make_one_line, map, setting_words, suc, ◌^◌, ◌≤◌, Bool, get_or, Option, Some, None, MatchOption, Result, Ok, Err, MatchResult, Decides, Bor, ◌↔◌, IsTrue, is_some, subst, pos, negsuc, unsigned_abs, FitsSigned, w16, to_z, of_z, then_some, IsUtf8, ParsesSigned, AllByRecursion, false≢true, fits_signed_from_abs, to_z-of_z, get_or-map, length-map, recursion_from_All, All-map, IsPriceText, SaysPrices, BadLine, PriceMissing, Refused, Found, parse-signed_decimal, IsAscii-signed, AreWithinReach, codes, zero, ◌+◌, ◌*◌, inl, inr, fold, decimal, not, pointwise, not-false, Decides-eqb, slice_eq-Decides, err_from_is_err_and, ◌+ℤ◌, digits_value, decimal_nonempty, digits_decimal, decimal_digit, first_decimal, All-cons, All-append, All-from_get_or, how_many, ArePrices, Group, Name, PricedKind, CountWrong, BeginsWithHead, kinds_text, row_word, column_word, version_text, IsGroup, IsDigit, IsNumberText, IsNumeral, SaysValue, SaysLine, SaysFirst, SaysPriceLine, SaysGroup, nil_from_length, numbers_are_words, word_by_bytes, word_by_test, passed, CardFault}
 use Rattle.std.proofs.lemmas.List.Splits.{slice_split_none, slice_split_at, join_with_byte-slice_split}
 use Rattle.std.{proofs.lemmas.Str.IsUtf8-from_ascii, specs.{Result.{result_ok, IsErrAnd}, Int.Signed.mag}}
@@ -53,7 +53,7 @@ written version day count xs ys prices sum empty head list number lines whole a 
     let all : lines_text lines_of ≡ list_text xs = flat_map-map (λ words. line_of words ++ 10 ∷ []) setting_words xs in
     cc
 
--- two lines, and what follows them
+-- Two lines, and the bytes after them.
 pub two_lines : (a b : List (List ℕ)) (rest : List ℕ) → lines_text (a ∷ b ∷ []) ++ rest ≡ with_line a (with_line b rest)
 two_lines a b rest = simp (append_assoc, append-nil)
 
@@ -63,7 +63,7 @@ pub no_first_part : {byte : ℕ} {text part rest : List ℕ} → IsFirstPart byt
 no_first_part {byte} {text} {part} {rest} first without =
     grind (arith, without, length-append part (byte ∷ rest), get_or_at part byte rest 0 (length part) refl)
 
--- what is in front of the first LF behind a front
+-- Splits the bytes after `front` at the first LF.
 pub value_split : (text front behind : List ℕ) (r : Option (Bor (List ℕ) × Bor (List ℕ))) → text ≡ front ++ behind
     → MatchOption r (IsWithout 10 behind) (λ parts. IsFirstPart 10 behind parts.0.now parts.1.now)
     → MatchOption r
@@ -114,17 +114,17 @@ pub value_line : {bytes : List ℕ} (name value rest : List ℕ) → IsWord name
     → bytes ≡ with_line (name ∷ value ∷ []) rest → HasWords bytes (name ∷ value ∷ []) rest
 value_line name value rest named valued e = grind (arith, line_has_words, All-from_recursion)
 
--- three words
+-- A line with three words.
 pub words_in_place : (words : List (List ℕ)) (items : List (Bor (List ℕ))) (a b d : Bor (List ℕ)) → map (λ (word : Bor (List ℕ)). word.now) items ≡ words
     → length items ≡ 3 → words ≡ (get_or items 0 a).now ∷ (get_or items 1 b).now ∷ (get_or items 2 d).now ∷ []
 words_in_place words items a b d e h = grind (arith, common_steps)
 
--- ---- prices by their texts
+-- ---- texts of prices
 
 pub fits : (p : ℤ) → unsigned_abs p ≤ 9999 → FitsSigned w16 p
 fits p within = fits_signed_from_abs w16 p (omega (arith, within))
 
--- a price that is written from its 16 bits
+-- A price as it is written from its 16 bits.
 pub written_price : (text : List ℕ) (p : ℤ) → text ≡ signed_decimal (to_z w16 (of_z w16 p)) → unsigned_abs p ≤ 9999
     → text ≡ signed_decimal p
 written_price text p e within = e ∙ ap signed_decimal (to_z-of_z w16 p (fits p within))
@@ -153,7 +153,7 @@ only_price bs r q false h some near d = λ price within e.
 
 -- ---- words that are prices
 
--- what `price_of_text` says of a word
+-- what `price_of_text` finds in a word
 abbrev pub IsPriceOf : List ℕ → Option ℤ → Type 0
 IsPriceOf word r =
     MatchOption r ((price : ℤ) → unsigned_abs price ≤ 9999 → signed_decimal price ≢ word) (λ price. (signed_decimal price ≡ word) × (unsigned_abs price ≤ 9999))
@@ -180,7 +180,7 @@ priced (word ∷ words) (is, all) =
     let rest = priced words all in
     (is.0 ∷ rest.0, cc, (is.1, rest.2))
 
--- ---- what is said of words as prices
+-- ---- prices in a line
 
 module _ (number line : ℕ) {words : List (List ℕ)} where
   pub other_count : (prices : List ℤ) → words ≡ map signed_decimal prices → AreWithinReach prices → length prices ≢ number
@@ -199,21 +199,21 @@ module _ (number line : ℕ) {words : List (List ℕ)} where
       Refused (BadLine line)
       ((λ prices are. none (subst (All IsPriceText) (sym are.0) (all_price_texts prices are.1))), refl) refl
 
--- ---- answers
+-- ---- results of steps
 
--- a step's fault is handed on
+-- A caller passes the fault of a step on.
 pub stops : {F Y : Type 0} (answer : Result Y F) (fault : F) (Good : Y → Type 0) (Bad : F → Type 0)
     → IsErrAnd answer (λ made. made ≡ fault) → Bad fault → MatchResult answer Good Bad
 stops answer fault Good Bad made bad = let is = err_from_is_err_and answer made in rw (is.1, is.2) bad
 
--- a test has failed
+-- A test that is false refutes what it decides.
 pub untrue : {P : Type 0} {test : Bool} → Decides test P → test ≡ false → ¬ P
 untrue decides e is = false≢true (sym e ∙ decides.1 is)
 
 pub filled : {text : List ℕ} {test : Bool} → test ≡ eqb (length text) 0 → test ≡ false → text ≢ []
 filled is e none = false≢true (sym e ∙ is ∙ ap (λ t. eqb (length t) 0) none)
 
--- no line is due where there are bytes: there is none
+-- If there are bytes but no line, the line is bad.
 pub no_line : {line : ℕ} {bytes : List ℕ} {fault : CardFault} → bytes ≢ [] → SaysLine line bytes (Err fault)
     → ((found : List (List ℕ) × List ℕ) → ¬ (HasWords bytes found.0 found.1)) × (fault ≡ BadLine line)
 no_line some (Refused f none e) = absurd (none.0 tt some)
@@ -241,7 +241,7 @@ pub signed_word : (z : ℤ) → unsigned_abs z < 2 ^ 64 → IsWord (signed_decim
 signed_word (pos n) small = numbers_are_words n small
 signed_word (negsuc n) small = below_zero (decimal (suc n)) (numbers_are_words (suc n) small)
 
--- a head, as what stands in front of the day, and the day
+-- A head consists of the bytes before the day, and the day.
 pub head_text : {front : List ℕ} (version : Version) (day : ℕ) (rest : List ℕ) → front ≡ head_front version
     → front ++ decimal day ++ 10 ∷ rest ≡ with_line (head_words version day) rest
 head_text version day rest e = rw e (grind arith)
@@ -285,7 +285,7 @@ pub signed_text : (z : ℤ) → unsigned_abs z < 2 ^ 64 → IsNumeral true (sign
 signed_text (pos n) small = inl (number_text n small)
 signed_text (negsuc n) small = inr (decimal (suc n), refl, number_text (suc n) small, not_zero n small)
 
--- ---- the sum of prices is small
+-- ---- a bound of the sum of prices
 
 sum_bound : (a : ℤ) (prices : List ℤ) → AllByRecursion (λ price. unsigned_abs price ≤ 9999) prices
     → unsigned_abs (fold (λ sum price. sum +ℤ price) a prices) ≤ unsigned_abs a + 9999 * length prices
@@ -310,7 +310,7 @@ module _ (signed : Bool) (front due : List ℕ) (line : ℕ) where
       → bytes ≡ front ++ due ++ 10 ∷ rest
   value_said says = grind (arith, passed)
 
--- a value behind a front is told by the text, and so is what follows
+-- The value after `front` and the bytes after its line are determined by the text.
 pub same_values : {bytes : List ℕ} (front : List ℕ) {value other rest more : List ℕ} → IsWithout 10 value → IsWithout 10 other
     → bytes ≡ front ++ value ++ 10 ∷ rest → bytes ≡ front ++ other ++ 10 ∷ more → (value ≡ other) × (rest ≡ more)
 same_values front {value} {other} {rest} {more} free clear e d =
@@ -335,7 +335,7 @@ module _ {K : Type 0} (word : K → List ℕ) {line : ℕ} {bytes : List ℕ} wh
       → SaysFirst word line bytes (Ok (key, words, rest))
   first_says key words rest has = first_found key (Found tt (some_bytes has) has) refl
 
--- what a line of prices has
+-- A line has a first word and `number` prices after it.
 pub record HasPrices (bytes word : List ℕ) (number : ℕ) (prices : List ℤ) (rest : List ℕ) : Type 0 where
   pub text : bytes ≡ with_line (price_words word prices) rest
   pub reach : AreWithinReach prices

@@ -1,11 +1,11 @@
--- Bytes are one card, or have one fault.
+-- Bytes are the text of at most one card, or have one fault.
 use Rattle.kd_card.proofs.Prelude.{not_longer, same_end, Bool, true, false, codes, ◌≡◌, ◌≢◌, ℕ, ◌+◌, ◌*◌, ◌^◌, ◌<◌, ◌≤◌, List, [], ◌∷◌, ◌++◌, length, map, get_or, Result, Ok, Err, refl, sym, ap, subst, ◌∙◌, arith, ℤ, unsigned_abs, append_assoc, AllByRecursion, signed_decimal, decimal_injective, signed_decimal_injective, append-nil, recursion_from_All, Setting, IsWord, setting_line, list_text, BeginsWith, BeginsWithNoLine, PriceParts, Cables, Bars, CableKinds, BarKinds, Version, ByNumber, ByKind, Group, OfCables, OfBars, Name, PricedKind, Trailing, Then, Refused, Found, Only, Demands, look_rank, name_text, kinds_text, AreKinds, AreCalled, version_of, row_kinds, column_kinds, price_sum, AreWithinReach, ArePrices, group_of, row_word, column_word, row_name, column_name, price_count, settings_words, price_words, sum_words, lines_text, price_lines, card_text, IsGroup, IsCard, with_line, SaysValue, SaysFirst, BeginsWithHead, BeginsWithSettings, SaysSettings, SaysPriceLine, SaysNumbered, BeginsWithWord, EndsGroup, AtOther, IsNextKind, floor_behind, SaysGroup, SaysKinded, SaysAllPrices, SaysBehind, SaysCard, TextsTellCards, NoCardBeginsAnother, CardsHaveNoFault, OneCardFault, common_steps, word_by_test, BeginsWithKinds, CardsAreSaid, IsOnly, only_demands, only_finds, only_only, only_takes, only_then, passed, same_ok, CardFault, head_words, kind_words}
 use Rattle.kd_card.specs.{CardFault.numbered, Reading.head_front}
 use Rattle.kd_card.proofs.Lines.{line_has_words, value_line, same_words, two_lines, card_and_more, small, numeral_word, signed_word, head_text, day_unbroken, first_is_word, prices_are_words, number_text, signed_text, price_sum_is_small, value_says, value_said, same_values, first_says, HasPrices, line_said, group_said}
 use Rattle.kd_card.proofs.KindWords.{kind_is_words, kind_begins, end_has_no_next, same_kind}
 use Rattle.kd_card.proofs.KindPrices.{text_of_more_kinds, text_by_kind, both_groups, size_of, of_two_groups, same_kind_parts, some_and_few}
 
--- ---- what is told by its text
+-- ---- texts that determine what they describe
 
 same_pair : {A B : Type 0} (x y : A × B) → x.0 ≡ y.0 → x.1 ≡ y.1 → x ≡ y
 same_pair (a, b) (c, d) e f = cc
@@ -20,16 +20,16 @@ same_prices (p ∷ ps) (q ∷ qs) a b e =
     cc
 same_prices ps qs a b e = absurd (omega (arith, ap length e))
 
--- the first and the third letter tell the line that ends the settings from those of settings
+-- the first and the third letter, which distinguish the line after the settings from the line of a setting
 abbrev first_and_third : List ℕ → ℕ
 first_and_third line = get_or line 0 0 * 256 + get_or line 2 0
 
 no_setting : (x : Setting) (rest : List ℕ) → first_and_third (setting_line x ++ 10 ∷ rest) ≢ 21332
 no_setting x rest = grind arith
 
--- ---- what steps that reach the end say of the bytes
+-- ---- what the steps of reading say about the bytes if all succeed
 
--- the bytes are the lines of these prices, of that version, and what follows
+-- `bytes` are the lines of these prices, and then `rest`.
 record AreAll (by : Version) (bytes : List ℕ) (prices : PriceParts) (rest : List ℕ) : Type 0 where
   version : version_of prices ≡ by
   text : bytes ≡ lines_text (price_lines prices) ++ rest
@@ -186,7 +186,7 @@ group_says line kinds rest group e ends =
     })
     (Found tt ends (Found tt group.count refl))
 
--- a group of kinds begins with their name
+-- A group of kinds begins with their name.
 group_begins : {name : Name} {number : ℕ} {bytes : List ℕ} (kinds : List PricedKind) (rest : List ℕ) → 0 < number
     → IsGroup name number kinds → bytes ≡ kinds_text kinds ++ rest → BeginsWithWord (name_text name) bytes
 group_begins [] rest some group e = let count = group.count in absurd (omega arith)
@@ -268,7 +268,7 @@ only_value signed front due line bytes =
     same_pair x y same.0 same.1))
     (λ found says. only_then (only_demands _ _) (λ due is. only_only _))
 
--- the line of the sum ends the kinds
+-- The line of the sum ends a group of kinds.
 sum_ends : (sum : ℤ) (rest : List ℕ) → unsigned_abs sum < 2 ^ 64 → (name : Name)
     → EndsGroup name (with_line (sum_words sum) rest)
 sum_ends sum rest near name =
@@ -302,7 +302,7 @@ card_says {day} {xs} {prices} rest card end =
     (Found (prices, sum) (all_say prices _ sum card.are_prices (sum_ends (price_sum prices) rest near) refl)
     (Found rest (value_says true (codes "SUM ") _ _ (signed_text (price_sum prices) near) refl) end))))
 
--- where no line of a setting follows the first settings, there are no more of them, and no others
+-- If no line of a setting follows the settings, a second list of settings that begins the bytes is the same.
 lists_meet : {body : List ℕ} {xs ys : List Setting} {rest more : List ℕ} → BeginsWithSettings body xs rest
     → BeginsWith body ys more → (length ys ≤ length xs) × (BeginsWithNoLine more → (xs ≡ ys) × (rest ≡ more))
 lists_meet {body} {xs} {ys} {rest} {more} a b =

@@ -1,4 +1,4 @@
--- What the proofs of this crate speak of.
+-- The definitions and lemmas that most proofs of this crate use.
 pub use Rattle.std.proofs.lemmas.{Grind.common_steps, List.Concat.flat_map-append, Result.err_from_is_err_and}
 pub use Rattle.std.proofs.Common.{AllPairs, Bool, Bor, Contains, Decides, Err, FitsSigned, IsPermutation, IsTrue, List, MatchOption, MatchResult, None, Ok, Option, Result, Some, [], ap, append_assoc, arith, codes, cond, count_by, decimal, drop, eqb, false, fold, get_or, inl, inr, is_none, is_some, length, length-append, ltb, map, min, nat_eq, negsuc, not, of_z, pos, refl, remove, replicate, rules, set, slice_get, subst, suc, sum, sym, take, to_z, true, unsigned_abs, unwrap_or, w16, w32, zero, zip, ℕ, ℤ, ◌*◌, ◌++◌, ◌+ℤ◌, ◌+◌, ◌-◌, ◌<◌, ◌^◌, ◌||◌, ◌↔◌, ◌∙◌, ◌∷◌, ◌≡◌, ◌≢◌, ◌≤ℤ◌, ◌≤◌, ◌⊎◌}
 pub use Rattle.std.proofs.Math.Seq.{drop-cons}

@@ -1,6 +1,6 @@
--- On a machine that reads as the day cables and bars can be paired with its columns, each with one that costs nothing.
--- So no list of settings that leads to the day has fewer than there are loose things and prices in sum, and a card that
--- proves itself has as many.
+-- On a machine that reads as the day, cables or bars have an assignment that costs nothing. So no list that
+-- leads to the day is shorter than the loose things plus the sum of the prices, and a card that proves itself
+-- has exactly as many settings.
 use Rattle.kd_card.proofs.Prelude.{count_by-cons, ◌≡◌, ◌≢◌, ℕ, zero, suc, ◌+◌, ◌-◌, ◌≤◌, nat_eq, cond, List, [], ◌∷◌, ◌++◌, length, get_or, map, zip, replicate, Contains, IsPermutation, count_by, remove, Option, Some, None, ℤ, refl, sym, ap, ◌∙◌, subst, arith, AllByRecursion, AllZip, flat_map, eq-eqb, All-contains, recursion_from_All, sum_by-cons, get_or-le-sum_by, sum_by-IsPermutation, Contains-permutation, IsPermutation-refl, IsPermutation-sym, IsPermutation-cons, IsPermutation-trans, IsPermutation-remove, Place, One, alphabet, reading_of, IsBefore, letters_plugged, cable_letters, plugged_letters, has_letter, SameLetters, IsPaired, IsJoined, AreThePairs, differ, cable_cost, bar_cost, columns_of, tests_tell_letters, thirteen_columns, rules, Contains-append_right, sum_by, Stands, Contains-tail, ◌<◌, Bool, pos, ◌+ℤ◌, ◌≤ℤ◌, ints, length_permutation, All-permutation, Model, reflectors_of, Parts, Rotor, Pin, Setting, model_of, IsMachine, Leads, changed, Day, OfRotors, OfPins, day_model, IsLegalDay, ReadsAs, cost_table, loose_count, PriceParts, Cables, Bars, ArePrices, Fits, AreTight, price_sum, is_priced, priced_count, AreOfKind, IsNeeded, AreNeeded, Same, Expanded, FittingPricesBoundLists, ProvingCardsAreAsLong, ProvingCardsAreShortest, ProvingPricesAreTight, get_or_default, get_or-map, length-zip, get_or-zip, AsFewAreNeeded, why_refused, IsTightAt, column_prices, cost_at, how_many, price_at, row_prices, All-from_get_or, Contains-get_or}
 use Rattle.kd_card.proofs.Prelude.{AllZip-long, length-map}
 use Rattle.{kd_state.specs.Costs.standings_as, std.proofs.lemmas.List.Edits.length-remove}
@@ -9,7 +9,7 @@ use Rattle.kd_card.proofs.Counts.{times, times-append, AreOnce, once_of_distinct
 use Rattle.kd_card.proofs.Falling.{HasCables, HasBars, not_differing, machines_have_all, list_keeps, left, lowers, leaves, model_of-changed, nothing_loose}
 use Rattle.kd_tables.specs.declared.{model.Model.TheVariants.M209, reflector.Reflector.Reflector}
 
--- a cable with the letters of its column costs nothing
+-- A cable with the letters of its column costs nothing.
 none_differ : (xs ys : List ℕ) → ((letter : ℕ) → has_letter xs letter ≡ has_letter ys letter) → (letters : List ℕ) → count_by (λ letter. differ (has_letter xs letter) (has_letter ys letter)) letters ≡ 0
 none_differ xs ys same [] = refl
 none_differ xs ys same (letter ∷ letters) =
@@ -19,20 +19,20 @@ none_differ xs ys same (letter ∷ letters) =
 abbrev CostsNothing : Option ℕ × Option ℕ → Option (ℕ × ℕ) → Type 0
 CostsNothing cable column = cable_cost cable column ≡ 0
 
--- letters that are among these are counted
+-- A letter of a list is counted at least once.
 counted : (letters : List ℕ) (letter : ℕ) → Contains letters letter → 1 ≤ times letter letters
 counted letters letter there =
     let here = ap (λ b. cond {A = ℕ} b 1 0) (eq-eqb letter (get_or letters there.0 letter) (sym there.2)) in
     omega (arith, get_or-le-sum_by (λ other. cond (nat_eq letter other) 1 0) letters there.0 letter there.1)
 
--- letters that lie in some things
+-- The letters of things in a list.
 module _ {X : Type 0} (letters_of : X → List ℕ) where
   times-flat_map : (letter : ℕ) (xs : List X) → times letter (flat_map letters_of xs) ≡ sum_by (λ x. times letter (letters_of x)) xs
   times-flat_map letter [] = refl
   times-flat_map letter (x ∷ xs) =
       omega (arith, times-append letter (letters_of x) (flat_map letters_of xs), sum_by-cons (λ x. times letter (letters_of x)) x xs, times-flat_map letter xs)
 
-  -- none lies in two of them, in whichever order they are
+  -- If no letter occurs in two things, it doesn't in another order of the things either.
   once_moved : (xs ys : List X) → IsPermutation xs ys → AreOnce (flat_map letters_of xs)
       → AreOnce (flat_map letters_of ys)
   once_moved xs ys order once letter =
@@ -54,14 +54,14 @@ pair_letters pair = pair.0 ∷ pair.1 ∷ []
 abbrev HasPair : Option ℕ × Option ℕ → ℕ × ℕ → Type 0
 HasPair cable pair = SameLetters (cable_letters cable) (pair_letters pair)
 
--- each cable that isn't empty has a pair's letters, and each pair's letters lie in a cable
+-- Each cable that isn't empty has the letters of a pair, and each pair has a cable with its letters.
 pub record AreMatched (cables : List (Option ℕ × Option ℕ)) (pairs : List (ℕ × ℕ)) : Type 0 where
   pub cables_once : AreOnce (plugged_letters cables)
   pub pairs_once : AreOnce (letters_plugged pairs)
   pub pair : (cable : Option ℕ × Option ℕ) → Contains cables cable → cable_letters cable ≢ [] → (pair : ℕ × ℕ) × Contains pairs pair × HasPair cable pair
   pub cable : (pair : ℕ × ℕ) → Contains pairs pair → (cable : Option ℕ × Option ℕ) × Contains cables cable × HasPair cable pair
 
--- the first pair and its cable are taken away
+-- The first pair and its cable are removed.
 module _ (cables rest : List (Option ℕ × Option ℕ)) (cable : Option ℕ × Option ℕ) (pair : ℕ × ℕ) (pairs : List (ℕ × ℕ)) (order : IsPermutation cables (cable ∷ rest)) (h : AreMatched cables (pair ∷ pairs)) (here : HasPair cable pair) where
   once_in_order : AreOnce (plugged_letters (cable ∷ rest))
   once_in_order = once_moved cable_letters cables (cable ∷ rest) order h.cables_once
@@ -97,7 +97,7 @@ module _ (cables rest : List (Option ℕ × Option ℕ)) (cable : Option ℕ × 
     cable = cable_of_rest;
   }
 
--- without pairs all cables are empty
+-- Without pairs, all cables are empty.
 empty_costs_nothing : (cable : Option ℕ × Option ℕ) → (cable_letters cable ≢ [] → ⊥) → CostsNothing cable None
 empty_costs_nothing cable e = grind (arith, none_differ)
 
@@ -111,7 +111,7 @@ all_empty (cable ∷ cables) (suc number) e h =
     (here, all_empty cables number (omega arith) later)
 all_empty cables number e h = absurd (omega arith)
 
--- the cables in an order in which each costs nothing at its column
+-- The cables have an order in which each costs nothing at its column.
 pub matched : (cables : List (Option ℕ × Option ℕ)) (pairs : List (ℕ × ℕ)) (nothings : ℕ) → length cables ≡ length pairs + nothings → AreMatched cables pairs
     → (others : List (Option ℕ × Option ℕ)) × IsPermutation cables others × AllZip CostsNothing others (map Some pairs ++ replicate nothings None)
 matched cables [] nothings e h =
@@ -127,7 +127,7 @@ matched cables (pair ∷ pairs) nothings e h =
       (none_differ (cable_letters found.0) (pair_letters pair) ((tests_tell_letters (cable_letters found.0) (pair_letters pair)).0 found.2) alphabet, further.2),
     )
 
--- A pairing: the columns with their prices, each beside the row that it is paired with, and none costs anything.
+-- An assignment that costs nothing: the columns with their prices, each beside its row.
 pub record FreePairing {A B : Type 0} (cost : A → B → ℕ) (rows : List A) (columns : List B) (prices : List ℤ) : Type 0 where
   pub beside : List (B × ℤ)
   pub order : IsPermutation (zip columns prices) beside
@@ -163,7 +163,7 @@ cables_paired cables pairs prices has once few count h =
     let many = AllZip-long _ cables beside.0 beside.2 in
     record { beside = beside.0; order = beside.1; count = many; free = free_of_all cable_cost cables beside.0 beside.2 }
 
--- a bar that stands costs nothing at its own row
+-- A bar costs nothing at the row that it reads as.
 own_row : (left right : Place) → IsBefore left right → bar_cost (left, right) (reading_of left right) ≡ 0
 unfolding standings_as
 own_row One One before = absurd (omega arith)
@@ -207,16 +207,17 @@ module _ (columns : List (Option (ℕ × ℕ) × ℤ)) (rows : List ((ℕ × ℕ
       let made = ap (λ between. left columns rows between s) h.1.made in
       omega (arith, rest, lowers columns rows m s x legal same h.1.allowed)
 
--- ---- fitting prices, and columns beside the rows for which so many lines pay
+-- ---- fitting prices, and an assignment that the settings pay for
 
--- what stands in a list stands in each other order of it
+-- An item of a list is also in each other order of the list.
 placed : {X : Type 0} (xs ys : List X) (i : ℕ) (d : X) → IsPermutation xs ys → i < length ys
     → (j : ℕ) × (j < length xs) × (get_or ys i d ≡ get_or xs j d)
 placed xs ys i d order lt =
     let there = Contains-permutation ys xs (get_or ys i d) (IsPermutation-sym xs ys order) (Contains-get_or ys i d lt) in
     (there.0, there.1, sym there.2 ∙ get_or_default xs there.0 (get_or ys i d) d there.1)
 
--- what fitting prices tell of so many lines
+-- The bound that fitting prices give for the number of settings; if it is reached, each price is tight
+-- somewhere.
 pub record AreBounds (costs : List (List ℕ)) (prices : PriceParts) (loose lines : ℕ) : Type 0 where
   pub bound : (pos loose +ℤ price_sum prices) ≤ℤ pos lines
   pub tight : pos lines ≡ (pos loose +ℤ price_sum prices) → AreTight costs prices
@@ -267,7 +268,7 @@ module _ {A B : Type 0} (a : A) (b : B) (cost : A → B → ℕ) (rows : List A)
       omega (arith, ints, sums)
 
   module _ (exact : pos lines ≡ (pos loose +ℤ price_sum prices)) where
-    -- the column at place j stands beside the row at place i
+    -- The column at place `j` is beside the row at place `i`.
     tight_where : (i j : ℕ) → i < how_many prices → j < how_many prices
         → get_or beside i (b, pos 0) ≡ get_or priced j (b, pos 0) → IsTightAt costs prices i j
     tight_where i j lt lt' e =
@@ -331,7 +332,7 @@ pub fitting_prices_bound_lists : FittingPricesBoundLists
 fitting_prices_bound_lists m s prices settings machine legal are kind fits reached =
     (bounds m reached.0 s prices settings machine legal are kind fits reached.1 reached.2).bound
 
--- Where each setting is needed, there are as many as loose things and those that change a cable or a bar.
+-- If each setting is needed, the settings are as many as the loose things and the priced settings.
 needed_one : (m : Parts) (s : Day) (x : Setting) (b : Bool) → is_priced x ≡ b → IsNeeded m s x → loose_count m s + cond b 1 0 ≡ loose_count (changed m x) s + 1
 needed_one m s x b e d = grind (arith, leaves)
 
@@ -341,7 +342,7 @@ needed_all m n s (x ∷ xs) leads needed =
     let rest = needed_all (changed m x) n s xs (subst (λ between. Leads between xs n) leads.1.made leads.2) needed.1 in
     omega (arith, needed_one m s x (is_priced x) refl needed.0, count_by-cons is_priced x xs, rest)
 
--- What is loose falls by one at most, with a setting that changes no cable and no bar.
+-- A setting that changes no cable and no bar makes at most one thing less loose.
 either : (b : Bool) → cond {A = ℕ} b 1 0 + cond {A = ℕ} b 0 1 ≡ 1
 either b = grind arith
 
