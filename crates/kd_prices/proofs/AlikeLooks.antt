@@ -1,4 +1,4 @@
--- Things that stand or read alike have looks of one rank, and looks of one rank are of such things.
+-- Equal things have looks of one rank, and looks of one rank belong to equal things.
 use Rattle.kd_prices.proofs.{AlikePrices.nothing_at, AlikePrices.same_at, Grouping.alike_priced, Meaning.kind_is}
 use Rattle.{kd_state.specs.Setting.has_letter, std.specs.List.IsDistinct}
 use Rattle.kd_prices.proofs.Prelude.{size_of, tests_tell_letters, nat_tests, unwrap_or, ◌≡◌, ◌⊎◌, ℕ, zero, suc, ◌<◌, ◌≤◌, false, eqb, inl, inr, List, [], ◌∷◌, length, get_or, Option, Some, None, MatchOption, slice_get, refl, sym, ap, ◌∙◌, subst, arith, ℤ, All, AllByRecursion, eqb-false, get_or-map, length-map, All-get_or, slice_get-get_or, One, in_order, letters_plugged, NoLetterTwice, Parts, Rotor, Pin, cable_letters, IsMachine, Day, OfRotors, OfPins, IsLegalDay, SameLetters, columns_of, columns_are_the_pairs, Look, Cable, Pair, Bar, Row, look_name, look_rank, AreEnds, IsInForm, PriceParts, ByNumber, version_of, row_kinds, column_kinds, row_prices, column_prices, how_many, price_at, ArePrices, group_of, price_count, row_name, column_name, row_looks, column_looks, pair_in_order, look_at, Expanded, ranks_tell_looks, StandAlike, ReadAlike, AreOfOneModel, CanBeByKind, AreByKind, AreAlikePriced, AreThings, AreOfGroup, ◌↔◌, map}
@@ -12,7 +12,7 @@ ends_told : (cable other : Option ℕ × Option ℕ) → AreEnds cable.0 cable.1
 ends_told (a, b) (c, d) form form' same =
     grind (arith, nat_tests, same (unwrap_or a 0), same (unwrap_or b 0), same (unwrap_or c 0), same (unwrap_or d 0))
 
--- ---- pairs that are alike stand at one place
+-- ---- equal pairs are at one place
 
 away : (p : ℕ × ℕ) (pairs : List (ℕ × ℕ)) (k : ℕ) → AllByRecursion (λ y. eqb p.0 y ≡ false) (letters_plugged pairs)
     → pair_in_order (slice_get pairs k) ≡ Some (in_order p.0 p.1) → ⊥
@@ -30,9 +30,9 @@ pairs_told (p ∷ pairs) zero (suc k) apart e = absurd (away p pairs k apart.0.1
 pairs_told (p ∷ pairs) (suc i) zero apart e = absurd (away p pairs i apart.0.1 e)
 pairs_told (p ∷ pairs) (suc i) (suc k) apart e = grind (arith, pairs_told pairs i k apart.1.1 e)
 
--- ---- ranks tell what is alike
+-- ---- ranks determine what is equal
 
--- looks are of one rank where things are alike, and nowhere else but at one place
+-- Looks have one rank if the things are alike, and else only at one place.
 abbrev AreTold : List Look → (ℕ → ℕ → Type 0) → Type 0
 AreTold looks Alike =
     (i k : ℕ) → i < length looks → k < length looks → (look_rank (look_at looks i) ≡ look_rank (look_at looks k) → Alike i k ⊎ (i ≡ k))
@@ -51,7 +51,7 @@ module _ {X : Type 0} (f : X → Look) (xs : List X) (d : X) (one_name : (x y : 
       → AreTold (map f xs) Alike
   told_by Alike alike ranked i k inside within = grind (arith, at, length-map, form, ranked, ranks_tell_looks)
 
-  -- each look is of one thing
+  -- Looks that belong to one thing each.
   told_apart : ((x y : X) → f x ≡ f y → x ≡ y) → AreTold (map f xs) (λ i k. slice_get xs i ≡ slice_get xs k)
   told_apart apart =
       told_by (λ i k. slice_get xs i ≡ slice_get xs k)
@@ -77,7 +77,7 @@ columns_told (OfRotors s) legal =
 columns_told (OfPins s) legal =
     told_apart (λ numbers. Row numbers) s.rows (0, 0) (λ x y. refl) (columns_are_things (OfPins s) legal).form (λ x y e. cc)
 
--- so things of one rank have equal prices exactly where all that are alike have
+-- So things of one rank have equal prices exactly if all equal things have.
 priced_alike : (looks : List Look) (Alike : ℕ → ℕ → Type 0) (prices : List ℤ) (n : ℕ) → AreTold looks Alike → length looks ≡ n
     → AreAlikePriced looks prices ↔ ((i k : ℕ) → i < n → k < n → Alike i k → price_at prices i ≡ price_at prices k)
 priced_alike looks Alike prices n told many = (
@@ -88,9 +88,9 @@ priced_alike looks Alike prices n told many = (
   ],
 )
 
--- ---- what is answered of a group
+-- ---- what the functions on a group return
 
--- machine, day and prices by number are of one model
+-- Machine, day and prices by number are of one model.
 module _ (m : Parts) (s : Day) (prices : PriceParts) (machine : IsMachine m) (legal : IsLegalDay s) (are : ArePrices prices)
     (one : AreOfOneModel m s prices) (by : version_of prices ≡ ByNumber) where
   pub rows_of_group : AreThings (row_name (group_of prices)) (price_count (group_of prices)) (row_looks m)

@@ -1,8 +1,8 @@
--- In a card that proves itself, what is alike has equal prices: it costs the same everywhere, and each price is tight
--- somewhere.
+-- In a card that proves itself, equal things have equal prices: they cost the same everywhere, and each price
+-- is tight somewhere.
 use Rattle.kd_prices.proofs.Prelude.{no_rotors, proving_prices_are_tight, ◌≡◌, ℕ, ◌<◌, ◌≤◌, List, get_or, length, None, unwrap_or, slice_get, sym, ap, ◌∙◌, arith, ints, get_or-map, unwrap_or-slice_get, slice_get_past, One, Rotor, Pin, cable_letters, Day, OfRotors, OfPins, tests_tell_letters, thirteen_columns, columns_are_the_pairs, cable_cost, bar_cost, columns_of, PriceParts, Cables, Bars, how_many, cost_at, Fits, AreTight, Parts, StandAlike, ReadAlike, AlikePricesAreEqual, AreEqualWhereAlike, map}
 
--- prices that fit a table of costs, each tight somewhere
+-- Prices that fit a table of costs, each of which is tight somewhere.
 module _ {A B : Type 0} (cost : A → B → ℕ) (rows : List A) (columns : List B) (a : A) (b : B) (m : Parts) (s : Day) (prices : PriceParts)
     (many_rows : length rows ≡ how_many prices) (many_columns : length columns ≡ how_many prices) (fits : Fits (map (λ row. map (cost row) columns) rows) prices)
     (tight : AreTight (map (λ row. map (cost row) columns) rows) prices) where
@@ -24,7 +24,7 @@ module _ {A B : Type 0} (cost : A → B → ℕ) (rows : List A) (columns : List
         omega (arith, ints, here.2, there.2, fits here.0 k here.1 lt', fits there.0 j there.1 lt, same here.0 here.1, same there.0 there.1);
   }
 
--- what is the same in two places
+-- Equal items at two places.
 pub same_at : {X : Type 0} (xs : List X) (i k : ℕ) (d : X) → slice_get xs i ≡ slice_get xs k → get_or xs i d ≡ get_or xs k d
 same_at xs i k d e = sym (unwrap_or-slice_get xs i d) ∙ ap (λ found. unwrap_or found d) e ∙ unwrap_or-slice_get xs k d
 

@@ -1,10 +1,10 @@
--- A card that proves itself is in no doubt, and a card is in one doubt at most.
+-- A card that proves itself has no doubt, and a card has at most one.
 use Rattle.kd_prices.proofs.Prelude.{◌≡◌, ℕ, List, [], ◌∷◌, ◌++◌, length, refl, sym, ap, ◌∙◌, subst, arith, ◌↔◌, cases_order, false≢true, Parts, Setting, Why, why_refused, Leads, Day, cost_table, leads_to_one, PriceParts, AreNeeded, Proves, IllegalAt, NeedlessLine, IsFirstWithout, IsFirstNeedless, Result, Ok, Err, IsOk, IfErr, Found, IsOnly, only_then, only_finds, only_demands, passed}
 use Rattle.{kd_state.specs.Setting.IsFirstIllegal, kd_prices.proofs.Leading.needed_at}
 use Rattle.kd_prices.proofs.{Leading.not_refused, Meaning.are_numbered, Meaning.of_one_model, Meaning.one_expansion}
 use Rattle.kd_prices.specs.{declared.doubt.Doubt.Doubt, Doubt.{SaysCarried, SaysFits, SaysNeeded, SaysChecked, IsDoubt}}
 
--- A list has one front that is good, and with what stands behind it is the front of no good list.
+-- A list has only one longest good prefix: with the next item it isn't the prefix of any good list.
 one_front : {X : Type 0} (Good : List X → Type 0) (front other after behind : List X) (x y : X) → front ++ x ∷ after ≡ other ++ y ∷ behind → Good front → Good other
     → ((rest : List X) → ¬ (Good (front ++ x ∷ rest))) → ((rest : List X) → ¬ (Good (other ++ y ∷ rest))) → (front ≡ other) × (x ≡ y)
 one_front Good [] [] after behind x y e good fine bad worse = (refl, cc)
@@ -21,12 +21,12 @@ one_place Holds number row column i j h k = grind (arith, cases_order, h.here, k
 
 -- ---- prices by number
 
--- a setting that is refused in its turn stands in no list that leads on
+-- A setting that the machine refuses after those before it is in no list that leads on.
 refused : {m : Parts} {settings : List Setting} {line : ℕ} {why : Why} (h : IsFirstIllegal m settings line why) (n : Parts)
     (rest : List Setting) → ¬ (Leads m (h.front ++ h.setting ∷ rest) n)
 refused {m} h n rest leads = not_refused m h.between n h.front rest h.setting _ h.leads h.refused leads
 
--- and one that is needless in no list of needed ones
+-- A needless setting is in no list of needed ones.
 wanted : {m : Parts} {s : Day} {settings : List Setting} {line : ℕ} (h : IsFirstNeedless m s settings line)
     (rest : List Setting) → ¬ (AreNeeded m s (h.front ++ h.setting ∷ rest))
 wanted {m} {s} h rest needed = h.needless (needed_at m h.between s h.front rest h.setting h.leads needed)
@@ -87,7 +87,7 @@ module _ (m : Parts) (s : Day) (settings : List Setting) (prices : PriceParts) w
   says_proving : SaysChecked m s settings prices (Ok tt) → Proves m s settings prices
   says_proving says = grind (arith, passed, are_numbered)
 
-  -- what is answered tells whether the card proves itself
+  -- The result of the check says whether the card proves itself.
   pub told : (answer : Result (Unit {0}) Doubt) → SaysChecked m s settings prices answer → IsOk answer ↔ Proves m s settings prices
   told (Ok x) says = (λ ok. says_proving says, λ proves. refl)
   told (Err doubt) says = (

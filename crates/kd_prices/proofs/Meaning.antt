@@ -1,4 +1,4 @@
--- Prices mean one list of prices by number at most, and those are of the same model.
+-- Prices mean at most one list of prices by number, which are of the same model.
 use Rattle.kd_prices.proofs.Prelude.{below_more, ◌≡◌, ◌≢◌, Some, ℕ, ◌+◌, ◌-◌, drop, take, take_all, ◌<◌, ◌≤◌, inl, inr}
 use Rattle.kd_prices.proofs.Prelude.{List, [], ◌∷◌, ◌++◌, length, get_or, sym, ◌∙◌, subst, arith, ℤ, pos, unsigned_abs}
 use Rattle.kd_prices.proofs.Prelude.{Option, None, MatchOption, All-from_get_or, Pair, ext_get_or, get_or_default}
@@ -61,7 +61,7 @@ of_one_model m s settings prices h = grind (arith, same_group, group_is)
 pub are_numbered : (m : Parts) (s : Day) (prices numbered : PriceParts) → AreOfOneModel m s prices → Expands m s prices numbered → AreNumbered m s numbered
 are_numbered m s prices numbered model expands = grind (arith, same_group, kind_is)
 
--- a machine and a day that are taken apart together are of one model
+-- A machine and a day whose parts are taken together are of one model.
 pub one_model : (m : Parts) (s : Day) (both : OneModel) → AreParted m s both → model_of m ≡ day_model s
 one_model m s (both.Rotor parts entry) h = ap model_of h.0 ∙ h.2 ∙ sym (ap day_model h.1)
 one_model m s (both.Pin parts entry) h = ap model_of h.0 ∙ sym (ap day_model h.1)
@@ -73,7 +73,7 @@ other_kind machine are differ one = differ (sym machine ∙ sym one.group ∙ ar
 
 -- ---- prices found
 
--- the first of some things, and what is behind it
+-- The first item of a list, and the items after it.
 pub first_and_rest : {X : Type 0} (xs : List X) (x : X) → 1 ≤ length xs → x ≡ get_or xs 0 x → xs ≡ x ∷ take (length xs - 1) (drop 1 xs)
 first_and_rest [] x some is = absurd (omega arith)
 first_and_rest (y ∷ xs) x some is = grind (arith, take_all)
@@ -111,7 +111,7 @@ expanded_within looks kinds prices are e =
     All-from_get_or (λ price. unsigned_abs price ≤ 9999) prices (pos 0)
     (λ i inside. priced_within 0 kinds (look_at looks i) (price_at prices i) are (e.each i (omega (arith, number, inside))))
 
--- prices by number of a group
+-- Prices by number of a group.
 pub numbered_is : (group : Group) (rows columns : List ℤ)
     → (version_of (numbered group rows columns) ≡ ByNumber) × (group_of (numbered group rows columns) ≡ group)
     × (row_prices (numbered group rows columns) ≡ rows) × (column_prices (numbered group rows columns) ≡ columns)

@@ -1,4 +1,4 @@
--- What the proofs of this crate speak of.
+-- The definitions and lemmas that most proofs of this crate use.
 pub use Rattle.kd_card.specs.Steps.{Found, IsOnly, Refused, only_demands, only_finds, only_then, passed}
 pub use Rattle.std.proofs.Common.{Bool, Contains, FitsSigned, List, MatchOption, None, Option, SFits, Some, [], ap, append_assoc, arith, below_more, cond, count_by, eqb, false, get_or, inl, inr, length, length-append, length-drop, ltb, max, min, of_z, pos, refl, replicate, rules, set, slice_get, subst, suc, sym, to_z, true, unsigned_abs, unwrap_or, w16, w32, zero, ℕ, ℤ, ◌++◌, ◌+ℤ◌, ◌+◌, ◌-◌, ◌<◌, ◌^◌, ◌∙◌, ◌∷◌, ◌≡◌, ◌≢◌, ◌≤◌, ◌⊎◌}
 pub use Rattle.std.proofs.lemmas.Bool.{cases_lt, cases_order, eq-eqb, eqb-false, false≢true, le-ltb, lt-ltb, ne_eqb}

@@ -1,4 +1,4 @@
--- What is left of a card that proves itself, after its first lines.
+-- The rest of a card that proves itself, after its first lines.
 use Rattle.kd_prices.proofs.Prelude.{leads_join, proving_cards_are_shortest, ◌++◌, sym, subst, arith, length-append, length-drop, take-append-drop, length-take, Leads, RestIsShortest, take, drop}
 use Rattle.kd_prices.proofs.Leading.{leads_on}
 

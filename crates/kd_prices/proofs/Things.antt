@@ -1,4 +1,5 @@
--- What a machine's cables or bars look like, and a day's pairs and nothings or rows: so many, called so, each in its form.
+-- The looks of a machine's cables or bars, and of a day's pairs and nothings or rows: their number, name and
+-- form.
 use Rattle.{kd_state.specs.Machine.model_of, kd_state.specs.SheetDay.day_model}
 use Rattle.std.specs.List.{IsDistinct}
 use Rattle.kd_prices.proofs.Prelude.{no_rotors, ◌≡◌, ℕ, zero, suc, ◌-◌, ◌<◌, false, eqb, List, [], ◌∷◌, ◌++◌, length}
@@ -45,7 +46,7 @@ unfolding IsDistinct
 pairs_in_form n [] within apart = nothings_in_form n
 pairs_in_form n ((a, b) ∷ pairs) within apart = grind (arith, eqb-false, pairs_in_form n pairs within.1.1 apart.1.1)
 
--- the things of a machine, and of a day
+-- The things of a machine, and those of a day.
 things : {X : Type 0} (f : X → Look) (xs : List X) (name : _) (number : ℕ) → ((x : X) → look_name (f x) ≡ name) → length xs ≡ number → All IsInForm (map f xs)
     → AreThings name number (map f xs)
 things f xs name number called count form =
@@ -63,7 +64,7 @@ abbrev pub group_of_day : Day → Group
 group_of_day (OfRotors s) = OfCables
 group_of_day (OfPins s) = OfBars
 
--- a machine and a day of one model are of one group
+-- A machine and a day of one model belong to one group.
 pub groups_meet : (m : Parts) (s : Day) → IsMachine m → IsLegalDay s → model_of m ≡ day_model s → group_of_day s ≡ group_of_machine m
 groups_meet (Rotor m) (OfRotors s) machine legal same = refl
 groups_meet (Pin m) (OfPins s) machine legal same = refl
@@ -78,7 +79,7 @@ columns_are_things (OfRotors s) legal =
 columns_are_things (OfPins s) legal =
     things (λ numbers. Row numbers) s.rows (column_name OfBars) 27 (λ x. refl) legal.count (All-map IsInForm (λ numbers. Row numbers) s.rows legal.rows)
 
--- of a group that is named
+-- The things of the group named.
 pub rows_of : (group : Group) (m : Parts) → IsMachine m → group_of_machine m ≡ group
     → AreThings (row_name group) (price_count group) (row_looks m)
 rows_of group m machine is =

@@ -25,7 +25,7 @@ returns-then-sum-priced_count g c =
     (Found tt (rw c.requires.costs at c.in_default.ensures)
     (Refused SumDiffers ((λ same sum. differs sum), refl) refl)))
 
--- a sum and a count that are alike in 32 bits
+-- A sum and a count that are equal in 32 bits are equal.
 same_sum : (sum : ℤ) (count : ℕ) → SFits w32 sum → count < 2 ^ 31 → of_z w32 sum ≡ count → sum ≡ pos count
 same_sum sum count small few e = sym (to_z-of_z w32 sum small) ∙ ap (to_z w32) e ∙ to_z_pos w32 count few
 
