@@ -1,4 +1,4 @@
--- The cipher, letter by letter.
+-- The cipher of a rotor machine, letter by letter.
 use Rattle.std.proofs.Common.{All, List, [], add-one, add-suc, add-zero, ap, arith, drop, get_or, length, map, refl}
 use Rattle.kd_enigma.{proofs.Ways.path_exchanges, specs.Laws.{CipherInTurn, KeyInTurn, TwiceGivesBack}}
 use Rattle.kd_enigma.specs.Cipher.{IsPlugboard, RotorKey, enigma_cipher, key_after, key_turned, path}
@@ -6,19 +6,20 @@ use Rattle.{kd_step.specs.Stepper.{next_window, window_after}, kd_tables.specs.d
 use Rattle.std.proofs.Common.{rules, set, slice_index, suc, sym, take, zero, ℕ, ◌++◌, ◌+◌, ◌<◌, ◌∙◌, ◌∷◌, ◌≡◌}
 use Rattle.std.{proofs.lemmas.List.Elements.{All-head, All-tail}, specs.List.enumerate_from}
 
--- what lights up for a letter after so many steps, and the cipher of a text that begins so many steps after the key
+-- the letter that lights up after a number of steps, and the cipher of a text that begins after a number of
+-- steps
 abbrev lit : RotorKey → ℕ → ℕ → ℕ
 lit key steps letter = slice_index (path key (window_after key.wheels key.window steps)) letter
 
 abbrev cipher_from : RotorKey → ℕ → List ℕ → List ℕ
 cipher_from key start text = map (λ numbered. lit key numbered.0 numbered.1) (enumerate_from start text)
 
--- the window is no part of the path's other parts
+-- The path doesn't depend on the window of the key, but on the window given.
 pub path_turned : (key : RotorKey) (window shown : List ℕ) → path (key_turned key window) shown ≡ path key shown
 unfolding path
 path_turned key window shown = refl
 
--- enciphered twice, each letter is what it was
+-- Enciphering twice from one start gives the text back.
 twice_from : (key : RotorKey) (start : ℕ) (text : List ℕ) → IsPlugboard key.plugs
     → All (λ letter. letter < 26) text
     → cipher_from key start (cipher_from key start text) ≡ text
@@ -40,7 +41,7 @@ window_after_sum wheels window m (suc n) = ap (next_window wheels) (window_after
 pub key_in_turn : KeyInTurn
 key_in_turn key m n = ap (key_turned key) (window_after_sum key.wheels key.window m n)
 
--- what is enciphered later is enciphered on the key of that time
+-- A text that begins `m` steps later is enciphered with the key after `m` steps.
 later : (key : RotorKey) (m start : ℕ) (text : List ℕ) → cipher_from key (m + start) text ≡ cipher_from (key_after key m) start text
 later key m start [] = refl
 later key m start (letter ∷ text) = search (rules, key, window_after_sum, path_turned, later key m (start + 1) text)
@@ -53,7 +54,7 @@ pub cipher_in_turn : CipherInTurn
 cipher_in_turn key first rest =
     append_from key 1 first rest ∙ ap (λ ls. enigma_cipher key first ++ ls) (ap (λ n. cipher_from key n rest) (omega arith) ∙ later key (length first) 1 rest)
 
--- a letter more is enciphered, and the rest is so on the key that it leaves
+-- One more letter is enciphered, and the rest with the key that this letter leaves.
 pub one_more : (key : RotorKey) (text : List ℕ) (n d light : ℕ) → n < length text
     → enigma_cipher key (get_or text n d ∷ []) ≡ light ∷ []
     → take n text ++ enigma_cipher key (drop n text) ≡ take (n + 1) (set text n light) ++ enigma_cipher (key_after key 1) (drop (n + 1) (set text n light))

@@ -1,4 +1,4 @@
--- Maps as they lie in 32 lanes.
+-- Permutations as they are kept in 32 lanes.
 use Rattle.std.proofs.Common.{◌≡◌, ℕ, ◌-◌, ◌<◌, ◌≤◌, List, ◌++◌, length, take, map, get_or, slice_index, w8, inl, inr}
 use Rattle.std.proofs.Common.{refl, sym, ap, ◌∙◌, arith, length-append, rules}
 use Rattle.kd_enigma.{proofs.Ways.product-at, proofs.Ways.product-size, specs.Map.AreLanes, specs.Map.spare}
@@ -7,12 +7,12 @@ use Rattle.std.proofs.lemmas.{Bool.cases_lt, List.FromFn.get_or-map-range_with_l
 use Rattle.std.proofs.lemmas.List.{ext_get_or, get_or-take, get_or_append_left, get_or-append_right, length-take-le}
 use Rattle.std.proofs.lemmas.Simd.{swz_l, SwzOk, SwzOk-from_below, Each1-from_get_or, length-swz_l, get_or-swz_l_below}
 
--- the lanes behind the letters
+-- the lanes after the 26 letters
 spare_at : (lanes : List ℕ) → length lanes ≡ 32 → (k : ℕ) → 26 ≤ k → k < 32 → get_or (take 26 lanes ++ spare) k 0 ≡ k
 spare_at lanes size k low lt =
     get_or-append_right (take 26 lanes) spare 26 k 0 (length-take-le 26 lanes (omega arith)) low ∙ get_or-range_with_len 26 6 (k - 26) 0 (omega arith) ∙ omega arith
 
--- lanes that are known place by place
+-- Lanes whose values are known place by place are a permutation and the spare lanes.
 pub lanes_of : (lanes : List ℕ) → length lanes ≡ 32 → ((k : ℕ) → k < 26 → slice_index lanes k < 26) → ((k : ℕ) → 26 ≤ k → k < 32 → slice_index lanes k ≡ k) → AreLanes lanes
 lanes_of lanes size letters still =
     let front : length (take 26 lanes) ≡ 26 = length-take-le 26 lanes (omega arith) in
@@ -35,11 +35,11 @@ told_front lanes table size front each =
 pub lane_behind : (lanes : List ℕ) → AreLanes lanes → (k : ℕ) → 26 ≤ k → k < 32 → slice_index lanes k ≡ k
 lane_behind lanes h k low lt = ap (λ l. get_or l k 0) (sym h.behind) ∙ spare_at lanes h.size k low lt
 
--- each lane leads to a lane
+-- Each lane holds the number of a lane.
 pub lane_within : (lanes : List ℕ) → AreLanes lanes → (k : ℕ) → k < 32 → slice_index lanes k < 32
 lane_within lanes h k lt = elim (cases_lt k 26) [ inl low ↦ omega (arith, h.letters k low) | inr high ↦ omega (arith, lane_behind lanes h k high lt) ]
 
--- ---- first one map, and then another one
+-- ---- one permutation after the other
 
 pub followed_by_is_safe : (lanes : List ℕ) → AreLanes lanes → SwzOk w8 32 32 0 lanes
 followed_by_is_safe lanes h =
@@ -58,7 +58,7 @@ followed_by_is first second h g =
     (λ k lt. lane-at first second h k (omega arith) ∙ sym (product-at (take 26 first) (take 26 second) k front lt
     ∙ ap (slice_index (take 26 second)) (get_or-take 26 first k 0 lt) ∙ get_or-take 26 second (slice_index first k) 0 (h.letters k lt)))
 
--- ---- a map for each letter in a window
+-- ---- a permutation for each letter in a window
 
 pub read_at : {X : Type 0} (f : ℕ → X) (maps : List X) (window place : ℕ) (d : X) → maps ≡ map f alphabet → place ≡ window → window < 26 → get_or maps place d ≡ f window
 read_at f maps window place d is here lt = grind (arith, get_or-map-range_with_len)

@@ -1,4 +1,4 @@
--- The way around through the wheels as they sit, slot by slot, and the path that it makes.
+-- The way around through the wheels in their slots, slot by slot, and the path that it makes.
 use Rattle.kd_enigma.proofs.Ways.{Exchanges, enclosed, grouped, nested, nothing_after, nothing_before, path_is}
 use Rattle.std.proofs.Common.{List, [], ap, arith, get_or, if◌then◌else◌, length, ltb, refl, rules, suc, take, zero, ℕ}
 use Rattle.kd_enigma.proofs.Ways.{product-size, reflectors_exchange, rotor_permutes, wheel_exchanges}
@@ -8,7 +8,7 @@ use Rattle.kd_tables.{proofs.Products.{inverse_permutes, product_permutes, shift
 use Rattle.kd_tables.specs.{Permutation.{IsPermutation26, alphabet, followed_by, shift}, declared.wheel.Wheel.Wheel}
 use Rattle.std.proofs.{Common.{◌+◌, ◌-◌, ◌<◌, ◌∙◌, ◌∷◌, ◌≡◌}, lemmas.{Bool.Decides.nat_tests, List.take_all}}
 
--- one wheel more around the core
+-- The way around through one more wheel encloses the way around through the wheels before it.
 pub around_more : (core : List ℕ) (seated : List SeatedWheel) (window : List ℕ) (slot : ℕ) (s : SeatedWheel) (letter : ℕ) → slot < length seated → length seated ≡ length window
     → s ≡ get_or seated slot s → letter ≡ get_or window slot letter
     → around core (take (slot + 1) seated) (take (slot + 1) window) ≡ boarded s.board (around core (take slot seated) (take slot window)) (rotor s.wheel s.ring letter)
@@ -17,7 +17,7 @@ around_more core (t ∷ seated) (l ∷ window) (suc slot) s letter lt same is_s 
     grind (arith, around_more (boarded t.board core (rotor t.wheel t.ring l)) seated window slot s letter)
 around_more core seated window slot s letter lt same is_s is_letter = absurd (omega arith)
 
--- the wheel sits so in the slot; and wheels that sit so
+-- The wheel in a slot is the key's; and so are all wheels.
 abbrev pub SitsAt : List ℕ → List Wheel → List ℕ → ℕ → SeatedWheel → Type 0
 SitsAt plugs wheels rings slot s =
     (s.wheel ≡ get_or wheels slot s.wheel) × (s.ring ≡ get_or rings slot s.ring) × (s.board ≡ (if ltb (slot + 1) (length wheels) then alphabet else plugs))
@@ -34,9 +34,9 @@ are_seats plugs (s ∷ t ∷ seated) (wheel ∷ next ∷ wheels) (ring ∷ rings
     λ i. first i ∷ rest i
 are_seats plugs seated wheels rings long slots each = absurd (omega arith)
 
--- ---- the path, where nothing lies to the right of the slow wheels, and the plugboard to the right of the last one
+-- ---- the path: only the right wheel lies beside the plugboard
 
--- the board encloses what the wheel encloses
+-- Board and wheel enclose the core as the board encloses what the wheel encloses.
 board_last : (board core : List ℕ) (wheel : Wheel) (ring letter : ℕ) → IsPermutation26 board → Exchanges core
     → boarded board core (rotor wheel ring letter) ≡ followed_by board (followed_by (enclosed core (rotor wheel ring letter)) board)
 board_last board core wheel ring letter h k = grind (arith, rotor_permutes, grouped, board, product-size, product_permutes, inverse_permutes)
@@ -61,7 +61,7 @@ around_seats plugs core (wheel ∷ next ∷ wheels) (ring ∷ rings) (letter ∷
     ∙ around_seats plugs (enclosed core (rotor wheel ring letter)) (next ∷ wheels) rings window h (wheel_exchanges core wheel ring letter k) (omega arith) (omega arith) (omega arith)
 around_seats plugs core wheels rings window h k some slots shown = absurd (omega arith)
 
--- so the path is made of the way around through the slow wheels
+-- So the way around through the slow wheels, enclosed by the right wheel and the plugboard, is the path.
 pub wired : (key : RotorKey) (seated : List SeatedWheel) (reflecting inner whole : List ℕ) (s : SeatedWheel) (shown size d : ℕ) → seated ≡ seats key.plugs key.wheels key.rings → IsPlugboard key.plugs
     → reflecting ≡ reflector_of key.reflector → inner ≡ around reflecting (slow seated) (slow key.window)
     → length seated ≡ size → length key.wheels ≡ size → length key.rings ≡ size
