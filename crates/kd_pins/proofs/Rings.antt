@@ -1,9 +1,9 @@
--- A wheel has each letter at most once, and so no more than there are.
+-- A wheel has each letter at most once, and so at most 26 letters.
 use Rattle.{kd_tables.specs.Rings.IsRing, std.{proofs.lemmas.List.Elements.{All-head, All-tail}, specs.List.list_any}}
 use Rattle.std.proofs.Common.{All, List, [], arith, eqb, inl, inr, subst, sym, true, ℕ, ◌<◌, ◌∷◌, ◌≡◌, ◌≤◌, ◌⊎◌}
 use Rattle.std.proofs.lemmas.{Bool.{eqb-true, false≢true, or_cases}, Map.Steps.length-le_from_distinct_below}
 
--- a number among numbers below 26 is below 26
+-- A number that is one of some letters is below 26.
 among : (letters : List ℕ) (q : ℕ) → All (λ letter. letter < 26) letters → list_any (eqb q) letters ≡ true → q < 26
 among [] q h e = absurd (false≢true e)
 among (letter ∷ letters) q h e = at (or_cases (eqb q letter) (list_any (eqb q) letters) e) (among letters q (All-tail (λ l. l < 26) letter letters h))

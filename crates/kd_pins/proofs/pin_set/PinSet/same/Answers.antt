@@ -3,7 +3,7 @@ use Rattle.std.{proofs.Common.{Bool, List, ap, refl, ◌∙◌, ◌≡◌}, spec
 use Rattle.std.proofs.lemmas.{Bool.Decides.{Decides-and, Decides-at, Decides-like}, Slice.Eq.slice_eq-Decides}
 use Rattle.kd_pins.proofs.pin_set.PinSet.same.Goals as goal
 
--- the six lists are the same
+-- The two sets have the same six lists of pins.
 abbrev SamePins : PinSet → PinSet → Type 0
 SamePins a b = (a.w1 ≡ b.w1) × ((a.w2 ≡ b.w2) × ((a.w3 ≡ b.w3) × ((a.w4 ≡ b.w4) × ((a.w5 ≡ b.w5) × (a.w6 ≡ b.w6)))))
 
