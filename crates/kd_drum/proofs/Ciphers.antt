@@ -4,15 +4,15 @@ use Rattle.kd_drum.{proofs.Starts.bars_met_sum, specs.Converter.{PinKey, bars_me
 use Rattle.{kd_drum.specs.Laws.{CipherInTurn, TwiceGivesBack}, std.proofs.lemmas.List.Elements.{All-head, All-tail}}
 use Rattle.std.{proofs.Common.{sym, take, zero, ℕ, ◌%◌, ◌++◌, ◌+◌, ◌-◌, ◌<◌, ◌∙◌, ◌∷◌, ◌≡◌}, specs.List.enumerate_from}
 
--- what becomes of a letter where so many bars are met
+-- the letter that replaces a letter if `met` bars are met
 abbrev pub reversed_by : ℕ → ℕ → ℕ
 reversed_by met letter = (25 + met - letter) % 26
 
--- the cipher of a text that begins so many letters after the key
+-- the cipher of a text that begins after a number of letters
 abbrev pub cipher_from : PinKey → ℕ → List ℕ → List ℕ
 cipher_from key start text = map (λ numbered. reversed_by (bars_met key numbered.0) numbered.1) (enumerate_from start text)
 
--- met by as many bars again, the letter is what it was
+-- If as many bars are met again, the letter comes back.
 reversed_twice : (met letter : ℕ) → letter < 26 → reversed_by met (reversed_by met letter) ≡ letter
 reversed_twice met letter lt = omega arith
 
@@ -25,7 +25,7 @@ twice_from key start (letter ∷ text) h =
 pub twice_gives_back : TwiceGivesBack
 twice_gives_back key text = twice_from key 0 text
 
--- what is enciphered later is enciphered on the key of that time
+-- A text that begins `m` letters later is enciphered with the key after `m` letters.
 later : (key : PinKey) (m start : ℕ) (text : List ℕ) → cipher_from key (m + start) text ≡ cipher_from (pin_key_after key m) start text
 later key m start [] = refl
 later key m start (letter ∷ text) =
@@ -42,7 +42,7 @@ cipher_in_turn key first rest =
     append_from key 0 first rest
     ∙ ap (λ ls. converter_cipher key first ++ ls) (ap (λ n. cipher_from key n rest) (omega arith) ∙ later key (length first) 0 rest)
 
--- a letter more is enciphered, and the rest is so on the key that it leaves
+-- One more letter is enciphered, and the rest with the key that this letter leaves.
 pub one_more : (key : PinKey) (text : List ℕ) (n d become : ℕ) → n < length text
     → converter_cipher key (get_or text n d ∷ []) ≡ become ∷ []
     → take n text ++ converter_cipher key (drop n text) ≡ take (n + 1) (set text n become) ++ converter_cipher (pin_key_after key 1) (drop (n + 1) (set text n become))

@@ -1,4 +1,4 @@
--- Where the wheels stand after so many letters.
+-- The wheels after a number of letters.
 use Rattle.std.proofs.Common.{◌≡◌, ℕ, ◌+◌, ◌-◌, ◌%◌, ◌<◌, ◌≤◌, Bool, ◌&&◌, ◌||◌, Option, unwrap_or, List, [], ◌∷◌}
 use Rattle.std.proofs.Common.{length, map, slice_index, slice_index_or, true, count_by, refl, sym, ap, ◌∙◌, arith, leb}
 use Rattle.kd_drum.specs.{Laws.KeyInTurn, Standing.AllStand, Standing.StandsAs, Standing.key_of}
@@ -10,16 +10,16 @@ use Rattle.kd_pins.specs.PinWheel.{TurnedWheel, is_effective, letter_shown, pin_
 use Rattle.kd_pins.specs.PinWheels.{pin_wheels, pins_on, offset_of, size_of}
 use Rattle.kd_drum.specs.Converter.{PinKey, pin_key_turned, start_on, acts_after, bars_met, letter_after, pin_key_after}
 
--- what holds of each of the six wheels holds of a wheel
+-- What holds for each of the six wheels holds for any wheel from 1 to 6.
 pub each_wheel : (P : ℕ → Type 0) → P 1 → P 2 → P 3 → P 4 → P 5 → P 6 → (wheel : ℕ) → 1 ≤ wheel → wheel ≤ 6 → P wheel
 each_wheel P e d g h o q wheel w y = grind arith
 
--- a wheel has places
+-- A wheel has at least one place.
 pub has_places : (wheel : ℕ) → 1 ≤ wheel → wheel ≤ 6 → 0 < size_of wheel
 unfolding ring_of
 has_places = each_wheel (λ wheel. 0 < size_of wheel) (omega arith) (omega arith) (omega arith) (omega arith) (omega arith) (omega arith)
 
--- and as many different letters
+-- A wheel has a different letter at each place.
 is_ring : (wheel : ℕ) → 1 ≤ wheel → wheel ≤ 6 → IsRing (size_of wheel) (ring_of wheel)
 unfolding ring_of
 is_ring =
@@ -35,7 +35,7 @@ start_after key count wheel low high =
     ap (λ letter. unwrap_or (place_on (ring_of wheel) letter) 0) (get_or-map-range_with_len (letter_after key count) 1 6 (wheel - 1) wheel 0 (omega arith) (omega arith))
     ∙ ap (λ (found : Option ℕ). unwrap_or found 0) (letter_leads_to_place (size_of wheel) (ring_of wheel) (is_ring wheel low high) place within)
 
--- so many places on, and so many more
+-- Moving on in three steps is moving on by their sum.
 three_on : (s m i o n : ℕ) → ((s + m) % n + i + o) % n ≡ (s + (m + i) + o) % n
 three_on s m i o n = grind (arith, mod-add-mod (s + m) n (i + o))
 
@@ -50,7 +50,7 @@ key_in_turn key m n =
     (λ i lt. get_or-map-range_with_len once 1 6 i (1 + i) 0 lt refl ∙ letter_after_sum key m n (1 + i) (omega arith) (omega arith)
     ∙ sym (get_or-map-range_with_len whole 1 6 i (1 + i) 0 lt refl)))
 
--- tests of the six wheels are alike where they are of each of the six
+-- Two tests of a wheel agree for any number if they agree for each of the six wheels.
 alike_on_wheels : (wheel : ℕ) (x y : Bool) → (1 ≤ wheel → wheel ≤ 6 → x ≡ y)
     → ((leb 1 wheel && leb wheel 6) && x) ≡ ((leb 1 wheel && leb wheel 6) && y)
 alike_on_wheels wheel x y same = grind (arith, nat_tests, same)
@@ -60,34 +60,34 @@ acts_after_sum key m i wheel = alike_on_wheels wheel _ _ (λ low high.
     ap (λ start. is_effective (pins_on key.pins wheel) ((start + i + offset_of wheel) % size_of wheel)) (start_after key m wheel low high)
     ∙ ap (is_effective (pins_on key.pins wheel)) (three_on (start_on key wheel) m i (offset_of wheel) (size_of wheel)))
 
--- a count by tests that answer alike
+-- Tests that agree give equal counts.
 pub count_alike : {X : Type 0} (p q : X → Bool) (xs : List X) → ((x : X) → p x ≡ q x) → count_by p xs ≡ count_by q xs
 count_alike p q xs same = grind (arith, sum_by-le-sum_by, p, q, same)
 
 pub bars_met_sum : (key : PinKey) (m n : ℕ) → bars_met (pin_key_after key m) n ≡ bars_met key (m + n)
 bars_met_sum key m n = λ i. count_by (λ row. acts_after_sum key m n row.0 i || acts_after_sum key m n row.1 i) key.rows
 
--- ---- the wheels as they stand
+-- ---- the wheels in the Converter
 
--- the letter that shows leads to the place that shows it
+-- The place of the letter shown is the place that the wheel keeps.
 start_place : (number size : ℕ) (wheel : TurnedWheel) → StandsAs number size wheel → unwrap_or (place_on (ring_of number) (letter_shown wheel)) 0 ≡ wheel.place
 start_place number size wheel h = grind (arith, letter_leads_to_place size wheel.ring h.turned.ring wheel.place h.turned.place)
 
 size_is : (number size : ℕ) (wheel : TurnedWheel) → StandsAs number size wheel → size_of number ≡ size
 size_is number size wheel h = sym (ap length h.ring) ∙ h.turned.ring.full
 
--- so many places on, a wheel shows the letter after so many letters
+-- A wheel that is moved on by `count` places shows its letter after `count` letters.
 shows_after : (key : PinKey) (number size count place : ℕ) (wheel : TurnedWheel) → StandsAs number size wheel → slice_index key.letters (number - 1) ≡ letter_shown wheel
     → (wheel.place + count) % size ≡ place → slice_index wheel.ring place ≡ letter_after key count number
 shows_after key number size count place wheel h shown e = grind (arith, size, size_is, start_place)
 
--- the acting pin of a wheel as it stands is the one that acts after no letters
+-- The acting pin of a wheel is the one that acts after no letters.
 pub acts_now : (key : PinKey) (number size : ℕ) (wheel : TurnedWheel) → StandsAs number size wheel
     → slice_index key.letters (number - 1) ≡ letter_shown wheel → pins_on key.pins number ≡ wheel.pins
     → pin_acting size wheel ≡ is_effective (pins_on key.pins number) ((start_on key number + 0 + offset_of number) % size_of number)
 acts_now key number size wheel h shown pins = grind (arith, key, start_place, size, size_is)
 
--- each wheel so many places on makes the key after so many letters
+-- Moving each wheel on by `count` places makes the key after `count` letters.
 pub key_moved : (w1 w2 w3 w4 w5 w6 : TurnedWheel) (rows : List (ℕ × ℕ)) → AllStand w1 w2 w3 w4 w5 w6 → (count p1 p2 p3 p4 p5 p6 : ℕ)
     → (w1.place + count) % 26 ≡ p1 → (w2.place + count) % 25 ≡ p2 → (w3.place + count) % 23 ≡ p3
     → (w4.place + count) % 21 ≡ p4 → (w5.place + count) % 19 ≡ p5 → (w6.place + count) % 17 ≡ p6
@@ -102,7 +102,7 @@ key_moved w1 w2 w3 w4 w5 w6 rows all count p1 p2 p3 p4 p5 p6 e1 e2 e3 e4 e5 e6 =
     let sixth = shows_after key 6 17 count p6 w6 all.sixth refl e6 in
     λ i. pin_key_turned key (first i ∷ second i ∷ third i ∷ fourth i ∷ fifth i ∷ sixth i ∷ [])
 
--- the key after no letters
+-- The key of the wheels is the key after no letters.
 pub key_stands : (w1 w2 w3 w4 w5 w6 : TurnedWheel) (rows : List (ℕ × ℕ)) → AllStand w1 w2 w3 w4 w5 w6 → key_of w1 w2 w3 w4 w5 w6 rows ≡ pin_key_after (key_of w1 w2 w3 w4 w5 w6 rows) 0
 key_stands w1 w2 w3 w4 w5 w6 rows all =
     key_moved w1 w2 w3 w4 w5 w6 rows all 0 w1.place w2.place w3.place w4.place w5.place w6.place
