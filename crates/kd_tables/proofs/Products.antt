@@ -6,7 +6,7 @@ use Rattle.std.specs.List.{position_or_len}
 use Rattle.std.proofs.lemmas.List.FromFn.{fill_by_all, get_or-map-range_with_len, length-map-range_with_len}
 use Rattle.kd_tables.specs.Permutation.{alphabet, followed_by, inverse, shift, IsPermutation26}
 
--- what stands at a letter of a product, of an inverse and of a shift
+-- the letter that a product, an inverse or a shift gives for a letter
 pub followed_by-at : (p q : List ℕ) (x : ℕ) → x < length p → slice_index (followed_by p q) x ≡ slice_index q (slice_index p x)
 unfolding followed_by
 followed_by-at p q x lt = get_or-map (λ y. slice_index q y) p x 0 0 lt
@@ -19,7 +19,7 @@ pub shift-at : (k x : ℕ) → x < 26 → slice_index (shift k) x ≡ (x + k) % 
 unfolding shift
 shift-at k x lt = get_or-map-range_with_len (λ x'. (x' + k) % 26) 0 26 x x 0 lt (omega arith)
 
--- the place of what stands at a place is that place
+-- In a permutation, the place of the letter at a place is this place.
 pub place_of_at : (p : List ℕ) (x : ℕ) → IsPermutation26 p → x < 26 → position_or_len (λ z. z == slice_index p x) p ≡ x
 place_of_at p x h lt = grind (arith, position_or_len_is, ne_eqb, h.each_once.apart, eq-eqb)
 
@@ -68,21 +68,21 @@ pub inverse_product : (p : List ℕ) → IsPermutation26 p → followed_by (inve
 inverse_product p h = same_as_alphabet (followed_by (inverse p) p) (product_permutes (inverse p) p (inverse_permutes p h) h).size
     (λ x lt. followed_by-at (inverse p) p x (omega (arith, (inverse_permutes p h).size)) ∙ ap (slice_index p) (inverse-at p x lt) ∙ at_place p x h lt)
 
--- what leads the letter at each place back to that place is the inverse
+-- A table that takes the letter at each place back to this place is the inverse.
 pub filled_is_inverse : (p filled : List ℕ) → IsPermutation26 p → length filled ≡ 26 → ((k : ℕ) → k < 26 → slice_index filled (slice_index p k) ≡ k) → filled ≡ inverse p
 unfolding inverse
 filled_is_inverse p filled h size leads =
     fill_by_all (λ y. position_or_len (λ x. x == y) p) filled 26 0 size
     (λ y lt. ap (slice_index filled) (sym (at_place p y h lt)) ∙ leads (position_or_len (λ x. x == y) p) (place_within p y h lt))
 
--- a permutation leads to a letter exactly where its inverse leads that one back
+-- A permutation takes `x` to `y` exactly if its inverse takes `y` to `x`.
 pub inverse_by_letter : (p : List ℕ) (x y : ℕ) → IsPermutation26 p → x < 26 → y < 26 → (slice_index p x ≡ y) ↔ (slice_index (inverse p) y ≡ x)
 inverse_by_letter p x y h x_lt y_lt = (
   λ e. inverse-at p y y_lt ∙ ap (λ z. position_or_len (λ w. w == z) p) (sym e) ∙ place_of_at p x h x_lt,
   λ e. ap (slice_index p) (sym e ∙ inverse-at p y y_lt) ∙ at_place p y h y_lt,
 )
 
--- two permutations of which the first leads each letter back that the other leads
+-- A permutation that the other one undoes for each letter has this one as its inverse.
 is_inverse : (p back : List ℕ) → IsPermutation26 p → IsPermutation26 back → ((y : ℕ) → y < 26 → slice_index p (slice_index back y) ≡ y) → inverse p ≡ back
 is_inverse p back h hb leads = fill_by_all (slice_index back) (inverse p) 26 0 (inverse_permutes p h).size
     (λ y lt. (inverse_by_letter p (slice_index back y) y h (hb.each_once.within y lt) lt).0 (leads y lt))

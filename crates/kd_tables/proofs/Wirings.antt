@@ -1,4 +1,4 @@
--- What the tests of a published text say, and that each published table passes them.
+-- The tests of a published text say what they should, and each published table passes them.
 use Rattle.std.proofs.Common.{◌≡◌, ◌≢◌, ℕ, ◌<◌, ◌≤◌, ◌==◌, nat_eq, true, false, not, ◌&&◌, ◌⊎◌, inl, inr, List, ◌∷◌, length, slice_index, get_or, eqb, All, refl, sym, subst, ◌∙◌, arith}
 use Rattle.std.specs.List.{position_or_len, IsDistinct, Any, list_any}
 use Rattle.std.proofs.lemmas.Bool.{and_parts, not-true, ltb-true, eqb-true, eqb-false, ne_eqb, cases_lt, cases_order}
@@ -19,7 +19,7 @@ by_order p j k h a b e (inl same) = same
 by_order p j k h a b e (inr (inl lt)) = absurd (eqb-false (slice_index p j) (slice_index p k) (apart_from_distinct nat_eq p j k 0 h lt b) e)
 by_order p j k h a b e (inr (inr lt)) = absurd (eqb-false (slice_index p k) (slice_index p j) (apart_from_distinct nat_eq p k j 0 h lt a) (sym e))
 
--- where no number stands twice, equal numbers stand at one place
+-- In a list of different numbers, equal numbers are at one place.
 pub one_place : (p : List ℕ) (j k : ℕ) → IsDistinct nat_eq p → j < length p → k < length p → slice_index p j ≡ slice_index p k → j ≡ k
 one_place p j k h a b e = by_order p j k h a b e (cases_order j k)
 
@@ -36,7 +36,7 @@ found_within n xs each q (k, x, lt, at, same) = subst (λ z. z < n) (at ∙ sym 
 any_within : (n : ℕ) (xs : List ℕ) → All (λ x. x < n) xs → (q : ℕ) → list_any (eqb q) xs ≡ true → q < n
 any_within n xs each q h = found_within n xs each q (Any-from_list_any (eqb q) xs h)
 
--- one more different number below 26 does not fit in
+-- There is no number below 26 that a permutation lacks.
 no_other : (p : List ℕ) (y : ℕ) → IsPermutation26 p → y < 26 → 26 ≤ position_or_len (λ x. x == y) p → ⊥
 no_other p y h lt missing =
     let within : All (λ z. z < 26) p = All-from_get_or (λ z. z < 26) p 0 (λ k k_lt. h.each_once.within k (omega (arith, h.size))) in
@@ -47,11 +47,11 @@ no_other p y h lt missing =
 place_by_cases : (p : List ℕ) (y : ℕ) → IsPermutation26 p → y < 26 → (position_or_len (λ x. x == y) p < 26) ⊎ (26 ≤ position_or_len (λ x. x == y) p) → position_or_len (λ x. x == y) p < 26
 place_by_cases p y e d g = grind (arith, no_other)
 
--- each letter stands at some place of a permutation
+-- Each letter has a place in a permutation.
 pub place_within : (p : List ℕ) (y : ℕ) → IsPermutation26 p → y < 26 → position_or_len (λ x. x == y) p < 26
 place_within p y h lt = place_by_cases p y h lt (cases_lt (position_or_len (λ x. x == y) p) 26)
 
--- and that place has that letter
+-- The letter at the place of a letter is this letter.
 pub at_place : (p : List ℕ) (y : ℕ) → IsPermutation26 p → y < 26 → slice_index p (position_or_len (λ x. x == y) p) ≡ y
 at_place p y h lt = eqb-true (slice_index p (position_or_len (λ x. x == y) p)) y (passes_at_first (λ x. x == y) p 0 (omega (arith, h.size, place_within p y h lt)))
 
@@ -80,7 +80,7 @@ text_makes_ring n text size h =
     let letters = (and_parts (are_capitals text) (are_distinct_letters (letters_of text)) h).1 in
     record { full = size; within = letters_within (letters_of text) letters; differ = letters_differ (letters_of text) letters }
 
--- a reflection leads each letter to another one, and that one back
+-- A table that passes the test of a reflector takes each letter to another one, and that one back.
 reflects : (p : List ℕ) → is_reflection p ≡ true → All (λ x. (not (slice_index p x == x) && (slice_index p (slice_index p x) == x)) ≡ true) alphabet
 reflects p h = AllPass-from_list_all (λ x. not (slice_index p x == x) && (slice_index p (slice_index p x) == x)) alphabet h
 
@@ -94,7 +94,7 @@ reflection_moves p h = All-weaker (λ x. (not (slice_index p x == x) && (slice_i
 
 -- ---- the published tables
 
--- each published table is a permutation
+-- Each published table is a permutation.
 pub wiring_permutes : (wheel : Wheel) → IsPermutation26 (wiring_of wheel)
 unfolding wiring_of
 wiring_permutes I = test_permutes _ refl

@@ -2,7 +2,7 @@ use Rattle.std.proofs.{Common.{arith, ap, ◌∙◌, ◌+◌, ◌%◌, ◌<◌, 
 use Rattle.kd_tables.specs.Permutation.{alphabet}
 use Rattle.kd_tables.proofs.letter.Letter.next.Goals as goal
 
--- what the table has for a letter
+-- the entry of the table for a letter
 next_at : (letter : ℕ) → letter < 26 → get_or (map (λ x. (x + 1) % 26) alphabet) letter 0 ≡ (letter + 1) % 26
 next_at letter lt = get_or-map-range_with_len (λ x. (x + 1) % 26) 0 26 letter letter 0 lt (omega arith)
 
