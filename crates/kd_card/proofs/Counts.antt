@@ -5,7 +5,7 @@ use Rattle.std.proofs.lemmas.Cmp.{nat_eq_equiv}
 pub at_most_one : (b : Bool) → cond b 1 0 ≤ 1
 at_most_one b = grind arith
 
--- Changing one item of a list changes a sum over pairs with it by at most one, if it does so at this item.
+-- Setting one item lowers a sum over pairs by at most one, if it lowers the term of this item by at most one.
 pub zip_set : {X Y : Type 0} (f : X × Y → ℕ) (xs : List X) (ys : List Y) (i : ℕ) (v d : X) → ((y : Y) → f (get_or xs i d, y) ≤ f (v, y) + 1)
     → sum_by f (zip xs ys) ≤ sum_by f (zip (set xs i v) ys) + 1
 zip_set f (x ∷ xs) (y ∷ ys) zero v d h = omega (arith, h y, sum_by-cons f (x, y) (zip xs ys), sum_by-cons f (v, y) (zip xs ys))

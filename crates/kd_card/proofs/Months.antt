@@ -60,7 +60,7 @@ gaps-right (x ∷ xs) (y ∷ ys) zero l zero t e fewer = grind (arith, nat_tests
 gaps-right (x ∷ xs) (y ∷ ys) (suc p) l (suc q) t e fewer = omega (arith, gaps-right xs ys p l q t e fewer)
 gaps-right xs ys p l q t e fewer = grind arith
 
--- The same if the letters of some of the day's wheels are set, and `ys` has the letter of each.
+-- The same for a change that leaves fewer of the day's wheels wrong, if `ys` has the letter of each wheel.
 module _ (place target : SheetWheel → ℕ) (ys : List ℕ) where
   abbrev IsRight : SheetWheel → Type 0
   IsRight w = slice_get ys (place w) ≡ Some (target w)

@@ -33,7 +33,7 @@ unfolding IsDistinct
 apart_tells [] = (λ _. tt, λ _. tt)
 apart_tells (pair ∷ pairs) = grind (arith, nat_tests, free_tells, apart_tells pairs)
 
--- The letters of a pair occur in none of the pairs.
+-- The two letters of a pair differ, and occur in none of the pairs.
 abbrev IsApart : List (ℕ × ℕ) → ℕ × ℕ → Type 0
 IsApart pairs pair = (eqb pair.0 pair.1 ≡ false) × (lies_in pair.0 pairs ≡ false) × (lies_in pair.1 pairs ≡ false)
 

@@ -12,7 +12,7 @@ spare_at : (lanes : List ℕ) → length lanes ≡ 32 → (k : ℕ) → 26 ≤ k
 spare_at lanes size k low lt =
     get_or-append_right (take 26 lanes) spare 26 k 0 (length-take-le 26 lanes (omega arith)) low ∙ get_or-range_with_len 26 6 (k - 26) 0 (omega arith) ∙ omega arith
 
--- Lanes whose values are known place by place are a permutation and the spare lanes.
+-- 26 lanes with letters, and six that map to themselves, are the lanes of a table.
 pub lanes_of : (lanes : List ℕ) → length lanes ≡ 32 → ((k : ℕ) → k < 26 → slice_index lanes k < 26) → ((k : ℕ) → 26 ≤ k → k < 32 → slice_index lanes k ≡ k) → AreLanes lanes
 lanes_of lanes size letters still =
     let front : length (take 26 lanes) ≡ 26 = length-take-le 26 lanes (omega arith) in

@@ -17,7 +17,7 @@ around_more core (t ∷ seated) (l ∷ window) (suc slot) s letter lt same is_s 
     grind (arith, around_more (boarded t.board core (rotor t.wheel t.ring l)) seated window slot s letter)
 around_more core seated window slot s letter lt same is_s is_letter = absurd (omega arith)
 
--- The wheel in a slot is the key's; and so are all wheels.
+-- Wheel, ring and board of a slot are the key's. If this holds for each slot, the seated wheels are the key's.
 abbrev pub SitsAt : List ℕ → List Wheel → List ℕ → ℕ → SeatedWheel → Type 0
 SitsAt plugs wheels rings slot s =
     (s.wheel ≡ get_or wheels slot s.wheel) × (s.ring ≡ get_or rings slot s.ring) × (s.board ≡ (if ltb (slot + 1) (length wheels) then alphabet else plugs))
