@@ -100,7 +100,8 @@ module _ (m : RotorParts) (s : RotorDay) where
   counted_rings : AreCounted (ring_lines m s.wheels) (count_by (finds wrong s.wheels) (box_of m.model)) 0
   counted_rings =
       rw (lines_of_each (ring_of_wheel m s.wheels) (box_of m.model) 1) (rw sum_none at
-      (counted_each (λ n wheel. ring_of_wheel m s.wheels wheel) (λ wheel. cond (finds wrong s.wheels wheel) 1 0) (λ z. 0)
+      (counted_each (λ n wheel. ring_of_wheel m s.wheels wheel)
+      (λ wheel. cond (finds wrong s.wheels wheel) 1 0) (λ z. 0)
       (λ n wheel. grind (arith, counted_loose)) (box_of m.model) 1))
 
   rotor_counted : AreSeated m.model (seats s.wheels)
