@@ -1,4 +1,6 @@
-use Rattle.kd_prices.proofs.Prelude.{◌≡◌, ◌+◌, ◌<◌, ◌^◌, pos, SFits, w32, to_z, rules, arith, sym, ap, ◌∙◌, refl, false≢true, to_z-of_z, to_z_pos, price_sum, priced_count, NotTheSheet, ◌≢◌, ℕ, ℤ, of_z, Refused, Found, PriceTooHigh, SumDiffers}
+use Rattle.kd_prices.proofs.Prelude.{◌≡◌, ◌+◌, ◌<◌, ◌^◌, pos, SFits, w32, to_z, rules, arith, sym, ap, ◌∙◌, refl}
+use Rattle.kd_prices.proofs.Prelude.{false≢true, to_z-of_z, to_z_pos, price_sum, priced_count, NotTheSheet, ◌≢◌, ℕ, ℤ}
+use Rattle.kd_prices.proofs.Prelude.{of_z, Refused, Found, PriceTooHigh, SumDiffers}
 use Rattle.std.proofs.lemmas.Result.{err_from_is_err_and}
 use Rattle.kd_prices.proofs.checking.judged_by_number.Goals as goal
 
@@ -10,7 +12,8 @@ returns-in_err-walk g c =
 pub returns-then-not-reads_as : goal.returns-then-not-reads_as
 returns-then-not-reads_as g c =
     Found c.in_ok-walk.walk.reached c.in_ok-walk.ensures.leads
-    (Refused NotTheSheet ((λ same reads. false≢true (sym c.if-not-reads_as.true ∙ c.reads_as.ensures.1 reads)), refl) refl)
+    (Refused NotTheSheet ((λ same reads. false≢true (sym c.if-not-reads_as.true ∙ c.reads_as.ensures.1 reads)), refl)
+    refl)
 
 pub returns-in-Some : goal.returns-in-Some
 returns-in-Some g c =
