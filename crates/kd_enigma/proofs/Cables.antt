@@ -77,9 +77,11 @@ leads : (pairs : List (ℕ × ℕ)) (x y : ℕ) → lies_in x pairs ≡ true →
 leads [] x y h e = absurd (false≢true h)
 leads (pair ∷ pairs) x y h e =
     elim (cases_eq x pair.0) [
-      | inl same ↦ let other : pair.1 ≡ y = grind (arith, nat_tests) in inl (zero, omega arith, λ i. (sym same i, other i))
+      | inl same ↦
+          let other : pair.1 ≡ y = grind (arith, nat_tests) in inl (zero, omega arith, λ i. (sym same i, other i))
       | inr n ↦ elim (cases_eq x pair.1) [
-        | inl same ↦ let other : pair.0 ≡ y = grind (arith, nat_tests) in inr (zero, omega arith, λ i. (other i, sym same i))
+        | inl same ↦
+            let other : pair.0 ≡ y = grind (arith, nat_tests) in inr (zero, omega arith, λ i. (other i, sym same i))
         | inr m ↦ contains_later pair pairs x y (leads pairs x y (grind (arith, nat_tests)) (grind (arith, nat_tests)))
       ]
     ]
@@ -91,7 +93,8 @@ record IsCable (pairs : List (ℕ × ℕ)) (x y : ℕ) : Type 0 where
   first : lies_in x pairs ≡ true
   second : lies_in y pairs ≡ true
 
-cable_at : (pairs : List (ℕ × ℕ)) (v : ℕ × ℕ) (k : ℕ) → AreApart pairs → k < length pairs → get_or pairs k v ≡ v → IsCable pairs v.0 v.1
+cable_at : (pairs : List (ℕ × ℕ)) (v : ℕ × ℕ) (k : ℕ) → AreApart pairs → k < length pairs → get_or pairs k v ≡ v
+    → IsCable pairs v.0 v.1
 cable_at [] v k h lt e = absurd (omega arith)
 cable_at (pair ∷ pairs) v zero h lt e = grind arith
 cable_at (pair ∷ pairs) v (suc k) h lt e = grind (arith, cable_at pairs v k (grind arith) (omega arith) e)
@@ -141,7 +144,8 @@ same_pairs_exchange_alike ps qs once also same =
     exchange_is (exchange ps) qs (exchange-size ps) (λ x lt. exchange-at ps x lt
     ∙ exchanged_alike ps qs x ((apart_tells ps).0 once) ((apart_tells qs).0 also) (same x))
 
-exchanged_within : (pairs : List (ℕ × ℕ)) (x : ℕ) → All (λ letter. letter < 26) (letters_plugged pairs) → x < 26 → exchanged pairs x < 26
+exchanged_within : (pairs : List (ℕ × ℕ)) (x : ℕ) → All (λ letter. letter < 26) (letters_plugged pairs) → x < 26
+    → exchanged pairs x < 26
 exchanged_within [] x h lt = lt
 exchanged_within (pair ∷ pairs) x h lt =
     grind (arith, nat_tests, h 0 0, h 1 0, exchanged_within pairs x (λ k d k_lt. h (suc (suc k)) d (omega arith)) lt)

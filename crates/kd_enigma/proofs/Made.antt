@@ -20,4 +20,5 @@ pub each_made : {F B : Type 0} {g : Mut F (ℕ × Unit {0}) B} {f : F} {ys : Lis
     → IsFromFnResult g f ys size → (P : ℕ → B → Type 0)
     → ((i : ℕ) (y : B) (q : F) → i < size → Called g f (i, tt) y q → (q ≡ f) × P i y) → (k : ℕ) (e : B) → k < size
     → P k (get_or ys k e)
-each_made {g = g} {f = f} {ys = ys} {size = size} made P step k e lt = made_from g f size P step f ys 0 size refl (omega arith) made.each k e (omega arith) (omega arith)
+each_made {g = g} {f = f} {ys = ys} {size = size} made P step k e lt =
+    made_from g f size P step f ys 0 size refl (omega arith) made.each k e (omega arith) (omega arith)

@@ -2,7 +2,8 @@
 use Rattle.std.proofs.Common.{◌≡◌, ◌≢◌, ℕ, ◌<◌, List, [], ◌∷◌, ◌++◌, map, reverse, slice_index, All, length, refl, sym}
 use Rattle.std.proofs.Common.{ap, ◌∙◌, subst, arith, rules, append_assoc}
 use Rattle.kd_enigma.specs.{Laws.PathsLeadBack, Laws.PathsMoveEachLetter, Rotor.rotor, Rotor.turned}
-use Rattle.kd_tables.proofs.Products.{inverse_by_letter, inverse_permutes, product_backwards, product_permutes, shift_backwards, shift_permutes}
+use Rattle.kd_tables.proofs.Products.{inverse_by_letter, inverse_permutes, product_backwards, product_permutes}
+use Rattle.kd_tables.proofs.Products.{shift_backwards, shift_permutes}
 use Rattle.kd_tables.proofs.Wirings.{reflector_moves, reflector_permutes, reflector_returns, wiring_permutes}
 use Rattle.kd_tables.specs.{Tables.reflector_of, declared.reflector.Reflector.Reflector, declared.wheel.Wheel.Wheel}
 use Rattle.std.{proofs.lemmas.List.FromFn.get_or-range_with_len, specs.List.AllByRecursion}
@@ -28,7 +29,8 @@ pub product-size : (p q : List ℕ) → length (followed_by p q) ≡ length p
 unfolding followed_by
 product-size p q = length-map p (slice_index q)
 
-pub product-at : (p q : List ℕ) (x : ℕ) → length p ≡ 26 → x < 26 → slice_index (followed_by p q) x ≡ slice_index q (slice_index p x)
+pub product-at : (p q : List ℕ) (x : ℕ) → length p ≡ 26 → x < 26
+    → slice_index (followed_by p q) x ≡ slice_index q (slice_index p x)
 unfolding followed_by
 product-at p q x size lt = get_or-map (slice_index q) p x 0 0 (omega arith)
 
@@ -44,10 +46,14 @@ grouped p q r h size = grind (arith, same_maps, product-size, product-at)
 
 -- The permutation that leaves each letter changes no product.
 pub nothing_before : (p : List ℕ) → length p ≡ 26 → followed_by alphabet p ≡ p
-nothing_before p size = same_maps _ _ (product-size alphabet p) size (λ x lt. product-at alphabet p x refl lt ∙ ap (slice_index p) (alphabet-at x lt))
+nothing_before p size =
+    same_maps _ _ (product-size alphabet p) size
+    (λ x lt. product-at alphabet p x refl lt ∙ ap (slice_index p) (alphabet-at x lt))
 
 pub nothing_after : (p : List ℕ) → IsPermutation26 p → followed_by p alphabet ≡ p
-nothing_after p h = same_maps _ _ (grind (arith, product-size, h.size)) h.size (λ x lt. product-at p alphabet x h.size lt ∙ alphabet-at (slice_index p x) (h.each_once.within x lt))
+nothing_after p h =
+    same_maps _ _ (grind (arith, product-size, h.size)) h.size
+    (λ x lt. product-at p alphabet x h.size lt ∙ alphabet-at (slice_index p x) (h.each_once.within x lt))
 
 pub no_shift : shift 0 ≡ alphabet
 unfolding shift
@@ -56,7 +62,8 @@ no_shift = refl
 -- The inverse of a turned permutation is the inverse turned by as many places.
 pub turned_undone : (by : ℕ) (p : List ℕ) → by < 26 → IsPermutation26 p → inverse (turned by p) ≡ turned by (inverse p)
 unfolding turned
-turned_undone by p lt h = search (rules, grouped, product_backwards, product_permutes, shift_backwards, shift_permutes, inverse_permutes)
+turned_undone by p lt h =
+    search (rules, grouped, product_backwards, product_permutes, shift_backwards, shift_permutes, inverse_permutes)
 
 -- ---- permutations that take each letter to another one, and that one back
 
@@ -68,7 +75,9 @@ pub record Exchanges (p : List ℕ) : Type 0 where
 pub reflectors_exchange : (reflector : Reflector) → Exchanges (reflector_of reflector)
 reflectors_exchange reflector = record {
   permutes = reflector_permutes reflector;
-  back = at_letter (λ x. slice_index (reflector_of reflector) (slice_index (reflector_of reflector) x) ≡ x) (reflector_returns reflector);
+  back =
+      at_letter (λ x. slice_index (reflector_of reflector) (slice_index (reflector_of reflector) x) ≡ x)
+      (reflector_returns reflector);
   moves = at_letter (λ x. slice_index (reflector_of reflector) x ≢ x) (reflector_moves reflector);
 }
 
@@ -80,7 +89,8 @@ record Undo (there back : List ℕ) : Type 0 where
   into : (x : ℕ) → x < 26 → slice_index there (slice_index back x) ≡ x
 
 wheels_undo : (w : List ℕ) → IsPermutation26 w → Undo w (inverse w)
-wheels_undo w h = let back = inverse_permutes w h in grind (arith, inverse_by_letter, h.each_once.within, back.each_once.within)
+wheels_undo w h =
+    let back = inverse_permutes w h in grind (arith, inverse_by_letter, h.each_once.within, back.each_once.within)
 
 boards_undo : (plugs : List ℕ) → IsPlugboard plugs → Undo plugs plugs
 boards_undo plugs board =
@@ -93,13 +103,28 @@ conjugate : (there core back : List ℕ) → Undo there back → Exchanges core
     → Exchanges (followed_by there (followed_by core back))
 conjugate there core back undo h =
     let in_lt = undo.in_permutes.each_once.within in
-    let at : (x : ℕ) → x < 26 → slice_index (followed_by there (followed_by core back)) x ≡ slice_index back (slice_index core (slice_index there x)) =
+    let at : (x : ℕ) → x < 26
+    → slice_index (followed_by there (followed_by core back)) x
+    ≡ slice_index back (slice_index core (slice_index there x)) =
     λ x lt. grind (arith, product-at, undo.in_permutes.size, h.permutes.size, in_lt) in
-    let again : (x : ℕ) → x < 26 → slice_index there (slice_index (followed_by there (followed_by core back)) x) ≡ slice_index core (slice_index there x) =
+    let again : (x : ℕ) → x < 26
+    → slice_index there (slice_index (followed_by there (followed_by core back)) x)
+    ≡ slice_index core (slice_index there x) =
     λ x lt. grind (arith, at x lt, undo.into, h.permutes.each_once.within, in_lt) in
     record {
-      permutes = product_permutes there (followed_by core back) undo.in_permutes (product_permutes core back h.permutes undo.out_permutes);
-      back = λ x lt. grind (arith, at, again x lt, h.back, undo.out, in_lt, h.permutes.each_once.within, undo.out_permutes.each_once.within);
+      permutes =
+          product_permutes there (followed_by core back) undo.in_permutes
+          (product_permutes core back h.permutes undo.out_permutes);
+      back = λ x lt. grind (
+        arith,
+        at,
+        again x lt,
+        h.back,
+        undo.out,
+        in_lt,
+        h.permutes.each_once.within,
+        undo.out_permutes.each_once.within,
+      );
       moves = λ x lt same. h.moves (slice_index there x) (in_lt x lt) (sym (again x lt) ∙ ap (slice_index there) same);
     }
 
@@ -115,12 +140,14 @@ nested core (w ∷ ws) = nested (enclosed core w) ws
 
 pub rotor_permutes : (wheel : Wheel) (ring letter : ℕ) → IsPermutation26 (rotor wheel ring letter)
 unfolding turned
-rotor_permutes wheel ring letter = product_permutes _ _ (product_permutes _ _ (shift_permutes _) (wiring_permutes wheel)) (shift_permutes _)
+rotor_permutes wheel ring letter =
+    product_permutes _ _ (product_permutes _ _ (shift_permutes _) (wiring_permutes wheel)) (shift_permutes _)
 
 rotors_permute : (wheels : List Wheel) (rings window : List ℕ)
     → AllByRecursion IsPermutation26 (rotors wheels rings window)
 unfolding rotors
-rotors_permute (wheel ∷ wheels) (ring ∷ rings) (letter ∷ window) = (rotor_permutes wheel ring letter, rotors_permute wheels rings window)
+rotors_permute (wheel ∷ wheels) (ring ∷ rings) (letter ∷ window) =
+    (rotor_permutes wheel ring letter, rotors_permute wheels rings window)
 rotors_permute [] rings window = tt
 rotors_permute wheels [] window = tt
 rotors_permute wheels rings [] = tt
@@ -152,13 +179,22 @@ product_around core (w ∷ ws) rest h k =
     let outward = map inverse ws ++ rest in
     let back = (inverse_permutes w h.0).size in
     let one : product (w ∷ core ∷ inverse w ∷ outward) ≡ product (enclosed core w ∷ outward) =
-    grind (arith, grouped w (followed_by core (inverse w)) (product outward) h.0, grouped core (inverse w) (product outward) k.permutes, product-size, back, k.permutes.size) in
-    ap product (ap (λ ps. ps ++ (core ∷ inverse w ∷ outward)) (reverse-append (w ∷ []) ws) ∙ append_assoc (reverse ws) (w ∷ []) (core ∷ inverse w ∷ outward))
+    grind (
+      arith,
+      grouped w (followed_by core (inverse w)) (product outward) h.0,
+      grouped core (inverse w) (product outward) k.permutes,
+      product-size,
+      back,
+      k.permutes.size,
+    ) in
+    ap product (ap (λ ps. ps ++ (core ∷ inverse w ∷ outward)) (reverse-append (w ∷ []) ws)
+    ∙ append_assoc (reverse ws) (w ∷ []) (core ∷ inverse w ∷ outward))
     ∙ behind (reverse ws) _ _ one ∙ product_around (enclosed core w) ws rest h.1 (encloses core w h.0 k)
 
 -- The path leads in through the plugboard, around through the wheels, and back through the plugboard.
 pub path_is : (key : RotorKey) (window : List ℕ) → IsPlugboard key.plugs
-    → path key window ≡ followed_by key.plugs (followed_by (nested (reflector_of key.reflector) (rotors key.wheels key.rings window)) key.plugs)
+    → path key window ≡ followed_by key.plugs
+    (followed_by (nested (reflector_of key.reflector) (rotors key.wheels key.rings window)) key.plugs)
 unfolding path product
 path_is key window board =
     grind (arith, append_assoc, product_around, rotors_permute, reflectors_exchange, nothing_after)
