@@ -8,6 +8,7 @@ pub still_failed : (now before first : Bool) → now ≡ (before || false) → b
 still_failed now before first e d = grind (arith, e)
 
 -- After one more part, the sink has taken a longer prefix.
-pub takes_more : (a b c : Option (List ℕ)) (bytes : List ℕ) (done count : ℕ) → Appends a b (take done bytes) → Appends b c (take count (take (length bytes - done) (drop done bytes)))
+pub takes_more : (a b c : Option (List ℕ)) (bytes : List ℕ) (done count : ℕ) → Appends a b (take done bytes)
+    → Appends b c (take count (take (length bytes - done) (drop done bytes)))
     → Appends a c (take (done + count) bytes)
 takes_more a b c bytes done count first second = grind (arith, take-add, Appends-trans, take_rest)

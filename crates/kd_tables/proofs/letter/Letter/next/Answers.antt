@@ -1,4 +1,5 @@
-use Rattle.std.proofs.{Common.{arith, ap, ◌∙◌, ◌+◌, ◌%◌, ◌<◌, ◌≡◌, ℕ, get_or, map}, lemmas.List.FromFn.get_or-map-range_with_len}
+use Rattle.std.proofs.Common.{arith, ap, ◌∙◌, ◌+◌, ◌%◌, ◌<◌, ◌≡◌, ℕ, get_or, map}
+use Rattle.std.proofs.lemmas.List.FromFn.{get_or-map-range_with_len}
 use Rattle.kd_tables.specs.Permutation.{alphabet}
 use Rattle.kd_tables.proofs.letter.Letter.next.Goals as goal
 
