@@ -21,7 +21,7 @@ LooseThingsAreCounted =
     (m : Parts) (s : Day) → IsMachine m → IsLegalDay s → model_of m ≡ day_model s
     → length (loose_lines m s) ≡ loose_count m s
 
--- If prices fit, no list that reaches the day is shorter than the loose things plus the sum of the prices.
+-- If prices fit, no list to the day is shorter than the number of loose things plus the sum of prices.
 abbrev pub FittingPricesBoundLists : Type 0
 FittingPricesBoundLists =
     (m : Parts) (s : Day) (prices : PriceParts) (settings : List Setting) → IsMachine m → IsLegalDay s
@@ -29,7 +29,8 @@ FittingPricesBoundLists =
     → Fits (cost_table m s) prices → LeadsToTheDay m s settings
     → (pos (loose_count m s) +ℤ price_sum prices) ≤ℤ pos (length settings)
 
--- A list that reaches the day needs each of its settings if at most as many as the loose things are unpriced.
+-- If a list to the day has no more unpriced settings than loose things, it needs each of its settings. An
+-- unpriced setting changes no cable and no bar.
 abbrev pub AsFewAreNeeded : Type 0
 AsFewAreNeeded =
     (m : Parts) (s : Day) (settings : List Setting) → IsLegalDay s → model_of m ≡ day_model s

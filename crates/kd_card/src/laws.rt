@@ -22,7 +22,7 @@ pub fn loose_things_are_counted()
     ensures { LooseThingsAreCounted }
 {}
 
-/// If prices fit, no list that reaches the day is shorter than the loose things plus the sum of the prices.
+/// If prices fit, no list to the day is shorter than the number of loose things plus the sum of prices.
 #[tactic(auto, using(crate::proofs::Shortest::fitting_prices_bound_lists))]
 pub fn fitting_prices_bound_lists()
     ensures { FittingPricesBoundLists }
@@ -34,7 +34,9 @@ pub fn ranks_tell_looks()
     ensures { RanksTellLooks }
 {}
 
-/// A list that reaches the day needs each setting if at most as many as the loose things are unpriced.
+/// If a list to the day has no more unpriced settings than loose things, it needs each setting.
+///
+/// An unpriced setting changes no cable and no bar.
 #[tactic(auto, using(crate::proofs::Shortest::as_few_are_needed))]
 pub fn as_few_are_needed()
     ensures { AsFewAreNeeded }

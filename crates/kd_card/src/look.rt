@@ -33,8 +33,7 @@ impl Name {
     }
 }
 
-/// What the things of one kind have in common: letters of a cable or a pair, standing of a bar, reading of a
-/// row.
+/// What the things of one kind have in common: their letters, their standing or their reading.
 #[derive(Clone, Copy)]
 pub enum Look {
     /// A cable's letters: a single letter comes first, two are in alphabetical order.

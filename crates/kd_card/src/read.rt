@@ -47,7 +47,7 @@ fn split_value<'a>(text: &'a [u8], front: &str) -> Option<(&'a [u8], &'a [u8])>
     split_once(behind, b'\n')
 }
 
-/// Reads the head: whether the card is by number or by kind, and its day. Also the text after the line.
+/// Reads the head: by number or by kind, and the day. Returns both, and the text after the line.
 fn read_head(text: &[u8]) -> Option<(Version, u8, &[u8])>
     ensures { MatchOption result
         ((version : _) (day : ℕ) (rest : List ℕ) → ¬ (BeginsWithHead text.now version day rest))
@@ -60,7 +60,7 @@ fn read_head(text: &[u8]) -> Option<(Version, u8, &[u8])>
     Some((Version::ByKind, day, rest))
 }
 
-/// Reads the day from a head for `version`. Also the text after the line.
+/// Reads the day from a head for `version`. Returns it, and the text after the line.
 fn read_day(text: &[u8], version: Version) -> Option<(u8, &[u8])>
     ensures { MatchOption result
         ((day : ℕ) (rest : List ℕ) → ¬ (BeginsWithHead text.now version day rest))
@@ -81,7 +81,7 @@ fn read_count(text: &[u8], count: usize) -> Result<&[u8], CardFault>
     read_value(text, "SETTINGS ", buffer.format(count), false, count + 2)
 }
 
-/// Checks the line with the sum of prices, and returns the text after it. It is line `line` of the card.
+/// Checks that line `line` has the sum of prices, and returns the text after it.
 fn read_sum(text: &[u8], sum: i32, line: usize) -> Result<&[u8], CardFault>
     ensures { MatchResult result
         (λ rest. SaysSum sum line text.now (Ok rest.now))
@@ -91,7 +91,7 @@ fn read_sum(text: &[u8], sum: i32, line: usize) -> Result<&[u8], CardFault>
     read_value(text, "SUM ", buffer.format(sum), true, line)
 }
 
-/// Checks a line of `front` and the number `due`, and returns the text after it. It is line `line`.
+/// Checks that line `line` has `front` and the number `due`, and returns the text after it.
 fn read_value<'a>(
     text: &'a [u8],
     front: &str,
@@ -114,7 +114,7 @@ fn read_value<'a>(
     Ok(rest)
 }
 
-/// Reads the prices, whose first line is line `line`. Also the text after them.
+/// Reads the prices, whose first line is line `line`. Returns them, and the text after them.
 fn read_prices(text: &[u8], version: Version, line: usize) -> Result<(Prices, &[u8]), CardFault>
     requires { line < 200 }
     ensures { MatchResult result
@@ -127,7 +127,7 @@ fn read_prices(text: &[u8], version: Version, line: usize) -> Result<(Prices, &[
     }
 }
 
-/// Reads the two lines of prices by number, the first of which is line `line`. Also the text after them.
+/// Reads the two lines of prices by number, from line `line` on. Returns them, and the text after them.
 fn read_numbered(text: &[u8], line: usize) -> Result<(Prices, &[u8]), CardFault>
     requires { line < 200 }
     ensures { MatchResult result
@@ -142,7 +142,7 @@ fn read_numbered(text: &[u8], line: usize) -> Result<(Prices, &[u8]), CardFault>
     Ok((prices, rest))
 }
 
-/// Reads the two groups of kinds, whose first line is line `line`. Also the text after them.
+/// Reads the two groups of kinds, from line `line` on. Returns their prices, and the text after them.
 fn read_kinded(text: &[u8], line: usize) -> Result<(Prices, &[u8]), CardFault>
     requires { line < 200 }
     ensures { MatchResult result
@@ -159,7 +159,7 @@ fn read_kinded(text: &[u8], line: usize) -> Result<(Prices, &[u8]), CardFault>
     ))
 }
 
-/// Reads a line of `word` and `number` prices, which is line `line`. Also the text after it.
+/// Reads line `line`, which has `word` and `number` prices. Returns these, and the text after the line.
 fn read_price_line<'a>(
     text: &'a [u8],
     word: &str,

@@ -18,8 +18,7 @@ use itoa::Buffer;
 use kd_state::{Setting, push_number};
 use kd_tables::{Device, Sink, put_all};
 
-/// The most bytes that a card can have: head, 192 settings, their number, twice 27 prices or kinds, and the
-/// sum.
+/// The most bytes of a card: head, 192 settings, their number, twice 27 prices or kinds, and the sum.
 const LONGEST: usize = 6144;
 
 /// Writes the text of `card` for day `day`. A sink that fails has taken a prefix of the text.

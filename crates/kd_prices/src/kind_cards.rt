@@ -14,11 +14,11 @@ use arrayvec::ArrayVec;
 use kd_card::{Card, Group, Look, PriceParts, PricedKind, Prices};
 use kd_state::{Machine, OneModel, SheetDay};
 
-/// Makes a card with the same settings, and one price for each kind. `check` expands them to the card's own
-/// prices.
+/// Makes a card with the settings of `card`, and one price for each kind.
 ///
-/// `None` if machine, day and prices aren't of one model, if the prices are by kind already, or if two equal
-/// things have different prices. In a card by number that proves itself, equal things have equal prices.
+/// `check` expands these prices to those of `card`. `None` if machine, day and prices aren't of one model, if
+/// the prices are by kind already, or if two equal things have different prices. In a card by number that
+/// proves itself, equal things have equal prices.
 pub fn by_kind(machine: &Machine, day: &SheetDay, card: &Card) -> Option<Card>
     ensures some { IsSome result ↔ CanBeByKind machine.now day.now card.now.prices }
     ensures card { IfSome result (λ other. IsByKind machine.now day.now card.now other) }

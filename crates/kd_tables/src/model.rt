@@ -28,8 +28,7 @@ pub enum Model {
     EnigmaI,
     /// The Kriegsmarine's Enigma with three wheels out of eight.
     M3,
-    /// The Kriegsmarine's Enigma with four wheels: Beta or Gamma beside a thin reflector, and three wheels out
-    /// of eight.
+    /// The Kriegsmarine's Enigma with four wheels: Beta or Gamma at the left, and three wheels out of eight.
     M4,
     /// The Converter M-209: six fixed pin wheels, and a drum of 27 bars.
     M209,

@@ -12,11 +12,11 @@ pub trait Source {
     /// Whether a get has failed.
     ghost has_failed: { Self → Bool };
 
-    /// Puts the next bytes into a prefix of `buffer`, and returns its length: 0 only at the end, or if there is
-    /// no room.
+    /// Puts the next bytes into a prefix of `buffer`, and returns the length of this prefix.
     ///
-    /// A get that returns `Failed` has given no byte, so each of them is still to come. The rest of the buffer
-    /// may change, and so may all of it if the get fails: callers can't rely on it.
+    /// The length is 0 only at the end, or if `buffer` is empty. A get that returns `Failed` has given no byte,
+    /// so each of them is still to come. The rest of the buffer may change, and so may all of it if the get
+    /// fails: callers can't rely on it.
     fn get(&mut self, buffer: &mut [u8]) -> Result<usize, Failed>
         ensures bytes { Gets (remaining self.old) (remaining self.new) buffer.new result }
         ensures failed { has_failed self.new ≡ (has_failed self.old || is_err result) };

@@ -8,7 +8,7 @@ use super::names::{name_of, named};
 use super::table::{letters, letters_back, wiring};
 use arrayvec::ArrayString;
 
-/// A wheel of the rotor machines. I to VIII turn; Beta and Gamma don't, and belong to the M4's thin reflectors.
+/// A wheel of the rotor machines. I to VIII turn; Beta and Gamma, for the M4's thin reflectors, don't.
 #[derive(Clone, Copy, PartialEq, Eq)]
 pub enum Wheel {
     /// Wheel I.
