@@ -115,8 +115,8 @@ impl Prices {
 
     /// Makes prices of kinds of bars and of kinds of the sheet's rows.
     ///
-    /// `None` if the kinds of a group aren't in order and each once, don't count 27 things, or if a kind has an
-    /// invalid standing or reading, the count 0, or a price below -9999 or above 9999.
+    /// `None` if the kinds of a group aren't in order and each once, don't count 27 things, or if a kind has the
+    /// count 0, or a price below -9999 or above 9999.
     #[tactic(auto, using(crate::proofs::KindPrices::bars_are_prices))]
     pub fn bar_kinds(bars: &[BarKind], rows: &[RowKind]) -> Option<Self>
         ensures { let parts =
