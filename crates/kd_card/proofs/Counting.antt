@@ -1,4 +1,4 @@
--- How many lines there are, and how many of them the prices speak of; and that each loose thing has one.
+-- How many settings there are for loose things, and how many of all settings are priced.
 use Rattle.kd_card.proofs.{Prelude.count_by-cons, Falling.HaveTheirPlaces}
 use Rattle.kd_card.proofs.Prelude.{AllByRecursion, Contains, All, Bool, Day, IsLegalDay, IsMachine, List, Model, OfPins}
 use Rattle.kd_card.proofs.Prelude.{OfRotors, Parts, Pin, PinDay, PinParts, Rotor, RotorDay, RotorParts, SeatReflector}
@@ -17,7 +17,7 @@ use Rattle.kd_tables.specs.{Rings.ring_of, Tables.box_of, declared.wheel.Wheel.W
 use Rattle.std.proofs.Common.{◌&&◌, false, find, flat_map, option_to_list}
 use Rattle.std.proofs.lemmas.{List.Folds.fold-map, List.Sums.sum_by-le, Option.slice_get-get_or, Option.slice_get-map}
 
--- so many lines beside those of cables and bars, and so many of these
+-- `lines` are `loose` settings for loose things and `cost` priced ones, which change a cable or a bar.
 pub record AreCounted (lines : List Setting) (loose cost : ℕ) : Type 0 where
   pub count : length lines ≡ loose + cost
   pub priced : priced_count lines ≡ cost
@@ -26,12 +26,12 @@ pub counted-append : {a b p q : ℕ} (xs ys : List Setting) → AreCounted xs a 
     → AreCounted (xs ++ ys) (a + b) (p + q)
 counted-append xs ys h k = grind (arith, length-append, sum_by-append)
 
--- a line of another thing that is left out where it is so
+-- the setting for a thing, if it is loose
 counted_loose : (so : Bool) (x : Setting) → is_priced x ≡ false
     → AreCounted (option_to_list (unless_so so x)) (cond (not so) 1 0) 0
 counted_loose so x e = grind arith
 
--- lines of things by their numbers
+-- the settings for the items of a numbered list
 pub counted_each : {Z : Type 0} (lines : ℕ → Z → List Setting) (f g : Z → ℕ)
     → ((number : ℕ) (z : Z) → AreCounted (lines number z) (f z) (g z))
     → (zs : List Z) (number : ℕ) → AreCounted (lines_from lines number zs) (sum_by f zs) (sum_by g zs)
@@ -42,12 +42,12 @@ counted_each lines f g h (z ∷ zs) number =
 pub sum_none : {Z : Type 0} (zs : List Z) → sum_by (λ z. 0) zs ≡ 0
 sum_none zs = omega (arith, sum_by-le (λ z. 0) 0 zs (λ k d lt. omega arith))
 
--- things beside others, which are as many
+-- A sum over the second items of pairs is the sum over the second list, if the lists are equally long.
 pub beside_each : {A B : Type 0} (f : B → ℕ) (xs : List A) (ys : List B) → length ys ≡ length xs
     → sum_by (λ (z : A × B). f z.1) (zip xs ys) ≡ sum_by f ys
 beside_each f xs ys same = sym (fold-map _ (λ z. z.1) 0 (zip xs ys)) ∙ ap (sum_by f) (seconds-zip xs ys same)
 
--- lines that don't go by numbers
+-- Settings that don't depend on numbers are counted like those that do.
 pub lines_of_each : {X : Type 0} (f : X → List Setting) (xs : List X) (number : ℕ)
     → flat_map f xs ≡ lines_from (λ n x. f x) number xs
 lines_of_each f [] number = refl
@@ -63,7 +63,7 @@ once_in_box : (model : Model) (wheel : Wheel) (b : Bool) → has_wheel (box_of m
     → count_by (λ x. same_wheel x wheel && b) (box_of model) ≡ cond b 1 0
 once_in_box model wheel b e = grind arith
 
--- whether there is a wheel of that name, and it passes
+-- whether there is a wheel with this name that passes the test
 abbrev finds : (SheetWheel → Bool) → List SheetWheel → Wheel → Bool
 finds test wheels wheel = option_map_or test (find (λ w. same_wheel wheel w.wheel) wheels) false
 
@@ -92,7 +92,7 @@ found_once test model (w ∷ wheels) there apart =
     let both = sums_add _ _ _ (λ b. finds_first test w wheels b none) (box_of model) in
     omega (arith, once_in_box model w.wheel (test w) there.0, rest, both, count_by-cons test w wheels)
 
--- ---- all lines
+-- ---- all settings
 module _ (m : RotorParts) (s : RotorDay) where
   abbrev wrong : SheetWheel → Bool
   wrong w = not (option_map_or (nat_eq w.ring) (ring_at m w.wheel) false)
@@ -100,7 +100,8 @@ module _ (m : RotorParts) (s : RotorDay) where
   counted_rings : AreCounted (ring_lines m s.wheels) (count_by (finds wrong s.wheels) (box_of m.model)) 0
   counted_rings =
       rw (lines_of_each (ring_of_wheel m s.wheels) (box_of m.model) 1) (rw sum_none at
-      (counted_each (λ n wheel. ring_of_wheel m s.wheels wheel) (λ wheel. cond (finds wrong s.wheels wheel) 1 0) (λ z. 0)
+      (counted_each (λ n wheel. ring_of_wheel m s.wheels wheel)
+      (λ wheel. cond (finds wrong s.wheels wheel) 1 0) (λ z. 0)
       (λ n wheel. grind (arith, counted_loose)) (box_of m.model) 1))
 
   rotor_counted : AreSeated m.model (seats s.wheels)
@@ -117,7 +118,7 @@ module _ (m : RotorParts) (s : RotorDay) where
       counted_rings) turns) in
       record { count = grind (arith, all.count, found); priced = all.priced }
 
--- PIN, of a wheel that has a pin for each letter, as the day's has
+-- PIN for the pins of wheels: each wheel has a pin for each letter, in the machine as on the day.
 module _ (m : PinParts) (s : PinDay) (machine : HasAllPins m.pins) (legal : HasAllPins s.pins) where
   counted_wheel : (number : ℕ) → let present = wheel_pins m.pins number in let wanted = wheel_pins s.pins number in
       AreCounted (wheel_pin_lines number (ring_of number) present wanted)
@@ -151,6 +152,6 @@ all_counted m s machine legal same = record { count = refl; priced = refl }
 pub loose_things_are_counted : LooseThingsAreCounted
 loose_things_are_counted m s machine legal same = omega (arith, (all_counted m s machine legal same).count)
 
--- ---- there is room for all of them
+-- ---- there is room for all settings
 pub few_in_box : (model : Model) → length (box_of model) ≤ 10
 few_in_box model = grind arith

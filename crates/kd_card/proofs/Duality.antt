@@ -1,9 +1,13 @@
--- Prices that fit bound from below what any pairing of rows and columns costs.
-use Rattle.kd_card.proofs.Prelude.{◌≡◌, ℕ, zero, suc, ◌<◌, List, [], ◌∷◌, ◌++◌, length, get_or, set, map, zip, fold, ℤ, pos, ◌+ℤ◌, ◌≤ℤ◌, ◌∙◌, ap, IsPermutation, refl, arith, All, AllZip, ints, fold-append, sum_by-cons, sum_by-IsPermutation, IsPermutation-keeps, IsPermutation-refl, IsPermutation-trans, IsPermutation-swap, AllZip-long, All-head, All-tail, IsPermutation-map, seconds-zip}
+-- Prices that fit bound the cost of each assignment of rows to columns from below.
+use Rattle.kd_card.proofs.Prelude.{◌≡◌, ℕ, zero, suc, ◌<◌, List, [], ◌∷◌, ◌++◌, length, get_or, set, map, zip, fold, ℤ}
+use Rattle.kd_card.proofs.Prelude.{pos, ◌+ℤ◌, ◌≤ℤ◌, ◌∙◌, ap, IsPermutation, refl, arith, All, AllZip, ints, fold-append}
+use Rattle.kd_card.proofs.Prelude.{sum_by-cons, sum_by-IsPermutation, IsPermutation-keeps, IsPermutation-refl}
+use Rattle.kd_card.proofs.Prelude.{IsPermutation-trans, IsPermutation-swap, AllZip-long, All-head, All-tail}
+use Rattle.kd_card.proofs.Prelude.{IsPermutation-map, seconds-zip}
 use Rattle.std.specs.List as lists
 use borrow.Author.Differences.{up, down}
 
--- sums of prices
+-- the sum of prices
 abbrev pub sum_of : List ℤ → ℤ
 sum_of [] = pos 0
 sum_of (price ∷ prices) = price +ℤ sum_of prices
@@ -12,7 +16,8 @@ fold_from : (start : ℤ) (xs : List ℤ) → fold (λ sum price. sum +ℤ price
 fold_from start [] = omega (arith, ints)
 fold_from start (x ∷ xs) = let e = fold_from (start +ℤ x) xs in omega (arith, ints)
 
-pub fold_of_both : (rows columns : List ℤ) → fold (λ sum price. sum +ℤ price) (pos 0) (rows ++ columns) ≡ (sum_of rows +ℤ sum_of columns)
+pub fold_of_both : (rows columns : List ℤ)
+    → fold (λ sum price. sum +ℤ price) (pos 0) (rows ++ columns) ≡ (sum_of rows +ℤ sum_of columns)
 fold_of_both rows columns =
     let both = fold-append (λ sum price. sum +ℤ price) (pos 0) rows columns in
     let first = fold_from (pos 0) rows in
@@ -24,11 +29,11 @@ parts [] = refl
 parts (x ∷ xs) = omega (arith, ints, parts xs, sum_by-cons up x xs, sum_by-cons down x xs)
 
 module _ {B : Type 0} where
-  -- the prices that stand with columns
+  -- the sum of the prices that are paired with columns
   abbrev pub prices_with : List (B × ℤ) → ℤ
   prices_with ws = sum_of (map (λ (w : B × ℤ). w.1) ws)
 
-  -- in another order they add up to the same
+  -- Another order of the columns doesn't change the sum of their prices.
   pub prices_moved : (columns : List B) (prices : List ℤ) (beside : List (B × ℤ)) → length prices ≡ length columns
       → IsPermutation (zip columns prices) beside → prices_with beside ≡ sum_of prices
   prices_moved columns prices beside e order =
@@ -40,49 +45,54 @@ module _ {B : Type 0} where
       let same : sum_of there ≡ sum_of here = omega (arith, ints, parts here, parts there) in
       same ∙ ap sum_of (seconds-zip columns prices e)
 
--- Things of two kinds that stand side by side, each with its like.
+-- Two lists whose items are related place by place.
 module _ {A C : Type 0} (R : A → C → Type 0) where
-  pub side_by_side-set : (xs : List A) (ys : List C) (i : ℕ) (x : A) (y : C) → AllZip R xs ys → R x y → AllZip R (set xs i x) (set ys i y)
+  pub side_by_side-set : (xs : List A) (ys : List C) (i : ℕ) (x : A) (y : C) → AllZip R xs ys → R x y
+      → AllZip R (set xs i x) (set ys i y)
   side_by_side-set [] [] i x y h r = tt
   side_by_side-set (a ∷ xs) (c ∷ ys) zero x y h r = (r, h.1)
   side_by_side-set (a ∷ xs) (c ∷ ys) (suc i) x y h r = (h.0, side_by_side-set xs ys i x y h.1 r)
   side_by_side-set xs ys i x y h r = absurd h
 
-  side_by_side_at : (xs : List A) (ys : List C) (i : ℕ) (d : A) (e : C) → AllZip R xs ys → i < length xs → R (get_or xs i d) (get_or ys i e)
+  side_by_side_at : (xs : List A) (ys : List C) (i : ℕ) (d : A) (e : C) → AllZip R xs ys → i < length xs
+      → R (get_or xs i d) (get_or ys i e)
   side_by_side_at [] ys i d e h lt = absurd (omega arith)
   side_by_side_at (a ∷ xs) (c ∷ ys) zero d e h lt = h.0
   side_by_side_at (a ∷ xs) (c ∷ ys) (suc i) d e h lt = side_by_side_at xs ys i d e h.1 (omega arith)
   side_by_side_at (a ∷ xs) [] i d e h lt = absurd h
 
-  -- in the order of the first kind
+  -- the second list in an order in which its items are related to those of the first one
   abbrev pub Reordered : List C → List A → Type 0
   Reordered ys xs = (zs : List C) × IsPermutation ys zs × AllZip R xs zs
 
-  side_by_side-swap : (xs : List A) (zs : List C) (i j : ℕ) → i < length xs → j < length xs → AllZip R xs zs → AllZip R (lists.swap xs i j) (lists.swap zs i j)
+  side_by_side-swap : (xs : List A) (zs : List C) (i j : ℕ) → i < length xs → j < length xs → AllZip R xs zs
+      → AllZip R (lists.swap xs i j) (lists.swap zs i j)
   side_by_side-swap [] zs i j e d g = absurd (omega arith)
   side_by_side-swap (x ∷ xs) [] i j e d g = absurd g
   side_by_side-swap (x ∷ xs) (z ∷ zs) i j e d g =
       side_by_side-set (set (x ∷ xs) i (get_or (x ∷ xs) j x)) (set (z ∷ zs) i (get_or (z ∷ zs) j z)) j _ _
-      (side_by_side-set (x ∷ xs) (z ∷ zs) i _ _ g (side_by_side_at (x ∷ xs) (z ∷ zs) j x z g d)) (side_by_side_at (x ∷ xs) (z ∷ zs) i x z g e)
+      (side_by_side-set (x ∷ xs) (z ∷ zs) i _ _ g (side_by_side_at (x ∷ xs) (z ∷ zs) j x z g d))
+      (side_by_side_at (x ∷ xs) (z ∷ zs) i x z g e)
 
-  -- where the first kind is put in another order, so can the second be
+  -- If the first list is reordered, the second one can be reordered in the same way.
   pub reordered : (xs others : List A) (ys : List C) → IsPermutation xs others → AllZip R xs ys → Reordered ys others
   reordered xs others ys order h =
       IsPermutation-keeps xs (Reordered ys) (ys, IsPermutation-refl ys, h) (λ l i j hi hj kept.
       let same = AllZip-long R l kept.0 kept.2 in (
         lists.swap kept.0 i j,
-        IsPermutation-trans ys kept.0 (lists.swap kept.0 i j) kept.1 (IsPermutation-swap kept.0 (lists.swap kept.0 i j) i j (omega arith) (omega arith) refl),
+        IsPermutation-trans ys kept.0 (lists.swap kept.0 i j) kept.1
+            (IsPermutation-swap kept.0 (lists.swap kept.0 i j) i j (omega arith) (omega arith) refl),
         side_by_side-swap l kept.0 i j hi hj kept.2,
       ))
       others order
 
--- Rows and columns of a table of costs, and prices for both.
+-- Rows and columns of a table of costs, with prices for both.
 module _ {A B : Type 0} (cost : A → B → ℕ) where
-  -- what the rows cost at the columns beside them
+  -- the cost of an assignment: each row at the column beside it
   abbrev pub pairing_cost : List A → List (B × ℤ) → ℕ
   pairing_cost rows ws = lists.sum_by (λ (pair : A × (B × ℤ)). cost pair.0 pair.1.0) (zip rows ws)
 
-  -- a row's price and a column's are together at most the cost where they meet
+  -- The prices of a row and a column are together at most the cost where they meet.
   abbrev pub FitTogether : A → ℤ → B × ℤ → Type 0
   FitTogether row price w = (price +ℤ w.1) ≤ℤ pos (cost row w.0)
 
@@ -95,25 +105,30 @@ module _ {A B : Type 0} (cost : A → B → ℕ) where
     without_first row rows price prices w ws fit = λ i lt.
         All-tail (FitTogether (get_or rows i a) (get_or prices i (pos 0))) w ws (fit (suc i) (omega arith))
 
-    pub fitting_prices : (rows : List A) (prices : List ℤ) (ws : List (B × ℤ)) → length rows ≡ length ws → length rows ≡ length prices
+    pub fitting_prices : (rows : List A) (prices : List ℤ) (ws : List (B × ℤ)) → length rows ≡ length ws
+        → length rows ≡ length prices
         → FitAll rows prices ws → (sum_of prices +ℤ prices_with ws) ≤ℤ pos (pairing_cost rows ws)
     fitting_prices [] [] [] e d fit = omega (arith, ints)
     fitting_prices (row ∷ rows) (price ∷ prices) (w ∷ ws) e d fit =
         let here = All-head (FitTogether row price) w ws (fit zero (omega arith)) in
-        let rest = fitting_prices rows prices ws (omega arith) (omega arith) (without_first row rows price prices w ws fit) in
+        let rest =
+        fitting_prices rows prices ws (omega arith) (omega arith) (without_first row rows price prices w ws fit) in
         omega (arith, ints, sum_by-cons (λ (pair : A × (B × ℤ)). cost pair.0 pair.1.0) (row, w) (zip rows ws))
     fitting_prices rows prices ws e d fit = absurd (omega arith)
 
-    -- where fitting prices add up to what the pairing costs, they are so in each row
-    pub tight_at : (rows : List A) (prices : List ℤ) (ws : List (B × ℤ)) (i : ℕ) (w : B × ℤ) → length rows ≡ length ws → length rows ≡ length prices
+    -- If fitting prices add up to the cost of an assignment, they are tight in each row.
+    pub tight_at : (rows : List A) (prices : List ℤ) (ws : List (B × ℤ)) (i : ℕ) (w : B × ℤ) → length rows ≡ length ws
+        → length rows ≡ length prices
         → FitAll rows prices ws → pos (pairing_cost rows ws) ≤ℤ (sum_of prices +ℤ prices_with ws) → i < length rows
         → (get_or prices i (pos 0) +ℤ (get_or ws i w).1) ≡ pos (cost (get_or rows i a) (get_or ws i w).0)
     tight_at (row ∷ rows) (price ∷ prices) (v ∷ ws) zero w e d fit enough lt =
         let here = All-head (FitTogether row price) v ws (fit zero (omega arith)) in
-        let rest = fitting_prices rows prices ws (omega arith) (omega arith) (without_first row rows price prices v ws fit) in
+        let rest =
+        fitting_prices rows prices ws (omega arith) (omega arith) (without_first row rows price prices v ws fit) in
         omega (arith, ints, sum_by-cons (λ (pair : A × (B × ℤ)). cost pair.0 pair.1.0) (row, v) (zip rows ws))
     tight_at (row ∷ rows) (price ∷ prices) (v ∷ ws) (suc i) w e d fit enough lt =
         let here = All-head (FitTogether row price) v ws (fit zero (omega arith)) in
         tight_at rows prices ws i w (omega arith) (omega arith) (without_first row rows price prices v ws fit)
-        (omega (arith, ints, sum_by-cons (λ (pair : A × (B × ℤ)). cost pair.0 pair.1.0) (row, v) (zip rows ws))) (omega arith)
+        (omega (arith, ints, sum_by-cons (λ (pair : A × (B × ℤ)). cost pair.0 pair.1.0) (row, v) (zip rows ws)))
+        (omega arith)
     tight_at rows prices ws i w e d fit enough lt = absurd (omega arith)

@@ -1,6 +1,24 @@
--- What a pairing of cables with pairs, or of bars with rows, costs falls by at most one with each setting that changes a
--- cable or a bar. Another one puts at most one loose thing right.
-use Rattle.kd_card.proofs.Prelude.{count_by-cons, six_lists, ◌≡◌, ℕ, suc, ◌+◌, ◌-◌, ◌≤◌, nat_eq, min, Bool, false, inl, inr, List, [], ◌∷◌, get_or, set, map, fold, count_by, Option, None, unwrap_or, ℤ, sym, ◌∙◌, subst, arith, length, Place, alphabet, RotorParts, Parts, Rotor, Pin, Setting, Pull, Put, LugTo, cable_letters, plugged_letters, IsLegal, has_letter, reasons, why_refused, cable_at, cable_without, cable_with, with_lug, changed, Leads, differ, unless_same, column_letters, cable_cost, lugs_moved, bar_cost, All-set, length-set, numbered, common_steps, All, no_reason, still_before, IsPermutation, refl, true, ◌||◌, ◌⊎◌, not-false, Contains-permutation, IsPermutation-sym, IsDistinct-IsPermutation, IsDistinct-cons, IsDistinct-tail, get_or_from_slice_get, IsDistinct, eqb_flips, free_tells, set_moves, with_moves, without_moves, tests_tell_letters, stands, PinParts, Stands, with_lug_at, ◌≢◌, zero, not, cond, zip, sum, AllPairs, Some, slice_get, ap, AllByRecursion, sum_by, option_map_or, bytes_eq, cases_eq, eq-eqb, recursion_from_All, map-id, sum-map, sum_by-cons, unwrap_or-slice_get, bytes_eq-Decides, Model, wheel_text, reflector_text, Seat, SeatReflector, RingTo, Turn, PinTo, same_wheel, same_reflector, place_in_box, model_of, ring_at, letter_at, seated_in, without, with_letter, RotorDay, PinDay, Day, OfRotors, OfPins, IsLegalDay, day_model, ReadsAs, loose_slots, loose_reflector, loose_rings, loose_letters, loose_pins, loose_pin_letters, loose_count, is_priced, set_other, days_wheels_have_their_places, is_none}
+-- The cost of an assignment falls by at most one with each setting that changes a cable or a bar. Any other
+-- setting puts at most one loose thing right.
+use Rattle.kd_card.proofs.Prelude.{count_by-cons, six_lists, ◌≡◌, ℕ, suc, ◌+◌, ◌-◌, ◌≤◌, nat_eq, min, Bool, false, inl}
+use Rattle.kd_card.proofs.Prelude.{inr, List, [], ◌∷◌, get_or, set, map, fold, count_by, Option, None, unwrap_or, ℤ}
+use Rattle.kd_card.proofs.Prelude.{sym, ◌∙◌, subst, arith, length, Place, alphabet, RotorParts, Parts, Rotor, Pin}
+use Rattle.kd_card.proofs.Prelude.{Setting, Pull, Put, LugTo, cable_letters, plugged_letters, IsLegal, has_letter}
+use Rattle.kd_card.proofs.Prelude.{reasons, why_refused, cable_at, cable_without, cable_with, with_lug, changed, Leads}
+use Rattle.kd_card.proofs.Prelude.{differ, unless_same, column_letters, cable_cost, lugs_moved, bar_cost, All-set}
+use Rattle.kd_card.proofs.Prelude.{length-set, numbered, common_steps, All, no_reason, still_before, IsPermutation}
+use Rattle.kd_card.proofs.Prelude.{refl, true, ◌||◌, ◌⊎◌, not-false, Contains-permutation, IsPermutation-sym}
+use Rattle.kd_card.proofs.Prelude.{IsDistinct-IsPermutation, IsDistinct-cons, IsDistinct-tail, get_or_from_slice_get}
+use Rattle.kd_card.proofs.Prelude.{IsDistinct, eqb_flips, free_tells, set_moves, with_moves, without_moves}
+use Rattle.kd_card.proofs.Prelude.{tests_tell_letters, stands, PinParts, Stands, with_lug_at, ◌≢◌, zero, not, cond, zip}
+use Rattle.kd_card.proofs.Prelude.{sum, AllPairs, Some, slice_get, ap, AllByRecursion, sum_by, option_map_or, bytes_eq}
+use Rattle.kd_card.proofs.Prelude.{cases_eq, eq-eqb, recursion_from_All, map-id, sum-map, sum_by-cons}
+use Rattle.kd_card.proofs.Prelude.{unwrap_or-slice_get, bytes_eq-Decides, Model, wheel_text, reflector_text, Seat}
+use Rattle.kd_card.proofs.Prelude.{SeatReflector, RingTo, Turn, PinTo, same_wheel, same_reflector, place_in_box}
+use Rattle.kd_card.proofs.Prelude.{model_of, ring_at, letter_at, seated_in, without, with_letter, RotorDay, PinDay, Day}
+use Rattle.kd_card.proofs.Prelude.{OfRotors, OfPins, IsLegalDay, day_model, ReadsAs, loose_slots, loose_reflector}
+use Rattle.kd_card.proofs.Prelude.{loose_rings, loose_letters, loose_pins, loose_pin_letters, loose_count, is_priced}
+use Rattle.kd_card.proofs.Prelude.{set_other, days_wheels_have_their_places, is_none}
 use Rattle.kd_state.specs.{Costs.standings_as, declared.sheet_day.rotor_entry.SheetWheel.SheetWheel}
 use Rattle.kd_state.specs.{Pins.wheel_pins, Pins.with_pin}
 use Rattle.kd_tables.specs.{declared.lug.Lug.Lug, declared.wheel.Wheel.Wheel, Rings.ring_of, Rings.place_on}
@@ -13,7 +31,7 @@ not_differing b = grind arith
 pub one_less : (place : ℕ) → suc place - 1 ≡ place
 one_less place = omega arith
 
--- What holds of a machine's cables, or bars, and is kept by every setting.
+-- What holds for the cables or bars of a machine, and is kept by every setting.
 pub record HasCables (cables : List (Option ℕ × Option ℕ)) : Type 0 where
   pub count : length cables ≡ 13
   pub apart : IsDistinct nat_eq (plugged_letters cables)
@@ -24,7 +42,7 @@ pub record HasBars (bars : List (Place × Place)) : Type 0 where
 
 -- ---- a letter is pulled out of a cable, or put into one
 
--- the letters are the same, one letter apart
+-- The two lists have the same letters, except for one letter.
 abbrev pub SameBut : ℕ → List ℕ → List ℕ → Type 0
 SameBut x letters others =
     (letter : ℕ) → (has_letter letters letter ≡ has_letter others letter) ⊎ (nat_eq x letter ≡ true)
@@ -42,7 +60,7 @@ one_apart x fewer letters order letter =
     in
     in_front (nat_eq x letter) (has_letter letters letter) (has_letter fewer letter) (same letter)
 
--- this is made of the cable of that number, as the letter is pulled or put
+-- `new` is cable number `cable` after the letter was pulled out or put in.
 pub record ChangesCable (m : RotorParts) (cable letter : ℕ) (new : Option ℕ × Option ℕ) : Type 0 where
   pub here : get_or m.cables (cable - 1) (cable_at m cable) ≡ cable_at m cable
   pub same : SameBut letter (cable_letters (cable_at m cable)) (cable_letters new)
@@ -88,7 +106,8 @@ puts m cable letter e =
 
 counted_apart : (letters others wanted : List ℕ) (x : ℕ) → SameBut x letters others → (alphabet : List ℕ)
     → count_by (λ letter. differ (has_letter letters letter) (has_letter wanted letter)) alphabet
-    ≤ count_by (λ letter. differ (has_letter others letter) (has_letter wanted letter)) alphabet + count_by (nat_eq x) alphabet
+    ≤ count_by (λ letter. differ (has_letter others letter) (has_letter wanted letter)) alphabet
+    + count_by (nat_eq x) alphabet
 counted_apart letters others wanted x same [] = omega arith
 counted_apart letters others wanted x same (letter ∷ alphabet) =
     grind (arith, common_steps, count_by-cons, counted_apart letters others wanted x same alphabet, same, at_most_one)
@@ -107,10 +126,12 @@ cables_fall m cable letter new ws c =
 pub unless_same_at_most : (b : Bool) → unless_same b ≤ 1
 unless_same_at_most b = grind arith
 
-lugs_moved_step : (lug : Lug) (place : Place) (standing other : Place × Place) → lugs_moved standing other ≤ lugs_moved (with_lug lug place standing) other + 1
+lugs_moved_step : (lug : Lug) (place : Place) (standing other : Place × Place)
+    → lugs_moved standing other ≤ lugs_moved (with_lug lug place standing) other + 1
 lugs_moved_step lug place standing other = grind (arith, unless_same_at_most)
 
-least_falls : {X : Type 0} (f g : X → ℕ) → ((x : X) → f x ≤ g x + 1) → (xs : List X) (a b : ℕ) → a ≤ b + 1 → fold min a (map f xs) ≤ fold min b (map g xs) + 1
+least_falls : {X : Type 0} (f g : X → ℕ) → ((x : X) → f x ≤ g x + 1) → (xs : List X) (a b : ℕ) → a ≤ b + 1
+    → fold min a (map f xs) ≤ fold min b (map g xs) + 1
 least_falls f g h [] a b start = start
 least_falls f g h (x ∷ xs) a b start = least_falls f g h xs (min a (f x)) (min b (g x)) (omega (arith, h x))
 
@@ -156,14 +177,17 @@ setting_keeps m x e h = h
 
 pub list_keeps : (m n : Parts) (xs : List Setting) → Leads m xs n → HasAll m → HasAll n
 list_keeps m n [] leads h = subst HasAll (sym leads) h
-list_keeps m n (x ∷ xs) leads h = list_keeps leads.0 n xs leads.2 (subst HasAll (sym leads.1.made) (setting_keeps m x leads.1.allowed h))
+list_keeps m n (x ∷ xs) leads h =
+    list_keeps leads.0 n xs leads.2 (subst HasAll (sym leads.1.made) (setting_keeps m x leads.1.allowed h))
 
 -- ---- loose things
 
-zip_set_lowers : {X Y : Type 0} (p : X × Y → Bool) (xs : List X) (ys : List Y) (i : ℕ) (v : X) → count_by p (zip xs ys) ≤ count_by p (zip (set xs i v) ys) + 1
-zip_set_lowers p xs ys i v = zip_set (λ z. cond (p z) 1 0) xs ys i v v (λ y. omega (arith, at_most_one (p (get_or xs i v, y))))
+zip_set_lowers : {X Y : Type 0} (p : X × Y → Bool) (xs : List X) (ys : List Y) (i : ℕ) (v : X)
+    → count_by p (zip xs ys) ≤ count_by p (zip (set xs i v) ys) + 1
+zip_set_lowers p xs ys i v =
+    zip_set (λ z. cond (p z) 1 0) xs ys i v v (λ y. omega (arith, at_most_one (p (get_or xs i v, y))))
 
--- Letters of which one is set: of things at different places at most one is right then that was not.
+-- Setting one letter puts at most one thing right, if the things are at different places.
 module _ {X : Type 0} (place target : X → ℕ) where
   abbrev wrong : List ℕ → X → Bool
   wrong letters x = not (option_map_or (nat_eq (target x)) (slice_get letters (place x)) false)
@@ -172,141 +196,187 @@ module _ {X : Type 0} (place target : X → ℕ) where
   same_elsewhere letters p l x away =
       ap (λ seen. not (option_map_or (nat_eq (target x)) seen false)) (set_other letters p (place x) l away)
 
-  other_places : (letters : List ℕ) (p l : ℕ) (xs : List X) → AllByRecursion (λ y. place y ≢ p) xs → count_by (wrong (set letters p l)) xs ≡ count_by (wrong letters) xs
+  other_places : (letters : List ℕ) (p l : ℕ) (xs : List X) → AllByRecursion (λ y. place y ≢ p) xs
+      → count_by (wrong (set letters p l)) xs ≡ count_by (wrong letters) xs
   other_places letters p l [] h = refl
   other_places letters p l (x ∷ xs) h =
       grind (arith, common_steps, same_elsewhere, count_by-cons, other_places letters p l xs h.1)
 
-  set_lowers : (letters : List ℕ) (p l : ℕ) (xs : List X) → AllPairs (λ x y. place x ≢ place y) xs → count_by (wrong letters) xs ≤ count_by (wrong (set letters p l)) xs + 1
+  set_lowers : (letters : List ℕ) (p l : ℕ) (xs : List X) → AllPairs (λ x y. place x ≢ place y) xs
+      → count_by (wrong letters) xs ≤ count_by (wrong (set letters p l)) xs + 1
   set_lowers letters p l [] h = omega arith
   set_lowers letters p l (x ∷ xs) h =
       let now = count_by-cons (wrong letters) x xs in
       let later = count_by-cons (wrong (set letters p l)) x xs in
       elim (cases_eq (place x) p) [
         | inl here ↦
-            let others = recursion_from_All (λ y. place y ≢ place x) xs (λ k d lt same. h zero (suc k) d (omega arith) (omega arith) (sym same)) in
+            let others = recursion_from_All (λ y. place y ≢ place x) xs
+            (λ k d lt same. h zero (suc k) d (omega arith) (omega arith) (sym same)) in
             let rest = other_places letters p l xs (subst (λ q. AllByRecursion (λ y. place y ≢ q) xs) here others) in
             omega (arith, at_most_one (wrong letters x), rest)
         | inr away ↦
             let head = ap (λ b. cond {A = ℕ} b 1 0) (same_elsewhere letters p l x away) in
-            omega (arith, now, later, head, set_lowers letters p l xs (λ i j d before within. h (suc i) (suc j) d (omega arith) (omega arith)))
+            omega (
+              arith,
+              now,
+              later,
+              head,
+              set_lowers letters p l xs (λ i j d before within. h (suc i) (suc j) d (omega arith) (omega arith)),
+            )
       ]
 
--- a slot that becomes empty is not right
+-- Emptying a slot doesn't put it right.
 abbrev wrong_slot : Option Wheel × SheetWheel → Bool
 wrong_slot slot = not (option_map_or (same_wheel slot.1.wheel) slot.0 false)
 
-empty_wrong : (seated : Option Wheel) (wheel : Wheel) (wanted : SheetWheel) → cond {A = ℕ} (wrong_slot (seated, wanted)) 1 0 ≤ cond {A = ℕ} (wrong_slot (without wheel seated, wanted)) 1 0
+empty_wrong : (seated : Option Wheel) (wheel : Wheel) (wanted : SheetWheel)
+    → cond {A = ℕ} (wrong_slot (seated, wanted)) 1 0 ≤ cond {A = ℕ} (wrong_slot (without wheel seated, wanted)) 1 0
 empty_wrong seated wheel wanted = grind (arith, at_most_one)
 
-without_raises : (wheel : Wheel) (slots : List (Option Wheel)) (wheels : List SheetWheel) → count_by wrong_slot (zip slots wheels) ≤ count_by wrong_slot (zip (map (without wheel) slots) wheels)
+without_raises : (wheel : Wheel) (slots : List (Option Wheel)) (wheels : List SheetWheel)
+    → count_by wrong_slot (zip slots wheels) ≤ count_by wrong_slot (zip (map (without wheel) slots) wheels)
 without_raises wheel [] wheels = omega arith
 without_raises wheel (now ∷ slots) [] = omega arith
 without_raises wheel (now ∷ slots) (wanted ∷ wheels) =
     grind (arith, common_steps, count_by-cons, empty_wrong, without_raises wheel slots wheels)
 
--- no two of these wheels have one place in the box
+-- No two of the day's wheels have one place in the box.
 abbrev pub HaveTheirPlaces : Model → List SheetWheel → Type 0
-HaveTheirPlaces model wheels = AllPairs (λ (w other : SheetWheel). place_in_box model w.wheel ≢ place_in_box model other.wheel) wheels
+HaveTheirPlaces model wheels =
+    AllPairs (λ (w other : SheetWheel). place_in_box model w.wheel ≢ place_in_box model other.wheel) wheels
 
--- What is still to be done: things to put right, and what it costs to make of the cables these columns, or of the bars these rows.
+-- what is left to do: loose things, and the cost of turning the cables into these columns or the bars into
+-- these rows
 abbrev pub left : List (Option (ℕ × ℕ) × ℤ) → List ((ℕ × ℕ) × ℤ) → Parts → Day → ℕ
 left columns rows (Rotor m) (OfRotors s) = loose_count (Rotor m) (OfRotors s) + pairing_cost cable_cost m.cables columns
 left columns rows (Pin m) (OfPins s) = loose_count (Pin m) (OfPins s) + pairing_cost bar_cost m.bars rows
 left columns rows m s = 0
 
--- each setting does one of these things at most
-module _ (columns : List (Option (ℕ × ℕ) × ℤ)) (rows : List ((ℕ × ℕ) × ℤ)) (m : RotorParts) (s : RotorDay) (apart : HaveTheirPlaces m.model s.wheels) where
+-- Each setting leaves at most one less to do.
+module _ (columns : List (Option (ℕ × ℕ) × ℤ)) (rows : List ((ℕ × ℕ) × ℤ)) (m : RotorParts) (s : RotorDay)
+    (apart : HaveTheirPlaces m.model s.wheels) where
   abbrev place : SheetWheel → ℕ
   place w = place_in_box m.model w.wheel
 
-  turned_lowers : (seated : Option Wheel) (letter : ℕ) → loose_count (Rotor m) (OfRotors s) ≤ loose_count (Rotor (record m { letters = with_letter m seated letter })) (OfRotors s) + 1
+  turned_lowers : (seated : Option Wheel) (letter : ℕ)
+      → loose_count (Rotor m) (OfRotors s)
+      ≤ loose_count (Rotor (record m { letters = with_letter m seated letter })) (OfRotors s) + 1
   turned_lowers None letter = omega arith
-  turned_lowers (Some wheel) letter = omega (arith, set_lowers place (λ (w : SheetWheel). w.letter) m.letters (place_in_box m.model wheel) letter s.wheels apart)
+  turned_lowers (Some wheel) letter =
+      omega (
+        arith,
+        set_lowers place (λ (w : SheetWheel). w.letter) m.letters (place_in_box m.model wheel) letter s.wheels apart,
+      )
 
   rotor_lowers : (x : Setting) → why_refused (Rotor m) x ≡ None
       → left columns rows (Rotor m) (OfRotors s) ≤ left columns rows (changed (Rotor m) x) (OfRotors s) + 1
   rotor_lowers (Pull cable letter) e = omega (arith, cables_fall m cable letter _ columns (pulls m cable letter e))
   rotor_lowers (Put cable letter) e = omega (arith, cables_fall m cable letter _ columns (puts m cable letter e))
   rotor_lowers (Seat slot wheel) e =
-      omega (arith, without_raises wheel m.slots s.wheels, zip_set_lowers wrong_slot (map (without wheel) m.slots) s.wheels (slot - 1) (Some wheel))
+      omega (
+        arith,
+        without_raises wheel m.slots s.wheels,
+        zip_set_lowers wrong_slot (map (without wheel) m.slots) s.wheels (slot - 1) (Some wheel),
+      )
   rotor_lowers (SeatReflector reflector) e = omega (arith, unless_same_at_most (same_reflector m.reflector s.reflector))
-  rotor_lowers (RingTo wheel letter) e = omega (arith, set_lowers place (λ (w : SheetWheel). w.ring) m.rings (place_in_box m.model wheel) letter s.wheels apart)
+  rotor_lowers (RingTo wheel letter) e =
+      omega (
+        arith,
+        set_lowers place (λ (w : SheetWheel). w.ring) m.rings (place_in_box m.model wheel) letter s.wheels apart,
+      )
   rotor_lowers (Turn slot letter) e = omega (arith, turned_lowers (seated_in m slot) letter)
   rotor_lowers x e = omega arith
 
--- a pin is set
+-- PIN, which sets one pin.
 abbrev differing : List Bool × List Bool → ℕ
 differing wheel = count_by (λ (pin : Bool × Bool). differ pin.0 pin.1) (zip wheel.0 wheel.1)
 
-wheel_set_lowers : (xss yss : List (List Bool)) (i p : ℕ) (effective : Bool) → sum (map differing (zip xss yss)) ≤ sum (map differing (zip (set xss i (set (get_or xss i []) p effective)) yss)) + 1
+wheel_set_lowers : (xss yss : List (List Bool)) (i p : ℕ) (effective : Bool)
+    → sum (map differing (zip xss yss))
+    ≤ sum (map differing (zip (set xss i (set (get_or xss i []) p effective)) yss)) + 1
 wheel_set_lowers xss yss i p effective =
     let was = get_or xss i [] in
     let differs = λ (pin : Bool × Bool). differ pin.0 pin.1 in
     simp sum-map
     (zip_set differing xss yss i (set was p effective) [] (λ ys. zip_set_lowers differs was ys p effective))
 
-pin_lowers : (m : PinParts) (s : PinDay) (wheel letter : ℕ) (effective : Bool) → why_refused (Pin m) (PinTo wheel letter effective) ≡ None
+pin_lowers : (m : PinParts) (s : PinDay) (wheel letter : ℕ) (effective : Bool)
+    → why_refused (Pin m) (PinTo wheel letter effective) ≡ None
     → loose_pins m s ≤ loose_pins (record m { pins = with_pin m.pins wheel letter effective }) s + 1
 unfolding ring_of
 pin_lowers m s zero letter effective e = cc
 pin_lowers m s (suc wheel) letter effective e =
     let place = unwrap_or (place_on (ring_of (suc wheel)) letter) 0 in
     let new = set (wheel_pins m.pins (suc wheel)) place effective in
-    let all : pins_of (with_pin m.pins (suc wheel) letter effective) ≡ set (pins_of m.pins) wheel (set (get_or (pins_of m.pins) wheel []) place effective)
+    let all : pins_of (with_pin m.pins (suc wheel) letter effective)
+    ≡ set (pins_of m.pins) wheel (set (get_or (pins_of m.pins) wheel []) place effective)
     = six_lists m.pins (suc wheel - 1) new ∙ ap (λ i. set (pins_of m.pins) i new) (one_less wheel)
-    ∙ ap (λ pins. set (pins_of m.pins) wheel (set pins place effective)) (unwrap_or-slice_get (pins_of m.pins) wheel []) in
-    subst (λ pins. loose_pins m s ≤ sum (map differing (zip pins (pins_of s.pins))) + 1) (sym all) (wheel_set_lowers (pins_of m.pins) (pins_of s.pins) wheel place effective)
+    ∙ ap (λ pins. set (pins_of m.pins) wheel (set pins place effective))
+    (unwrap_or-slice_get (pins_of m.pins) wheel []) in
+    subst (λ pins. loose_pins m s ≤ sum (map differing (zip pins (pins_of s.pins))) + 1) (sym all)
+    (wheel_set_lowers (pins_of m.pins) (pins_of s.pins) wheel place effective)
 
-pin_machine_lowers : (columns : List (Option (ℕ × ℕ) × ℤ)) (rows : List ((ℕ × ℕ) × ℤ)) (m : PinParts) (s : PinDay) (x : Setting) → why_refused (Pin m) x ≡ None
+pin_machine_lowers : (columns : List (Option (ℕ × ℕ) × ℤ)) (rows : List ((ℕ × ℕ) × ℤ)) (m : PinParts) (s : PinDay)
+    (x : Setting) → why_refused (Pin m) x ≡ None
     → left columns rows (Pin m) (OfPins s) ≤ left columns rows (changed (Pin m) x) (OfPins s) + 1
 pin_machine_lowers columns rows m s (LugTo bar lug place) e = omega (arith, (lug_moves m rows bar lug place e).0)
 pin_machine_lowers columns rows m s x e = grind (arith, zip_set_lowers, pin_lowers)
 
--- whatever the setting and the machine
-pub lowers : (columns : List (Option (ℕ × ℕ) × ℤ)) (rows : List ((ℕ × ℕ) × ℤ)) (m : Parts) (s : Day) (x : Setting) → IsLegalDay s
+-- The same for any machine and any setting.
+pub lowers : (columns : List (Option (ℕ × ℕ) × ℤ)) (rows : List ((ℕ × ℕ) × ℤ)) (m : Parts) (s : Day) (x : Setting)
+    → IsLegalDay s
     → model_of m ≡ day_model s → why_refused m x ≡ None → left columns rows m s ≤ left columns rows (changed m x) s + 1
 lowers columns rows (Rotor m) (OfRotors s) x h same e =
-    rotor_lowers columns rows m s (subst (λ model. HaveTheirPlaces model s.wheels) (sym same) (days_wheels_have_their_places s.model s.wheels h.wheels)) x e
+    rotor_lowers columns rows m s (subst (λ model. HaveTheirPlaces model s.wheels) (sym same)
+    (days_wheels_have_their_places s.model s.wheels h.wheels)) x e
 lowers columns rows (Pin m) (OfPins s) x h same e = pin_machine_lowers columns rows m s x e
 lowers columns rows m s x h same e = omega arith
 
--- no setting makes another model of a machine, and those of cables and bars leave what is loose
+-- No setting changes the model. A setting that changes a cable or a bar leaves the number of loose things.
 pub model_of-changed : (m : Parts) (x : Setting) → model_of (changed m x) ≡ model_of m
 model_of-changed m x = grind arith
 
 pub leaves : (m : Parts) (s : Day) (x : Setting) → is_priced x ≡ true → loose_count (changed m x) s ≡ loose_count m s
 leaves m s x e = grind arith
 
--- a machine that reads as the day has nothing loose
+-- A machine that reads as the day has no loose things.
 itself : (name : List ℕ) → bytes_eq name name ≡ true
 itself name = (bytes_eq-Decides name name).1 refl
 
-zip_none : {X Y : Type 0} (f : Y × X → ℕ) (seen : X → Y) → ((x : X) → f (seen x, x) ≡ 0) → (xs : List X) → sum_by f (zip (map seen xs) xs) ≡ 0
+zip_none : {X Y : Type 0} (f : Y × X → ℕ) (seen : X → Y) → ((x : X) → f (seen x, x) ≡ 0) → (xs : List X)
+    → sum_by f (zip (map seen xs) xs) ≡ 0
 zip_none f seen h [] = refl
 zip_none f seen h (x ∷ xs) = sum_by-cons f (seen x, x) (zip (map seen xs) xs) ∙ rw (h x, zip_none f seen h xs) refl
 
 self_none : {X : Type 0} (f : X × X → ℕ) → ((x : X) → f (x, x) ≡ 0) → (xs : List X) → sum_by f (zip xs xs) ≡ 0
 self_none f h xs = subst (λ ys. sum_by f (zip ys xs) ≡ 0) (map-id xs) (zip_none f (λ x. x) h xs)
 
-none_wrong : (seen : SheetWheel → Option ℕ) (wanted : SheetWheel → ℕ) (wheels : List SheetWheel) → AllByRecursion (λ w. seen w ≡ Some (wanted w)) wheels
+none_wrong : (seen : SheetWheel → Option ℕ) (wanted : SheetWheel → ℕ) (wheels : List SheetWheel)
+    → AllByRecursion (λ w. seen w ≡ Some (wanted w)) wheels
     → count_by (λ w. not (option_map_or (nat_eq (wanted w)) (seen w) false)) wheels ≡ 0
 none_wrong seen wanted [] h = refl
 none_wrong seen wanted (w ∷ wheels) h =
     count_by-cons (λ w. not (option_map_or (nat_eq (wanted w)) (seen w) false)) w wheels
     ∙ rw (h.0, eq-eqb (wanted w) (wanted w) refl, none_wrong seen wanted wheels h.1) refl
 
-rotor_not_loose : (n : RotorParts) (s : RotorDay) → ReadsAs (Rotor n) (OfRotors s) → loose_count (Rotor n) (OfRotors s) ≡ 0
+rotor_not_loose : (n : RotorParts) (s : RotorDay) → ReadsAs (Rotor n) (OfRotors s)
+    → loose_count (Rotor n) (OfRotors s) ≡ 0
 rotor_not_loose n s h =
     let slots : loose_slots n s ≡ 0 = ap (λ slots. count_by wrong_slot (zip slots s.wheels)) h.key.slots
-    ∙ zip_none (λ slot. cond (wrong_slot slot) 1 0) (λ w. Some w.wheel) (λ w. ap (λ b. cond (not b) 1 0) (itself (wheel_text w.wheel))) s.wheels in
-    let reflector : loose_reflector n s ≡ 0 = ap (λ reflector. unless_same (same_reflector reflector s.reflector)) h.key.reflector ∙ ap unless_same (itself (reflector_text s.reflector)) in
-    let rings : loose_rings n s ≡ 0 = none_wrong (λ w. ring_at n w.wheel) (λ w. w.ring) s.wheels (recursion_from_All (λ (w : SheetWheel). ring_at n w.wheel ≡ Some w.ring) s.wheels h.key.rings) in
-    let letters : loose_letters n s ≡ 0 = none_wrong (λ w. letter_at n w.wheel) (λ w. w.letter) s.wheels (recursion_from_All (λ (w : SheetWheel). letter_at n w.wheel ≡ Some w.letter) s.wheels h.window) in
+    ∙ zip_none (λ slot. cond (wrong_slot slot) 1 0) (λ w. Some w.wheel)
+    (λ w. ap (λ b. cond (not b) 1 0) (itself (wheel_text w.wheel))) s.wheels in
+    let reflector : loose_reflector n s ≡ 0 =
+    ap (λ reflector. unless_same (same_reflector reflector s.reflector)) h.key.reflector
+    ∙ ap unless_same (itself (reflector_text s.reflector)) in
+    let rings : loose_rings n s ≡ 0 = none_wrong (λ w. ring_at n w.wheel) (λ w. w.ring) s.wheels
+    (recursion_from_All (λ (w : SheetWheel). ring_at n w.wheel ≡ Some w.ring) s.wheels h.key.rings) in
+    let letters : loose_letters n s ≡ 0 = none_wrong (λ w. letter_at n w.wheel) (λ w. w.letter) s.wheels
+    (recursion_from_All (λ (w : SheetWheel). letter_at n w.wheel ≡ Some w.letter) s.wheels h.window) in
     omega (arith, slots, reflector, rings, letters)
 
 no_pin_wrong : (pins : List Bool) → differing (pins, pins) ≡ 0
-no_pin_wrong pins = self_none (λ (pin : Bool × Bool). cond (differ pin.0 pin.1) 1 0) (λ b. ap (λ d. cond d 1 0) (not_differing b)) pins
+no_pin_wrong pins =
+    self_none (λ (pin : Bool × Bool). cond (differ pin.0 pin.1) 1 0) (λ b. ap (λ d. cond d 1 0) (not_differing b)) pins
 
 pin_not_loose : (n : PinParts) (s : PinDay) → ReadsAs (Pin n) (OfPins s) → loose_count (Pin n) (OfPins s) ≡ 0
 pin_not_loose n s h =
@@ -314,7 +384,8 @@ pin_not_loose n s h =
     ∙ sum-map differing (zip (pins_of s.pins) (pins_of s.pins)) ∙ self_none differing no_pin_wrong (pins_of s.pins) in
     let letters : loose_pin_letters n s ≡ 0 =
     ap (λ letters. count_by (λ (letter : ℕ × ℕ). not (nat_eq letter.0 letter.1)) (zip letters s.window)) h.window
-    ∙ self_none (λ (letter : ℕ × ℕ). cond (not (nat_eq letter.0 letter.1)) 1 0) (λ l. ap (λ b. cond (not b) 1 0) (eq-eqb l l refl)) s.window in
+    ∙ self_none (λ (letter : ℕ × ℕ). cond (not (nat_eq letter.0 letter.1)) 1 0)
+    (λ l. ap (λ b. cond (not b) 1 0) (eq-eqb l l refl)) s.window in
     omega (arith, pins, letters)
 
 pub nothing_loose : (n : Parts) (s : Day) → ReadsAs n s → loose_count n s ≡ 0

@@ -1,5 +1,15 @@
--- Kinds: the prices of their things, one for each, and kinds that are read one after another.
-use Rattle.kd_card.proofs.Prelude.{◌≡◌, ◌↔◌, ℕ, ◌+◌, ◌≤◌, List, [], ◌∷◌, length, replicate, refl, sym, ap, ◌∙◌, length-append, arith, unsigned_abs, ◌++◌, map, Option, None, length-replicate, All-append, All-nil, All-replicate, PricedKind, PriceParts, CableKinds, BarKinds, ByKind, look_rank, counted, prices_of_kinds, AreKinds, look_name, kind_words, kinds_text, cable_kind, pair_kind, bar_kind, row_kind, AreCalled, version_of, how_many, row_kinds, column_kinds, row_prices, column_prices, AreWithinReach, ArePrices, flat_map-append, flat_map-map, Place, One, line_of, Look, Cable, Pair, Bar, Row, Name, Group, group_of, row_name, column_name, price_count, lines_text, price_lines, IsGroup, HaveKinds, with_line, rules, common_steps, map-id, ◌<◌, zero, suc, ◌*◌, take, get_or, subst, append_assoc, All, All-cons, IsPricedKind, IsNextKind, BeginsWithKinds, append-nil, HasNoNext}
+-- The prices of kinds: one for each thing, and kinds that are read one after another.
+use Rattle.kd_card.proofs.Prelude.{◌≡◌, ◌↔◌, ℕ, ◌+◌, ◌≤◌, List, [], ◌∷◌, length, replicate, refl, sym, ap, ◌∙◌}
+use Rattle.kd_card.proofs.Prelude.{length-append, arith, unsigned_abs, ◌++◌, map, Option, None, length-replicate}
+use Rattle.kd_card.proofs.Prelude.{All-append, All-nil, All-replicate, PricedKind, PriceParts, CableKinds, BarKinds}
+use Rattle.kd_card.proofs.Prelude.{ByKind, look_rank, counted, prices_of_kinds, AreKinds, look_name, kind_words}
+use Rattle.kd_card.proofs.Prelude.{kinds_text, cable_kind, pair_kind, bar_kind, row_kind, AreCalled, version_of}
+use Rattle.kd_card.proofs.Prelude.{how_many, row_kinds, column_kinds, row_prices, column_prices, AreWithinReach}
+use Rattle.kd_card.proofs.Prelude.{ArePrices, flat_map-append, flat_map-map, Place, One, line_of, Look, Cable, Pair}
+use Rattle.kd_card.proofs.Prelude.{Bar, Row, Name, Group, group_of, row_name, column_name, price_count, lines_text}
+use Rattle.kd_card.proofs.Prelude.{price_lines, IsGroup, HaveKinds, with_line, rules, common_steps, map-id, ◌<◌, zero}
+use Rattle.kd_card.proofs.Prelude.{suc, ◌*◌, take, get_or, subst, append_assoc, All, All-cons, IsPricedKind, IsNextKind}
+use Rattle.kd_card.proofs.Prelude.{BeginsWithKinds, append-nil, HasNoNext}
 use Rattle.{std.proofs.lemmas.Simd.map-map, arrayvec.specs.ArrayVec.ArrayVec}
 use Rattle.kd_card.specs.declared.kinds.{CableKind.CableKind, PairKind.PairKind, BarKind.BarKind, RowKind.RowKind}
 use Rattle.kd_card.proofs.Lines.{line_and_more, is_line}
@@ -11,19 +21,21 @@ length_of_kinds (kind ∷ kinds) =
     let here = length-replicate kind.count kind.price in
     omega (arith, length-append (replicate kind.count kind.price) (prices_of_kinds kinds))
 
-pub reach_of_kinds : (floor : ℕ) (kinds : List PricedKind) → AreKinds floor kinds → AreWithinReach (prices_of_kinds kinds)
+pub reach_of_kinds : (floor : ℕ) (kinds : List PricedKind) → AreKinds floor kinds
+    → AreWithinReach (prices_of_kinds kinds)
 reach_of_kinds floor [] are = All-nil (λ price. unsigned_abs price ≤ 9999)
 reach_of_kinds floor (kind ∷ kinds) are =
     grind (arith, common_steps, All-append, All-replicate, reach_of_kinds (look_rank kind.look + 1) kinds are.2)
 
--- each kind is of one thing at least
+-- There are at most as many kinds as things, because each kind counts at least one.
 pub few_kinds : (floor : ℕ) (kinds : List PricedKind) → AreKinds floor kinds → length kinds ≤ counted kinds
 few_kinds floor [] are = omega arith
 few_kinds floor (kind ∷ kinds) are = omega (arith, few_kinds (look_rank kind.look + 1) kinds are.2)
 
--- prices by kind that may stand on a card
+-- Valid prices by kind have valid kinds and prices.
 pub prices_of : (parts : PriceParts) → version_of parts ≡ ByKind
-    → (row_prices parts ≡ prices_of_kinds (row_kinds parts)) × (column_prices parts ≡ prices_of_kinds (column_kinds parts))
+    → (row_prices parts ≡ prices_of_kinds (row_kinds parts))
+    × (column_prices parts ≡ prices_of_kinds (column_kinds parts))
 prices_of parts e = grind arith
 
 pub are_prices : (parts : PriceParts) → version_of parts ≡ ByKind
@@ -56,7 +68,7 @@ pub text_by_kind : (prices : PriceParts) → version_of prices ≡ ByKind
     → lines_text (price_lines prices) ≡ kinds_text (row_kinds prices) ++ kinds_text (column_kinds prices)
 text_by_kind prices e = grind (arith, flat_map-append, flat_map-map)
 
--- ---- both groups are called as they should be, and of as many things
+-- ---- the kinds of both groups have the right names and count the right numbers of things
 
 all_called : {K : Type 0} (priced : K → PricedKind) (name : Name)
     → ((kind : K) → look_name (priced kind).look ≡ name) → (kinds : List K)
@@ -64,8 +76,10 @@ all_called : {K : Type 0} (priced : K → PricedKind) (name : Name)
 all_called priced name called [] = tt
 all_called priced name called (kind ∷ kinds) = (called kind, all_called priced name called kinds)
 
-group_of_kinds : {K : Type 0} {name : Name} (priced : K → PricedKind) (number : ℕ) (kinds : List K) → ((kind : K) → look_name (priced kind).look ≡ name)
-    → AreKinds 0 (map priced kinds) → length (prices_of_kinds (map priced kinds)) ≡ number → IsGroup name number (map priced kinds)
+group_of_kinds : {K : Type 0} {name : Name} (priced : K → PricedKind) (number : ℕ) (kinds : List K)
+    → ((kind : K) → look_name (priced kind).look ≡ name)
+    → AreKinds 0 (map priced kinds) → length (prices_of_kinds (map priced kinds)) ≡ number
+    → IsGroup name number (map priced kinds)
 group_of_kinds {name} priced number kinds called are count = search (rules, all_called, priced, count, length_of_kinds)
 
 pub both_groups : (prices : PriceParts) → version_of prices ≡ ByKind → ArePrices prices
@@ -75,7 +89,7 @@ both_groups (CableKinds row col) by are = search (rules, group_of_kinds)
 both_groups (BarKinds row col) by are = search (rules, group_of_kinds)
 both_groups prices by are = cc
 
--- ---- kinds tell the prices
+-- ---- equal kinds have equal prices
 
 told : {A B : Type 0} (there : A → B) (back : B → A) → ((x : A) → back (there x) ≡ x) → (a b : ArrayVec A)
     → map there a.items ≡ map there b.items → a ≡ b
@@ -84,28 +98,37 @@ told {A} there back leads a b e =
     let undone : (xs : List A) → map back (map there xs) ≡ xs = λ xs. simp (map-map, leads, map-id) in
     ap make (sym (undone a.items) ∙ ap (map back) e ∙ undone b.items)
 
-pub same_kind_parts : {group : Group} {rows columns : List PricedKind} (prices others : PriceParts) → HaveKinds group rows columns prices
+pub same_kind_parts : {group : Group} {rows columns : List PricedKind} (prices others : PriceParts)
+    → HaveKinds group rows columns prices
     → HaveKinds group rows columns others → prices ≡ others
 same_kind_parts (CableKinds a b) (CableKinds c d) are also =
     let ends = λ (look : Look). elim look as (λ l. Option ℕ × Option ℕ) [ Cable ends ↦ ends | _ ↦ (None, None) ] in
     let pair = λ (look : Look). elim look as (λ l. Option (ℕ × ℕ)) [ Pair pair ↦ pair | _ ↦ None ] in
-    let rows = told cable_kind (λ k. record { ends = ends k.look; count = k.count; price = k.price }) (λ x. refl) a c (are.row_kinds ∙ sym also.row_kinds) in
-    let columns = told pair_kind (λ k. record { pair = pair k.look; count = k.count; price = k.price }) (λ x. refl) b d (are.column_kinds ∙ sym also.column_kinds) in
+    let rows = told cable_kind (λ k. record { ends = ends k.look; count = k.count; price = k.price }) (λ x. refl) a c
+    (are.row_kinds ∙ sym also.row_kinds) in
+    let columns = told pair_kind (λ k. record { pair = pair k.look; count = k.count; price = k.price }) (λ x. refl) b d
+    (are.column_kinds ∙ sym also.column_kinds) in
     cc
 same_kind_parts (BarKinds a b) (BarKinds c d) are also =
     let standing = λ (look : Look). elim look as (λ l. Place × Place) [ Bar standing ↦ standing | _ ↦ (One, One) ] in
     let reading = λ (look : Look). elim look as (λ l. ℕ × ℕ) [ Row reading ↦ reading | _ ↦ (0, 0) ] in
-    let rows = told bar_kind (λ k. record { standing = standing k.look; count = k.count; price = k.price }) (λ x. refl) a c (are.row_kinds ∙ sym also.row_kinds) in
-    let columns = told row_kind (λ k. record { reading = reading k.look; count = k.count; price = k.price }) (λ x. refl) b d (are.column_kinds ∙ sym also.column_kinds) in
+    let rows =
+    told bar_kind (λ k. record { standing = standing k.look; count = k.count; price = k.price }) (λ x. refl) a c
+    (are.row_kinds ∙ sym also.row_kinds) in
+    let columns =
+    told row_kind (λ k. record { reading = reading k.look; count = k.count; price = k.price }) (λ x. refl) b d
+    (are.column_kinds ∙ sym also.column_kinds) in
     cc
 same_kind_parts prices others are also = cc
 
 -- ---- prices of two groups
 
-pub group_fits : {name : Name} {number : ℕ} {kinds : List PricedKind} → IsGroup name number kinds → AreCalled name kinds × (length kinds ≤ number)
+pub group_fits : {name : Name} {number : ℕ} {kinds : List PricedKind} → IsGroup name number kinds
+    → AreCalled name kinds × (length kinds ≤ number)
 group_fits {kinds} group = let count = group.count in (group.called, omega (arith, few_kinds 0 kinds group.in_order))
 
-pub of_two_groups : (group : Group) {rows columns : List PricedKind} (prices : PriceParts) → version_of prices ≡ ByKind → price_count group ≡ how_many prices
+pub of_two_groups : (group : Group) {rows columns : List PricedKind} (prices : PriceParts) → version_of prices ≡ ByKind
+    → price_count group ≡ how_many prices
     → row_kinds prices ≡ rows → column_kinds prices ≡ columns → IsGroup (row_name group) (price_count group) rows
     → IsGroup (column_name group) (price_count group) columns → ArePrices prices
 of_two_groups group prices by many r c x y =
@@ -133,15 +156,17 @@ counted-append (first ∷ kinds) more = omega (arith, counted-append kinds more)
 
 -- ---- how many things there are
 
-pub counted_within : (kinds : List PricedKind) (i : ℕ) {kind : PricedKind} → i < length kinds → kind ≡ get_or kinds i kind
+pub counted_within : (kinds : List PricedKind) (i : ℕ) {kind : PricedKind} → i < length kinds
+    → kind ≡ get_or kinds i kind
     → counted (take i kinds) + kind.count ≤ counted kinds
 counted_within [] i inside is = absurd (omega arith)
 counted_within (first ∷ kinds) zero inside is = let same = ap (λ (k : PricedKind). k.count) is in omega arith
 counted_within (first ∷ kinds) (suc i) inside is = omega (arith, counted_within kinds i (omega arith) is)
 
--- ---- what kinds are called
+-- ---- the names of kinds
 
-pub called_at : (name : Name) (kinds : List PricedKind) (i : ℕ) (kind : PricedKind) → i < length kinds → kind ≡ get_or kinds i kind → AreCalled name kinds
+pub called_at : (name : Name) (kinds : List PricedKind) (i : ℕ) (kind : PricedKind) → i < length kinds
+    → kind ≡ get_or kinds i kind → AreCalled name kinds
     → look_name kind.look ≡ name
 called_at name [] i kind inside is called = absurd (omega arith)
 called_at name (first ∷ kinds) zero kind inside is called = subst (λ k. look_name k.look ≡ name) (sym is) called.0
@@ -149,12 +174,14 @@ called_at name (first ∷ kinds) (suc i) kind inside is called = called_at name 
 
 pub all_kinds : (floor : ℕ) (kinds : List PricedKind) → AreKinds floor kinds → All IsPricedKind kinds
 all_kinds floor [] are = All-nil IsPricedKind
-all_kinds floor (kind ∷ kinds) are = All-cons IsPricedKind kind kinds are.0 (all_kinds (look_rank kind.look + 1) kinds are.2)
+all_kinds floor (kind ∷ kinds) are =
+    All-cons IsPricedKind kind kinds are.0 (all_kinds (look_rank kind.look + 1) kinds are.2)
 
--- ---- kinds, read
+-- ---- kinds that are read
 
--- These kinds have been read: with those that the rest begins with they are all. The next has at least this rank and
--- stands in that line, and they are of so many things. They are kept while these are no more than there have to be.
+-- `kept` are the kinds read so far, which count `total` things; together with those that begin `rest` they are
+-- all kinds. The next kind has a rank from `floor` on and is on line `at`. Kinds are kept while they count at
+-- most `number` things.
 pub record HasRead (name : Name) (number line : ℕ) (text rest : List ℕ) (floor total at : ℕ) (kept : List PricedKind)
     : Type 0 where
   pub read : List PricedKind
@@ -209,7 +236,7 @@ reads_on {name} {text} {after} {kind} so_far next ranked low counts keeps =
       keeps = λ within. keeps within ∙ ap (λ kinds. kinds ++ kind ∷ []) (so_far.keeps (omega arith));
     }
 
--- so there is room for one more
+-- So there is room for one more kind.
 pub has_room : {name : Name} {number line : ℕ} {text rest after : List ℕ} {floor total at count : ℕ}
     {kept : List PricedKind} {kind : PricedKind}
     → HasRead name number line text rest floor total at kept → IsNextKind name floor rest kind after

@@ -1,6 +1,13 @@
--- Settings carried out one after another, and that the lines of loose things lead to a machine that has them as the day does.
-use Rattle.kd_card.proofs.Prelude.{All, AllByRecursion, AllPairs, Bool, Contains, IsMachine, Leads, List, Model, None, OfPins, OfRotors, Option, Parts, Pin, PinDay, PinParts, Rotor, RotorDay, RotorParts, Setting, Some, [], ap, append-nil, append_assoc, arith, changed, common_steps, cond, days_wheels_have_their_places, eqb-true, false, fold, get_or, get_or-map, get_or_at, get_or_from_slice_get, has_letter, is_some, length, length-append, length-map, length-set, length-zip, map, option_map_or, place_in_box, recursion_from_All, refl, reflectors_of, ring_at, same_wheel}
-use Rattle.kd_card.proofs.Prelude.{seconds-zip, set, set_other, slice_get, subst, suc, sym, true, unwrap_or, why_refused, without, zero, zip, ℕ, ◌++◌, ◌+◌, ◌<◌, ◌∙◌, ◌∷◌, ◌≡◌, ◌≢◌}
+-- Settings carried out in turn: those for loose things lead to a machine that has these things as the day does.
+use Rattle.kd_card.proofs.Prelude.{All, AllByRecursion, AllPairs, Bool, Contains, IsMachine, Leads, List, Model, None}
+use Rattle.kd_card.proofs.Prelude.{OfPins, OfRotors, Option, Parts, Pin, PinDay, PinParts, Rotor, RotorDay, RotorParts}
+use Rattle.kd_card.proofs.Prelude.{Setting, Some, [], ap, append-nil, append_assoc, arith, changed, common_steps, cond}
+use Rattle.kd_card.proofs.Prelude.{days_wheels_have_their_places, eqb-true, false, fold, get_or, get_or-map, get_or_at}
+use Rattle.kd_card.proofs.Prelude.{get_or_from_slice_get, has_letter, is_some, length, length-append, length-map}
+use Rattle.kd_card.proofs.Prelude.{length-set, length-zip, map, option_map_or, place_in_box, recursion_from_All, refl}
+use Rattle.kd_card.proofs.Prelude.{reflectors_of, ring_at, same_wheel}
+use Rattle.kd_card.proofs.Prelude.{seconds-zip, set, set_other, slice_get, subst, suc, sym, true, unwrap_or}
+use Rattle.kd_card.proofs.Prelude.{why_refused, without, zero, zip, ℕ, ◌++◌, ◌+◌, ◌<◌, ◌∙◌, ◌∷◌, ◌≡◌, ◌≢◌}
 use Rattle.kd_card.specs.Loose.{lines_from, loose_lines, pin_lines, pin_of, pin_turn_lines, pin_turn_of}
 use Rattle.kd_card.specs.Loose.{reflector_lines, ring_lines, ring_of_wheel, seat_lines, seat_of, turn_lines, turn_of}
 use Rattle.kd_state.proofs.Wheels.{has_reflector-Decides, has_wheel-Decides, place_within, same_reflector-Decides}
@@ -19,52 +26,56 @@ use Rattle.std.proofs.lemmas.List.{FromFn.{fill_by_all, get_or-range_with_len, l
 use Rattle.std.proofs.lemmas.{Option.{slice_get-get_or, slice_get-map, slice_get_within}, Slice.Zip.firsts-zip}
 unfoldable use Rattle.kd_tables.specs.Rings.{ring_of}
 
--- the element in the middle
+-- Properties of the item between two parts of a list.
 module _ {X : Type 0} where
   pub seam_get : (front : List X) (x : X) (back : List X) → slice_get (front ++ x ∷ back) (length front) ≡ Some x
   seam_get [] x back = refl
   seam_get (y ∷ front) x back = seam_get front x back
 
-  -- what holds of each element
+  -- A property of all items holds for each part.
   pub all_parts : (P : X → Type 0) (front : List X) (x : X) (back : List X) → AllByRecursion P (front ++ x ∷ back)
       → AllByRecursion P front × P x × AllByRecursion P back
   all_parts P [] x back h = (tt, h.0, h.1)
   all_parts P (y ∷ front) x back h = let rest = all_parts P front x back h.1 in ((h.0, rest.0), rest.1, rest.2)
 
--- of things no two of which are alike in something, one is unlike those in front of it
+-- If no two items are equal in `f`, an item differs from those before it.
 apart_before : {X Y : Type 0} (f : X → Y) (front : List X) (x : X) (back : List X)
     → AllPairs (λ w v. f w ≢ f v) (front ++ x ∷ back) → AllByRecursion (λ v. f x ≢ f v) front
 apart_before f [] x back apart = tt
 apart_before f (y ∷ front) x back apart =
     let differ = apart zero (suc (length front)) x (omega arith) (omega (arith, length-append front (x ∷ back))) in (
       (λ same. rw (get_or_at front x back x (length front) refl) at differ (sym same)),
-      apart_before f front x back (all_pairs_remove (λ w v. f w ≢ f v) (y ∷ front ++ x ∷ back) zero (omega arith) apart),
+      apart_before f front x back (all_pairs_remove (λ w v. f w ≢ f v) (y ∷ front ++ x ∷ back) zero
+          (omega arith) apart),
     )
 
-pub seam_map : {X Y : Type 0} (f : X → Y) (xs front back : List X) (x : X) → xs ≡ front ++ x ∷ back → slice_get (map f xs) (length front) ≡ Some (f x)
+pub seam_map : {X Y : Type 0} (f : X → Y) (xs front back : List X) (x : X) → xs ≡ front ++ x ∷ back
+    → slice_get (map f xs) (length front) ≡ Some (f x)
 seam_map f xs front back x e = rw (e, map-append) (rw length-map at (seam_get (map f front) (f x) (map f back)))
 
--- ---- settings carried out one after another.
+-- ---- settings carried out in turn
 pub record Led (m : Parts) (xs : List Setting) (n : Parts) : Type 0 where
   pub leads : Leads m xs n
 
 pub led_none : {m n : Parts} → n ≡ m → Led m [] n
 led_none e = record { leads = e }
 
-pub led_cons : {m k n : Parts} {x : Setting} {xs : List Setting} → why_refused m x ≡ None → changed m x ≡ k → Led k xs n → Led m (x ∷ xs) n
+pub led_cons : {m k n : Parts} {x : Setting} {xs : List Setting} → why_refused m x ≡ None → changed m x ≡ k → Led k xs n
+    → Led m (x ∷ xs) n
 led_cons {k = k} allowed made rest = record { leads = (k, record { allowed = allowed; made = sym made }, rest.leads) }
 
 pub led_append : (xs ys : List Setting) {m k n : Parts} → Led m xs k → Led k ys n → Led m (xs ++ ys) n
 led_append xs ys first second = record { leads = leads_join _ _ _ xs ys first.leads second.leads }
 
--- a setting that is left out where things are so already
+-- The setting for a thing, which is left out if the thing is right already.
 pub led_unless : (so : Bool) (m n : Parts) (x : Setting) → (so ≡ true → n ≡ m) → (so ≡ false → changed m x ≡ n)
     → (so ≡ false → why_refused m x ≡ None)
     → Led m (option_to_list (unless_so so x)) n
 led_unless true m n x same made allowed = led_none (same refl)
 led_unless false m n x same made allowed = led_cons (allowed refl) (made refl) (led_none refl)
 
--- Things one after another, each with lines of its own: the machine is told by the things that are done and those that aren't.
+-- Things in turn, each with its settings. The state of the machine depends on which things are done and which
+-- aren't.
 module _ {Z : Type 0} (state : List Z → List Z → Parts) (lines : ℕ → Z → List Setting) where
   abbrev pub LeadsOn : List Z → Z → List Z → Type 0
   LeadsOn front z back = Led (state front (z ∷ back)) (lines (suc (length front)) z) (state (front ++ z ∷ []) back)
@@ -76,40 +87,46 @@ module _ {Z : Type 0} (state : List Z → List Z → Parts) (lines : ℕ → Z �
   led_from front (z ∷ zs) number e each =
       let rest = led_from (front ++ z ∷ []) zs (number + 1) (omega (arith, length-append front (z ∷ [])))
       (λ fs bs v d. each fs bs v (sym (append_assoc front (z ∷ []) zs) ∙ d)) in
-      led_append (lines number z) (lines_from lines (number + 1) zs) (rw e (each front zs z refl)) (rw append_assoc at rest)
+      led_append (lines number z) (lines_from lines (number + 1) zs) (rw e (each front zs z refl))
+      (rw append_assoc at rest)
 
   pub things_led : (zs : List Z) → ((front back : List Z) (z : Z) → zs ≡ front ++ z ∷ back → LeadsOn front z back)
       → Led (state [] zs) (lines_from lines 1 zs) (state zs [])
   things_led zs each = led_from [] zs 1 refl each
 
--- Things side by side, each of which its own lines change alone: the machine is made of what they are before and after.
+-- Things side by side, each of which only its own settings change. The machine is made of these things before
+-- and after.
 module _ {Z A : Type 0} (put : List A → Parts) (before after : Z → A) (lines : ℕ → Z → List Setting) where
   abbrev pub LeadsAt : List A → Z → List A → Type 0
-  LeadsAt front z back = Led (put (front ++ before z ∷ back)) (lines (suc (length front)) z) (put (front ++ after z ∷ back))
+  LeadsAt front z back =
+      Led (put (front ++ before z ∷ back)) (lines (suc (length front)) z) (put (front ++ after z ∷ back))
 
   pub cells_led : (zs : List Z) {first last : List A} → map before zs ≡ first → map after zs ≡ last
       → ((front back : List Z) (z : Z) → zs ≡ front ++ z ∷ back → LeadsAt (map after front) z (map before back))
       → Led (put first) (lines_from lines 1 zs) (put last)
   cells_led zs begins ends each =
-      rw (← begins, ← ends) (simp append-nil at (things_led (λ front back. put (map after front ++ map before back)) lines zs
+      rw (← begins, ← ends) (simp append-nil at (things_led
+      (λ front back. put (map after front ++ map before back)) lines zs
       (λ front back z e. simp (map-append, append_assoc) (rw length-map at (each front back z e)))))
 
 -- ---- SEAT, REFLECTOR, RING and TURN of a rotor machine
--- the box has no wheel twice
+-- The box has no wheel twice.
 places_in_box : (model : Model) → map (place_in_box model) (box_of model) ≡ range_with_len 0 (length (box_of model))
 places_in_box model = grind arith
 
-place_is : (model : Model) (k : ℕ) (d : Wheel) → k < length (box_of model) → place_in_box model (get_or (box_of model) k d) ≡ k
+place_is : (model : Model) (k : ℕ) (d : Wheel) → k < length (box_of model)
+    → place_in_box model (get_or (box_of model) k d) ≡ k
 place_is model k d lt = grind (arith, get_or-map, places_in_box, get_or-range_with_len)
 
--- SEAT: a slot that is right already is never emptied, since the day's wheels differ
+-- SEAT: because the day's wheels differ, a slot that is right already is never emptied.
 kept_seat : (wheel other : Wheel) (seated : Option Wheel) → wheel ≢ other
     → option_map_or (same_wheel other) (without wheel seated) false ≡ option_map_or (same_wheel other) seated false
 kept_seat wheel other seated e = grind (arith, cond_both, same_wheel-Decides)
 
 kept_seats : (so : Bool) (wheel : Wheel) (slots : List (Option Wheel)) (wheels : List SheetWheel) (number : ℕ)
     → AllByRecursion (λ w. wheel ≢ w.wheel) wheels
-    → lines_from seat_of number (zip (cond so slots (map (without wheel) slots)) wheels) ≡ lines_from seat_of number (zip slots wheels)
+    → lines_from seat_of number (zip (cond so slots (map (without wheel) slots)) wheels)
+    ≡ lines_from seat_of number (zip slots wheels)
 kept_seats true wheel slots wheels number h = refl
 kept_seats false wheel [] wheels number h = refl
 kept_seats false wheel slots [] number h = grind arith
@@ -120,23 +137,26 @@ module _ (m : RotorParts) where
   abbrev pub with_slots : List (Option Wheel) → Parts
   with_slots slots = Rotor (record m { slots = slots })
 
-  -- the wheel stands in none of the slots
+  -- The wheel is in none of the slots.
   abbrev IsAbsent : List (Option Wheel) → SheetWheel → Type 0
   IsAbsent slots w = map (without w.wheel) slots ≡ slots
 
-  -- what stands behind a slot once its wheel is seated
+  -- the slots after the one in which the wheel is seated
   abbrev behind : Option Wheel → SheetWheel → List (Option Wheel) → List (Option Wheel)
   behind now w slots = cond (option_map_or (same_wheel w.wheel) now false) slots (map (without w.wheel) slots)
 
-  seat_led : (front slots : List (Option Wheel)) (now : Option Wheel) (w : SheetWheel) (number : ℕ) → number ≡ suc (length front) → IsAllowed m.model number w.wheel → IsAbsent front w
-      → Led (with_slots (front ++ now ∷ slots)) (seat_of number (now, w)) (with_slots (front ++ Some w.wheel ∷ behind now w slots))
+  seat_led : (front slots : List (Option Wheel)) (now : Option Wheel) (w : SheetWheel) (number : ℕ)
+      → number ≡ suc (length front) → IsAllowed m.model number w.wheel → IsAbsent front w
+      → Led (with_slots (front ++ now ∷ slots)) (seat_of number (now, w))
+      (with_slots (front ++ Some w.wheel ∷ behind now w slots))
   seat_led front slots now w number e allowed absent = grind (arith, common_steps, false, led_unless, set_at, allowed)
 
   seats_led : (front slots : List (Option Wheel)) (wheels : List SheetWheel) (number : ℕ) → number ≡ suc (length front)
       → length slots ≡ length wheels
       → ((k n : ℕ) (wheel : Wheel) → n ≡ k + number → StandsAt (seats wheels) k wheel → IsAllowed m.model n wheel)
       → All (IsAbsent front) wheels → AllPairs (λ (w v : SheetWheel). w.wheel ≢ v.wheel) wheels
-      → Led (with_slots (front ++ slots)) (lines_from seat_of number (zip slots wheels)) (with_slots (front ++ seats wheels))
+      → Led (with_slots (front ++ slots)) (lines_from seat_of number (zip slots wheels))
+      (with_slots (front ++ seats wheels))
   seats_led front [] [] number e size allowed absent apart = led_none refl
   seats_led front (now ∷ slots) (w ∷ wheels) number e size allowed absent apart =
       let others = recursion_from_All (λ (v : SheetWheel). w.wheel ≢ v.wheel) wheels
@@ -144,16 +164,25 @@ module _ (m : RotorParts) where
       let rest = seats_led (front ++ Some w.wheel ∷ []) (behind now w slots) wheels (number + 1)
       (omega (arith, length-append front (Some w.wheel ∷ []))) (grind (arith, length-map))
       (λ k n wheel e at. allowed (suc k) n wheel (omega arith) at)
-      (λ k d lt. grind (arith, map-append, absent (suc k) d (omega arith), apart zero (suc k) d (omega arith) (omega arith), same_wheel-Decides))
+      (λ k d lt. grind (
+        arith,
+        map-append,
+        absent (suc k) d (omega arith),
+        apart zero (suc k) d (omega arith) (omega arith),
+        same_wheel-Decides,
+      ))
       (all_pairs_remove (λ (w v : SheetWheel). w.wheel ≢ v.wheel) (w ∷ wheels) zero (omega arith) apart) in
-      let here = seat_led front slots now w number e (allowed zero number w.wheel (omega arith) refl) (absent zero w (omega arith)) in
+      let here = seat_led front slots now w number e (allowed zero number w.wheel (omega arith) refl)
+      (absent zero w (omega arith)) in
       led_append (seat_of number (now, w)) (lines_from seat_of (number + 1) (zip slots wheels)) here
-      (rw (kept_seats (option_map_or (same_wheel w.wheel) now false) w.wheel slots wheels (number + 1) others) at (simp append_assoc at rest))
+      (rw (kept_seats (option_map_or (same_wheel w.wheel) now false) w.wheel slots wheels (number + 1) others)
+      at (simp append_assoc at rest))
   seats_led front _ _ number e size allowed absent apart = absurd (omega arith)
 
   -- REFLECTOR
   reflector_led : (slots : List (Option Wheel)) (reflector : Reflector) → Contains (reflectors_of m.model) reflector
-      → Led (with_slots slots) (reflector_lines m.reflector reflector) (Rotor (record m { slots = slots; reflector = reflector }))
+      → Led (with_slots slots) (reflector_lines m.reflector reflector)
+      (Rotor (record m { slots = slots; reflector = reflector }))
   reflector_led slots reflector h = grind (arith, has_reflector-Decides, led_unless, same_reflector-Decides)
 
 set_same : (xs : List ℕ) (p v : ℕ) → slice_get xs p ≡ Some v → set xs p v ≡ xs
@@ -164,8 +193,9 @@ is_the_one : (wheel : Wheel) (wheels : List SheetWheel) (w : SheetWheel)
 is_the_one wheel [] w e = absurd cc
 is_the_one wheel (v ∷ wheels) w e = grind (arith, same_wheel-Decides, is_the_one wheel wheels w)
 
--- all of its lines
-module _ (m : RotorParts) (s : RotorDay) (machine : IsMachine (Rotor m)) (legal : IsLegalRotorDay s) (same : m.model ≡ s.model) where
+-- all settings of a rotor machine
+module _ (m : RotorParts) (s : RotorDay) (machine : IsMachine (Rotor m)) (legal : IsLegalRotorDay s)
+    (same : m.model ≡ s.model) where
   are_seated : AreSeated m.model (seats s.wheels)
   are_seated = subst (λ model. AreSeated model (seats s.wheels)) (sym same) legal.wheels
 
@@ -177,18 +207,21 @@ module _ (m : RotorParts) (s : RotorDay) (machine : IsMachine (Rotor m)) (legal 
 
   seats_lead : Led (Rotor m) (seat_lines m s.wheels) (with_slots m (seats s.wheels))
   seats_lead =
-      seats_led m [] m.slots s.wheels 1 refl (grind (arith, length-map)) (λ k n wheel e at. rw e (are_seated.allowed k wheel at))
+      seats_led m [] m.slots s.wheels 1 refl (grind (arith, length-map))
+      (λ k n wheel e at. rw e (are_seated.allowed k wheel at))
       (λ k d lt. refl) (λ i j d before lt same. places_differ i j d before lt (ap (place_in_box m.model) same))
 
-  -- RING: the day's wheel that is one of the box, if there is one, and the rings by the wheels of the box
+  -- RING: the day's wheel that is this wheel of the box, if there is one, and the rings in the order of the box
   abbrev the_one : Wheel → Option SheetWheel
   the_one wheel = find (λ (w : SheetWheel). same_wheel wheel w.wheel) s.wheels
 
-  one_is : (k : ℕ) (d : SheetWheel) → k < length s.wheels → the_one (get_or s.wheels k d).wheel ≡ Some (get_or s.wheels k d)
+  one_is : (k : ℕ) (d : SheetWheel) → k < length s.wheels
+      → the_one (get_or s.wheels k d).wheel ≡ Some (get_or s.wheels k d)
   one_is k d lt =
       let wheel = (get_or s.wheels k d).wheel in
-      found_at (find (λ v. same_wheel wheel v.wheel)) (λ v. same_wheel wheel v.wheel) Some None refl (λ v vs. refl) s.wheels k d lt
-      (λ i before. same_wheel_differs wheel (get_or s.wheels i d).wheel (λ same. places_differ i k d before lt (ap (place_in_box m.model) (sym same))))
+      found_at (find (λ v. same_wheel wheel v.wheel)) (λ v. same_wheel wheel v.wheel) Some None refl
+      (λ v vs. refl) s.wheels k d lt (λ i before. same_wheel_differs wheel (get_or s.wheels i d).wheel
+      (λ same. places_differ i k d before lt (ap (place_in_box m.model) (sym same))))
       (same_wheel_self wheel)
 
   abbrev ring_now : Wheel → ℕ
@@ -201,13 +234,16 @@ module _ (m : RotorParts) (s : RotorDay) (machine : IsMachine (Rotor m)) (legal 
   rings_now =
       sym (map-map (λ k. get_or m.rings k 0) (place_in_box m.model) (box_of m.model))
       ∙ ap (map (λ k. get_or m.rings k 0)) (places_in_box m.model)
-      ∙ sym (fill_by_all (λ k. get_or m.rings k 0) m.rings (length (box_of m.model)) 0 machine.legal.rings.count (λ k lt. refl))
+      ∙ sym (fill_by_all (λ k. get_or m.rings k 0) m.rings (length (box_of m.model)) 0 machine.legal.rings.count
+      (λ k lt. refl))
 
   abbrev with_rings : List ℕ → Parts
   with_rings rings = Rotor (record m { slots = seats s.wheels; reflector = s.reflector; rings = rings })
 
-  ring_led : (front back : List ℕ) (wheel : Wheel) (one : Option SheetWheel) → the_one wheel ≡ one → slice_get (box_of m.model) (length front) ≡ Some wheel
-      → Led (with_rings (front ++ ring_now wheel ∷ back)) (ring_of_wheel m s.wheels wheel) (with_rings (front ++ ring_then wheel ∷ back))
+  ring_led : (front back : List ℕ) (wheel : Wheel) (one : Option SheetWheel) → the_one wheel ≡ one
+      → slice_get (box_of m.model) (length front) ≡ Some wheel
+      → Led (with_rings (front ++ ring_now wheel ∷ back)) (ring_of_wheel m s.wheels wheel)
+      (with_rings (front ++ ring_then wheel ∷ back))
   ring_led front back wheel None e here = rw e (led_none refl)
   ring_led front back wheel (Some w) e here =
       let lt = slice_get_within (box_of m.model) (length front) wheel here in
@@ -215,18 +251,26 @@ module _ (m : RotorParts) (s : RotorDay) (machine : IsMachine (Rotor m)) (legal 
       let same = is_the_one wheel s.wheels w e in
       let placed = rw (is, same) at (place_is m.model (length front) wheel lt) in
       let at = slice_get-get_or m.rings (length front) 0 (omega (arith, machine.legal.rings.count)) in
-      let has : has_wheel (box_of m.model) w.wheel ≡ true = (has_wheel-Decides (box_of m.model) w.wheel).1 (rw (← same) (length front, lt, is)) in
+      let has : has_wheel (box_of m.model) w.wheel ≡ true =
+      (has_wheel-Decides (box_of m.model) w.wheel).1 (rw (← same) (length front, lt, is)) in
       rw (e, same, placed, at) (grind (arith, led_unless, set_at, eqb-true, has, placed))
 
   rings_lead : Led (with_rings m.rings) (ring_lines m s.wheels) (with_rings (map ring_then (box_of m.model)))
   rings_lead =
       rw (lines_of_each (ring_of_wheel m s.wheels) (box_of m.model) 1)
-      (cells_led with_rings ring_now ring_then (λ n wheel. ring_of_wheel m s.wheels wheel) (box_of m.model) rings_now refl
+      (cells_led with_rings ring_now ring_then (λ n wheel. ring_of_wheel m s.wheels wheel)
+      (box_of m.model) rings_now refl
       (λ fs bs wheel e. ring_led _ _ wheel (the_one wheel) refl (rw (length-map, e) (seam_get fs wheel bs))))
 
   -- TURN
   abbrev turned : List ℕ → RotorParts
-  turned letters = record m { slots = seats s.wheels; reflector = s.reflector; rings = map ring_then (box_of m.model); letters = letters }
+  turned letters =
+      record m {
+        slots = seats s.wheels;
+        reflector = s.reflector;
+        rings = map ring_then (box_of m.model);
+        letters = letters;
+      }
 
   abbrev turn : List ℕ → SheetWheel → List ℕ
   turn letters w = set letters (place w) w.letter
@@ -241,10 +285,12 @@ module _ (m : RotorParts) (s : RotorDay) (machine : IsMachine (Rotor m)) (legal 
       place w < length letters → slice_get (fold turn letters ws) (place w) ≡ Some w.letter
   is_set letters [] k d apart lt within = absurd (omega arith)
   is_set letters (w ∷ ws) zero d apart lt within =
-      let others = recursion_from_All (λ v. place w ≢ place v) ws (λ k d lt. apart zero (suc k) d (omega arith) (omega arith)) in
+      let others =
+      recursion_from_All (λ v. place w ≢ place v) ws (λ k d lt. apart zero (suc k) d (omega arith) (omega arith)) in
       kept (turn letters w) ws (place w) others ∙ set_here letters (place w) w.letter within
   is_set letters (w ∷ ws) (suc k) d apart lt within =
-      is_set (turn letters w) ws k d (all_pairs_remove (λ w v. place w ≢ place v) (w ∷ ws) zero (omega arith) apart) (omega arith) (rw length-set within)
+      is_set (turn letters w) ws k d (all_pairs_remove (λ w v. place w ≢ place v) (w ∷ ws) zero (omega arith) apart)
+      (omega arith) (rw length-set within)
 
   abbrev pub turned_all : RotorParts
   turned_all = turned (fold turn m.letters s.wheels)
@@ -259,21 +305,24 @@ module _ (m : RotorParts) (s : RotorDay) (machine : IsMachine (Rotor m)) (legal 
 
   pub rotors_led : Led (Rotor m) (loose_lines (Rotor m) (OfRotors s)) (Rotor turned_all)
   rotors_led =
-      let reflector = reflector_led m (seats s.wheels) s.reflector (subst (λ model. Contains (reflectors_of model) s.reflector) (sym same) legal.reflector) in
+      let reflector = reflector_led m (seats s.wheels) s.reflector
+      (subst (λ model. Contains (reflectors_of model) s.reflector) (sym same) legal.reflector) in
       led_append _ _ (led_append _ _ (led_append _ _ seats_lead reflector) rings_lead) turns_lead
 
-  -- each of the day's wheels is set as it is due
+  -- Each of the day's wheels has its ring and its letter.
   pub shown : (k : ℕ) (d : SheetWheel) → k < length s.wheels → let w = get_or s.wheels k d in
       (ring_at turned_all w.wheel ≡ Some w.ring) × (slice_get turned_all.letters (place w) ≡ Some w.letter)
   shown k d lt =
       let w = get_or s.wheels k d in
       let there = in_box m.model s.wheels are_seated k d lt in
       let within = place_within m.model w.wheel there in
-      let letter = is_set m.letters s.wheels k d places_differ lt (omega (arith, within, machine.legal.letters.count)) in
+      let letter =
+      is_set m.letters s.wheels k d places_differ lt (omega (arith, within, machine.legal.letters.count)) in
       (grind (arith, slice_get-map, slice_get-get_or, place_is, one_is k d lt, there), letter)
 
--- ---- PIN and TURN of a Converter M-209: wheel after wheel, and on each wheel letter after letter, each of which stands at its own place
-has_place : (number k letter : ℕ) → slice_get (ring_of number) k ≡ Some letter → place_on (ring_of number) letter ≡ Some k
+-- ---- PIN and TURN of a Converter M-209: wheel by wheel, and on each wheel letter by letter
+has_place : (number k letter : ℕ) → slice_get (ring_of number) k ≡ Some letter
+    → place_on (ring_of number) letter ≡ Some k
 has_place number k letter e =
     let many = length (ring_of number) in
     let lt = slice_get_within (ring_of number) k letter e in
@@ -288,7 +337,7 @@ second_map : {A B C : Type 0} (f : B → C) (xs : List A) (ys : List B) → leng
     → map (λ (z : A × B). f z.1) (zip xs ys) ≡ map f ys
 second_map f xs ys e = sym (map-map f (λ z. z.1) (zip xs ys)) ∙ ap (map f) (seconds-zip xs ys e)
 
--- a letter of a wheel, with its pin and the day's, and a wheel's pins beside the day's
+-- a letter of a wheel, with its pin and the day's; and the pins of a wheel with the day's
 abbrev Cell : Type 0
 Cell = ℕ × (Bool × Bool)
 
@@ -306,17 +355,25 @@ module _ (m : PinParts) where
     abbrev number : ℕ
     number = suc (length front)
 
-    pin_made : (done rest : List Bool) (now effective : Bool) (letter : ℕ) → place_on (ring_of number) letter ≡ Some (length done)
-        → with_pin (pin_set (front ++ (done ++ now ∷ rest) ∷ back)) number letter effective ≡ pin_set (front ++ (done ++ effective ∷ rest) ∷ back)
+    pin_made : (done rest : List Bool) (now effective : Bool) (letter : ℕ)
+        → place_on (ring_of number) letter ≡ Some (length done)
+        → with_pin (pin_set (front ++ (done ++ now ∷ rest) ∷ back)) number letter effective
+        ≡ pin_set (front ++ (done ++ effective ∷ rest) ∷ back)
     pin_made done rest now effective letter placed =
         let pins = done ++ now ∷ rest in
-        rw (pins_of_set (front ++ pins ∷ back) (omega (arith, length-append front (pins ∷ back))), seam_get front pins back, placed, set_at done now rest effective (length done) refl)
+        rw (
+          pins_of_set (front ++ pins ∷ back) (omega (arith, length-append front (pins ∷ back))),
+          seam_get front pins back,
+          placed,
+          set_at done now rest effective (length done) refl,
+        )
         (ap pin_set (set_at front pins back (done ++ effective ∷ rest) _ (omega arith)))
 
     one_pin : (done rest : List Bool) (w : Cell) → place_on (ring_of number) w.0 ≡ Some (length done)
         → Led (with_wheel (done ++ w.1.0 ∷ rest)) (pin_of number w) (with_wheel (done ++ w.1.1 ∷ rest))
     one_pin done rest w placed =
-        let has : has_letter (ring_of number) w.0 ≡ true = sym (is_some-place_on (ring_of number) w.0) ∙ ap is_some placed in
+        let has : has_letter (ring_of number) w.0 ≡ true =
+        sym (is_some-place_on (ring_of number) w.0) ∙ ap is_some placed in
         grind (arith, led_unless, pin_made done rest w.1.0 w.1.1 w.0 placed)
 
     wheel_led : (now day : List Bool) → length now ≡ length (ring_of number) → length day ≡ length (ring_of number)
@@ -325,17 +382,22 @@ module _ (m : PinParts) where
         let ring = ring_of number in
         let cells = zip ring (zip now day) in
         let size : length (zip now day) ≡ length ring = omega (arith, length-zip now day) in
-        let before = second_map (λ (pin : Bool × Bool). pin.0) ring (zip now day) size ∙ firsts-zip now day (d ∙ sym e) in
-        let after = second_map (λ (pin : Bool × Bool). pin.1) ring (zip now day) size ∙ seconds-zip now day (d ∙ sym e) in
+        let before =
+        second_map (λ (pin : Bool × Bool). pin.0) ring (zip now day) size ∙ firsts-zip now day (d ∙ sym e) in
+        let after =
+        second_map (λ (pin : Bool × Bool). pin.1) ring (zip now day) size ∙ seconds-zip now day (d ∙ sym e) in
         rw (lines_of_each (pin_of number) cells 1)
-        (cells_led with_wheel (λ (w : Cell). w.1.0) (λ w. w.1.1) (λ n w. pin_of number w) cells before after (λ fs bs w is.
+        (cells_led with_wheel (λ (w : Cell). w.1.0) (λ w. w.1.1) (λ n w. pin_of number w) cells before after
+        (λ fs bs w is.
         let at = rw (firsts-zip ring (zip now day) size) at (seam_map (λ (w : Cell). w.0) cells fs bs w is) in
         one_pin _ _ w (rw length-map (has_place number (length fs) w.0 at))))
 
-  pins_lead : (day : PinSet) → HasAllPins m.pins → HasAllPins day → Led (Pin m) (pin_lines m.pins day) (Pin (record m { pins = day }))
+  pins_lead : (day : PinSet) → HasAllPins m.pins → HasAllPins day
+      → Led (Pin m) (pin_lines m.pins day) (Pin (record m { pins = day }))
   pins_lead day has due =
       let wheels = zip (pins_of m.pins) (pins_of day) in
-      cells_led with_pins (λ (z : TwoPins). z.0) (λ z. z.1) (λ n z. wheel_pin_lines n (ring_of n) z.0 z.1) wheels refl refl (λ fs bs z e.
+      cells_led with_pins (λ (z : TwoPins). z.0) (λ z. z.1)
+      (λ n z. wheel_pin_lines n (ring_of n) z.0 z.1) wheels refl refl (λ fs bs z e.
       let now = ap (λ found. unwrap_or found []) (seam_map (λ (z : TwoPins). z.0) wheels fs bs z e) in
       let wanted = ap (λ found. unwrap_or found []) (seam_map (λ (z : TwoPins). z.1) wheels fs bs z e) in
       let six : length fs + length bs ≡ 5 = omega (arith, ap length e, length-append fs (z ∷ bs)) in
@@ -350,7 +412,8 @@ module _ (m : PinParts) where
       → Led (with_shown (front ++ z.0 ∷ back)) (pin_turn_of (suc (length front)) z) (with_shown (front ++ z.1 ∷ back))
   turn_led front back z on = grind (arith, eqb-true, has_letter-Decides, led_unless, seam_get, set_at)
 
-  pin_turns_lead : (window : List ℕ) → length m.letters ≡ 6 → AreOnWheels window → Led (with_shown m.letters) (pin_turn_lines m.letters window) (with_shown window)
+  pin_turns_lead : (window : List ℕ) → length m.letters ≡ 6 → AreOnWheels window
+      → Led (with_shown m.letters) (pin_turn_lines m.letters window) (with_shown window)
   pin_turns_lead window size on =
       let zs = zip m.letters window in
       let due = seconds-zip m.letters window (on.count ∙ sym size) in

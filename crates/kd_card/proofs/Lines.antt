@@ -1,5 +1,25 @@
--- Lines of words as they are written and as they are split; prices by their texts; and what stands in a card's lines.
-use Rattle.kd_card.proofs.Prelude.{figures, ◌≡◌, ◌≢◌, ℕ, ◌<◌, true, false, eqb, ltb, List, [], ◌∷◌, ◌++◌, length, refl, sym, ap, ◌∙◌, append_assoc, length-append, append_cancel_left, arith, ℤ, All, list_all, flat_map, signed_decimal, ne_eqb, ltb-true, append-nil, get_or_at, take_all, flat_map-append, AllPass-from_list_all, All-weaker, All-from_recursion, flat_map-map, Setting, words_of, line_of, IsWord, IsWithout, IsFirstPart, setting_line, list_text, PriceParts, Version, version_of, price_sum, head_words, settings_words, price_words, sum_words, lines_text, price_lines, card_text, with_line, HasWords, common_steps, lines_split_into_words, texts_tell_first_parts, words_make_one_line, map, setting_words, suc, ◌^◌, ◌≤◌, Bool, get_or, Option, Some, None, MatchOption, Result, Ok, Err, MatchResult, Decides, Bor, ◌↔◌, IsTrue, is_some, subst, pos, negsuc, unsigned_abs, FitsSigned, w16, to_z, of_z, then_some, IsUtf8, ParsesSigned, AllByRecursion, false≢true, fits_signed_from_abs, to_z-of_z, get_or-map, length-map, recursion_from_All, All-map, IsPriceText, SaysPrices, BadLine, PriceMissing, Refused, Found, parse-signed_decimal, IsAscii-signed, AreWithinReach, codes, zero, ◌+◌, ◌*◌, inl, inr, fold, decimal, not, pointwise, not-false, Decides-eqb, slice_eq-Decides, err_from_is_err_and, ◌+ℤ◌, digits_value, decimal_nonempty, digits_decimal, decimal_digit, first_decimal, All-cons, All-append, All-from_get_or, how_many, ArePrices, Group, Name, PricedKind, CountWrong, BeginsWithHead, kinds_text, row_word, column_word, version_text, IsGroup, IsDigit, IsNumberText, IsNumeral, SaysValue, SaysLine, SaysFirst, SaysPriceLine, SaysGroup, nil_from_length, numbers_are_words, word_by_bytes, word_by_test, passed, CardFault}
+-- Lines of words as they are written and split, texts of prices, and what the lines of a card have.
+use Rattle.kd_card.proofs.Prelude.{figures, ◌≡◌, ◌≢◌, ℕ, ◌<◌, true, false, eqb, ltb, List, [], ◌∷◌, ◌++◌, length, refl}
+use Rattle.kd_card.proofs.Prelude.{sym, ap, ◌∙◌, append_assoc, length-append, append_cancel_left, arith, ℤ, All}
+use Rattle.kd_card.proofs.Prelude.{list_all, flat_map, signed_decimal, ne_eqb, ltb-true, append-nil, get_or_at}
+use Rattle.kd_card.proofs.Prelude.{take_all, flat_map-append, AllPass-from_list_all, All-weaker, All-from_recursion}
+use Rattle.kd_card.proofs.Prelude.{flat_map-map, Setting, words_of, line_of, IsWord, IsWithout, IsFirstPart}
+use Rattle.kd_card.proofs.Prelude.{setting_line, list_text, PriceParts, Version, version_of, price_sum, head_words}
+use Rattle.kd_card.proofs.Prelude.{settings_words, price_words, sum_words, lines_text, price_lines, card_text}
+use Rattle.kd_card.proofs.Prelude.{with_line, HasWords, common_steps, lines_split_into_words, texts_tell_first_parts}
+use Rattle.kd_card.proofs.Prelude.{words_make_one_line, map, setting_words, suc, ◌^◌, ◌≤◌, Bool, get_or, Option, Some}
+use Rattle.kd_card.proofs.Prelude.{None, MatchOption, Result, Ok, Err, MatchResult, Decides, Bor, ◌↔◌, IsTrue, is_some}
+use Rattle.kd_card.proofs.Prelude.{subst, pos, negsuc, unsigned_abs, FitsSigned, w16, to_z, of_z, then_some, IsUtf8}
+use Rattle.kd_card.proofs.Prelude.{ParsesSigned, AllByRecursion, false≢true, fits_signed_from_abs, to_z-of_z}
+use Rattle.kd_card.proofs.Prelude.{get_or-map, length-map, recursion_from_All, All-map, IsPriceText, SaysPrices}
+use Rattle.kd_card.proofs.Prelude.{BadLine, PriceMissing, Refused, Found, parse-signed_decimal, IsAscii-signed}
+use Rattle.kd_card.proofs.Prelude.{AreWithinReach, codes, zero, ◌+◌, ◌*◌, inl, inr, fold, decimal, not, pointwise}
+use Rattle.kd_card.proofs.Prelude.{not-false, Decides-eqb, slice_eq-Decides, err_from_is_err_and, ◌+ℤ◌, digits_value}
+use Rattle.kd_card.proofs.Prelude.{decimal_nonempty, digits_decimal, decimal_digit, first_decimal, All-cons, All-append}
+use Rattle.kd_card.proofs.Prelude.{All-from_get_or, how_many, ArePrices, Group, Name, PricedKind, CountWrong}
+use Rattle.kd_card.proofs.Prelude.{BeginsWithHead, kinds_text, row_word, column_word, version_text, IsGroup, IsDigit}
+use Rattle.kd_card.proofs.Prelude.{IsNumberText, IsNumeral, SaysValue, SaysLine, SaysFirst, SaysPriceLine, SaysGroup}
+use Rattle.kd_card.proofs.Prelude.{nil_from_length, numbers_are_words, word_by_bytes, word_by_test, passed, CardFault}
 use Rattle.std.proofs.lemmas.List.Splits.{slice_split_none, slice_split_at, join_with_byte-slice_split}
 use Rattle.std.{proofs.lemmas.Str.IsUtf8-from_ascii, specs.{Result.{result_ok, IsErrAnd}, Int.Signed.mag}}
 use Rattle.kd_card.specs.Reading.{head_front}
@@ -42,10 +62,12 @@ in_turn : (head count sum : List (List ℕ)) (settings lines : List (List (List 
     ≡ lines_text (head ∷ settings ++ count ∷ lines ++ sum ∷ [])
 in_turn head count sum settings lines = simp (flat_map-append, append_assoc)
 
-pub written : (version : Version) (day count : ℕ) (xs ys : List Setting) (prices : PriceParts) (sum : ℤ) (empty head list number lines whole : List ℕ)
+pub written : (version : Version) (day count : ℕ) (xs ys : List Setting) (prices : PriceParts) (sum : ℤ)
+    (empty head list number lines whole : List ℕ)
     → empty ≡ [] → head ≡ empty ++ with_line (head_words version day) [] → list ≡ head ++ list_text ys
     → number ≡ list ++ with_line (settings_words count) [] → lines ≡ number ++ lines_text (price_lines prices)
-    → whole ≡ lines ++ with_line (sum_words sum) [] → version ≡ version_of prices → ys ≡ xs → count ≡ length xs → sum ≡ price_sum prices
+    → whole ≡ lines ++ with_line (sum_words sum) [] → version ≡ version_of prices → ys ≡ xs → count ≡ length xs
+    → sum ≡ price_sum prices
     → whole ≡ card_text day xs prices
 written version day count xs ys prices sum empty head list number lines whole a b c d e f by same counted summed =
     let lines_of = map setting_words xs in
@@ -53,7 +75,7 @@ written version day count xs ys prices sum empty head list number lines whole a 
     let all : lines_text lines_of ≡ list_text xs = flat_map-map (λ words. line_of words ++ 10 ∷ []) setting_words xs in
     cc
 
--- two lines, and what follows them
+-- Two lines, and the bytes after them.
 pub two_lines : (a b : List (List ℕ)) (rest : List ℕ) → lines_text (a ∷ b ∷ []) ++ rest ≡ with_line a (with_line b rest)
 two_lines a b rest = simp (append_assoc, append-nil)
 
@@ -63,7 +85,7 @@ pub no_first_part : {byte : ℕ} {text part rest : List ℕ} → IsFirstPart byt
 no_first_part {byte} {text} {part} {rest} first without =
     grind (arith, without, length-append part (byte ∷ rest), get_or_at part byte rest 0 (length part) refl)
 
--- what is in front of the first LF behind a front
+-- Splits the bytes after `front` at the first LF.
 pub value_split : (text front behind : List ℕ) (r : Option (Bor (List ℕ) × Bor (List ℕ))) → text ≡ front ++ behind
     → MatchOption r (IsWithout 10 behind) (λ parts. IsFirstPart 10 behind parts.0.now parts.1.now)
     → MatchOption r
@@ -78,7 +100,9 @@ value_split text front behind (Some found) e first =
 -- ---- texts without LF
 
 pub bytes_above : (low : ℕ) (text : List ℕ) → list_all (ltb low) text ≡ true → All (λ b. low < b) text
-bytes_above low text e = All-weaker (λ b. ltb low b ≡ true) (λ b. low < b) (λ b. ltb-true low b) text (AllPass-from_list_all (ltb low) text e)
+bytes_above low text e =
+    All-weaker (λ b. ltb low b ≡ true) (λ b. low < b) (λ b. ltb-true low b) text
+    (AllPass-from_list_all (ltb low) text e)
 
 -- ---- the words of a line
 
@@ -94,7 +118,8 @@ words_of_first {text} {word} {rest} first = grind (arith, slice_split_at, spacel
 pub is_line : {bytes : List ℕ} {words : List (List ℕ)} {rest : List ℕ} → HasWords bytes words rest
     → bytes ≡ with_line words rest
 is_line {rest} has =
-    has.first.joined ∙ ap (λ line. line ++ 10 ∷ rest) (sym (join_with_byte-slice_split 32 has.line) ∙ ap line_of has.parts)
+    has.first.joined
+    ∙ ap (λ line. line ++ 10 ∷ rest) (sym (join_with_byte-slice_split 32 has.line) ∙ ap line_of has.parts)
 
 pub some_bytes : {bytes rest : List ℕ} {words : List (List ℕ)} → HasWords bytes words rest → bytes ≢ []
 some_bytes {rest} has none = omega (arith, ap length (sym has.first.joined ∙ none), length-append has.line (10 ∷ rest))
@@ -114,17 +139,18 @@ pub value_line : {bytes : List ℕ} (name value rest : List ℕ) → IsWord name
     → bytes ≡ with_line (name ∷ value ∷ []) rest → HasWords bytes (name ∷ value ∷ []) rest
 value_line name value rest named valued e = grind (arith, line_has_words, All-from_recursion)
 
--- three words
-pub words_in_place : (words : List (List ℕ)) (items : List (Bor (List ℕ))) (a b d : Bor (List ℕ)) → map (λ (word : Bor (List ℕ)). word.now) items ≡ words
+-- A line with three words.
+pub words_in_place : (words : List (List ℕ)) (items : List (Bor (List ℕ))) (a b d : Bor (List ℕ))
+    → map (λ (word : Bor (List ℕ)). word.now) items ≡ words
     → length items ≡ 3 → words ≡ (get_or items 0 a).now ∷ (get_or items 1 b).now ∷ (get_or items 2 d).now ∷ []
 words_in_place words items a b d e h = grind (arith, common_steps)
 
--- ---- prices by their texts
+-- ---- texts of prices
 
 pub fits : (p : ℤ) → unsigned_abs p ≤ 9999 → FitsSigned w16 p
 fits p within = fits_signed_from_abs w16 p (omega (arith, within))
 
--- a price that is written from its 16 bits
+-- A price as it is written from its 16 bits.
 pub written_price : (text : List ℕ) (p : ℤ) → text ≡ signed_decimal (to_z w16 (of_z w16 p)) → unsigned_abs p ≤ 9999
     → text ≡ signed_decimal p
 written_price text p e within = e ∙ ap signed_decimal (to_z-of_z w16 p (fits p within))
@@ -133,15 +159,20 @@ pub small : (p : ℤ) → unsigned_abs p ≤ 9999 → mag p < 2 ^ 63
 small p e = grind arith
 
 pub no_text : {S E : Type 0} (bs : List ℕ) (r : Result S E) (P : S → Type 0) (Q : E → Type 0)
-    → MatchResult r P (λ e. ¬ (IsUtf8 bs) × Q e) → result_ok r ≡ None → (price : ℤ) → unsigned_abs price ≤ 9999 → signed_decimal price ≢ bs
+    → MatchResult r P (λ e. ¬ (IsUtf8 bs) × Q e) → result_ok r ≡ None → (price : ℤ) → unsigned_abs price ≤ 9999
+    → signed_decimal price ≢ bs
 no_text bs (Ok s) P Q h none price within e = cc
-no_text bs (Err f) P Q h none price within e = h.0 (subst IsUtf8 e (IsUtf8-from_ascii (signed_decimal price) (IsAscii-signed price (small price within))))
+no_text bs (Err f) P Q h none price within e =
+    h.0 (subst IsUtf8 e (IsUtf8-from_ascii (signed_decimal price) (IsAscii-signed price (small price within))))
 
-pub read_price : {E : Type 0} (bs : List ℕ) (r : Result ℤ E) → ParsesSigned w16 10 bs r → (price : ℤ) → unsigned_abs price ≤ 9999 → signed_decimal price ≡ bs
+pub read_price : {E : Type 0} (bs : List ℕ) (r : Result ℤ E) → ParsesSigned w16 10 bs r → (price : ℤ)
+    → unsigned_abs price ≤ 9999 → signed_decimal price ≡ bs
     → result_ok r ≡ Some price
-read_price bs r h price within e = ap result_ok (parse-signed_decimal w16 price bs r (fits price within) (small price within) (sym e) h)
+read_price bs r h price within e =
+    ap result_ok (parse-signed_decimal w16 price bs r (fits price within) (small price within) (sym e) h)
 
-pub only_price : {E : Type 0} (bs : List ℕ) (r : Result ℤ E) (q : ℤ) (test : Bool) → ParsesSigned w16 10 bs r → result_ok r ≡ Some q
+pub only_price : {E : Type 0} (bs : List ℕ) (r : Result ℤ E) (q : ℤ) (test : Bool) → ParsesSigned w16 10 bs r
+    → result_ok r ≡ Some q
     → unsigned_abs q ≤ 9999 → Decides test (bs ≡ signed_decimal q)
     → MatchOption (then_some test q)
     ((price : ℤ) → unsigned_abs price ≤ 9999 → signed_decimal price ≢ bs)
@@ -153,15 +184,17 @@ only_price bs r q false h some near d = λ price within e.
 
 -- ---- words that are prices
 
--- what `price_of_text` says of a word
+-- what `price_of_text` finds in a word
 abbrev pub IsPriceOf : List ℕ → Option ℤ → Type 0
 IsPriceOf word r =
-    MatchOption r ((price : ℤ) → unsigned_abs price ≤ 9999 → signed_decimal price ≢ word) (λ price. (signed_decimal price ≡ word) × (unsigned_abs price ≤ 9999))
+    MatchOption r ((price : ℤ) → unsigned_abs price ≤ 9999 → signed_decimal price ≢ word)
+    (λ price. (signed_decimal price ≡ word) × (unsigned_abs price ≤ 9999))
 
 pub tells_price : (word : List ℕ) (r : Option ℤ) → IsPriceOf word r → IsTrue (is_some r) ↔ IsPriceText word
 tells_price word r e = grind arith
 
-pub not_at : (words : List (Bor (List ℕ))) (i : ℕ) (d : Bor (List ℕ)) → i < length words → ¬ (IsPriceText (get_or words i d).now)
+pub not_at : (words : List (Bor (List ℕ))) (i : ℕ) (d : Bor (List ℕ)) → i < length words
+    → ¬ (IsPriceText (get_or words i d).now)
     → ¬ (All IsPriceText (map (λ (word : Bor (List ℕ)). word.now) words))
 not_at words i d inside none all =
     none
@@ -171,19 +204,22 @@ not_at words i d inside none all =
 pub all_price_texts : (prices : List ℤ) → AreWithinReach prices → All IsPriceText (map signed_decimal prices)
 all_price_texts prices reach =
     All-map IsPriceText signed_decimal prices
-    (All-weaker (λ price. unsigned_abs price ≤ 9999) (λ price. IsPriceText (signed_decimal price)) (λ price within. (price, within, refl)) prices reach)
+    (All-weaker (λ price. unsigned_abs price ≤ 9999) (λ price. IsPriceText (signed_decimal price))
+    (λ price within. (price, within, refl)) prices reach)
 
 priced : (words : List (List ℕ)) → AllByRecursion IsPriceText words
-    → (prices : List ℤ) × (words ≡ map signed_decimal prices) × AllByRecursion (λ price. unsigned_abs price ≤ 9999) prices
+    → (prices : List ℤ) × (words ≡ map signed_decimal prices)
+    × AllByRecursion (λ price. unsigned_abs price ≤ 9999) prices
 priced [] all = ([], refl, tt)
 priced (word ∷ words) (is, all) =
     let rest = priced words all in
     (is.0 ∷ rest.0, cc, (is.1, rest.2))
 
--- ---- what is said of words as prices
+-- ---- prices in a line
 
 module _ (number line : ℕ) {words : List (List ℕ)} where
-  pub other_count : (prices : List ℤ) → words ≡ map signed_decimal prices → AreWithinReach prices → length prices ≢ number
+  pub other_count : (prices : List ℤ) → words ≡ map signed_decimal prices → AreWithinReach prices
+      → length prices ≢ number
       → SaysPrices number line words (Err PriceMissing)
   other_count prices are reach differs =
       Found prices (are, reach) (Refused PriceMissing ((λ same count. differs count), refl) refl)
@@ -199,21 +235,21 @@ module _ (number line : ℕ) {words : List (List ℕ)} where
       Refused (BadLine line)
       ((λ prices are. none (subst (All IsPriceText) (sym are.0) (all_price_texts prices are.1))), refl) refl
 
--- ---- answers
+-- ---- results of steps
 
--- a step's fault is handed on
+-- A caller passes the fault of a step on.
 pub stops : {F Y : Type 0} (answer : Result Y F) (fault : F) (Good : Y → Type 0) (Bad : F → Type 0)
     → IsErrAnd answer (λ made. made ≡ fault) → Bad fault → MatchResult answer Good Bad
 stops answer fault Good Bad made bad = let is = err_from_is_err_and answer made in rw (is.1, is.2) bad
 
--- a test has failed
+-- A test that is false refutes what it decides.
 pub untrue : {P : Type 0} {test : Bool} → Decides test P → test ≡ false → ¬ P
 untrue decides e is = false≢true (sym e ∙ decides.1 is)
 
 pub filled : {text : List ℕ} {test : Bool} → test ≡ eqb (length text) 0 → test ≡ false → text ≢ []
 filled is e none = false≢true (sym e ∙ is ∙ ap (λ t. eqb (length t) 0) none)
 
--- no line is due where there are bytes: there is none
+-- If there are bytes but no line, the line is bad.
 pub no_line : {line : ℕ} {bytes : List ℕ} {fault : CardFault} → bytes ≢ [] → SaysLine line bytes (Err fault)
     → ((found : List (List ℕ) × List ℕ) → ¬ (HasWords bytes found.0 found.1)) × (fault ≡ BadLine line)
 no_line some (Refused f none e) = absurd (none.0 tt some)
@@ -241,7 +277,7 @@ pub signed_word : (z : ℤ) → unsigned_abs z < 2 ^ 64 → IsWord (signed_decim
 signed_word (pos n) small = numbers_are_words n small
 signed_word (negsuc n) small = below_zero (decimal (suc n)) (numbers_are_words (suc n) small)
 
--- a head, as what stands in front of the day, and the day
+-- A head consists of the bytes before the day, and the day.
 pub head_text : {front : List ℕ} (version : Version) (day : ℕ) (rest : List ℕ) → front ≡ head_front version
     → front ++ decimal day ++ 10 ∷ rest ≡ with_line (head_words version day) rest
 head_text version day rest e = rw e (grind arith)
@@ -261,7 +297,8 @@ prices_are_words word prices w reach =
 
 -- ---- the keywords of numbers
 
-number_by_parts : (text : List ℕ) → 0 < length text → ((i : ℕ) → i < length text → IsDigit (get_or text i 0)) → (get_or text 0 0 ≡ 48 → length text ≡ 1)
+number_by_parts : (text : List ℕ) → 0 < length text → ((i : ℕ) → i < length text → IsDigit (get_or text i 0))
+    → (get_or text 0 0 ≡ 48 → length text ≡ 1)
     → IsNumberText text
 number_by_parts [] some digits lead = absurd (omega arith)
 number_by_parts (digit ∷ rest) some digits lead = (
@@ -285,7 +322,7 @@ pub signed_text : (z : ℤ) → unsigned_abs z < 2 ^ 64 → IsNumeral true (sign
 signed_text (pos n) small = inl (number_text n small)
 signed_text (negsuc n) small = inr (decimal (suc n), refl, number_text (suc n) small, not_zero n small)
 
--- ---- the sum of prices is small
+-- ---- a bound of the sum of prices
 
 sum_bound : (a : ℤ) (prices : List ℤ) → AllByRecursion (λ price. unsigned_abs price ≤ 9999) prices
     → unsigned_abs (fold (λ sum price. sum +ℤ price) a prices) ≤ unsigned_abs a + 9999 * length prices
@@ -310,22 +347,26 @@ module _ (signed : Bool) (front due : List ℕ) (line : ℕ) where
       → bytes ≡ front ++ due ++ 10 ∷ rest
   value_said says = grind (arith, passed)
 
--- a value behind a front is told by the text, and so is what follows
-pub same_values : {bytes : List ℕ} (front : List ℕ) {value other rest more : List ℕ} → IsWithout 10 value → IsWithout 10 other
+-- The value after `front` and the bytes after its line are determined by the text.
+pub same_values : {bytes : List ℕ} (front : List ℕ) {value other rest more : List ℕ} → IsWithout 10 value
+    → IsWithout 10 other
     → bytes ≡ front ++ value ++ 10 ∷ rest → bytes ≡ front ++ other ++ 10 ∷ more → (value ≡ other) × (rest ≡ more)
 same_values front {value} {other} {rest} {more} free clear e d =
-    texts_tell_first_parts 10 value other rest more free clear (append_cancel_left front (value ++ 10 ∷ rest) (other ++ 10 ∷ more)
+    texts_tell_first_parts 10 value other rest more free clear
+    (append_cancel_left front (value ++ 10 ∷ rest) (other ++ 10 ∷ more)
     (sym (append_assoc front value (10 ∷ rest)) ∙ sym e ∙ d ∙ append_assoc front other (10 ∷ more)))
 
 -- ---- a first word, and prices
 
 module _ {K : Type 0} (word : K → List ℕ) {line : ℕ} {bytes : List ℕ} where
   pub first_found : {first : List ℕ} {words : List (List ℕ)} {rest : List ℕ} (key : K)
-      → SaysLine line bytes (Ok (first ∷ words, rest)) → first ≡ word key → SaysFirst word line bytes (Ok (key, words, rest))
+      → SaysLine line bytes (Ok (first ∷ words, rest)) → first ≡ word key
+      → SaysFirst word line bytes (Ok (key, words, rest))
   first_found {first} {words} {rest} key says is =
       Found (first ∷ words, rest) says (Found (key, words) (ap (λ w. w ∷ words) is) refl)
 
-  pub other_first : {first : List ℕ} {words : List (List ℕ)} {rest : List ℕ} → SaysLine line bytes (Ok (first ∷ words, rest))
+  pub other_first : {first : List ℕ} {words : List (List ℕ)} {rest : List ℕ}
+      → SaysLine line bytes (Ok (first ∷ words, rest))
       → ((key : K) → first ≢ word key) → SaysFirst word line bytes (Err PriceMissing)
   other_first {first} {words} {rest} says none =
       Found (first ∷ words, rest) says
@@ -335,7 +376,7 @@ module _ {K : Type 0} (word : K → List ℕ) {line : ℕ} {bytes : List ℕ} wh
       → SaysFirst word line bytes (Ok (key, words, rest))
   first_says key words rest has = first_found key (Found tt (some_bytes has) has) refl
 
--- what a line of prices has
+-- A line has a first word and `number` prices after it.
 pub record HasPrices (bytes word : List ℕ) (number : ℕ) (prices : List ℤ) (rest : List ℕ) : Type 0 where
   pub text : bytes ≡ with_line (price_words word prices) rest
   pub reach : AreWithinReach prices

@@ -1,6 +1,6 @@
--- On a rotor machine a month's cards are the fewest settings in all. Settings that lead from one machine to another one
--- are at least as many as the rings and window letters that differ. A card sets those alone that are wrong for the day,
--- so it comes nearer to every machine that reads as the day.
+-- On a rotor machine the cards of a month are the fewest settings in all. A list that leads from one machine to
+-- another has at least one setting for each ring and window letter that differs. A card only changes what is
+-- wrong for the day, so it comes nearer to each machine that reads as the day.
 use Rattle.kd_card.proofs.Prelude.{◌≡◌, ◌≢◌, ◌∙◌, ℕ, zero, suc, ◌+◌, ◌<◌, ◌≤◌, pos, ints, nat_eq, cond, not, Bool}
 use Rattle.kd_card.proofs.Prelude.{false, List, [], ◌∷◌, length, set, zip, map, replicate, count_by, sum_by, All}
 use Rattle.kd_card.proofs.Prelude.{AllZip, IsPermutation, Option, Some, None, ℤ, refl, sym, ap, subst, arith, slice_get}
@@ -22,7 +22,7 @@ use Rattle.kd_state.specs.declared.sheet_day.rotor_entry.SheetWheel.{SheetWheel}
 use Rattle.kd_tables.specs.declared.{model.Model.TheVariants.M209, reflector.Reflector.Reflector, wheel.Wheel.Wheel}
 use Rattle.std.proofs.lemmas.Bool.Decides.{nat_tests}
 
--- ---- in how many places two lists differ
+-- ---- the number of places where two lists differ
 
 abbrev gaps : List ℕ → List ℕ → ℕ
 gaps (x ∷ xs) (y ∷ ys) = cond (nat_eq x y) 0 1 + gaps xs ys
@@ -49,18 +49,18 @@ gaps-set (x ∷ xs) (y ∷ ys) zero l = grind (arith, nat_tests)
 gaps-set (x ∷ xs) (y ∷ ys) (suc p) l = omega (arith, gaps-set xs ys p l)
 gaps-set xs ys p l = grind (arith, gaps-nil, length-set)
 
--- xs hasn't letter t at place q
+-- `xs` doesn't have letter `t` at place `q`.
 abbrev is_wrong : List ℕ → ℕ → ℕ → Bool
 is_wrong xs q t = not (option_map_or (nat_eq t) (slice_get xs q) false)
 
--- Where ys has letter t at place q, a change of xs that makes it right closes a gap.
+-- If `ys` has letter `t` at place `q`, setting this letter in `xs` closes a gap.
 gaps-right : (xs ys : List ℕ) (p l q t : ℕ) → slice_get ys q ≡ Some t
     → cond {A = ℕ} (is_wrong (set xs p l) q t) 1 0 < cond (is_wrong xs q t) 1 0 → gaps (set xs p l) ys + 1 ≤ gaps xs ys
 gaps-right (x ∷ xs) (y ∷ ys) zero l zero t e fewer = grind (arith, nat_tests)
 gaps-right (x ∷ xs) (y ∷ ys) (suc p) l (suc q) t e fewer = omega (arith, gaps-right xs ys p l q t e fewer)
 gaps-right xs ys p l q t e fewer = grind arith
 
--- So does a change that makes fewer of a day's wheels wrong, where ys has the letter of each.
+-- The same for a change that leaves fewer of the day's wheels wrong, if `ys` has the letter of each wheel.
 module _ (place target : SheetWheel → ℕ) (ys : List ℕ) where
   abbrev IsRight : SheetWheel → Type 0
   IsRight w = slice_get ys (place w) ≡ Some (target w)
@@ -77,7 +77,7 @@ module _ (place target : SheetWheel → ℕ) (ys : List ℕ) where
       let here = gaps-right xs ys p l (place w) (target w) (All-head IsRight w ws h) in
       grind (arith, here, gaps-fewer xs p l ws (All-tail IsRight w ws h))
 
--- ---- what cables cost doesn't depend on their numbers
+-- ---- the cost of cables doesn't depend on their numbers
 
 abbrev differing : List ℕ → (ℕ → Bool) → (ℕ → Bool) → ℕ
 differing letters p q = count_by (λ letter. differ (p letter) (q letter)) letters
@@ -90,7 +90,7 @@ differing-triangle p q r (letter ∷ letters) =
     let rest = differing-triangle p q r letters in
     simp count_by-cons (grind (arith, rest.0), grind (arith, rest.1))
 
--- cables xs beside columns us, each with the letters that lie in it
+-- cables `xs` with columns `us`, each with its letters
 module _ {A W : Type 0} (letters : List ℕ) (f : A → ℕ → Bool) (g : W → ℕ → Bool) where
   abbrev costs : List A → List W → ℕ
   costs xs us = sum_by (λ z. differing letters (f z.0) (g z.1)) (zip xs us)
@@ -116,12 +116,12 @@ zip-seconds us zs h = absurd h
 abbrev Priced : Type 0
 Priced = Option (ℕ × ℕ) × ℤ
 
--- Whatever the other cables are to become, these can become at no higher cost.
+-- Whatever the cables `others` are to become, the cables `cables` can become it at no higher cost.
 abbrev CostNoMore : List (Option ℕ × Option ℕ) → List (Option ℕ × Option ℕ) → Type 0
 CostNoMore cables others = (ws : List Priced) → length ws ≡ length others
     → (vs : List Priced) × IsPermutation ws vs × (pairing_cost cable_cost cables vs ≤ pairing_cost cable_cost others ws)
 
--- cables of two machines that read as one day
+-- Cables of two machines that read as one day have equal costs.
 reading_alike_costs_no_more : (g n : RotorParts) (s : RotorDay) → IsLegalRotorDay s → HasCables g.cables
     → HasCables n.cables → ReadsAs (Rotor g) (OfRotors s) → ReadsAs (Rotor n) (OfRotors s)
     → CostNoMore g.cables n.cables
@@ -155,8 +155,8 @@ abbrev gap : RotorParts → RotorParts → ℕ
 gap m n = gaps m.rings n.rings + gaps m.letters n.letters
 
 module _ (s : RotorDay) (legal : IsLegalRotorDay s) (o : RotorParts) (reads : ReadsAs (Rotor o) (OfRotors s)) where
-  -- What is loose, cables apart, where all rings and letters are to be the other machine's; and with cables that are to
-  -- become these.
+  -- what is loose, cables apart, if each ring and each letter is to be the other machine's; and the same with
+  -- cables that are to become columns
   abbrev loose_for : Parts → ℕ
   loose_for (Rotor m) = loose_slots m s + loose_reflector m s + gap m o
   loose_for (Pin m) = 0
@@ -188,7 +188,7 @@ module _ (s : RotorDay) (legal : IsLegalRotorDay s) (o : RotorParts) (reads : Re
       let rest = left_for-list ws leads.0 n xs (ap model_of leads.1.made ∙ model_of-changed m x ∙ same) leads.2 in
       omega (arith, rest, ap (left_for ws) leads.1.made, left_for-changed ws m x same leads.1.allowed)
 
-  -- a setting that is needed makes one thing less loose
+  -- A needed setting makes one thing less loose.
   loose_for-needed : (m : Parts) (x : Setting) → model_of m ≡ s.model → IsNeeded m (OfRotors s) x
       → loose_for (changed m x) + 1 ≤ loose_for m + cond (is_priced x) 1 0
   loose_for-needed (Rotor m) (RingTo wheel letter) same needed =
@@ -212,8 +212,8 @@ module _ (s : RotorDay) (legal : IsLegalRotorDay s) (o : RotorParts) (reads : Re
 abbrev frame : RotorParts → Model × List (Option Wheel) × Reflector
 frame m = (m.model, m.slots, m.reflector)
 
--- The machine g that cards have reached and the machine n that other lists have reached differ in rings, window letters
--- and the numbers of cables alone.
+-- The machines reached by cards and by other lists differ only in rings, window letters and the numbers of
+-- cables.
 record Agree (g n : RotorParts) : Type 0 where
   first : HasCables g.cables
   second : HasCables n.cables
@@ -226,7 +226,7 @@ module _ (g n h o : RotorParts) (s : RotorDay) (card list : List Setting) (legal
   last : HasCables o.cables
   last = list_keeps (Rotor n) (Rotor o) list by_list.leads near.second
 
-  -- the card is longer than the list by no more than what it comes nearer
+  -- A card is longer than the other list by at most what it comes nearer.
   card-at_most : (prices : PriceParts) → ArePrices prices → ProvesByNumber (Rotor g) (OfRotors s) card prices
       → length card + gap h o ≤ length list + gap g n
   card-at_most (Cables row column) are proves =

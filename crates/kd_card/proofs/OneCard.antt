@@ -1,11 +1,31 @@
--- Bytes are one card, or have one fault.
-use Rattle.kd_card.proofs.Prelude.{not_longer, same_end, Bool, true, false, codes, ◌≡◌, ◌≢◌, ℕ, ◌+◌, ◌*◌, ◌^◌, ◌<◌, ◌≤◌, List, [], ◌∷◌, ◌++◌, length, map, get_or, Result, Ok, Err, refl, sym, ap, subst, ◌∙◌, arith, ℤ, unsigned_abs, append_assoc, AllByRecursion, signed_decimal, decimal_injective, signed_decimal_injective, append-nil, recursion_from_All, Setting, IsWord, setting_line, list_text, BeginsWith, BeginsWithNoLine, PriceParts, Cables, Bars, CableKinds, BarKinds, Version, ByNumber, ByKind, Group, OfCables, OfBars, Name, PricedKind, Trailing, Then, Refused, Found, Only, Demands, look_rank, name_text, kinds_text, AreKinds, AreCalled, version_of, row_kinds, column_kinds, price_sum, AreWithinReach, ArePrices, group_of, row_word, column_word, row_name, column_name, price_count, settings_words, price_words, sum_words, lines_text, price_lines, card_text, IsGroup, IsCard, with_line, SaysValue, SaysFirst, BeginsWithHead, BeginsWithSettings, SaysSettings, SaysPriceLine, SaysNumbered, BeginsWithWord, EndsGroup, AtOther, IsNextKind, floor_behind, SaysGroup, SaysKinded, SaysAllPrices, SaysBehind, SaysCard, TextsTellCards, NoCardBeginsAnother, CardsHaveNoFault, OneCardFault, common_steps, word_by_test, BeginsWithKinds, CardsAreSaid, IsOnly, only_demands, only_finds, only_only, only_takes, only_then, passed, same_ok, CardFault, head_words, kind_words}
+-- Bytes are the text of at most one card, or have one fault.
+use Rattle.kd_card.proofs.Prelude.{not_longer, same_end, Bool, true, false, codes, ◌≡◌, ◌≢◌, ℕ, ◌+◌, ◌*◌, ◌^◌, ◌<◌, ◌≤◌}
+use Rattle.kd_card.proofs.Prelude.{List, [], ◌∷◌, ◌++◌, length, map, get_or, Result, Ok, Err, refl, sym, ap, subst, ◌∙◌}
+use Rattle.kd_card.proofs.Prelude.{arith, ℤ, unsigned_abs, append_assoc, AllByRecursion, signed_decimal}
+use Rattle.kd_card.proofs.Prelude.{decimal_injective, signed_decimal_injective, append-nil, recursion_from_All, Setting}
+use Rattle.kd_card.proofs.Prelude.{IsWord, setting_line, list_text, BeginsWith, BeginsWithNoLine, PriceParts, Cables}
+use Rattle.kd_card.proofs.Prelude.{Bars, CableKinds, BarKinds, Version, ByNumber, ByKind, Group, OfCables, OfBars, Name}
+use Rattle.kd_card.proofs.Prelude.{PricedKind, Trailing, Then, Refused, Found, Only, Demands, look_rank, name_text}
+use Rattle.kd_card.proofs.Prelude.{kinds_text, AreKinds, AreCalled, version_of, row_kinds, column_kinds, price_sum}
+use Rattle.kd_card.proofs.Prelude.{AreWithinReach, ArePrices, group_of, row_word, column_word, row_name, column_name}
+use Rattle.kd_card.proofs.Prelude.{price_count, settings_words, price_words, sum_words, lines_text, price_lines}
+use Rattle.kd_card.proofs.Prelude.{card_text, IsGroup, IsCard, with_line, SaysValue, SaysFirst, BeginsWithHead}
+use Rattle.kd_card.proofs.Prelude.{BeginsWithSettings, SaysSettings, SaysPriceLine, SaysNumbered, BeginsWithWord}
+use Rattle.kd_card.proofs.Prelude.{EndsGroup, AtOther, IsNextKind, floor_behind, SaysGroup, SaysKinded, SaysAllPrices}
+use Rattle.kd_card.proofs.Prelude.{SaysBehind, SaysCard, TextsTellCards, NoCardBeginsAnother, CardsHaveNoFault}
+use Rattle.kd_card.proofs.Prelude.{OneCardFault, common_steps, word_by_test, BeginsWithKinds, CardsAreSaid, IsOnly}
+use Rattle.kd_card.proofs.Prelude.{only_demands, only_finds, only_only, only_takes, only_then, passed, same_ok}
+use Rattle.kd_card.proofs.Prelude.{CardFault, head_words, kind_words}
 use Rattle.kd_card.specs.{CardFault.numbered, Reading.head_front}
-use Rattle.kd_card.proofs.Lines.{line_has_words, value_line, same_words, two_lines, card_and_more, small, numeral_word, signed_word, head_text, day_unbroken, first_is_word, prices_are_words, number_text, signed_text, price_sum_is_small, value_says, value_said, same_values, first_says, HasPrices, line_said, group_said}
+use Rattle.kd_card.proofs.Lines.{line_has_words, value_line, same_words, two_lines, card_and_more, small, numeral_word}
+use Rattle.kd_card.proofs.Lines.{signed_word, head_text, day_unbroken, first_is_word, prices_are_words, number_text}
+use Rattle.kd_card.proofs.Lines.{signed_text, price_sum_is_small, value_says, value_said, same_values, first_says}
+use Rattle.kd_card.proofs.Lines.{HasPrices, line_said, group_said}
 use Rattle.kd_card.proofs.KindWords.{kind_is_words, kind_begins, end_has_no_next, same_kind}
-use Rattle.kd_card.proofs.KindPrices.{text_of_more_kinds, text_by_kind, both_groups, size_of, of_two_groups, same_kind_parts, some_and_few}
+use Rattle.kd_card.proofs.KindPrices.{text_of_more_kinds, text_by_kind, both_groups, size_of, of_two_groups}
+use Rattle.kd_card.proofs.KindPrices.{same_kind_parts, some_and_few}
 
--- ---- what is told by its text
+-- ---- texts that determine what they describe
 
 same_pair : {A B : Type 0} (x y : A × B) → x.0 ≡ y.0 → x.1 ≡ y.1 → x ≡ y
 same_pair (a, b) (c, d) e f = cc
@@ -20,16 +40,16 @@ same_prices (p ∷ ps) (q ∷ qs) a b e =
     cc
 same_prices ps qs a b e = absurd (omega (arith, ap length e))
 
--- the first and the third letter tell the line that ends the settings from those of settings
+-- the first and the third letter, which distinguish the line after the settings from the line of a setting
 abbrev first_and_third : List ℕ → ℕ
 first_and_third line = get_or line 0 0 * 256 + get_or line 2 0
 
 no_setting : (x : Setting) (rest : List ℕ) → first_and_third (setting_line x ++ 10 ∷ rest) ≢ 21332
 no_setting x rest = grind arith
 
--- ---- what steps that reach the end say of the bytes
+-- ---- what the steps of reading say about the bytes if all succeed
 
--- the bytes are the lines of these prices, of that version, and what follows
+-- `bytes` are the lines of these prices, and then `rest`.
 record AreAll (by : Version) (bytes : List ℕ) (prices : PriceParts) (rest : List ℕ) : Type 0 where
   version : version_of prices ≡ by
   text : bytes ≡ lines_text (price_lines prices) ++ rest
@@ -41,7 +61,8 @@ by_number : (group : Group) (rows columns : List ℤ) {bytes middle rest : List 
     → AreAll ByNumber bytes (numbered group rows columns) rest
 by_number group rows columns a b = grind (arith, common_steps, two_lines)
 
-all_said : (version : Version) (line : ℕ) {bytes : List ℕ} (x : PriceParts × List ℕ) → SaysAllPrices version line bytes (Ok x)
+all_said : (version : Version) (line : ℕ) {bytes : List ℕ} (x : PriceParts × List ℕ)
+    → SaysAllPrices version line bytes (Ok x)
     → AreAll version bytes x.0 x.1
 all_said ByNumber line {bytes} x says =
     let rows = passed says in
@@ -69,11 +90,14 @@ all_said ByKind line {bytes} x says =
           have.row_kinds have.column_kinds a.group b.group;
     })
 
-pub up_to_settings : {bytes : List ℕ} {version : Version} {day : ℕ} {body : List ℕ} {xs : List Setting} {rest : List ℕ} {number : ℕ}
-    {answer : Result (ℕ × List Setting × PriceParts) CardFault} → BeginsWithHead bytes version day body → BeginsWithSettings body xs rest
+pub up_to_settings : {bytes : List ℕ} {version : Version} {day : ℕ} {body : List ℕ} {xs : List Setting} {rest : List ℕ}
+    {number : ℕ}
+    {answer : Result (ℕ × List Setting × PriceParts) CardFault} → BeginsWithHead bytes version day body
+    → BeginsWithSettings body xs rest
     → number ≡ length xs → SaysBehind version day xs number rest answer → SaysCard bytes answer
 up_to_settings {version} {day} {body} {xs} {rest} {answer} head list count says =
-    Found (version, day, body) head (Found (xs, rest) list (subst (λ n. SaysBehind version day xs n rest answer) count says))
+    Found (version, day, body) head (Found (xs, rest) list
+    (subst (λ n. SaysBehind version day xs n rest answer) count says))
 
 pub card_said : {bytes : List ℕ} (x : ℕ × List Setting × PriceParts) → SaysCard bytes (Ok x) → IsCard bytes x.0 x.1 x.2
 card_said {bytes} x says =
@@ -88,7 +112,8 @@ card_said {bytes} x says =
     let prices = all.found.0 in
     let last = value_said true (codes "SUM ") _ _ sum.says ∙ ap (with_line (sum_words (price_sum prices))) end.says in
     let behind = are.text ∙ ap (λ t. lines_text (price_lines prices) ++ t) last in
-    let counted = value_said false (codes "SETTINGS ") _ _ number.says ∙ ap (with_line (settings_words (length xs))) behind in
+    let counted =
+    value_said false (codes "SETTINGS ") _ _ number.says ∙ ap (with_line (settings_words (length xs))) behind in
     let body = list.says.lines.lines ∙ ap (λ t. list_text xs ++ t) counted in
     subst (λ (y : ℕ × List Setting × PriceParts). IsCard bytes y.0 y.1 y.2) (sym (same_ok end.next)) (record {
       text =
@@ -111,7 +136,8 @@ only_first word one line bytes =
     (λ some filled. only_finds _ (λ x y a b. let same = same_words a b in same_pair x y same.0 same.1)))
     (λ found has. only_then (only_finds _ (λ x y a b. same_pair x y (one x.0 y.0 (cc)) (cc))) (λ first is. only_only _))
 
-only_price_line : {K : Type 0} (word : K → List ℕ) (number : K → ℕ) → ((key other : K) → word key ≡ word other → key ≡ other)
+only_price_line : {K : Type 0} (word : K → List ℕ) (number : K → ℕ)
+    → ((key other : K) → word key ≡ word other → key ≡ other)
     → (line : ℕ) (bytes : List ℕ) → IsOnly (SaysPriceLine word number line bytes)
 only_price_line word number one line bytes =
     only_then (only_first word one line bytes)
@@ -121,7 +147,8 @@ only_price_line word number one line bytes =
     same_prices ps qs (recursion_from_All _ ps a.1) (recursion_from_All _ qs b.1) (sym a.0 ∙ b.0)))
     (λ prices are. only_then (only_demands _ _) (λ all count. only_only prices))) (λ prices are. only_only _))
 
-price_line_says : {K : Type 0} (word : K → List ℕ) (number : K → ℕ) {line : ℕ} {bytes : List ℕ} (key : K) (prices : List ℤ)
+price_line_says : {K : Type 0} (word : K → List ℕ) (number : K → ℕ) {line : ℕ} {bytes : List ℕ} (key : K)
+    (prices : List ℤ)
     (rest : List ℕ) → IsWord (word key) → AreWithinReach prices → length prices ≡ number key
     → bytes ≡ with_line (price_words (word key) prices) rest
     → SaysPriceLine word number line bytes (Ok (key, prices, rest))
@@ -171,7 +198,8 @@ only_group : (name : Name) (number line : ℕ) (bytes : List ℕ) → IsOnly (Sa
 only_group name number line bytes =
     only_then
     (only_takes (λ x y a b. let same = kinds_end name 0 x.0 y.0 x.1 y.1 a b in same_pair x y same.0 same.1))
-    (λ group takes. only_then (only_demands _ _) (λ end ends. only_then (only_demands _ _) (λ all count. only_only group)))
+    (λ group takes. only_then (only_demands _ _)
+    (λ end ends. only_then (only_demands _ _) (λ all count. only_only group)))
 
 group_says : {name : Name} {number : ℕ} (line : ℕ) {bytes : List ℕ} (kinds : List PricedKind) (rest : List ℕ)
     → IsGroup name number kinds → bytes ≡ kinds_text kinds ++ rest → EndsGroup name rest
@@ -186,7 +214,7 @@ group_says line kinds rest group e ends =
     })
     (Found tt ends (Found tt group.count refl))
 
--- a group of kinds begins with their name
+-- A group of kinds begins with their name.
 group_begins : {name : Name} {number : ℕ} {bytes : List ℕ} (kinds : List PricedKind) (rest : List ℕ) → 0 < number
     → IsGroup name number kinds → bytes ≡ kinds_text kinds ++ rest → BeginsWithWord (name_text name) bytes
 group_begins [] rest some group e = let count = group.count in absurd (omega arith)
@@ -205,7 +233,8 @@ only_all_prices ByKind line bytes =
     (λ rows say. only_then (only_group (column_name first.0) (price_count first.0) (line + length rows.0) rows.1)
     (λ columns all. only_then (only_takes same_kind_parts) (λ prices have. only_only _))))
 
-by_number_says : (group : Group) (line : ℕ) {bytes : List ℕ} (rows columns : List ℤ) (rest : List ℕ) → AreWithinReach rows
+by_number_says : (group : Group) (line : ℕ) {bytes : List ℕ} (rows columns : List ℤ) (rest : List ℕ)
+    → AreWithinReach rows
     → AreWithinReach columns → length rows ≡ price_count group → length columns ≡ price_count group
     → bytes ≡ with_line (price_words (row_word group) rows) (with_line (price_words (column_word group) columns) rest)
     → SaysNumbered line bytes (Ok (numbered group rows columns, rest))
@@ -215,7 +244,8 @@ by_number_says group line rows columns rest a b many also e =
     (Found (tt, columns, rest) (price_line_says _ _ tt columns rest (first_is_word group).1 b also refl) refl)
 
 by_kind_says : (line : ℕ) {bytes : List ℕ} (prices : PriceParts) (rest : List ℕ) → version_of prices ≡ ByKind
-    → ArePrices prices → EndsGroup (column_name (group_of prices)) rest → bytes ≡ lines_text (price_lines prices) ++ rest
+    → ArePrices prices → EndsGroup (column_name (group_of prices)) rest
+    → bytes ≡ lines_text (price_lines prices) ++ rest
     → SaysKinded line bytes (Ok (prices, rest))
 by_kind_says line prices rest by are ends e =
     let group = group_of prices in
@@ -247,7 +277,8 @@ all_say (BarKinds row col) line rest are ends e = by_kind_says line (BarKinds ro
 
 -- ---- the head, and a name and a value
 
-same_day : {bytes : List ℕ} {version : Version} {day other : ℕ} {rest more : List ℕ} → BeginsWithHead bytes version day rest
+same_day : {bytes : List ℕ} {version : Version} {day other : ℕ} {rest more : List ℕ}
+    → BeginsWithHead bytes version day rest
     → BeginsWithHead bytes version other more → (day ≡ other) × (rest ≡ more)
 same_day {version} {day} {other} {rest} {more} a b =
     let same = same_values (head_front version) (day_unbroken day a.of_month) (day_unbroken other b.of_month)
@@ -260,15 +291,17 @@ one_head bytes (ByNumber, day, rest) (ByNumber, other, more) a b = cc ((same_day
 one_head bytes (ByKind, day, rest) (ByKind, other, more) a b = cc ((same_day a b).0, (same_day a b).1)
 one_head bytes (_, _, _) (_, _, _) a b = absurd (omega (arith, ap (λ text. get_or text 5 0) (sym a.text ∙ b.text)))
 
-only_value : (signed : Bool) (front due : List ℕ) (line : ℕ) (bytes : List ℕ) → IsOnly (SaysValue signed front due line bytes)
+only_value : (signed : Bool) (front due : List ℕ) (line : ℕ) (bytes : List ℕ)
+    → IsOnly (SaysValue signed front due line bytes)
 only_value signed front due line bytes =
     only_then
     (only_finds _ (λ x y a b.
-    let same = same_values front (numeral_word signed x.0 a.0).unbroken (numeral_word signed y.0 b.0).unbroken a.1 b.1 in
+    let same =
+    same_values front (numeral_word signed x.0 a.0).unbroken (numeral_word signed y.0 b.0).unbroken a.1 b.1 in
     same_pair x y same.0 same.1))
     (λ found says. only_then (only_demands _ _) (λ due is. only_only _))
 
--- the line of the sum ends the kinds
+-- The line of the sum ends a group of kinds.
 sum_ends : (sum : ℤ) (rest : List ℕ) → unsigned_abs sum < 2 ^ 64 → (name : Name)
     → EndsGroup name (with_line (sum_words sum) rest)
 sum_ends sum rest near name =
@@ -280,7 +313,8 @@ sum_ends sum rest near name =
 abbrev EndSays : List ℕ → ℕ × List Setting × PriceParts → Result (ℕ × List Setting × PriceParts) CardFault → Type 0
 EndSays rest card = Then (Demands (rest ≡ []) Trailing) (λ (end : Unit {0}). Only card)
 
-card_says : {text : List ℕ} {day : ℕ} {xs : List Setting} {prices : PriceParts} {answer : Result (ℕ × List Setting × PriceParts) CardFault}
+card_says : {text : List ℕ} {day : ℕ} {xs : List Setting} {prices : PriceParts}
+    {answer : Result (ℕ × List Setting × PriceParts) CardFault}
     (rest : List ℕ)
     → IsCard text day xs prices
     → EndSays rest (day, xs, prices) answer → SaysCard (text ++ rest) answer
@@ -302,7 +336,7 @@ card_says {day} {xs} {prices} rest card end =
     (Found (prices, sum) (all_say prices _ sum card.are_prices (sum_ends (price_sum prices) rest near) refl)
     (Found rest (value_says true (codes "SUM ") _ _ (signed_text (price_sum prices) near) refl) end))))
 
--- where no line of a setting follows the first settings, there are no more of them, and no others
+-- If no line of a setting follows the settings, a second list of settings that begins the bytes is the same.
 lists_meet : {body : List ℕ} {xs ys : List Setting} {rest more : List ℕ} → BeginsWithSettings body xs rest
     → BeginsWith body ys more → (length ys ≤ length xs) × (BeginsWithNoLine more → (xs ≡ ys) × (rest ≡ more))
 lists_meet {body} {xs} {ys} {rest} {more} a b =

@@ -1,16 +1,36 @@
--- On a machine that reads as the day cables and bars can be paired with its columns, each with one that costs nothing.
--- So no list of settings that leads to the day has fewer than there are loose things and prices in sum, and a card that
--- proves itself has as many.
-use Rattle.kd_card.proofs.Prelude.{count_by-cons, ◌≡◌, ◌≢◌, ℕ, zero, suc, ◌+◌, ◌-◌, ◌≤◌, nat_eq, cond, List, [], ◌∷◌, ◌++◌, length, get_or, map, zip, replicate, Contains, IsPermutation, count_by, remove, Option, Some, None, ℤ, refl, sym, ap, ◌∙◌, subst, arith, AllByRecursion, AllZip, flat_map, eq-eqb, All-contains, recursion_from_All, sum_by-cons, get_or-le-sum_by, sum_by-IsPermutation, Contains-permutation, IsPermutation-refl, IsPermutation-sym, IsPermutation-cons, IsPermutation-trans, IsPermutation-remove, Place, One, alphabet, reading_of, IsBefore, letters_plugged, cable_letters, plugged_letters, has_letter, SameLetters, IsPaired, IsJoined, AreThePairs, differ, cable_cost, bar_cost, columns_of, tests_tell_letters, thirteen_columns, rules, Contains-append_right, sum_by, Stands, Contains-tail, ◌<◌, Bool, pos, ◌+ℤ◌, ◌≤ℤ◌, ints, length_permutation, All-permutation, Model, reflectors_of, Parts, Rotor, Pin, Setting, model_of, IsMachine, Leads, changed, Day, OfRotors, OfPins, day_model, IsLegalDay, ReadsAs, cost_table, loose_count, PriceParts, Cables, Bars, ArePrices, Fits, AreTight, price_sum, is_priced, priced_count, AreOfKind, IsNeeded, AreNeeded, Same, Expanded, FittingPricesBoundLists, ProvingCardsAreAsLong, ProvingCardsAreShortest, ProvingPricesAreTight, get_or_default, get_or-map, length-zip, get_or-zip, AsFewAreNeeded, why_refused, IsTightAt, column_prices, cost_at, how_many, price_at, row_prices, All-from_get_or, Contains-get_or}
+-- On a machine that reads as the day, cables or bars have an assignment that costs nothing. So no list that
+-- leads to the day is shorter than the loose things plus the sum of the prices, and a card that proves itself
+-- has exactly as many settings.
+use Rattle.kd_card.proofs.Prelude.{count_by-cons, ◌≡◌, ◌≢◌, ℕ, zero, suc, ◌+◌, ◌-◌, ◌≤◌, nat_eq, cond, List, [], ◌∷◌}
+use Rattle.kd_card.proofs.Prelude.{◌++◌, length, get_or, map, zip, replicate, Contains, IsPermutation, count_by, remove}
+use Rattle.kd_card.proofs.Prelude.{Option, Some, None, ℤ, refl, sym, ap, ◌∙◌, subst, arith, AllByRecursion, AllZip}
+use Rattle.kd_card.proofs.Prelude.{flat_map, eq-eqb, All-contains, recursion_from_All, sum_by-cons, get_or-le-sum_by}
+use Rattle.kd_card.proofs.Prelude.{sum_by-IsPermutation, Contains-permutation, IsPermutation-refl, IsPermutation-sym}
+use Rattle.kd_card.proofs.Prelude.{IsPermutation-cons, IsPermutation-trans, IsPermutation-remove, Place, One, alphabet}
+use Rattle.kd_card.proofs.Prelude.{reading_of, IsBefore, letters_plugged, cable_letters, plugged_letters, has_letter}
+use Rattle.kd_card.proofs.Prelude.{SameLetters, IsPaired, IsJoined, AreThePairs, differ, cable_cost, bar_cost}
+use Rattle.kd_card.proofs.Prelude.{columns_of, tests_tell_letters, thirteen_columns, rules, Contains-append_right}
+use Rattle.kd_card.proofs.Prelude.{sum_by, Stands, Contains-tail, ◌<◌, Bool, pos, ◌+ℤ◌, ◌≤ℤ◌, ints, length_permutation}
+use Rattle.kd_card.proofs.Prelude.{All-permutation, Model, reflectors_of, Parts, Rotor, Pin, Setting, model_of}
+use Rattle.kd_card.proofs.Prelude.{IsMachine, Leads, changed, Day, OfRotors, OfPins, day_model, IsLegalDay, ReadsAs}
+use Rattle.kd_card.proofs.Prelude.{cost_table, loose_count, PriceParts, Cables, Bars, ArePrices, Fits, AreTight}
+use Rattle.kd_card.proofs.Prelude.{price_sum, is_priced, priced_count, AreOfKind, IsNeeded, AreNeeded, Same, Expanded}
+use Rattle.kd_card.proofs.Prelude.{FittingPricesBoundLists, ProvingCardsAreAsLong, ProvingCardsAreShortest}
+use Rattle.kd_card.proofs.Prelude.{ProvingPricesAreTight, get_or_default, get_or-map, length-zip, get_or-zip}
+use Rattle.kd_card.proofs.Prelude.{AsFewAreNeeded, why_refused, IsTightAt, column_prices, cost_at, how_many, price_at}
+use Rattle.kd_card.proofs.Prelude.{row_prices, All-from_get_or, Contains-get_or}
 use Rattle.kd_card.proofs.Prelude.{AllZip-long, length-map}
 use Rattle.{kd_state.specs.Costs.standings_as, std.proofs.lemmas.List.Edits.length-remove}
-use Rattle.kd_card.proofs.Duality.{pairing_cost, reordered, fold_of_both, prices_moved, fitting_prices, tight_at, sum_of, prices_with, FitTogether, FitAll}
+use Rattle.kd_card.proofs.Duality.{pairing_cost, reordered, fold_of_both, prices_moved, fitting_prices, tight_at}
+use Rattle.kd_card.proofs.Duality.{sum_of, prices_with, FitTogether, FitAll}
 use Rattle.kd_card.proofs.Counts.{times, times-append, AreOnce, once_of_distinct}
-use Rattle.kd_card.proofs.Falling.{HasCables, HasBars, not_differing, machines_have_all, list_keeps, left, lowers, leaves, model_of-changed, nothing_loose}
+use Rattle.kd_card.proofs.Falling.{HasCables, HasBars, not_differing, machines_have_all, list_keeps, left, lowers}
+use Rattle.kd_card.proofs.Falling.{leaves, model_of-changed, nothing_loose}
 use Rattle.kd_tables.specs.declared.{model.Model.TheVariants.M209, reflector.Reflector.Reflector}
 
--- a cable with the letters of its column costs nothing
-none_differ : (xs ys : List ℕ) → ((letter : ℕ) → has_letter xs letter ≡ has_letter ys letter) → (letters : List ℕ) → count_by (λ letter. differ (has_letter xs letter) (has_letter ys letter)) letters ≡ 0
+-- A cable with the letters of its column costs nothing.
+none_differ : (xs ys : List ℕ) → ((letter : ℕ) → has_letter xs letter ≡ has_letter ys letter) → (letters : List ℕ)
+    → count_by (λ letter. differ (has_letter xs letter) (has_letter ys letter)) letters ≡ 0
 none_differ xs ys same [] = refl
 none_differ xs ys same (letter ∷ letters) =
     count_by-cons (λ letter. differ (has_letter xs letter) (has_letter ys letter)) letter letters
@@ -19,20 +39,26 @@ none_differ xs ys same (letter ∷ letters) =
 abbrev CostsNothing : Option ℕ × Option ℕ → Option (ℕ × ℕ) → Type 0
 CostsNothing cable column = cable_cost cable column ≡ 0
 
--- letters that are among these are counted
+-- A letter of a list is counted at least once.
 counted : (letters : List ℕ) (letter : ℕ) → Contains letters letter → 1 ≤ times letter letters
 counted letters letter there =
     let here = ap (λ b. cond {A = ℕ} b 1 0) (eq-eqb letter (get_or letters there.0 letter) (sym there.2)) in
     omega (arith, get_or-le-sum_by (λ other. cond (nat_eq letter other) 1 0) letters there.0 letter there.1)
 
--- letters that lie in some things
+-- The letters of things in a list.
 module _ {X : Type 0} (letters_of : X → List ℕ) where
-  times-flat_map : (letter : ℕ) (xs : List X) → times letter (flat_map letters_of xs) ≡ sum_by (λ x. times letter (letters_of x)) xs
+  times-flat_map : (letter : ℕ) (xs : List X)
+      → times letter (flat_map letters_of xs) ≡ sum_by (λ x. times letter (letters_of x)) xs
   times-flat_map letter [] = refl
   times-flat_map letter (x ∷ xs) =
-      omega (arith, times-append letter (letters_of x) (flat_map letters_of xs), sum_by-cons (λ x. times letter (letters_of x)) x xs, times-flat_map letter xs)
+      omega (
+        arith,
+        times-append letter (letters_of x) (flat_map letters_of xs),
+        sum_by-cons (λ x. times letter (letters_of x)) x xs,
+        times-flat_map letter xs,
+      )
 
-  -- none lies in two of them, in whichever order they are
+  -- If no letter occurs in two things, it doesn't in another order of the things either.
   once_moved : (xs ys : List X) → IsPermutation xs ys → AreOnce (flat_map letters_of xs)
       → AreOnce (flat_map letters_of ys)
   once_moved xs ys order once letter =
@@ -54,19 +80,24 @@ pair_letters pair = pair.0 ∷ pair.1 ∷ []
 abbrev HasPair : Option ℕ × Option ℕ → ℕ × ℕ → Type 0
 HasPair cable pair = SameLetters (cable_letters cable) (pair_letters pair)
 
--- each cable that isn't empty has a pair's letters, and each pair's letters lie in a cable
+-- Each cable that isn't empty has the letters of a pair, and each pair has a cable with its letters.
 pub record AreMatched (cables : List (Option ℕ × Option ℕ)) (pairs : List (ℕ × ℕ)) : Type 0 where
   pub cables_once : AreOnce (plugged_letters cables)
   pub pairs_once : AreOnce (letters_plugged pairs)
-  pub pair : (cable : Option ℕ × Option ℕ) → Contains cables cable → cable_letters cable ≢ [] → (pair : ℕ × ℕ) × Contains pairs pair × HasPair cable pair
-  pub cable : (pair : ℕ × ℕ) → Contains pairs pair → (cable : Option ℕ × Option ℕ) × Contains cables cable × HasPair cable pair
+  pub pair : (cable : Option ℕ × Option ℕ) → Contains cables cable → cable_letters cable ≢ []
+      → (pair : ℕ × ℕ) × Contains pairs pair × HasPair cable pair
+  pub cable : (pair : ℕ × ℕ) → Contains pairs pair
+      → (cable : Option ℕ × Option ℕ) × Contains cables cable × HasPair cable pair
 
--- the first pair and its cable are taken away
-module _ (cables rest : List (Option ℕ × Option ℕ)) (cable : Option ℕ × Option ℕ) (pair : ℕ × ℕ) (pairs : List (ℕ × ℕ)) (order : IsPermutation cables (cable ∷ rest)) (h : AreMatched cables (pair ∷ pairs)) (here : HasPair cable pair) where
+-- The first pair and its cable are removed.
+module _ (cables rest : List (Option ℕ × Option ℕ)) (cable : Option ℕ × Option ℕ) (pair : ℕ × ℕ) (pairs : List (ℕ × ℕ))
+    (order : IsPermutation cables (cable ∷ rest)) (h : AreMatched cables (pair ∷ pairs))
+    (here : HasPair cable pair) where
   once_in_order : AreOnce (plugged_letters (cable ∷ rest))
   once_in_order = once_moved cable_letters cables (cable ∷ rest) order h.cables_once
 
-  pair_of_rest : (other : Option ℕ × Option ℕ) → Contains rest other → cable_letters other ≢ [] → (p : ℕ × ℕ) × Contains pairs p × HasPair other p
+  pair_of_rest : (other : Option ℕ × Option ℕ) → Contains rest other → cable_letters other ≢ []
+      → (p : ℕ × ℕ) × Contains pairs p × HasPair other p
   pair_of_rest other among some =
       let back = IsPermutation-sym cables (cable ∷ rest) order in
       let there = Contains-append_right (cable ∷ []) rest other among in
@@ -91,17 +122,20 @@ module _ (cables rest : List (Option ℕ × Option ℕ)) (cable : Option ℕ × 
 
   rest_matched : AreMatched rest pairs
   rest_matched = record {
-    cables_once = λ letter. omega (arith, once_in_order letter, times-append letter (cable_letters cable) (plugged_letters rest));
-    pairs_once = λ letter. omega (arith, h.pairs_once letter, times-append letter (pair_letters pair) (letters_plugged pairs));
+    cables_once =
+        λ letter. omega (arith, once_in_order letter, times-append letter (cable_letters cable) (plugged_letters rest));
+    pairs_once =
+        λ letter. omega (arith, h.pairs_once letter, times-append letter (pair_letters pair) (letters_plugged pairs));
     pair = pair_of_rest;
     cable = cable_of_rest;
   }
 
--- without pairs all cables are empty
+-- Without pairs, all cables are empty.
 empty_costs_nothing : (cable : Option ℕ × Option ℕ) → (cable_letters cable ≢ [] → ⊥) → CostsNothing cable None
 empty_costs_nothing cable e = grind (arith, none_differ)
 
-all_empty : (cables : List (Option ℕ × Option ℕ)) (number : ℕ) → length cables ≡ number → ((cable : Option ℕ × Option ℕ) → Contains cables cable → cable_letters cable ≢ [] → ⊥)
+all_empty : (cables : List (Option ℕ × Option ℕ)) (number : ℕ) → length cables ≡ number
+    → ((cable : Option ℕ × Option ℕ) → Contains cables cable → cable_letters cable ≢ [] → ⊥)
     → AllZip CostsNothing cables (replicate number None)
 all_empty [] zero e h = tt
 all_empty (cable ∷ cables) (suc number) e h =
@@ -111,59 +145,84 @@ all_empty (cable ∷ cables) (suc number) e h =
     (here, all_empty cables number (omega arith) later)
 all_empty cables number e h = absurd (omega arith)
 
--- the cables in an order in which each costs nothing at its column
-pub matched : (cables : List (Option ℕ × Option ℕ)) (pairs : List (ℕ × ℕ)) (nothings : ℕ) → length cables ≡ length pairs + nothings → AreMatched cables pairs
-    → (others : List (Option ℕ × Option ℕ)) × IsPermutation cables others × AllZip CostsNothing others (map Some pairs ++ replicate nothings None)
-matched cables [] nothings e h =
-    (cables, IsPermutation-refl cables, all_empty cables nothings (omega arith) (λ cable among some. let found = h.pair cable among some in omega (arith, found.1.1)))
+-- The cables have an order in which each costs nothing at its column.
+pub matched : (cables : List (Option ℕ × Option ℕ)) (pairs : List (ℕ × ℕ)) (nothings : ℕ)
+    → length cables ≡ length pairs + nothings → AreMatched cables pairs
+    → (others : List (Option ℕ × Option ℕ)) × IsPermutation cables others
+    × AllZip CostsNothing others (map Some pairs ++ replicate nothings None)
+matched cables [] nothings e h = (
+  cables,
+  IsPermutation-refl cables,
+  all_empty cables nothings (omega arith)
+      (λ cable among some. let found = h.pair cable among some in omega (arith, found.1.1)),
+)
 matched cables (pair ∷ pairs) nothings e h =
     let found = h.cable pair (zero, omega arith, refl) in
     let rest = remove cables found.1.0 in
     let order = IsPermutation-remove cables found.1.0 found.0 found.1.1 (sym found.1.2) in
     let fewer = length-remove cables found.1.0 found.1.1 in
-    let further = matched rest pairs nothings (omega arith) (rest_matched cables rest found.0 pair pairs order h found.2) in (
+    let further =
+    matched rest pairs nothings (omega arith) (rest_matched cables rest found.0 pair pairs order h found.2) in (
       found.0 ∷ further.0,
-      IsPermutation-trans cables (found.0 ∷ rest) (found.0 ∷ further.0) order (IsPermutation-cons found.0 rest further.0 further.1),
-      (none_differ (cable_letters found.0) (pair_letters pair) ((tests_tell_letters (cable_letters found.0) (pair_letters pair)).0 found.2) alphabet, further.2),
+      IsPermutation-trans cables (found.0 ∷ rest) (found.0 ∷ further.0) order
+          (IsPermutation-cons found.0 rest further.0 further.1),
+      (
+        none_differ (cable_letters found.0) (pair_letters pair)
+            ((tests_tell_letters (cable_letters found.0) (pair_letters pair)).0 found.2) alphabet,
+        further.2,
+      ),
     )
 
--- A pairing: the columns with their prices, each beside the row that it is paired with, and none costs anything.
-pub record FreePairing {A B : Type 0} (cost : A → B → ℕ) (rows : List A) (columns : List B) (prices : List ℤ) : Type 0 where
+-- An assignment that costs nothing: the columns with their prices, each beside its row.
+pub record FreePairing {A B : Type 0} (cost : A → B → ℕ) (rows : List A) (columns : List B)
+    (prices : List ℤ) : Type 0 where
   pub beside : List (B × ℤ)
   pub order : IsPermutation (zip columns prices) beside
   pub count : length beside ≡ length rows
   pub free : pairing_cost cost rows beside ≡ 0
 
 module _ {A B : Type 0} (cost : A → B → ℕ) where
-  free_of_all : (rows : List A) (ws : List (B × ℤ)) → AllZip (λ row w. cost row w.0 ≡ 0) rows ws → pairing_cost cost rows ws ≡ 0
-  free_of_all (row ∷ rows) (w ∷ ws) h = omega (arith, sum_by-cons (λ (pair : A × (B × ℤ)). cost pair.0 pair.1.0) (row, w) (zip rows ws), h.0, free_of_all rows ws h.1)
+  free_of_all : (rows : List A) (ws : List (B × ℤ)) → AllZip (λ row w. cost row w.0 ≡ 0) rows ws
+      → pairing_cost cost rows ws ≡ 0
+  free_of_all (row ∷ rows) (w ∷ ws) h =
+      omega (
+        arith,
+        sum_by-cons (λ (pair : A × (B × ℤ)). cost pair.0 pair.1.0) (row, w) (zip rows ws),
+        h.0,
+        free_of_all rows ws h.1,
+      )
   free_of_all [] ws h = refl
   free_of_all rows ws h = absurd h
 
 pub with_prices : {A B C : Type 0} (R : A → B → Type 0) (xs : List A) (columns : List B) (prices : List C)
     → length columns ≡ length prices → AllZip R xs columns → AllZip (λ x (w : B × C). R x w.0) xs (zip columns prices)
 with_prices R [] [] prices e h = tt
-with_prices R (x ∷ xs) (column ∷ columns) (price ∷ prices) e h = (h.0, with_prices R xs columns prices (omega arith) h.1)
+with_prices R (x ∷ xs) (column ∷ columns) (price ∷ prices) e h =
+    (h.0, with_prices R xs columns prices (omega arith) h.1)
 with_prices R (x ∷ xs) (column ∷ columns) [] e h = absurd (omega arith)
 with_prices R xs columns prices e h = absurd h
 
-pub cables_paired : (cables : List (Option ℕ × Option ℕ)) (pairs : List (ℕ × ℕ)) (prices : List ℤ) → HasCables cables → AreOnce (letters_plugged pairs) → length pairs ≤ 13 → length prices ≡ 13
+pub cables_paired : (cables : List (Option ℕ × Option ℕ)) (pairs : List (ℕ × ℕ)) (prices : List ℤ) → HasCables cables
+    → AreOnce (letters_plugged pairs) → length pairs ≤ 13 → length prices ≡ 13
     → AreThePairs cables pairs → FreePairing cable_cost cables (columns_of pairs) prices
 cables_paired cables pairs prices has once few count h =
     let matching : AreMatched cables pairs = record {
       cables_once = once_of_distinct (plugged_letters cables) has.apart;
       pairs_once = once;
-      pair = λ cable among some. let any = (All-contains (IsPaired pairs) cables cable h.pair among).joins some in (any.1, (any.0, any.2, any.3), any.4.letters);
-      cable = λ pair among. let any = (All-contains (IsJoined cables) pairs pair h.cable among).joins in (any.1, (any.0, any.2, any.3), any.4.letters);
+      pair = λ cable among some. let any = (All-contains (IsPaired pairs) cables cable h.pair among).joins some in
+          (any.1, (any.0, any.2, any.3), any.4.letters);
+      cable = λ pair among. let any = (All-contains (IsJoined cables) pairs pair h.cable among).joins in
+          (any.1, (any.0, any.2, any.3), any.4.letters);
     }
     in
     let there = matched cables pairs (13 - length pairs) (omega (arith, has.count)) matching in
-    let beside = reordered (λ cable (w : Option (ℕ × ℕ) × ℤ). CostsNothing cable w.0) there.0 cables (zip (columns_of pairs) prices) (IsPermutation-sym cables there.0 there.1)
+    let beside = reordered (λ cable (w : Option (ℕ × ℕ) × ℤ). CostsNothing cable w.0) there.0 cables
+    (zip (columns_of pairs) prices) (IsPermutation-sym cables there.0 there.1)
     (with_prices CostsNothing there.0 (columns_of pairs) prices (omega (arith, thirteen_columns pairs few)) there.2) in
     let many = AllZip-long _ cables beside.0 beside.2 in
     record { beside = beside.0; order = beside.1; count = many; free = free_of_all cable_cost cables beside.0 beside.2 }
 
--- a bar that stands costs nothing at its own row
+-- A bar costs nothing at the row that it reads as.
 own_row : (left right : Place) → IsBefore left right → bar_cost (left, right) (reading_of left right) ≡ 0
 unfolding standings_as
 own_row One One before = absurd (omega arith)
@@ -177,16 +236,20 @@ pub each_itself : {X : Type 0} (xs : List X) → AllZip (λ x (other : X). x ≡
 each_itself [] = tt
 each_itself (x ∷ xs) = (refl, each_itself xs)
 
-free_rows : (bars : List (Place × Place)) (ws : List ((ℕ × ℕ) × ℤ)) → AllByRecursion Stands bars → AllZip (λ row (w : (ℕ × ℕ) × ℤ). row ≡ w.0) (map reading bars) ws
+free_rows : (bars : List (Place × Place)) (ws : List ((ℕ × ℕ) × ℤ)) → AllByRecursion Stands bars
+    → AllZip (λ row (w : (ℕ × ℕ) × ℤ). row ≡ w.0) (map reading bars) ws
     → AllZip (λ bar (w : (ℕ × ℕ) × ℤ). bar_cost bar w.0 ≡ 0) bars ws
 free_rows [] [] stand h = tt
-free_rows (bar ∷ bars) (w ∷ ws) stand h = (subst (λ row. bar_cost bar row ≡ 0) h.0 (own_row bar.0 bar.1 stand.0), free_rows bars ws stand.1 h.1)
+free_rows (bar ∷ bars) (w ∷ ws) stand h =
+    (subst (λ row. bar_cost bar row ≡ 0) h.0 (own_row bar.0 bar.1 stand.0), free_rows bars ws stand.1 h.1)
 free_rows bars ws stand h = absurd h
 
-pub bars_paired : (bars : List (Place × Place)) (rows : List (ℕ × ℕ)) (prices : List ℤ) → HasBars bars → length rows ≡ length prices → IsPermutation (map (λ bar. reading_of bar.0 bar.1) bars) rows
+pub bars_paired : (bars : List (Place × Place)) (rows : List (ℕ × ℕ)) (prices : List ℤ) → HasBars bars
+    → length rows ≡ length prices → IsPermutation (map (λ bar. reading_of bar.0 bar.1) bars) rows
     → FreePairing bar_cost bars rows prices
 bars_paired bars rows prices has count h =
-    let beside = reordered (λ row (w : (ℕ × ℕ) × ℤ). row ≡ w.0) rows (map reading bars) (zip rows prices) (IsPermutation-sym (map reading bars) rows h)
+    let beside = reordered (λ row (w : (ℕ × ℕ) × ℤ). row ≡ w.0) rows (map reading bars) (zip rows prices)
+    (IsPermutation-sym (map reading bars) rows h)
     (with_prices (λ row (other : ℕ × ℕ). row ≡ other) rows rows prices count (each_itself rows)) in
     let many = AllZip-long _ (map reading bars) beside.0 beside.2 ∙ length-map bars reading in
     let rows_free = free_rows bars beside.0 (recursion_from_All Stands bars has.stand) beside.2 in
@@ -207,16 +270,18 @@ module _ (columns : List (Option (ℕ × ℕ) × ℤ)) (rows : List ((ℕ × ℕ
       let made = ap (λ between. left columns rows between s) h.1.made in
       omega (arith, rest, lowers columns rows m s x legal same h.1.allowed)
 
--- ---- fitting prices, and columns beside the rows for which so many lines pay
+-- ---- fitting prices, and an assignment that the settings pay for
 
--- what stands in a list stands in each other order of it
+-- An item of a list is also in each other order of the list.
 placed : {X : Type 0} (xs ys : List X) (i : ℕ) (d : X) → IsPermutation xs ys → i < length ys
     → (j : ℕ) × (j < length xs) × (get_or ys i d ≡ get_or xs j d)
 placed xs ys i d order lt =
-    let there = Contains-permutation ys xs (get_or ys i d) (IsPermutation-sym xs ys order) (Contains-get_or ys i d lt) in
+    let there =
+    Contains-permutation ys xs (get_or ys i d) (IsPermutation-sym xs ys order) (Contains-get_or ys i d lt) in
     (there.0, there.1, sym there.2 ∙ get_or_default xs there.0 (get_or ys i d) d there.1)
 
--- what fitting prices tell of so many lines
+-- The bound that fitting prices give for the number of settings; if it is reached, each price is tight
+-- somewhere.
 pub record AreBounds (costs : List (List ℕ)) (prices : PriceParts) (loose lines : ℕ) : Type 0 where
   pub bound : (pos loose +ℤ price_sum prices) ≤ℤ pos lines
   pub tight : pos lines ≡ (pos loose +ℤ price_sum prices) → AreTight costs prices
@@ -267,7 +332,7 @@ module _ {A B : Type 0} (a : A) (b : B) (cost : A → B → ℕ) (rows : List A)
       omega (arith, ints, sums)
 
   module _ (exact : pos lines ≡ (pos loose +ℤ price_sum prices)) where
-    -- the column at place j stands beside the row at place i
+    -- The column at place `j` is beside the row at place `i`.
     tight_where : (i j : ℕ) → i < how_many prices → j < how_many prices
         → get_or beside i (b, pos 0) ≡ get_or priced j (b, pos 0) → IsTightAt costs prices i j
     tight_where i j lt lt' e =
@@ -296,9 +361,11 @@ module _ {A B : Type 0} (a : A) (b : B) (cost : A → B → ℕ) (rows : List A)
 -- ---- machines and days
 
 pub no_rotors : (model : Model) (reflector : Reflector) → model ≡ M209 → Contains (reflectors_of model) reflector → ⊥
-no_rotors model reflector e h = let none = subst (λ model. Contains (reflectors_of model) reflector) e h in omega (arith, none.1)
+no_rotors model reflector e h =
+    let none = subst (λ model. Contains (reflectors_of model) reflector) e h in omega (arith, none.1)
 
-bounds : (m n : Parts) (s : Day) (prices : PriceParts) (settings : List Setting) → IsMachine m → IsLegalDay s → ArePrices prices
+bounds : (m n : Parts) (s : Day) (prices : PriceParts) (settings : List Setting) → IsMachine m → IsLegalDay s
+    → ArePrices prices
     → AreOfKind m prices → Fits (cost_table m s) prices → Leads m settings n → ReadsAs n s
     → AreBounds (cost_table m s) prices (loose_count m s) (length settings)
 bounds (Rotor m) (Rotor n) (OfRotors s) (Cables row column) settings machine legal are kind fits leads reads =
@@ -320,9 +387,11 @@ bounds (Pin m) (Pin n) (OfPins s) (Bars row column) settings machine legal are k
     (length settings) at_first.count legal.count are fits pairing.beside pairing.order
     (omega (arith, falling, pairing.free, nothing_loose (Pin n) (OfPins s) reads))
 bounds (Rotor m) (Pin n) (OfPins s) prices settings machine legal are kind fits leads reads =
-    absurd (no_rotors m.model m.reflector (sym (model_of-list (Rotor m) (Pin n) settings leads)) machine.legal.reflector)
+    absurd (no_rotors m.model m.reflector (sym (model_of-list (Rotor m) (Pin n) settings leads))
+    machine.legal.reflector)
 bounds (Pin m) (Rotor n) (OfRotors s) prices settings machine legal are kind fits leads reads =
-    absurd (no_rotors s.model s.reflector (sym reads.key.model ∙ model_of-list (Pin m) (Rotor n) settings leads) legal.reflector)
+    absurd (no_rotors s.model s.reflector (sym reads.key.model ∙ model_of-list (Pin m) (Rotor n) settings leads)
+    legal.reflector)
 bounds m (Pin n) (OfRotors s) prices settings machine legal are kind fits leads reads = absurd reads.key
 bounds m (Rotor n) (OfPins s) prices settings machine legal are kind fits leads reads = absurd reads.key
 bounds m n s prices settings machine legal are kind fits leads reads = absurd kind
@@ -331,17 +400,19 @@ pub fitting_prices_bound_lists : FittingPricesBoundLists
 fitting_prices_bound_lists m s prices settings machine legal are kind fits reached =
     (bounds m reached.0 s prices settings machine legal are kind fits reached.1 reached.2).bound
 
--- Where each setting is needed, there are as many as loose things and those that change a cable or a bar.
-needed_one : (m : Parts) (s : Day) (x : Setting) (b : Bool) → is_priced x ≡ b → IsNeeded m s x → loose_count m s + cond b 1 0 ≡ loose_count (changed m x) s + 1
+-- If each setting is needed, the settings are as many as the loose things and the priced settings.
+needed_one : (m : Parts) (s : Day) (x : Setting) (b : Bool) → is_priced x ≡ b → IsNeeded m s x
+    → loose_count m s + cond b 1 0 ≡ loose_count (changed m x) s + 1
 needed_one m s x b e d = grind (arith, leaves)
 
-needed_all : (m n : Parts) (s : Day) (xs : List Setting) → Leads m xs n → AreNeeded m s xs → loose_count m s + priced_count xs ≡ loose_count n s + length xs
+needed_all : (m n : Parts) (s : Day) (xs : List Setting) → Leads m xs n → AreNeeded m s xs
+    → loose_count m s + priced_count xs ≡ loose_count n s + length xs
 needed_all m n s [] leads needed = subst (λ n. loose_count m s + 0 ≡ loose_count n s + 0) (sym leads) refl
 needed_all m n s (x ∷ xs) leads needed =
     let rest = needed_all (changed m x) n s xs (subst (λ between. Leads between xs n) leads.1.made leads.2) needed.1 in
     omega (arith, needed_one m s x (is_priced x) refl needed.0, count_by-cons is_priced x xs, rest)
 
--- What is loose falls by one at most, with a setting that changes no cable and no bar.
+-- A setting that changes no cable and no bar makes at most one thing less loose.
 either : (b : Bool) → cond {A = ℕ} b 1 0 + cond {A = ℕ} b 0 1 ≡ 1
 either b = grind arith
 
@@ -354,10 +425,12 @@ module _ (s : Day) (legal : IsLegalDay s) where
       → loose_count m s ≤ loose_count (changed m x) s + cond (is_priced x) 0 1
   loose_falls m x same allowed = grind (arith, lowers [] [] m s x legal same allowed, leaves m s x, unpriced)
 
-  no_fewer : (m n : Parts) (xs : List Setting) → model_of m ≡ day_model s → Leads m xs n → loose_count m s + priced_count xs ≤ loose_count n s + length xs
+  no_fewer : (m n : Parts) (xs : List Setting) → model_of m ≡ day_model s → Leads m xs n
+      → loose_count m s + priced_count xs ≤ loose_count n s + length xs
   no_fewer m n [] same leads = subst (λ n. loose_count m s + 0 ≤ loose_count n s + 0) (sym leads) (omega arith)
   no_fewer m n (x ∷ xs) same leads =
-      let rest = no_fewer (changed m x) n xs (model_of-changed m x ∙ same) (subst (λ between. Leads between xs n) leads.1.made leads.2) in
+      let rest = no_fewer (changed m x) n xs (model_of-changed m x ∙ same)
+      (subst (λ between. Leads between xs n) leads.1.made leads.2) in
       omega (arith, rest, loose_falls m x same leads.1.allowed, count_by-cons is_priced x xs, either (is_priced x))
 
   needed_in_turn : (m n : Parts) (xs : List Setting) → model_of m ≡ day_model s → Leads m xs n → loose_count n s ≡ 0
@@ -388,7 +461,11 @@ proving_cards_are_shortest m s settings prices machine legal are_prices h others
     let proves = h.proves in
     let long = proving_cards_are_as_long m s settings h.numbered proves in
     let are : ArePrices h.numbered =
-    elim h.expands [ Same by same ↦ subst ArePrices same are_prices | Expanded by other group here also rows columns ↦ also ] in
+    elim h.expands [
+      | Same by same ↦ subst ArePrices same are_prices
+      | Expanded by other group here also rows columns ↦
+          also
+    ] in
     let below = fitting_prices_bound_lists m s h.numbered others machine legal are proves.kind proves.fits reached in
     omega (arith, ints)
 

@@ -1,4 +1,4 @@
--- The text of a card: lines, and a line is words with one space between them.
+-- The text of a card: lines of words, with one space between two words.
 use Rattle.std.specs.Prelude.{codes, decimal, ◌≡◌, ℕ, ◌≤◌, List, [], ◌∷◌, ◌++◌, length, map, All, ℤ}
 use Rattle.std.specs.List.{flat_map}
 use Rattle.std.specs.Fmt.{signed_decimal}
@@ -18,14 +18,14 @@ use Rattle.kd_card.specs.declared.kinds.PricedKind.{PricedKind}
 use Rattle.kd_card.specs.Kinds.{kind_words, cable_kind, pair_kind, bar_kind, row_kind, counted, AreKinds, AreCalled}
 use Rattle.kd_card.specs.Prices.{version_of, row_kinds, column_kinds, price_sum, ArePrices}
 
--- what prices are of
+-- what prices belong to
 abbrev pub group_of : PriceParts → Group
 group_of (Cables row col) = OfCables
 group_of (Bars row col) = OfBars
 group_of (CableKinds row col) = OfCables
 group_of (BarKinds row col) = OfBars
 
--- the first words of the two lines of prices
+-- the first words of the two price lines of a card by number
 abbrev pub row_word : Group → List ℕ
 row_word OfCables = codes "CABLES"
 row_word OfBars = codes "BARS"
@@ -34,7 +34,7 @@ abbrev pub column_word : Group → List ℕ
 column_word OfCables = codes "PAIRS"
 column_word OfBars = codes "ROWS"
 
--- what the things are called in the lines of their kinds
+-- the names of rows and columns in the lines of kinds
 abbrev pub row_name : Group → Name
 row_name OfCables = names.Cable
 row_name OfBars = names.Bar
@@ -43,25 +43,25 @@ abbrev pub column_name : Group → Name
 column_name OfCables = names.Pair
 column_name OfBars = names.Row
 
--- how many there are of each
+-- the number of prices of rows, which is also the number of prices of columns
 abbrev pub price_count : Group → ℕ
 price_count OfCables = 13
 price_count OfBars = 27
 
--- kinds of things of that name, in order and each once, and of so many things together
+-- Valid kinds of things called `name`, in order and each once, that count `number` things.
 pub record IsGroup (name : Name) (number : ℕ) (kinds : List PricedKind) : Type 0 where
   pub called : AreCalled name kinds
   pub in_order : AreKinds 0 kinds
   pub count : counted kinds ≡ number
 
--- the prices are those of these kinds
+-- `prices` have these kinds of rows and columns.
 pub record HaveKinds (group : Group) (rows columns : List PricedKind) (prices : PriceParts) : Type 0 where
   pub of_group : group_of prices ≡ group
   pub version : version_of prices ≡ ByKind
   pub row_kinds : row_kinds prices ≡ rows
   pub column_kinds : column_kinds prices ≡ columns
 
--- the words of the head: 1 before prices by number, 2 before prices by kind
+-- the words of the head before the day: 1 is a card by number, 2 a card by kind
 abbrev pub version_text : Version → List ℕ
 version_text ByNumber = codes "1"
 version_text ByKind = codes "2"
@@ -69,30 +69,30 @@ version_text ByKind = codes "2"
 abbrev pub head_words : Version → ℕ → List (List ℕ)
 head_words version day = codes "CARD" ∷ version_text version ∷ codes "DAY" ∷ decimal day ∷ []
 
--- the line that ends the settings, with their number
+-- the words of the line after the settings: their number
 abbrev pub settings_words : ℕ → List (List ℕ)
 settings_words number = codes "SETTINGS" ∷ decimal number ∷ []
 
--- a word, and the prices behind it
+-- `word`, and then the prices
 abbrev pub price_words : List ℕ → List ℤ → List (List ℕ)
 price_words word prices = word ∷ map signed_decimal prices
 
--- the last line, with the sum of all prices
+-- the words of the last line: the sum of all prices
 abbrev pub sum_words : ℤ → List (List ℕ)
 sum_words sum = codes "SUM" ∷ signed_decimal sum ∷ []
 
--- lines of these words, with LF at the end of each
+-- the lines of these words, each with LF at its end
 abbrev pub lines_text : List (List (List ℕ)) → List ℕ
 lines_text lines = flat_map (λ words. line_of words ++ 10 ∷ []) lines
 
--- the lines of the prices: two lines with all prices, or one for each kind
+-- the price lines: two with all prices, or one for each kind
 abbrev pub price_lines : PriceParts → List (List (List ℕ))
 price_lines (Cables row col) = price_words (row_word OfCables) row ∷ price_words (column_word OfCables) col ∷ []
 price_lines (Bars row col) = price_words (row_word OfBars) row ∷ price_words (column_word OfBars) col ∷ []
 price_lines (CableKinds row col) = map kind_words (map cable_kind row.items) ++ map kind_words (map pair_kind col.items)
 price_lines (BarKinds row col) = map kind_words (map bar_kind row.items) ++ map kind_words (map row_kind col.items)
 
--- the card's lines: the head, the settings and their number, the prices and their sum
+-- the words of all lines: head, settings and their number, prices and their sum
 abbrev pub card_lines : ℕ → List Setting → PriceParts → List (List (List ℕ))
 card_lines day settings prices =
     head_words (version_of prices) day
@@ -105,7 +105,7 @@ card_lines day settings prices =
 abbrev pub card_text : ℕ → List Setting → PriceParts → List ℕ
 card_text day settings prices = lines_text (card_lines day settings prices)
 
--- the bytes are the text of this card
+-- `bytes` are the text of the card of this day, these settings and these prices.
 pub record IsCard (bytes : List ℕ) (day : ℕ) (settings : List Setting) (prices : PriceParts) : Type 0 where
   pub text : bytes ≡ card_text day settings prices
   pub of_month : IsDayNumber day

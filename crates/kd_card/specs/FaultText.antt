@@ -1,4 +1,4 @@
--- What is told of bytes that are no card.
+-- The text of the refusal of bytes that aren't a card.
 use Rattle.std.specs.Prelude.{decimal, ℕ, List, ◌++◌}
 use Rattle.kd_tables.specs.declared.refusal.Refusal.TheVariants as refusals
 use Rattle.kd_tables.specs.Refusals.{refusal_name, spaced}

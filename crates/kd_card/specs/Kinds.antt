@@ -1,5 +1,6 @@
--- Kinds: what is alike among cables, pairs, bars or rows, how many there are of it, and the price that each of them has.
-use Rattle.std.specs.Prelude.{codes, decimal, ◌≡◌, ℕ, ◌+◌, ◌*◌, ◌<◌, ◌≤◌, List, [], ◌∷◌, ◌++◌, replicate, flat_map, ℤ, unsigned_abs, Option, Some, None}
+-- Kinds: what equal cables, pairs, bars or rows have in common, how many there are, and the price of each.
+use Rattle.std.specs.Prelude.{codes, decimal, ◌≡◌, ℕ, ◌+◌, ◌*◌, ◌<◌, ◌≤◌, List, [], ◌∷◌, ◌++◌, replicate, flat_map, ℤ}
+use Rattle.std.specs.Prelude.{unsigned_abs, Option, Some, None}
 use Rattle.std.specs.Fmt.{signed_decimal}
 use Rattle.kd_tables.specs.declared.place.Place.{Place}
 use Rattle.kd_tables.specs.Places.{place_rank, standing_text, reading_text, IsBefore, IsReading}
@@ -18,7 +19,7 @@ use Rattle.kd_card.specs.declared.kinds.RowKind.{RowKind}
 
 -- ---- looks
 
--- what the thing is called
+-- the name of the things that have this look
 abbrev pub look_name : Look → Name
 look_name (Cable ends) = names.Cable
 look_name (Pair pair) = names.Pair
@@ -31,7 +32,7 @@ name_text names.Pair = codes "PAIR"
 name_text names.Bar = codes "BAR"
 name_text names.Row = codes "ROW"
 
--- letters as they are written, - for none
+-- letters as they are written; `-` stands for no letters
 abbrev pub letters_text : List ℕ → List ℕ
 letters_text [] = codes "-"
 letters_text (letter ∷ letters) = flat_map letter_text (letter ∷ letters)
@@ -42,7 +43,8 @@ look_text (Pair pair) = letters_text (column_letters pair)
 look_text (Bar standing) = standing_text standing
 look_text (Row numbers) = reading_text numbers
 
--- a cable's letters are in order, a single one first; and so are a pair's
+-- Two letters of a cable are in alphabetical order; a single one comes first. Those of a pair are in this order
+-- too.
 abbrev pub AreEnds : Option ℕ → Option ℕ → Type 0
 AreEnds None None = Unit {0}
 AreEnds None (Some other) = ⊥
@@ -53,15 +55,16 @@ abbrev pub IsPairInOrder : Option (ℕ × ℕ) → Type 0
 IsPairInOrder None = Unit {0}
 IsPairInOrder (Some pair) = (pair.0 < pair.1) × (pair.1 < 26)
 
--- what it says is in the one form in which it is written
+-- The look has the one form that is written: its letters are in order.
 abbrev pub IsInForm : Look → Type 0
 IsInForm (Cable ends) = AreEnds ends.0 ends.1
 IsInForm (Pair pair) = IsPairInOrder pair
 IsInForm (Bar standing) = IsBefore standing.0 standing.1
 IsInForm (Row numbers) = IsReading numbers
 
--- Looks of one name are in the order of these ranks: letters as in a dictionary, and behind them the empty cable or
--- nothing; standings by the left place, and then by the right one; readings by the smaller number, and then by the larger.
+-- Ranks order the looks that have one name. Letters are ordered as in a dictionary, and the empty cable or the
+-- nothing comes last. Standings are ordered by the left place, then by the right one; readings by the smaller
+-- number, then by the larger one.
 abbrev pub ends_rank : Option ℕ → Option ℕ → ℕ
 ends_rank None other = 702
 ends_rank (Some one) None = one * 27
@@ -83,7 +86,7 @@ look_rank (Pair pair) = pair_rank pair
 look_rank (Bar standing) = standing_rank standing
 look_rank (Row numbers) = reading_rank numbers
 
--- a thing of that name has this look, and the look this text
+-- `text` is the look of a thing called `name`.
 pub record HasLook (name : Name) (text : List ℕ) (look : Look) : Type 0 where
   pub called : look_name look ≡ name
   pub form : IsInForm look
@@ -91,47 +94,49 @@ pub record HasLook (name : Name) (text : List ℕ) (look : Look) : Type 0 where
 
 -- ---- kinds
 
--- a kind that may stand on a card
+-- A valid kind of a card.
 pub record IsPricedKind (kind : PricedKind) : Type 0 where
   pub form : IsInForm kind.look
   pub some : 1 ≤ kind.count
   pub most : kind.count ≤ 255
   pub reach : unsigned_abs kind.price ≤ 9999
 
--- the kinds are in order, each once, from that rank on
+-- Valid kinds, each once and in the order of their ranks from `floor` on.
 abbrev pub AreKinds : ℕ → List PricedKind → Type 0
 AreKinds floor [] = Unit {0}
-AreKinds floor (kind ∷ kinds) = IsPricedKind kind × (floor ≤ look_rank kind.look) × AreKinds (look_rank kind.look + 1) kinds
+AreKinds floor (kind ∷ kinds) =
+    IsPricedKind kind × (floor ≤ look_rank kind.look) × AreKinds (look_rank kind.look + 1) kinds
 
--- all are of things of that name
+-- All kinds are of things called `name`.
 abbrev pub AreCalled : Name → List PricedKind → Type 0
 AreCalled name [] = Unit {0}
 AreCalled name (kind ∷ kinds) = (look_name kind.look ≡ name) × AreCalled name kinds
 
--- how many things the kinds are of
+-- the number of things that the kinds count
 abbrev pub counted : List PricedKind → ℕ
 counted [] = 0
 counted (kind ∷ kinds) = kind.count + counted kinds
 
--- a price for each of these things
+-- the price of each thing that the kinds count
 abbrev pub prices_of_kinds : List PricedKind → List ℤ
 prices_of_kinds kinds = flat_map (λ kind. replicate kind.count kind.price) kinds
 
--- the words of a kind's line: the name, what it looks like, how many there are, and the price
+-- the words of a kind's line: name, look, count and price
 abbrev pub kind_words : PricedKind → List (List ℕ)
-kind_words kind = name_text (look_name kind.look) ∷ look_text kind.look ∷ decimal kind.count ∷ signed_decimal kind.price ∷ []
+kind_words kind =
+    name_text (look_name kind.look) ∷ look_text kind.look ∷ decimal kind.count ∷ signed_decimal kind.price ∷ []
 
--- a kind of things of that name has these words
+-- These are the words of the line of `kind`, whose things are called `name`.
 pub record HasKindWords (name : Name) (words : List (List ℕ)) (kind : PricedKind) : Type 0 where
   pub called : look_name kind.look ≡ name
   pub good : IsPricedKind kind
   pub written : kind_words kind ≡ words
 
--- a line for each kind, with LF at its end
+-- the line of each kind, with its LF
 abbrev pub kinds_text : List PricedKind → List ℕ
 kinds_text kinds = flat_map (λ kind. line_of (kind_words kind) ++ 10 ∷ []) kinds
 
--- kinds of cables, pairs, bars and rows, as kinds of whatever things
+-- kinds of cables, pairs, bars and rows, as kinds of any sort
 abbrev pub cable_kind : CableKind → PricedKind
 cable_kind kind = record { look = Cable kind.ends; count = kind.count; price = kind.price }
 

@@ -1,4 +1,4 @@
--- What holds of cards.
+-- What the laws on cards promise.
 use Rattle.std.specs.Prelude.{◌≡◌, ℕ, ◌+◌, ◌≤◌, List, [], ◌++◌, length, pos, ◌+ℤ◌, ◌≤ℤ◌, ◌↔◌, Ok}
 use Rattle.kd_state.specs.declared.machine.parts.Parts.{Parts}
 use Rattle.kd_state.specs.declared.setting.Setting.{Setting}
@@ -15,28 +15,30 @@ use Rattle.kd_card.specs.Loose.{loose_lines}
 use Rattle.kd_card.specs.CardFault.{SaysCard, IsCardFault}
 use Rattle.kd_card.specs.Proving.{AreNeeded, AreOfKind, ProvesByNumber, Proves, IsShortest, LeadsToTheDay, priced_count}
 
--- there are as many settings for loose things as loose things
+-- The settings for loose things are as many as the loose things.
 abbrev pub LooseThingsAreCounted : Type 0
 LooseThingsAreCounted =
     (m : Parts) (s : Day) → IsMachine m → IsLegalDay s → model_of m ≡ day_model s
     → length (loose_lines m s) ≡ loose_count m s
 
--- Where prices fit, no settings whatever that lead the machine to the day are fewer than the loose things and the sum of
--- the prices.
+-- If prices fit, no list to the day is shorter than the number of loose things plus the sum of prices.
 abbrev pub FittingPricesBoundLists : Type 0
 FittingPricesBoundLists =
-    (m : Parts) (s : Day) (prices : PriceParts) (settings : List Setting) → IsMachine m → IsLegalDay s → ArePrices prices → AreOfKind m prices
+    (m : Parts) (s : Day) (prices : PriceParts) (settings : List Setting) → IsMachine m → IsLegalDay s
+    → ArePrices prices → AreOfKind m prices
     → Fits (cost_table m s) prices → LeadsToTheDay m s settings
     → (pos (loose_count m s) +ℤ price_sum prices) ≤ℤ pos (length settings)
 
--- settings that lead to the day, and are no more than the loose things and those of cables and bars, are each needed
+-- If a list to the day has no more unpriced settings than loose things, it needs each of its settings. An
+-- unpriced setting changes no cable and no bar.
 abbrev pub AsFewAreNeeded : Type 0
 AsFewAreNeeded =
-    (m : Parts) (s : Day) (settings : List Setting) → IsLegalDay s → model_of m ≡ day_model s → LeadsToTheDay m s settings
+    (m : Parts) (s : Day) (settings : List Setting) → IsLegalDay s → model_of m ≡ day_model s
+    → LeadsToTheDay m s settings
     → length settings ≤ loose_count m s + priced_count settings → AreNeeded m s settings
 
--- a card that proves itself by number has as many lines as there are loose things and prices in sum; and each that proves
--- itself is shortest
+-- A card by number that proves itself has as many settings as loose things plus the sum of its prices.
+-- Whichever way a card has its prices, it is shortest if it proves itself.
 abbrev pub ProvingCardsAreAsLong : Type 0
 ProvingCardsAreAsLong =
     (m : Parts) (s : Day) (settings : List Setting) (prices : PriceParts) → ProvesByNumber m s settings prices
@@ -44,23 +46,29 @@ ProvingCardsAreAsLong =
 
 abbrev pub ProvingCardsAreShortest : Type 0
 ProvingCardsAreShortest =
-    (m : Parts) (s : Day) (settings : List Setting) (prices : PriceParts) → IsMachine m → IsLegalDay s → ArePrices prices → Proves m s settings prices
+    (m : Parts) (s : Day) (settings : List Setting) (prices : PriceParts) → IsMachine m → IsLegalDay s
+    → ArePrices prices → Proves m s settings prices
     → IsShortest m s settings
 
--- in a card that proves itself by number each row's price is as high as it can be at some column, and each column's at some row
+-- In a card by number that proves itself, no price can be raised alone: each row and each column has a tight
+-- place.
 abbrev pub ProvingPricesAreTight : Type 0
 ProvingPricesAreTight =
-    (m : Parts) (s : Day) (settings : List Setting) (prices : PriceParts) → IsMachine m → IsLegalDay s → ArePrices prices → ProvesByNumber m s settings prices
+    (m : Parts) (s : Day) (settings : List Setting) (prices : PriceParts) → IsMachine m → IsLegalDay s
+    → ArePrices prices → ProvesByNumber m s settings prices
     → AreTight (cost_table m s) prices
 
--- the rank of a look in its one form tells the look, among those of one name
+-- Two valid looks with one name and one rank are equal.
 abbrev pub RanksTellLooks : Type 0
-RanksTellLooks = (look other : Look) → look_name look ≡ look_name other → IsInForm look → IsInForm other → look_rank look ≡ look_rank other → look ≡ other
+RanksTellLooks =
+    (look other : Look) → look_name look ≡ look_name other → IsInForm look → IsInForm other
+    → look_rank look ≡ look_rank other → look ≡ other
 
--- no two cards have one text, and where a card's text stands in front of another's it is all of it
+-- Different cards have different texts, and no card's text is a proper prefix of another's.
 abbrev pub TextsTellCards : Type 0
 TextsTellCards =
-    (bytes : List ℕ) (day other : ℕ) (xs ys : List Setting) (prices others : PriceParts) → IsCard bytes day xs prices → IsCard bytes other ys others
+    (bytes : List ℕ) (day other : ℕ) (xs ys : List Setting) (prices others : PriceParts) → IsCard bytes day xs prices
+    → IsCard bytes other ys others
     → (day ≡ other) × (xs ≡ ys) × (prices ≡ others)
 
 abbrev pub NoCardBeginsAnother : Type 0
@@ -68,15 +76,18 @@ NoCardBeginsAnother =
     (text rest : List ℕ) (day other : ℕ) (xs ys : List Setting) (prices others : PriceParts) → IsCard text day xs prices
     → IsCard (text ++ rest) other ys others → rest ≡ []
 
--- what is said of bytes that are a card is that card, and of no others
+-- Bytes describe a card exactly if they are its text.
 abbrev pub CardsAreSaid : Type 0
 CardsAreSaid =
     (bytes : List ℕ) (day : ℕ) (xs : List Setting) (prices : PriceParts)
     → SaysCard bytes (Ok (day, xs, prices)) ↔ IsCard bytes day xs prices
 
--- a card has no fault, and bytes have one at most
+-- The text of a card has no fault, and any bytes have at most one.
 abbrev pub CardsHaveNoFault : Type 0
-CardsHaveNoFault = (bytes : List ℕ) (day : ℕ) (xs : List Setting) (prices : PriceParts) (fault : CardFault) → IsCard bytes day xs prices → ¬ (IsCardFault bytes fault)
+CardsHaveNoFault =
+    (bytes : List ℕ) (day : ℕ) (xs : List Setting) (prices : PriceParts) (fault : CardFault)
+    → IsCard bytes day xs prices → ¬ (IsCardFault bytes fault)
 
 abbrev pub OneCardFault : Type 0
-OneCardFault = (bytes : List ℕ) (fault other : CardFault) → IsCardFault bytes fault → IsCardFault bytes other → fault ≡ other
+OneCardFault =
+    (bytes : List ℕ) (fault other : CardFault) → IsCardFault bytes fault → IsCardFault bytes other → fault ≡ other

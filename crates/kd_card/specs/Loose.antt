@@ -1,5 +1,6 @@
--- A setting for each thing of a machine that isn't as a day has it, cables and bars apart, in a fixed order.
-use Rattle.std.specs.Prelude.{ℕ, nat_eq, Bool, false, not, List, [], ◌∷◌, ◌++◌, ◌+◌, flat_map, find, zip, Option, Some, None, if◌then◌else◌}
+-- The settings that change each thing of a machine, except cables and bars, to the day's, in a fixed order.
+use Rattle.std.specs.Prelude.{ℕ, nat_eq, Bool, false, not, List, [], ◌∷◌, ◌++◌, ◌+◌, flat_map, find, zip, Option, Some}
+use Rattle.std.specs.Prelude.{None, if◌then◌else◌}
 use Rattle.std.specs.Option.{option_and_then, option_map_or, option_to_list}
 use Rattle.kd_tables.specs.declared.wheel.Wheel.{Wheel}
 use Rattle.kd_tables.specs.declared.reflector.Reflector.{Reflector}
@@ -18,42 +19,45 @@ use Rattle.kd_state.specs.Machine.{ring_at, letter_at}
 use Rattle.kd_state.specs.SheetDay.{Day, OfRotors, OfPins}
 use Rattle.kd_state.specs.Costs.{differ}
 
--- the setting, where it is not so already
+-- the setting, or none if the thing is `so` already
 abbrev pub unless_so : Bool → Setting → Option Setting
 unless_so so x = if so then None else Some x
 
--- the lines of things, each by its number
+-- the settings for each item of a list, numbered from `number` on
 abbrev pub lines_from : {Z : Type 0} → (ℕ → Z → List Setting) → ℕ → List Z → List Setting
 lines_from lines number [] = []
 lines_from lines number (z ∷ zs) = lines number z ++ lines_from lines (number + 1) zs
 
--- SEAT, of a slot as it is and the day's wheel, and by slot
+-- SEAT for a slot whose wheel isn't the day's, and for all slots
 abbrev pub seat_of : ℕ → Option Wheel × SheetWheel → List Setting
 seat_of slot z = option_to_list (unless_so (option_map_or (same_wheel z.1.wheel) z.0 false) (Seat slot z.1.wheel))
 
 abbrev pub seat_lines : RotorParts → List SheetWheel → List Setting
 seat_lines m wheels = lines_from seat_of 1 (zip m.slots wheels)
 
--- REFLECTOR
+-- REFLECTOR, if the day has another one
 abbrev pub reflector_lines : Reflector → Reflector → List Setting
 reflector_lines present wanted = option_to_list (unless_so (same_reflector present wanted) (SeatReflector wanted))
 
--- RING, of a wheel of the box, if it is one of the day's; and by wheel in box order
+-- RING for a wheel of the day whose ring isn't the day's, and for all wheels in the order of the box
 abbrev pub ring_of_wheel : RotorParts → List SheetWheel → Wheel → List Setting
 ring_of_wheel m wheels wheel =
-    option_to_list (option_and_then (λ w. unless_so (option_map_or (nat_eq w.ring) (ring_at m w.wheel) false) (RingTo w.wheel w.ring)) (find (λ w. same_wheel wheel w.wheel) wheels))
+    option_to_list (option_and_then
+    (λ w. unless_so (option_map_or (nat_eq w.ring) (ring_at m w.wheel) false) (RingTo w.wheel w.ring))
+    (find (λ w. same_wheel wheel w.wheel) wheels))
 
 abbrev pub ring_lines : RotorParts → List SheetWheel → List Setting
 ring_lines m wheels = flat_map (ring_of_wheel m wheels) (box_of m.model)
 
--- TURN, of the wheel in a slot, and by slot
+-- TURN for a slot whose wheel shows another letter than the day's, and for all slots
 abbrev pub turn_of : RotorParts → ℕ → SheetWheel → List Setting
-turn_of m slot w = option_to_list (unless_so (option_map_or (nat_eq w.letter) (letter_at m w.wheel) false) (Turn slot w.letter))
+turn_of m slot w =
+    option_to_list (unless_so (option_map_or (nat_eq w.letter) (letter_at m w.wheel) false) (Turn slot w.letter))
 
 abbrev pub turn_lines : RotorParts → List SheetWheel → List Setting
 turn_lines m wheels = lines_from (turn_of m) 1 wheels
 
--- PIN, of one letter of a wheel, with its pin and the day's; of one wheel, by its own order; and by wheel
+-- PIN for a pin that isn't the day's, for all pins of a wheel in the wheel's order, and for all wheels
 abbrev pub pin_of : ℕ → ℕ × (Bool × Bool) → List Setting
 pin_of wheel z = option_to_list (unless_so (not (differ z.1.0 z.1.1)) (PinTo wheel z.0 z.1.1))
 
@@ -61,16 +65,17 @@ abbrev pub wheel_pin_lines : ℕ → List ℕ → List Bool → List Bool → Li
 wheel_pin_lines wheel ring present wanted = flat_map (pin_of wheel) (zip ring (zip present wanted))
 
 abbrev pub pin_lines : PinSet → PinSet → List Setting
-pin_lines present wanted = lines_from (λ wheel z. wheel_pin_lines wheel (ring_of wheel) z.0 z.1) 1 (zip (pins_of present) (pins_of wanted))
+pin_lines present wanted =
+    lines_from (λ wheel z. wheel_pin_lines wheel (ring_of wheel) z.0 z.1) 1 (zip (pins_of present) (pins_of wanted))
 
--- TURN, of a pin wheel's letter and the day's, and by pin wheel
+-- TURN for a pin wheel that shows another letter than the day's, and for all pin wheels
 abbrev pub pin_turn_of : ℕ → ℕ × ℕ → List Setting
 pin_turn_of wheel z = option_to_list (unless_so (nat_eq z.0 z.1) (Turn wheel z.1))
 
 abbrev pub pin_turn_lines : List ℕ → List ℕ → List Setting
 pin_turn_lines letters window = lines_from pin_turn_of 1 (zip letters window)
 
--- all of these lines, in the order in which they are made
+-- all these settings in their order
 abbrev pub loose_lines : Parts → Day → List Setting
 loose_lines (Rotor m) (OfRotors s) =
     seat_lines m s.wheels ++ reflector_lines m.reflector s.reflector ++ ring_lines m s.wheels ++ turn_lines m s.wheels

@@ -1,11 +1,13 @@
--- A card that proves itself: it leads the machine to the day, and its prices show that no list of settings that does is
--- shorter.
-use Rattle.std.specs.Prelude.{◌≡◌, ℕ, ◌+◌, ◌<◌, ◌≤◌, nat_eq, Bool, true, false, List, [], ◌∷◌, length, map, slice_index_or, count_by, All, ◌⊎◌, ℤ, pos, IsFalse, Option, Some, None}
+-- A card that proves itself: its settings lead the machine to the day, and its prices show that no shorter list
+-- does.
+use Rattle.std.specs.Prelude.{◌≡◌, ℕ, ◌+◌, ◌<◌, ◌≤◌, nat_eq, Bool, true, false, List, [], ◌∷◌, length, map}
+use Rattle.std.specs.Prelude.{slice_index_or, count_by, All, ◌⊎◌, ℤ, pos, IsFalse, Option, Some, None}
 use Rattle.kd_tables.specs.Places.{in_order}
 use Rattle.kd_state.specs.declared.machine.parts.Parts.{Parts}
 use Rattle.kd_state.specs.declared.machine.parts.Parts.TheVariants.{Rotor, Pin}
 use Rattle.kd_state.specs.declared.setting.Setting.{Setting}
-use Rattle.kd_state.specs.declared.setting.Setting.TheVariants.{Pull, Put, Seat, SeatReflector, RingTo, Turn, PinTo, LugTo}
+use Rattle.kd_state.specs.declared.setting.Setting.TheVariants.{Pull, Put, Seat, SeatReflector, RingTo, Turn, PinTo}
+use Rattle.kd_state.specs.declared.setting.Setting.TheVariants.{LugTo}
 use Rattle.kd_state.specs.Machine.{model_of}
 use Rattle.kd_state.specs.Setting.{Leads, changed}
 use Rattle.kd_state.specs.SheetDay.{Day, OfRotors, OfPins, day_model}
@@ -20,16 +22,18 @@ use Rattle.kd_card.specs.declared.look.Look.{Look}
 use Rattle.kd_card.specs.declared.look.Look.TheVariants.{Cable, Pair, Bar, Row}
 use Rattle.kd_card.specs.declared.kinds.PricedKind.{PricedKind}
 use Rattle.kd_card.specs.Kinds.{look_rank}
-use Rattle.kd_card.specs.Prices.{version_of, row_kinds, column_kinds, row_prices, column_prices, price_at, price_sum, Fits, ArePrices}
+use Rattle.kd_card.specs.Prices.{version_of, row_kinds, column_kinds, row_prices, column_prices, price_at, price_sum}
+use Rattle.kd_card.specs.Prices.{Fits, ArePrices}
 use Rattle.kd_card.specs.CardText.{group_of}
 
--- the prices are by number, and those of the machine's kind: of cables for a rotor machine, and of bars for a Converter M-209
+-- The prices are by number, and belong to the machine's model: cables of a rotor machine, or bars of a
+-- Converter M-209.
 abbrev pub AreOfKind : Parts → PriceParts → Type 0
 AreOfKind (Rotor m) (Cables row col) = Unit {0}
 AreOfKind (Pin m) (Bars row col) = Unit {0}
 AreOfKind _ _ = ⊥
 
--- the setting changes a cable or a bar
+-- whether the setting changes a cable or a bar
 abbrev pub is_priced : Setting → Bool
 is_priced (Pull cable letter) = true
 is_priced (Put cable letter) = true
@@ -40,26 +44,26 @@ is_priced (RingTo wheel letter) = false
 is_priced (Turn slot letter) = false
 is_priced (PinTo wheel letter effective) = false
 
--- how many settings change a cable or a bar
+-- the number of settings that change a cable or a bar
 abbrev pub priced_count : List Setting → ℕ
 priced_count settings = count_by is_priced settings
 
--- the setting changes a cable or a bar, or puts one loose thing right
+-- The setting changes a cable or a bar, or one thing less is loose after it.
 abbrev pub IsNeeded : Parts → Day → Setting → Type 0
 IsNeeded m s x = IsFalse (is_priced x) → loose_count m s ≡ loose_count (changed m x) s + 1
 
--- each of the settings, carried out one after another, is needed
+-- Each setting is needed when it is carried out after the settings before it.
 abbrev pub AreNeeded : Parts → Day → List Setting → Type 0
 AreNeeded m s [] = Unit {0}
 AreNeeded m s (x ∷ xs) = IsNeeded m s x × AreNeeded (changed m x) s xs
 
--- the settings lead the machine to one that reads as the day
+-- The settings lead the machine to one that reads as the day.
 abbrev pub LeadsToTheDay : Parts → Day → List Setting → Type 0
 LeadsToTheDay m s settings = (n : Parts) × Leads m settings n × ReadsAs n s
 
 -- ---- prices by kind mean prices by number
 
--- what the machine's cables or bars look like, and the day's pairs and nothings or rows
+-- the looks of the machine's cables or bars, and of the day's pairs and nothings or rows
 abbrev pub row_looks : Parts → List Look
 row_looks (Rotor m) = map (λ ends. Cable ends) m.cables
 row_looks (Pin m) = map (λ standing. Bar standing) m.bars
@@ -75,45 +79,47 @@ column_looks (OfPins s) = map (λ numbers. Row numbers) s.rows
 abbrev pub look_at : List Look → ℕ → Look
 look_at looks place = slice_index_or looks place (Pair None)
 
--- how many of the looks are this one: looks of one name are told by their ranks
+-- the number of `looks` equal to `look`, as looks with one name and one rank are equal
 abbrev pub alike_count : Look → List Look → ℕ
 alike_count look looks = count_by (λ other. nat_eq (look_rank other) (look_rank look)) looks
 
--- the kind is of things that look so, and has this price
+-- The kind has this look, and this price.
 pub record HasPrice (look : Look) (due : ℤ) (kind : PricedKind) : Type 0 where
   pub alike : look_rank kind.look ≡ look_rank look
   pub price : kind.price ≡ due
 
--- one of the kinds is such
+-- One of the kinds has this look and this price.
 abbrev pub IsPriced : Look → ℤ → List PricedKind → Type 0
 IsPriced look price [] = ⊥
 IsPriced look price (kind ∷ kinds) = HasPrice look price kind ⊎ IsPriced look price kinds
 
--- there are as many things that look like the kind as it says
+-- The kind counts all things that have its look.
 pub record HasCount (looks : List Look) (kind : PricedKind) : Type 0 where
   pub count : kind.count ≡ alike_count kind.look looks
 
--- there is a price for each thing, that of its kind; and the kinds are those of the things, with as many as there are
+-- `prices` has the price of its kind for each thing, and each kind counts all things that have its look.
 pub record AreExpanded (looks : List Look) (kinds : List PricedKind) (prices : List ℤ) : Type 0 where
   pub number : length prices ≡ length looks
   pub each : (place : ℕ) → place < length looks → IsPriced (look_at looks place) (price_at prices place) kinds
   pub counts : All (HasCount looks) kinds
 
--- prices by number are what they mean, and prices by kind mean a price for each cable or bar, pair or row
+-- Prices by number mean themselves. Prices by kind mean one price for each cable and pair, or for each bar and
+-- row.
 pub data Expands (m : Parts) (s : Day) (prices numbered : PriceParts) : Type 0 where
   Same : version_of prices ≡ ByNumber → prices ≡ numbered → Expands m s prices numbered
-  Expanded : version_of prices ≡ ByKind → version_of numbered ≡ ByNumber → group_of prices ≡ group_of numbered → ArePrices prices → ArePrices numbered
+  Expanded : version_of prices ≡ ByKind → version_of numbered ≡ ByNumber → group_of prices ≡ group_of numbered
+      → ArePrices prices → ArePrices numbered
       → AreExpanded (row_looks m) (row_kinds prices) (row_prices numbered)
       → AreExpanded (column_looks s) (column_kinds prices) (column_prices numbered) → Expands m s prices numbered
 
--- what prices the machine has: of cables or of bars, by number or by kind
+-- what the prices of a machine belong to
 abbrev pub group_of_machine : Parts → Group
 group_of_machine (Rotor m) = OfCables
 group_of_machine (Pin m) = OfBars
 
 -- ---- the card proves itself
 
--- its prices are by number, and prove it
+-- The prices are by number, and prove the settings.
 pub record ProvesByNumber (m : Parts) (s : Day) (settings : List Setting) (prices : PriceParts) : Type 0 where
   pub model : model_of m ≡ day_model s
   pub kind : AreOfKind m prices
@@ -122,12 +128,12 @@ pub record ProvesByNumber (m : Parts) (s : Day) (settings : List Setting) (price
   pub sum : price_sum prices ≡ pos (priced_count settings)
   pub needed : AreNeeded m s settings
 
--- its prices mean such prices by number
+-- The prices mean prices by number that prove the settings.
 pub record Proves (m : Parts) (s : Day) (settings : List Setting) (prices : PriceParts) : Type 0 where
   pub numbered : PriceParts
   pub expands : Expands m s prices numbered
   pub proves : ProvesByNumber m s settings numbered
 
--- no settings whatever that lead the machine to the day are fewer
+-- No list that leads the machine to the day is shorter.
 abbrev pub IsShortest : Parts → Day → List Setting → Type 0
 IsShortest m s settings = (others : List Setting) → LeadsToTheDay m s others → length settings ≤ length others

@@ -1,5 +1,5 @@
--- What the steps of reading a card find, and a head's front, which writing one uses too. The contracts of the crate's public
--- calls don't speak of it.
+-- What the private steps of reading a card find, and the head up to the day, which writing uses too. No
+-- contract of a public function cites these definitions.
 use Rattle.std.specs.Prelude.{codes, ◌≡◌, ◌≤◌, ℕ, ℤ, unsigned_abs, List, [], Option, Some, None}
 use Rattle.std.specs.Fmt.{signed_decimal}
 use Rattle.kd_state.specs.Words.{words_of}
@@ -8,21 +8,21 @@ use Rattle.kd_card.specs.declared.prices.Version.{Version}
 use Rattle.kd_card.specs.declared.prices.Version.TheVariants.{ByNumber, ByKind}
 use Rattle.kd_card.specs.CardFault.{EndsGroup, HasNoNext}
 
--- the words behind the first one of a line: of the text behind its space, if there is one
+-- the words of a line after its first one; the argument is the text after the first word's space
 abbrev pub words_behind : Option (List ℕ) → List (List ℕ)
 words_behind None = []
 words_behind (Some text) = words_of text
 
--- the text of a price
+-- The text is a price.
 abbrev pub IsPriceText : List ℕ → Type 0
 IsPriceText word = (price : ℤ) × (unsigned_abs price ≤ 9999) × (signed_decimal price ≡ word)
 
--- what stands in a card's head in front of the day
+-- a card's head up to the day
 abbrev pub head_front : Version → List ℕ
 head_front ByNumber = codes "CARD 1 DAY "
 head_front ByKind = codes "CARD 2 DAY "
 
--- a group of kinds ends there; or it doesn't, and no kind follows that may
+-- The group of kinds ends before `bytes`; or it doesn't, and no valid kind follows.
 pub record EndsAt (name : Name) (floor : ℕ) (bytes : List ℕ) : Type 0 where
   pub ends : EndsGroup name bytes
   pub none_more : HasNoNext name floor bytes

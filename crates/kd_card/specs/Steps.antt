@@ -1,14 +1,15 @@
--- What is answered of a thing, step by step: a step answers with what it finds, or with why there is none, and the first
--- such reason is the answer.
+-- Answers that are found step by step: each step finds something or has a fault, and the first fault is the
+-- answer.
 use Rattle.std.specs.Prelude.{◌≡◌, Result, Ok, Err, refl}
 use Rattle.std.proofs.Common.{sym, ap, ◌∙◌, subst}
 
--- what is said of an answer
+-- a property of an answer: what was found, or a fault
 abbrev pub Says : Type 0 → Type 0 → Type 1
 Says F X = Result X F → Type 0
 
--- One step, and the next ones where it finds something.
-pub data Then {F X Y : Type 0} (Says : Result X F → Type 0) (Next : X → Result Y F → Type 0) (answer : Result Y F) : Type 0 where
+-- The first step has a fault, which is the answer; or it finds something, and the next steps give the answer.
+pub data Then {F X Y : Type 0} (Says : Result X F → Type 0) (Next : X → Result Y F → Type 0)
+    (answer : Result Y F) : Type 0 where
   Refused : (fault : F) → Says (Err fault) → answer ≡ Err fault → Then Says Next answer
   Found : (x : X) → Says (Ok x) → Next x answer → Then Says Next answer
 
@@ -16,25 +17,25 @@ infixl 10 ◌>>=◌
 abbrev pub ◌>>=◌ : {F X Y : Type 0} → Says F X → (X → Says F Y) → Says F Y
 says >>= next = Then says next
 
--- what was found
+-- the answer is `x`
 abbrev pub Only : {F X : Type 0} → X → Says F X
 Only x answer = answer ≡ Ok x
 
--- something of which this holds; where there is none, that is the reason
+-- an item that satisfies `Holds`, or the fault `due` if there is none
 abbrev pub Finds : {F X : Type 0} → (X → Type 0) → F → Says F X
 Finds Holds due (Ok x) = Holds x
 Finds {X} Holds due (Err fault) = ((x : X) → ¬ (Holds x)) × (fault ≡ due)
 
--- the same of a condition
+-- success if `Holds`, else the fault `due`
 abbrev pub Demands : {F : Type 0} → Type 0 → F → Says F (Unit {0})
 Demands Holds due = Finds (λ _. Holds) due
 
--- something of which this holds, as there always is
+-- an item that satisfies `Holds`; there always is one
 abbrev pub Takes : {F X : Type 0} → (X → Type 0) → Says F X
 Takes Holds (Ok x) = Holds x
 Takes Holds (Err fault) = ⊥
 
--- ---- steps have one answer at most, where each of them has
+-- ---- at most one answer, if each step has at most one
 
 abbrev pub IsOnly : {F X : Type 0} → (Result X F → Type 0) → Type 0
 IsOnly {F} {X} Says = (v w : Result X F) → Says v → Says w → v ≡ w
@@ -56,7 +57,8 @@ same_ok {x} e = ap (value_or x) e
 
 pub only_then : {F X Y : Type 0} {Says : Result X F → Type 0} {Next : X → Result Y F → Type 0} → IsOnly Says
     → ((x : X) → Says (Ok x) → IsOnly (Next x)) → IsOnly (Then Says Next)
-only_then only next v w (Refused f a e) (Refused g b d) = e ∙ ap Err (ap (fault_or f) (only (Err f) (Err g) a b)) ∙ sym d
+only_then only next v w (Refused f a e) (Refused g b d) =
+    e ∙ ap Err (ap (fault_or f) (only (Err f) (Err g) a b)) ∙ sym d
 only_then only next v w (Refused f a e) (Found y b m) = absurd (subst Succeeds (only (Ok y) (Err f) b a) tt)
 only_then only next v w (Found x a l) (Refused g b d) = absurd (subst Succeeds (only (Ok x) (Err g) a b) tt)
 only_then {Next} only next v w (Found x a l) (Found y b m) =
@@ -75,18 +77,20 @@ only_finds due one (Err f) (Err g) a b = ap Err (a.1 ∙ sym b.1)
 pub only_demands : {F : Type 0} (Holds : Type 0) (due : F) → IsOnly (Demands Holds due)
 only_demands Holds due = only_finds due (λ x y a b. refl)
 
-pub only_takes : {F X : Type 0} {Holds : X → Type 0} → ((x y : X) → Holds x → Holds y → x ≡ y) → IsOnly {F = F} (Takes Holds)
+pub only_takes : {F X : Type 0} {Holds : X → Type 0} → ((x y : X) → Holds x → Holds y → x ≡ y)
+    → IsOnly {F = F} (Takes Holds)
 only_takes one (Ok x) (Ok y) a b = ap Ok (one x y a b)
 only_takes one (Ok x) (Err f) a b = absurd b
 only_takes one (Err f) w a b = absurd a
 
--- what the first of several steps has found, where the last one is reached
+-- What the first step has found, if all steps find something.
 pub record Passed {F X Y : Type 0} (Says : Result X F → Type 0) (Next : X → Result Y F → Type 0) (y : Y) : Type 0 where
   pub found : X
   pub says : Says (Ok found)
   pub next : Next found (Ok y)
 
-pub passed : {F X Y : Type 0} {Says : Result X F → Type 0} {Next : X → Result Y F → Type 0} {y : Y} → Then Says Next (Ok y)
+pub passed : {F X Y : Type 0} {Says : Result X F → Type 0} {Next : X → Result Y F → Type 0} {y : Y}
+    → Then Says Next (Ok y)
     → Passed Says Next y
 passed (Refused f a e) = absurd (subst Succeeds e tt)
 passed (Found x a next) = record { found = x; says = a; next = next }

@@ -1,7 +1,8 @@
+//! A card: settings, and the prices that prove that no fewer settings reach the day.
 use super::prices::Prices;
 use kd_state::Settings;
 
-/// A card: the settings in their order, and the prices that prove them fewest.
+/// A card: the settings in order, and the prices that prove that no fewer reach the day.
 #[derive(Drop)]
 pub struct Card {
     pub settings: Settings,

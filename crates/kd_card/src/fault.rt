@@ -1,3 +1,4 @@
+//! Why bytes are not the text of a card.
 ghost use Rattle.std.specs.Prelude.{◌≡◌, Some};
 ghost use Rattle.kd_card.specs.FaultText.{card_fault_text};
 
@@ -5,25 +6,25 @@ use kd_tables::{Refusal, Text};
 use std::fmt;
 use thiserror::Error;
 
-/// Why bytes are no card. Lines are counted from 1.
+/// Why bytes are not the text of a card. Lines are counted from 1.
 #[derive(Clone, Copy, Debug, PartialEq, Eq, Error)]
 pub enum CardFault {
-    /// The first line is no card's head.
+    /// The first line isn't the head of a card.
     BadHead,
-    /// The line is missing, has no LF, or is not of the form that is due there.
+    /// The line with this number is missing, has no LF, or doesn't have the form that its place wants.
     BadLine(usize),
     /// There are more than 192 settings.
     TooMany,
-    /// Prices are due, and there are none, or prices of other things, or another number of them.
+    /// A price line is missing or is for other things, or a group has too few or too many prices.
     PriceMissing,
-    /// The number of settings, or the sum of the prices, is another one.
+    /// The number after `SETTINGS` isn't the number of settings, or the one after `SUM` isn't the sum.
     CountWrong,
-    /// Bytes follow the card.
+    /// Bytes follow the last line of the card.
     Trailing,
 }
 
 impl CardFault {
-    /// The refusal's number and name, and its line.
+    /// The refusal's number and name, and the line number if the fault has one.
     pub fn text(&self) -> Text
         ensures { result.bytes ≡ card_fault_text self.now }
     {

@@ -1,3 +1,4 @@
+//! What the prices of a card belong to: cables and pairs, or bars and rows.
 ghost use Rattle.std.specs.Prelude.{◌≡◌};
 ghost use Rattle.kd_card.specs.CardText.{row_name, column_name, column_word, price_count};
 ghost use Rattle.kd_card.specs.CardFault.{first_text};
@@ -5,17 +6,17 @@ ghost use Rattle.kd_card.specs.CardFault.{first_text};
 use super::look::Name;
 use super::prices::Version;
 
-/// What the prices of a card are of.
+/// What the prices of a card belong to: the rows and the columns of one table of costs.
 #[derive(Clone, Copy)]
 pub enum Group {
-    /// Of cables, and of pairs and nothings.
+    /// Cables are the rows; pairs and nothings are the columns.
     OfCables,
-    /// Of bars, and of the sheet's rows.
+    /// Bars are the rows; the rows of the key sheet are the columns.
     OfBars,
 }
 
 impl Group {
-    /// What the rows of the table of costs are called.
+    /// The name of a row of the table of costs.
     pub(crate) fn row_name(self) -> Name
         ensures { result ≡ row_name self }
     {
@@ -25,7 +26,7 @@ impl Group {
         }
     }
 
-    /// What its columns are called.
+    /// The name of a column of the table of costs.
     pub(crate) fn column_name(self) -> Name
         ensures { result ≡ column_name self }
     {
@@ -35,7 +36,7 @@ impl Group {
         }
     }
 
-    /// The first word of the first line of prices.
+    /// The first word of the first price line.
     pub(crate) fn first_text(self, version: Version) -> &'static str
         ensures { result.now ≡ first_text version self }
     {
@@ -46,7 +47,7 @@ impl Group {
         }
     }
 
-    /// The first word of the second line of prices by number.
+    /// The first word of the second price line of a card by number.
     pub(crate) fn column_text(self) -> &'static str
         ensures { result.now ≡ column_word self }
     {
@@ -56,7 +57,7 @@ impl Group {
         }
     }
 
-    /// How many rows there are, and how many columns.
+    /// The number of rows of the table of costs, which is also its number of columns.
     pub fn number(self) -> usize
         ensures { result ≡ price_count self }
     {

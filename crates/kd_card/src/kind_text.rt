@@ -1,4 +1,4 @@
-//! The lines of kinds: one for each cable, pair, bar or row that is unlike the others.
+//! Reads and writes the lines of kinds: one line for each kind of cable, pair, bar or row.
 ghost use Rattle.std.specs.Prelude.{◌≡◌, ◌+◌, ◌*◌, ◌<◌, ◌≤◌, [], ◌∷◌, ◌++◌, length, All};
 ghost use Rattle.std.specs.Prelude.{MatchOption, MatchResult, Ok, Err};
 ghost use Rattle.arrayvec.specs.ArrayString.{array_string_len};
@@ -15,7 +15,7 @@ use arrayvec::{ArrayString, ArrayVec};
 use itoa::Buffer;
 use kd_state::{number_of_text, push_number, split_words};
 
-/// The kind of things of that name whose line has these words behind its first one, which is the name.
+/// Parses a kind's line: its first word is `name`, and `behind` is the text after this word's space.
 #[tactic(auto, using(crate::proofs::Lines::words_in_place))]
 fn kind_behind(name: Name, behind: Option<&[u8]>) -> Option<PricedKind>
     ensures { let words = name_text name ∷ words_behind (option_copied behind.entry) in
@@ -30,7 +30,7 @@ fn kind_behind(name: Name, behind: Option<&[u8]>) -> Option<PricedKind>
     }
 }
 
-/// The kind, of things of that name, of this look, count and price.
+/// Makes a kind of the words of its line, or `None` if a word isn't valid there.
 #[tactic(auto, using(crate::proofs::KindWords::no_count))]
 fn kind_of_parts(name: Name, look: &[u8], count: &[u8], price: &[u8]) -> Option<PricedKind>
     ensures { let words = name_text name ∷ look.now ∷ count.now ∷ price.now ∷ [] in
@@ -47,8 +47,10 @@ fn kind_of_parts(name: Name, look: &[u8], count: &[u8], price: &[u8]) -> Option<
     Some(PricedKind { look, count, price })
 }
 
-/// The next kind of a group of things of that name, and what follows its line; none where the group ends. Its rank has
-/// to be at least this one, and its line has this number.
+/// Reads the next kind of the group of things called `name`, and the text after its line.
+///
+/// `None` if `text` is empty or begins with another word: the group ends there. The kind's rank is at least
+/// `floor`, and its line is line `line` of the card.
 fn next_kind(
     text: &[u8],
     name: Name,
@@ -74,8 +76,10 @@ fn next_kind(
     }
 }
 
-/// Reads the kinds of a group of `number` things called `name`, whose first line is line `line`. Answers them and what
-/// follows. Kinds that would count more than `number` things are read and not kept.
+/// Reads the kinds of `number` things called `name`, and the text after them.
+///
+/// The first of these kinds has line `line` of the card. Kinds that would count more than `number` things are
+/// read and not kept: then the group is refused in any case.
 #[tactic(auto, using(crate::proofs::KindPrices::reads_none))]
 pub(crate) fn read_kinds<'a>(
     text: &'a [u8],
@@ -129,7 +133,7 @@ pub(crate) fn push_kinds<const N: usize>(text: &mut ArrayString<N>, kinds: &[Pri
     }
 }
 
-/// Appends the line of the kind.
+/// Appends the line of `kind`.
 fn push_kind<const N: usize>(text: &mut ArrayString<N>, kind: &PricedKind)
     requires room { array_string_len text.old + 26 ≤ N }
     requires kind { IsPricedKind kind.now }

@@ -1,4 +1,4 @@
-//! Kinds: things that are alike, how many there are of them, and the price that each of them has.
+//! Kinds: what equal cables, pairs, bars or rows have in common, how many there are, and the price of each.
 ghost use Rattle.std.specs.Prelude.{◌≡◌, ◌↔◌, ◌+◌, ◌<◌, ◌≤◌, ◌++◌, length, map, replicate, IsTrue};
 ghost use Rattle.arrayvec.specs.ArrayVec.{array_vec_len};
 ghost use Rattle.kd_card.specs.declared.look.Name.{Name};
@@ -11,49 +11,49 @@ use super::look::{Look, Name};
 use arrayvec::ArrayVec;
 use kd_tables::{Letter, Reading, Standing};
 
-/// Cables that are alike.
+/// Cables with equal letters.
 #[derive(Clone, Copy, Default)]
 pub struct CableKind {
-    /// Their letters: a single one comes first, two are in alphabetical order.
+    /// The letters of each cable: a single letter comes first, two are in alphabetical order.
     pub ends: (Option<Letter>, Option<Letter>),
-    /// How many there are, from 1.
+    /// The number of these cables, at least 1.
     pub count: u8,
-    /// The price of each, from -9999 to 9999.
+    /// The price of each cable, from -9999 to 9999.
     pub price: i16,
 }
 
-/// Pairs, or nothings, that are alike.
+/// Equal pairs, or the nothings.
 #[derive(Clone, Copy, Default)]
 pub struct PairKind {
-    /// The letters in alphabetical order, or nothing.
+    /// The letters of the pair in alphabetical order, or `None` for a nothing.
     pub pair: Option<(Letter, Letter)>,
-    /// How many there are, from 1.
+    /// The number of these columns, at least 1.
     pub count: u8,
-    /// The price of each, from -9999 to 9999.
+    /// The price of each column, from -9999 to 9999.
     pub price: i16,
 }
 
-/// Bars that stand alike.
+/// Bars with one standing.
 #[derive(Clone, Copy, Default)]
 pub struct BarKind {
     pub standing: Standing,
-    /// How many there are, from 1.
+    /// The number of these bars, at least 1.
     pub count: u8,
-    /// The price of each, from -9999 to 9999.
+    /// The price of each bar, from -9999 to 9999.
     pub price: i16,
 }
 
-/// Rows of a sheet that read alike.
+/// Rows of a key sheet with one reading.
 #[derive(Clone, Copy, Default)]
 pub struct RowKind {
     pub reading: Reading,
-    /// How many there are, from 1.
+    /// The number of these rows, at least 1.
     pub count: u8,
-    /// The price of each, from -9999 to 9999.
+    /// The price of each row, from -9999 to 9999.
     pub price: i16,
 }
 
-/// A kind of whatever things: what they have in common, how many there are, and the price of each.
+/// A kind of any of the four sorts: the common look, the number of things, and the price of each.
 #[derive(Clone, Copy, Default)]
 pub struct PricedKind {
     pub look: Look,
@@ -61,18 +61,18 @@ pub struct PricedKind {
     pub price: i16,
 }
 
-/// Kinds of cables, pairs, bars or rows.
+/// A kind of one sort: of cables, of pairs, of bars or of rows.
 pub(crate) trait AsKind: Copy + Default {
-    /// What such things are called.
+    /// The name of things of this sort.
     ghost name: { Name };
 
-    /// The kind, as one of whatever things.
+    /// The kind, as a kind of any sort.
     ghost kind: { Self → PricedKind };
 
     fn kind(&self) -> PricedKind
         ensures { result ≡ kind self.now };
 
-    /// The kind, which is of such things, as one of their own.
+    /// Converts a kind of any sort to this sort, which it has to be of.
     fn own(any: PricedKind) -> Self
         requires { look_name any.look ≡ name }
         ensures { kind result ≡ any };
@@ -158,7 +158,7 @@ impl AsKind for RowKind {
     }
 }
 
-/// The kinds, as those of whatever things.
+/// Converts `kinds` to kinds of any sort.
 pub(crate) fn kinds_of<K: AsKind>(kinds: &[K]) -> ArrayVec<PricedKind, 27>
     requires { length kinds.now ≤ 27 }
     ensures { result.items ≡ map K.kind kinds.now }
@@ -170,7 +170,7 @@ pub(crate) fn kinds_of<K: AsKind>(kinds: &[K]) -> ArrayVec<PricedKind, 27>
     all
 }
 
-/// The kinds, which are all of such things, as their own.
+/// Converts `kinds` to their own sort, which is the same for all.
 pub(crate) fn own_kinds<K: AsKind, const N: usize>(kinds: &[PricedKind]) -> ArrayVec<K, N>
     requires called { AreCalled K.name kinds.now }
     requires room { length kinds.now ≤ N }
@@ -184,14 +184,14 @@ pub(crate) fn own_kinds<K: AsKind, const N: usize>(kinds: &[PricedKind]) -> Arra
 }
 
 impl PricedKind {
-    /// So many things of that look, each of that price.
+    /// Makes a kind of `count` things with this look, each with this price.
     fn of(look: Look, count: u8, price: i16) -> Self
         ensures { result ≡ record { look = look; count = count; price = price } }
     {
         PricedKind { look, count, price }
     }
 
-    /// Whether the kind may stand on a card, behind kinds that all have lower ranks than this one.
+    /// Whether this kind is valid after kinds of ranks below `floor`.
     fn may_follow(&self, floor: usize) -> bool
         ensures { IsTrue result ↔ (IsPricedKind self.now × (floor ≤ look_rank self.now.look)) }
     {
@@ -202,7 +202,7 @@ impl PricedKind {
     }
 }
 
-/// Whether the kinds are in their order from that rank on, each once, and count so many things together.
+/// Whether `kinds` are valid, in the order of their ranks from `floor` on, and count `number` things.
 pub(crate) fn are_kinds<K: AsKind>(kinds: &[K], floor: usize, number: usize) -> bool
     ensures value { let all = map K.kind kinds.now in
         IsTrue result ↔ (AreKinds floor all × (counted all ≡ number)) }
@@ -220,7 +220,7 @@ pub(crate) fn are_kinds<K: AsKind>(kinds: &[K], floor: usize, number: usize) -> 
     }
 }
 
-/// A price for each thing that the kinds count.
+/// The price of each thing that `kinds` count, kind after kind.
 #[tactic(auto, using(crate::proofs::KindPrices::counted_within, crate::proofs::KindPrices::length_of_kinds))]
 pub(crate) fn prices_of_kinds(kinds: &[PricedKind]) -> ArrayVec<i16, 27>
     requires { counted kinds.now ≤ 27 }
@@ -233,7 +233,7 @@ pub(crate) fn prices_of_kinds(kinds: &[PricedKind]) -> ArrayVec<i16, 27>
     prices
 }
 
-/// Appends the price of the kind, once for each thing.
+/// Appends the price of `kind` once for each of its things.
 fn push_prices(prices: &mut ArrayVec<i16, 27>, kind: &PricedKind)
     requires { array_vec_len prices.old + kind.now.count ≤ 27 }
     ensures { prices.new.items ≡ prices.old.items ++ replicate kind.now.count kind.now.price }

@@ -1,12 +1,13 @@
-//! What holds of cards.
+//! Laws on cards: their texts, the bound that prices give, and cards that prove themselves.
 ghost use Rattle.kd_card.specs.Laws.{RanksTellLooks, TextsTellCards, NoCardBeginsAnother, CardsAreSaid};
 ghost use Rattle.kd_card.specs.Laws.{CardsHaveNoFault, OneCardFault, LooseThingsAreCounted, AsFewAreNeeded};
 ghost use Rattle.kd_card.specs.Laws.{FittingPricesBoundLists};
 ghost use Rattle.kd_card.specs.Months.{CardsAreFewestInAll};
 ghost use Rattle.kd_card.specs.Laws.{ProvingCardsAreAsLong, ProvingCardsAreShortest, ProvingPricesAreTight};
 
-/// No two cards have one text, and no card's text is the front of another card's. A card's text has no fault, and no bytes
-/// have two. That bytes which are no card have one, `read_card` tells.
+/// Different cards have different texts, and no card's text is a proper prefix of another's.
+///
+/// The text of a card has no fault, and other bytes have at most one; `read_card` finds it.
 pub fn no_two_cards_have_one_text()
     ensures card { TextsTellCards }
     ensures front { NoCardBeginsAnother }
@@ -15,51 +16,55 @@ pub fn no_two_cards_have_one_text()
     ensures one_fault { OneCardFault }
 {}
 
-/// There are as many settings for loose things as loose things.
+/// The settings for loose things are as many as the loose things.
 #[tactic(auto, using(crate::proofs::Counting::loose_things_are_counted))]
 pub fn loose_things_are_counted()
     ensures { LooseThingsAreCounted }
 {}
 
-/// Where prices fit, no settings whatever that lead a machine to the day are fewer than its loose things and the sum of
-/// the prices.
+/// If prices fit, no list to the day is shorter than the number of loose things plus the sum of prices.
 #[tactic(auto, using(crate::proofs::Shortest::fitting_prices_bound_lists))]
 pub fn fitting_prices_bound_lists()
     ensures { FittingPricesBoundLists }
 {}
 
-/// Looks of one name, each in its one form, are told by their ranks.
+/// Two valid looks with one name and one rank are equal.
 #[tactic(auto, using(crate::proofs::KindWords::ranks_tell_looks))]
 pub fn ranks_tell_looks()
     ensures { RanksTellLooks }
 {}
 
-/// Settings that lead to the day, and are no more than the loose things and those of cables and bars, are each needed.
+/// If a list to the day has no more unpriced settings than loose things, it needs each setting.
+///
+/// An unpriced setting changes no cable and no bar.
 #[tactic(auto, using(crate::proofs::Shortest::as_few_are_needed))]
 pub fn as_few_are_needed()
     ensures { AsFewAreNeeded }
 {}
 
-/// A card that proves itself by number has as many settings as there are loose things and prices in sum.
+/// A card by number that proves itself has as many settings as loose things plus the sum of its prices.
 #[tactic(auto, using(crate::proofs::Shortest::proving_cards_are_as_long))]
 pub fn proving_cards_are_as_long()
     ensures { ProvingCardsAreAsLong }
 {}
 
-/// A card that proves itself is shortest.
+/// No list that reaches the day has fewer settings than a card that proves itself.
 pub fn proving_cards_are_shortest()
     ensures { ProvingCardsAreShortest }
 {}
 
-/// In a card that proves itself by number each row's price and some column's are together the cost where they meet, and
-/// so are each column's and some row's.
+/// In a card by number that proves itself, no price can be raised alone.
+///
+/// For each row there is a column, and for each column a row, whose two prices add up to the cost where they
+/// meet.
 #[tactic(auto, using(crate::proofs::Shortest::proving_prices_are_tight))]
 pub fn proving_prices_are_tight()
     ensures { ProvingPricesAreTight }
 {}
 
-/// On a rotor machine the cards of days that follow one another have in total at most as many settings as any other
-/// lists that reach these days one after another, from the same machine.
+/// On a rotor machine, the shortest card for each of several days is also the shortest for all days together.
+///
+/// No other lists that reach these days in turn from the same machine have fewer settings in total.
 #[tactic(auto, using(crate::proofs::Months::cards_are_fewest_in_all))]
 pub fn cards_are_fewest_in_all()
     ensures { CardsAreFewestInAll }

@@ -1,11 +1,11 @@
-//! One line of the settings of a card.
+//! Appends one setting, or none, to the settings of a card.
 ghost use Rattle.std.specs.Prelude.{◌≡◌, ◌+◌, ◌≤◌, ◌++◌};
 ghost use Rattle.std.specs.Option.{option_to_list};
 ghost use Rattle.arrayvec.specs.ArrayVec.{array_vec_len};
 
 use kd_state::{Setting, Settings};
 
-/// Appends the setting of a line, if there is one.
+/// Appends `line`, if it is a setting.
 pub fn push_line(settings: &mut Settings, line: Option<Setting>)
     requires { array_vec_len settings.old + 1 ≤ 192 }
     ensures items { settings.new.items ≡ settings.old.items ++ option_to_list line }

@@ -1,4 +1,4 @@
-//! What alike things have in common, and its text.
+//! Looks: what the things of one kind have in common, how this is written, and its order.
 ghost use Rattle.std.specs.Prelude.{◌≡◌, ◌≢◌, ◌↔◌, ℕ, ◌+◌, ◌<◌, [], ◌∷◌, ◌≤◌, length, IsTrue, MatchOption, Some};
 ghost use Rattle.kd_state.specs.Machine.{cable_letters};
 ghost use Rattle.kd_tables.specs.Places as places;
@@ -9,7 +9,7 @@ use arrayvec::ArrayString;
 use kd_state::push_letter;
 use kd_tables::{Letter, Place, Reading, Standing};
 
-/// What things are called in the lines of a card.
+/// The name of a sort of things in the lines of a card.
 #[derive(Clone, Copy)]
 pub(crate) enum Name {
     Cable,
@@ -19,7 +19,7 @@ pub(crate) enum Name {
 }
 
 impl Name {
-    /// The first word of a kind's line.
+    /// The name as it is written: the first word of a kind's line.
     pub(crate) fn text(self) -> &'static str
         ensures value { result.now ≡ name_text self }
         ensures few { length result.now ≤ 5 }
@@ -33,19 +33,18 @@ impl Name {
     }
 }
 
-/// What alike things have in common: the letters of a cable, those of a pair or of nothing, how a bar stands, or how a
-/// row reads.
+/// What the things of one kind have in common: their letters, their standing or their reading.
 #[derive(Clone, Copy)]
 pub enum Look {
-    /// A cable's letters: a single one comes first, two are in alphabetical order.
+    /// A cable's letters: a single letter comes first, two are in alphabetical order.
     Cable((Option<Letter>, Option<Letter>)),
-    /// A pair's letters in alphabetical order, or nothing.
+    /// A pair's letters in alphabetical order, or `None` for a nothing.
     Pair(Option<(Letter, Letter)>),
     Bar(Standing),
     Row(Reading),
 }
 
-/// What stands in the unused places of a list of looks. It may be anything: no contract says which value it is.
+/// Fills the unused places of a list of looks. No contract says which value it is.
 impl Default for Look {
     ghost is_default = { λ _. Unit {0} };
 
@@ -55,7 +54,7 @@ impl Default for Look {
 }
 
 impl Look {
-    /// What a thing of that look is called.
+    /// The name of the things that have this look.
     pub(crate) fn name(self) -> Name
         ensures { result ≡ look_name self }
     {
@@ -67,7 +66,7 @@ impl Look {
         }
     }
 
-    /// Whether letters are in the one order in which they are written.
+    /// Whether this look has the one form that is written: its letters are in order.
     pub(crate) fn is_in_form(self) -> bool
         ensures { IsTrue result ↔ IsInForm self }
     {
@@ -87,8 +86,9 @@ impl Look {
         }
     }
 
-    /// By its rank a look comes before or after others of its name in a card's lines. It is no place among them: some
-    /// numbers are no look's rank.
+    /// The number by which looks with one name are ordered in a card.
+    ///
+    /// Ranks of looks don't follow one another without gaps, so a rank isn't a place in a list.
     pub fn rank(self) -> usize
         ensures value { result ≡ look_rank self }
         ensures few { IsInForm self → result < 703 }
@@ -111,7 +111,7 @@ impl Look {
         }
     }
 
-    /// How the look is written.
+    /// The look as it is written in a kind's line.
     pub(crate) fn text(self) -> ArrayString<8>
         ensures { result.bytes ≡ look_text self }
     {
@@ -126,7 +126,7 @@ impl Look {
         }
     }
 
-    /// The look of that text, of a thing of that name.
+    /// Parses the look of a thing called `name`, or `None` if `text` isn't one.
     pub(crate) fn from_text(name: Name, text: &[u8]) -> Option<Self>
         ensures { MatchOption result
             ((look : _) → ¬ (HasLook name text.now look))
@@ -145,14 +145,14 @@ impl Look {
     }
 }
 
-/// Whether the first letter comes before the second in the alphabet.
+/// Whether `one` comes before `other` in the alphabet.
 fn is_before(one: Letter, other: Letter) -> bool
     ensures { IsTrue result ↔ ((one < other) × (other < 26)) }
 {
     one.index() < other.index()
 }
 
-/// How many places of a bar lie to the left of this one.
+/// The number of places of a bar to the left of `place`.
 fn place_rank(place: Place) -> usize
     ensures value { result ≡ places.place_rank place }
     ensures few { result < 8 }
@@ -169,7 +169,7 @@ fn place_rank(place: Place) -> usize
     }
 }
 
-/// The letters that are there, or `-` for none.
+/// Writes one letter or two, or `-` for none.
 fn text_of_letters(one: Option<Letter>, other: Option<Letter>) -> ArrayString<8>
     ensures { result.bytes ≡ letters_text (cable_letters (one, other)) }
 {
@@ -186,7 +186,7 @@ fn text_of_letters(one: Option<Letter>, other: Option<Letter>) -> ArrayString<8>
     text
 }
 
-/// The look of that text, of a cable.
+/// Parses the look of a cable.
 fn cable_of_text(text: &[u8]) -> Option<Look>
     ensures { MatchOption result
         ((look : _) → ¬ (HasLook Name.Cable text.now look))
@@ -202,7 +202,7 @@ fn cable_of_text(text: &[u8]) -> Option<Look>
     }
 }
 
-/// The look of that text, of a pair or of nothing.
+/// Parses the look of a pair or a nothing.
 fn pair_of_text(text: &[u8]) -> Option<Look>
     ensures { MatchOption result
         ((look : _) → ¬ (HasLook Name.Pair text.now look))
@@ -214,7 +214,7 @@ fn pair_of_text(text: &[u8]) -> Option<Look>
     }
 }
 
-/// The two capital letters of that text, if the first comes before the second.
+/// Parses two different capital letters in alphabetical order.
 fn two_letters(text: &[u8]) -> Option<(Letter, Letter)>
     ensures { MatchOption result
         ((one other : ℕ) → one < other → other < 26 → letters_text (one ∷ other ∷ []) ≢ text.now)

@@ -1,4 +1,4 @@
-//! How many things of a machine aren't as a day has them, cables and bars apart.
+//! Counts the things of a machine that a day has otherwise, except cables and bars.
 ghost use Rattle.std.specs.Prelude.{◌≡◌, ◌≤◌, false, not, nat_eq, length, map, sum, count_by, zip};
 ghost use Rattle.std.specs.Option.{option_map_or};
 ghost use Rattle.kd_pins.specs.PinWheels.{pins_of};
@@ -11,8 +11,10 @@ use kd_pins::PinSet;
 use kd_state::{Entry, Machine, Parts, SheetDay, SheetWheel};
 use kd_tables::{Letter, Reflector, Wheel};
 
-/// Counts the slots, the reflector, the rings and the letters that aren't as the day has them, or the pins and the
-/// letters of pin wheels. It is 0 for a rotor machine and a day of the Converter M-209, and the other way round.
+/// Counts the loose things: slots, reflector, rings and window letters, or pins and letters of pin wheels.
+///
+/// The count is 0 if the machine is a rotor machine and the day is for the Converter M-209, or the other way
+/// round.
 pub fn loose_count(machine: &Machine, day: &SheetDay) -> usize
     ensures value { result ≡ costs.loose_count machine.now day.now }
     ensures few { result ≤ 137 }
@@ -32,7 +34,7 @@ pub fn loose_count(machine: &Machine, day: &SheetDay) -> usize
     }
 }
 
-/// Counts the slots that hold another wheel than the day's, or none.
+/// Counts the slots that are empty or hold another wheel than the day's.
 fn loose_slots(slots: &[Option<Wheel>], wheels: &[SheetWheel]) -> usize
     ensures value { result ≡ count_by
         (λ slot. not (option_map_or (same_wheel slot.1.wheel) slot.0 false)) (zip slots.now wheels.now) }
@@ -45,7 +47,7 @@ fn loose_slots(slots: &[Option<Wheel>], wheels: &[SheetWheel]) -> usize
         .count()
 }
 
-/// Counts the reflector, if it is another one.
+/// Counts 1 if the machine has another reflector than the day.
 fn loose_reflector(present: Reflector, wanted: Reflector) -> usize
     ensures value { result ≡ unless_same (same_reflector present wanted) }
     ensures few { result ≤ 1 }
@@ -53,7 +55,7 @@ fn loose_reflector(present: Reflector, wanted: Reflector) -> usize
     usize::from(present != wanted)
 }
 
-/// Counts the day's wheels whose rings differ.
+/// Counts the wheels of the day whose rings stand at another letter.
 fn loose_rings(machine: &Machine, wheels: &[SheetWheel]) -> usize
     ensures value { result ≡ count_by
         (λ w. not (option_map_or (nat_eq w.ring) (ring_in machine.now w.wheel) false)) wheels.now }
@@ -65,7 +67,7 @@ fn loose_rings(machine: &Machine, wheels: &[SheetWheel]) -> usize
         .count()
 }
 
-/// Counts the day's wheels whose letters differ.
+/// Counts the wheels of the day that show another letter.
 fn loose_letters(machine: &Machine, wheels: &[SheetWheel]) -> usize
     ensures value { result ≡ count_by
         (λ w. not (option_map_or (nat_eq w.letter) (letter_in machine.now w.wheel) false)) wheels.now }
@@ -77,7 +79,7 @@ fn loose_letters(machine: &Machine, wheels: &[SheetWheel]) -> usize
         .count()
 }
 
-/// Counts the pins that differ, on all six wheels.
+/// Counts the pins of all six wheels that differ from the day's.
 fn loose_pins(present: &PinSet, wanted: &PinSet) -> usize
     ensures value { result ≡ sum (map (λ wheel. count_by (λ pin. differ pin.0 pin.1) (zip wheel.0 wheel.1))
         (zip (pins_of present.now) (pins_of wanted.now))) }
@@ -91,7 +93,7 @@ fn loose_pins(present: &PinSet, wanted: &PinSet) -> usize
         + loose_wheel_pins(&present.w6, &wanted.w6)
 }
 
-/// Counts the pins of one wheel that differ.
+/// Counts the pins of one wheel that differ from the day's.
 fn loose_wheel_pins(present: &[bool], wanted: &[bool]) -> usize
     ensures value { result ≡ count_by (λ pin. differ pin.0 pin.1) (zip present.now wanted.now) }
     ensures few { result ≤ length present.now }
@@ -103,7 +105,7 @@ fn loose_wheel_pins(present: &[bool], wanted: &[bool]) -> usize
         .count()
 }
 
-/// Counts the pin wheels that show another letter than the day's.
+/// Counts the pin wheels that show another letter than on the day.
 fn loose_pin_letters(letters: &[Letter], window: &[Letter]) -> usize
     ensures value { result ≡ count_by (λ letter. not (nat_eq letter.0 letter.1)) (zip letters.now window.now) }
     ensures few { result ≤ length letters.now }

@@ -1,4 +1,4 @@
-//! The lines of pins and of the letters that the pin wheels show.
+//! The settings for pins and for the letters that pin wheels show.
 ghost use Rattle.std.specs.Prelude.{◌≡◌, ◌+◌, ◌<◌, ◌≤◌, ◌++◌, not, nat_eq, length, zip};
 ghost use Rattle.arrayvec.specs.ArrayVec.{array_vec_len};
 ghost use Rattle.kd_state.specs.Costs.{differ};
@@ -13,8 +13,9 @@ use kd_pins::PinSet;
 use kd_state::{PinEntry, PinParts, Setting, Settings};
 use kd_tables::{Letter, ring1, ring2, ring3, ring4, ring5, ring6};
 
-/// A setting for each thing of a Converter M-209 that isn't as the day has it, bars apart, in the order in which they
-/// are made: pins and letters.
+/// The settings that turn each pin and each pin wheel of a Converter M-209 to the day's.
+///
+/// Pins come first, then letters. Bars aren't changed.
 pub fn pin_settings(parts: &PinParts, entry: &PinEntry) -> Settings
     ensures lines { result.items ≡ loose_lines (Pin parts.now) (OfPins (pin_values entry.now)) }
     ensures few { length result.items ≤ 137 }
@@ -25,7 +26,7 @@ pub fn pin_settings(parts: &PinParts, entry: &PinEntry) -> Settings
     settings
 }
 
-/// Appends PIN for each pin that isn't as the day has it, wheel by wheel.
+/// Appends PIN for each pin that differs from the day's, wheel by wheel.
 fn push_pins(settings: &mut Settings, present: &PinSet, wanted: &PinSet)
     requires { array_vec_len settings.old + 131 ≤ 192 }
     ensures items { settings.new.items ≡ settings.old.items ++ pin_lines present.now wanted.now }
@@ -39,7 +40,7 @@ fn push_pins(settings: &mut Settings, present: &PinSet, wanted: &PinSet)
     push_wheel_pins(settings, 6, &ring6().letters(), &present.w6, &wanted.w6);
 }
 
-/// Appends TURN for each pin wheel that shows another letter than the day's, from this wheel's number on.
+/// Appends TURN for each pin wheel that shows another letter than the day's. `number` is the first wheel's.
 fn push_pin_turns(settings: &mut Settings, number: u8, letters: &[Letter], window: &[Letter])
     requires few { number + length letters.now < 256 }
     requires room { array_vec_len settings.old + length letters.now ≤ 192 }
@@ -55,7 +56,7 @@ fn push_pin_turns(settings: &mut Settings, number: u8, letters: &[Letter], windo
     }
 }
 
-/// Appends PIN for each pin of a wheel that isn't as the day has it, in the wheel's own order.
+/// Appends PIN for each pin of one wheel that differs from the day's, in the order of the wheel's letters.
 fn push_wheel_pins(
     settings: &mut Settings,
     wheel: u8,
@@ -77,7 +78,7 @@ fn push_wheel_pins(
     }
 }
 
-/// PIN, unless the pin is so.
+/// PIN, or `None` if the pin already is as wanted.
 fn pin_line(wheel: u8, letter: Letter, present: bool, effective: bool) -> Option<Setting>
     ensures { let so = not (differ present effective) in
         result ≡ unless_so so (Setting.PinTo wheel letter effective) }
@@ -89,7 +90,7 @@ fn pin_line(wheel: u8, letter: Letter, present: bool, effective: bool) -> Option
     })
 }
 
-/// TURN, unless the wheel shows the letter.
+/// TURN, or `None` if the wheel already shows `letter`.
 fn pin_turn_line(slot: u8, present: Letter, letter: Letter) -> Option<Setting>
     ensures { result ≡ unless_so (nat_eq present letter) (Setting.Turn slot letter) }
 {

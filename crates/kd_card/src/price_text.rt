@@ -1,4 +1,4 @@
-//! Prices and numbers as they are written, and the first words of their lines.
+//! Reads prices and numbers, and the first words of price lines.
 ghost use Rattle.std.specs.Prelude.{◌≡◌, ◌≢◌, ◌↔◌, ◌<◌, ◌≤◌, [], ◌∷◌, ℕ, List, ℤ, map, length, unsigned_abs, All};
 ghost use Rattle.std.specs.Prelude.{IsTrue, MatchOption, MatchResult, Ok, Err};
 ghost use Rattle.std.specs.Option.{option_copied};
@@ -17,7 +17,7 @@ use itoa::Buffer;
 use kd_state::{split_once, split_words};
 use std::str;
 
-/// Whether a number is written so: in digits, without leading zeros.
+/// Whether `text` is an unsigned number: digits without leading zeros.
 fn is_number_text(text: &[u8]) -> bool
     ensures { IsTrue result ↔ IsNumberText text.now }
 {
@@ -28,7 +28,7 @@ fn is_number_text(text: &[u8]) -> bool
     }
 }
 
-/// Whether a number is written so; a signed one with a - in front where it is below 0.
+/// Whether `text` is a number without leading zeros; with `signed`, `-` before it makes it negative.
 pub(crate) fn is_numeral(text: &[u8], signed: bool) -> bool
     ensures { IsTrue result ↔ IsNumeral signed text.now }
 {
@@ -39,7 +39,7 @@ pub(crate) fn is_numeral(text: &[u8], signed: bool) -> bool
     }
 }
 
-/// The price that is written so: from -9999 to 9999, without leading zeros and without a plus sign.
+/// Parses a price: from -9999 to 9999, without leading zeros and without a plus sign.
 pub(crate) fn price_of_text(text: &[u8]) -> Option<i16>
     ensures { MatchOption result
         ((price : ℤ) → unsigned_abs price ≤ 9999 → signed_decimal price ≢ text.now)
@@ -53,15 +53,16 @@ pub(crate) fn price_of_text(text: &[u8]) -> Option<i16>
     is_word(text, buffer.format(price)).then_some(price)
 }
 
-/// Whether the text is the word.
+/// Whether `text` is `word`.
 pub(crate) fn is_word(text: &[u8], word: &str) -> bool
     ensures { IsTrue result ↔ (text.now ≡ word.now) }
 {
     text == word.as_bytes()
 }
 
-/// The first word of the first line of the text, what stands behind the space after it, and what follows the line, which is
-/// one of prices and that of this number.
+/// Splits the first price line off `text`: its first word, the text after this word's space, and the rest.
+///
+/// `line` is the number of this line in the card, for a fault.
 pub(crate) fn split_first(
     text: &[u8],
     line: usize,
@@ -83,8 +84,10 @@ pub(crate) fn split_first(
     }
 }
 
-/// Whether prices are of cables or of bars, by the first word of their first line, which is that of this number; what
-/// stands behind the space after it; and what follows the line.
+/// Finds out from the first word of the first price line what the prices belong to.
+///
+/// Also returns the text after this word's space, and the text after the line, which is line `line` of the
+/// card.
 pub(crate) fn first_group(
     text: &[u8],
     version: Version,
@@ -102,7 +105,7 @@ pub(crate) fn first_group(
     }
 }
 
-/// Whether prices that begin with that word are of cables or of bars.
+/// The group whose price lines begin with `word`, if there is one.
 fn group_of_word(word: &[u8], version: Version) -> Option<Group>
     ensures { MatchOption result
         ((group : _) → word.now ≢ first_text version group)
@@ -117,7 +120,7 @@ fn group_of_word(word: &[u8], version: Version) -> Option<Group>
     }
 }
 
-/// The prices behind the first word of the line of that number, which have to be so many.
+/// Parses the `number` prices after the first word of line `line`; `behind` is the text after its space.
 pub(crate) fn prices_behind(
     behind: Option<&[u8]>,
     number: usize,
@@ -134,7 +137,7 @@ pub(crate) fn prices_behind(
     }
 }
 
-/// The prices between the spaces of a text that has to be so many of them, in the line of that number.
+/// Parses `number` prices with a space between them, from line `line`.
 fn prices_of_text(text: &[u8], number: usize, line: usize) -> Result<ArrayVec<i16, 27>, CardFault>
     requires { number ≤ 27 }
     ensures { MatchResult result
@@ -157,7 +160,7 @@ fn prices_of_text(text: &[u8], number: usize, line: usize) -> Result<ArrayVec<i1
     }
 }
 
-/// Whether what stands between the spaces of a text are prices.
+/// Whether all words between the spaces of `text` are prices.
 fn are_prices(text: &[u8]) -> bool
     ensures { IsTrue result ↔ All IsPriceText (words_of text.now) }
 {
@@ -165,7 +168,7 @@ fn are_prices(text: &[u8]) -> bool
         .all(|word| price_of_text(word).is_some())
 }
 
-/// The prices that are these words; none where one of them is no price.
+/// Parses each of `words`, or `None` if one isn't a price.
 fn prices_of_words(words: &[&[u8]]) -> Option<ArrayVec<i16, 27>>
     requires { length words.now ≤ 27 }
     ensures { let texts = map (λ word. word.now) words.now in

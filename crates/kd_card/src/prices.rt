@@ -1,3 +1,4 @@
+//! The prices of a card, by number or by kind.
 ghost use Rattle.std.specs.Prelude.{◌≡◌, ◌↔◌, ◌+◌, ◌*◌, ◌<◌, ◌≤◌, length, map, fold, unsigned_abs, ◌+ℤ◌};
 ghost use Rattle.std.specs.Prelude.{IsTrue, MatchOption};
 ghost use Rattle.kd_card.specs.Prices.{price_sum, version_of, row_kinds, column_kinds};
@@ -16,17 +17,17 @@ use super::kinds::{
 use arrayvec::ArrayVec;
 use std::marker::Model;
 
-/// What the prices of a card are by.
+/// Whether a card has its prices by number or by kind.
 #[derive(Clone, Copy)]
 pub enum Version {
-    /// Each cable, pair, bar or row has a price of its own.
+    /// Each cable, pair, nothing, bar or row has its own price.
     ByNumber,
-    /// Each kind of them has one.
+    /// Each kind of cable, pair, nothing, bar or row has one price.
     ByKind,
 }
 
 impl Version {
-    /// How the head of a card begins, up to its day.
+    /// The head of a card up to its day.
     pub(crate) fn front(self) -> &'static str
         ensures value { result.now ≡ head_front self }
         ensures few { length result.now ≡ 11 }
@@ -38,8 +39,7 @@ impl Version {
     }
 }
 
-/// The prices of a card: of the cables and of the pairs and nothings, or of the bars and of the sheet's rows; or of the
-/// kinds of each.
+/// The prices of a card: one list for rows and one for columns of the table of costs, by number or by kind.
 #[derive(Drop)]
 pub enum PriceParts {
     Cables([i16; 13], [i16; 13]),
@@ -48,7 +48,7 @@ pub enum PriceParts {
     BarKinds(ArrayVec<BarKind, 27>, ArrayVec<RowKind, 27>),
 }
 
-/// The prices of a card, each from -9999 to 9999.
+/// The prices of a card: valid numbers of them or valid kinds, each price from -9999 to 9999.
 #[derive(Drop)]
 pub struct Prices {
     parts: PriceParts,
@@ -69,7 +69,9 @@ impl Model for Prices {
 }
 
 impl Prices {
-    /// The prices of the cables and of the pairs and nothings; none where one is below -9999 or above 9999.
+    /// Makes prices of cables and of pairs and nothings.
+    ///
+    /// `None` if one is below -9999 or above 9999.
     pub fn cables(cables: [i16; 13], pairs: [i16; 13]) -> Option<Self>
         ensures { MatchOption result
             (¬ (ArePrices (PriceParts.Cables cables pairs)))
@@ -82,7 +84,9 @@ impl Prices {
         }
     }
 
-    /// The prices of the bars and of the sheet's rows; none where one is below -9999 or above 9999.
+    /// Makes prices of bars and of the sheet's rows.
+    ///
+    /// `None` if one is below -9999 or above 9999.
     pub fn bars(bars: [i16; 27], rows: [i16; 27]) -> Option<Self>
         ensures { MatchOption result
             (¬ (ArePrices (PriceParts.Bars bars rows)))
@@ -95,9 +99,10 @@ impl Prices {
         }
     }
 
-    /// The prices of the kinds of cables, and of the kinds of pairs and nothings; none where a kind isn't in the form
-    /// in which it is written, or has the count 0, or the kinds of a group aren't in order, each once, or aren't of 13
-    /// things together, or a price is below -9999 or above 9999.
+    /// Makes prices of kinds of cables and of kinds of pairs and nothings.
+    ///
+    /// `None` if the kinds of a group aren't in order and each once, don't count 13 things, or if a kind has
+    /// letters out of order, the count 0, or a price below -9999 or above 9999.
     #[tactic(auto, using(crate::proofs::KindPrices::cables_are_prices))]
     pub fn cable_kinds(cables: &[CableKind], pairs: &[PairKind]) -> Option<Self>
         ensures { let parts =
@@ -108,9 +113,10 @@ impl Prices {
         Some(Prices::of_parts(parts))
     }
 
-    /// The prices of the kinds of bars, and of the kinds of the sheet's rows; none where a kind isn't in the form in
-    /// which it is written, or has the count 0, or the kinds of a group aren't in order, each once, or aren't of 27
-    /// things together, or a price is below -9999 or above 9999.
+    /// Makes prices of kinds of bars and of kinds of the sheet's rows.
+    ///
+    /// `None` if the kinds of a group aren't in order and each once, don't count 27 things, or if a kind has the
+    /// count 0, or a price below -9999 or above 9999.
     #[tactic(auto, using(crate::proofs::KindPrices::bars_are_prices))]
     pub fn bar_kinds(bars: &[BarKind], rows: &[RowKind]) -> Option<Self>
         ensures { let parts =
@@ -121,7 +127,7 @@ impl Prices {
         Some(Prices::of_parts(parts))
     }
 
-    /// The prices of these rows and columns of a group, one for each.
+    /// Makes prices by number of the rows and columns of `group`.
     pub fn numbered(group: Group, rows: &[i16], columns: &[i16]) -> Self
         requires rows { length rows.now ≡ price_count group }
         requires columns { length columns.now ≡ price_count group }
@@ -138,7 +144,7 @@ impl Prices {
         }
     }
 
-    /// The prices of these kinds of rows and columns of a group.
+    /// Makes prices by kind of the rows and columns of `group`.
     #[tactic(auto, using(crate::proofs::KindPrices::group_fits))]
     pub fn of_groups(group: Group, rows: &[PricedKind], columns: &[PricedKind]) -> Self
         requires rows { IsGroup (row_name group) (price_count group) rows.now }
@@ -156,7 +162,7 @@ impl Prices {
         }
     }
 
-    /// What the prices are of.
+    /// What the prices belong to.
     pub fn group(&self) -> Group
         ensures { result ≡ group_of self.now }
     {
@@ -166,7 +172,7 @@ impl Prices {
         }
     }
 
-    /// What the prices are by.
+    /// Whether the prices are by number or by kind.
     pub fn version(&self) -> Version
         ensures value { result ≡ version_of self.now }
         ensures are_prices { ArePrices self.now }
@@ -177,7 +183,7 @@ impl Prices {
         }
     }
 
-    /// How many lines of a card the prices take.
+    /// The number of price lines in the card.
     pub(crate) fn line_count(&self) -> usize
         ensures value { result ≡ length (price_lines self.now) }
         ensures few { result ≤ 54 }
@@ -188,7 +194,7 @@ impl Prices {
         }
     }
 
-    /// The prices that these are.
+    /// Wraps `parts`, which are valid.
     pub(crate) fn of_parts(parts: PriceParts) -> Self
         requires { ArePrices parts }
         ensures { result ≡ parts }
@@ -196,7 +202,7 @@ impl Prices {
         Prices { parts }
     }
 
-    /// The prices, row by row and column by column, or kind by kind.
+    /// The prices of rows and of columns, by number or by kind.
     pub fn parts(&self) -> PriceParts
         ensures value { result ≡ self.now }
         ensures are_prices { ArePrices result }
@@ -213,7 +219,7 @@ impl Prices {
         }
     }
 
-    /// The kinds of the cables, or of the bars; none for prices by number.
+    /// The kinds of the cables or bars; empty if the prices are by number.
     pub fn row_kinds(&self) -> ArrayVec<PricedKind, 27>
         ensures { result.items ≡ row_kinds self.now }
     {
@@ -224,7 +230,7 @@ impl Prices {
         }
     }
 
-    /// The kinds of the pairs and nothings, or of the sheet's rows; none for prices by number.
+    /// The kinds of the pairs and nothings, or of the sheet's rows; empty if the prices are by number.
     pub fn column_kinds(&self) -> ArrayVec<PricedKind, 27>
         ensures { result.items ≡ column_kinds self.now }
     {
@@ -235,7 +241,7 @@ impl Prices {
         }
     }
 
-    /// The prices of the cables, or of the bars, one for each; those of a kind stand together.
+    /// The price of each cable or bar. If the prices are by kind, those of one kind come together.
     #[tactic(auto, using(crate::proofs::Lines::few_prices, crate::proofs::KindPrices::are_prices, crate::proofs::KindPrices::prices_of))]
     pub fn row_prices(&self) -> ArrayVec<i16, 27>
         ensures value { result.items ≡ row_prices self.now }
@@ -248,7 +254,8 @@ impl Prices {
         }
     }
 
-    /// The prices of the pairs and nothings, or of the sheet's rows, one for each; those of a kind stand together.
+    /// The price of each pair and nothing, or of each row. If they are by kind, those of one kind come
+    /// together.
     #[tactic(auto, using(crate::proofs::Lines::few_prices, crate::proofs::KindPrices::are_prices, crate::proofs::KindPrices::prices_of))]
     pub fn column_prices(&self) -> ArrayVec<i16, 27>
         ensures value { result.items ≡ column_prices self.now }
@@ -261,7 +268,7 @@ impl Prices {
         }
     }
 
-    /// The sum of all prices.
+    /// The sum of the prices of all rows and columns.
     #[tactic(auto, using(crate::proofs::Lines::few_prices))]
     pub fn sum(&self) -> i32
         ensures { result ≡ price_sum self.now }
@@ -271,14 +278,14 @@ impl Prices {
     }
 }
 
-/// Whether no price is below -9999 or above 9999.
+/// Whether all of `prices` are from -9999 to 9999.
 fn are_within_reach(prices: &[i16]) -> bool
     ensures { IsTrue result ↔ AreWithinReach prices.now }
 {
     prices.iter().all(|price| price.unsigned_abs() <= 9999)
 }
 
-/// The sum and all of the prices, added up.
+/// Adds `prices` to `sum`.
 fn sum_onto(sum: i32, prices: &[i16]) -> i32
     requires reach { AreWithinReach prices.now }
     requires few { length prices.now ≤ 27 }
@@ -293,7 +300,7 @@ fn sum_onto(sum: i32, prices: &[i16]) -> i32
     total
 }
 
-/// The prices, of which there are so many.
+/// Copies `N` prices to an array.
 fn array_of<const N: usize>(prices: &[i16]) -> [i16; N]
     requires { length prices.now ≡ N }
     ensures { result ≡ prices.now }
@@ -301,7 +308,7 @@ fn array_of<const N: usize>(prices: &[i16]) -> [i16; N]
     <[i16; N]>::try_from(prices).unwrap()
 }
 
-/// The kinds, if they are in order, each once, and of so many things as there is room for kinds.
+/// Copies `kinds`, or `None` if they are invalid or don't count `N` things.
 fn in_order<K: AsKind, const N: usize>(kinds: &[K]) -> Option<ArrayVec<K, N>>
     ensures { let all = map K.kind kinds.now in
         MatchOption result
@@ -315,7 +322,7 @@ fn in_order<K: AsKind, const N: usize>(kinds: &[K]) -> Option<ArrayVec<K, N>>
     }
 }
 
-/// The same elements once more.
+/// Copies `elements` to a list.
 fn copied<K: Copy + Default, const N: usize>(elements: &[K]) -> ArrayVec<K, N>
     requires { length elements.now ≤ N }
     ensures { result.items ≡ elements.now }

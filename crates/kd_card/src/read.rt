@@ -1,4 +1,4 @@
-//! Cards, read off their text.
+//! Reads the text of a card.
 ghost use Rattle.std.specs.Prelude.{◌≡◌, ◌≢◌, ℕ, ◌<◌, ◌≤◌, ◌∷◌, ◌++◌, List, MatchOption, MatchResult, Ok, Err};
 ghost use Rattle.kd_state.specs.Words.{IsWithout};
 ghost use Rattle.kd_card.specs.CardText.{IsCard};
@@ -14,7 +14,7 @@ use arrayvec::ArrayVec;
 use itoa::Buffer;
 use kd_state::{day_of_text, split_once, split_settings};
 
-/// The card whose text this is, and its day.
+/// Reads a card and its day from `text`, or finds the first fault.
 pub fn read_card(text: &[u8]) -> Result<(u8, Card), CardFault>
     ensures { MatchResult result
         (λ found. IsCard text.now found.0 found.1.settings.items found.1.prices)
@@ -36,7 +36,7 @@ pub fn read_card(text: &[u8]) -> Result<(u8, Card), CardFault>
     Ok((day, Card { settings, prices }))
 }
 
-/// What stands behind the front in the first line of the text, and what follows that line.
+/// Splits the first line off `text`: the part of this line after `front`, and the text after the line.
 fn split_value<'a>(text: &'a [u8], front: &str) -> Option<(&'a [u8], &'a [u8])>
     ensures { MatchOption result
         ((value rest : List ℕ) → IsWithout 10 value → text.now ≢ front.now ++ value ++ 10 ∷ rest)
@@ -47,7 +47,7 @@ fn split_value<'a>(text: &'a [u8], front: &str) -> Option<(&'a [u8], &'a [u8])>
     split_once(behind, b'\n')
 }
 
-/// What the prices are by, and the day, of the card whose head is the first line; and what follows that line.
+/// Reads the head: by number or by kind, and the day. Returns both, and the text after the line.
 fn read_head(text: &[u8]) -> Option<(Version, u8, &[u8])>
     ensures { MatchOption result
         ((version : _) (day : ℕ) (rest : List ℕ) → ¬ (BeginsWithHead text.now version day rest))
@@ -60,7 +60,7 @@ fn read_head(text: &[u8]) -> Option<(Version, u8, &[u8])>
     Some((Version::ByKind, day, rest))
 }
 
-/// The day of the card whose head, for prices by that, is the first line, and what follows that line.
+/// Reads the day from a head for `version`. Returns it, and the text after the line.
 fn read_day(text: &[u8], version: Version) -> Option<(u8, &[u8])>
     ensures { MatchOption result
         ((day : ℕ) (rest : List ℕ) → ¬ (BeginsWithHead text.now version day rest))
@@ -70,7 +70,7 @@ fn read_day(text: &[u8], version: Version) -> Option<(u8, &[u8])>
     Some((day_of_text(day)?, rest))
 }
 
-/// What follows the line with that number of settings.
+/// Checks the line with the number of settings, and returns the text after it.
 fn read_count(text: &[u8], count: usize) -> Result<&[u8], CardFault>
     requires { count ≤ 192 }
     ensures { MatchResult result
@@ -81,7 +81,7 @@ fn read_count(text: &[u8], count: usize) -> Result<&[u8], CardFault>
     read_value(text, "SETTINGS ", buffer.format(count), false, count + 2)
 }
 
-/// What follows the line with that sum, which is that of this number.
+/// Checks that line `line` has the sum of prices, and returns the text after it.
 fn read_sum(text: &[u8], sum: i32, line: usize) -> Result<&[u8], CardFault>
     ensures { MatchResult result
         (λ rest. SaysSum sum line text.now (Ok rest.now))
@@ -91,7 +91,7 @@ fn read_sum(text: &[u8], sum: i32, line: usize) -> Result<&[u8], CardFault>
     read_value(text, "SUM ", buffer.format(sum), true, line)
 }
 
-/// What follows the line with that front and that number, as it is written; the line is that of this number.
+/// Checks that line `line` has `front` and the number `due`, and returns the text after it.
 fn read_value<'a>(
     text: &'a [u8],
     front: &str,
@@ -114,7 +114,7 @@ fn read_value<'a>(
     Ok(rest)
 }
 
-/// The prices at the front of the text, in lines of which the first is that of this number, and what follows.
+/// Reads the prices, whose first line is line `line`. Returns them, and the text after them.
 fn read_prices(text: &[u8], version: Version, line: usize) -> Result<(Prices, &[u8]), CardFault>
     requires { line < 200 }
     ensures { MatchResult result
@@ -127,7 +127,7 @@ fn read_prices(text: &[u8], version: Version, line: usize) -> Result<(Prices, &[
     }
 }
 
-/// The prices of the two lines at the front of the text, of which the first is that of this number, and what follows.
+/// Reads the two lines of prices by number, from line `line` on. Returns them, and the text after them.
 fn read_numbered(text: &[u8], line: usize) -> Result<(Prices, &[u8]), CardFault>
     requires { line < 200 }
     ensures { MatchResult result
@@ -142,8 +142,7 @@ fn read_numbered(text: &[u8], line: usize) -> Result<(Prices, &[u8]), CardFault>
     Ok((prices, rest))
 }
 
-/// The prices of the two groups of kinds at the front of the text, of which the first line is that of this number, and
-/// what follows.
+/// Reads the two groups of kinds, from line `line` on. Returns their prices, and the text after them.
 fn read_kinded(text: &[u8], line: usize) -> Result<(Prices, &[u8]), CardFault>
     requires { line < 200 }
     ensures { MatchResult result
@@ -160,7 +159,7 @@ fn read_kinded(text: &[u8], line: usize) -> Result<(Prices, &[u8]), CardFault>
     ))
 }
 
-/// The prices behind the word in the first line of the text, which is that of this number, and what follows it.
+/// Reads line `line`, which has `word` and `number` prices. Returns these, and the text after the line.
 fn read_price_line<'a>(
     text: &'a [u8],
     word: &str,

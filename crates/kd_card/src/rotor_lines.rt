@@ -1,5 +1,6 @@
-//! The lines of wheels, reflector, rings and window letters.
-ghost use Rattle.std.specs.Prelude.{◌≡◌, ◌+◌, ◌<◌, ◌≤◌, ◌++◌, false, nat_eq, length, find, flat_map, option_and_then, zip};
+//! The settings for wheels, reflector, rings and window letters.
+ghost use Rattle.std.specs.Prelude.{◌≡◌, ◌+◌, ◌<◌, ◌≤◌, ◌++◌, false, nat_eq, length, find, flat_map};
+ghost use Rattle.std.specs.Prelude.{option_and_then, zip};
 ghost use Rattle.std.specs.Option.{option_map_or};
 ghost use Rattle.arrayvec.specs.ArrayVec.{array_vec_len};
 ghost use Rattle.kd_state.specs.declared.machine.parts.Parts.TheVariants.{Rotor};
@@ -14,8 +15,9 @@ use arrayvec::ArrayVec;
 use kd_state::{Machine, RotorEntry, RotorParts, Setting, Settings, SheetWheel};
 use kd_tables::{Reflector, Wheel};
 
-/// A setting for each thing of a rotor machine that isn't as the day has it, cables apart, in the order in which they
-/// are made: wheels, reflector, rings and letters. `parts` are those of `machine`.
+/// The settings that change each thing of a rotor machine, except cables, to the day's.
+///
+/// Wheels come first, then the reflector, rings and letters. `parts` are the parts of `machine`.
 #[tactic(auto, using(crate::proofs::Counting::few_in_box))]
 pub fn rotor_settings(machine: &Machine, parts: &RotorParts, entry: &RotorEntry) -> Settings
     requires { machine.now ≡ Rotor parts.now }
@@ -33,7 +35,7 @@ pub fn rotor_settings(machine: &Machine, parts: &RotorParts, entry: &RotorEntry)
     settings
 }
 
-/// Appends SEAT for each slot that doesn't hold the day's wheel, from this slot's number on.
+/// Appends SEAT for each slot that doesn't hold the day's wheel. `number` is the first slot's.
 fn push_seats(settings: &mut Settings, number: u8, slots: &[Option<Wheel>], wheels: &[SheetWheel])
     requires few { number + length slots.now < 256 }
     requires room { array_vec_len settings.old + length slots.now ≤ 192 }
@@ -49,7 +51,7 @@ fn push_seats(settings: &mut Settings, number: u8, slots: &[Option<Wheel>], whee
     }
 }
 
-/// Appends RING for each of the day's wheels whose ring differs, in the order of these wheels of the box.
+/// Appends RING for each wheel of `boxed` that is one of the day's and has another ring.
 fn push_rings(
     settings: &mut Settings,
     machine: &Machine,
@@ -69,7 +71,7 @@ fn push_rings(
     }
 }
 
-/// Appends TURN for each slot whose wheel shows another letter than the day's, from this slot's number on.
+/// Appends TURN for each slot whose wheel shows another letter than the day's. `number` is the first slot's.
 fn push_turns(
     settings: &mut Settings,
     machine: &Machine,
@@ -90,7 +92,7 @@ fn push_turns(
     }
 }
 
-/// SEAT, unless the wheel is seated there.
+/// SEAT, or `None` if `wheel` is in the slot already.
 fn seat_line(slot: u8, seated: Option<Wheel>, wheel: Wheel) -> Option<Setting>
     ensures { let so = option_map_or (same_wheel wheel) seated false in
         result ≡ unless_so so (Setting.Seat slot wheel) }
@@ -98,7 +100,7 @@ fn seat_line(slot: u8, seated: Option<Wheel>, wheel: Wheel) -> Option<Setting>
     (seated != Some(wheel)).then_some(Setting::Seat { slot, wheel })
 }
 
-/// REFLECTOR, unless it is that one.
+/// REFLECTOR, or `None` if the machine has it already.
 fn reflector_line(present: Reflector, reflector: Reflector) -> Option<Setting>
     ensures { let so = same_reflector present reflector in
         result ≡ unless_so so (Setting.SeatReflector reflector) }
@@ -106,14 +108,14 @@ fn reflector_line(present: Reflector, reflector: Reflector) -> Option<Setting>
     (present != reflector).then_some(Setting::SeatReflector { reflector })
 }
 
-/// The wheel among the day's, if it is one of them.
+/// Finds `wheel` among the day's wheels.
 fn wheel_of(wheels: &[SheetWheel], wheel: Wheel) -> Option<SheetWheel>
     ensures { result ≡ find (λ seated. same_wheel wheel seated.wheel) wheels.now }
 {
     wheels.iter().copied().find(|seated| wheel == seated.wheel)
 }
 
-/// RING, if the wheel is one of the day's and has another ring.
+/// RING, or `None` if the wheel isn't one of the day's or already has the day's ring.
 fn ring_line(machine: &Machine, wanted: Option<SheetWheel>) -> Option<Setting>
     ensures { result ≡ option_and_then (λ seated.
         let so = option_map_or (nat_eq seated.ring) (ring_in machine.now seated.wheel) false in
@@ -124,7 +126,7 @@ fn ring_line(machine: &Machine, wanted: Option<SheetWheel>) -> Option<Setting>
     (machine.ring(wheel) != Some(letter)).then_some(Setting::RingTo { wheel, letter })
 }
 
-/// TURN, unless the wheel in the slot shows the letter.
+/// TURN, or `None` if the wheel in the slot already shows the day's letter.
 fn turn_line(machine: &Machine, slot: u8, wanted: SheetWheel) -> Option<Setting>
     ensures { let shown = letter_in machine.now wanted.wheel in
         let so = option_map_or (nat_eq wanted.letter) shown false in

@@ -1,4 +1,4 @@
-//! The text of a card, written to a sink.
+//! Writes the text of a card to a sink.
 ghost use Rattle.std.specs.Prelude.{◌≡◌, ◌+◌, ◌*◌, ◌≤◌, ◌||◌, [], ◌∷◌, ◌++◌, length, is_err, unsigned_abs, All};
 ghost use Rattle.std.specs.Fmt.{signed_decimal};
 ghost use Rattle.arrayvec.specs.ArrayString.{array_string_len};
@@ -18,10 +18,10 @@ use itoa::Buffer;
 use kd_state::{Setting, push_number};
 use kd_tables::{Device, Sink, put_all};
 
-/// No text of a card is longer: the head, 192 settings and their number, twice 27 prices or kinds, and their sum.
+/// The most bytes of a card: head, 192 settings, their number, twice 27 prices or kinds, and the sum.
 const LONGEST: usize = 6144;
 
-/// Writes the text of the card for that day. A sink that fails has taken a prefix of it.
+/// Writes the text of `card` for day `day`. A sink that fails has taken a prefix of the text.
 pub fn write_card<W: Sink>(sink: &mut W, day: u8, card: &Card) -> Result<(), Device>
     requires { IsDayNumber day }
     ensures text { let text = card_text day card.now.settings.items card.now.prices in
@@ -33,7 +33,7 @@ pub fn write_card<W: Sink>(sink: &mut W, day: u8, card: &Card) -> Result<(), Dev
     put_all(sink, text_of(day, card).as_str().as_bytes())
 }
 
-/// The text of the card for that day.
+/// The text of `card` for day `day`.
 fn text_of(day: u8, card: &Card) -> ArrayString<LONGEST>
     ensures bytes { result.bytes ≡ card_text day card.now.settings.items card.now.prices }
     ensures in_range { All IsInRange card.now.settings.items }
@@ -49,7 +49,7 @@ fn text_of(day: u8, card: &Card) -> ArrayString<LONGEST>
     text
 }
 
-/// Appends the head.
+/// Appends the head of a card for day `day`.
 fn push_head<const N: usize>(text: &mut ArrayString<N>, version: Version, day: u8)
     requires { array_string_len text.old + 15 ≤ N }
     ensures bytes { text.new.bytes ≡ text.old.bytes ++ with_line (head_words version day) [] }
@@ -60,7 +60,7 @@ fn push_head<const N: usize>(text: &mut ArrayString<N>, version: Version, day: u
     text.push_str("\n");
 }
 
-/// Appends a line for each setting.
+/// Appends a line for each of `settings`.
 fn push_settings<const N: usize>(text: &mut ArrayString<N>, settings: &[Setting])
     requires { array_string_len text.old + 24 * length settings.now ≤ N }
     ensures bytes { text.new.bytes ≡ text.old.bytes ++ list_text settings.now }
@@ -73,7 +73,7 @@ fn push_settings<const N: usize>(text: &mut ArrayString<N>, settings: &[Setting]
     }
 }
 
-/// Appends the line of the setting.
+/// Appends the line of `setting`.
 fn push_setting<const N: usize>(text: &mut ArrayString<N>, setting: &Setting)
     requires { array_string_len text.old + 24 ≤ N }
     ensures bytes { text.new.bytes ≡ text.old.bytes ++ list_text (setting.now ∷ []) }
@@ -96,7 +96,7 @@ fn push_count<const N: usize>(text: &mut ArrayString<N>, count: usize)
     text.push_str("\n");
 }
 
-/// Appends the lines of the prices.
+/// Appends the price lines.
 fn push_prices<const N: usize>(text: &mut ArrayString<N>, prices: &Prices)
     requires { array_string_len text.old + 1404 ≤ N }
     ensures bytes { text.new.bytes ≡ text.old.bytes ++ lines_text (price_lines prices.now) }
@@ -118,7 +118,7 @@ fn push_prices<const N: usize>(text: &mut ArrayString<N>, prices: &Prices)
     }
 }
 
-/// Appends the line of a word and prices.
+/// Appends a line of `word` and `prices`.
 fn push_price_line<const N: usize>(text: &mut ArrayString<N>, word: &str, prices: &[i16])
     requires room { array_string_len text.old + length word.now + 7 * length prices.now + 1 ≤ N }
     requires reach { AreWithinReach prices.now }
@@ -134,7 +134,7 @@ fn push_price_line<const N: usize>(text: &mut ArrayString<N>, word: &str, prices
     text.push_str("\n");
 }
 
-/// Appends a space and a price.
+/// Appends a space and `price`.
 fn push_price<const N: usize>(text: &mut ArrayString<N>, price: i16)
     requires room { array_string_len text.old + 7 ≤ N }
     requires reach { unsigned_abs price ≤ 9999 }
@@ -146,7 +146,7 @@ fn push_price<const N: usize>(text: &mut ArrayString<N>, price: i16)
     text.push_str(buffer.format(price));
 }
 
-/// Appends the line with the sum.
+/// Appends the line with the sum of prices.
 fn push_sum<const N: usize>(text: &mut ArrayString<N>, sum: i32)
     requires { array_string_len text.old + 16 ≤ N }
     ensures bytes { text.new.bytes ≡ text.old.bytes ++ with_line (sum_words sum) [] }

@@ -1,26 +1,35 @@
--- Six letters that are read one by one, and the wheels that have them.
-use Rattle.std.proofs.Common.{◌≡◌, ◌↔◌, ◌-◌, ◌||◌, ◌∷◌, [], ℕ, ◌<◌, Bool, false, not, IsTrue, List, Contains, length, get_or, slice_index, refl, arith}
+-- Six letters, each tested on its wheel.
+use Rattle.std.proofs.Common.{◌≡◌, ◌↔◌, ◌-◌, ◌||◌, ◌∷◌, [], ℕ, ◌<◌, Bool, false, not, IsTrue, List, Contains, length}
+use Rattle.std.proofs.Common.{get_or, slice_index, refl, arith}
 use Rattle.{kd_drum.{proofs.Starts.each_wheel, specs.Converter.OnWheels}, kd_tables.specs.Rings.ring_of}
 use Rattle.std.proofs.{Math.Bool.beq, lemmas.Bool.Decides.nat_tests, lemmas.List.get_or_default}
 
--- a letter that was read from the list is on a wheel with these letters
+-- The test of a letter of the list finds it on the wheel exactly if the wheel has it.
 pub on_wheel : (ring letters there : List ℕ) (place d : ℕ) (has : Bool) → ring ≡ letters → place < length there
     → (IsTrue has ↔ Contains ring (get_or there place d)) → IsTrue has ↔ Contains letters (slice_index there place)
 on_wheel ring letters there place d has same lt h = grind (arith, get_or_default)
 
--- no test of the six wheels fails where each has its letter
+-- No test of the six wheels fails if each wheel has its letter.
 pub none_fails : (letters : List ℕ) (h1 h2 h3 h4 h5 h6 : Bool)
-    → (IsTrue h1 ↔ Contains (ring_of 1) (slice_index letters 0)) → (IsTrue h2 ↔ Contains (ring_of 2) (slice_index letters 1))
-    → (IsTrue h3 ↔ Contains (ring_of 3) (slice_index letters 2)) → (IsTrue h4 ↔ Contains (ring_of 4) (slice_index letters 3))
-    → (IsTrue h5 ↔ Contains (ring_of 5) (slice_index letters 4)) → (IsTrue h6 ↔ Contains (ring_of 6) (slice_index letters 5))
-    → IsTrue (not (beq h1 false || (beq h2 false || (beq h3 false || (beq h4 false || (beq h5 false || (beq h6 false || false))))))) ↔ OnWheels letters
-none_fails letters h1 h2 h3 h4 h5 h6 a b c d e f = grind (arith, nat_tests, each_wheel (λ wheel. Contains (ring_of wheel) (slice_index letters (wheel - 1))))
+    → (IsTrue h1 ↔ Contains (ring_of 1) (slice_index letters 0))
+    → (IsTrue h2 ↔ Contains (ring_of 2) (slice_index letters 1))
+    → (IsTrue h3 ↔ Contains (ring_of 3) (slice_index letters 2))
+    → (IsTrue h4 ↔ Contains (ring_of 4) (slice_index letters 3))
+    → (IsTrue h5 ↔ Contains (ring_of 5) (slice_index letters 4))
+    → (IsTrue h6 ↔ Contains (ring_of 6) (slice_index letters 5))
+    → IsTrue (not (beq h1 false || (beq h2 false
+    || (beq h3 false || (beq h4 false || (beq h5 false || (beq h6 false || false))))))) ↔ OnWheels letters
+none_fails letters h1 h2 h3 h4 h5 h6 a b c d e f =
+    grind (arith, nat_tests, each_wheel (λ wheel. Contains (ring_of wheel) (slice_index letters (wheel - 1))))
 
--- a wheel shows the letter that was read from the list, which is on it
-pub shows_letter : (ring letters there : List ℕ) (place d shown : ℕ) → ring ≡ letters → place < length there → Contains letters (slice_index there place)
+-- A wheel shows the letter of the list if it has this letter.
+pub shows_letter : (ring letters there : List ℕ) (place d shown : ℕ) → ring ≡ letters → place < length there
+    → Contains letters (slice_index there place)
     → (Contains ring (get_or there place d) → shown ≡ get_or there place d) → shown ≡ slice_index there place
 shows_letter ring letters there place d shown same lt on h = grind (arith, get_or_default)
 
-pub six_letters : (letters : List ℕ) → length letters ≡ 6 → slice_index letters 0 ∷ slice_index letters 1 ∷ slice_index letters 2 ∷ slice_index letters 3 ∷ slice_index letters 4 ∷ slice_index letters 5 ∷ [] ≡ letters
+pub six_letters : (letters : List ℕ) → length letters ≡ 6
+    → slice_index letters 0 ∷ slice_index letters 1 ∷ slice_index letters 2 ∷ slice_index letters 3
+    ∷ slice_index letters 4 ∷ slice_index letters 5 ∷ [] ≡ letters
 six_letters (a ∷ b ∷ c ∷ d ∷ g ∷ h ∷ []) e = refl
 six_letters _ e = absurd (omega arith)

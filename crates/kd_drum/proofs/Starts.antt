@@ -1,4 +1,4 @@
--- Where the wheels stand after so many letters.
+-- The wheels after a number of letters.
 use Rattle.std.proofs.Common.{◌≡◌, ℕ, ◌+◌, ◌-◌, ◌%◌, ◌<◌, ◌≤◌, Bool, ◌&&◌, ◌||◌, Option, unwrap_or, List, [], ◌∷◌}
 use Rattle.std.proofs.Common.{length, map, slice_index, slice_index_or, true, count_by, refl, sym, ap, ◌∙◌, arith, leb}
 use Rattle.kd_drum.specs.{Laws.KeyInTurn, Standing.AllStand, Standing.StandsAs, Standing.key_of}
@@ -10,88 +10,106 @@ use Rattle.kd_pins.specs.PinWheel.{TurnedWheel, is_effective, letter_shown, pin_
 use Rattle.kd_pins.specs.PinWheels.{pin_wheels, pins_on, offset_of, size_of}
 use Rattle.kd_drum.specs.Converter.{PinKey, pin_key_turned, start_on, acts_after, bars_met, letter_after, pin_key_after}
 
--- what holds of each of the six wheels holds of a wheel
+-- What holds for each of the six wheels holds for any wheel from 1 to 6.
 pub each_wheel : (P : ℕ → Type 0) → P 1 → P 2 → P 3 → P 4 → P 5 → P 6 → (wheel : ℕ) → 1 ≤ wheel → wheel ≤ 6 → P wheel
 each_wheel P e d g h o q wheel w y = grind arith
 
--- a wheel has places
+-- A wheel has at least one place.
 pub has_places : (wheel : ℕ) → 1 ≤ wheel → wheel ≤ 6 → 0 < size_of wheel
 unfolding ring_of
-has_places = each_wheel (λ wheel. 0 < size_of wheel) (omega arith) (omega arith) (omega arith) (omega arith) (omega arith) (omega arith)
+has_places =
+    each_wheel (λ wheel. 0 < size_of wheel) (omega arith) (omega arith) (omega arith) (omega arith) (omega arith)
+    (omega arith)
 
--- and as many different letters
+-- A wheel has a different letter at each place.
 is_ring : (wheel : ℕ) → 1 ≤ wheel → wheel ≤ 6 → IsRing (size_of wheel) (ring_of wheel)
 unfolding ring_of
 is_ring =
     let text = λ (wheel : ℕ). slice_index_or ring_texts wheel [] in
-    let is = λ (wheel : ℕ) (h : is_ring_text (text wheel) ≡ true). text_makes_ring (size_of wheel) (text wheel) refl h in
-    each_wheel (λ wheel. IsRing (size_of wheel) (ring_of wheel)) (is 1 refl) (is 2 refl) (is 3 refl) (is 4 refl) (is 5 refl) (is 6 refl)
+    let is =
+    λ (wheel : ℕ) (h : is_ring_text (text wheel) ≡ true). text_makes_ring (size_of wheel) (text wheel) refl h in
+    each_wheel (λ wheel. IsRing (size_of wheel) (ring_of wheel)) (is 1 refl) (is 2 refl) (is 3 refl) (is 4 refl)
+    (is 5 refl) (is 6 refl)
 
 start_after : (key : PinKey) (count wheel : ℕ) → 1 ≤ wheel → wheel ≤ 6
     → start_on (pin_key_after key count) wheel ≡ (start_on key wheel + count) % size_of wheel
 start_after key count wheel low high =
     let place = (start_on key wheel + count) % size_of wheel in
     let within : place < size_of wheel = mod-lt (start_on key wheel + count) (has_places wheel low high) in
-    ap (λ letter. unwrap_or (place_on (ring_of wheel) letter) 0) (get_or-map-range_with_len (letter_after key count) 1 6 (wheel - 1) wheel 0 (omega arith) (omega arith))
-    ∙ ap (λ (found : Option ℕ). unwrap_or found 0) (letter_leads_to_place (size_of wheel) (ring_of wheel) (is_ring wheel low high) place within)
+    ap (λ letter. unwrap_or (place_on (ring_of wheel) letter) 0)
+    (get_or-map-range_with_len (letter_after key count) 1 6 (wheel - 1) wheel 0 (omega arith) (omega arith))
+    ∙ ap (λ (found : Option ℕ). unwrap_or found 0)
+    (letter_leads_to_place (size_of wheel) (ring_of wheel) (is_ring wheel low high) place within)
 
--- so many places on, and so many more
+-- Moving on in three steps is moving on by their sum.
 three_on : (s m i o n : ℕ) → ((s + m) % n + i + o) % n ≡ (s + (m + i) + o) % n
 three_on s m i o n = grind (arith, mod-add-mod (s + m) n (i + o))
 
-letter_after_sum : (key : PinKey) (m n wheel : ℕ) → 1 ≤ wheel → wheel ≤ 6 → letter_after (pin_key_after key m) n wheel ≡ letter_after key (m + n) wheel
-letter_after_sum key m n wheel low high = grind (arith, start_after, mod-add-mod (start_on key wheel + m) (size_of wheel) n)
+letter_after_sum : (key : PinKey) (m n wheel : ℕ) → 1 ≤ wheel → wheel ≤ 6
+    → letter_after (pin_key_after key m) n wheel ≡ letter_after key (m + n) wheel
+letter_after_sum key m n wheel low high =
+    grind (arith, start_after, mod-add-mod (start_on key wheel + m) (size_of wheel) n)
 
 pub key_in_turn : KeyInTurn
 key_in_turn key m n =
     let once = letter_after (pin_key_after key m) n in
     let whole = letter_after key (m + n) in
     ap (pin_key_turned key) (ext_get_or 0 (map once pin_wheels) (map whole pin_wheels) refl
-    (λ i lt. get_or-map-range_with_len once 1 6 i (1 + i) 0 lt refl ∙ letter_after_sum key m n (1 + i) (omega arith) (omega arith)
+    (λ i lt. get_or-map-range_with_len once 1 6 i (1 + i) 0 lt refl
+    ∙ letter_after_sum key m n (1 + i) (omega arith) (omega arith)
     ∙ sym (get_or-map-range_with_len whole 1 6 i (1 + i) 0 lt refl)))
 
--- tests of the six wheels are alike where they are of each of the six
+-- Two tests of a wheel agree for any number if they agree for each of the six wheels.
 alike_on_wheels : (wheel : ℕ) (x y : Bool) → (1 ≤ wheel → wheel ≤ 6 → x ≡ y)
     → ((leb 1 wheel && leb wheel 6) && x) ≡ ((leb 1 wheel && leb wheel 6) && y)
 alike_on_wheels wheel x y same = grind (arith, nat_tests, same)
 
-acts_after_sum : (key : PinKey) (m i wheel : ℕ) → acts_after (pin_key_after key m) i wheel ≡ acts_after key (m + i) wheel
+acts_after_sum : (key : PinKey) (m i wheel : ℕ)
+    → acts_after (pin_key_after key m) i wheel ≡ acts_after key (m + i) wheel
 acts_after_sum key m i wheel = alike_on_wheels wheel _ _ (λ low high.
-    ap (λ start. is_effective (pins_on key.pins wheel) ((start + i + offset_of wheel) % size_of wheel)) (start_after key m wheel low high)
+    ap (λ start. is_effective (pins_on key.pins wheel) ((start + i + offset_of wheel) % size_of wheel))
+    (start_after key m wheel low high)
     ∙ ap (is_effective (pins_on key.pins wheel)) (three_on (start_on key wheel) m i (offset_of wheel) (size_of wheel)))
 
--- a count by tests that answer alike
+-- Tests that agree give equal counts.
 pub count_alike : {X : Type 0} (p q : X → Bool) (xs : List X) → ((x : X) → p x ≡ q x) → count_by p xs ≡ count_by q xs
 count_alike p q xs same = grind (arith, sum_by-le-sum_by, p, q, same)
 
 pub bars_met_sum : (key : PinKey) (m n : ℕ) → bars_met (pin_key_after key m) n ≡ bars_met key (m + n)
 bars_met_sum key m n = λ i. count_by (λ row. acts_after_sum key m n row.0 i || acts_after_sum key m n row.1 i) key.rows
 
--- ---- the wheels as they stand
+-- ---- the wheels in the Converter
 
--- the letter that shows leads to the place that shows it
-start_place : (number size : ℕ) (wheel : TurnedWheel) → StandsAs number size wheel → unwrap_or (place_on (ring_of number) (letter_shown wheel)) 0 ≡ wheel.place
-start_place number size wheel h = grind (arith, letter_leads_to_place size wheel.ring h.turned.ring wheel.place h.turned.place)
+-- The place of the letter shown is the place that the wheel keeps.
+start_place : (number size : ℕ) (wheel : TurnedWheel) → StandsAs number size wheel
+    → unwrap_or (place_on (ring_of number) (letter_shown wheel)) 0 ≡ wheel.place
+start_place number size wheel h =
+    grind (arith, letter_leads_to_place size wheel.ring h.turned.ring wheel.place h.turned.place)
 
 size_is : (number size : ℕ) (wheel : TurnedWheel) → StandsAs number size wheel → size_of number ≡ size
 size_is number size wheel h = sym (ap length h.ring) ∙ h.turned.ring.full
 
--- so many places on, a wheel shows the letter after so many letters
-shows_after : (key : PinKey) (number size count place : ℕ) (wheel : TurnedWheel) → StandsAs number size wheel → slice_index key.letters (number - 1) ≡ letter_shown wheel
+-- A wheel that is moved on by `count` places shows its letter after `count` letters.
+shows_after : (key : PinKey) (number size count place : ℕ) (wheel : TurnedWheel) → StandsAs number size wheel
+    → slice_index key.letters (number - 1) ≡ letter_shown wheel
     → (wheel.place + count) % size ≡ place → slice_index wheel.ring place ≡ letter_after key count number
 shows_after key number size count place wheel h shown e = grind (arith, size, size_is, start_place)
 
--- the acting pin of a wheel as it stands is the one that acts after no letters
+-- The acting pin of a wheel is the one that acts after no letters.
 pub acts_now : (key : PinKey) (number size : ℕ) (wheel : TurnedWheel) → StandsAs number size wheel
     → slice_index key.letters (number - 1) ≡ letter_shown wheel → pins_on key.pins number ≡ wheel.pins
-    → pin_acting size wheel ≡ is_effective (pins_on key.pins number) ((start_on key number + 0 + offset_of number) % size_of number)
+    → pin_acting size wheel
+    ≡ is_effective (pins_on key.pins number) ((start_on key number + 0 + offset_of number) % size_of number)
 acts_now key number size wheel h shown pins = grind (arith, key, start_place, size, size_is)
 
--- each wheel so many places on makes the key after so many letters
-pub key_moved : (w1 w2 w3 w4 w5 w6 : TurnedWheel) (rows : List (ℕ × ℕ)) → AllStand w1 w2 w3 w4 w5 w6 → (count p1 p2 p3 p4 p5 p6 : ℕ)
+-- Moving each wheel on by `count` places makes the key after `count` letters.
+pub key_moved : (w1 w2 w3 w4 w5 w6 : TurnedWheel) (rows : List (ℕ × ℕ)) → AllStand w1 w2 w3 w4 w5 w6
+    → (count p1 p2 p3 p4 p5 p6 : ℕ)
     → (w1.place + count) % 26 ≡ p1 → (w2.place + count) % 25 ≡ p2 → (w3.place + count) % 23 ≡ p3
     → (w4.place + count) % 21 ≡ p4 → (w5.place + count) % 19 ≡ p5 → (w6.place + count) % 17 ≡ p6
-    → key_of (turned_to w1 p1) (turned_to w2 p2) (turned_to w3 p3) (turned_to w4 p4) (turned_to w5 p5) (turned_to w6 p6) rows ≡ pin_key_after (key_of w1 w2 w3 w4 w5 w6 rows) count
+    → key_of (turned_to w1 p1) (turned_to w2 p2) (turned_to w3 p3)
+    (turned_to w4 p4) (turned_to w5 p5) (turned_to w6 p6) rows
+    ≡ pin_key_after (key_of w1 w2 w3 w4 w5 w6 rows) count
 key_moved w1 w2 w3 w4 w5 w6 rows all count p1 p2 p3 p4 p5 p6 e1 e2 e3 e4 e5 e6 =
     let key = key_of w1 w2 w3 w4 w5 w6 rows in
     let first = shows_after key 1 26 count p1 w1 all.first refl e1 in
@@ -102,9 +120,12 @@ key_moved w1 w2 w3 w4 w5 w6 rows all count p1 p2 p3 p4 p5 p6 e1 e2 e3 e4 e5 e6 =
     let sixth = shows_after key 6 17 count p6 w6 all.sixth refl e6 in
     λ i. pin_key_turned key (first i ∷ second i ∷ third i ∷ fourth i ∷ fifth i ∷ sixth i ∷ [])
 
--- the key after no letters
-pub key_stands : (w1 w2 w3 w4 w5 w6 : TurnedWheel) (rows : List (ℕ × ℕ)) → AllStand w1 w2 w3 w4 w5 w6 → key_of w1 w2 w3 w4 w5 w6 rows ≡ pin_key_after (key_of w1 w2 w3 w4 w5 w6 rows) 0
+-- The key of the wheels is the key after no letters.
+pub key_stands : (w1 w2 w3 w4 w5 w6 : TurnedWheel) (rows : List (ℕ × ℕ)) → AllStand w1 w2 w3 w4 w5 w6
+    → key_of w1 w2 w3 w4 w5 w6 rows ≡ pin_key_after (key_of w1 w2 w3 w4 w5 w6 rows) 0
 key_stands w1 w2 w3 w4 w5 w6 rows all =
     key_moved w1 w2 w3 w4 w5 w6 rows all 0 w1.place w2.place w3.place w4.place w5.place w6.place
-    (omega (arith, all.first.turned.place)) (omega (arith, all.second.turned.place)) (omega (arith, all.third.turned.place))
-    (omega (arith, all.fourth.turned.place)) (omega (arith, all.fifth.turned.place)) (omega (arith, all.sixth.turned.place))
+    (omega (arith, all.first.turned.place)) (omega (arith, all.second.turned.place))
+    (omega (arith, all.third.turned.place))
+    (omega (arith, all.fourth.turned.place)) (omega (arith, all.fifth.turned.place))
+    (omega (arith, all.sixth.turned.place))

@@ -1,17 +1,18 @@
--- How many bars are met, for each set of wheels. A set of wheels is a number below 64: a wheel is in it where the number has
--- the wheel's bit, the first wheel's being the lowest.
-use Rattle.std.specs.Prelude.{◌≡◌, ℕ, ◌-◌, ◌/◌, ◌%◌, ◌^◌, ◌<◌, nat_le, nat_eq, Bool, ◌&&◌, ◌||◌, List, length, slice_index}
+-- How many bars are met, for each set of wheels. A set is a number below 64: wheel 1 is in the set if its
+-- lowest bit is 1, wheel 2 if the second bit is 1, and so on.
+use Rattle.std.specs.Prelude.{◌≡◌, ℕ, ◌-◌, ◌/◌, ◌%◌, ◌^◌, ◌<◌, nat_le, nat_eq, Bool, ◌&&◌, ◌||◌, List, length}
+use Rattle.std.specs.Prelude.{slice_index}
 use Rattle.std.specs.List.{count_by}
 
--- there is a wheel of that number, and it is in the set
+-- whether there is a wheel with this number, and it is in the set
 abbrev pub is_in : ℕ → ℕ → Bool
 is_in wheels wheel = (nat_le 1 wheel && nat_le wheel 6) && nat_eq (wheels / 2 ^ (wheel - 1) % 2) 1
 
--- how many of the bars are met where the wheels of the set have effective acting pins
+-- the number of bars met while the acting pins of the wheels in the set are effective
 abbrev pub met_by : List (ℕ × ℕ) → ℕ → ℕ
 met_by rows wheels = count_by (λ row. is_in wheels row.0 || is_in wheels row.1) rows
 
--- these are the counts of the 64 sets, where the 27 bars read so
+-- The counts of all 64 sets, for the readings of 27 bars.
 pub record AreCounts (rows : List (ℕ × ℕ)) (counts : List ℕ) : Type 0 where
   pub bars : length rows ≡ 27
   pub size : length counts ≡ 64

@@ -1,17 +1,17 @@
--- The wheels as they stand in the Converter, and the key that they make.
+-- The six wheels in the Converter, and the key to which they and the bars are set.
 use Rattle.std.specs.Prelude.{◌≡◌, ℕ, List, [], ◌∷◌}
 use Rattle.kd_tables.specs.Rings.{ring_of}
 use Rattle.kd_pins.specs.PinWheel.{TurnedWheel, IsWheel, letter_shown}
 use Rattle.kd_pins.specs.PinWheels.{offset_of}
 use Rattle.kd_drum.specs.Converter.{PinKey}
 
--- the wheel is that of the number, and has so many places
+-- The wheel is wheel `number`, and has `size` places.
 pub record StandsAs (number size : ℕ) (wheel : TurnedWheel) : Type 0 where
   pub ring : wheel.ring ≡ ring_of number
   pub offset : wheel.offset ≡ offset_of number
   pub turned : IsWheel size wheel
 
--- six wheels stand as the first to the sixth
+-- The six wheels are wheels 1 to 6.
 pub record AllStand (w1 w2 w3 w4 w5 w6 : TurnedWheel) : Type 0 where
   pub first : StandsAs 1 26 w1
   pub second : StandsAs 2 25 w2
@@ -21,9 +21,11 @@ pub record AllStand (w1 w2 w3 w4 w5 w6 : TurnedWheel) : Type 0 where
   pub sixth : StandsAs 6 17 w6
 
 -- the key that six wheels and the readings of the bars make
-abbrev pub key_of : TurnedWheel → TurnedWheel → TurnedWheel → TurnedWheel → TurnedWheel → TurnedWheel → List (ℕ × ℕ) → PinKey
+abbrev pub key_of : TurnedWheel → TurnedWheel → TurnedWheel → TurnedWheel → TurnedWheel → TurnedWheel → List (ℕ × ℕ)
+    → PinKey
 key_of w1 w2 w3 w4 w5 w6 rows = record {
   pins = w1.pins ∷ w2.pins ∷ w3.pins ∷ w4.pins ∷ w5.pins ∷ w6.pins ∷ [];
-  letters = letter_shown w1 ∷ letter_shown w2 ∷ letter_shown w3 ∷ letter_shown w4 ∷ letter_shown w5 ∷ letter_shown w6 ∷ [];
+  letters =
+      letter_shown w1 ∷ letter_shown w2 ∷ letter_shown w3 ∷ letter_shown w4 ∷ letter_shown w5 ∷ letter_shown w6 ∷ [];
   rows = rows;
 }

@@ -1,7 +1,10 @@
-ghost use Rattle.std.specs.Prelude.{◌≡◌, ◌↔◌, ◌<◌, ◌≤◌, ◌+◌, ◌-◌, ◌%◌, ◌||◌, [], ◌∷◌, length, Contains, IsOk, IsTrue, IfOk, OnOk, OnErr};
+//! The Converter M-209, set to a key.
+ghost use Rattle.std.specs.Prelude.{◌≡◌, ◌↔◌, ◌<◌, ◌≤◌, ◌+◌, ◌-◌, ◌%◌, ◌||◌, [], ◌∷◌, length, Contains, IsOk};
+ghost use Rattle.std.specs.Prelude.{IsTrue, IfOk, OnOk, OnErr};
 ghost use Rattle.kd_pins.specs.PinWheel.{TurnedWheel, IsWheel, letter_shown};
 ghost use Rattle.kd_pins.specs.PinWheels.{pins_of};
-ghost use Rattle.kd_drum.specs.Converter.{OnWheels, acts_after, bars_met, converter_cipher, pin_key_after, pin_key_turned};
+ghost use Rattle.kd_drum.specs.Converter.{OnWheels, acts_after, bars_met, converter_cipher, pin_key_after};
+ghost use Rattle.kd_drum.specs.Converter.{pin_key_turned};
 ghost use Rattle.kd_drum.specs.Counts.{is_in};
 
 use super::counts::counts;
@@ -9,7 +12,7 @@ use kd_pins::{NotOnWheel, PinSet, PinWheel};
 use kd_tables::{Letter, Reading, ring1, ring2, ring3, ring4, ring5, ring6};
 use std::marker::Model;
 
-/// A Converter M-209 that is set to a key, ready for letters to be enciphered.
+/// A Converter M-209 that is set to a key and ready to encipher.
 #[derive(Drop)]
 pub struct Converter {
     w1: PinWheel<26>,
@@ -35,8 +38,9 @@ impl Model for Converter {
 }
 
 impl Converter {
-    /// The machine with these pins, the letters that its wheels show, and what its bars read as. Refused where a letter
-    /// isn't on its wheel.
+    /// Sets up the machine with these pins, shown letters and readings of its bars.
+    ///
+    /// Refused with `NotOnWheel` if one of `letters` isn't on its wheel.
     pub fn new(
         pins: PinSet,
         letters: [Letter; 6],
@@ -60,8 +64,9 @@ impl Converter {
         Ok(converter)
     }
 
-    /// Turns the wheels until they show these letters, from the first wheel on. Refused, and then no wheel is turned, where a
-    /// letter isn't on its wheel.
+    /// Turns the wheels so that they show `letters`, from wheel 1 to wheel 6.
+    ///
+    /// Refused if one of them isn't on its wheel; then no wheel is turned.
     pub fn turn_to(&mut self, letters: [Letter; 6]) -> Result<(), NotOnWheel>
         ensures ok { IsOk result ↔ OnWheels letters }
         ensures turned { OnOk result (self.new ≡ pin_key_turned self.old letters) }
@@ -80,7 +85,7 @@ impl Converter {
         Ok(())
     }
 
-    /// Whether each of the letters is on its wheel.
+    /// Whether each of `letters` is on its wheel.
     fn can_show(&self, letters: &[Letter; 6]) -> bool
         ensures { IsTrue result ↔ OnWheels letters.now }
     {
@@ -96,7 +101,7 @@ impl Converter {
         !have.contains(&false)
     }
 
-    /// Enciphers a letter, or deciphers it: each of the wheels turns by one place then.
+    /// Enciphers or deciphers one letter, and then turns each wheel by one place.
     pub fn press(&mut self, letter: Letter) -> Letter
         ensures cipher { converter_cipher self.old (letter ∷ []) ≡ result ∷ [] }
         ensures after { self.new ≡ pin_key_after self.old 1 }
@@ -106,7 +111,7 @@ impl Converter {
         reversed(met, letter)
     }
 
-    /// Enciphers a text in its place, letter by letter.
+    /// Enciphers or deciphers `text` in place.
     pub fn run(&mut self, text: &mut [Letter])
         ensures cipher { text.new ≡ converter_cipher self.old text.old }
         ensures after { self.new ≡ pin_key_after self.old (length text.old) }
@@ -117,7 +122,7 @@ impl Converter {
         }
     }
 
-    /// How many bars the next letter meets.
+    /// The number of bars that the next letter meets.
     pub fn met(&self) -> u8
         ensures value { result ≡ bars_met self.now 0 }
         ensures most { result ≤ 27 }
@@ -125,7 +130,7 @@ impl Converter {
         self.counts[self.acting()]
     }
 
-    /// The letters that the wheels show, from the first wheel on.
+    /// The letters that the wheels show, from wheel 1 to wheel 6.
     pub fn shown(&self) -> [Letter; 6]
         ensures { result ≡ self.now.letters }
     {
@@ -139,7 +144,8 @@ impl Converter {
         ]
     }
 
-    /// The set of the wheels whose acting pins are effective. Each letter that shows is one of its wheel's.
+    /// The set of wheels with an effective acting pin: wheel 1 counts 1, wheel 2 counts 2, up to 32 for wheel
+    /// 6.
     fn acting(&self) -> usize
         ensures set { result < 64 }
         ensures each { (wheel : _) → is_in result wheel ≡ acts_after self.now 0 wheel }
@@ -166,7 +172,7 @@ impl Converter {
     }
 }
 
-/// The letter of the reversed alphabet, moved on by the number of bars met.
+/// The letter at the place of `letter` in the reversed alphabet, moved on by the number of bars met.
 fn reversed(met: u8, letter: Letter) -> Letter
     requires { met ≤ 27 }
     ensures { result ≡ (25 + met - letter) % 26 }

@@ -1,10 +1,12 @@
+//! How many bars are met, in a table with an entry for each set of wheels.
 ghost use Rattle.std.specs.Prelude.{◌≡◌, ◌≤◌, ◌||◌};
 ghost use Rattle.kd_drum.specs.Counts.{AreCounts, is_in, met_by};
 
 use kd_tables::Reading;
 
-/// How many bars are met, for each set of wheels whose acting pins are effective: the first wheel counts 1 in the set's
-/// number, the second 2, and the sixth 32.
+/// Counts the bars that are met, for each set of wheels with an effective acting pin.
+///
+/// In the number of a set, wheel 1 counts 1, wheel 2 counts 2, and so on up to 32 for wheel 6.
 pub(crate) fn counts(rows: &[Reading; 27]) -> [u8; 64]
     ensures { AreCounts rows.now result }
 {
@@ -15,7 +17,7 @@ pub(crate) fn counts(rows: &[Reading; 27]) -> [u8; 64]
     counts
 }
 
-/// How many bars are met where the acting pins of these wheels are effective.
+/// Counts the bars that are met while the acting pins of these wheels are effective.
 fn met_by(rows: &[Reading; 27], wheels: usize) -> u8
     ensures { result ≡ met_by rows.now wheels }
 {
@@ -28,7 +30,7 @@ fn met_by(rows: &[Reading; 27], wheels: usize) -> u8
     met
 }
 
-/// A lug of a bar with this reading stands at a wheel of the set.
+/// Whether a lug of a bar with this reading is at the number of a wheel in the set.
 fn is_met(row: Reading, wheels: usize) -> bool
     ensures { result ≡ (is_in wheels row.0 || is_in wheels row.1) }
 {
@@ -36,7 +38,7 @@ fn is_met(row: Reading, wheels: usize) -> bool
     is_in(wheels, smaller) || is_in(wheels, larger)
 }
 
-/// There is a wheel of that number, and it is in the set.
+/// Whether there is a wheel with this number, and it is in the set.
 fn is_in(wheels: usize, wheel: u8) -> bool
     ensures { result ≡ is_in wheels wheel }
 {

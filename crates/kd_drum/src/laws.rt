@@ -1,13 +1,13 @@
-//! Laws over the definition of the Converter's cipher alone.
+//! Laws on the definition of the Converter's cipher, independent of the code.
 ghost use Rattle.kd_drum.specs.Laws.{TwiceGivesBack, CipherInTurn, KeyInTurn};
 
-/// Enciphering twice on the same key gives the text back.
+/// Enciphering twice with the same key gives the text back.
 #[tactic(auto, using(crate::proofs::Ciphers::twice_gives_back))]
 pub fn enciphering_twice_gives_back()
     ensures { TwiceGivesBack }
 {}
 
-/// A text in two pieces is enciphered piece by piece, on the key that the first piece leaves.
+/// A text can be enciphered piece by piece, each with the key that the piece before it leaves.
 #[tactic(auto, using(crate::proofs::Ciphers::cipher_in_turn))]
 pub fn pieces_are_enciphered_in_turn()
     ensures cipher { CipherInTurn }

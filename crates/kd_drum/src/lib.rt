@@ -1,4 +1,4 @@
-//! The Converter M-209: the drum, and the rule of encipherment.
+//! The Converter M-209: its drum, and how it enciphers a letter.
 #![tactic(auto)]
 
 mod converter;

@@ -1,4 +1,4 @@
--- What cables do to the letters, pair by pair.
+-- Pairs of a plugboard: what each letter is exchanged for, and the table that plugging them one by one makes.
 use Rattle.std.proofs.Common.{All, Bool, Contains, List, [], ap, arith, cond, drop, eqb, false, get_or, inl, inr}
 use Rattle.std.proofs.Common.{length, refl, rules, set, slice_index, subst, suc, sym, take, true, zero, ℕ, ◌++◌, ◌+◌}
 use Rattle.kd_enigma.{proofs.Ways.each_letter, specs.Plugs.{IsLeft, Joins, NoLetterTwice, letters_plugged}}
@@ -17,7 +17,7 @@ use Rattle.std.specs.List.{AllByRecursion, IsDistinct, list_any}
 abbrev pub lies_in : ℕ → List (ℕ × ℕ) → Bool
 lies_in x pairs = list_any (eqb x) (letters_plugged pairs)
 
--- no letter lies in two pairs, or twice in one
+-- No letter occurs in two pairs, or twice in one.
 abbrev pub AreApart : List (ℕ × ℕ) → Type 0
 AreApart [] = Unit {0}
 AreApart (pair ∷ pairs) =
@@ -33,7 +33,7 @@ unfolding IsDistinct
 apart_tells [] = (λ _. tt, λ _. tt)
 apart_tells (pair ∷ pairs) = grind (arith, nat_tests, free_tells, apart_tells pairs)
 
--- a pair behind others
+-- The two letters of a pair differ, and occur in none of the pairs.
 abbrev IsApart : List (ℕ × ℕ) → ℕ × ℕ → Type 0
 IsApart pairs pair = (eqb pair.0 pair.1 ≡ false) × (lies_in pair.0 pairs ≡ false) × (lies_in pair.1 pairs ≡ false)
 
@@ -72,26 +72,29 @@ contains_later : (pair : ℕ × ℕ) (pairs : List (ℕ × ℕ)) (x y : ℕ) →
 contains_later pair pairs x y (inl c) = inl (suc c.0, omega (arith, c.1), c.2)
 contains_later pair pairs x y (inr c) = inr (suc c.0, omega (arith, c.1), c.2)
 
--- a letter of a pair leads along it
+-- A letter that occurs in a pair is exchanged for the other letter of this pair.
 leads : (pairs : List (ℕ × ℕ)) (x y : ℕ) → lies_in x pairs ≡ true → exchanged pairs x ≡ y → Joins pairs x y
 leads [] x y h e = absurd (false≢true h)
 leads (pair ∷ pairs) x y h e =
     elim (cases_eq x pair.0) [
-      | inl same ↦ let other : pair.1 ≡ y = grind (arith, nat_tests) in inl (zero, omega arith, λ i. (sym same i, other i))
+      | inl same ↦
+          let other : pair.1 ≡ y = grind (arith, nat_tests) in inl (zero, omega arith, λ i. (sym same i, other i))
       | inr n ↦ elim (cases_eq x pair.1) [
-        | inl same ↦ let other : pair.0 ≡ y = grind (arith, nat_tests) in inr (zero, omega arith, λ i. (other i, sym same i))
+        | inl same ↦
+            let other : pair.0 ≡ y = grind (arith, nat_tests) in inr (zero, omega arith, λ i. (other i, sym same i))
         | inr m ↦ contains_later pair pairs x y (leads pairs x y (grind (arith, nat_tests)) (grind (arith, nat_tests)))
       ]
     ]
 
--- and back
+-- `x` and `y` are exchanged for one another.
 record IsCable (pairs : List (ℕ × ℕ)) (x y : ℕ) : Type 0 where
   there : exchanged pairs x ≡ y
   back : exchanged pairs y ≡ x
   first : lies_in x pairs ≡ true
   second : lies_in y pairs ≡ true
 
-cable_at : (pairs : List (ℕ × ℕ)) (v : ℕ × ℕ) (k : ℕ) → AreApart pairs → k < length pairs → get_or pairs k v ≡ v → IsCable pairs v.0 v.1
+cable_at : (pairs : List (ℕ × ℕ)) (v : ℕ × ℕ) (k : ℕ) → AreApart pairs → k < length pairs → get_or pairs k v ≡ v
+    → IsCable pairs v.0 v.1
 cable_at [] v k h lt e = absurd (omega arith)
 cable_at (pair ∷ pairs) v zero h lt e = grind arith
 cable_at (pair ∷ pairs) v (suc k) h lt e = grind (arith, cable_at pairs v k (grind arith) (omega arith) e)
@@ -121,7 +124,7 @@ exchanged_alike ps qs x hp hq same = elim (exchanges ps x (exchanged ps x) refl)
   ]
 ]
 
--- ---- the whole board
+-- ---- the whole plugboard
 
 exchange-at : (pairs : List (ℕ × ℕ)) (x : ℕ) → x < 26 → slice_index (exchange pairs) x ≡ exchanged pairs x
 unfolding exchange
@@ -141,7 +144,8 @@ same_pairs_exchange_alike ps qs once also same =
     exchange_is (exchange ps) qs (exchange-size ps) (λ x lt. exchange-at ps x lt
     ∙ exchanged_alike ps qs x ((apart_tells ps).0 once) ((apart_tells qs).0 also) (same x))
 
-exchanged_within : (pairs : List (ℕ × ℕ)) (x : ℕ) → All (λ letter. letter < 26) (letters_plugged pairs) → x < 26 → exchanged pairs x < 26
+exchanged_within : (pairs : List (ℕ × ℕ)) (x : ℕ) → All (λ letter. letter < 26) (letters_plugged pairs) → x < 26
+    → exchanged pairs x < 26
 exchanged_within [] x h lt = lt
 exchanged_within (pair ∷ pairs) x h lt =
     grind (arith, nat_tests, h 0 0, h 1 0, exchanged_within pairs x (λ k d k_lt. h (suc (suc k)) d (omega arith)) lt)
@@ -164,7 +168,7 @@ pairs_make_a_plugboard pairs once letters =
 pub no_cables : IsPlugboard (exchange [])
 no_cables = pairs_make_a_plugboard [] ((apart_tells []).1 tt) (All-nil (λ letter. letter < 26))
 
--- ---- plugged in one after the other
+-- ---- pairs plugged one after the other
 
 exchanged_push : (pairs : List (ℕ × ℕ)) (pair : ℕ × ℕ) (x : ℕ) → AreApart pairs → IsApart pairs pair
     → exchanged (pairs ++ pair ∷ []) x ≡ cond (eqb x pair.0) pair.1 (cond (eqb x pair.1) pair.0 (exchanged pairs x))
@@ -172,7 +176,7 @@ exchanged_push [] pair x apart is = refl
 exchanged_push (first ∷ pairs) pair x apart is = grind
     (arith, nat_tests, exchanged_push pairs pair x, exchanged_free pairs x)
 
--- what is so of the pairs plugged in so far, and of the table that they have made
+-- The table exchanges the letters of the pairs that are plugged so far.
 pub record IsPlugged (board : List ℕ) (pairs : List (ℕ × ℕ)) : Type 0 where
   pub table : board ≡ exchange pairs
   pub apart : AreApart pairs
@@ -182,7 +186,7 @@ pub is_plugged_none : (table : List ℕ) → table ≡ alphabet → IsPlugged ta
 unfolding exchange
 is_plugged_none table e = grind (arith, map-id, All-nil)
 
--- a letter that the table leaves, lies in none of the pairs
+-- A letter that the table leaves occurs in none of the pairs.
 left_free : (pairs : List (ℕ × ℕ)) (x : ℕ) → AreApart pairs → x < 26 → slice_index (exchange pairs) x ≡ x
     → lies_in x pairs ≡ false
 left_free pairs x apart lt left = grind (arith, false_from_ne_true, exchanged_moves, exchange-at)
@@ -219,7 +223,7 @@ plugged_push table after pairs pair h can one_lt other_lt e =
     }
 
 module _ (all : List (ℕ × ℕ)) (place : ℕ) (table : List ℕ) (h : IsPlugged table (take place all)) where
-  -- once all are plugged in
+  -- After all pairs are plugged, the table is that of the plugboard.
   pub plugged_all : length all ≤ place → (table ≡ exchange all) × NoLetterTwice all × IsPlugboard table
   plugged_all past =
       let whole = subst (IsPlugged table) (take_all place all past) h in
@@ -233,7 +237,7 @@ module _ (all : List (ℕ × ℕ)) (place : ℕ) (table : List ℕ) (h : IsPlugg
     plugged_more after can low e =
         rw (take_more all place pair left, ← here) (plugged_push table after (take place all) pair h can low.0 low.1 e)
 
-    -- where no letter lies twice, each pair can be plugged in in its turn
+    -- If no letter occurs twice, the two letters of the next pair are free.
     pub can_plug : NoLetterTwice all → (pair.0 < 26) × (pair.1 < 26)
         → (pair.0 ≢ pair.1) × IsLeft table pair.0 × IsLeft table pair.1
     can_plug once low =

@@ -1,4 +1,4 @@
--- The cipher, letter by letter.
+-- The cipher of a rotor machine, letter by letter.
 use Rattle.std.proofs.Common.{All, List, [], add-one, add-suc, add-zero, ap, arith, drop, get_or, length, map, refl}
 use Rattle.kd_enigma.{proofs.Ways.path_exchanges, specs.Laws.{CipherInTurn, KeyInTurn, TwiceGivesBack}}
 use Rattle.kd_enigma.specs.Cipher.{IsPlugboard, RotorKey, enigma_cipher, key_after, key_turned, path}
@@ -6,26 +6,28 @@ use Rattle.{kd_step.specs.Stepper.{next_window, window_after}, kd_tables.specs.d
 use Rattle.std.proofs.Common.{rules, set, slice_index, suc, sym, take, zero, ℕ, ◌++◌, ◌+◌, ◌<◌, ◌∙◌, ◌∷◌, ◌≡◌}
 use Rattle.std.{proofs.lemmas.List.Elements.{All-head, All-tail}, specs.List.enumerate_from}
 
--- what lights up for a letter after so many steps, and the cipher of a text that begins so many steps after the key
+-- the letter that lights up after a number of steps, and the cipher of a text that begins after a number of
+-- steps
 abbrev lit : RotorKey → ℕ → ℕ → ℕ
 lit key steps letter = slice_index (path key (window_after key.wheels key.window steps)) letter
 
 abbrev cipher_from : RotorKey → ℕ → List ℕ → List ℕ
 cipher_from key start text = map (λ numbered. lit key numbered.0 numbered.1) (enumerate_from start text)
 
--- the window is no part of the path's other parts
+-- The path doesn't depend on the window of the key, but on the window given.
 pub path_turned : (key : RotorKey) (window shown : List ℕ) → path (key_turned key window) shown ≡ path key shown
 unfolding path
 path_turned key window shown = refl
 
--- enciphered twice, each letter is what it was
+-- Enciphering twice from one start gives the text back.
 twice_from : (key : RotorKey) (start : ℕ) (text : List ℕ) → IsPlugboard key.plugs
     → All (λ letter. letter < 26) text
     → cipher_from key start (cipher_from key start text) ≡ text
 twice_from key start [] board h = refl
 twice_from key start (letter ∷ text) board h =
     ap (λ l. l ∷ cipher_from key (start + 1) (cipher_from key (start + 1) text))
-    ((path_exchanges key (window_after key.wheels key.window start) board).back letter (All-head (λ l. l < 26) letter text h))
+    ((path_exchanges key (window_after key.wheels key.window start) board).back letter
+    (All-head (λ l. l < 26) letter text h))
     ∙ ap (λ ls. letter ∷ ls) (twice_from key (start + 1) text board (All-tail (λ l. l < 26) letter text h))
 
 pub twice_gives_back : TwiceGivesBack
@@ -33,32 +35,40 @@ twice_gives_back key text = twice_from key 1 text
 
 -- ---- a text in two pieces
 
-window_after_sum : (wheels : List Wheel) (window : List ℕ) (m n : ℕ) → window_after wheels (window_after wheels window m) n ≡ window_after wheels window (m + n)
+window_after_sum : (wheels : List Wheel) (window : List ℕ) (m n : ℕ)
+    → window_after wheels (window_after wheels window m) n ≡ window_after wheels window (m + n)
 window_after_sum wheels window m zero = ap (window_after wheels window) (sym (add-zero m))
-window_after_sum wheels window m (suc n) = ap (next_window wheels) (window_after_sum wheels window m n) ∙ ap (window_after wheels window) (sym (add-suc m n))
+window_after_sum wheels window m (suc n) =
+    ap (next_window wheels) (window_after_sum wheels window m n) ∙ ap (window_after wheels window) (sym (add-suc m n))
 
 pub key_in_turn : KeyInTurn
 key_in_turn key m n = ap (key_turned key) (window_after_sum key.wheels key.window m n)
 
--- what is enciphered later is enciphered on the key of that time
-later : (key : RotorKey) (m start : ℕ) (text : List ℕ) → cipher_from key (m + start) text ≡ cipher_from (key_after key m) start text
+-- A text that begins `m` steps later is enciphered with the key after `m` steps.
+later : (key : RotorKey) (m start : ℕ) (text : List ℕ)
+    → cipher_from key (m + start) text ≡ cipher_from (key_after key m) start text
 later key m start [] = refl
 later key m start (letter ∷ text) = search (rules, key, window_after_sum, path_turned, later key m (start + 1) text)
 
-append_from : (key : RotorKey) (start : ℕ) (first rest : List ℕ) → cipher_from key start (first ++ rest) ≡ cipher_from key start first ++ cipher_from key (start + length first) rest
+append_from : (key : RotorKey) (start : ℕ) (first rest : List ℕ)
+    → cipher_from key start (first ++ rest) ≡ cipher_from key start first ++ cipher_from key (start + length first) rest
 append_from key start [] rest = ap (λ n. cipher_from key n rest) (sym (add-zero start))
 append_from key start (letter ∷ first) rest = grind (arith, key, append_from key (start + 1) first rest)
 
 pub cipher_in_turn : CipherInTurn
 cipher_in_turn key first rest =
-    append_from key 1 first rest ∙ ap (λ ls. enigma_cipher key first ++ ls) (ap (λ n. cipher_from key n rest) (omega arith) ∙ later key (length first) 1 rest)
+    append_from key 1 first rest
+    ∙ ap (λ ls. enigma_cipher key first ++ ls)
+    (ap (λ n. cipher_from key n rest) (omega arith) ∙ later key (length first) 1 rest)
 
--- a letter more is enciphered, and the rest is so on the key that it leaves
+-- One more letter is enciphered, and the rest with the key that this letter leaves.
 pub one_more : (key : RotorKey) (text : List ℕ) (n d light : ℕ) → n < length text
     → enigma_cipher key (get_or text n d ∷ []) ≡ light ∷ []
-    → take n text ++ enigma_cipher key (drop n text) ≡ take (n + 1) (set text n light) ++ enigma_cipher (key_after key 1) (drop (n + 1) (set text n light))
+    → take n text ++ enigma_cipher key (drop n text)
+    ≡ take (n + 1) (set text n light) ++ enigma_cipher (key_after key 1) (drop (n + 1) (set text n light))
 one_more key [] n d light lt e = absurd (omega arith)
 one_more key (letter ∷ text) zero d light lt e = cipher_in_turn key (letter ∷ []) text
     ∙ ap (λ l. l ++ enigma_cipher (key_after key 1) text) e
 one_more key (letter ∷ text) (suc n) d light lt e =
-    let rest = one_more key text n d light (omega arith) e in rw (add-one (suc n)) (ap (λ l. letter ∷ l) (rw (add-one n) at rest))
+    let rest = one_more key text n d light (omega arith) e in
+    rw (add-one (suc n)) (ap (λ l. letter ∷ l) (rw (add-one n) at rest))

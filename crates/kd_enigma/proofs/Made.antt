@@ -1,9 +1,9 @@
--- Arrays that a closure makes, element by element.
+-- Arrays that are filled by calls of a closure.
 use Rattle.std.proofs.Common.{◌≡◌, ℕ, zero, suc, ◌+◌, ◌<◌, ◌≤◌, List, get_or, inl, inr, refl, sym, subst, arith}
 use Rattle.std.{proofs.lemmas.Bool.cases_eq, specs.Array.IsFromFnResult, specs.Array.IsFromFnResultFrom}
 use denote.Param.Members.{Mut, Called}
 
--- each element is what a call at its place gives, where no call changes the closure
+-- Each element is what the call at its place returns, if no call changes the closure.
 module _ {F B : Type 0} (g : Mut F (ℕ × Unit {0}) B) (f : F) (size : ℕ) (P : ℕ → B → Type 0)
     (step : (i : ℕ) (y : B) (q : F) → i < size → Called g f (i, tt) y q → (q ≡ f) × P i y) where
   made_from : (p : F) (ys : List B) (i n : ℕ) → p ≡ f → i + n ≤ size → IsFromFnResultFrom g p ys i n → (k : ℕ) (e : B)
@@ -20,4 +20,5 @@ pub each_made : {F B : Type 0} {g : Mut F (ℕ × Unit {0}) B} {f : F} {ys : Lis
     → IsFromFnResult g f ys size → (P : ℕ → B → Type 0)
     → ((i : ℕ) (y : B) (q : F) → i < size → Called g f (i, tt) y q → (q ≡ f) × P i y) → (k : ℕ) (e : B) → k < size
     → P k (get_or ys k e)
-each_made {g = g} {f = f} {ys = ys} {size = size} made P step k e lt = made_from g f size P step f ys 0 size refl (omega arith) made.each k e (omega arith) (omega arith)
+each_made {g = g} {f = f} {ys = ys} {size = size} made P step k e lt =
+    made_from g f size P step f ys 0 size refl (omega arith) made.each k e (omega arith) (omega arith)

@@ -1,4 +1,4 @@
--- The way around through the wheels as they sit, slot by slot, and the path that it makes.
+-- The way around through the wheels in their slots, slot by slot, and the path that it makes.
 use Rattle.kd_enigma.proofs.Ways.{Exchanges, enclosed, grouped, nested, nothing_after, nothing_before, path_is}
 use Rattle.std.proofs.Common.{List, [], ap, arith, get_or, if◌then◌else◌, length, ltb, refl, rules, suc, take, zero, ℕ}
 use Rattle.kd_enigma.proofs.Ways.{product-size, reflectors_exchange, rotor_permutes, wheel_exchanges}
@@ -8,19 +8,22 @@ use Rattle.kd_tables.{proofs.Products.{inverse_permutes, product_permutes, shift
 use Rattle.kd_tables.specs.{Permutation.{IsPermutation26, alphabet, followed_by, shift}, declared.wheel.Wheel.Wheel}
 use Rattle.std.proofs.{Common.{◌+◌, ◌-◌, ◌<◌, ◌∙◌, ◌∷◌, ◌≡◌}, lemmas.{Bool.Decides.nat_tests, List.take_all}}
 
--- one wheel more around the core
-pub around_more : (core : List ℕ) (seated : List SeatedWheel) (window : List ℕ) (slot : ℕ) (s : SeatedWheel) (letter : ℕ) → slot < length seated → length seated ≡ length window
+-- The way around through one more wheel encloses the way around through the wheels before it.
+pub around_more : (core : List ℕ) (seated : List SeatedWheel) (window : List ℕ) (slot : ℕ) (s : SeatedWheel)
+    (letter : ℕ) → slot < length seated → length seated ≡ length window
     → s ≡ get_or seated slot s → letter ≡ get_or window slot letter
-    → around core (take (slot + 1) seated) (take (slot + 1) window) ≡ boarded s.board (around core (take slot seated) (take slot window)) (rotor s.wheel s.ring letter)
+    → around core (take (slot + 1) seated) (take (slot + 1) window)
+    ≡ boarded s.board (around core (take slot seated) (take slot window)) (rotor s.wheel s.ring letter)
 around_more core (t ∷ seated) (l ∷ window) zero s letter lt same is_s is_letter = grind arith
 around_more core (t ∷ seated) (l ∷ window) (suc slot) s letter lt same is_s is_letter =
     grind (arith, around_more (boarded t.board core (rotor t.wheel t.ring l)) seated window slot s letter)
 around_more core seated window slot s letter lt same is_s is_letter = absurd (omega arith)
 
--- the wheel sits so in the slot; and wheels that sit so
+-- Wheel, ring and board of a slot are the key's. If this holds for each slot, the seated wheels are the key's.
 abbrev pub SitsAt : List ℕ → List Wheel → List ℕ → ℕ → SeatedWheel → Type 0
 SitsAt plugs wheels rings slot s =
-    (s.wheel ≡ get_or wheels slot s.wheel) × (s.ring ≡ get_or rings slot s.ring) × (s.board ≡ (if ltb (slot + 1) (length wheels) then alphabet else plugs))
+    (s.wheel ≡ get_or wheels slot s.wheel) × (s.ring ≡ get_or rings slot s.ring)
+    × (s.board ≡ (if ltb (slot + 1) (length wheels) then alphabet else plugs))
 
 pub are_seats : (plugs : List ℕ) (seated : List SeatedWheel) (wheels : List Wheel) (rings : List ℕ)
     → length seated ≡ length wheels → length rings ≡ length wheels
@@ -29,17 +32,20 @@ pub are_seats : (plugs : List ℕ) (seated : List SeatedWheel) (wheels : List Wh
 are_seats plugs [] [] [] long slots each = refl
 are_seats plugs (s ∷ []) (wheel ∷ []) (ring ∷ []) long slots each = grind (arith, nat_tests, each 0 s)
 are_seats plugs (s ∷ t ∷ seated) (wheel ∷ next ∷ wheels) (ring ∷ rings) long slots each =
-    let rest = are_seats plugs (t ∷ seated) (next ∷ wheels) rings (omega arith) (omega arith) (λ slot d lt. grind (arith, nat_tests, each (suc slot) d)) in
+    let rest = are_seats plugs (t ∷ seated) (next ∷ wheels) rings (omega arith) (omega arith)
+    (λ slot d lt. grind (arith, nat_tests, each (suc slot) d)) in
     let first : s ≡ record { wheel = wheel; ring = ring; board = alphabet } = grind (arith, nat_tests, each 0 s) in
     λ i. first i ∷ rest i
 are_seats plugs seated wheels rings long slots each = absurd (omega arith)
 
--- ---- the path, where nothing lies to the right of the slow wheels, and the plugboard to the right of the last one
+-- ---- the path: only the right wheel lies beside the plugboard
 
--- the board encloses what the wheel encloses
+-- Board and wheel enclose the core as the board encloses what the wheel encloses.
 board_last : (board core : List ℕ) (wheel : Wheel) (ring letter : ℕ) → IsPermutation26 board → Exchanges core
-    → boarded board core (rotor wheel ring letter) ≡ followed_by board (followed_by (enclosed core (rotor wheel ring letter)) board)
-board_last board core wheel ring letter h k = grind (arith, rotor_permutes, grouped, board, product-size, product_permutes, inverse_permutes)
+    → boarded board core (rotor wheel ring letter)
+    ≡ followed_by board (followed_by (enclosed core (rotor wheel ring letter)) board)
+board_last board core wheel ring letter h k =
+    grind (arith, rotor_permutes, grouped, board, product-size, product_permutes, inverse_permutes)
 
 no_board : (core : List ℕ) (wheel : Wheel) (ring letter : ℕ) → Exchanges core
     → boarded alphabet core (rotor wheel ring letter) ≡ enclosed core (rotor wheel ring letter)
@@ -53,20 +59,25 @@ no_board core wheel ring letter k =
 around_seats : (plugs core : List ℕ) (wheels : List Wheel) (rings window : List ℕ) → IsPermutation26 plugs
     → Exchanges core → 0 < length wheels → length rings ≡ length wheels
     → length window ≡ length wheels
-    → around core (seats plugs wheels rings) window ≡ followed_by plugs (followed_by (nested core (rotors wheels rings window)) plugs)
+    → around core (seats plugs wheels rings) window
+    ≡ followed_by plugs (followed_by (nested core (rotors wheels rings window)) plugs)
 unfolding rotors
-around_seats plugs core (wheel ∷ []) (ring ∷ []) (letter ∷ []) h k some slots shown = board_last plugs core wheel ring letter h k
+around_seats plugs core (wheel ∷ []) (ring ∷ []) (letter ∷ []) h k some slots shown =
+    board_last plugs core wheel ring letter h k
 around_seats plugs core (wheel ∷ next ∷ wheels) (ring ∷ rings) (letter ∷ window) h k some slots shown =
     ap (λ c. around c (seats plugs (next ∷ wheels) rings) window) (no_board core wheel ring letter k)
-    ∙ around_seats plugs (enclosed core (rotor wheel ring letter)) (next ∷ wheels) rings window h (wheel_exchanges core wheel ring letter k) (omega arith) (omega arith) (omega arith)
+    ∙ around_seats plugs (enclosed core (rotor wheel ring letter)) (next ∷ wheels) rings window h
+    (wheel_exchanges core wheel ring letter k) (omega arith) (omega arith) (omega arith)
 around_seats plugs core wheels rings window h k some slots shown = absurd (omega arith)
 
--- so the path is made of the way around through the slow wheels
-pub wired : (key : RotorKey) (seated : List SeatedWheel) (reflecting inner whole : List ℕ) (s : SeatedWheel) (shown size d : ℕ) → seated ≡ seats key.plugs key.wheels key.rings → IsPlugboard key.plugs
+-- So the way around through the slow wheels, enclosed by the right wheel and the plugboard, is the path.
+pub wired : (key : RotorKey) (seated : List SeatedWheel) (reflecting inner whole : List ℕ) (s : SeatedWheel)
+    (shown size d : ℕ) → seated ≡ seats key.plugs key.wheels key.rings → IsPlugboard key.plugs
     → reflecting ≡ reflector_of key.reflector → inner ≡ around reflecting (slow seated) (slow key.window)
     → length seated ≡ size → length key.wheels ≡ size → length key.rings ≡ size
     → length key.window ≡ size → 0 < size → s ≡ get_or seated (size - 1) s → shown ≡ get_or key.window (size - 1) d
     → whole ≡ boarded s.board inner (rotor s.wheel s.ring shown)
     → IsWired key seated reflecting inner whole
-wired key seated reflecting inner whole s shown size d sit board is_reflecting is_inner long wheels rings window some is_s is_shown made =
+wired key seated reflecting inner whole s shown size d sit board is_reflecting is_inner long wheels rings window some
+    is_s is_shown made =
     search (rules, around, take_all, around_more, board, around_seats, reflectors_exchange, path_is, key)

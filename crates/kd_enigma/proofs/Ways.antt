@@ -1,8 +1,9 @@
--- The way in through wheels, through what lies behind them, and back.
+-- Permutations on the way of the current: in through wheels, through a core, and back.
 use Rattle.std.proofs.Common.{◌≡◌, ◌≢◌, ℕ, ◌<◌, List, [], ◌∷◌, ◌++◌, map, reverse, slice_index, All, length, refl, sym}
 use Rattle.std.proofs.Common.{ap, ◌∙◌, subst, arith, rules, append_assoc}
 use Rattle.kd_enigma.specs.{Laws.PathsLeadBack, Laws.PathsMoveEachLetter, Rotor.rotor, Rotor.turned}
-use Rattle.kd_tables.proofs.Products.{inverse_by_letter, inverse_permutes, product_backwards, product_permutes, shift_backwards, shift_permutes}
+use Rattle.kd_tables.proofs.Products.{inverse_by_letter, inverse_permutes, product_backwards, product_permutes}
+use Rattle.kd_tables.proofs.Products.{shift_backwards, shift_permutes}
 use Rattle.kd_tables.proofs.Wirings.{reflector_moves, reflector_permutes, reflector_returns, wiring_permutes}
 use Rattle.kd_tables.specs.{Tables.reflector_of, declared.reflector.Reflector.Reflector, declared.wheel.Wheel.Wheel}
 use Rattle.std.{proofs.lemmas.List.FromFn.get_or-range_with_len, specs.List.AllByRecursion}
@@ -15,7 +16,7 @@ use Rattle.kd_enigma.specs.Cipher.{RotorKey, IsPlugboard, rotors, product, path}
 alphabet-at : (x : ℕ) → x < 26 → slice_index alphabet x ≡ x
 alphabet-at x lt = get_or-range_with_len 0 26 x 0 lt ∙ omega arith
 
--- what holds of each letter, in std's word
+-- a property of all letters, as std's `All` says it
 pub each_letter : (P : ℕ → Type 0) → ((x : ℕ) → x < 26 → P x) → All P alphabet
 each_letter P h k d lt = subst P (sym (get_or-range_with_len 0 26 k d lt ∙ omega arith)) (h k lt)
 
@@ -28,37 +29,43 @@ pub product-size : (p q : List ℕ) → length (followed_by p q) ≡ length p
 unfolding followed_by
 product-size p q = length-map p (slice_index q)
 
-pub product-at : (p q : List ℕ) (x : ℕ) → length p ≡ 26 → x < 26 → slice_index (followed_by p q) x ≡ slice_index q (slice_index p x)
+pub product-at : (p q : List ℕ) (x : ℕ) → length p ≡ 26 → x < 26
+    → slice_index (followed_by p q) x ≡ slice_index q (slice_index p x)
 unfolding followed_by
 product-at p q x size lt = get_or-map (slice_index q) p x 0 0 (omega arith)
 
--- maps are told by what they make of each letter
+-- Two permutations are equal if they take each letter to the same one.
 same_maps : (p q : List ℕ) → length p ≡ 26 → length q ≡ 26 → ((x : ℕ) → x < 26 → slice_index p x ≡ slice_index q x)
     → p ≡ q
 same_maps p q long also each = ext_get_or 0 p q (omega arith) (λ x lt. each x (omega arith))
 
--- three maps one after the other, the first two or the last two taken together
+-- A product of three permutations doesn't depend on how they are grouped.
 pub grouped : (p q r : List ℕ) → IsPermutation26 p → length q ≡ 26
     → followed_by (followed_by p q) r ≡ followed_by p (followed_by q r)
 grouped p q r h size = grind (arith, same_maps, product-size, product-at)
 
--- what leaves each letter, before or after a map
+-- The permutation that leaves each letter changes no product.
 pub nothing_before : (p : List ℕ) → length p ≡ 26 → followed_by alphabet p ≡ p
-nothing_before p size = same_maps _ _ (product-size alphabet p) size (λ x lt. product-at alphabet p x refl lt ∙ ap (slice_index p) (alphabet-at x lt))
+nothing_before p size =
+    same_maps _ _ (product-size alphabet p) size
+    (λ x lt. product-at alphabet p x refl lt ∙ ap (slice_index p) (alphabet-at x lt))
 
 pub nothing_after : (p : List ℕ) → IsPermutation26 p → followed_by p alphabet ≡ p
-nothing_after p h = same_maps _ _ (grind (arith, product-size, h.size)) h.size (λ x lt. product-at p alphabet x h.size lt ∙ alphabet-at (slice_index p x) (h.each_once.within x lt))
+nothing_after p h =
+    same_maps _ _ (grind (arith, product-size, h.size)) h.size
+    (λ x lt. product-at p alphabet x h.size lt ∙ alphabet-at (slice_index p x) (h.each_once.within x lt))
 
 pub no_shift : shift 0 ≡ alphabet
 unfolding shift
 no_shift = refl
 
--- what undoes a turned permutation is what undoes the permutation, turned by as much
+-- The inverse of a turned permutation is the inverse turned by as many places.
 pub turned_undone : (by : ℕ) (p : List ℕ) → by < 26 → IsPermutation26 p → inverse (turned by p) ≡ turned by (inverse p)
 unfolding turned
-turned_undone by p lt h = search (rules, grouped, product_backwards, product_permutes, shift_backwards, shift_permutes, inverse_permutes)
+turned_undone by p lt h =
+    search (rules, grouped, product_backwards, product_permutes, shift_backwards, shift_permutes, inverse_permutes)
 
--- ---- a map that leads each letter to another one, and that one back
+-- ---- permutations that take each letter to another one, and that one back
 
 pub record Exchanges (p : List ℕ) : Type 0 where
   pub permutes : IsPermutation26 p
@@ -68,11 +75,13 @@ pub record Exchanges (p : List ℕ) : Type 0 where
 pub reflectors_exchange : (reflector : Reflector) → Exchanges (reflector_of reflector)
 reflectors_exchange reflector = record {
   permutes = reflector_permutes reflector;
-  back = at_letter (λ x. slice_index (reflector_of reflector) (slice_index (reflector_of reflector) x) ≡ x) (reflector_returns reflector);
+  back =
+      at_letter (λ x. slice_index (reflector_of reflector) (slice_index (reflector_of reflector) x) ≡ x)
+      (reflector_returns reflector);
   moves = at_letter (λ x. slice_index (reflector_of reflector) x ≢ x) (reflector_moves reflector);
 }
 
--- two permutations undo each other
+-- Two permutations undo each other.
 record Undo (there back : List ℕ) : Type 0 where
   in_permutes : IsPermutation26 there
   out_permutes : IsPermutation26 back
@@ -80,31 +89,48 @@ record Undo (there back : List ℕ) : Type 0 where
   into : (x : ℕ) → x < 26 → slice_index there (slice_index back x) ≡ x
 
 wheels_undo : (w : List ℕ) → IsPermutation26 w → Undo w (inverse w)
-wheels_undo w h = let back = inverse_permutes w h in grind (arith, inverse_by_letter, h.each_once.within, back.each_once.within)
+wheels_undo w h =
+    let back = inverse_permutes w h in grind (arith, inverse_by_letter, h.each_once.within, back.each_once.within)
 
 boards_undo : (plugs : List ℕ) → IsPlugboard plugs → Undo plugs plugs
 boards_undo plugs board =
     let back = at_letter (λ x. slice_index plugs (slice_index plugs x) ≡ x) board.own_inverse in
     record { in_permutes = board.permutation; out_permutes = board.permutation; out = back; into = back }
 
--- in by the one, through what exchanges letters, and back by the other
+-- In through a permutation, through a core that exchanges letters, and back through the inverse: this exchanges
+-- letters.
 conjugate : (there core back : List ℕ) → Undo there back → Exchanges core
     → Exchanges (followed_by there (followed_by core back))
 conjugate there core back undo h =
     let in_lt = undo.in_permutes.each_once.within in
-    let at : (x : ℕ) → x < 26 → slice_index (followed_by there (followed_by core back)) x ≡ slice_index back (slice_index core (slice_index there x)) =
+    let at : (x : ℕ) → x < 26
+    → slice_index (followed_by there (followed_by core back)) x
+    ≡ slice_index back (slice_index core (slice_index there x)) =
     λ x lt. grind (arith, product-at, undo.in_permutes.size, h.permutes.size, in_lt) in
-    let again : (x : ℕ) → x < 26 → slice_index there (slice_index (followed_by there (followed_by core back)) x) ≡ slice_index core (slice_index there x) =
+    let again : (x : ℕ) → x < 26
+    → slice_index there (slice_index (followed_by there (followed_by core back)) x)
+    ≡ slice_index core (slice_index there x) =
     λ x lt. grind (arith, at x lt, undo.into, h.permutes.each_once.within, in_lt) in
     record {
-      permutes = product_permutes there (followed_by core back) undo.in_permutes (product_permutes core back h.permutes undo.out_permutes);
-      back = λ x lt. grind (arith, at, again x lt, h.back, undo.out, in_lt, h.permutes.each_once.within, undo.out_permutes.each_once.within);
+      permutes =
+          product_permutes there (followed_by core back) undo.in_permutes
+          (product_permutes core back h.permutes undo.out_permutes);
+      back = λ x lt. grind (
+        arith,
+        at,
+        again x lt,
+        h.back,
+        undo.out,
+        in_lt,
+        h.permutes.each_once.within,
+        undo.out_permutes.each_once.within,
+      );
       moves = λ x lt same. h.moves (slice_index there x) (in_lt x lt) (sym (again x lt) ∙ ap (slice_index there) same);
     }
 
 -- ---- the way around
 
--- a core that a wheel encloses, and one that wheels enclose from the left
+-- a core that a wheel encloses, and a core that wheels enclose from left to right
 abbrev pub enclosed : List ℕ → List ℕ → List ℕ
 enclosed core w = followed_by w (followed_by core (inverse w))
 
@@ -114,12 +140,14 @@ nested core (w ∷ ws) = nested (enclosed core w) ws
 
 pub rotor_permutes : (wheel : Wheel) (ring letter : ℕ) → IsPermutation26 (rotor wheel ring letter)
 unfolding turned
-rotor_permutes wheel ring letter = product_permutes _ _ (product_permutes _ _ (shift_permutes _) (wiring_permutes wheel)) (shift_permutes _)
+rotor_permutes wheel ring letter =
+    product_permutes _ _ (product_permutes _ _ (shift_permutes _) (wiring_permutes wheel)) (shift_permutes _)
 
 rotors_permute : (wheels : List Wheel) (rings window : List ℕ)
     → AllByRecursion IsPermutation26 (rotors wheels rings window)
 unfolding rotors
-rotors_permute (wheel ∷ wheels) (ring ∷ rings) (letter ∷ window) = (rotor_permutes wheel ring letter, rotors_permute wheels rings window)
+rotors_permute (wheel ∷ wheels) (ring ∷ rings) (letter ∷ window) =
+    (rotor_permutes wheel ring letter, rotors_permute wheels rings window)
 rotors_permute [] rings window = tt
 rotors_permute wheels [] window = tt
 rotors_permute wheels rings [] = tt
@@ -136,7 +164,7 @@ nested_exchanges : (core : List ℕ) (ws : List (List ℕ)) → AllByRecursion I
 nested_exchanges core [] h k = k
 nested_exchanges core (w ∷ ws) h k = nested_exchanges (enclosed core w) ws h.1 (encloses core w h.0 k)
 
--- what is alike behind the same maps
+-- Equal products stay equal if the same permutations come before them.
 behind : (xs ps qs : List (List ℕ)) → product ps ≡ product qs → product (xs ++ ps) ≡ product (xs ++ qs)
 unfolding product
 behind [] ps qs e = e
@@ -151,13 +179,22 @@ product_around core (w ∷ ws) rest h k =
     let outward = map inverse ws ++ rest in
     let back = (inverse_permutes w h.0).size in
     let one : product (w ∷ core ∷ inverse w ∷ outward) ≡ product (enclosed core w ∷ outward) =
-    grind (arith, grouped w (followed_by core (inverse w)) (product outward) h.0, grouped core (inverse w) (product outward) k.permutes, product-size, back, k.permutes.size) in
-    ap product (ap (λ ps. ps ++ (core ∷ inverse w ∷ outward)) (reverse-append (w ∷ []) ws) ∙ append_assoc (reverse ws) (w ∷ []) (core ∷ inverse w ∷ outward))
+    grind (
+      arith,
+      grouped w (followed_by core (inverse w)) (product outward) h.0,
+      grouped core (inverse w) (product outward) k.permutes,
+      product-size,
+      back,
+      k.permutes.size,
+    ) in
+    ap product (ap (λ ps. ps ++ (core ∷ inverse w ∷ outward)) (reverse-append (w ∷ []) ws)
+    ∙ append_assoc (reverse ws) (w ∷ []) (core ∷ inverse w ∷ outward))
     ∙ behind (reverse ws) _ _ one ∙ product_around (enclosed core w) ws rest h.1 (encloses core w h.0 k)
 
--- the path leads in through the plugboard, around, and back through it
+-- The path leads in through the plugboard, around through the wheels, and back through the plugboard.
 pub path_is : (key : RotorKey) (window : List ℕ) → IsPlugboard key.plugs
-    → path key window ≡ followed_by key.plugs (followed_by (nested (reflector_of key.reflector) (rotors key.wheels key.rings window)) key.plugs)
+    → path key window ≡ followed_by key.plugs
+    (followed_by (nested (reflector_of key.reflector) (rotors key.wheels key.rings window)) key.plugs)
 unfolding path product
 path_is key window board =
     grind (arith, append_assoc, product_around, rotors_permute, reflectors_exchange, nothing_after)

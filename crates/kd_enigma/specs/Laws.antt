@@ -1,38 +1,45 @@
--- What holds of the cipher.
+-- What the laws on the cipher promise.
 use Rattle.std.specs.Prelude.{◌≡◌, ◌↔◌, ◌⊎◌, ◌+◌, ◌<◌, ◌++◌, List, ℕ, length, All, Contains}
 use Rattle.kd_tables.specs.Permutation.{exchanged, exchange, IsOwnInverse, MovesEachLetter}
 use Rattle.kd_enigma.specs.Cipher.{RotorKey, IsPlugboard, key_after, path, enigma_cipher}
 use Rattle.kd_enigma.specs.Plugs.{letters_plugged, NoLetterTwice, Joins}
 
--- pairs in which no letter lies twice make a plugboard
+-- Pairs in which no letter occurs twice make a plugboard.
 abbrev pub PairsMakeAPlugboard : Type 0
-PairsMakeAPlugboard = (pairs : List (ℕ × ℕ)) → NoLetterTwice pairs → All (λ letter. letter < 26) (letters_plugged pairs) → IsPlugboard (exchange pairs)
+PairsMakeAPlugboard =
+    (pairs : List (ℕ × ℕ)) → NoLetterTwice pairs → All (λ letter. letter < 26) (letters_plugged pairs)
+    → IsPlugboard (exchange pairs)
 
--- a letter becomes the other letter of its pair, or stays where it lies in none
+-- Each letter becomes the other letter of its pair, or stays if it is in no pair.
 abbrev pub PairsExchange : Type 0
 PairsExchange =
     (pairs : List (ℕ × ℕ)) (x y : ℕ) → NoLetterTwice pairs
     → (exchanged pairs x ≡ y) ↔ (Joins pairs x y ⊎ ((x ≡ y) × ¬ Contains (letters_plugged pairs) x))
 
--- the order of the pairs, and of the two letters of a pair, makes no difference
+-- The order of the pairs, and of the two letters of a pair, makes no difference.
 abbrev pub SamePairsExchangeAlike : Type 0
 SamePairsExchangeAlike =
-    (ps qs : List (ℕ × ℕ)) → NoLetterTwice ps → NoLetterTwice qs → ((x y : ℕ) → Joins ps x y ↔ Joins qs x y) → exchange ps ≡ exchange qs
+    (ps qs : List (ℕ × ℕ)) → NoLetterTwice ps → NoLetterTwice qs → ((x y : ℕ) → Joins ps x y ↔ Joins qs x y)
+    → exchange ps ≡ exchange qs
 
--- the path of the current leads each letter to another one, and that one back
+-- The path of the current takes each letter to another one, and that one back.
 abbrev pub PathsLeadBack : Type 0
 PathsLeadBack = (key : RotorKey) (window : List ℕ) → IsPlugboard key.plugs → IsOwnInverse (path key window)
 
 abbrev pub PathsMoveEachLetter : Type 0
 PathsMoveEachLetter = (key : RotorKey) (window : List ℕ) → IsPlugboard key.plugs → MovesEachLetter (path key window)
 
--- enciphering twice on the same key gives the text back
+-- Enciphering twice with the same key gives the text back.
 abbrev pub TwiceGivesBack : Type 0
-TwiceGivesBack = (key : RotorKey) (text : List ℕ) → IsPlugboard key.plugs → All (λ letter. letter < 26) text → enigma_cipher key (enigma_cipher key text) ≡ text
+TwiceGivesBack =
+    (key : RotorKey) (text : List ℕ) → IsPlugboard key.plugs → All (λ letter. letter < 26) text
+    → enigma_cipher key (enigma_cipher key text) ≡ text
 
--- a text in two pieces is enciphered piece by piece, on the key that the first piece leaves
+-- A text can be enciphered piece by piece, each with the key that the piece before it leaves.
 abbrev pub CipherInTurn : Type 0
-CipherInTurn = (key : RotorKey) (first rest : List ℕ) → enigma_cipher key (first ++ rest) ≡ enigma_cipher key first ++ enigma_cipher (key_after key (length first)) rest
+CipherInTurn =
+    (key : RotorKey) (first rest : List ℕ)
+    → enigma_cipher key (first ++ rest) ≡ enigma_cipher key first ++ enigma_cipher (key_after key (length first)) rest
 
 abbrev pub KeyInTurn : Type 0
 KeyInTurn = (key : RotorKey) (m n : ℕ) → key_after (key_after key m) n ≡ key_after key (m + n)

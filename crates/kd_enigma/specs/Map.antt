@@ -1,12 +1,12 @@
--- What each letter becomes, as it lies in 32 lanes.
+-- A permutation of the alphabet as the code keeps it, in 32 lanes.
 use Rattle.std.specs.Prelude.{◌≡◌, ℕ, ◌<◌, List, ◌++◌, length, take, slice_index}
 use Rattle.std.specs.List.{range_with_len}
 
--- the six lanes behind the letters, which lead to themselves
+-- the six lanes after the 26 letters, which map to themselves
 abbrev pub spare : List ℕ
 spare = range_with_len 26 6
 
--- what 26 letters become, and the spare lanes behind
+-- Letters in the first 26 lanes, and the spare lanes after them.
 pub record AreLanes (lanes : List ℕ) : Type 0 where
   pub size : length lanes ≡ 32
   pub letters : (place : ℕ) → place < 26 → slice_index lanes place < 26

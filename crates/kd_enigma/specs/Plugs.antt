@@ -2,18 +2,18 @@
 use Rattle.std.specs.Prelude.{◌≡◌, ◌⊎◌, ℕ, nat_eq, List, [], ◌∷◌, slice_index, Contains}
 use Rattle.std.specs.List.{flat_map, IsDistinct}
 
--- the letters of the pairs, one pair after the other
+-- the letters of all pairs
 abbrev pub letters_plugged : List (ℕ × ℕ) → List ℕ
 letters_plugged pairs = flat_map (λ pair. pair.0 ∷ pair.1 ∷ []) pairs
 
--- no letter lies in two pairs, or twice in one
+-- No letter occurs in two pairs, or twice in one.
 abbrev pub NoLetterTwice : List (ℕ × ℕ) → Type 0
 NoLetterTwice pairs = IsDistinct nat_eq (letters_plugged pairs)
 
--- a pair has these two letters, in either order
+-- One of the pairs has these two letters, in either order.
 abbrev pub Joins : List (ℕ × ℕ) → ℕ → ℕ → Type 0
 Joins pairs x y = Contains pairs (x, y) ⊎ Contains pairs (y, x)
 
--- the table leaves the letter
+-- The table takes the letter to itself.
 abbrev pub IsLeft : List ℕ → ℕ → Type 0
 IsLeft table letter = slice_index table letter ≡ letter

@@ -1,17 +1,18 @@
--- A wheel as it stands in the machine.
+-- The permutation of one wheel in the machine.
 use Rattle.std.specs.Prelude.{ℕ, ◌+◌, ◌-◌, ◌%◌, List}
 use Rattle.kd_tables.specs.Permutation.{followed_by, shift}
 use Rattle.kd_tables.specs.Tables.{wiring_of}
 use Rattle.kd_tables.specs.declared.wheel.Wheel.{Wheel}
 
--- how many letters the wiring is turned on from the place in which it is published: the window letter less the ring
+-- how many places the wheel is turned from the position of its published wiring: window letter minus ring
+-- letter
 abbrev pub offset : ℕ → ℕ → ℕ
 offset ring window = (window + (26 - ring)) % 26
 
--- a permutation that is turned on so many letters
+-- the permutation of a wiring that is turned by `by` places
 unfoldable pub turned : ℕ → List ℕ → List ℕ
 turned by wiring = followed_by (followed_by (shift by) wiring) (shift (26 - by))
 
--- what the wheel with this ring makes of the letters on the way in, from right to left, while this letter shows
+-- the permutation of the wheel on the way in, from right to left, at this ring and window letter
 abbrev pub rotor : Wheel → ℕ → ℕ → List ℕ
 rotor wheel ring window = turned (offset ring window) (wiring_of wheel)

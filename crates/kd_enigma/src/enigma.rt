@@ -1,4 +1,6 @@
-ghost use Rattle.std.specs.Prelude.{◌≡◌, ◌<◌, ◌≤◌, ◌+◌, nat_lt, ◌∷◌, [], length, slice_index, slice_index_or, if◌then◌else◌};
+//! The rotor machine: an Enigma of three or four slots that is set to a key.
+ghost use Rattle.std.specs.Prelude.{◌≡◌, ◌<◌, ◌≤◌, ◌+◌, nat_lt, ◌∷◌, [], length, slice_index, slice_index_or};
+ghost use Rattle.std.specs.Prelude.{if◌then◌else◌};
 ghost use Rattle.kd_enigma.specs.Around.{around};
 ghost use Rattle.kd_enigma.specs.Cipher.{enigma_cipher, key_after, key_turned, path};
 ghost use Rattle.kd_enigma.specs.Wired.{slow};
@@ -11,7 +13,7 @@ use kd_step::Stepper;
 use kd_tables::{Letter, Reflector, Wheel, reflecting};
 use std::marker::Model;
 
-/// A rotor machine that is set to a key, ready for its keys to be pressed.
+/// A rotor machine that is set to a key and ready to encipher.
 #[derive(Drop)]
 pub struct Enigma<const S: usize> {
     wheels: [Wheel; S],
@@ -40,7 +42,7 @@ impl<const S: usize> Model for Enigma<S> {
 }
 
 impl<const S: usize> Enigma<S> {
-    /// The machine with this key. There are three or four slots.
+    /// Sets up the machine of `key`, which has three or four slots.
     pub fn new(key: EnigmaKey<S>) -> Self
         requires least { 3 ≤ S }
         requires most { S ≤ 4 }
@@ -81,7 +83,7 @@ impl<const S: usize> Enigma<S> {
         }
     }
 
-    /// Presses a key: the wheels step, and then a letter lights up.
+    /// Enciphers one letter: the wheels step, and then a lamp lights up.
     #[tactic(auto, using(crate::proofs::Ciphers::path_turned), unfolding(crate::specs::Cipher::path))]
     pub fn press(&mut self, letter: Letter) -> Letter
         ensures cipher { enigma_cipher self.old (letter ∷ []) ≡ result ∷ [] }
@@ -91,7 +93,7 @@ impl<const S: usize> Enigma<S> {
         self.light(letter)
     }
 
-    /// Enciphers a text in its place, a key press for each letter.
+    /// Enciphers `text` in place, with one key press for each letter.
     pub fn run(&mut self, text: &mut [Letter])
         ensures cipher { text.new ≡ enigma_cipher self.old text.old }
         ensures after { self.new ≡ key_after self.old (length text.old) }
@@ -101,7 +103,7 @@ impl<const S: usize> Enigma<S> {
         }
     }
 
-    /// Turns the wheels until these letters show in the windows, from the left.
+    /// Turns the wheels so that `window` shows, from left to right.
     pub fn turn_to(&mut self, window: [Letter; S])
         ensures { self.new ≡ key_turned self.old window.entry }
     {
@@ -110,15 +112,17 @@ impl<const S: usize> Enigma<S> {
         self.whole = self.rotors[S - 1].enclosing(self.inner, window[S - 1]);
     }
 
-    /// The letters that show in the windows, from the left.
+    /// The letters that show in the windows, from left to right.
     pub fn window(&self) -> [Letter; S]
         ensures { result ≡ self.now.window }
     {
         self.stepper.window()
     }
 
-    /// The wheels step. The way around through the slow wheels is another one only where the middle wheel has moved, since
-    /// that one moves with each wheel to its left.
+    /// Steps the wheels, and updates the permutations that depend on them.
+    ///
+    /// The permutation of the slow wheels changes only if the second wheel from the right has moved, because this
+    /// wheel moves whenever one to its left does.
     fn step(&mut self)
         ensures { self.new ≡ key_after self.old 1 }
     {
@@ -132,7 +136,7 @@ impl<const S: usize> Enigma<S> {
         self.whole = self.rotors[S - 1].enclosing(self.inner, right);
     }
 
-    /// The letter that lights up for a letter while no wheel moves.
+    /// The letter whose lamp lights up for `letter` while no wheel moves.
     fn light(&self, letter: Letter) -> Letter
         ensures { result ≡ slice_index (path self.now self.now.window) letter }
     {
@@ -141,7 +145,7 @@ impl<const S: usize> Enigma<S> {
     }
 }
 
-/// The way around through all wheels but the right one, and the reflector.
+/// The permutation of all wheels but the right one: in through them, the reflector, and back.
 #[tactic(auto, using(crate::proofs::Seats::around_more))]
 fn around_slow<const S: usize>(rotors: &[Rotor; S], window: &[Letter; S], reflecting: Map) -> Map
     requires { 1 ≤ S }

@@ -1,18 +1,19 @@
+//! The key of a rotor machine.
 use super::plugs::Plugs;
 use kd_tables::{Letter, Reflector, Wheel};
 
-/// The key of a rotor machine of three or four slots, from the left.
+/// The key of a rotor machine of three or four slots. Slots are in order from left to right.
 #[derive(Clone, Copy)]
 pub struct EnigmaKey<const S: usize> {
-    /// The wheels in their slots.
+    /// The wheel in each slot.
     pub wheels: [Wheel; S],
-    /// The letter of each ring: 01 is A.
+    /// The letter of each ring; A stands for 01.
     pub rings: [Letter; S],
-    /// The letters that show in the windows.
+    /// The letter in each window.
     pub window: [Letter; S],
-    /// The reflector, to the left of the wheels.
+    /// The reflector, left of the wheels.
     pub reflector: Reflector,
-    /// What the plugboard exchanges, to the right of the wheels.
+    /// The plugboard, right of the wheels.
     pub plugs: Plugs,
 }
 

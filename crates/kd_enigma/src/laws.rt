@@ -1,12 +1,13 @@
-//! Laws over the definition of the cipher alone.
+//! Laws on the definition of the cipher, independent of the code.
 ghost use Rattle.std.specs.Prelude.{[]};
 ghost use Rattle.kd_tables.specs.Permutation.{exchange};
 ghost use Rattle.kd_enigma.specs.Cipher.{IsPlugboard};
 ghost use Rattle.kd_enigma.specs.Laws.{PairsMakeAPlugboard, PairsExchange, SamePairsExchangeAlike};
 ghost use Rattle.kd_enigma.specs.Laws.{PathsLeadBack, PathsMoveEachLetter, TwiceGivesBack, CipherInTurn, KeyInTurn};
 
-/// Pairs in which no letter lies twice make a plugboard, on which a letter becomes the other letter of its pair; the
-/// order of the pairs, and of the two letters of a pair, makes no difference.
+/// Pairs in which no letter occurs twice make a plugboard, which exchanges the two letters of each pair.
+///
+/// The order of the pairs, and of the two letters of a pair, makes no difference.
 #[tactic(auto, using(crate::proofs::Cables::pairs_make_a_plugboard, crate::proofs::Cables::same_pairs_exchange_alike))]
 pub fn pairs_make_a_plugboard()
     ensures plugboard { PairsMakeAPlugboard }
@@ -14,26 +15,26 @@ pub fn pairs_make_a_plugboard()
     ensures same { SamePairsExchangeAlike }
 {}
 
-/// A board without cables exchanges no letters, and is a plugboard.
+/// A plugboard without cables leaves each letter.
 #[tactic(auto, using(crate::proofs::Cables::no_cables))]
 pub fn an_empty_board_is_a_plugboard()
     ensures { IsPlugboard (exchange []) }
 {}
 
-/// The current that comes back by the way that it took leads each letter to another one, and that one back.
+/// The path of the current takes each letter to another one, and that one back.
 #[tactic(auto, using(crate::proofs::Ways::paths_lead_back, crate::proofs::Ways::paths_move_each_letter))]
 pub fn path_is_its_own_inverse()
     ensures own_inverse { PathsLeadBack }
     ensures none_fixed { PathsMoveEachLetter }
 {}
 
-/// Enciphering twice on the same key gives the text back.
+/// Enciphering twice with the same key gives the text back.
 #[tactic(auto, using(crate::proofs::Ciphers::twice_gives_back))]
 pub fn enciphering_twice_gives_back()
     ensures { TwiceGivesBack }
 {}
 
-/// A text in two pieces is enciphered piece by piece, on the key that the first piece leaves.
+/// A text can be enciphered piece by piece, each with the key that the piece before it leaves.
 #[tactic(auto, using(crate::proofs::Ciphers::cipher_in_turn, crate::proofs::Ciphers::key_in_turn))]
 pub fn pieces_are_enciphered_in_turn()
     ensures cipher { CipherInTurn }

@@ -1,3 +1,4 @@
+//! Permutations of the alphabet, kept in vectors of 32 bytes so that one shuffle composes two of them.
 ghost use Rattle.std.specs.Prelude.{◌≡◌, ◌<◌, ◌≤◌, nat_lt, slice_index, if◌then◌else◌};
 ghost use Rattle.kd_tables.specs.Permutation.{followed_by, shift};
 
@@ -5,7 +6,7 @@ use kd_tables::Letter;
 use std::marker::Model;
 use std::simd::prelude::*;
 
-/// What each letter becomes. The six lanes behind the letters lead to themselves.
+/// A permutation of the alphabet. The six lanes after the 26 letters map to themselves.
 #[derive(Clone, Copy)]
 pub(crate) struct Map {
     lanes: u8x32,
@@ -27,7 +28,7 @@ impl Model for Map {
 }
 
 impl Map {
-    /// The map that a table says.
+    /// Makes the permutation that takes each letter to its entry in `table`.
     pub(crate) fn of(table: &[Letter; 26]) -> Self
         ensures { result ≡ table.now }
     {
@@ -49,7 +50,7 @@ impl Map {
         }
     }
 
-    /// Each letter so many places on, with A after Z.
+    /// The permutation that takes each letter `by` places on, with A after Z.
     pub(crate) fn shift(by: u8) -> Self
         requires { by ≤ 26 }
         ensures { result ≡ shift by }
@@ -57,7 +58,7 @@ impl Map {
         Map::of(&shifted(by))
     }
 
-    /// First this map, and then the second one.
+    /// Composes two permutations: first this one, then `second`.
     #[tactic(auto, using(crate::proofs::Maps::followed_by_is_safe, crate::proofs::Maps::followed_by_is))]
     pub(crate) fn then(self, second: Map) -> Self
         ensures { result ≡ followed_by self second }
@@ -67,7 +68,7 @@ impl Map {
         }
     }
 
-    /// What the letter becomes.
+    /// The letter to which this permutation takes `letter`.
     pub(crate) fn at(&self, letter: Letter) -> Letter
         ensures { result ≡ slice_index self.now letter }
     {
@@ -75,7 +76,7 @@ impl Map {
     }
 }
 
-/// The table that leads each letter so many places on, with A after Z.
+/// The table that takes each letter `by` places on, with A after Z.
 pub(crate) fn shifted(by: u8) -> [Letter; 26]
     requires { by ≤ 26 }
     ensures { result ≡ shift by }

@@ -1,3 +1,4 @@
+//! The plugboard.
 ghost use Rattle.std.specs.Prelude.{◌≡◌, ◌≢◌, ◌<◌, ◌↔◌, IsOk, IsTrue, IfOk, slice_index, slice_set};
 ghost use Rattle.kd_tables.specs.Permutation.{exchange};
 ghost use Rattle.kd_tables.specs.Refusals.{refusal_name};
@@ -9,7 +10,7 @@ use kd_tables::{Letter, Refusal, Text};
 use std::marker::Model;
 use thiserror::Error;
 
-/// A letter that is to be plugged twice.
+/// A letter occurs twice in the pairs of a plugboard.
 #[derive(Clone, Copy, Debug, PartialEq, Eq, Error)]
 #[error("{}", self.text())]
 pub struct LetterTwice;
@@ -23,7 +24,7 @@ impl LetterTwice {
     }
 }
 
-/// The plugboard: what each letter is exchanged for.
+/// A plugboard: for each letter, the one that it is exchanged for, or the letter itself.
 #[derive(Clone, Copy)]
 pub struct Plugs {
     table: [Letter; 26],
@@ -43,8 +44,9 @@ impl Model for Plugs {
 }
 
 impl Plugs {
-    /// The plugboard whose cables exchange the letters of these pairs, whatever their order. Refused where a letter lies in
-    /// two pairs, or twice in one.
+    /// Makes the plugboard that exchanges the two letters of each pair. The order makes no difference.
+    ///
+    /// Refused with `LetterTwice` if a letter occurs in two pairs, or twice in one.
     pub fn from_pairs(pairs: &[(Letter, Letter)]) -> Result<Plugs, LetterTwice>
         ensures ok { IsOk result ↔ NoLetterTwice pairs.now }
         ensures value { IfOk result (λ plugs. plugs ≡ exchange pairs.now) }
@@ -59,7 +61,7 @@ impl Plugs {
         Ok(Plugs { table })
     }
 
-    /// What the letter is exchanged for.
+    /// The letter for which `letter` is exchanged.
     pub fn swap(self, letter: Letter) -> Letter
         ensures value { result ≡ slice_index self letter }
         ensures within { result < 26 }
@@ -67,7 +69,7 @@ impl Plugs {
         self.table[letter.index()]
     }
 
-    /// What each letter is exchanged for.
+    /// The permutation that the plugboard makes.
     pub(crate) fn map(self) -> Map
         ensures value { result ≡ self }
         ensures plugboard { IsPlugboard self }
@@ -76,7 +78,7 @@ impl Plugs {
     }
 }
 
-/// Exchanges two letters, if they have been left so far and differ, and answers whether it did.
+/// Exchanges two letters, if they differ and are free, and returns whether it did.
 fn plug(table: &mut [Letter; 26], one: Letter, other: Letter) -> bool
     ensures can { IsTrue result ↔ (one ≢ other) × IsLeft table.old one × IsLeft table.old other }
     ensures after { IsTrue result → table.new ≡ slice_set (slice_set table.old one other) other one }

@@ -1,3 +1,4 @@
+//! A wheel in its slot, with its permutations for all 26 window letters.
 ghost use Rattle.std.specs.Prelude.{◌≡◌, ◌<◌};
 ghost use Rattle.kd_tables.specs.Permutation.{followed_by};
 ghost use Rattle.kd_enigma.specs.Around.{boarded};
@@ -7,8 +8,9 @@ use super::map::Map;
 use kd_tables::{Letter, Wheel, unwiring, wiring};
 use std::marker::Model;
 
-/// A wheel with its ring and with what lies to its right, the plugboard or nothing, and its two ways through both for each
-/// letter in its window.
+/// A wheel with its ring, and with what lies to its right: the plugboard, or nothing.
+///
+/// For each letter in the window it keeps two permutations: the one on the way in, and the one on the way back.
 #[derive(Drop)]
 pub(crate) struct Rotor {
     wheel: Wheel,
@@ -51,7 +53,7 @@ impl Rotor {
         }
     }
 
-    /// In through the board and the wheel, around, and back through both, while this letter shows in the wheel's window.
+    /// Encloses `core`: in through board and wheel, through `core`, and back, while `window` shows.
     pub(crate) fn enclosing(&self, core: Map, window: Letter) -> Map
         ensures { result ≡ boarded self.now.board core (rotor self.now.wheel self.now.ring window) }
     {
@@ -60,7 +62,7 @@ impl Rotor {
     }
 }
 
-/// The map, turned on as a wheel with this ring is while the letter of that place shows in its window.
+/// Turns `map` as the wheel turns that has this ring and shows the letter at place `window`.
 #[tactic(auto, unfolding(crate::specs::Rotor::turned))]
 fn turned(map: Map, ring: Letter, window: usize) -> Map
     requires { window < 26 }

@@ -1,15 +1,15 @@
--- A place past another one, and the rest of the way round.
+-- Places on a pin wheel, and the rest of the way round.
 use Rattle.std.proofs.Common.{ℕ, ◌+◌, ◌-◌, ◌<◌, ◌≡◌, arith, sym, ap, ◌∙◌}
 use Rattle.std.proofs.Math.Nat.{add-mod_right, mod-add-mod, mod-eq_of_lt, mod-lt}
 use Rattle.kd_pins.specs.PinWheel.{ActsAt, place_past, place_shown}
 
--- two ways on that are once round lead back
+-- Two turns that add up to a whole one lead back to the place.
 once_round : (size place way rest : ℕ) → place < size → way + rest ≡ size
     → place_past size (place_past size place way) rest ≡ place
 once_round size place way rest lt round =
     grind (arith, mod-add-mod (place + way) size rest, add-mod_right place size, mod-eq_of_lt lt)
 
--- the pin past a place acts while the letter of that place shows
+-- The pin `offset` places past a place acts while the letter at this place shows.
 pub acts_past : (size place offset acting : ℕ) → place < size → offset < size
     → acting ≡ place_past size place offset
     → ActsAt size acting offset × (place_shown size acting offset ≡ place)
@@ -24,7 +24,7 @@ acts_past size place offset acting lt inside e =
       shows,
     )
 
--- the next pin acts while the next letter shows
+-- The next pin acts while the next letter shows.
 pub acts_next : (size acting offset next : ℕ) → ActsAt size acting offset → next ≡ place_past size acting 1
     → ActsAt size next offset
     × (place_shown size next offset ≡ place_past size (place_shown size acting offset) 1)

@@ -1,27 +1,27 @@
--- A pin wheel as it stands: which of its letters shows, and which of its pins acts. Places are counted from 0, in the
--- wheel's own order.
+-- One pin wheel: the letter that it shows, and the pin that acts. Places are counted from 0, in the wheel's own
+-- order.
 use Rattle.std.specs.Prelude.{◌≡◌, ℕ, ◌+◌, ◌-◌, ◌%◌, ◌<◌, Bool, false, List, slice_index, slice_index_or, unwrap_or}
 use Rattle.kd_tables.specs.Rings.{IsRing, place_on}
 
--- What the clauses see of a wheel: its letters in their order, how many places past the letter shown its acting pin stands,
--- which of its pins are effective, and the place of the letter shown.
+-- A wheel as contracts see it: its letters in order, how many places past the letter shown the acting pin is,
+-- which pins are effective, and the place of the letter shown.
 pub record TurnedWheel : Type 0 where
   pub ring : List ℕ
   pub offset : ℕ
   pub pins : List Bool
   pub place : ℕ
 
--- a wheel of so many places
+-- A wheel with `size` places.
 pub record IsWheel (size : ℕ) (wheel : TurnedWheel) : Type 0 where
   pub ring : IsRing size wheel.ring
   pub offset : wheel.offset < size
   pub place : wheel.place < size
 
--- the place so many places past another one, with the first place after the last
+-- the place `by` places after `place`, with 0 after the last one
 abbrev pub place_past : ℕ → ℕ → ℕ → ℕ
 place_past size place by = (place + by) % size
 
--- the pin at a place is effective
+-- whether the pin at the place is effective
 abbrev pub is_effective : List Bool → ℕ → Bool
 is_effective pins place = slice_index_or pins place false
 
@@ -29,25 +29,25 @@ is_effective pins place = slice_index_or pins place false
 abbrev pub letter_shown : TurnedWheel → ℕ
 letter_shown wheel = slice_index wheel.ring wheel.place
 
--- the pin that acts is effective
+-- whether the acting pin is effective
 abbrev pub pin_acting : ℕ → TurnedWheel → Bool
 pin_acting size wheel = is_effective wheel.pins (place_past size wheel.place wheel.offset)
 
--- the wheel, with another letter shown: that at this place
+-- the wheel turned so that it shows the letter at `place`
 abbrev pub turned_to : TurnedWheel → ℕ → TurnedWheel
 turned_to wheel place = record wheel { place = place }
 
--- the wheel with this letter shown; where the letter isn't on it, the wheel as it was
+-- the wheel turned so that it shows `letter`; unchanged if the letter isn't on it
 abbrev pub with_shown : TurnedWheel → ℕ → TurnedWheel
 with_shown wheel letter = turned_to wheel (unwrap_or (place_on wheel.ring letter) wheel.place)
 
--- ---- what the code keeps; the contracts do not speak of it
+-- ---- what the code keeps; no contract of a public function cites these definitions
 
--- the place of the letter shown, while the pin at a place acts: the rest of the way round past it
+-- the place of the letter shown while the pin at `acting` acts: the rest of the way round past it
 abbrev pub place_shown : ℕ → ℕ → ℕ → ℕ
 place_shown size acting offset = place_past size acting (size - offset)
 
--- the pin at a place acts, so many places past the letter shown
+-- The pin at `acting` acts, which is `offset` places past the letter shown.
 pub record ActsAt (size acting offset : ℕ) : Type 0 where
   pub inside : offset < size
   pub there : acting < size

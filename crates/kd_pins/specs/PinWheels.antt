@@ -1,18 +1,18 @@
--- The six pin wheels of the Converter M-209, by their numbers from 1 to 6 (War Department TM 11-380).
+-- The six pin wheels of the Converter M-209, with numbers from 1 to 6 (War Department TM 11-380).
 use Rattle.std.specs.Prelude.{ℕ, ◌-◌, Bool, List, [], ◌∷◌, length, slice_index, slice_index_or}
 use Rattle.std.specs.List.{range_with_len}
 use Rattle.kd_tables.specs.Rings.{ring_of}
 use Rattle.kd_pins.specs.declared.pin_set.PinSet.{PinSet}
 
--- the wheels' numbers
+-- the numbers of the wheels
 abbrev pub pin_wheels : List ℕ
 pin_wheels = range_with_len 1 6
 
--- how many places past the letter shown a wheel's acting pin stands
+-- how many places past the letter shown the acting pin of a wheel is
 abbrev pub offset_of : ℕ → ℕ
 offset_of wheel = slice_index (15 ∷ 14 ∷ 13 ∷ 12 ∷ 11 ∷ 10 ∷ []) (wheel - 1)
 
--- how many letters, and pins, a wheel has
+-- the number of letters of a wheel, which is also its number of pins
 abbrev pub size_of : ℕ → ℕ
 size_of wheel = length (ring_of wheel)
 
@@ -20,6 +20,6 @@ size_of wheel = length (ring_of wheel)
 abbrev pub pins_of : PinSet → List (List Bool)
 pins_of pins = pins.w1 ∷ pins.w2 ∷ pins.w3 ∷ pins.w4 ∷ pins.w5 ∷ pins.w6 ∷ []
 
--- which pins of a wheel are effective
+-- which pins of one wheel are effective
 abbrev pub pins_on : List (List Bool) → ℕ → List Bool
 pins_on pins wheel = slice_index_or pins (wheel - 1) []

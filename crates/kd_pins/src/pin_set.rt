@@ -1,24 +1,25 @@
+//! The pins of all six wheels.
 ghost use Rattle.std.specs.Prelude.{◌≡◌, ◌↔◌, IsTrue};
 
-/// Which pins of the Converter's six wheels are effective. A wheel's pins are in the order of its letters, from A on.
+/// Which pins of the Converter's six wheels are effective: one entry for each letter of a wheel, from A on.
 #[derive(Clone, Copy, PartialEq, Eq)]
 pub struct PinSet {
-    /// The pins of the first wheel, A to Z.
+    /// The pins of wheel 1: A to Z.
     pub w1: [bool; 26],
-    /// The pins of the second wheel, A to Z without W.
+    /// The pins of wheel 2: A to Z without W.
     pub w2: [bool; 25],
-    /// The pins of the third wheel, A to X without W.
+    /// The pins of wheel 3: A to X without W.
     pub w3: [bool; 23],
-    /// The pins of the fourth wheel, A to U.
+    /// The pins of wheel 4: A to U.
     pub w4: [bool; 21],
-    /// The pins of the fifth wheel, A to S.
+    /// The pins of wheel 5: A to S.
     pub w5: [bool; 19],
-    /// The pins of the sixth wheel, A to Q.
+    /// The pins of wheel 6: A to Q.
     pub w6: [bool; 17],
 }
 
 impl PinSet {
-    /// The two sets have the same effective pins.
+    /// Whether the two sets have the same effective pins.
     pub fn same(&self, other: &PinSet) -> bool
         ensures { IsTrue result ↔ (self.now ≡ other.now) }
     {

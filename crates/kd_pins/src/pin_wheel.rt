@@ -1,3 +1,4 @@
+//! One pin wheel: the letter that it shows, and the pin that acts.
 ghost use Rattle.std.specs.Prelude.{◌≡◌, ◌↔◌, ◌<◌, ◌≤◌, ◌+◌, ◌%◌, IsOk, IsTrue, OnOk, Contains};
 ghost use Rattle.kd_tables.specs.Refusals.{refusal_name};
 ghost use Rattle.kd_tables.specs.Rings.{IsRing};
@@ -7,7 +8,7 @@ use kd_tables::{Letter, Refusal, Ring, Text};
 use std::marker::Model;
 use thiserror::Error;
 
-/// A letter that the wheel hasn't.
+/// A letter isn't on the pin wheel.
 #[derive(Clone, Copy, Debug, PartialEq, Eq, Error)]
 #[error("{}", self.text())]
 pub struct NotOnWheel;
@@ -21,9 +22,10 @@ impl NotOnWheel {
     }
 }
 
-/// A pin wheel with its letters in their own order, which is not always the alphabet's, and a pin beside each letter.
+/// A pin wheel: letters in the wheel's own order, which may lack some of the alphabet, and a pin beside each.
 ///
-/// The place of the pin that acts is kept, and not that of the letter shown, since each key press asks for the pin.
+/// The place of the acting pin is kept instead of that of the letter shown, because each key press needs the
+/// pin.
 #[derive(Clone, Copy)]
 pub struct PinWheel<const N: usize> {
     ring: Ring<N>,
@@ -64,8 +66,9 @@ impl<const N: usize> Model for PinWheel<N> {
 }
 
 impl<const N: usize> PinWheel<N> {
-    /// The wheel with these letters and the pins beside them, showing its first letter, A. The pin that acts stands `offset`
-    /// places past the letter shown, in the wheel's own order.
+    /// Makes a wheel that shows its first letter, A, with the pins `pins` beside its letters.
+    ///
+    /// The acting pin is `offset` places past the letter shown, in the wheel's own order.
     #[tactic(auto, using(crate::proofs::Rings::at_most_all))]
     pub fn new(ring: Ring<N>, offset: usize, pins: [bool; N]) -> Self
         requires { offset < N }
@@ -82,7 +85,7 @@ impl<const N: usize> PinWheel<N> {
         }
     }
 
-    /// The pin that acts while this letter shows is effective.
+    /// Whether the acting pin is effective.
     pub fn acting(&self) -> bool
         ensures { result ≡ pin_acting N self.now }
     {
@@ -90,7 +93,7 @@ impl<const N: usize> PinWheel<N> {
         pins[*acting]
     }
 
-    /// Turns the wheel by one place, to the next letter in its order, with the first after the last.
+    /// Turns the wheel by one place, to the next letter in its order; the first comes after the last.
     pub fn advance(&mut self)
         ensures next { self.new ≡ turned_to self.old (place_past N self.old.place 1) }
         ensures wheel { IsWheel N self.new }
@@ -98,7 +101,7 @@ impl<const N: usize> PinWheel<N> {
         self.acting = next_place(self.acting, N);
     }
 
-    /// Whether the letter is on the wheel.
+    /// Whether `letter` is on the wheel.
     pub fn has(&self, letter: Letter) -> bool
         ensures { IsTrue result ↔ Contains self.now.ring letter }
     {
@@ -106,7 +109,7 @@ impl<const N: usize> PinWheel<N> {
         ring.place_of(letter).is_some()
     }
 
-    /// Turns the wheel until it shows the letter. It isn't turned where the letter isn't on it.
+    /// Turns the wheel so that it shows `letter`; does nothing if the letter isn't on the wheel.
     pub fn show(&mut self, letter: Letter)
         ensures turned { self.new ≡ with_shown self.old letter }
         ensures shows { Contains self.old.ring letter → letter_shown self.new ≡ letter }
@@ -117,7 +120,7 @@ impl<const N: usize> PinWheel<N> {
         }
     }
 
-    /// Turns the wheel until it shows the letter. Refused, and then not turned, where the letter isn't on the wheel.
+    /// Turns the wheel so that it shows `letter`; refuses and does nothing if the letter isn't on the wheel.
     pub fn set(&mut self, letter: Letter) -> Result<(), NotOnWheel>
         ensures ok { IsOk result ↔ Contains self.old.ring letter }
         ensures turned { self.new ≡ with_shown self.old letter }
@@ -146,7 +149,7 @@ impl<const N: usize> PinWheel<N> {
         ring.letter_of((*acting + (N - *offset)) % N)
     }
 
-    /// Turns the wheel until it shows the letter of that place.
+    /// Turns the wheel so that it shows the letter at `place`, counted from 0.
     fn turn(&mut self, place: usize)
         requires { place < N }
         ensures turned { self.new ≡ turned_to self.old place }
@@ -156,8 +159,9 @@ impl<const N: usize> PinWheel<N> {
     }
 }
 
-/// The place after this one, with the first after the last. A compare is quicker than a division, and each key press
-/// waits for it.
+/// The place after `place`, with 0 after the last one.
+///
+/// A comparison is faster than a division, and each key press waits for it.
 fn next_place(place: usize, size: usize) -> usize
     requires { place < size }
     ensures { result ≡ place_past size place 1 }

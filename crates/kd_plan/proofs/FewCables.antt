@@ -1,8 +1,8 @@
--- Settings that leave spare cables free need no cable above the number that suffices.
+-- Settings that leave spare cables free name no cable above a number of cables that suffices.
 pub mod Sparing
 unfoldable pub use Sparing.*
 
--- where all cables in use are among the first ones, these and the spare ones among the first are all of the first
+-- If all cables in use are among the first ones, these and the spare ones among the first are all of the first.
 all_first : (cables : List Cable) (first : ℕ) → first ≤ length cables
     → ((k : ℕ) → first ≤ k → is_spare_at cables k ≡ true)
     → spare_count (take first cables) + count_by (λ cable. not (is_spare cable)) cables ≡ first
@@ -22,7 +22,7 @@ one_spare (cable ∷ cables) zero lt h = simp sum_by-cons (grind (arith, nat_tes
 one_spare (cable ∷ cables) (suc place) lt h = let rest = one_spare cables place (omega arith) h in simp sum_by-cons
     (grind (arith, nat_tests))
 
--- a letter is put into no cable above `number`
+-- No letter is put into a cable above `number`.
 put_within : (number : ℕ) (m : RotorParts) (s : RotorDay) → UsesNoneAbove number (Rotor m) → length s.pairs ≤ number
     → (cable letter : ℕ) → cable ≤ length m.cables → LeavesSpares m s (Put cable letter) → cable ≤ number
 put_within number m s none few zero letter within h = omega arith
@@ -37,7 +37,7 @@ put_within number m s none few (suc place) letter within h =
       | inr fits ↦ omega arith
     ]
 
--- a legal PUT names a cable that is there, a legal PULL one that is in use as well
+-- A legal PUT names a cable that exists. A legal PULL names one that is in use.
 put_there : (m : RotorParts) (cable letter : ℕ) → why_refused (Rotor m) (Put cable letter) ≡ None
     → is_none (numbered m.cables cable) ≡ false
 put_there m cable letter h = grind arith
@@ -50,7 +50,7 @@ in_use : (cable : Cable) (letter : ℕ) → has_letter (cable_letters cable) let
 in_use (None, None) letter h = absurd (cc)
 in_use _ letter h = refl
 
--- a change of a cable up to `number` leaves those above it spare
+-- A change of a cable up to `number` leaves the cables above it spare.
 set_within : (number : ℕ) (m : RotorParts) (cable : ℕ) (ends : Cable) → UsesNoneAbove number (Rotor m) → cable ≤ number
     → is_none (numbered m.cables cable) ≡ false
     → UsesNoneAbove number (Rotor (record m { cables = set m.cables (cable - 1) ends }))
@@ -59,7 +59,7 @@ set_within number m cable ends none within there other above =
     (omega arith) in
     ap (λ ends. is_spare (unwrap_or ends (None, None))) same ∙ none other above
 
--- what one legal setting keeps of the machine, and says of itself, holds through a list of settings
+-- If each legal setting keeps a property of the machine, so does a list of settings.
 carried : (Keeps : Parts → Type 0) (Bound Says : Setting → Type 0)
     → ((m : Parts) (x : Setting) → Keeps m → Bound x → why_refused m x ≡ None → Says x × Keeps (changed m x))
     → (settings : List Setting) (m n : Parts) → Keeps m → AllByRecursion Bound settings → Leads m settings n
@@ -70,7 +70,7 @@ carried Keeps Bound Says step (x ∷ settings) m n now bounds (between, carries,
     let rest = carried Keeps Bound Says step settings between n (rw carries.made one.1) bounds.1 leads in
     (All-cons Says x settings one.0 rest.0, rest.1)
 
--- a rotor machine with `count` cables, none of them in use above `number`
+-- A rotor machine with `count` cables, none of which is in use above `number`.
 abbrev HasFew : ℕ → ℕ → Parts → Type 0
 HasFew number count (Rotor m) = (length m.cables ≡ count) × UsesNoneAbove number (Rotor m)
 HasFew number count (Pin m) = ⊥
@@ -95,7 +95,7 @@ module _ (number : ℕ) (start : RotorParts) (s : RotorDay) (none : UsesNoneAbov
   step (Rotor m) x now bound allowed = (tt, now)
   step (Pin m) x now bound allowed = absurd now
 
--- a Converter M-209 has no cables
+-- A Converter M-209, which has no cables.
 abbrev IsPin : Parts → Type 0
 IsPin (Rotor m) = ⊥
 IsPin (Pin m) = Unit {0}

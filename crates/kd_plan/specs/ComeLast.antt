@@ -2,15 +2,15 @@
 use Rattle.std.specs.Prelude.{ℕ, ◌<◌, nat_lt, not, ◌||◌, Bool, IsTrue, List, slice_index, slice_index_or, Option, None}
 use Rattle.kd_plan.specs.Spares.{is_spare}
 
--- whether the cable at this place, counted from 0, is spare
+-- whether the cable at `place`, counted from 0, is spare
 abbrev pub is_spare_at : List (Option ℕ × Option ℕ) → ℕ → Bool
 is_spare_at cables place = is_spare (slice_index_or cables place (None, None))
 
--- whether the cable at `place` comes before a spare one at `spare`: it is in use, or has a lower number
+-- whether the cable at `place` comes before the spare one at `spare`: it is in use, or has a lower number
 abbrev pub comes_before : List (Option ℕ × Option ℕ) → ℕ → ℕ → Bool
 comes_before cables place spare = nat_lt place spare || not (is_spare_at cables place)
 
--- where a spare cable becomes one of the pairs, so does each cable that comes before it
+-- If a spare cable becomes a pair, each cable that comes before it becomes a pair too.
 abbrev pub SparesComeLast : List (Option ℕ × Option ℕ) → ℕ → List ℕ → Type 0
 SparesComeLast cables pairs to =
     (spare place : ℕ) → spare < 13 → IsTrue (is_spare_at cables spare) → slice_index to spare < pairs

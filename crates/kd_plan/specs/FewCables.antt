@@ -8,23 +8,24 @@ use Rattle.kd_state.specs.Setting.{Leads, cable_at}
 use Rattle.kd_state.specs.SheetDay.{Day, OfRotors, OfPins}
 use Rattle.kd_plan.specs.Spares.{is_spare, SparesStayFree}
 
--- no cable with a number above `number` is in use
+-- No cable with a number above `number` is in use.
 abbrev pub UsesNoneAbove : ℕ → Parts → Type 0
 UsesNoneAbove number (Rotor m) = (cable : ℕ) → number < cable → IsTrue (is_spare (cable_at m cable))
 UsesNoneAbove number (Pin m) = Unit {0}
 
--- the day has at most `number` pairs
+-- The day has at most `number` pairs.
 abbrev pub HasPairsUpTo : ℕ → Day → Type 0
 HasPairsUpTo number (OfRotors s) = length s.pairs ≤ number
 HasPairsUpTo number (OfPins s) = Unit {0}
 
--- the setting names no cable above `number`
+-- The setting names no cable above `number`.
 abbrev pub NamesNoneAbove : ℕ → Setting → Type 0
 NamesNoneAbove number (Pull cable letter) = cable ≤ number
 NamesNoneAbove number (Put cable letter) = cable ≤ number
 NamesNoneAbove number _ = Unit {0}
 
--- where the first `number` cables suffice, settings that leave spare cables free name no other cable and use no other one
+-- If the first `number` cables suffice, settings that leave spare cables free neither name nor use any other
+-- cable.
 abbrev pub FewCablesServe : Type 0
 FewCablesServe =
     (number : ℕ) (m n : Parts) (s : Day) (settings : List Setting) → UsesNoneAbove number m → HasPairsUpTo number s

@@ -1,4 +1,4 @@
-//! The planner: what differs from the day, and an assignment of least cost for cables or bars.
+//! Plans a card: settings for loose things, and a minimum-cost assignment for cables or bars.
 ghost use Rattle.std.specs.Prelude.{◌≡◌, ◌≢◌, ◌<◌, IfOk, IsErr, IfSome, MatchOption, ◌↔◌};
 ghost use Rattle.kd_plan.specs.Planned.{IsPlanned, Plans};
 ghost use Rattle.kd_plan.specs.Spares.{SparesStayFree};
@@ -18,8 +18,8 @@ use kd_state::{
 
 /// Plans the card that sets the machine to the day by the fewest settings, and leaves spare cables free.
 ///
-/// Which of several such cards it is isn't promised, nor which prices prove it; where cables and bars cost nothing, all
-/// prices are 0.
+/// If several cards do, no promise says which one it is, nor which prices prove it. If cables and bars cost
+/// nothing, all prices are 0.
 #[tactic(auto, using(crate::proofs::Planning::plans))]
 pub fn plan(machine: &Machine, day: &SheetDay) -> Result<Card, OtherModel>
     ensures refused { IsErr result ↔ (model_of machine.now ≢ day_model day.now) }
@@ -31,7 +31,7 @@ pub fn plan(machine: &Machine, day: &SheetDay) -> Result<Card, OtherModel>
     Ok(card)
 }
 
-/// The card of what differs from the day; none where the models are different.
+/// Plans the card, or returns `None` if machine and day are of different models.
 fn planned_card(machine: &Machine, day: &SheetDay) -> Option<Card>
     ensures planned { MatchOption result
         (model_of machine.now ≢ day_model day.now)
@@ -46,7 +46,7 @@ fn planned_card(machine: &Machine, day: &SheetDay) -> Option<Card>
     }
 }
 
-/// The card of a rotor machine, of which these are the parts.
+/// Plans the card of a rotor machine. `parts` are the parts of `machine`.
 #[tactic(auto, using(crate::proofs::Planning::planned, crate::proofs::Planning::four_at_most, crate::proofs::Planning::all_within))]
 fn rotor_card(machine: &Machine, parts: &RotorParts, entry: &RotorEntry) -> Card
     requires parts { machine.now ≡ Parts.Rotor parts.now }
@@ -73,7 +73,7 @@ fn rotor_card(machine: &Machine, parts: &RotorParts, entry: &RotorEntry) -> Card
     Card { settings, prices }
 }
 
-/// The card of a Converter M-209.
+/// Plans the card of a Converter M-209.
 #[tactic(auto, using(crate::proofs::Planning::planned, crate::proofs::Planning::two_at_most, crate::proofs::Planning::all_within))]
 fn pin_card(parts: &PinParts, entry: &PinEntry) -> Card
     ensures { let day = OfPins (pin_values entry.now) in

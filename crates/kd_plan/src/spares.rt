@@ -1,4 +1,4 @@
-//! Spare cables, which have no letter, become pairs after all cables in use.
+//! Gives pairs to cables in use before spare cables, which have no letter.
 ghost use Rattle.std.specs.Prelude.{◌≡◌, ℕ, ◌<◌, ◌≤◌, length, slice_index, IsTrue, MatchOption};
 ghost use Rattle.kd_assign.specs.Assignment.{IsOneToOne, assignment_cost};
 ghost use Rattle.kd_plan.specs.{Spares.{is_spare}, ComeLast.{comes_before, SparesComeLast}};
@@ -9,8 +9,9 @@ use kd_tables::Letter;
 
 /// Reassigns pairs in `to` from spare cables to cables in use, and to spare cables with lower numbers.
 ///
-/// A spare cable that becomes a pair costs 2. Exchanged with a cable that becomes nothing, which costs its letters,
-/// it costs 0, and the other cable at most 2 more than before: so the sum doesn't grow.
+/// The total cost doesn't grow. A spare cable that becomes a pair costs 2, and a cable that becomes a nothing
+/// costs its letters. After the exchange the spare cable costs 0, and the other cable at most 2 more than
+/// before.
 pub(crate) fn keep_spares_free(cables: &[Cable; 13], pairs: &[(Letter, Letter)], to: &mut [u8; 13])
     requires { IsOneToOne to.old }
     ensures one_to_one { IsOneToOne to.new }
@@ -28,7 +29,9 @@ pub(crate) fn keep_spares_free(cables: &[Cable; 13], pairs: &[(Letter, Letter)],
     }
 }
 
-/// The place of the first cable that becomes nothing, though it is in use or has a lower number than the spare one.
+/// Finds the first cable that comes before the spare one, but becomes a nothing.
+///
+/// A cable comes before the spare one if it is in use or has a lower number. Places are counted from 0.
 fn left_out_before(spare: usize, cables: &[Cable; 13], pairs: usize, to: &[u8; 13]) -> Option<usize>
     ensures { MatchOption result
         ((place : ℕ) → place < 13 → IsTrue (comes_before cables.now place spare)
@@ -45,7 +48,7 @@ fn left_out_before(spare: usize, cables: &[Cable; 13], pairs: usize, to: &[u8; 1
     None
 }
 
-/// Whether no letter lies in the cable.
+/// Whether the cable has no letter.
 fn is_spare(cable: &Cable) -> bool
     ensures { result ≡ is_spare cable.now }
 {

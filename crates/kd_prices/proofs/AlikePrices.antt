@@ -1,31 +1,61 @@
--- In a card that proves itself, what is alike has equal prices: it costs the same everywhere, and each price is tight
--- somewhere.
-use Rattle.kd_prices.proofs.Prelude.{no_rotors, proving_prices_are_tight, ◌≡◌, ℕ, ◌<◌, ◌≤◌, List, get_or, length, None, unwrap_or, slice_get, sym, ap, ◌∙◌, arith, ints, get_or-map, unwrap_or-slice_get, slice_get_past, One, Rotor, Pin, cable_letters, Day, OfRotors, OfPins, tests_tell_letters, thirteen_columns, columns_are_the_pairs, cable_cost, bar_cost, columns_of, PriceParts, Cables, Bars, how_many, cost_at, Fits, AreTight, Parts, StandAlike, ReadAlike, AlikePricesAreEqual, AreEqualWhereAlike, map}
+-- In a card that proves itself, equal things have equal prices: they cost the same everywhere, and each price
+-- is tight somewhere.
+use Rattle.kd_prices.proofs.Prelude.{no_rotors, proving_prices_are_tight, ◌≡◌, ℕ, ◌<◌, ◌≤◌, List, get_or, length, None}
+use Rattle.kd_prices.proofs.Prelude.{unwrap_or, slice_get, sym, ap, ◌∙◌, arith, ints, get_or-map, unwrap_or-slice_get}
+use Rattle.kd_prices.proofs.Prelude.{slice_get_past, One, Rotor, Pin, cable_letters, Day, OfRotors, OfPins}
+use Rattle.kd_prices.proofs.Prelude.{tests_tell_letters, thirteen_columns, columns_are_the_pairs, cable_cost, bar_cost}
+use Rattle.kd_prices.proofs.Prelude.{columns_of, PriceParts, Cables, Bars, how_many, cost_at, Fits, AreTight, Parts}
+use Rattle.kd_prices.proofs.Prelude.{StandAlike, ReadAlike, AlikePricesAreEqual, AreEqualWhereAlike, map}
 
--- prices that fit a table of costs, each tight somewhere
-module _ {A B : Type 0} (cost : A → B → ℕ) (rows : List A) (columns : List B) (a : A) (b : B) (m : Parts) (s : Day) (prices : PriceParts)
-    (many_rows : length rows ≡ how_many prices) (many_columns : length columns ≡ how_many prices) (fits : Fits (map (λ row. map (cost row) columns) rows) prices)
+-- Prices that fit a table of costs, each of which is tight somewhere.
+module _ {A B : Type 0} (cost : A → B → ℕ) (rows : List A) (columns : List B) (a : A) (b : B) (m : Parts) (s : Day)
+    (prices : PriceParts)
+    (many_rows : length rows ≡ how_many prices) (many_columns : length columns ≡ how_many prices)
+    (fits : Fits (map (λ row. map (cost row) columns) rows) prices)
     (tight : AreTight (map (λ row. map (cost row) columns) rows) prices) where
-  at : (i j : ℕ) → i < how_many prices → j < how_many prices → cost_at (map (λ row. map (cost row) columns) rows) i j ≡ cost (get_or rows i a) (get_or columns j b)
+  at : (i j : ℕ) → i < how_many prices → j < how_many prices
+      → cost_at (map (λ row. map (cost row) columns) rows) i j ≡ cost (get_or rows i a) (get_or columns j b)
   at i j lt lt' = grind (arith, get_or-map)
 
-  equal_where_alike : ((i k : ℕ) → StandAlike m i k → (column : B) → cost (get_or rows i a) column ≡ cost (get_or rows k a) column)
+  equal_where_alike : ((i k : ℕ) → StandAlike m i k → (column : B)
+      → cost (get_or rows i a) column ≡ cost (get_or rows k a) column)
       → ((j k : ℕ) → ReadAlike s j k → get_or columns j b ≡ get_or columns k b) → AreEqualWhereAlike m s prices
   equal_where_alike stand read = record {
     rows = λ i k lt lt' alike.
-        let same = λ (j : ℕ) (within : j < how_many prices). at i j lt within ∙ stand i k alike (get_or columns j b) ∙ sym (at k j lt' within) in
+        let same = λ (j : ℕ) (within : j < how_many prices). at i j lt within ∙ stand i k alike (get_or columns j b)
+        ∙ sym (at k j lt' within) in
         let here = tight.column_of i lt in
         let there = tight.column_of k lt' in
-        omega (arith, ints, here.2, there.2, fits k here.0 lt' here.1, fits i there.0 lt there.1, same here.0 here.1, same there.0 there.1);
+        omega (
+          arith,
+          ints,
+          here.2,
+          there.2,
+          fits k here.0 lt' here.1,
+          fits i there.0 lt there.1,
+          same here.0 here.1,
+          same there.0 there.1,
+        );
     columns = λ j k lt lt' alike.
-        let same = λ (i : ℕ) (within : i < how_many prices). at i j within lt ∙ ap (cost (get_or rows i a)) (read j k alike) ∙ sym (at i k within lt') in
+        let same = λ (i : ℕ) (within : i < how_many prices). at i j within lt
+        ∙ ap (cost (get_or rows i a)) (read j k alike) ∙ sym (at i k within lt') in
         let here = tight.row_of j lt in
         let there = tight.row_of k lt' in
-        omega (arith, ints, here.2, there.2, fits here.0 k here.1 lt', fits there.0 j there.1 lt, same here.0 here.1, same there.0 there.1);
+        omega (
+          arith,
+          ints,
+          here.2,
+          there.2,
+          fits here.0 k here.1 lt',
+          fits there.0 j there.1 lt,
+          same here.0 here.1,
+          same there.0 there.1,
+        );
   }
 
--- what is the same in two places
-pub same_at : {X : Type 0} (xs : List X) (i k : ℕ) (d : X) → slice_get xs i ≡ slice_get xs k → get_or xs i d ≡ get_or xs k d
+-- Equal items at two places.
+pub same_at : {X : Type 0} (xs : List X) (i k : ℕ) (d : X) → slice_get xs i ≡ slice_get xs k
+    → get_or xs i d ≡ get_or xs k d
 same_at xs i k d e = sym (unwrap_or-slice_get xs i d) ∙ ap (λ found. unwrap_or found d) e ∙ unwrap_or-slice_get xs k d
 
 pub nothing_at : (pairs : List (ℕ × ℕ)) (place : ℕ) → length pairs ≤ place → get_or (columns_of pairs) place None ≡ None
@@ -33,14 +63,20 @@ nothing_at pairs place past = columns_are_the_pairs pairs place ∙ slice_get_pa
 
 pub alike_prices_are_equal : AlikePricesAreEqual
 alike_prices_are_equal (Rotor m) (OfRotors s) settings (Cables row column) machine legal are_prices h =
-    equal_where_alike cable_cost m.cables (columns_of s.pairs) (None, None) None (Rotor m) (OfRotors s) (Cables row column) machine.legal.cables.count (thirteen_columns s.pairs legal.pairs.few) h.fits
+    equal_where_alike cable_cost m.cables (columns_of s.pairs) (None, None) None (Rotor m) (OfRotors s)
+    (Cables row column) machine.legal.cables.count (thirteen_columns s.pairs legal.pairs.few) h.fits
     (proving_prices_are_tight (Rotor m) (OfRotors s) settings (Cables row column) machine legal are_prices h)
-    (λ i k alike column. simp ((tests_tell_letters (cable_letters (get_or m.cables i (None, None))) (cable_letters (get_or m.cables k (None, None)))).0 alike))
+    (λ i k alike column. simp ((tests_tell_letters (cable_letters (get_or m.cables i (None, None)))
+    (cable_letters (get_or m.cables k (None, None)))).0 alike))
     (λ j k alike. nothing_at s.pairs j alike.0 ∙ sym (nothing_at s.pairs k alike.1))
 alike_prices_are_equal (Pin m) (OfPins s) settings (Bars row column) machine legal are_prices h =
-    equal_where_alike bar_cost m.bars s.rows (One, One) (0, 0) (Pin m) (OfPins s) (Bars row column) machine.legal.bars legal.count h.fits
+    equal_where_alike bar_cost m.bars s.rows (One, One) (0, 0) (Pin m) (OfPins s)
+    (Bars row column) machine.legal.bars legal.count h.fits
     (proving_prices_are_tight (Pin m) (OfPins s) settings (Bars row column) machine legal are_prices h)
-    (λ i k alike column. ap (λ bar. bar_cost bar column) (same_at m.bars i k (One, One) alike)) (λ j k alike. same_at s.rows j k (0, 0) alike)
-alike_prices_are_equal (Rotor m) (OfPins s) settings prices machine legal are_prices h = absurd (no_rotors m.model m.reflector h.model machine.legal.reflector)
-alike_prices_are_equal (Pin m) (OfRotors s) settings prices machine legal are_prices h = absurd (no_rotors s.model s.reflector (sym h.model) legal.reflector)
+    (λ i k alike column. ap (λ bar. bar_cost bar column) (same_at m.bars i k (One, One) alike))
+    (λ j k alike. same_at s.rows j k (0, 0) alike)
+alike_prices_are_equal (Rotor m) (OfPins s) settings prices machine legal are_prices h =
+    absurd (no_rotors m.model m.reflector h.model machine.legal.reflector)
+alike_prices_are_equal (Pin m) (OfRotors s) settings prices machine legal are_prices h =
+    absurd (no_rotors s.model s.reflector (sym h.model) legal.reflector)
 alike_prices_are_equal m s settings prices machine legal are_prices h = absurd h.kind

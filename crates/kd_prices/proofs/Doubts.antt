@@ -1,32 +1,43 @@
--- A card that proves itself is in no doubt, and a card is in one doubt at most.
-use Rattle.kd_prices.proofs.Prelude.{◌≡◌, ℕ, List, [], ◌∷◌, ◌++◌, length, refl, sym, ap, ◌∙◌, subst, arith, ◌↔◌, cases_order, false≢true, Parts, Setting, Why, why_refused, Leads, Day, cost_table, leads_to_one, PriceParts, AreNeeded, Proves, IllegalAt, NeedlessLine, IsFirstWithout, IsFirstNeedless, Result, Ok, Err, IsOk, IfErr, Found, IsOnly, only_then, only_finds, only_demands, passed}
+-- A card that proves itself has no doubt, and a card has at most one.
+use Rattle.kd_prices.proofs.Prelude.{◌≡◌, ℕ, List, [], ◌∷◌, ◌++◌, length, refl, sym, ap, ◌∙◌, subst, arith, ◌↔◌}
+use Rattle.kd_prices.proofs.Prelude.{cases_order, false≢true, Parts, Setting, Why, why_refused, Leads, Day, cost_table}
+use Rattle.kd_prices.proofs.Prelude.{leads_to_one, PriceParts, AreNeeded, Proves, IllegalAt, NeedlessLine}
+use Rattle.kd_prices.proofs.Prelude.{IsFirstWithout, IsFirstNeedless, Result, Ok, Err, IsOk, IfErr, Found, IsOnly}
+use Rattle.kd_prices.proofs.Prelude.{only_then, only_finds, only_demands, passed}
 use Rattle.{kd_state.specs.Setting.IsFirstIllegal, kd_prices.proofs.Leading.needed_at}
 use Rattle.kd_prices.proofs.{Leading.not_refused, Meaning.are_numbered, Meaning.of_one_model, Meaning.one_expansion}
 use Rattle.kd_prices.specs.{declared.doubt.Doubt.Doubt, Doubt.{SaysCarried, SaysFits, SaysNeeded, SaysChecked, IsDoubt}}
 
--- A list has one front that is good, and with what stands behind it is the front of no good list.
-one_front : {X : Type 0} (Good : List X → Type 0) (front other after behind : List X) (x y : X) → front ++ x ∷ after ≡ other ++ y ∷ behind → Good front → Good other
-    → ((rest : List X) → ¬ (Good (front ++ x ∷ rest))) → ((rest : List X) → ¬ (Good (other ++ y ∷ rest))) → (front ≡ other) × (x ≡ y)
+-- A list has only one longest good prefix: with the next item it isn't the prefix of any good list.
+one_front : {X : Type 0} (Good : List X → Type 0) (front other after behind : List X) (x y : X)
+    → front ++ x ∷ after ≡ other ++ y ∷ behind → Good front → Good other
+    → ((rest : List X) → ¬ (Good (front ++ x ∷ rest))) → ((rest : List X) → ¬ (Good (other ++ y ∷ rest)))
+    → (front ≡ other) × (x ≡ y)
 one_front Good [] [] after behind x y e good fine bad worse = (refl, cc)
-one_front Good [] (z ∷ other) after behind x y e good fine bad worse = let same : z ≡ x = cc in absurd (bad other (subst (λ w. Good (w ∷ other)) same fine))
-one_front Good (z ∷ front) [] after behind x y e good fine bad worse = let same : z ≡ y = cc in absurd (worse front (subst (λ w. Good (w ∷ front)) same good))
+one_front Good [] (z ∷ other) after behind x y e good fine bad worse =
+    let same : z ≡ x = cc in absurd (bad other (subst (λ w. Good (w ∷ other)) same fine))
+one_front Good (z ∷ front) [] after behind x y e good fine bad worse =
+    let same : z ≡ y = cc in absurd (worse front (subst (λ w. Good (w ∷ front)) same good))
 one_front {X = X} Good (z ∷ front) (w ∷ other) after behind x y e good fine bad worse =
     let same : w ≡ z = cc in
-    let tails = one_front (λ xs. Good (z ∷ xs)) front other after behind x y (cc) good (subst (λ v. Good (v ∷ other)) same fine) bad
+    let tails = one_front (λ xs. Good (z ∷ xs)) front other after behind x y (cc) good
+    (subst (λ v. Good (v ∷ other)) same fine) bad
     (subst (λ (v : X). (rest : List X) → ¬ (Good (v ∷ (other ++ y ∷ rest)))) same worse) in
     (cc, tails.1)
 
-one_place : (Holds : ℕ → ℕ → Type 0) (number row column i j : ℕ) → IsFirstWithout Holds number row column → IsFirstWithout Holds number i j → (row ≡ i) × (column ≡ j)
+one_place : (Holds : ℕ → ℕ → Type 0) (number row column i j : ℕ) → IsFirstWithout Holds number row column
+    → IsFirstWithout Holds number i j → (row ≡ i) × (column ≡ j)
 one_place Holds number row column i j h k = grind (arith, cases_order, h.here, k.before, k.here, h.before)
 
 -- ---- prices by number
 
--- a setting that is refused in its turn stands in no list that leads on
-refused : {m : Parts} {settings : List Setting} {line : ℕ} {why : Why} (h : IsFirstIllegal m settings line why) (n : Parts)
+-- A setting that the machine refuses after those before it is in no list that leads on.
+refused : {m : Parts} {settings : List Setting} {line : ℕ} {why : Why} (h : IsFirstIllegal m settings line why)
+    (n : Parts)
     (rest : List Setting) → ¬ (Leads m (h.front ++ h.setting ∷ rest) n)
 refused {m} h n rest leads = not_refused m h.between n h.front rest h.setting _ h.leads h.refused leads
 
--- and one that is needless in no list of needed ones
+-- A needless setting is in no list of needed ones.
 wanted : {m : Parts} {s : Day} {settings : List Setting} {line : ℕ} (h : IsFirstNeedless m s settings line)
     (rest : List Setting) → ¬ (AreNeeded m s (h.front ++ h.setting ∷ rest))
 wanted {m} {s} h rest needed = h.needless (needed_at m h.between s h.front rest h.setting h.leads needed)
@@ -34,13 +45,17 @@ wanted {m} {s} h rest needed = h.needless (needed_at m h.between s h.front rest 
 module _ (m : Parts) (settings : List Setting) where
   only_carried : IsOnly (SaysCarried m settings)
   only_carried (Ok n) (Ok o) a b = ap Ok (leads_to_one m n o settings a b)
-  only_carried (Ok n) (Err (IllegalAt line why)) a b = absurd (refused b n b.rest (subst (λ xs. Leads m xs n) b.split a))
-  only_carried (Err (IllegalAt line why)) (Ok n) a b = absurd (refused a n a.rest (subst (λ xs. Leads m xs n) a.split b))
+  only_carried (Ok n) (Err (IllegalAt line why)) a b =
+      absurd (refused b n b.rest (subst (λ xs. Leads m xs n) b.split a))
+  only_carried (Err (IllegalAt line why)) (Ok n) a b =
+      absurd (refused a n a.rest (subst (λ xs. Leads m xs n) a.split b))
   only_carried (Err (IllegalAt line why)) (Err (IllegalAt other reason)) a b =
       let same =
-      one_front (λ xs. (n : Parts) × Leads m xs n) a.front b.front a.rest b.rest a.setting b.setting (sym a.split ∙ b.split)
-      (a.between, a.leads) (b.between, b.leads) (λ rest leads. refused a leads.0 rest leads.1) (λ rest leads. refused b leads.0 rest leads.1) in
-      let between = leads_to_one m a.between b.between b.front (subst (λ front. Leads m front a.between) same.0 a.leads) b.leads in
+      one_front (λ xs. (n : Parts) × Leads m xs n) a.front b.front a.rest b.rest a.setting b.setting
+      (sym a.split ∙ b.split) (a.between, a.leads) (b.between, b.leads) (λ rest leads. refused a leads.0 rest leads.1)
+      (λ rest leads. refused b leads.0 rest leads.1) in
+      let between = leads_to_one m a.between b.between b.front
+      (subst (λ front. Leads m front a.between) same.0 a.leads) b.leads in
       let reasons : why_refused a.between a.setting ≡ why_refused b.between b.setting = cc in
       let first = a.refused in
       let second = b.refused in
@@ -61,7 +76,8 @@ module _ (m : Parts) (s : Day) (settings : List Setting) where
   only_needed (Err (NeedlessLine line)) (Ok y) a b = absurd (wanted a a.rest (subst (AreNeeded m s) a.split b))
   only_needed (Err (NeedlessLine line)) (Err (NeedlessLine other)) a b =
       let same =
-      one_front (AreNeeded m s) a.front b.front a.rest b.rest a.setting b.setting (sym a.split ∙ b.split) a.needed b.needed
+      one_front (AreNeeded m s) a.front b.front a.rest b.rest a.setting b.setting
+      (sym a.split ∙ b.split) a.needed b.needed
       (wanted a) (wanted b) in
       let counts = ap length same.0 in
       let lines : line ≡ other = omega (arith, a.number, b.number) in
@@ -87,14 +103,16 @@ module _ (m : Parts) (s : Day) (settings : List Setting) (prices : PriceParts) w
   says_proving : SaysChecked m s settings prices (Ok tt) → Proves m s settings prices
   says_proving says = grind (arith, passed, are_numbered)
 
-  -- what is answered tells whether the card proves itself
-  pub told : (answer : Result (Unit {0}) Doubt) → SaysChecked m s settings prices answer → IsOk answer ↔ Proves m s settings prices
+  -- The result of the check says whether the card proves itself.
+  pub told : (answer : Result (Unit {0}) Doubt) → SaysChecked m s settings prices answer
+      → IsOk answer ↔ Proves m s settings prices
   told (Ok x) says = (λ ok. says_proving says, λ proves. refl)
   told (Err doubt) says = (
     λ ok. absurd (false≢true ok),
     λ proves. absurd (let same = only_checked (Err doubt) (Ok tt) says (proving_says proves) in cc),
   )
 
-  pub doubted : (answer : Result (Unit {0}) Doubt) → SaysChecked m s settings prices answer → IfErr answer (IsDoubt m s settings prices)
+  pub doubted : (answer : Result (Unit {0}) Doubt) → SaysChecked m s settings prices answer
+      → IfErr answer (IsDoubt m s settings prices)
   doubted (Ok x) says = tt
   doubted (Err doubt) says = says

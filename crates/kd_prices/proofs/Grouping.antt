@@ -1,4 +1,4 @@
--- Things grouped into kinds, by rank from the lowest one on.
+-- Things grouped into kinds, from the lowest rank on.
 use Rattle.kd_prices.proofs.Prelude.{counted-append, few_kinds, floor_behind, low_rank, below_more, ◌≡◌, ℕ, suc, ◌+◌}
 use Rattle.kd_prices.proofs.Prelude.{◌<◌, ◌≤◌, inl, inr, Bool, true, false, cond, eqb, ltb, List, [], ◌∷◌, ◌++◌, length}
 use Rattle.kd_prices.proofs.Prelude.{count_by, refl, sym, ap, ◌∙◌, subst, arith, ℤ, pos, unsigned_abs, None, All}
@@ -12,7 +12,7 @@ use Rattle.kd_prices.proofs.Prelude.{AreWithPrices}
 use Rattle.std.proofs.lemmas.List.Sums.{sum_by-cons, sum_by-le, count_by-le-length, get_or-le-sum_by}
 use Rattle.kd_prices.proofs.Meaning.{one_price}
 
--- ---- how many things are of ranks
+-- ---- how many things have ranks in a range
 
 abbrev below : ℕ → Look → Bool
 below rank look = ltb (look_rank look) rank
@@ -118,7 +118,7 @@ priced_last look price (first ∷ kinds) kind has = inr (priced_last look price 
 
 -- ---- from the lowest rank on
 
--- the kinds are those of all things of lower ranks than this one, each with the price of one of its things
+-- The kinds are those of all things of ranks below `floor`, each with the price of one of its things.
 pub record AreGrouped (looks : List Look) (prices : List ℤ) (floor : ℕ) (kinds : List PricedKind) : Type 0 where
   pub in_order : AreKinds 0 kinds
   pub above : floor_behind 0 kinds ≤ floor
@@ -129,7 +129,7 @@ pub record AreGrouped (looks : List Look) (prices : List ℤ) (floor : ℕ) (kin
       AreAlikePriced looks prices → (place : ℕ) → place < length looks → look_rank (look_at looks place) < floor
       → IsPriced (look_at looks place) (price_at prices place) kinds
 
--- no thing has a rank below 0
+-- No thing has a rank below 0.
 pub grouped_none : (looks : List Look) (prices : List ℤ) → AreGrouped looks prices 0 []
 grouped_none looks prices = record {
   in_order = tt;
@@ -140,7 +140,7 @@ grouped_none looks prices = record {
   each = λ alike place inside low. absurd (omega arith);
 }
 
--- a kind more: at most 27 things, each in its form and with a price that may stand on a card
+-- One more kind of at most 27 things, all with valid looks and prices.
 module _ (looks : List Look) (prices : List ℤ) (few : length looks ≤ 27) (each : length prices ≡ length looks)
     (form : All IsInForm looks) (reach : AreWithinReach prices)
     (floor place : ℕ) (kinds : List PricedKind) (kind : PricedKind) (lowest : IsLowest floor looks (length looks) place)
@@ -163,7 +163,7 @@ module _ (looks : List Look) (prices : List ℤ) (few : length looks ≤ 27) (ea
   ranked : look_rank kind.look ≡ look_rank (look_at looks place)
   ranked = ap look_rank is.look
 
-  -- no thing has a rank between
+  -- No thing has a rank in between.
   none_between : count_by (below (look_rank kind.look)) looks ≡ count_by (below floor) looks
   none_between = same_counted (below (look_rank kind.look)) (below floor) looks (λ other within.
       let from = lowest.from in
@@ -205,7 +205,7 @@ module _ (looks : List Look) (prices : List ℤ) (few : length looks ≤ 27) (ea
       let most = count_by-le-length (below (look_rank (look_at looks place) + 1)) looks in
       omega (arith, length-append kinds (kind ∷ []))
 
--- the end: no thing has such a rank or a higher one
+-- No thing has a rank from `floor` on: all kinds are found.
 pub all_kinds : {looks : List Look} {prices : List ℤ} {floor : ℕ} {kinds : List PricedKind}
     → ((place : ℕ) → place < length looks → look_rank (look_at looks place) < floor)
     → AreGrouped looks prices floor kinds → AreKindsOf looks kinds
@@ -218,7 +218,7 @@ all_kinds {looks} {floor} low grouped = record {
   called = grouped.called;
 }
 
--- ---- what has one price for each kind has equal prices where it is alike
+-- ---- what has one price for each kind has equal prices for equal things
 
 priced_alike : (look other : Look) (price : ℤ) (kinds : List PricedKind) → look_rank look ≡ look_rank other
     → IsPriced look price kinds → IsPriced other price kinds

@@ -1,29 +1,36 @@
--- Settings that lead from one machine to another, taken apart and put together.
-use Rattle.kd_prices.proofs.Prelude.{leads_next, ap, ◌∙◌, ◌≡◌, Some, ℕ, ◌+◌, ◌<◌, List, [], ◌∷◌, ◌++◌, length, get_or, sym, subst, arith, take, take-append-drop, Parts, Setting, Why, why_refused, changed, Leads, Day, IsNeeded, AreNeeded, Result, Ok, Err, NeedlessLine}
+-- Lists of settings that lead from one machine to another, split and joined.
+use Rattle.kd_prices.proofs.Prelude.{leads_next, ap, ◌∙◌, ◌≡◌, Some, ℕ, ◌+◌, ◌<◌, List, [], ◌∷◌, ◌++◌, length, get_or}
+use Rattle.kd_prices.proofs.Prelude.{sym, subst, arith, take, take-append-drop, Parts, Setting, Why, why_refused}
+use Rattle.kd_prices.proofs.Prelude.{changed, Leads, Day, IsNeeded, AreNeeded, Result, Ok, Err, NeedlessLine}
 use Rattle.{kd_card.specs.Proving.is_priced, kd_prices.specs.Doubt.SaysNeeded}
 use Rattle.{kd_prices.specs.declared.doubt.Doubt.Doubt, kd_state.specs.Costs.loose_count}
 use Rattle.{kd_card.proofs.Falling.model_of-changed, kd_state.specs.Machine.model_of, kd_state.specs.SheetDay.day_model}
 use Rattle.{kd_state.specs.Setting.Carries, std.proofs.Math.Seq.drop-cons, std.proofs.lemmas.List.length-take-le}
 use Rattle.std.{proofs.lemmas.List.take_more, specs.Prelude.IsFalse, specs.Result.MatchResult, specs.Result.result_and}
 
--- the settings behind those that have been carried out
-pub leads_on : (m between n : Parts) (front rest : List Setting) → Leads m front between → Leads m (front ++ rest) n → Leads between rest n
+-- The settings after those that have been carried out lead on.
+pub leads_on : (m between n : Parts) (front rest : List Setting) → Leads m front between → Leads m (front ++ rest) n
+    → Leads between rest n
 leads_on m between n [] rest first leads = subst (λ machine. Leads machine rest n) (sym first) leads
 leads_on m between n (x ∷ front) rest first leads =
-    leads_on leads.0 between n front rest (subst (λ machine. Leads machine front between) (first.1.made ∙ sym leads.1.made) first.2) leads.2
+    leads_on leads.0 between n front rest (subst (λ machine. Leads machine front between)
+    (first.1.made ∙ sym leads.1.made) first.2) leads.2
 
--- one of needed settings
-pub needed_at : (m between : Parts) (s : Day) (front rest : List Setting) (x : Setting) → Leads m front between → AreNeeded m s (front ++ x ∷ rest) → IsNeeded between s x
+-- One setting of a list of needed ones is needed.
+pub needed_at : (m between : Parts) (s : Day) (front rest : List Setting) (x : Setting) → Leads m front between
+    → AreNeeded m s (front ++ x ∷ rest) → IsNeeded between s x
 needed_at m between s [] rest x leads needed = subst (λ machine. IsNeeded machine s x) (sym leads) needed.0
 needed_at m between s (y ∷ front) rest x leads needed =
-    needed_at (changed m y) between s front rest x (subst (λ machine. Leads machine front between) leads.1.made leads.2) needed.1
+    needed_at (changed m y) between s front rest x
+    (subst (λ machine. Leads machine front between) leads.1.made leads.2) needed.1
 
--- a setting that is refused in its turn, in settings that lead on
-pub not_refused : (m between n : Parts) (front rest : List Setting) (x : Setting) (why : Why) → Leads m front between → why_refused between x ≡ Some why
+-- In a list that leads on, no setting is refused.
+pub not_refused : (m between n : Parts) (front rest : List Setting) (x : Setting) (why : Why) → Leads m front between
+    → why_refused between x ≡ Some why
     → Leads m (front ++ x ∷ rest) n → ⊥
 not_refused m between n front rest x why first refused leads = grind (arith, leads_on)
 
--- a needed setting more
+-- One more needed setting.
 needed_join : (m n : Parts) (s : Day) (front : List Setting) (x : Setting) → Leads m front n → AreNeeded m s front
     → IsNeeded n s x → AreNeeded m s (front ++ x ∷ [])
 needed_join m n s [] x leads needed here = (subst (λ machine. IsNeeded machine s x) leads here, tt)
@@ -31,8 +38,10 @@ needed_join m n s (y ∷ front) x leads needed here =
     let behind = subst (λ between. Leads between front n) leads.1.made leads.2 in
     (needed.0, needed_join (changed m y) n s front x behind needed.1 here)
 
--- the settings up to a place have been carried out, and are all needed, or a first one of them isn't
-pub record IsWalked (m n : Parts) (s : Day) (xs : List Setting) (place loose : ℕ) (needed : Result (Unit {0}) Doubt) : Type 0 where
+-- The settings before `place` have been carried out, and `needed` is the first of them that isn't needed, if
+-- any.
+pub record IsWalked (m n : Parts) (s : Day) (xs : List Setting) (place loose : ℕ)
+    (needed : Result (Unit {0}) Doubt) : Type 0 where
   pub leads : Leads m (take place xs) n
   pub model : model_of n ≡ day_model s
   pub loose_is : loose ≡ loose_count n s
@@ -43,16 +52,25 @@ module _ (m n : Parts) (s : Day) (xs : List Setting) (place : ℕ) (x : Setting)
   judged_on : (needed here : Result (Unit {0}) Doubt)
       → MatchResult needed (λ _. AreNeeded m s (take place xs)) (λ doubt. SaysNeeded m s xs (Err doubt))
       → MatchResult here (λ _. IsNeeded n s x) (λ doubt. (doubt ≡ NeedlessLine (place + 1)) × ¬ (IsNeeded n s x))
-      → MatchResult (result_and needed here) (λ _. AreNeeded m s (take (place + 1) xs)) (λ doubt. SaysNeeded m s xs (Err doubt))
+      → MatchResult (result_and needed here) (λ _. AreNeeded m s (take (place + 1) xs))
+      (λ doubt. SaysNeeded m s xs (Err doubt))
   judged_on (Err doubt) here so_far tells = so_far
   judged_on (Ok all) (Ok one) so_far tells =
       grind (arith, take_more xs place x inside, inside, needed_join m n s (take place xs) x leads so_far tells)
   judged_on (Ok all) (Err doubt) so_far tells =
-      grind (arith, take-append-drop place xs, drop-cons xs place x inside, inside, length-take-le place xs (omega arith))
+      grind (
+        arith,
+        take-append-drop place xs,
+        drop-cons xs place x inside,
+        inside,
+        length-take-le place xs (omega arith),
+      )
 
--- one more setting is carried out
-pub walks_on : {m n o : Parts} {s : Day} {xs : List Setting} {place loose left : ℕ} {needed : Result (Unit {0}) Doubt} (x : Setting)
-    (here : Result (Unit {0}) Doubt) → place < length xs → get_or xs place x ≡ x → IsWalked m n s xs place loose needed → Carries n x o
+-- One more setting is carried out.
+pub walks_on : {m n o : Parts} {s : Day} {xs : List Setting} {place loose left : ℕ} {needed : Result (Unit {0}) Doubt}
+    (x : Setting)
+    (here : Result (Unit {0}) Doubt) → place < length xs → get_or xs place x ≡ x → IsWalked m n s xs place loose needed
+    → Carries n x o
     → left ≡ loose_count o s
     → MatchResult here (λ _. IsFalse (is_priced x) → loose ≡ left + 1)
     (λ doubt. (doubt ≡ NeedlessLine (place + 1)) × ¬ (IsFalse (is_priced x) → loose ≡ left + 1))

@@ -1,10 +1,16 @@
--- What the proofs of this crate speak of.
+-- The definitions and lemmas that most proofs of this crate use.
 pub use Rattle.kd_card.specs.Steps.{Found, IsOnly, Refused, only_demands, only_finds, only_then, passed}
-pub use Rattle.std.proofs.Common.{Bool, Contains, FitsSigned, List, MatchOption, None, Option, SFits, Some, [], ap, append_assoc, arith, below_more, cond, count_by, eqb, false, get_or, inl, inr, length, length-append, length-drop, ltb, max, min, of_z, pos, refl, replicate, rules, set, slice_get, subst, suc, sym, to_z, true, unsigned_abs, unwrap_or, w16, w32, zero, ℕ, ℤ, ◌++◌, ◌+ℤ◌, ◌+◌, ◌-◌, ◌<◌, ◌^◌, ◌∙◌, ◌∷◌, ◌≡◌, ◌≢◌, ◌≤◌, ◌⊎◌}
+pub use Rattle.std.proofs.Common.{Bool, Contains, FitsSigned, List, MatchOption, None, Option, SFits, Some, [], ap}
+pub use Rattle.std.proofs.Common.{append_assoc, arith, below_more, cond, count_by, eqb, false, get_or, inl, inr, length}
+pub use Rattle.std.proofs.Common.{length-append, length-drop, ltb, max, min, of_z, pos, refl, replicate, rules, set}
+pub use Rattle.std.proofs.Common.{slice_get, subst, suc, sym, to_z, true, unsigned_abs, unwrap_or, w16, w32, zero, ℕ, ℤ}
+pub use Rattle.std.proofs.Common.{◌++◌, ◌+ℤ◌, ◌+◌, ◌-◌, ◌<◌, ◌^◌, ◌∙◌, ◌∷◌, ◌≡◌, ◌≢◌, ◌≤◌, ◌⊎◌}
 pub use Rattle.std.proofs.lemmas.Bool.{cases_lt, cases_order, eq-eqb, eqb-false, false≢true, le-ltb, lt-ltb, ne_eqb}
 pub use Rattle.std.proofs.lemmas.{Bool.Decides.{Decides-int_eq, nat_tests}, Grind.common_steps}
 pub use Rattle.std.proofs.lemmas.Int.{ints, to_z-of_z, to_z_pos}
-pub use Rattle.std.proofs.lemmas.List.{append-nil, drop_all, drop_more, ext_get_or, get_or-map, get_or-set_other, get_or-set_same, get_or_default, length-map, length-set, length-take, take-append-drop, take_all}
+pub use Rattle.std.proofs.lemmas.List.{append-nil, drop_all, drop_more, ext_get_or, get_or-map, get_or-set_other}
+pub use Rattle.std.proofs.lemmas.List.{get_or-set_same, get_or_default, length-map, length-set, length-take}
+pub use Rattle.std.proofs.lemmas.List.{take-append-drop, take_all}
 pub use Rattle.std.proofs.lemmas.List.Elements.{All-cons, All-contains_itself, All-from_get_or, All-from_recursion}
 pub use Rattle.std.proofs.lemmas.List.Elements.{All-get_or, All-head, All-map, All-more, All-nil, All-push, All-same}
 pub use Rattle.std.proofs.lemmas.List.Elements.{All-tail, All-weaker, recursion_from_All}
@@ -15,7 +21,8 @@ pub use Rattle.kd_card.specs.CardFault.{floor_behind}
 pub use Rattle.kd_card.specs.CardText.{column_name, group_of, price_count, row_name}
 pub use Rattle.kd_card.specs.Kinds.{AreCalled, AreEnds, AreKinds, IsInForm, IsPricedKind, counted, look_name, look_rank}
 pub use Rattle.kd_card.proofs.Shortest.{no_rotors, proving_cards_are_shortest, proving_prices_are_tight}
-pub use Rattle.kd_card.specs.Prices.{ArePrices, AreTight, AreWithinReach, Fits, column_kinds, column_prices, cost_at, how_many, price_at, price_sum, row_kinds, row_prices, version_of}
+pub use Rattle.kd_card.specs.Prices.{ArePrices, AreTight, AreWithinReach, Fits, column_kinds, column_prices, cost_at}
+pub use Rattle.kd_card.specs.Prices.{how_many, price_at, price_sum, row_kinds, row_prices, version_of}
 pub use Rattle.kd_card.specs.Proving.{AreExpanded, AreNeeded, AreOfKind, Expanded, Expands, HasCount, HasPrice}
 pub use Rattle.kd_card.specs.Proving.{IsNeeded, IsPriced, Proves, Same, alike_count, column_looks, group_of_machine}
 pub use Rattle.kd_card.specs.Proving.{look_at, pair_in_order, priced_count, row_looks}
@@ -29,9 +36,11 @@ pub use Rattle.kd_prices.specs.Fitting.{AreWithin, IsWithin}
 pub use Rattle.kd_prices.specs.KindCards.{AreAlikePriced, AreByKind, AreKindsOf, AreOfGroup, AreThings, AreWithPrices}
 pub use Rattle.kd_prices.specs.KindCards.{CanBeByKind, IsKindAt, IsLowest}
 pub use Rattle.kd_prices.specs.Laws.{AlikePricesAreEqual, AreEqualWhereAlike, RestIsShortest}
-pub use Rattle.kd_prices.specs.declared.doubt.Doubt.TheVariants.{IllegalAt, NeedlessLine, NotTheSheet, OtherModel, PriceMissing, PriceTooHigh, SumDiffers}
+pub use Rattle.kd_prices.specs.declared.doubt.Doubt.TheVariants.{IllegalAt, NeedlessLine, NotTheSheet, OtherModel}
+pub use Rattle.kd_prices.specs.declared.doubt.Doubt.TheVariants.{PriceMissing, PriceTooHigh, SumDiffers}
 pub use Rattle.kd_state.specs.Costs.{bar_cost, cable_cost, columns_of, cost_table}
-pub use Rattle.kd_state.proofs.{Cables.tests_tell_letters, CostTable.{columns_are_the_pairs, thirteen_columns}, Telling.Refusing.{leads_join, leads_next, leads_to_one, stops_at}}
+pub use Rattle.kd_state.proofs.{Cables.tests_tell_letters, CostTable.{columns_are_the_pairs, thirteen_columns}}
+pub use Rattle.kd_state.proofs.Telling.Refusing.{leads_join, leads_next, leads_to_one, stops_at}
 pub use Rattle.kd_state.specs.Machine.{IsMachine, cable_letters, ordered, plugged_letters}
 pub use Rattle.kd_state.specs.{OnKey.{ReadsAs, SameLetters}, OneModel.AreParted, Setting.{Leads, changed, why_refused}}
 pub use Rattle.kd_state.specs.{SheetDay.{Day, IsLegalDay, OfPins, OfRotors}, declared.machine.parts.Parts.Parts}

@@ -1,15 +1,28 @@
--- What is left of a card that proves itself, after its first lines.
-use Rattle.kd_prices.proofs.Prelude.{leads_join, proving_cards_are_shortest, ◌++◌, sym, subst, arith, length-append, length-drop, take-append-drop, length-take, Leads, RestIsShortest, take, drop}
+-- The rest of a card that proves itself, after its first lines.
+use Rattle.kd_prices.proofs.Prelude.{leads_join, proving_cards_are_shortest, ◌++◌, sym, subst, arith, length-append}
+use Rattle.kd_prices.proofs.Prelude.{length-drop, take-append-drop, length-take, Leads, RestIsShortest, take, drop}
 use Rattle.kd_prices.proofs.Leading.{leads_on}
 
 pub rest_is_shortest : RestIsShortest
 rest_is_shortest m between s settings prices lines machine legal are_prices proves within leads =
     let whole = proves.proves.leads in
     record {
-      leads = (whole.0, leads_on m between whole.0 (take lines settings) (drop lines settings) leads (subst (λ xs. Leads m xs whole.0) (sym (take-append-drop lines settings)) whole.1), whole.2);
+      leads = (
+        whole.0,
+        leads_on m between whole.0 (take lines settings) (drop lines settings) leads
+            (subst (λ xs. Leads m xs whole.0) (sym (take-append-drop lines settings)) whole.1),
+        whole.2,
+      );
       shortest = λ others reached.
-          let longer = proving_cards_are_shortest m s settings prices machine legal are_prices proves (take lines settings ++ others)
+          let longer = proving_cards_are_shortest m s settings prices machine legal are_prices proves
+          (take lines settings ++ others)
           (reached.0, leads_join m between reached.0 (take lines settings) others leads reached.1, reached.2) in
-          omega (arith, longer, length-append (take lines settings) others, length-take lines settings, length-drop lines settings);
+          omega (
+            arith,
+            longer,
+            length-append (take lines settings) others,
+            length-take lines settings,
+            length-drop lines settings,
+          );
       count = length-drop lines settings;
     }

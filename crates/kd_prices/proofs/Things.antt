@@ -1,4 +1,5 @@
--- What a machine's cables or bars look like, and a day's pairs and nothings or rows: so many, called so, each in its form.
+-- The looks of a machine's cables or bars, and of a day's pairs and nothings or rows: their number, name and
+-- form.
 use Rattle.{kd_state.specs.Machine.model_of, kd_state.specs.SheetDay.day_model}
 use Rattle.std.specs.List.{IsDistinct}
 use Rattle.kd_prices.proofs.Prelude.{no_rotors, ◌≡◌, ℕ, zero, suc, ◌-◌, ◌<◌, false, eqb, List, [], ◌∷◌, ◌++◌, length}
@@ -45,40 +46,54 @@ unfolding IsDistinct
 pairs_in_form n [] within apart = nothings_in_form n
 pairs_in_form n ((a, b) ∷ pairs) within apart = grind (arith, eqb-false, pairs_in_form n pairs within.1.1 apart.1.1)
 
--- the things of a machine, and of a day
-things : {X : Type 0} (f : X → Look) (xs : List X) (name : _) (number : ℕ) → ((x : X) → look_name (f x) ≡ name) → length xs ≡ number → All IsInForm (map f xs)
+-- The things of a machine, and those of a day.
+things : {X : Type 0} (f : X → Look) (xs : List X) (name : _) (number : ℕ) → ((x : X) → look_name (f x) ≡ name)
+    → length xs ≡ number → All IsInForm (map f xs)
     → AreThings name number (map f xs)
 things f xs name number called count form =
-    record { count = length-map xs f ∙ count; called = All-map (λ look. look_name look ≡ name) f xs (λ k d inside. called (get_or xs k d)); form = form }
+    record {
+      count = length-map xs f
+          ∙ count;
+      called = All-map (λ look. look_name look ≡ name) f xs (λ k d inside. called (get_or xs k d));
+      form = form;
+    }
 
-pub rows_are_things : (m : Parts) → IsMachine m → AreThings (row_name (group_of_machine m)) (price_count (group_of_machine m)) (row_looks m)
+pub rows_are_things : (m : Parts) → IsMachine m
+    → AreThings (row_name (group_of_machine m)) (price_count (group_of_machine m)) (row_looks m)
 rows_are_things (Rotor m) machine =
     let cables = machine.legal.cables in
-    things (λ ends. Cable ends) m.cables (row_name OfCables) 13 (λ x. refl) cables.count (All-from_recursion IsInForm (row_looks (Rotor m))
-    (cables_in_form m.cables (ap cables_of machine.cables) (recursion_from_All (λ letter. letter < 26) (plugged_letters m.cables) cables.within) cables.apart))
+    things (λ ends. Cable ends) m.cables (row_name OfCables) 13 (λ x. refl) cables.count
+    (All-from_recursion IsInForm (row_looks (Rotor m)) (cables_in_form m.cables (ap cables_of machine.cables)
+    (recursion_from_All (λ letter. letter < 26) (plugged_letters m.cables) cables.within) cables.apart))
 rows_are_things (Pin m) machine =
-    things (λ standing. Bar standing) m.bars (row_name OfBars) 27 (λ x. refl) machine.legal.bars (All-map IsInForm (λ standing. Bar standing) m.bars machine.legal.apart)
+    things (λ standing. Bar standing) m.bars (row_name OfBars) 27 (λ x. refl) machine.legal.bars
+    (All-map IsInForm (λ standing. Bar standing) m.bars machine.legal.apart)
 
 abbrev pub group_of_day : Day → Group
 group_of_day (OfRotors s) = OfCables
 group_of_day (OfPins s) = OfBars
 
--- a machine and a day of one model are of one group
-pub groups_meet : (m : Parts) (s : Day) → IsMachine m → IsLegalDay s → model_of m ≡ day_model s → group_of_day s ≡ group_of_machine m
+-- A machine and a day of one model belong to one group.
+pub groups_meet : (m : Parts) (s : Day) → IsMachine m → IsLegalDay s → model_of m ≡ day_model s
+    → group_of_day s ≡ group_of_machine m
 groups_meet (Rotor m) (OfRotors s) machine legal same = refl
 groups_meet (Pin m) (OfPins s) machine legal same = refl
-groups_meet (Rotor m) (OfPins s) machine legal same = absurd (no_rotors m.model m.reflector same machine.legal.reflector)
+groups_meet (Rotor m) (OfPins s) machine legal same =
+    absurd (no_rotors m.model m.reflector same machine.legal.reflector)
 groups_meet (Pin m) (OfRotors s) machine legal same = absurd (no_rotors s.model s.reflector (sym same) legal.reflector)
 
-pub columns_are_things : (s : Day) → IsLegalDay s → AreThings (column_name (group_of_day s)) (price_count (group_of_day s)) (column_looks s)
+pub columns_are_things : (s : Day) → IsLegalDay s
+    → AreThings (column_name (group_of_day s)) (price_count (group_of_day s)) (column_looks s)
 columns_are_things (OfRotors s) legal =
     let pairs = legal.pairs in
-    things pair_look (columns_of s.pairs) (column_name OfCables) 13 (λ x. refl) (thirteen_columns s.pairs pairs.few) (All-from_recursion IsInForm (column_looks (OfRotors s))
-    (pairs_in_form (13 - length s.pairs) s.pairs (recursion_from_All (λ letter. letter < 26) (letters_plugged s.pairs) pairs.within) pairs.apart))
+    things pair_look (columns_of s.pairs) (column_name OfCables) 13 (λ x. refl) (thirteen_columns s.pairs pairs.few)
+    (All-from_recursion IsInForm (column_looks (OfRotors s)) (pairs_in_form (13 - length s.pairs) s.pairs
+    (recursion_from_All (λ letter. letter < 26) (letters_plugged s.pairs) pairs.within) pairs.apart))
 columns_are_things (OfPins s) legal =
-    things (λ numbers. Row numbers) s.rows (column_name OfBars) 27 (λ x. refl) legal.count (All-map IsInForm (λ numbers. Row numbers) s.rows legal.rows)
+    things (λ numbers. Row numbers) s.rows (column_name OfBars) 27 (λ x. refl) legal.count
+    (All-map IsInForm (λ numbers. Row numbers) s.rows legal.rows)
 
--- of a group that is named
+-- The things of the group named.
 pub rows_of : (group : Group) (m : Parts) → IsMachine m → group_of_machine m ≡ group
     → AreThings (row_name group) (price_count group) (row_looks m)
 rows_of group m machine is =

@@ -1,4 +1,4 @@
--- What is alike among the rows and the columns of a table of costs. Places are counted from 0.
+-- Equal rows and equal columns of a table of costs. Places are counted from 0.
 use Rattle.std.specs.Prelude.{◌≡◌, ℕ, ◌≤◌, length, slice_get, slice_index_or, None}
 use Rattle.kd_state.specs.declared.machine.parts.Parts.{Parts}
 use Rattle.kd_state.specs.declared.machine.parts.Parts.TheVariants.{Rotor, Pin}
@@ -6,13 +6,15 @@ use Rattle.kd_state.specs.Machine.{cable_letters}
 use Rattle.kd_state.specs.SheetDay.{Day, OfRotors, OfPins}
 use Rattle.kd_state.specs.OnKey.{SameLetters}
 
--- the cables at the two places have the same letters, or the bars there stand alike
+-- The cables at the two places have the same letters, or the bars at these places stand alike.
 abbrev pub StandAlike : Parts → ℕ → ℕ → Type 0
 StandAlike (Rotor m) place other =
-    SameLetters (cable_letters (slice_index_or m.cables place (None, None))) (cable_letters (slice_index_or m.cables other (None, None)))
+    SameLetters
+    (cable_letters (slice_index_or m.cables place (None, None)))
+    (cable_letters (slice_index_or m.cables other (None, None)))
 StandAlike (Pin m) place other = slice_get m.bars place ≡ slice_get m.bars other
 
--- the day has no pair for either of the two places, or its rows there read alike
+-- The day has no pair for either of the two places, or its rows at these places have one reading.
 abbrev pub ReadAlike : Day → ℕ → ℕ → Type 0
 ReadAlike (OfRotors s) place other = (length s.pairs ≤ place) × (length s.pairs ≤ other)
 ReadAlike (OfPins s) place other = slice_get s.rows place ≡ slice_get s.rows other

@@ -1,5 +1,5 @@
--- Why a card doesn't prove itself: the first doubt, in a fixed order. Lines are numbered among the settings, from 1, and so
--- are the rows and columns of the table of costs.
+-- Why a card doesn't prove itself: the first doubt, in a fixed order. Settings, rows and columns are counted
+-- from 1.
 use Rattle.std.specs.Prelude.{◌≡◌, ◌⊎◌, ℕ, ◌+◌, ◌<◌, List, ◌∷◌, ◌++◌, length, pos, Ok, Err}
 use Rattle.kd_state.specs.declared.machine.parts.Parts.{Parts}
 use Rattle.kd_state.specs.declared.setting.Setting.{Setting}
@@ -14,34 +14,36 @@ use Rattle.kd_card.specs.Prices.{Fits, FitsAt, how_many, price_sum}
 use Rattle.kd_card.specs.CardText.{group_of}
 use Rattle.kd_card.specs.Proving.{AreOfKind, Expands, group_of_machine, IsNeeded, AreNeeded, priced_count}
 use Rattle.kd_prices.specs.declared.doubt.Doubt.{Doubt}
-use Rattle.kd_prices.specs.declared.doubt.Doubt.TheVariants.{OtherModel, PriceMissing, IllegalAt, NotTheSheet, PriceTooHigh, SumDiffers, NeedlessLine}
+use Rattle.kd_prices.specs.declared.doubt.Doubt.TheVariants.{OtherModel, PriceMissing, IllegalAt, NotTheSheet}
+use Rattle.kd_prices.specs.declared.doubt.Doubt.TheVariants.{PriceTooHigh, SumDiffers, NeedlessLine}
 
--- machine, day and prices are of one kind
+-- Machine, day and prices are of one model.
 pub record AreOfOneModel (m : Parts) (s : Day) (prices : PriceParts) : Type 0 where
   pub model : model_of m ≡ day_model s
   pub group : group_of prices ≡ group_of_machine m
 
--- machine, day and prices are of one kind, and the prices are by number
+-- Machine, day and prices are of one model, and the prices are by number.
 pub record AreNumbered (m : Parts) (s : Day) (prices : PriceParts) : Type 0 where
   pub model : model_of m ≡ day_model s
   pub kind : AreOfKind m prices
 
--- the pair of a row and a column comes before another one
+-- Row `i` and column `j` come before `row` and `column`, by row and then by column.
 abbrev pub ComesBefore : ℕ → ℕ → ℕ → ℕ → Type 0
 ComesBefore i j row column = (i < row) ⊎ ((i ≡ row) × (j < column))
 
--- of so many rows and columns, counted from 0, this pair is the first at which the condition doesn't hold
+-- `row` and `column` are the first place of `number` rows and columns, counted from 0, for which `Holds` is
+-- false.
 pub record IsFirstWithout (Holds : ℕ → ℕ → Type 0) (number row column : ℕ) : Type 0 where
   pub row_within : row < number
   pub column_within : column < number
   pub here : ¬ (Holds row column)
   pub before : (i j : ℕ) → j < number → ComesBefore i j row column → Holds i j
 
--- the row and the column are the first whose prices are too high together
+-- The prices of `row` and `column` are the first that are together too high.
 abbrev pub IsFirstTooHigh : List (List ℕ) → PriceParts → ℕ → ℕ → Type 0
 IsFirstTooHigh costs prices row column = IsFirstWithout (FitsAt costs prices) (how_many prices) row column
 
--- the line, counted from 1, is the first that is not needed
+-- Line `line`, counted from 1, is the first setting that isn't needed.
 pub record IsFirstNeedless (m : Parts) (s : Day) (settings : List Setting) (line : ℕ) : Type 0 where
   pub front : List Setting
   pub setting : Setting
@@ -53,26 +55,26 @@ pub record IsFirstNeedless (m : Parts) (s : Day) (settings : List Setting) (line
   pub needed : AreNeeded m s front
   pub needless : ¬ (IsNeeded between s setting)
 
--- the machine to which the settings lead, or the first that is refused
+-- The machine to which the settings lead, or the first setting that is refused.
 abbrev pub SaysCarried : Parts → List Setting → Says Doubt Parts
 SaysCarried m settings (Ok n) = Leads m settings n
 SaysCarried m settings (Err (IllegalAt line why)) = IsFirstIllegal m settings line why
 SaysCarried m settings (Err doubt) = ⊥
 
--- the prices fit the table of costs, or the first place where they don't
+-- Prices that fit the table of costs, or the first place where they don't.
 abbrev pub SaysFits : List (List ℕ) → PriceParts → Says Doubt (Unit {0})
 SaysFits costs prices (Ok fits) = Fits costs prices
 SaysFits costs prices (Err (PriceTooHigh i j)) =
     (row : ℕ) × (column : ℕ) × (i ≡ row + 1) × (j ≡ column + 1) × IsFirstTooHigh costs prices row column
 SaysFits costs prices (Err doubt) = ⊥
 
--- all settings are needed, or the first that isn't
+-- Settings that are all needed, or the first that isn't.
 abbrev pub SaysNeeded : Parts → Day → List Setting → Says Doubt (Unit {0})
 SaysNeeded m s settings (Ok all) = AreNeeded m s settings
 SaysNeeded m s settings (Err (NeedlessLine line)) = IsFirstNeedless m s settings line
 SaysNeeded m s settings (Err doubt) = ⊥
 
--- settings with prices by number prove themselves, or their first doubt
+-- Settings that prove themselves by prices by number, or their first doubt.
 abbrev pub SaysByNumber : Parts → Day → List Setting → PriceParts → Says Doubt (Unit {0})
 SaysByNumber m s settings prices = do
   n ← SaysCarried m settings
@@ -81,13 +83,14 @@ SaysByNumber m s settings prices = do
   _ ← Demands (price_sum prices ≡ pos (priced_count settings)) SumDiffers
   SaysNeeded m s settings
 
--- the same of prices of either version, by the prices by number that they mean for the machine and the day
+-- Settings that prove themselves by prices of either version, or their first doubt. Prices by kind are expanded
+-- first.
 abbrev pub SaysChecked : Parts → Day → List Setting → PriceParts → Says Doubt (Unit {0})
 SaysChecked m s settings prices = do
   _ ← Demands (AreOfOneModel m s prices) OtherModel
   numbered ← Finds (λ numbered. Expands m s prices numbered) PriceMissing
   SaysByNumber m s settings numbered
 
--- the first doubt
+-- `doubt` is the first doubt about the card.
 abbrev pub IsDoubt : Parts → Day → List Setting → PriceParts → Doubt → Type 0
 IsDoubt m s settings prices doubt = SaysChecked m s settings prices (Err doubt)

@@ -1,4 +1,4 @@
--- Cards that can have one price for each kind.
+-- Cards by number that can be made by kind, and what the card by kind is.
 use Rattle.std.specs.Prelude.{◌≡◌, ℕ, ◌<◌, ◌≤◌, List, length, All, ℤ}
 use Rattle.kd_state.specs.declared.machine.parts.Parts.{Parts}
 use Rattle.kd_state.specs.SheetDay.{Day}
@@ -15,63 +15,64 @@ use Rattle.kd_card.specs.Proving.{look_at, alike_count, AreExpanded, Expands}
 use Rattle.kd_prices.specs.Doubt.{AreNumbered}
 use Rattle.kd_prices.specs.Laws.{AreEqualWhereAlike}
 
--- machine, day and prices are of one kind, the prices are by number, and what is alike has equal prices
+-- Machine, day and prices are of one model, the prices are by number, and equal things have equal prices.
 pub record CanBeByKind (m : Parts) (s : Day) (prices : PriceParts) : Type 0 where
   pub numbered : AreNumbered m s prices
   pub equal : AreEqualWhereAlike m s prices
 
--- the prices by kind mean these prices by number, which can be by kind
+-- `by_kind` are prices by kind that expand to `prices`.
 pub record AreByKind (m : Parts) (s : Day) (prices by_kind : PriceParts) : Type 0 where
   pub can : CanBeByKind m s prices
   pub version : version_of by_kind ≡ ByKind
   pub expands : Expands m s by_kind prices
 
--- the other card has the same settings, and prices by kind that mean the card's own
+-- `other` has the settings of `card`, and prices by kind that expand to those of `card`.
 pub record IsByKind (m : Parts) (s : Day) (card other : Card) : Type 0 where
   pub settings : other.settings.items ≡ card.settings.items
   pub version : version_of other.prices ≡ ByKind
   pub expands : Expands m s other.prices card.prices
 
--- ---- whatever things; the contracts of the crate's public calls don't speak of it
+-- ---- looks and prices of any things; no contract of a public function cites these definitions
 
--- things of one rank have equal prices
+-- Looks of one rank have equal prices.
 abbrev pub AreAlikePriced : List Look → List ℤ → Type 0
 AreAlikePriced looks prices =
     (place other : ℕ) → place < length looks → other < length looks
     → look_rank (look_at looks place) ≡ look_rank (look_at looks other) → price_at prices place ≡ price_at prices other
 
--- of the first looks, so many, the one at that place has the lowest rank from that one on
+-- Of the first `number` looks, the one at `place` has the lowest rank from `floor` on.
 pub record IsLowest (floor : ℕ) (looks : List Look) (number place : ℕ) : Type 0 where
   pub inside : place < number
   pub from : floor ≤ look_rank (look_at looks place)
   pub lowest : (other : ℕ) → other < number → floor ≤ look_rank (look_at looks other)
       → look_rank (look_at looks place) ≤ look_rank (look_at looks other)
 
--- the kind of the thing at that place: its look, how many look so, and its price
+-- `kind` is that of the thing at `place`: its look, the number of looks equal to it, and its price.
 pub record IsKindAt (looks : List Look) (prices : List ℤ) (place : ℕ) (kind : PricedKind) : Type 0 where
   pub inside : place < length looks
   pub look : kind.look ≡ look_at looks place
   pub count : kind.count ≡ alike_count kind.look looks
   pub price : kind.price ≡ price_at prices place
 
--- the kinds are in order, each once, they are of so many things as look so, and are called as these are
+-- The kinds are valid, in order and each once, count as many things as there are looks, and have the name of
+-- the looks.
 pub record AreKindsOf (looks : List Look) (kinds : List PricedKind) : Type 0 where
   pub in_order : AreKinds 0 kinds
   pub count : counted kinds ≡ length looks
   pub called : (name : _) → All (λ look. look_name look ≡ name) looks → AreCalled name kinds
 
--- and they have the prices of the things
+-- The kinds are those of `looks`, and expand to `prices`.
 pub record AreWithPrices (looks : List Look) (prices : List ℤ) (kinds : List PricedKind) : Type 0 where
   pub good : AreKindsOf looks kinds
   pub expanded : AreExpanded looks kinds prices
 
--- so many things that are called so, each look in its form
+-- `number` valid looks of things called `name`.
 pub record AreThings (name : _) (number : ℕ) (looks : List Look) : Type 0 where
   pub count : length looks ≡ number
   pub called : All (λ look. look_name look ≡ name) looks
   pub form : All IsInForm looks
 
--- prices by kind of a group, with the kinds of its rows and of its columns
+-- `prices` are by kind, and have the kinds of these rows and columns.
 pub record AreOfGroup (group : Group) (rows columns : List Look) (row column : List ℤ)
     (prices : PriceParts) : Type 0 where
   pub of_group : group_of prices ≡ group

@@ -1,4 +1,4 @@
--- What holds of cards and of doubts.
+-- What the laws on checked cards promise.
 use Rattle.std.specs.Prelude.{◌≡◌, ℕ, ◌-◌, ◌<◌, ◌≤◌, List, length, take, drop}
 use Rattle.kd_state.specs.declared.machine.parts.Parts.{Parts}
 use Rattle.kd_state.specs.declared.setting.Setting.{Setting}
@@ -12,30 +12,33 @@ use Rattle.kd_prices.specs.declared.doubt.Doubt.{Doubt}
 use Rattle.kd_prices.specs.Doubt.{IsDoubt}
 use Rattle.kd_prices.specs.Alike.{StandAlike, ReadAlike}
 
--- a card that proves itself is in no doubt, and a card is in one doubt at most
+-- A card that proves itself has no doubt, and no card has two.
 abbrev pub ProvingCardsAreInNoDoubt : Type 0
 ProvingCardsAreInNoDoubt =
-    (m : Parts) (s : Day) (settings : List Setting) (prices : PriceParts) (doubt : Doubt) → Proves m s settings prices → ¬ (IsDoubt m s settings prices doubt)
+    (m : Parts) (s : Day) (settings : List Setting) (prices : PriceParts) (doubt : Doubt) → Proves m s settings prices
+    → ¬ (IsDoubt m s settings prices doubt)
 
 abbrev pub OneDoubt : Type 0
 OneDoubt =
-    (m : Parts) (s : Day) (settings : List Setting) (prices : PriceParts) (doubt other : Doubt) → IsDoubt m s settings prices doubt → IsDoubt m s settings prices other
+    (m : Parts) (s : Day) (settings : List Setting) (prices : PriceParts) (doubt other : Doubt)
+    → IsDoubt m s settings prices doubt → IsDoubt m s settings prices other
     → doubt ≡ other
 
--- the settings lead the machine to the day, no settings that do are fewer, and there are so many of them
+-- The settings are `number` ones that lead the machine to the day, and no list that does is shorter.
 pub record AreShortest (m : Parts) (s : Day) (settings : List Setting) (number : ℕ) : Type 0 where
   pub leads : LeadsToTheDay m s settings
   pub shortest : IsShortest m s settings
   pub count : length settings ≡ number
 
--- After the first lines of a card that proves itself the others are a shortest list to the day.
+-- After any number of lines of a card that proves itself, the rest is a shortest list to the day.
 abbrev pub RestIsShortest : Type 0
 RestIsShortest =
-    (m between : Parts) (s : Day) (settings : List Setting) (prices : PriceParts) (lines : ℕ) → IsMachine m → IsLegalDay s → ArePrices prices
+    (m between : Parts) (s : Day) (settings : List Setting) (prices : PriceParts) (lines : ℕ) → IsMachine m
+    → IsLegalDay s → ArePrices prices
     → Proves m s settings prices → lines ≤ length settings → Leads m (take lines settings) between
     → AreShortest between s (drop lines settings) (length settings - lines)
 
--- cables and bars that stand alike have equal prices, and so have pairs, nothings and rows that read alike
+-- Cables or bars that stand alike have equal prices, and so have nothings, and rows with one reading.
 pub record AreEqualWhereAlike (m : Parts) (s : Day) (prices : PriceParts) : Type 0 where
   pub rows :
       (place other : ℕ) → place < how_many prices → other < how_many prices → StandAlike m place other
@@ -44,8 +47,9 @@ pub record AreEqualWhereAlike (m : Parts) (s : Day) (prices : PriceParts) : Type
       (place other : ℕ) → place < how_many prices → other < how_many prices → ReadAlike s place other
       → price_at (column_prices prices) place ≡ price_at (column_prices prices) other
 
--- In a card that proves itself by number, what is alike has equal prices.
+-- In a card by number that proves itself, equal things have equal prices.
 abbrev pub AlikePricesAreEqual : Type 0
 AlikePricesAreEqual =
-    (m : Parts) (s : Day) (settings : List Setting) (prices : PriceParts) → IsMachine m → IsLegalDay s → ArePrices prices → ProvesByNumber m s settings prices
+    (m : Parts) (s : Day) (settings : List Setting) (prices : PriceParts) → IsMachine m → IsLegalDay s
+    → ArePrices prices → ProvesByNumber m s settings prices
     → AreEqualWhereAlike m s prices

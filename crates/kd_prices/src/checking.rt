@@ -1,4 +1,4 @@
-//! Whether a card proves itself, or the first doubt about it.
+//! Checks a card: whether it proves itself, or the first doubt about it.
 ghost use Rattle.std.specs.Prelude.{◌≡◌, ◌↔◌, ◌≤◌, length, IsOk, IfErr, MatchOption};
 ghost use Rattle.kd_state.specs.Costs.{cost_table};
 ghost use Rattle.kd_state.specs.{Machine.{model_of}, SheetDay.{day_model}};
@@ -13,8 +13,10 @@ use super::walking::{is_priced, walked};
 use kd_card::{Card, Group, Prices};
 use kd_state::{Machine, OneModel, Setting, SheetDay, bar_costs, cable_costs};
 
-/// Whether the card proves itself, whoever made it: its lines lead the machine to the day, and its prices show that no
-/// settings that do are fewer. Else the first doubt, in the order in which `Doubt` has them.
+/// Checks that `card` proves itself, whoever made it, or finds the first doubt.
+///
+/// A card proves itself if its settings lead `machine` to `day`, and its prices show that no shorter list does.
+/// Doubts come in the order of the variants of `Doubt`.
 pub fn check(machine: &Machine, day: &SheetDay, card: &Card) -> Result<(), Doubt>
     ensures proves { IsOk result
         ↔ Proves machine.now day.now card.now.settings.items card.now.prices }
@@ -24,7 +26,7 @@ pub fn check(machine: &Machine, day: &SheetDay, card: &Card) -> Result<(), Doubt
     judged(machine, day, card)
 }
 
-/// Whether the card proves itself, or the first doubt.
+/// Finds the first doubt, if there is one: models first, then the card by its table of costs.
 fn judged(machine: &Machine, day: &SheetDay, card: &Card) -> Result<(), Doubt>
     ensures { SaysChecked machine.now day.now card.now.settings.items card.now.prices result }
 {
@@ -44,7 +46,7 @@ fn judged(machine: &Machine, day: &SheetDay, card: &Card) -> Result<(), Doubt>
     }
 }
 
-/// The same where machine, day and prices are of one kind, by the table of costs.
+/// Finds the first doubt about a card whose machine, day and prices are of one model.
 fn judged_by_costs<const N: usize>(
     machine: &Machine,
     day: &SheetDay,
@@ -62,7 +64,7 @@ fn judged_by_costs<const N: usize>(
     judged_by_number(machine, day, card.settings.as_slice(), costs, &numbered)
 }
 
-/// The same of prices by number.
+/// Finds the first doubt about settings with prices by number.
 fn judged_by_number<const N: usize>(
     machine: &Machine,
     day: &SheetDay,
@@ -89,7 +91,7 @@ fn judged_by_number<const N: usize>(
     walk.needed
 }
 
-/// The first row and column whose prices are together above the cost there.
+/// Finds the first row and column whose prices are together above the cost where they meet.
 fn too_high<const N: usize>(costs: &[[u8; N]; N], prices: &Prices) -> Option<Cell>
     requires { how_many prices.now ≡ N }
     ensures { MatchOption result
@@ -101,7 +103,7 @@ fn too_high<const N: usize>(costs: &[[u8; N]; N], prices: &Prices) -> Option<Cel
     first_too_high(costs, rows.as_slice(), columns.as_slice())
 }
 
-/// How many of the settings change a cable or a bar.
+/// Counts the settings that change a cable or a bar.
 fn priced_count(settings: &[Setting]) -> usize
     ensures value { result ≡ priced_count settings.now }
     ensures few { result ≤ length settings.now }

@@ -1,3 +1,4 @@
+//! The reasons why a card doesn't prove itself.
 ghost use Rattle.std.specs.Prelude.{◌≡◌, Some};
 ghost use Rattle.kd_prices.specs.FaultText.{doubt_text};
 
@@ -6,29 +7,31 @@ use kd_tables::{Refusal, Text};
 use std::fmt;
 use thiserror::Error;
 
-/// Why a card doesn't prove itself. Lines are the settings, counted from 1.
+/// Why a card doesn't prove itself. Its settings are lines, counted from 1.
 #[derive(Clone, Copy, Debug, PartialEq, Eq, Error)]
 pub enum Doubt {
-    /// Machine and day are of different models, or the prices are of the other kind.
+    /// Machine and day are of different models, or the prices belong to the other sort of machine.
     OtherModel,
-    /// The prices are by kind, and the kinds, or how many there are of each, aren't those of the machine's cables or bars, and
-    /// of the day's pairs and nothings or rows.
+    /// The prices are by kind, but these kinds or their counts aren't those of the machine and the day.
     PriceMissing,
-    /// The line is the first that the machine refuses in its turn, for this reason.
+    /// The machine refuses this line, for this reason, after it took the lines before it.
     IllegalAt(usize, Why),
     /// After the last line the machine doesn't read as the day.
     NotTheSheet,
-    /// The price of row i and that of column j, counted from 1, are together above what it costs to make the cable or bar i
-    /// the pair or row j. It is the first such pair by i, and then by j.
+    /// The price of this row and that of this column, counted from 1, are together above the cost where they
+    /// meet.
+    ///
+    /// Rows are cables or bars; columns are pairs and nothings, or the sheet's rows. It is the first such
+    /// place, by row and then by column.
     PriceTooHigh(u8, u8),
-    /// The sum of all prices isn't the number of lines that change a cable or a bar.
+    /// The sum of the prices isn't the number of lines that change a cable or a bar.
     SumDiffers,
-    /// The line is the first of the others that doesn't put one loose thing right.
+    /// This line changes no cable or bar, and no loose thing is put right by it. It is the first such line.
     NeedlessLine(usize),
 }
 
 impl Doubt {
-    /// The refusal's number and name, and what it speaks of.
+    /// The refusal's number and name, and the lines or places that it names.
     pub fn text(&self) -> Text
         ensures { result.bytes ≡ doubt_text self.now }
     {

@@ -1,4 +1,4 @@
-//! Prices by kind, written out as prices by number for a machine and a day.
+//! Expands prices by kind to prices by number, for a machine and a day.
 ghost use Rattle.std.specs.Prelude.{◌≡◌, ◌↔◌, ◌≤◌, length, ℤ, List, IsTrue, MatchOption};
 ghost use Rattle.std.specs.List.{AllByRecursion};
 ghost use Rattle.kd_card.specs.declared.prices.Version.{Version};
@@ -13,9 +13,9 @@ use arrayvec::ArrayVec;
 use kd_card::{Look, PriceParts, PricedKind, Prices};
 use kd_state::{Machine, SheetDay};
 
-/// The prices by number that prices mean for the machine and the day: those of the machine's cables or bars, each that of its
-/// kind, and those of the day's pairs and nothings, or rows. None where the kinds, or how many there are of each, aren't those
-/// of the machine and the day.
+/// Expands prices to one price for each cable and pair, or for each bar and row. Prices by number stay.
+///
+/// `None` if the kinds or their counts aren't those of the machine and the day.
 pub(crate) fn expanded(machine: &Machine, day: &SheetDay, prices: &Prices) -> Option<Prices>
     requires { AreOfOneModel machine.now day.now prices.now }
     ensures { MatchOption result
@@ -31,7 +31,7 @@ pub(crate) fn expanded(machine: &Machine, day: &SheetDay, prices: &Prices) -> Op
     }
 }
 
-/// The same of prices by kind.
+/// Expands prices by kind.
 fn expanded_kinds(machine: &Machine, day: &SheetDay, prices: &Prices) -> Option<Prices>
     requires model { AreOfOneModel machine.now day.now prices.now }
     requires kinds { version_of prices.now ≡ Version.ByKind }
@@ -49,8 +49,9 @@ fn expanded_kinds(machine: &Machine, day: &SheetDay, prices: &Prices) -> Option<
     Some(Prices::numbered(group, rows.as_slice(), columns.as_slice()))
 }
 
-/// A price for each of the things that look so, that of its kind; none where the kinds aren't theirs, or there are other
-/// numbers of them.
+/// The price of each of `looks`: that of its kind.
+///
+/// `None` if a look has no kind, or a kind doesn't count all looks equal to its own.
 pub(crate) fn priced(looks: &[Look], kinds: &[PricedKind]) -> Option<ArrayVec<i16, 27>>
     requires few { length looks.now ≤ 27 }
     requires kinds { AreKinds 0 kinds.now }
@@ -68,7 +69,7 @@ pub(crate) fn priced(looks: &[Look], kinds: &[PricedKind]) -> Option<ArrayVec<i1
     Some(prices)
 }
 
-/// Whether there are as many things of each kind as it says.
+/// Whether each kind counts all of `looks` that are equal to its own.
 fn are_counted(looks: &[Look], kinds: &[PricedKind]) -> bool
     ensures { IsTrue result ↔ AllByRecursion (HasCount looks.now) kinds.now }
 {
@@ -80,7 +81,7 @@ fn are_counted(looks: &[Look], kinds: &[PricedKind]) -> bool
     }
 }
 
-/// How many of the looks are this one.
+/// The number of `looks` equal to `look`.
 pub(crate) fn alike_count(look: &Look, looks: &[Look]) -> usize
     ensures value { result ≡ proving.alike_count look.now looks.now }
     ensures few { result ≤ length looks.now }
@@ -91,7 +92,7 @@ pub(crate) fn alike_count(look: &Look, looks: &[Look]) -> usize
         .count()
 }
 
-/// The price of the kind that looks so.
+/// The price of the kind that has this look.
 fn price_of(look: &Look, kinds: &[PricedKind]) -> Option<i16>
     ensures { MatchOption result
         ((price : ℤ) → ¬ (IsPriced look.now price kinds.now))

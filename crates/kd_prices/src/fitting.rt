@@ -1,4 +1,4 @@
-//! Whether prices fit a table of costs.
+//! Finds the first place where prices don't fit a table of costs.
 ghost use Rattle.std.specs.Prelude.{◌≡◌, ◌↔◌, ℕ, ◌<◌, length, MatchOption, IsTrue};
 ghost use Rattle.kd_prices.specs.Doubt.{IsFirstWithout};
 ghost use Rattle.kd_prices.specs.Fitting.{AreWithin, IsWithin, IsFirstPlaceWithout};
@@ -10,7 +10,7 @@ pub(crate) struct Cell {
     pub column: usize,
 }
 
-/// The first cell, by its row and then its column, at which the row's price and the column's are together above the cost.
+/// Finds the first cell, by row and then by column, whose two prices are together above its cost.
 pub(crate) fn first_too_high<const N: usize>(
     costs: &[[u8; N]; N],
     rows: &[i16],
@@ -30,7 +30,7 @@ pub(crate) fn first_too_high<const N: usize>(
     None
 }
 
-/// The first column whose price and this one are together above the cost there.
+/// Finds the first column whose price and `price` are together above the cost there.
 fn first_column_too_high(costs: &[u8], price: i16, columns: &[i16]) -> Option<usize>
     requires { length costs.now ≡ length columns.now }
     ensures { MatchOption result
@@ -45,7 +45,7 @@ fn first_column_too_high(costs: &[u8], price: i16, columns: &[i16]) -> Option<us
     None
 }
 
-/// Whether the price and that of the column are together at most the cost there.
+/// Whether `price` and the price of `column` are together at most the cost there.
 fn is_within(costs: &[u8], price: i16, columns: &[i16], column: usize) -> bool
     requires inside { column < length columns.now }
     requires each { length costs.now ≡ length columns.now }

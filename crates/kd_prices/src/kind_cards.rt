@@ -1,4 +1,4 @@
-//! Cards with one price for each kind.
+//! Makes cards by kind from cards by number.
 ghost use Rattle.std.specs.Prelude.{◌≡◌, ◌↔◌, ℕ, ◌<◌, ◌≤◌, length, All};
 ghost use Rattle.std.specs.Prelude.{IfSome, IsSome, MatchOption};
 ghost use Rattle.kd_card.specs.Kinds.{look_rank, IsInForm};
@@ -14,10 +14,11 @@ use arrayvec::ArrayVec;
 use kd_card::{Card, Group, Look, PriceParts, PricedKind, Prices};
 use kd_state::{Machine, OneModel, SheetDay};
 
-/// The same card with one price for each kind of cables or bars, and for each of pairs and nothings or rows; `check`
-/// expands these prices to the card's own. None where machine, day and prices are of different models, where the
-/// prices are by kind already, or where two things that are alike have different prices; in a card by number that
-/// proves itself they haven't.
+/// Makes a card with the settings of `card`, and one price for each kind.
+///
+/// `check` expands these prices to those of `card`. `None` if machine, day and prices aren't of one model, if
+/// the prices are by kind already, or if two equal things have different prices. In a card by number that
+/// proves itself, equal things have equal prices.
 pub fn by_kind(machine: &Machine, day: &SheetDay, card: &Card) -> Option<Card>
     ensures some { IsSome result ↔ CanBeByKind machine.now day.now card.now.prices }
     ensures card { IfSome result (λ other. IsByKind machine.now day.now card.now other) }
@@ -27,7 +28,7 @@ pub fn by_kind(machine: &Machine, day: &SheetDay, card: &Card) -> Option<Card>
     Some(Card { settings, prices })
 }
 
-/// The same prices by kind, if they can be.
+/// Converts prices to prices by kind, if they can be.
 #[tactic(auto, using(kd_card::proofs::KindPrices::size_of))]
 fn prices_by_kind(machine: &Machine, day: &SheetDay, prices: &Prices) -> Option<Prices>
     ensures { MatchOption result
@@ -47,8 +48,9 @@ fn prices_by_kind(machine: &Machine, day: &SheetDay, prices: &Prices) -> Option<
     }
 }
 
-/// The prices by kind of a group whose rows and columns look so and have these prices; none where two that are alike
-/// have different prices.
+/// Makes the prices by kind of a group, from the look and the price of each row and column.
+///
+/// `None` if two equal rows or two equal columns have different prices.
 fn of_group(
     group: Group,
     rows: &[Look],
@@ -71,8 +73,9 @@ fn of_group(
     Some(Prices::of_groups(group, rows.as_slice(), columns.as_slice()))
 }
 
-/// The kinds of the things that look so and have these prices, in order; none where two that are alike have different
-/// prices.
+/// The kinds of things with these looks and prices, in order of rank.
+///
+/// `None` if two equal things have different prices.
 fn kinds_of(looks: &[Look], prices: &[i16]) -> Option<ArrayVec<PricedKind, 27>>
     requires few { length looks.now ≤ 27 }
     requires each { length prices.now ≡ length looks.now }
@@ -90,7 +93,7 @@ fn kinds_of(looks: &[Look], prices: &[i16]) -> Option<ArrayVec<PricedKind, 27>>
     }
 }
 
-/// The kinds of the things that look so, in order; where things that look alike have one price, each kind with that one.
+/// The kinds of things with these looks, in order of rank, each with the price of its first thing.
 fn first_kinds(looks: &[Look], prices: &[i16]) -> ArrayVec<PricedKind, 27>
     requires few { length looks.now ≤ 27 }
     requires each { length prices.now ≡ length looks.now }
@@ -109,7 +112,7 @@ fn first_kinds(looks: &[Look], prices: &[i16]) -> ArrayVec<PricedKind, 27>
     kinds
 }
 
-/// The place, counted from 0, of a look with the lowest rank from `floor` on.
+/// Finds the first look with the lowest rank from `floor` on. Places are counted from 0.
 fn lowest_place(floor: usize, looks: &[Look]) -> Option<usize>
     ensures { MatchOption result
         ((place : ℕ) → place < length looks.now → look_rank (look_at looks.now place) < floor)
@@ -128,7 +131,7 @@ fn lowest_place(floor: usize, looks: &[Look]) -> Option<usize>
     lowest
 }
 
-/// The kind of the thing at that place, with the thing's price.
+/// The kind of the thing at `place`, with this thing's price.
 fn kind_at(place: usize, looks: &[Look], prices: &[i16]) -> PricedKind
     requires place { place < length looks.now }
     requires few { length looks.now ≤ 27 }

@@ -1,4 +1,4 @@
-//! The check of a card: whether it proves itself, or the first doubt; and the same card with one price for each kind.
+//! Checks whether a card proves itself, and makes cards by kind from cards by number.
 #![tactic(auto)]
 
 mod checking;

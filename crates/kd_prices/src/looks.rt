@@ -1,4 +1,4 @@
-//! What the cables or bars of a machine look like, and the pairs and nothings or the rows of a day.
+//! The looks of a machine's cables or bars, and of a day's pairs and nothings or rows.
 ghost use Rattle.std.specs.Prelude.{◌≡◌};
 ghost use Rattle.kd_card.specs.declared.look.Look.TheVariants as look;
 ghost use Rattle.kd_card.specs.Proving.{row_looks, column_looks, pair_in_order};
@@ -10,7 +10,7 @@ use kd_card::Look;
 use kd_state::{Entry, Machine, Parts, SheetDay, column_at, letters_in_order};
 use kd_tables::Letter;
 
-/// The looks of the machine's cables, or of its bars.
+/// The looks of the machine's cables or bars.
 pub(crate) fn row_looks(machine: &Machine) -> ArrayVec<Look, 27>
     ensures looks { result.items ≡ row_looks machine.now }
     ensures machine { IsMachine machine.now }

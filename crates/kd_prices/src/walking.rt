@@ -1,4 +1,4 @@
-//! Where the lines of a card lead, and which of them put nothing right.
+//! Carries out the settings of a card, and finds the first that isn't needed.
 ghost use Rattle.std.specs.Prelude.{◌≡◌, ◌+◌, ◌≤◌, IsFalse, MatchResult, IfOk, IfErr, Err};
 ghost use Rattle.kd_state.specs.Machine.{model_of};
 ghost use Rattle.kd_state.specs.Setting.{Leads};
@@ -10,14 +10,14 @@ use super::doubt::Doubt;
 use kd_card::loose_count;
 use kd_state::{Machine, Setting, SheetDay};
 
-/// Where the lines of a card lead, and whether each of them is needed, or the first doubt about one.
+/// The machine after all settings of a card, and the first doubt whether one of them is needed.
 #[derive(Drop)]
 pub(crate) struct Walk {
     pub reached: Machine,
     pub needed: Result<(), Doubt>,
 }
 
-/// Carries the settings out, one after another, and judges each by what is loose before it and after it.
+/// Carries out `settings` in turn, and compares the number of loose things before and after each.
 #[tactic(auto, using(kd_state::proofs::Telling::Refusing::stops_at))]
 pub(crate) fn walked(machine: &Machine, day: &SheetDay, settings: &[Setting]) -> Result<Walk, Doubt>
     requires { model_of machine.now ≡ day_model day.now }
@@ -39,7 +39,7 @@ pub(crate) fn walked(machine: &Machine, day: &SheetDay, settings: &[Setting]) ->
     Ok(Walk { reached, needed })
 }
 
-/// Whether the setting of that line changes a cable or a bar, or one loose thing is less after it.
+/// Whether the setting changes a cable or a bar, or one thing less is loose after it.
 fn judged(setting: &Setting, line: usize, before: usize, after: usize) -> Result<(), Doubt>
     requires { after ≤ 137 }
     ensures { let is_needed = IsFalse (proving.is_priced setting.now) → before ≡ after + 1 in

@@ -1,5 +1,6 @@
--- What the tests of a published text say, and that each published table passes them.
-use Rattle.std.proofs.Common.{◌≡◌, ◌≢◌, ℕ, ◌<◌, ◌≤◌, ◌==◌, nat_eq, true, false, not, ◌&&◌, ◌⊎◌, inl, inr, List, ◌∷◌, length, slice_index, get_or, eqb, All, refl, sym, subst, ◌∙◌, arith}
+-- The tests of a published text say what they should, and each published table passes them.
+use Rattle.std.proofs.Common.{◌≡◌, ◌≢◌, ℕ, ◌<◌, ◌≤◌, ◌==◌, nat_eq, true, false, not, ◌&&◌, ◌⊎◌, inl, inr, List, ◌∷◌}
+use Rattle.std.proofs.Common.{length, slice_index, get_or, eqb, All, refl, sym, subst, ◌∙◌, arith}
 use Rattle.std.specs.List.{position_or_len, IsDistinct, Any, list_any}
 use Rattle.std.proofs.lemmas.Bool.{and_parts, not-true, ltb-true, eqb-true, eqb-false, ne_eqb, cases_lt, cases_order}
 use Rattle.kd_tables.specs.{Rings.IsRing, Tables.letters_of, Tables.reflector_of, Tables.wiring_of}
@@ -13,14 +14,18 @@ use Rattle.kd_tables.specs.Permutation.{alphabet, IsPermutation26, IsOwnInverse,
 use Rattle.kd_tables.specs.WiringText.{are_capitals, are_distinct_letters, is_permutation, is_ring_text, is_reflection}
 use Rattle.kd_tables.specs.declared.reflector.Reflector.TheVariants as reflectors
 
-by_order : (p : List ℕ) (j k : ℕ) → IsDistinct nat_eq p → j < length p → k < length p → slice_index p j ≡ slice_index p k
+by_order : (p : List ℕ) (j k : ℕ) → IsDistinct nat_eq p → j < length p → k < length p
+    → slice_index p j ≡ slice_index p k
     → (j ≡ k) ⊎ ((j < k) ⊎ (k < j)) → j ≡ k
 by_order p j k h a b e (inl same) = same
-by_order p j k h a b e (inr (inl lt)) = absurd (eqb-false (slice_index p j) (slice_index p k) (apart_from_distinct nat_eq p j k 0 h lt b) e)
-by_order p j k h a b e (inr (inr lt)) = absurd (eqb-false (slice_index p k) (slice_index p j) (apart_from_distinct nat_eq p k j 0 h lt a) (sym e))
+by_order p j k h a b e (inr (inl lt)) =
+    absurd (eqb-false (slice_index p j) (slice_index p k) (apart_from_distinct nat_eq p j k 0 h lt b) e)
+by_order p j k h a b e (inr (inr lt)) =
+    absurd (eqb-false (slice_index p k) (slice_index p j) (apart_from_distinct nat_eq p k j 0 h lt a) (sym e))
 
--- where no number stands twice, equal numbers stand at one place
-pub one_place : (p : List ℕ) (j k : ℕ) → IsDistinct nat_eq p → j < length p → k < length p → slice_index p j ≡ slice_index p k → j ≡ k
+-- In a list of different numbers, equal numbers are at one place.
+pub one_place : (p : List ℕ) (j k : ℕ) → IsDistinct nat_eq p → j < length p → k < length p
+    → slice_index p j ≡ slice_index p k → j ≡ k
 one_place p j k h a b e = by_order p j k h a b e (cases_order j k)
 
 -- ---- permutations of the alphabet
@@ -28,32 +33,49 @@ one_place p j k h a b e = by_order p j k h a b e (cases_order j k)
 distinct_of_permutation : (p : List ℕ) → IsPermutation26 p → IsDistinct nat_eq p
 distinct_of_permutation p h = IsDistinct-from_apart nat_eq p
     (λ i j d lt b. ne_eqb (get_or p i d) (get_or p j d)
-    (λ e. absurd (omega (arith, h.each_once.apart i j (omega (arith, h.size)) (omega (arith, h.size)) (get_or_default p i 0 d (omega arith) ∙ e ∙ get_or_default p j d 0 b)))))
+    (λ e. absurd (omega (
+      arith,
+      h.each_once.apart i j (omega (arith, h.size)) (omega (arith, h.size))
+          (get_or_default p i 0 d (omega arith) ∙ e ∙ get_or_default p j d 0 b),
+    ))))
 
 found_within : (n : ℕ) (xs : List ℕ) → All (λ x. x < n) xs → (q : ℕ) → Any (λ x. eqb q x ≡ true) xs → q < n
-found_within n xs each q (k, x, lt, at, same) = subst (λ z. z < n) (at ∙ sym (eqb-true q x same)) (All-get_or (λ z. z < n) xs k x lt each)
+found_within n xs each q (k, x, lt, at, same) =
+    subst (λ z. z < n) (at ∙ sym (eqb-true q x same)) (All-get_or (λ z. z < n) xs k x lt each)
 
 any_within : (n : ℕ) (xs : List ℕ) → All (λ x. x < n) xs → (q : ℕ) → list_any (eqb q) xs ≡ true → q < n
 any_within n xs each q h = found_within n xs each q (Any-from_list_any (eqb q) xs h)
 
--- one more different number below 26 does not fit in
+-- There is no number below 26 that a permutation lacks.
 no_other : (p : List ℕ) (y : ℕ) → IsPermutation26 p → y < 26 → 26 ≤ position_or_len (λ x. x == y) p → ⊥
 no_other p y h lt missing =
-    let within : All (λ z. z < 26) p = All-from_get_or (λ z. z < 26) p 0 (λ k k_lt. h.each_once.within k (omega (arith, h.size))) in
-    let apart = λ (k : ℕ) (k_lt : k < length p). ne_eqb y (slice_index p k) (λ e. eqb-false (slice_index p k) y (fails_before_first (λ x. x == y) p k 0 (omega (arith, h.size))) (sym e)) in
-    let distinct = IsDistinct-cons nat_eq y p (recursion_from_All (λ x. nat_eq y x ≡ false) p (All-from_get_or (λ x. nat_eq y x ≡ false) p 0 apart)) (distinct_of_permutation p h) in
-    absurd (omega (arith, h.size, length-le_from_distinct_below (y ∷ p) 26 distinct (any_within 26 (y ∷ p) (All-cons (λ z. z < 26) y p lt within))))
+    let within : All (λ z. z < 26) p =
+    All-from_get_or (λ z. z < 26) p 0 (λ k k_lt. h.each_once.within k (omega (arith, h.size))) in
+    let apart = λ (k : ℕ) (k_lt : k < length p). ne_eqb y (slice_index p k)
+    (λ e. eqb-false (slice_index p k) y (fails_before_first (λ x. x == y) p k 0 (omega (arith, h.size))) (sym e)) in
+    let distinct = IsDistinct-cons nat_eq y p (recursion_from_All (λ x. nat_eq y x ≡ false) p
+    (All-from_get_or (λ x. nat_eq y x ≡ false) p 0 apart)) (distinct_of_permutation p h) in
+    absurd (omega (
+      arith,
+      h.size,
+      length-le_from_distinct_below (y ∷ p) 26 distinct
+          (any_within 26 (y ∷ p) (All-cons (λ z. z < 26) y p lt within)),
+    ))
 
-place_by_cases : (p : List ℕ) (y : ℕ) → IsPermutation26 p → y < 26 → (position_or_len (λ x. x == y) p < 26) ⊎ (26 ≤ position_or_len (λ x. x == y) p) → position_or_len (λ x. x == y) p < 26
+place_by_cases : (p : List ℕ) (y : ℕ) → IsPermutation26 p → y < 26
+    → (position_or_len (λ x. x == y) p < 26) ⊎ (26 ≤ position_or_len (λ x. x == y) p)
+    → position_or_len (λ x. x == y) p < 26
 place_by_cases p y e d g = grind (arith, no_other)
 
--- each letter stands at some place of a permutation
+-- Each letter has a place in a permutation.
 pub place_within : (p : List ℕ) (y : ℕ) → IsPermutation26 p → y < 26 → position_or_len (λ x. x == y) p < 26
 place_within p y h lt = place_by_cases p y h lt (cases_lt (position_or_len (λ x. x == y) p) 26)
 
--- and that place has that letter
+-- The letter at the place of a letter is this letter.
 pub at_place : (p : List ℕ) (y : ℕ) → IsPermutation26 p → y < 26 → slice_index p (position_or_len (λ x. x == y) p) ≡ y
-at_place p y h lt = eqb-true (slice_index p (position_or_len (λ x. x == y) p)) y (passes_at_first (λ x. x == y) p 0 (omega (arith, h.size, place_within p y h lt)))
+at_place p y h lt =
+    eqb-true (slice_index p (position_or_len (λ x. x == y) p)) y
+    (passes_at_first (λ x. x == y) p 0 (omega (arith, h.size, place_within p y h lt)))
 
 -- ---- what the tests of a text say
 
@@ -75,26 +97,37 @@ test_permutes p h =
       };
     }
 
-pub text_makes_ring : (n : ℕ) (text : List ℕ) → length (letters_of text) ≡ n → is_ring_text text ≡ true → IsRing n (letters_of text)
+pub text_makes_ring : (n : ℕ) (text : List ℕ) → length (letters_of text) ≡ n → is_ring_text text ≡ true
+    → IsRing n (letters_of text)
 text_makes_ring n text size h =
     let letters = (and_parts (are_capitals text) (are_distinct_letters (letters_of text)) h).1 in
-    record { full = size; within = letters_within (letters_of text) letters; differ = letters_differ (letters_of text) letters }
+    record {
+      full = size;
+      within = letters_within (letters_of text) letters;
+      differ = letters_differ (letters_of text) letters;
+    }
 
--- a reflection leads each letter to another one, and that one back
-reflects : (p : List ℕ) → is_reflection p ≡ true → All (λ x. (not (slice_index p x == x) && (slice_index p (slice_index p x) == x)) ≡ true) alphabet
-reflects p h = AllPass-from_list_all (λ x. not (slice_index p x == x) && (slice_index p (slice_index p x) == x)) alphabet h
+-- A table that passes the test of a reflector takes each letter to another one, and that one back.
+reflects : (p : List ℕ) → is_reflection p ≡ true
+    → All (λ x. (not (slice_index p x == x) && (slice_index p (slice_index p x) == x)) ≡ true) alphabet
+reflects p h =
+    AllPass-from_list_all (λ x. not (slice_index p x == x) && (slice_index p (slice_index p x) == x)) alphabet h
 
 pub reflection_returns : (p : List ℕ) → is_reflection p ≡ true → IsOwnInverse p
-reflection_returns p h = All-weaker (λ x. (not (slice_index p x == x) && (slice_index p (slice_index p x) == x)) ≡ true) (λ x. slice_index p (slice_index p x) ≡ x)
-    (λ x e. eqb-true (slice_index p (slice_index p x)) x (and_parts (not (slice_index p x == x)) (slice_index p (slice_index p x) == x) e).1) alphabet (reflects p h)
+reflection_returns p h =
+    All-weaker (λ x. (not (slice_index p x == x) && (slice_index p (slice_index p x) == x)) ≡ true)
+    (λ x. slice_index p (slice_index p x) ≡ x) (λ x e. eqb-true (slice_index p (slice_index p x)) x
+    (and_parts (not (slice_index p x == x)) (slice_index p (slice_index p x) == x) e).1) alphabet (reflects p h)
 
 pub reflection_moves : (p : List ℕ) → is_reflection p ≡ true → MovesEachLetter p
-reflection_moves p h = All-weaker (λ x. (not (slice_index p x == x) && (slice_index p (slice_index p x) == x)) ≡ true) (λ x. slice_index p x ≢ x)
-    (λ x e. eqb-false (slice_index p x) x (not-true (slice_index p x == x) (and_parts (not (slice_index p x == x)) (slice_index p (slice_index p x) == x) e).0)) alphabet (reflects p h)
+reflection_moves p h =
+    All-weaker (λ x. (not (slice_index p x == x) && (slice_index p (slice_index p x) == x)) ≡ true)
+    (λ x. slice_index p x ≢ x) (λ x e. eqb-false (slice_index p x) x (not-true (slice_index p x == x)
+    (and_parts (not (slice_index p x == x)) (slice_index p (slice_index p x) == x) e).0)) alphabet (reflects p h)
 
 -- ---- the published tables
 
--- each published table is a permutation
+-- Each published table is a permutation.
 pub wiring_permutes : (wheel : Wheel) → IsPermutation26 (wiring_of wheel)
 unfolding wiring_of
 wiring_permutes I = test_permutes _ refl

@@ -1,37 +1,41 @@
--- What holds of the tables and of permutations of the alphabet.
+-- What the laws on tables and on permutations of the alphabet promise.
 use Rattle.std.specs.Prelude.{◌≡◌, ◌↔◌, ℕ, ◌+◌, ◌-◌, ◌%◌, ◌<◌, ◌≤◌, List, length, slice_index, Some}
 use Rattle.kd_tables.specs.declared.wheel.Wheel.{Wheel}
 use Rattle.kd_tables.specs.declared.reflector.Reflector.{Reflector}
-use Rattle.kd_tables.specs.Permutation.{alphabet, followed_by, inverse, shift, IsPermutation26, IsOwnInverse, MovesEachLetter}
+use Rattle.kd_tables.specs.Permutation.{alphabet, followed_by, inverse, shift, IsPermutation26, IsOwnInverse}
+use Rattle.kd_tables.specs.Permutation.{MovesEachLetter}
 use Rattle.kd_tables.specs.Rings.{IsRing, place_on}
 use Rattle.kd_tables.specs.Tables.{wiring_of, reflector_of}
 
--- the published tables are permutations
+-- The published tables are permutations.
 abbrev pub WiringsArePermutations : Type 0
 WiringsArePermutations = (wheel : Wheel) → IsPermutation26 (wiring_of wheel)
 
 abbrev pub ReflectorsArePermutations : Type 0
 ReflectorsArePermutations = (reflector : Reflector) → IsPermutation26 (reflector_of reflector)
 
--- a reflector leads each letter to another one, and that one back
+-- A reflector takes each letter to another one, and that one back.
 abbrev pub ReflectorsLeadBack : Type 0
 ReflectorsLeadBack = (reflector : Reflector) → IsOwnInverse (reflector_of reflector)
 
 abbrev pub ReflectorsMoveEachLetter : Type 0
 ReflectorsMoveEachLetter = (reflector : Reflector) → MovesEachLetter (reflector_of reflector)
 
--- what a letter becomes: by one permutation after the other it becomes what the second makes of what the first makes of it,
--- a permutation leads a letter to another one exactly where its inverse leads that one back, and a shift goes on by so many
+-- How products, inverses and shifts act on one letter. In a product, the second permutation acts on what the
+-- first one gives. The inverse takes `y` to `x` exactly if the permutation takes `x` to `y`.
 abbrev pub ProductsByLetter : Type 0
-ProductsByLetter = (p q : List ℕ) (x : ℕ) → x < length p → slice_index (followed_by p q) x ≡ slice_index q (slice_index p x)
+ProductsByLetter =
+    (p q : List ℕ) (x : ℕ) → x < length p → slice_index (followed_by p q) x ≡ slice_index q (slice_index p x)
 
 abbrev pub InversesByLetter : Type 0
-InversesByLetter = (p : List ℕ) (x y : ℕ) → IsPermutation26 p → x < 26 → y < 26 → (slice_index p x ≡ y) ↔ (slice_index (inverse p) y ≡ x)
+InversesByLetter =
+    (p : List ℕ) (x y : ℕ) → IsPermutation26 p → x < 26 → y < 26
+    → (slice_index p x ≡ y) ↔ (slice_index (inverse p) y ≡ x)
 
 abbrev pub ShiftsByLetter : Type 0
 ShiftsByLetter = (k x : ℕ) → x < 26 → slice_index (shift k) x ≡ (x + k) % 26
 
--- permutations one after the other, a permutation backwards and a shift are permutations
+-- Products and inverses of permutations are permutations, and so are shifts.
 abbrev pub ProductsArePermutations : Type 0
 ProductsArePermutations = (p q : List ℕ) → IsPermutation26 p → IsPermutation26 q → IsPermutation26 (followed_by p q)
 
@@ -41,25 +45,30 @@ InversesArePermutations = (p : List ℕ) → IsPermutation26 p → IsPermutation
 abbrev pub ShiftsArePermutations : Type 0
 ShiftsArePermutations = (k : ℕ) → IsPermutation26 (shift k)
 
--- a permutation and its inverse, in either order, leave every letter
+-- A permutation and its inverse, in either order, leave each letter.
 abbrev pub InverseUndoesAfter : Type 0
 InverseUndoesAfter = (p : List ℕ) → IsPermutation26 p → followed_by p (inverse p) ≡ alphabet
 
 abbrev pub InverseUndoesBefore : Type 0
 InverseUndoesBefore = (p : List ℕ) → IsPermutation26 p → followed_by (inverse p) p ≡ alphabet
 
--- what undoes one permutation after the other, and what undoes a shift
+-- the inverse of a product, and the inverse of a shift
 abbrev pub ProductsBackwards : Type 0
-ProductsBackwards = (p q : List ℕ) → IsPermutation26 p → IsPermutation26 q → inverse (followed_by p q) ≡ followed_by (inverse q) (inverse p)
+ProductsBackwards =
+    (p q : List ℕ) → IsPermutation26 p → IsPermutation26 q
+    → inverse (followed_by p q) ≡ followed_by (inverse q) (inverse p)
 
 abbrev pub ShiftsBackwards : Type 0
 ShiftsBackwards = (k : ℕ) → k ≤ 26 → inverse (shift k) ≡ shift (26 - k)
 
--- on a pin wheel the place of the letter at a place is that place, and the letter at the place of a letter is that letter
+-- On a pin wheel, `place_on` finds the place of the letter at a place, and the letter at the place found is the
+-- one sought.
 abbrev pub LettersLeadToPlaces : Type 0
 LettersLeadToPlaces =
-    (size : ℕ) (ring : List ℕ) → IsRing size ring → (place : ℕ) → place < size → place_on ring (slice_index ring place) ≡ Some place
+    (size : ℕ) (ring : List ℕ) → IsRing size ring → (place : ℕ) → place < size
+    → place_on ring (slice_index ring place) ≡ Some place
 
 abbrev pub PlacesLeadToLetters : Type 0
 PlacesLeadToLetters =
-    (size : ℕ) (ring : List ℕ) → IsRing size ring → (place letter : ℕ) → place_on ring letter ≡ Some place → slice_index ring place ≡ letter
+    (size : ℕ) (ring : List ℕ) → IsRing size ring → (place letter : ℕ) → place_on ring letter ≡ Some place
+    → slice_index ring place ≡ letter

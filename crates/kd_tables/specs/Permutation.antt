@@ -1,42 +1,42 @@
--- Permutations of the alphabet, written as lists: what stands at place x is what letter x becomes.
+-- Permutations of the alphabet as lists: the number at place x is the letter that x becomes.
 use Rattle.std.specs.Prelude.{◌≡◌, ◌≢◌, ℕ, ◌+◌, ◌%◌, ◌==◌, List, [], ◌∷◌, length, map, slice_index, All, if◌then◌else◌}
 use Rattle.std.specs.List.{range_with_len, position_or_len}
 use Rattle.std.specs.Slice.Sort.{NamesEachOnce}
 
--- the letters from A to Z
+-- the letters from A to Z, as the permutation that leaves each letter
 abbrev pub alphabet : List ℕ
 alphabet = range_with_len 0 26
 
--- 26 different numbers below 26
+-- A list of 26 different numbers below 26.
 pub record IsPermutation26 (p : List ℕ) : Type 0 where
   pub size : length p ≡ 26
   pub each_once : NamesEachOnce 26 p
 
--- first p, and then q
+-- the product of two permutations: first `p`, then `q`
 unfoldable pub followed_by : List ℕ → List ℕ → List ℕ
 followed_by p q = map (λ y. slice_index q y) p
 
--- what leads back: the place at which each letter stands
+-- the inverse: for each letter, the place at which it is in `p`
 unfoldable pub inverse : List ℕ → List ℕ
 inverse p = map (λ y. position_or_len (λ x. x == y) p) alphabet
 
--- each letter k places on, with A after Z
+-- the permutation that takes each letter `k` places on, with A after Z
 unfoldable pub shift : ℕ → List ℕ
 shift k = map (λ x. (x + k) % 26) alphabet
 
--- what a letter becomes where the two letters of each pair are exchanged
+-- what `x` becomes if the two letters of each pair are exchanged
 abbrev pub exchanged : List (ℕ × ℕ) → ℕ → ℕ
 exchanged [] x = x
 exchanged (pair ∷ pairs) x = if x == pair.0 then pair.1 else (if x == pair.1 then pair.0 else exchanged pairs x)
 
--- the two letters of each pair exchanged, and the rest left
+-- the permutation that exchanges the two letters of each pair and leaves the other letters
 unfoldable pub exchange : List (ℕ × ℕ) → List ℕ
 exchange pairs = map (exchanged pairs) alphabet
 
--- each letter leads to one that leads back to it
+-- Each letter becomes one that becomes this letter again.
 abbrev pub IsOwnInverse : List ℕ → Type 0
 IsOwnInverse p = All (λ x. slice_index p (slice_index p x) ≡ x) alphabet
 
--- no letter leads to itself
+-- No letter becomes itself.
 abbrev pub MovesEachLetter : List ℕ → Type 0
 MovesEachLetter p = All (λ x. slice_index p x ≢ x) alphabet

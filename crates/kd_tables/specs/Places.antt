@@ -1,11 +1,12 @@
 -- The places of the two lugs on a bar of the Converter M-209's drum, and how a bar stands and reads.
-use Rattle.std.specs.Prelude.{codes, ◌≡◌, ℕ, ◌+◌, ◌<◌, ◌≤◌, nat_lt, min, max, List, [], ◌∷◌, ◌++◌, map, filter, flat_map}
+use Rattle.std.specs.Prelude.{codes, ◌≡◌, ℕ, ◌+◌, ◌<◌, ◌≤◌, nat_lt, min, max, List, [], ◌∷◌, ◌++◌, map, filter}
+use Rattle.std.specs.Prelude.{flat_map}
 use Rattle.kd_tables.specs.declared.place.Place.{Place}
 use Rattle.kd_tables.specs.declared.place.Place.TheVariants.{One, ZeroLeft, Two, Three, Four, Five, ZeroRight, Six}
 use Rattle.kd_tables.specs.declared.lug.Lug.{Lug}
 use Rattle.kd_tables.specs.declared.lug.Lug.TheVariants as lugs
 
--- the place's name
+-- the name of the place
 abbrev pub place_text : Place → List ℕ
 place_text One = codes "1"
 place_text ZeroLeft = codes "0L"
@@ -16,7 +17,7 @@ place_text Five = codes "5"
 place_text ZeroRight = codes "0R"
 place_text Six = codes "6"
 
--- the number of the pin wheel that acts at the place; 0 where none does
+-- the number of the pin wheel that acts at the place, or 0 if none does
 abbrev pub place_number : Place → ℕ
 place_number One = 1
 place_number ZeroLeft = 0
@@ -27,11 +28,11 @@ place_number Five = 5
 place_number ZeroRight = 0
 place_number Six = 6
 
--- the places along the bar, from the left
+-- all places of a bar, from left to right
 abbrev pub places : List Place
 places = One ∷ ZeroLeft ∷ Two ∷ Three ∷ Four ∷ Five ∷ ZeroRight ∷ Six ∷ []
 
--- how many places lie to the left of the place
+-- the number of places to the left of the place
 abbrev pub place_rank : Place → ℕ
 place_rank One = 0
 place_rank ZeroLeft = 1
@@ -42,45 +43,49 @@ place_rank Five = 5
 place_rank ZeroRight = 6
 place_rank Six = 7
 
--- the first place comes before the second along the bar
+-- `first` is to the left of `second`.
 abbrev pub IsBefore : Place → Place → Type 0
 IsBefore first second = place_rank first < place_rank second
 
--- the lug's name
+-- the name of the lug
 abbrev pub lug_text : Lug → List ℕ
 lug_text lugs.Left = codes "L"
 lug_text lugs.Right = codes "R"
 
--- how a bar may stand: its left lug's place before its right lug's; by the left lug's place, and then by the right one's
+-- all standings of a bar, in which the left lug is before the right one; ordered by the left lug's place, then
+-- by the right lug's
 abbrev pub standings : List (Place × Place)
-standings = flat_map (λ left. map (λ right. (left, right)) (filter (λ right. nat_lt (place_rank left) (place_rank right)) places)) places
+standings =
+    flat_map
+    (λ left. map (λ right. (left, right)) (filter (λ right. nat_lt (place_rank left) (place_rank right)) places))
+    places
 
--- the left lug's place and the right lug's
+-- the place of the left lug and that of the right lug, with `-` between them
 abbrev pub standing_text : Place × Place → List ℕ
 standing_text standing = place_text standing.0 ++ codes "-" ++ place_text standing.1
 
--- the left lug's place and the right one's have these names
+-- `left` and `right` are the names of the places of the two lugs.
 abbrev pub AreNames : Place × Place → List ℕ → List ℕ → Type 0
 AreNames standing left right = (place_text standing.0 ≡ left) × (place_text standing.1 ≡ right)
 
--- two numbers, the smaller first
+-- the two numbers, the smaller one first
 abbrev pub in_order : ℕ → ℕ → ℕ × ℕ
 in_order a b = (min a b, max a b)
 
--- two numbers from 0 to 6, the smaller first, that differ or are both 0
+-- Two numbers from 0 to 6 that differ or are both 0, the smaller one first.
 pub record IsReading (numbers : ℕ × ℕ) : Type 0 where
   pub ordered : numbers.0 ≤ numbers.1
   pub within : numbers.1 ≤ 6
   pub equal : numbers.0 ≡ numbers.1 → numbers.0 ≡ 0
 
--- the numbers of the two lugs' places, the smaller first
+-- the numbers of the two lugs' places, the smaller one first
 abbrev pub reading_of : Place → Place → ℕ × ℕ
 reading_of left right = in_order (place_number left) (place_number right)
 
--- a number from 0 to 9 in figures
+-- a number from 0 to 9 as a digit
 abbrev pub figure : ℕ → List ℕ
 figure number = (number + 48) ∷ []
 
--- the smaller number and the larger one
+-- the smaller number and the larger one, with `-` between them
 abbrev pub reading_text : ℕ × ℕ → List ℕ
 reading_text numbers = figure numbers.0 ++ codes "-" ++ figure numbers.1

@@ -1,9 +1,9 @@
--- The refusals: the number and the name of each, and what stands behind these in a text.
+-- The refusals: their numbers and names, and the words after them.
 use Rattle.std.specs.Prelude.{codes, ℕ, List, ◌∷◌}
 use Rattle.kd_tables.specs.declared.refusal.Refusal.{Refusal}
 use Rattle.kd_tables.specs.declared.refusal.Refusal.TheVariants as refusals
 
--- the number and the name
+-- the number and the name of a refusal
 abbrev pub refusal_name : Refusal → List ℕ
 refusal_name refusals.LetterTwice = codes "1 LetterTwice"
 refusal_name refusals.NotOnWheel = codes "2 NotOnWheel"
@@ -46,6 +46,6 @@ refusal_name refusals.ReadTooLong = codes "38 ReadTooLong"
 refusal_name refusals.NoSuchDay = codes "39 NoSuchDay"
 refusal_name refusals.OtherDay = codes "40 OtherDay"
 
--- a word of a text, behind a space
+-- a space and a word
 abbrev pub spaced : List ℕ → List ℕ
 spaced word = 32 ∷ word

@@ -1,18 +1,18 @@
--- Letters as they are written, and what a text of letters may have.
+-- Letters as they are written, and the bytes that a text of letters may have.
 use Rattle.std.specs.Prelude.{ℕ, ◌+◌, nat_le, ◌==◌, Bool, ◌&&◌, ◌||◌, List, map}
 
--- letters as they are written: as capital letters
+-- capital letters, as they are written
 abbrev pub letters_text : List ℕ → List ℕ
 letters_text letters = map (λ letter. letter + 65) letters
 
--- a capital letter
+-- whether the byte is a capital letter
 abbrev pub is_capital : ℕ → Bool
 is_capital byte = nat_le 65 byte && nat_le byte 90
 
--- a space, a carriage return or a line feed
+-- whether the byte is a space, a carriage return or a line feed
 abbrev pub is_separator : ℕ → Bool
 is_separator byte = byte == 32 || (byte == 13 || byte == 10)
 
--- what a text may have: capital letters, and what separates them
+-- whether the byte may be in a text: a capital letter or a separator
 abbrev pub is_text_byte : ℕ → Bool
 is_text_byte byte = is_capital byte || is_separator byte

@@ -1,12 +1,12 @@
--- What is taken of a text that is written to a sink.
+-- How much of a text a sink takes.
 use Rattle.std.specs.Prelude.{ℕ, ◌<◌, List, length, take, Option, Result, OnOk, OnErr}
 use Rattle.std.specs.Io.KnownBytes.{Appends}
 
--- less than the whole text was taken, from its front
+-- A proper prefix of the text was taken.
 abbrev pub TakesFront : Option (List ℕ) → Option (List ℕ) → List ℕ → Type 0
 TakesFront old new text = (count : ℕ) × (count < length text) × Appends old new (take count text)
 
--- the whole text was taken, or a front of it where the answer is an error
+-- The whole text was taken, or a proper prefix of it if the answer is an error.
 pub record Writes {T E : Type 0} (old new : Option (List ℕ)) (text : List ℕ) (answer : Result T E) : Type 0 where
   pub whole : OnOk answer (Appends old new text)
   pub front : OnErr answer (TakesFront old new text)

@@ -1,10 +1,11 @@
+//! The end of a source.
 ghost use Rattle.std.specs.Prelude.{◌≡◌, ◌||◌, is_err};
 ghost use Rattle.kd_tables.specs.Ports.{Ends};
 
 use super::source::Source;
 use super::writing::Device;
 
-/// Reads one byte more, and answers whether there was none.
+/// Reads one more byte, and returns whether there was none.
 pub fn is_at_end<R: Source>(source: &mut R) -> Result<bool, Device>
     ensures ends { Ends (R.remaining source.old) (R.remaining source.new) result }
     ensures failed { R.has_failed source.new ≡ (R.has_failed source.old || is_err result) }

@@ -1,6 +1,7 @@
+//! Why a single put or get fails.
 use thiserror::Error;
 
-/// A put or a get that the device refused: no byte was taken, and none was given.
+/// The device refused a put or a get. No byte was taken or given.
 #[derive(Clone, Copy, Debug, PartialEq, Eq, Error)]
 #[error("the device refused")]
 pub struct Failed;

@@ -1,9 +1,10 @@
-//! Laws over the tables, the pin wheels' letters and permutations of the alphabet, over orders and the limit of a read.
+//! Laws on tables, letters of pin wheels, permutations of the alphabet, orders, and the limit of a read.
 ghost use Rattle.std.specs.Prelude.{◌≡◌, ℕ};
 ghost use Rattle.std.specs.Ordering.{ordering_then, nat_cmp};
 ghost use Rattle.kd_tables.specs.Ports.{read_limit};
 ghost use Rattle.kd_tables.specs.declared.limit.TheConstants.{READ_LIMIT};
-ghost use Rattle.kd_tables.specs.Laws.{WiringsArePermutations, ReflectorsArePermutations, ReflectorsLeadBack, ReflectorsMoveEachLetter};
+ghost use Rattle.kd_tables.specs.Laws.{WiringsArePermutations, ReflectorsArePermutations, ReflectorsLeadBack};
+ghost use Rattle.kd_tables.specs.Laws.{ReflectorsMoveEachLetter};
 ghost use Rattle.kd_tables.specs.Laws.{ProductsByLetter, InversesByLetter, ShiftsByLetter};
 ghost use Rattle.kd_tables.specs.Laws.{ProductsArePermutations, InversesArePermutations, ShiftsArePermutations};
 ghost use Rattle.kd_tables.specs.Laws.{InverseUndoesAfter, InverseUndoesBefore, ProductsBackwards, ShiftsBackwards};
@@ -12,7 +13,7 @@ ghost use Rattle.kd_tables.specs.Laws.{LettersLeadToPlaces, PlacesLeadToLetters}
 use super::letter::Letter;
 use super::reading::Reading;
 
-/// The published tables are permutations, and a reflector leads each letter to another one and that one back.
+/// The published tables are permutations. A reflector takes each letter to another one, and that one back.
 #[tactic(auto, using(crate::proofs::Wirings::reflector_returns, crate::proofs::Wirings::reflector_moves))]
 pub fn tables_are_permutations()
     ensures wheels { WiringsArePermutations }
@@ -21,22 +22,24 @@ pub fn tables_are_permutations()
     ensures none_fixed { ReflectorsMoveEachLetter }
 {}
 
-/// What a letter becomes by one permutation after the other, by a permutation backwards, and by a shift.
+/// How products, inverses and shifts act on one letter.
 pub fn permutations_by_letter()
     ensures product { ProductsByLetter }
     ensures backwards { InversesByLetter }
     ensures shifts { ShiftsByLetter }
 {}
 
-/// Permutations one after the other, a permutation backwards and a shift are permutations.
+/// Products and inverses of permutations are permutations, and so are shifts.
 pub fn products_are_permutations()
     ensures product { ProductsArePermutations }
     ensures backwards { InversesArePermutations }
     ensures shifts { ShiftsArePermutations }
 {}
 
-/// A permutation and its inverse, in either order, leave every letter. One permutation after the other is undone by their
-/// inverses in the other order, and a shift by the shift that makes it up to 26.
+/// A permutation and its inverse, in either order, leave each letter.
+///
+/// The inverse of a product is the product of the inverses in the other order. The inverse of a shift by `k` is
+/// the shift by 26 - `k`.
 #[tactic(auto, using(crate::proofs::Products::product_inverse, crate::proofs::Products::inverse_product, crate::proofs::Products::product_backwards, crate::proofs::Products::shift_backwards))]
 pub fn inverse_undoes()
     ensures after { InverseUndoesAfter }
@@ -45,20 +48,20 @@ pub fn inverse_undoes()
     ensures shifts { ShiftsBackwards }
 {}
 
-/// The letters of a pin wheel and their places lead back to one another.
+/// Letters of a pin wheel and their places lead back to one another.
 pub fn letters_and_places_undo()
     ensures places { LettersLeadToPlaces }
     ensures letters { PlacesLeadToLetters }
 {}
 
-/// Letters are in the order of the alphabet, and readings in that of the smaller number, and then of the larger one.
+/// Letters are ordered as in the alphabet; readings by the smaller number, then by the larger one.
 pub fn letters_and_readings_have_their_order()
     ensures letters { (one other : ℕ) → ⟦<Letter as Ord>⟧.cmp one other ≡ nat_cmp one other }
     ensures readings { (one other : ℕ × ℕ) → ⟦<Reading as Ord>⟧.cmp one other
         ≡ ordering_then (nat_cmp one.0 other.0) (nat_cmp one.1 other.1) }
 {}
 
-/// The code reads as many bytes at most as the definitions say.
+/// The limit of a read in the code is the one in the definitions.
 pub fn the_limit_is_the_definitions()
     ensures { READ_LIMIT ≡ read_limit }
 {}

@@ -1,13 +1,16 @@
+//! Letters of the alphabet.
 ghost use Rattle.std.specs.Prelude.{◌≡◌, ℕ, ◌+◌, ◌-◌, ◌%◌, ◌<◌, ◌≤◌, ◌↔◌, IsSome, IfSome};
 
 use std::marker::Model;
 
-/// The place after each place of the alphabet. Each key press waits for it, and a table is quicker than a compare.
+/// For each place of the alphabet, the place after it.
+///
+/// Each key press waits for this, and a table is faster than a comparison.
 static NEXT: [u8; 26] = [
     1, 2, 3, 4, 5, 6, 7, 8, 9, 10, 11, 12, 13, 14, 15, 16, 17, 18, 19, 20, 21, 22, 23, 24, 25, 0,
 ];
 
-/// A letter of the alphabet, as its place in it: A is 0 and Z is 25.
+/// A letter of the alphabet, as its place: A is 0 and Z is 25.
 #[derive(Clone, Copy, Default, PartialEq, Eq, PartialOrd, Ord)]
 pub struct Letter {
     index: u8,
@@ -23,14 +26,14 @@ impl Model for Letter {
     ghost inverse = { λ n. record { index = n } };
 }
 
-// The constant has no contract of its own: this proves that it is the first letter.
+// A constant has no contract: this proves that `A` is the first letter.
 const _: () = prove!(Letter::A.index == 0);
 
 impl Letter {
     /// The first letter.
     pub const A: Letter = Letter { index: 0 };
 
-    /// The letter at a place of the alphabet, counted from 0.
+    /// The letter at place `index` of the alphabet, counted from 0, if there is one.
     pub const fn new(index: u8) -> Option<Self>
         ensures exists { IsSome result ↔ (index < 26) }
         ensures value { IfSome result (λ letter. letter ≡ index) }
@@ -42,7 +45,7 @@ impl Letter {
         }
     }
 
-    /// The letter at a place of the alphabet, counted from 0, where it is known that there is one: nothing is tested.
+    /// The letter at place `index` of the alphabet, counted from 0. Nothing is tested.
     pub const fn at(index: u8) -> Self
         requires { index < 26 }
         ensures { result ≡ index }
@@ -50,7 +53,7 @@ impl Letter {
         Letter { index }
     }
 
-    /// The letter that a byte is the ASCII code of. Only capital letters have one.
+    /// The letter whose ASCII code is `byte`; `None` if it isn't a capital letter.
     pub const fn from_byte(byte: u8) -> Option<Self>
         ensures exists { IsSome result ↔ ((65 ≤ byte) × (byte ≤ 90)) }
         ensures value { IfSome result (λ letter. byte ≡ letter + 65) }
@@ -70,7 +73,7 @@ impl Letter {
         self.index as usize
     }
 
-    /// The ASCII code of the letter, as a capital letter.
+    /// The ASCII code of the capital letter.
     pub const fn byte(self) -> u8
         ensures value { result ≡ self + 65 }
         ensures capital { result ≤ 90 }
@@ -78,7 +81,7 @@ impl Letter {
         self.index + b'A'
     }
 
-    /// The letter after this one, with A after Z.
+    /// The next letter, with A after Z.
     pub const fn next(self) -> Letter
         ensures value { result ≡ (self + 1) % 26 }
         ensures within { result < 26 }
@@ -88,7 +91,7 @@ impl Letter {
         }
     }
 
-    /// The letter that stands as many places after this one as `by` after A, with A after Z.
+    /// The letter `by` places on, where A is no place and B is one; A comes after Z.
     pub const fn forward(self, by: Letter) -> Letter
         ensures value { result ≡ (self + by) % 26 }
         ensures within { result < 26 }
@@ -98,7 +101,7 @@ impl Letter {
         }
     }
 
-    /// The letter that stands as many places before this one as `by` after A, with Z before A.
+    /// The letter `by` places back, where A is no place and B is one; Z comes before A.
     pub const fn back(self, by: Letter) -> Letter
         ensures value { result ≡ (self + (26 - by)) % 26 }
         ensures within { result < 26 }

@@ -1,5 +1,4 @@
-//! What the machines are made of, as far as it is tables: letters, wheels, reflectors and models, and the pin wheels and
-//! bars of the Converter M-209. Beside it the ports through which text comes and goes.
+//! Tables and ports: letters, wheels, reflectors, models, refusals, and where bytes come from and go to.
 #![tactic(auto)]
 
 mod ending;

@@ -1,2 +1,4 @@
-/// How many bytes are read at most: of a source, or of a file.
+//! The limit of a read.
+
+/// The most bytes that are read from a source or a file.
 pub const READ_LIMIT: usize = 1_048_576;

@@ -1,3 +1,4 @@
+//! The two lugs of a bar.
 ghost use Rattle.std.specs.Prelude.{◌≡◌, ◌≢◌, MatchOption};
 ghost use Rattle.kd_tables.specs.Places.{lug_text};
 
@@ -13,7 +14,7 @@ pub enum Lug {
     Right,
 }
 
-/// Reads the lugs' names, each beside its lug, from the one to the other.
+/// Applies a macro of `names` to the table of lugs and their names.
 macro_rules! names {
     ($read:ident, $value:expr) => {
         $read!($value, {
@@ -33,7 +34,7 @@ impl Lug {
         text
     }
 
-    /// The lug of that name.
+    /// The lug with this name.
     pub fn from_text(text: &[u8]) -> Option<Self>
         ensures { MatchOption result
             ((lug : _) → lug_text lug ≢ text.now)

@@ -1,3 +1,4 @@
+//! A sink in memory, for tests.
 ghost use Rattle.std.specs.Prelude.{◌≡◌, ◌≤◌, ◌<◌, ◌-◌, ◌↔◌, ◌||◌, [], false, min, length, Some, IfOk, IsErr, is_err};
 ghost use Rattle.kd_tables.specs.Ports.{Puts};
 
@@ -6,7 +7,7 @@ use super::sink::Sink;
 use arrayvec::ArrayVec;
 use std::marker::Model;
 
-/// A sink in memory, which takes so many bytes and then fails.
+/// A sink in memory that takes a given number of bytes, and then fails.
 #[derive(Drop)]
 pub struct MemorySink<const CAP: usize> {
     bytes: ArrayVec<u8, CAP>,
@@ -26,7 +27,7 @@ impl<const CAP: usize> Model for MemorySink<CAP> {
 }
 
 impl<const CAP: usize> MemorySink<CAP> {
-    /// A sink that takes `limit` bytes.
+    /// Makes a sink that takes `limit` bytes.
     pub fn new(limit: usize) -> Self
         requires { limit ≤ CAP }
         ensures { result ≡ record { taken = []; limit = limit; failed = false } }

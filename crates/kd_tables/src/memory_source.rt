@@ -1,4 +1,6 @@
-ghost use Rattle.std.specs.Prelude.{◌≡◌, ◌≤◌, ◌<◌, ◌-◌, ◌↔◌, ◌||◌, false, min, length, drop, Some, IfOk, OnErr, IsErr, is_err};
+//! A source in memory, for tests.
+ghost use Rattle.std.specs.Prelude.{◌≡◌, ◌≤◌, ◌<◌, ◌-◌, ◌↔◌, ◌||◌, false, min, length, drop, Some, IfOk};
+ghost use Rattle.std.specs.Prelude.{OnErr, IsErr, is_err};
 ghost use Rattle.std.specs.Option.{option_map};
 ghost use Rattle.kd_tables.specs.Ports.{Gets};
 
@@ -6,7 +8,7 @@ use super::failed::Failed;
 use super::source::Source;
 use std::marker::Model;
 
-/// A source in memory, which gives its bytes in pieces and may fail from a get on.
+/// A source in memory that gives its bytes in pieces, and can fail from a given get on.
 #[derive(Drop)]
 pub struct MemorySource<'a> {
     rest: &'a [u8],
@@ -32,8 +34,9 @@ impl<'a> Model for MemorySource<'a> {
 }
 
 impl<'a> MemorySource<'a> {
-    /// A source of these bytes that gives at most `piece` of them at a time, and fails from the get with the
-    /// number `fail_at` on. Gets are counted from 0.
+    /// Makes a source that gives `bytes`, at most `piece` of them at a time.
+    ///
+    /// It fails from get `fail_at` on; gets are counted from 0.
     pub fn new(bytes: &'a [u8], piece: usize, fail_at: Option<usize>) -> Self
         requires { 1 ≤ piece }
         ensures { result ≡ record {

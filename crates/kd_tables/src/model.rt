@@ -1,3 +1,4 @@
+//! The models of cipher machines, and the parts that each of them takes.
 ghost use Rattle.std.specs.Prelude.{◌≡◌, ◌↔◌, ◌≢◌, IsTrue, MatchOption, Contains};
 ghost use Rattle.kd_tables.specs.Tables.{model_text, box_of, slots_of, wheels_for, reflectors_of, IsAllowed};
 
@@ -6,7 +7,7 @@ use super::reflector::Reflector;
 use super::wheel::Wheel;
 use arrayvec::ArrayString;
 
-/// The wheels in the order of the boxes: each box has the first so many.
+/// All wheels in the order of the boxes. The box of each model is a prefix of this list.
 const WHEELS: [Wheel; 10] = [
     Wheel::I,
     Wheel::II,
@@ -23,17 +24,17 @@ const WHEELS: [Wheel; 10] = [
 /// A model of cipher machine.
 #[derive(Clone, Copy, PartialEq, Eq)]
 pub enum Model {
-    /// The Wehrmacht's machine, with three wheels out of five.
+    /// The Wehrmacht's Enigma: three wheels out of five.
     EnigmaI,
-    /// The Kriegsmarine's machine, with three wheels out of eight.
+    /// The Kriegsmarine's Enigma with three wheels out of eight.
     M3,
-    /// The Kriegsmarine's machine of four wheels: Beta or Gamma beside a thin reflector, and three wheels out of eight.
+    /// The Kriegsmarine's Enigma with four wheels: Beta or Gamma at the left, and three wheels out of eight.
     M4,
-    /// The Converter M-209, with six pin wheels that stay where they are and a drum of 27 bars.
+    /// The Converter M-209: six fixed pin wheels, and a drum of 27 bars.
     M209,
 }
 
-/// Reads the models' names, each beside its model, from the one to the other.
+/// Applies a macro of `names` to the table of models and their names.
 macro_rules! names {
     ($read:ident, $value:expr) => {
         $read!($value, {
@@ -55,7 +56,7 @@ impl Model {
         text
     }
 
-    /// The model of that name.
+    /// The model with this name.
     pub fn from_text(text: &[u8]) -> Option<Self>
         ensures { MatchOption result
             ((model : _) → model_text model ≢ text.now)
@@ -64,7 +65,7 @@ impl Model {
         names!(named, text)
     }
 
-    /// How many wheels are seated side by side: none in a Converter M-209, whose wheels can't be taken out.
+    /// The number of slots for wheels: none in a Converter M-209, whose wheels can't be taken out.
     pub fn slots(self) -> u8
         ensures { result ≡ slots_of self }
     {
@@ -75,8 +76,9 @@ impl Model {
         }
     }
 
-    /// The wheels that may be seated in a slot, in box order; none where the model has no such slot. Slots are counted
-    /// from the left, from 1.
+    /// The wheels that may be in a slot, in the order of the box; none if the model has no such slot.
+    ///
+    /// Slots are counted from 1, from left to right.
     pub fn wheels_for(self, slot: u8) -> &'static [Wheel]
         ensures { result.now ≡ wheels_for self slot }
     {
@@ -88,7 +90,7 @@ impl Model {
         }
     }
 
-    /// The wheels of the box, in box order.
+    /// The wheels of the model's box, in its order.
     pub fn wheels(self) -> &'static [Wheel]
         ensures { result.now ≡ box_of self }
     {
@@ -99,7 +101,7 @@ impl Model {
         }
     }
 
-    /// The reflectors that go with the model.
+    /// The reflectors of the model.
     pub fn reflectors(self) -> &'static [Reflector]
         ensures { result.now ≡ reflectors_of self }
     {
@@ -112,22 +114,23 @@ impl Model {
     }
 }
 
-/// Whether the wheel is in the model's box.
+/// Whether `wheel` is in the box of `model`.
 pub fn in_box(model: Model, wheel: Wheel) -> bool
     ensures { IsTrue result ↔ Contains (box_of model) wheel }
 {
     model.wheels().contains(&wheel)
 }
 
-/// Whether the wheel may be seated in a slot of the model. Slots are counted from the left, from 1. On the M4 Beta and
-/// Gamma stand in the first slot alone, and the other wheels in the other slots alone.
+/// Whether `wheel` may be in this slot of `model`. Slots are counted from 1, from left to right.
+///
+/// On the M4, only Beta and Gamma may be in slot 1, and only the other wheels in slots 2 to 4.
 pub fn allowed(model: Model, slot: u8, wheel: Wheel) -> bool
     ensures { IsTrue result ↔ IsAllowed model slot wheel }
 {
     model.wheels_for(slot).contains(&wheel)
 }
 
-/// Whether the reflector is one of the model's.
+/// Whether `reflector` is one of the model's.
 pub fn allowed_reflector(model: Model, reflector: Reflector) -> bool
     ensures { IsTrue result ↔ Contains (reflectors_of model) reflector }
 {

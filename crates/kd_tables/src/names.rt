@@ -1,14 +1,14 @@
-//! Tables of names: each value of an enum beside its name, once.
+//! Reads tables that have each value of an enum and its name once.
 ghost use Rattle.std.specs.Prelude.{◌≡◌, ◌↔◌, IsTrue};
 
-/// Whether the text is that name.
+/// Whether `text` is `name`.
 pub(crate) fn is_name(text: &[u8], name: &str) -> bool
     ensures { IsTrue result ↔ (name.now ≡ text.now) }
 {
     name.as_bytes() == text
 }
 
-/// The name that stands beside a value.
+/// Finds the name of a value in a table.
 macro_rules! name_of {
     ($value:expr, { $($variant:path => $name:literal,)* }) => {
         match $value {
@@ -17,7 +17,7 @@ macro_rules! name_of {
     };
 }
 
-/// The value that stands beside a name, if there is one.
+/// Finds the value that has a name in a table, if there is one.
 macro_rules! named {
     ($text:expr, { $($variant:path => $name:literal,)* }) => {
         match $text {

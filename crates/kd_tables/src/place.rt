@@ -1,32 +1,34 @@
+//! The places of lugs on a bar.
 ghost use Rattle.std.specs.Prelude.{◌≡◌, ◌≢◌, ◌≤◌, length, MatchOption};
 ghost use Rattle.kd_tables.specs.Places.{place_text, place_number, places};
 
 use super::names::{name_of, named};
 use arrayvec::ArrayString;
 
-/// A place of a lug on a bar of the Converter M-209, in the order from left to right. At a place with a number the pin
-/// wheel of that number acts; at the two zeros none does.
+/// A place of a lug on a bar of the Converter M-209. Places are in order from left to right.
+///
+/// At a place with a number, the pin wheel with this number acts. At the two zeros no wheel acts.
 #[derive(Clone, Copy, PartialEq, Eq, PartialOrd)]
 pub enum Place {
-    /// The place of the first wheel.
+    /// The place of wheel 1.
     One,
     /// The left one of the two places where no wheel acts.
     ZeroLeft,
-    /// The place of the second wheel.
+    /// The place of wheel 2.
     Two,
-    /// The place of the third wheel.
+    /// The place of wheel 3.
     Three,
-    /// The place of the fourth wheel.
+    /// The place of wheel 4.
     Four,
-    /// The place of the fifth wheel.
+    /// The place of wheel 5.
     Five,
     /// The right one of the two places where no wheel acts.
     ZeroRight,
-    /// The place of the sixth wheel.
+    /// The place of wheel 6.
     Six,
 }
 
-/// Reads the places' names, each beside its place, from the one to the other.
+/// Applies a macro of `names` to the table of places and their names.
 macro_rules! names {
     ($read:ident, $value:expr) => {
         $read!($value, {
@@ -43,7 +45,7 @@ macro_rules! names {
 }
 
 impl Place {
-    /// Every place, from the left.
+    /// All places, from left to right.
     pub const fn all() -> [Place; 8]
         ensures { result ≡ places }
     {
@@ -76,7 +78,7 @@ impl Place {
         text
     }
 
-    /// The place of that name.
+    /// The place with this name.
     pub fn from_text(text: &[u8]) -> Option<Self>
         ensures { MatchOption result
             ((place : _) → place_text place ≢ text.now)
@@ -85,7 +87,7 @@ impl Place {
         names!(named, text)
     }
 
-    /// The number of the pin wheel that acts at the place, from 1 to 6; 0 where none does.
+    /// The number of the pin wheel that acts at the place, from 1 to 6, or 0 if none does.
     pub fn number(self) -> u8
         ensures value { result ≡ place_number self }
         ensures within { result ≤ 6 }

@@ -1,11 +1,13 @@
+//! What a bar reads as.
 ghost use Rattle.std.specs.Prelude.{codes, ◌≡◌, ◌≢◌, ◌↔◌, [], ◌∷◌, ◌++◌, MatchOption, IsSome, IfSome};
 ghost use Rattle.kd_tables.specs.Places.{IsReading, in_order, reading_text};
 
 use arrayvec::ArrayString;
 use std::marker::Model;
 
-/// What a bar of the Converter M-209 reads as: the numbers of its lugs' places, the smaller first. The two numbers differ,
-/// or both are 0. Readings are in the order of the smaller number, and then of the larger one.
+/// What a bar of the Converter M-209 reads as: the numbers of its lugs' places, the smaller one first.
+///
+/// The two numbers differ, or both are 0. Readings are ordered by the smaller number, then by the larger one.
 #[derive(Clone, Copy, Default, PartialEq, Eq, PartialOrd, Ord)]
 pub struct Reading {
     smaller: u8,
@@ -26,7 +28,8 @@ impl Model for Reading {
 }
 
 impl Reading {
-    /// The reading of two numbers, in either order: none for a number above 6, nor for two equal ones above 0.
+    /// Makes a reading of two numbers in either order; `None` if one is above 6, or if they are equal and above
+    /// 0.
     pub fn new(a: u8, b: u8) -> Option<Self>
         ensures exists { IsSome result ↔ IsReading (in_order a b) }
         ensures value { IfSome result (λ reading. reading ≡ in_order a b) }
@@ -38,7 +41,7 @@ impl Reading {
         Some(Reading { smaller, larger })
     }
 
-    /// The two numbers, the smaller first.
+    /// The two numbers, the smaller one first.
     pub fn numbers(self) -> (u8, u8)
         ensures value { result ≡ self }
         ensures reading { IsReading result }
@@ -57,7 +60,7 @@ impl Reading {
         text
     }
 
-    /// The reading of that text, whose smaller number comes first.
+    /// Parses a reading; its smaller number has to come first.
     pub fn from_text(text: &[u8]) -> Option<Self>
         ensures { MatchOption result
             ((numbers : _) → IsReading numbers → reading_text numbers ≢ text.now)
@@ -69,7 +72,7 @@ impl Reading {
         }
     }
 
-    /// The reading of two numbers in figures, the smaller one first.
+    /// Parses the two digits of a reading.
     fn from_figures(first: u8, second: u8) -> Option<Self>
         ensures { MatchOption result
             ((numbers : _) → IsReading numbers → reading_text numbers ≢ first ∷ codes "-" ++ second ∷ [])

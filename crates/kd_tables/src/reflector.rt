@@ -1,3 +1,4 @@
+//! The reflectors and their published wirings.
 ghost use Rattle.std.specs.Prelude.{◌≡◌, ◌≢◌, MatchOption};
 ghost use Rattle.kd_tables.specs.Permutation.{IsOwnInverse, MovesEachLetter};
 ghost use Rattle.kd_tables.specs.Tables.{reflector_text, reflector_of};
@@ -7,7 +8,7 @@ use super::names::{name_of, named};
 use super::table::{reflection, wiring};
 use arrayvec::ArrayString;
 
-/// A reflector of the rotor machines, which sends the current back through the wheels.
+/// A reflector of the rotor machines: it sends the current back through the wheels.
 #[derive(Clone, Copy, PartialEq, Eq)]
 pub enum Reflector {
     /// Reflector A.
@@ -22,7 +23,7 @@ pub enum Reflector {
     ThinC,
 }
 
-/// Reads the reflectors' names, each beside its reflector, from the one to the other.
+/// Applies a macro of `names` to the table of reflectors and their names.
 macro_rules! names {
     ($read:ident, $value:expr) => {
         $read!($value, {
@@ -36,7 +37,7 @@ macro_rules! names {
 }
 
 impl Reflector {
-    /// The reflector's name, in small letters for the thin ones.
+    /// The reflector's name; that of a thin one is a small letter.
     pub fn text(self) -> ArrayString<8>
         ensures { result.bytes ≡ reflector_text self }
     {
@@ -45,7 +46,7 @@ impl Reflector {
         text
     }
 
-    /// The reflector of that name.
+    /// The reflector with this name.
     pub fn from_text(text: &[u8]) -> Option<Self>
         ensures { MatchOption result
             ((reflector : _) → reflector_text reflector ≢ text.now)
@@ -55,8 +56,9 @@ impl Reflector {
     }
 }
 
-/// The letter to which each letter is led back: the published wirings of the reflectors, as in Tony Sale's tables and in
-/// those of the Crypto Museum.
+/// The published wiring: for each letter, the one to which the reflector takes it.
+///
+/// From Tony Sale's tables and those of the Crypto Museum.
 #[tactic(auto, unfolding(crate::specs::Tables::reflector_of))]
 pub fn reflecting(reflector: Reflector) -> [Letter; 26]
     ensures table { result ≡ reflector_of reflector }

@@ -1,4 +1,4 @@
-//! The refusals: the number and the name of each, and the texts that tell of one.
+//! The refusals: their numbers, their names and their texts.
 ghost use Rattle.std.specs.Prelude.{◌≡◌, ◌≤◌, ◌+◌, ◌++◌, decimal, length};
 ghost use Rattle.arrayvec.specs.ArrayString.{array_string_len};
 ghost use Rattle.kd_tables.specs.Refusals.{refusal_name, spaced};
@@ -6,96 +6,96 @@ ghost use Rattle.kd_tables.specs.Refusals.{refusal_name, spaced};
 use arrayvec::ArrayString;
 use itoa::Buffer;
 
-/// The text that tells of a refusal: its number and name, and behind these the places, the key or the reason.
+/// The text of a refusal: its number and name, and then places, a key or a reason.
 pub type Text = ArrayString<64>;
 
-/// What the desk refuses, in the order of the numbers.
+/// What the desk refuses, in the order of the refusals' numbers.
 #[derive(Clone, Copy)]
 pub enum Refusal {
-    /// A letter lies in two places.
+    /// A letter is in two places.
     LetterTwice,
-    /// A letter isn't on its pin wheel. Never printed.
+    /// A letter isn't on its pin wheel. This refusal is never printed.
     NotOnWheel,
-    /// A machine refuses a setting, for this reason. Never printed.
+    /// A machine refuses a setting, for the given reason. This refusal is never printed.
     Illegal,
     /// A slot is empty, or a cable has one letter.
     NotReady,
-    /// The models of machine and day differ.
+    /// Machine and day are of different models.
     OtherModel,
     /// A file or a port failed.
     Device,
-    /// A card's first line is no head.
+    /// The first line of a card isn't its head.
     BadHead,
-    /// A line isn't of its form.
+    /// A line doesn't have the form that its place wants.
     BadLine,
-    /// There are more than 192 settings.
+    /// A card has more than 192 settings.
     TooMany,
-    /// A card's prices are missing, or others.
+    /// A card has no prices, too few or too many, or prices of other things.
     PriceMissing,
-    /// A card has another number of settings, or another sum of prices.
+    /// A card's number of settings, or its sum of prices, is wrong.
     CardCountWrong,
-    /// Bytes follow a card.
+    /// Bytes follow the last line of a card.
     Trailing,
-    /// A machine refuses a line in its turn, for this reason.
+    /// A machine refuses a line after it took the lines before it, for the given reason.
     IllegalAt,
     /// A card doesn't reach the day.
     NotTheSheet,
-    /// The prices of two things are together above the cost.
+    /// Two prices of a card are together above the cost where their row and column meet.
     PriceTooHigh,
-    /// A card's prices have another sum than its lines cost.
+    /// The sum of a card's prices isn't the number of its lines for cables or bars.
     SumDiffers,
-    /// A line of a card puts nothing right.
+    /// A line of a card puts no loose thing right.
     NeedlessLine,
-    /// A file is no TOML document.
+    /// A file isn't a TOML document.
     NotToml,
-    /// A file names no model.
+    /// A file doesn't name a known model.
     UnknownModel,
-    /// A file's key is missing.
+    /// A key of a file is missing.
     Missing,
-    /// A file's key has a wrong value.
+    /// A key of a file has a wrong value.
     BadValue,
-    /// A wheel stands in two slots.
+    /// A wheel is in two slots.
     WheelTwice,
-    /// A wheel stands where the model doesn't take it.
+    /// A wheel is in a slot in which the model doesn't take it.
     WheelNotAllowed,
-    /// A bar has no standing, or a row no reading.
+    /// A bar has no valid standing, or a row no valid reading.
     BadRow,
-    /// A sheet has a day twice.
+    /// A sheet has two entries for one day.
     DayTwice,
     /// Memory ran out.
     NoMemory,
     /// The machine isn't set as the day says.
     NotOnKey,
-    /// A byte may not stand there.
+    /// A byte isn't allowed at its place.
     BadByte,
-    /// An order has no letter.
+    /// The text of an order has no letter.
     EmptyText,
-    /// An order needs this many lines of keys, and has that many.
+    /// An order needs the first number of key lines, but has the second.
     PartKeys,
     /// An external letter isn't on its wheel.
     KeyNotOnWheel,
-    /// A part's group is none of the day's.
+    /// The group of a part isn't one of the day's.
     WrongGroup,
-    /// The letters for a part's internal key run out.
+    /// The internal key of a part needs more letters than its indicator has.
     IndicatorSpent,
     /// A part has no heading.
     BadHeading,
-    /// A part has another number of letters than its heading says.
+    /// The number of letters of a part isn't the one in its heading.
     PartCountWrong,
-    /// A part's indicators differ.
+    /// The two indicators of a part differ.
     IndicatorsDiffer,
-    /// Parts are missing, or in another order.
+    /// A part is missing, or not in order.
     PartOrder,
-    /// There are more bytes than are read.
+    /// A source or a file has more bytes than the limit.
     ReadTooLong,
-    /// The sheet has no such day.
+    /// The sheet has no entry for the day.
     NoSuchDay,
-    /// The card is another day's.
+    /// The card is for another day.
     OtherDay,
 }
 
 impl Refusal {
-    /// The number and the name.
+    /// The refusal's number and name.
     pub fn name(self) -> &'static str
         ensures value { result.now ≡ refusal_name self }
         ensures short { length result.now ≤ 20 }
@@ -144,7 +144,7 @@ impl Refusal {
         }
     }
 
-    /// The text of a refusal that speaks of no place.
+    /// The text of a refusal without a place.
     pub fn text(self) -> Text
         ensures bytes { result.bytes ≡ refusal_name self }
         ensures short { array_string_len result ≤ 20 }
@@ -154,7 +154,7 @@ impl Refusal {
         text
     }
 
-    /// The text of a refusal that speaks of one place.
+    /// The text of a refusal at one place.
     pub fn at(self, place: usize) -> Text
         ensures bytes { result.bytes ≡ refusal_name self ++ spaced (decimal place) }
         ensures short { array_string_len result ≤ 41 }
@@ -164,7 +164,7 @@ impl Refusal {
         text
     }
 
-    /// The text of a refusal that speaks of two places.
+    /// The text of a refusal at two places.
     pub fn at_both(self, one: usize, other: usize) -> Text
         ensures { result.bytes ≡ refusal_name self ++ spaced (decimal one) ++ spaced (decimal other) }
     {
@@ -173,7 +173,7 @@ impl Refusal {
         text
     }
 
-    /// The text of a refusal that speaks of a key, or has a reason, by its name.
+    /// The text of a refusal with the name of a key or a reason.
     pub fn with_word(self, word: &str) -> Text
         requires { length word.now ≤ 22 }
         ensures { result.bytes ≡ refusal_name self ++ spaced word.now }
@@ -183,7 +183,7 @@ impl Refusal {
         text
     }
 
-    /// The text of a refusal that speaks of one place, and has a reason.
+    /// The text of a refusal at one place, with a reason.
     pub fn at_with_word(self, place: usize, word: &str) -> Text
         requires { length word.now ≤ 22 }
         ensures { result.bytes ≡ refusal_name self ++ spaced (decimal place) ++ spaced word.now }
@@ -194,7 +194,7 @@ impl Refusal {
     }
 }
 
-/// Appends the place that a refusal speaks of.
+/// Appends a space and a place.
 fn push_place(text: &mut Text, place: usize)
     requires { array_string_len text.old + 21 ≤ 64 }
     ensures bytes { text.new.bytes ≡ text.old.bytes ++ spaced (decimal place) }
@@ -205,7 +205,7 @@ fn push_place(text: &mut Text, place: usize)
     text.push_str(buffer.format(place));
 }
 
-/// Appends the name of the key or of the reason that a refusal speaks of.
+/// Appends a space and the name of a key or a reason.
 fn push_word(text: &mut Text, word: &str)
     requires { array_string_len text.old + length word.now + 1 ≤ 64 }
     ensures { text.new.bytes ≡ text.old.bytes ++ spaced word.now }

@@ -1,3 +1,4 @@
+//! The letters of the pin wheels.
 ghost use Rattle.std.specs.Prelude.{◌≡◌, ◌↔◌, ◌<◌, ◌≤◌, length, slice_index, Contains, Some, IsSome, IfSome};
 ghost use Rattle.kd_tables.specs.Rings.{ring_of, place_on, IsRing};
 
@@ -5,7 +6,7 @@ use super::letter::Letter;
 use super::table::ring;
 use std::marker::Model;
 
-/// The alphabet of a pin wheel of the Converter M-209: its letters in the wheel's own order, from A on.
+/// The letters of a pin wheel of the Converter M-209, in the wheel's own order, from A on.
 #[derive(Clone, Copy)]
 pub struct Ring<const N: usize> {
     letters: [Letter; N],
@@ -25,7 +26,7 @@ impl<const N: usize> Model for Ring<N> {
 }
 
 impl<const N: usize> Ring<N> {
-    /// The wheel's letters, in its order: as many as it has places, and none of them twice.
+    /// The wheel's letters in order: one for each place, and none twice.
     pub fn letters(&self) -> [Letter; N]
         ensures value { result ≡ self.now }
         ensures ring { IsRing N result }
@@ -33,7 +34,7 @@ impl<const N: usize> Ring<N> {
         self.letters
     }
 
-    /// The letter at a place of the wheel, counted from 0.
+    /// The letter at `place`, counted from 0.
     pub fn letter_of(&self, place: usize) -> Letter
         requires { place < N }
         ensures value { result ≡ slice_index self.now place }
@@ -43,7 +44,7 @@ impl<const N: usize> Ring<N> {
         self.letters[place]
     }
 
-    /// The place of a letter, counted from 0, if it is on the wheel.
+    /// The place of `letter`, counted from 0, if it is on the wheel.
     pub fn place_of(&self, letter: Letter) -> Option<usize>
         ensures value { result ≡ place_on self.now letter }
         ensures exists { IsSome result ↔ Contains self.now letter }
@@ -54,7 +55,7 @@ impl<const N: usize> Ring<N> {
     }
 }
 
-/// The first wheel's letters: all 26. These are the wheels of War Department TM 11-380.
+/// The letters of wheel 1: all 26. All six wheels are from War Department TM 11-380.
 #[tactic(auto, unfolding(crate::specs::Rings::ring_of))]
 pub fn ring1() -> Ring<26>
     ensures { result ≡ ring_of 1 }
@@ -64,7 +65,7 @@ pub fn ring1() -> Ring<26>
     }
 }
 
-/// The second wheel's letters: all but W.
+/// The letters of wheel 2: all but W.
 #[tactic(auto, unfolding(crate::specs::Rings::ring_of))]
 pub fn ring2() -> Ring<25>
     ensures { result ≡ ring_of 2 }
@@ -74,7 +75,7 @@ pub fn ring2() -> Ring<25>
     }
 }
 
-/// The third wheel's letters: those up to X, without W.
+/// The letters of wheel 3: A to X without W.
 #[tactic(auto, unfolding(crate::specs::Rings::ring_of))]
 pub fn ring3() -> Ring<23>
     ensures { result ≡ ring_of 3 }
@@ -84,7 +85,7 @@ pub fn ring3() -> Ring<23>
     }
 }
 
-/// The fourth wheel's letters: those up to U.
+/// The letters of wheel 4: A to U.
 #[tactic(auto, unfolding(crate::specs::Rings::ring_of))]
 pub fn ring4() -> Ring<21>
     ensures { result ≡ ring_of 4 }
@@ -94,7 +95,7 @@ pub fn ring4() -> Ring<21>
     }
 }
 
-/// The fifth wheel's letters: those up to S.
+/// The letters of wheel 5: A to S.
 #[tactic(auto, unfolding(crate::specs::Rings::ring_of))]
 pub fn ring5() -> Ring<19>
     ensures { result ≡ ring_of 5 }
@@ -104,7 +105,7 @@ pub fn ring5() -> Ring<19>
     }
 }
 
-/// The sixth wheel's letters: those up to Q.
+/// The letters of wheel 6: A to Q.
 #[tactic(auto, unfolding(crate::specs::Rings::ring_of))]
 pub fn ring6() -> Ring<17>
     ensures { result ≡ ring_of 6 }
@@ -114,8 +115,9 @@ pub fn ring6() -> Ring<17>
     }
 }
 
-/// The place of a letter on the wheel of this number, counted from 0: none where it isn't on the wheel, or where there is no
-/// such wheel. The wheels are counted from 1 to 6.
+/// The place of `letter` on wheel `wheel`, counted from 0.
+///
+/// `None` if the letter isn't on the wheel, or if `wheel` isn't from 1 to 6.
 #[tactic(auto, using(crate::proofs::Rings::no_ring))]
 pub fn place_on_wheel(wheel: u8, letter: Letter) -> Option<usize>
     ensures value { result ≡ place_on (ring_of wheel) letter }

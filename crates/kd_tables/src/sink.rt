@@ -1,18 +1,20 @@
+//! What bytes are written to.
 ghost use Rattle.std.specs.Prelude.{◌≡◌, ℕ, ◌≤◌, ◌||◌, Bool, List, [], take, Option, Some, None, is_err, length};
 ghost use Rattle.kd_tables.specs.Ports.{Puts};
 
 use super::failed::Failed;
 
-/// What bytes are written to.
+/// A device or a memory that takes bytes.
 pub trait Sink {
-    /// The bytes taken so far, where the sink tells them.
+    /// The bytes taken so far, if the sink tells them.
     ghost taken: { Self → Option (List ℕ) } = { λ _. None };
 
-    /// A put has failed.
+    /// Whether a put has failed.
     ghost has_failed: { Self → Bool };
 
-    /// Takes bytes from the front, at least one where there is one, and answers how many. Where it answers `Failed`, it
-    /// took none.
+    /// Takes a prefix of `bytes`, at least one byte if there is one, and returns its length.
+    ///
+    /// A put that returns `Failed` has taken no byte.
     fn put(&mut self, bytes: &[u8]) -> Result<usize, Failed>
         ensures bytes { Puts (taken self.old) (taken self.new) bytes.now result }
         ensures failed { has_failed self.new ≡ (has_failed self.old || is_err result) };

@@ -1,3 +1,4 @@
+//! How a bar stands.
 ghost use Rattle.std.specs.Prelude.{◌≡◌, ◌≢◌, ◌↔◌, ◌==◌, MatchOption, IsSome, IfSome};
 ghost use Rattle.std.specs.List.{position};
 ghost use Rattle.kd_tables.specs.Places.{IsBefore, reading_of, standing_text, AreNames};
@@ -7,7 +8,7 @@ use super::reading::Reading;
 use arrayvec::ArrayString;
 use std::marker::Model;
 
-/// How a bar of the Converter M-209 stands: the places of its two lugs, the left one's before the right one's.
+/// How a bar of the Converter M-209 stands: the places of its two lugs, the left lug's before the right lug's.
 #[derive(Clone, Copy, PartialEq, Eq)]
 pub struct Standing {
     left: Place,
@@ -27,7 +28,7 @@ impl Model for Standing {
     ghost inverse = { λ places. record { left = places.0; right = places.1 } };
 }
 
-/// With both lugs as far to the left as they go.
+/// Both lugs as far to the left as they go.
 impl Default for Standing {
     ghost use Rattle.std.specs.Prelude.{◌≡◌};
     ghost use Rattle.kd_tables.specs.declared.place.Place.TheVariants.{One, ZeroLeft};
@@ -43,7 +44,7 @@ impl Default for Standing {
 }
 
 impl Standing {
-    /// The standing with the lugs at these places, if the left one's comes before the right one's.
+    /// Makes a standing; `None` if the left lug's place isn't before the right lug's.
     pub fn new(left: Place, right: Place) -> Option<Self>
         ensures exists { IsSome result ↔ IsBefore left right }
         ensures value { IfSome result (λ standing. standing ≡ (left, right)) }
@@ -55,14 +56,14 @@ impl Standing {
         }
     }
 
-    /// The left lug's place.
+    /// The place of the left lug.
     pub fn left(self) -> Place
         ensures { result ≡ self.0 }
     {
         self.left
     }
 
-    /// The right lug's place, which comes after the left one's.
+    /// The place of the right lug, which comes after the left lug's.
     pub fn right(self) -> Place
         ensures value { result ≡ self.1 }
         ensures after { IsBefore self.0 result }
@@ -77,7 +78,7 @@ impl Standing {
         Reading::new(self.left.number(), self.right.number()).unwrap()
     }
 
-    /// The left place and the right one, with `-` between them.
+    /// The place of the left lug and that of the right lug, with `-` between them.
     pub fn text(self) -> ArrayString<8>
         ensures { result.bytes ≡ standing_text self }
     {
@@ -88,7 +89,7 @@ impl Standing {
         text
     }
 
-    /// The standing of that text.
+    /// Parses a standing.
     pub fn from_text(text: &[u8]) -> Option<Self>
         ensures value { MatchOption result
             ((places : _) → IsBefore places.0 places.1 → standing_text places ≢ text.now)
@@ -99,7 +100,7 @@ impl Standing {
         Standing::from_names(&text[..dash], &text[dash + 1..])
     }
 
-    /// The standing with the lugs at the places of these names.
+    /// Parses the names of the two places.
     fn from_names(left: &[u8], right: &[u8]) -> Option<Self>
         ensures { MatchOption result
             ((places : _) → IsBefore places.0 places.1 → AreNames places left.now right.now → ⊥)
@@ -109,7 +110,7 @@ impl Standing {
     }
 }
 
-/// Where the first `-` stands in a text, counted from 0.
+/// The place of the first `-` in `text`, counted from 0.
 fn dash_in(text: &[u8]) -> Option<usize>
     ensures { result ≡ position (λ byte. byte == 45) text.now }
 {

@@ -1,3 +1,4 @@
+//! Makes tables from the published texts of wheels, reflectors and pin wheels.
 ghost use Rattle.std.specs.Prelude.{◌≡◌, ◌-◌, ◌+◌, ◌<◌, slice_index, IsTrue};
 ghost use Rattle.kd_tables.specs.Permutation.{inverse, IsPermutation26, IsOwnInverse, MovesEachLetter};
 ghost use Rattle.kd_tables.specs.Rings.{IsRing};
@@ -6,9 +7,10 @@ ghost use Rattle.kd_tables.specs.WiringText.{are_capitals, is_permutation, is_ri
 
 use super::letter::Letter;
 
-/// Makes a table of the published text of a wheel or a reflector, in which the first letter is what A becomes: by
-/// `letters` the table that the text spells, by `letters_back` the one that leads back, by `reflection` that of a
-/// reflector. What each of them asks of the text is shown as the program is checked.
+/// Makes the table of a part from its published text, whose first letter is what A becomes.
+///
+/// `letters` makes the table of the text, `letters_back` its inverse, and `reflection` the table of a
+/// reflector. What each of them requires of the text is proved when the program is checked.
 macro_rules! wiring {
     ($make:ident, $part:expr, { $($variant:path => $text:literal,)* }) => {
         match $part {
@@ -19,7 +21,7 @@ macro_rules! wiring {
 
 pub(crate) use wiring;
 
-/// The letters that a text spells.
+/// The letters that `text` spells.
 #[tactic(auto, using(std::proofs::lemmas::List::FromFn::fill_by_all))]
 pub(crate) fn letters<const N: usize>(text: &[u8; N]) -> [Letter; N]
     requires { IsTrue (are_capitals text.now) }
@@ -32,7 +34,7 @@ pub(crate) fn letters<const N: usize>(text: &[u8; N]) -> [Letter; N]
     letters
 }
 
-/// The letter that a text has at a place.
+/// The letter that `text` has at `place`, counted from 0.
 fn letter_at<const N: usize>(text: &[u8; N], place: usize) -> Letter
     requires capitals { IsTrue (are_capitals text.now) }
     requires within { place < N }
@@ -41,7 +43,7 @@ fn letter_at<const N: usize>(text: &[u8; N], place: usize) -> Letter
     Letter::from_byte(text[place]).unwrap()
 }
 
-/// The table that undoes the one that a text spells.
+/// The inverse of the table that `text` spells.
 #[tactic(auto, using(crate::proofs::Wirings::test_permutes))]
 pub(crate) fn letters_back(text: &[u8; 26]) -> [Letter; 26]
     requires capitals { IsTrue (are_capitals text.now) }
@@ -51,7 +53,7 @@ pub(crate) fn letters_back(text: &[u8; 26]) -> [Letter; 26]
     inverse_table(&letters(text))
 }
 
-/// The table that undoes a table.
+/// The inverse of `table`.
 #[tactic(auto, using(crate::proofs::Products::filled_is_inverse))]
 fn inverse_table(table: &[Letter; 26]) -> [Letter; 26]
     requires { IsPermutation26 table.now }
@@ -64,7 +66,7 @@ fn inverse_table(table: &[Letter; 26]) -> [Letter; 26]
     inverse
 }
 
-/// The table of a reflector's published text.
+/// The table that the published text of a reflector spells.
 #[tactic(auto, using(crate::proofs::Wirings::reflection_returns, crate::proofs::Wirings::reflection_moves))]
 pub(crate) fn reflection(text: &[u8; 26]) -> [Letter; 26]
     requires capitals { IsTrue (are_capitals text.now) }
@@ -76,7 +78,7 @@ pub(crate) fn reflection(text: &[u8; 26]) -> [Letter; 26]
     letters(text)
 }
 
-/// The letters of a pin wheel's published text.
+/// The letters that the published text of a pin wheel spells.
 #[tactic(auto, using(crate::proofs::Wirings::text_makes_ring))]
 pub(crate) fn ring<const N: usize>(text: &[u8; N]) -> [Letter; N]
     requires { IsTrue (is_ring_text text.now) }

@@ -1,3 +1,4 @@
+//! The wheels of the rotor machines, with their published wirings and notches.
 ghost use Rattle.std.specs.Prelude.{◌≡◌, ◌≢◌, MatchOption};
 ghost use Rattle.kd_tables.specs.Permutation.{inverse};
 ghost use Rattle.kd_tables.specs.Tables.{wheel_text, wiring_of, is_notch};
@@ -7,7 +8,7 @@ use super::names::{name_of, named};
 use super::table::{letters, letters_back, wiring};
 use arrayvec::ArrayString;
 
-/// A wheel of the rotor machines. I to VIII turn; Beta and Gamma stand still beside the thin reflectors of the M4.
+/// A wheel of the rotor machines. I to VIII turn; Beta and Gamma, for the M4's thin reflectors, don't.
 #[derive(Clone, Copy, PartialEq, Eq)]
 pub enum Wheel {
     /// Wheel I.
@@ -26,13 +27,13 @@ pub enum Wheel {
     VII,
     /// Wheel VIII.
     VIII,
-    /// The M4's Beta wheel, which stands to the left of the three that turn.
+    /// The M4's Beta wheel, left of the three wheels that turn.
     Beta,
-    /// The M4's Gamma wheel, which stands to the left of the three that turn.
+    /// The M4's Gamma wheel, left of the three wheels that turn.
     Gamma,
 }
 
-/// Makes a table of a wheel's published wiring.
+/// Makes a table of the published wirings of wheels.
 macro_rules! wirings {
     ($make:ident, $wheel:expr) => {
         wiring!($make, $wheel, {
@@ -50,7 +51,7 @@ macro_rules! wirings {
     };
 }
 
-/// Reads the wheels' names, each beside its wheel, from the one to the other.
+/// Applies a macro of `names` to the table of wheels and their names.
 macro_rules! names {
     ($read:ident, $value:expr) => {
         $read!($value, {
@@ -78,7 +79,7 @@ impl Wheel {
         text
     }
 
-    /// The wheel of that name.
+    /// The wheel with this name.
     pub fn from_text(text: &[u8]) -> Option<Self>
         ensures { MatchOption result
             ((wheel : _) → wheel_text wheel ≢ text.now)
@@ -88,9 +89,10 @@ impl Wheel {
     }
 }
 
-/// What each letter becomes on the way in, from the right of the wheel to its left, with the wheel's A before A: the
-/// published wirings of the Wehrmacht's and the Kriegsmarine's wheels, as in Tony Sale's tables and in those of the
-/// Crypto Museum.
+/// The published wiring: what each letter becomes on the way in, from right to left, with ring A and window A.
+///
+/// From Tony Sale's tables and those of the Crypto Museum, for the wheels of the Wehrmacht and the
+/// Kriegsmarine.
 #[tactic(auto, unfolding(crate::specs::Tables::wiring_of))]
 pub fn wiring(wheel: Wheel) -> [Letter; 26]
     ensures { result ≡ wiring_of wheel }
@@ -98,8 +100,7 @@ pub fn wiring(wheel: Wheel) -> [Letter; 26]
     wirings!(letters, wheel)
 }
 
-/// What each letter becomes on the way back, from the left of the wheel to its right: the published wirings, the other
-/// way round.
+/// The inverse of the published wiring: what each letter becomes on the way back, from left to right.
 #[tactic(auto, unfolding(crate::specs::Tables::wiring_of))]
 pub fn unwiring(wheel: Wheel) -> [Letter; 26]
     ensures { result ≡ inverse (wiring_of wheel) }
@@ -107,9 +108,10 @@ pub fn unwiring(wheel: Wheel) -> [Letter; 26]
     wirings!(letters_back, wheel)
 }
 
-/// Whether the wheel stands at a notch when this letter shows in its window, whatever its ring. Some wheels have two
-/// notches, and Beta and Gamma none. On its next step the wheel takes the one to its left along, if that one can be
-/// turned. These are the published notches of the Wehrmacht's and the Kriegsmarine's wheels.
+/// Whether the wheel is at a published notch while `window` shows. The ring makes no difference.
+///
+/// At its next step, a wheel at a notch takes the wheel to its left along, if that one can turn. Some wheels
+/// have two notches, and Beta and Gamma have none.
 pub fn notched(wheel: Wheel, window: Letter) -> bool
     ensures { result ≡ is_notch wheel window }
 {

@@ -1,3 +1,4 @@
+//! Writing to a sink until it has taken all bytes.
 ghost use Rattle.std.specs.Prelude.{◌≡◌, ◌||◌, is_err};
 ghost use Rattle.kd_tables.specs.Refusals.{refusal_name};
 ghost use Rattle.kd_tables.specs.Writing.{Writes};
@@ -7,7 +8,7 @@ use super::refusal::{Refusal, Text};
 use super::sink::Sink;
 use thiserror::Error;
 
-/// A sink that failed before it had taken all.
+/// A source, a sink or a file failed.
 #[derive(Clone, Copy, Debug, PartialEq, Eq, Error)]
 #[error("{}", self.text())]
 pub struct Device;
@@ -21,7 +22,7 @@ impl Device {
     }
 }
 
-/// Puts all bytes into the sink, in as many puts as it wants. A sink that fails has taken a front of them.
+/// Puts all `bytes` into `sink`, by as many puts as it wants. A sink that fails has taken a prefix of them.
 #[tactic(auto, using(crate::proofs::Taken::takes_more, crate::proofs::Taken::still_failed))]
 pub fn put_all<W: Sink>(sink: &mut W, bytes: &[u8]) -> Result<(), Device>
     ensures text { Writes (W.taken sink.old) (W.taken sink.new) bytes.now result }

@@ -1,10 +1,11 @@
--- The lines of an assignment in which spare cables come last leave spare cables free.
+-- The settings of an assignment in which spare cables come last leave spare cables free.
 pub mod Exchanging
 unfoldable pub use Exchanging.*
 
--- ---- no more spare cables become pairs than are needed
+-- ---- the spare cables that become pairs are no more than the pairs need
 
--- where each cable in use becomes a pair, and each of the first, these are no more than the pairs
+-- If each cable in use and each of the first cables becomes a pair, these are at most as many as the cables
+-- that do.
 counted : (cables : List Cable) (to : List ℕ) (pairs first : ℕ) → length cables ≡ length to
     → ((k : ℕ) → k < length to → is_spare_at cables k ≡ false → get_or to k 0 < pairs)
     → ((k : ℕ) → k < length to → k < first → get_or to k 0 < pairs)
@@ -22,7 +23,7 @@ counted (cable ∷ cables) (j ∷ to) pairs (suc first) size used low =
     (λ k lt e. low (suc k) (omega arith) (omega arith)) in
     simp sum_by-cons (grind (arith, nat_tests, low zero (omega arith) (omega arith)))
 
--- no more cables become pairs than there are pairs
+-- At most as many cables become pairs as there are pairs.
 few_pairs : (to : List ℕ) (pairs : ℕ) → IsOneToOne to → count_by (λ j. nat_lt j pairs) to ≤ pairs
 few_pairs to pairs h =
     let below : ℕ → Bool = λ j. nat_lt j pairs in
@@ -51,7 +52,7 @@ few_spares cables pairs to many size once last number place next lt taken spare 
     ]) in
     omega (arith, all, few_pairs to (length pairs) once)
 
--- ---- the lines
+-- ---- the settings
 put_lines : (P : Setting → Type 0) (number : ℕ) (cable : Cable) (column : Column)
     → ((pair : ℕ × ℕ) → column ≡ Some pair → (letter : ℕ) → P (Put number letter))
     → All P (moves_of In number (cable, column))
@@ -60,7 +61,7 @@ put_lines P number cable (Some pair) h =
     All-map P (λ letter. Put number letter) (letters_apart (letters_due (Some pair)) (cable_letters cable))
     (λ k d lt. h pair refl _)
 
--- letters are put into cables that become pairs
+-- Letters are put only into cables that become pairs.
 all_put_lines : (P : Setting → Type 0) (pairs : List (ℕ × ℕ)) (cables : List Cable) (to : List ℕ) (number : ℕ)
     → ((k n : ℕ) → n ≡ number + k → k < length to → get_or to k 0 < length pairs → (letter : ℕ) → P (Put n letter))
     → All P (lines_from (moves_of In) number (besides cables pairs to))
@@ -83,7 +84,7 @@ all_pull_lines P h pairs (cable ∷ cables) (j ∷ to) number =
     (letters_apart (cable_letters cable) (column_letters (column_at pairs j))) (λ k d lt. h _ _))
     (all_pull_lines P h pairs cables to (number + 1))
 
--- lines of which none is priced
+-- Settings none of which is priced.
 unpriced : (P : Setting → Type 0) → ((x : Setting) → is_priced x ≡ false → P x) → (xs : List Setting)
     → priced_count xs ≡ 0 → All P xs
 unpriced P h [] none = All-nil P
@@ -91,7 +92,7 @@ unpriced P h (x ∷ xs) none =
     let sum = sum_by-cons (λ y. cond {A = ℕ} (is_priced y) 1 0) x xs in
     All-cons P x xs (h x (grind (arith, nat_tests))) (unpriced P h xs (omega arith))
 
--- what is said of each line
+-- what each setting satisfies
 abbrev pub LeavesSpares : RotorParts → RotorDay → Setting → Type 0
 LeavesSpares m s (Put cable letter) = IsTrue (is_spare (cable_at m cable)) → spare_count (take cable m.cables) ≤
     spares_needed m.cables s.pairs

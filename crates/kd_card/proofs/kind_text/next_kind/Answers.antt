@@ -1,4 +1,5 @@
-use Rattle.kd_card.proofs.Prelude.{◌∷◌, ◌∙◌, sym, refl, subst, eqb-true, nil_from_length, HasWords, AtOther, common_steps, arith, option_copied, passed, words_behind}
+use Rattle.kd_card.proofs.Prelude.{◌∷◌, ◌∙◌, sym, refl, subst, eqb-true, nil_from_length, HasWords, AtOther}
+use Rattle.kd_card.proofs.Prelude.{common_steps, arith, option_copied, passed, words_behind}
 use Rattle.kd_card.proofs.Lines.{untrue, filled, no_line, stops}
 use Rattle.kd_card.proofs.KindWords.{ends_at, unended, no_kind, words_are, low_next}
 use Rattle.kd_card.proofs.kind_text.next_kind.Goals as goal
@@ -23,7 +24,8 @@ pub returns-in_default : goal.returns-in_default
 returns-in_default c =
     let word = c.is_word.ensures.0 c.if-not-is_word.false ∙ c.text.ensures.value in
     let has =
-    subst (λ w. HasWords c.args.text.now (w ∷ words_behind (option_copied c.in_ok-first.behind)) c.in_ok-first.rest.now) word (passed c.in_ok-first.ensures).next in (
+    subst (λ w. HasWords c.args.text.now (w ∷ words_behind (option_copied c.in_ok-first.behind)) c.in_ok-first.rest.now)
+    word (passed c.in_ok-first.ensures).next in (
       no_kind c.args.floor (record { behind = _; rest = _; has = has }) (elim c.in_default.branch [
         | in_default-via-in-Some+else-floor-rank w ↦
             low_next has w.in-Some.ensures w.rank.ensures.value w.if-floor-rank.false

@@ -6,4 +6,5 @@ returns-in-Some c = rw c.in-Some.is c.prices_of_text.ensures
 
 pub returns-in-None : goal.returns-in-None
 returns-in-None c =
-    rw c.in-None.is (other_count _ c.args.line [] refl (All-nil (λ price. unsigned_abs price ≤ 9999)) (λ none. let some = c.requires.some in omega arith))
+    rw c.in-None.is (other_count _ c.args.line [] refl (All-nil (λ price. unsigned_abs price ≤ 9999))
+    (λ none. let some = c.requires.some in omega arith))

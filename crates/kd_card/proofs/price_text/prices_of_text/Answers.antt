@@ -3,7 +3,8 @@ use Rattle.kd_card.proofs.Lines.{other_count, too_many, no_prices}
 use Rattle.kd_card.proofs.price_text.prices_of_text.Goals as goal
 
 pub returns-then-are_prices : goal.returns-then-are_prices
-returns-then-are_prices c = too_many _ c.args.line (c.are_prices.ensures.0 c.if-are_prices.true) (omega (arith, c.in_default.ensures))
+returns-then-are_prices c =
+    too_many _ c.args.line (c.are_prices.ensures.0 c.if-are_prices.true) (omega (arith, c.in_default.ensures))
 
 pub returns-in_default : goal.returns-in_default
 returns-in_default c = search (rules, no_prices, c.are_prices.ensures.1)

@@ -4,8 +4,11 @@ use Rattle.kd_card.proofs.price_text.split_first.Goals as goal
 
 pub returns-then-is_empty : goal.returns-then-is_empty
 returns-then-is_empty c =
-    Refused PriceMissing
-    ((λ same some. some (nil_from_length c.args.text.now (eqb-true _ 0 (sym c.is_empty.ensures ∙ c.if-is_empty.true)))), refl) refl
+    Refused PriceMissing (
+      (λ same some. some
+          (nil_from_length c.args.text.now (eqb-true _ 0 (sym c.is_empty.ensures ∙ c.if-is_empty.true)))),
+      refl,
+    ) refl
 
 pub returns-in_default : goal.returns-in_default
 returns-in_default c =

@@ -8,13 +8,15 @@ returns-in_err-group c = stops _ _ _ _ c.from_residual.ensures.1 (Refused _ c.in
 pub returns-in_err-rows : goal.returns-in_err-rows
 returns-in_err-rows c =
     stops _ _ _ _ c.from_residual-in_err-rows.ensures.1
-    (Found _ c.in_ok-group.ensures (Refused _ (rw (c.row_name.ensures, c.number-number.ensures) at c.in_err-rows.ensures) refl))
+    (Found _ c.in_ok-group.ensures (Refused _ (rw (c.row_name.ensures, c.number-number.ensures)
+    at c.in_err-rows.ensures) refl))
 
 pub returns-in_err-columns : goal.returns-in_err-columns
 returns-in_err-columns c =
     stops _ _ _ _ c.from_residual-in_err-columns.ensures.1 (Found _ c.in_ok-group.ensures
     (Found _ (rw (c.row_name.ensures, c.number-number.ensures) at c.in_ok-rows.ensures)
-    (Refused _ (rw (c.column_name.ensures, c.number-number.ensures, c.len.ensures.value) at c.in_err-columns.ensures) refl)))
+    (Refused _ (rw (c.column_name.ensures, c.number-number.ensures, c.len.ensures.value) at c.in_err-columns.ensures)
+    refl)))
 
 pub read_kinds-requires-2-clause-near : goal.read_kinds-requires-2-clause-near
 read_kinds-requires-2-clause-near c = grind (arith, group_said, few_kinds, some_and_few)

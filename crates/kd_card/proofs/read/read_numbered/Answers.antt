@@ -2,12 +2,14 @@ use Rattle.kd_card.proofs.{Prelude.{refl, Refused, Found}, Lines.stops}
 use Rattle.kd_card.proofs.read.read_numbered.Goals as goal
 
 pub returns-in_err-group : goal.returns-in_err-group
-returns-in_err-group c = stops _ _ _ _ c.from_residual.ensures.1 (Refused _ (Refused _ c.in_err-group.ensures refl) refl)
+returns-in_err-group c =
+    stops _ _ _ _ c.from_residual.ensures.1 (Refused _ (Refused _ c.in_err-group.ensures refl) refl)
 
 pub returns-in_err-rows : goal.returns-in_err-rows
 returns-in_err-rows c =
     stops _ _ _ _ c.from_residual-in_err-rows.ensures.1
-    (Refused _ (Found _ c.in_ok-group.ensures (Refused _ (rw c.number-number.ensures at c.in_err-rows.ensures) refl)) refl)
+    (Refused _ (Found _ c.in_ok-group.ensures (Refused _ (rw c.number-number.ensures at c.in_err-rows.ensures) refl))
+    refl)
 
 pub returns-in_err-columns : goal.returns-in_err-columns
 returns-in_err-columns c =

@@ -5,7 +5,8 @@ use Rattle.kd_card.proofs.read.read_value.Goals as goal
 pub returns-in_default : goal.returns-in_default
 returns-in_default c =
     Refused _
-    ((λ found is. c.in_default.ensures found.0 found.1 (numeral_word c.args.signed found.0 is.0).unbroken is.1), refl) refl
+    ((λ found is. c.in_default.ensures found.0 found.1 (numeral_word c.args.signed found.0 is.0).unbroken is.1), refl)
+    refl
 
 pub returns-then-not-is_numeral : goal.returns-then-not-is_numeral
 returns-then-not-is_numeral c =

@@ -5,5 +5,6 @@ use Rattle.kd_enigma.proofs.map.shifted.Goals as goal
 pub returns : goal.returns
 unfolding shift
 returns c =
-    let each = each_made c.from_fn.ensures.items (λ k letter. letter ≡ (k + c.args.by) % 26) (λ k letter q lt called. search rules) in
+    let each = each_made c.from_fn.ensures.items (λ k letter. letter ≡ (k + c.args.by) % 26)
+    (λ k letter q lt called. search rules) in
     fill_by_all (λ x. (x + c.args.by) % 26) c.from_fn.result 26 0 c.from_fn.ensures.items.long (λ k lt. each k 0 lt)

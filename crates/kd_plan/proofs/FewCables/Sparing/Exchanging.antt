@@ -1,4 +1,4 @@
--- What a spare cable becomes is exchanged for the nothing of another.
+-- A spare cable exchanges its pair for the nothing of another cable.
 pub use Rattle.kd_assign.specs.Assignment.{IsOneToOne, assignment_cost}
 pub use Rattle.kd_assign.specs.Prices.{cost_at}
 pub use Rattle.kd_card.proofs.Counting.{all_counted}
@@ -43,7 +43,7 @@ pub use Rattle.std.proofs.lemmas.Option.{slice_get_past, slice_get_within, unwra
 pub use Rattle.std.specs.List.{AllByRecursion, SwappedAt}
 pub use Rattle.std.specs.Prelude.{Contains, IsTrue, is_none, take, unwrap_or}
 
--- the assignment stays one-to-one
+-- The assignment stays one-to-one.
 pub one_to_one_still : (xs ys : List ℕ) → IsPermutation xs ys → length ys ≡ length xs → IsOneToOne xs → IsOneToOne ys
 one_to_one_still xs ys order size h = record {
   in_range = grind (arith, All-permutation (λ j. j < length xs) xs ys order h.in_range);
@@ -54,7 +54,7 @@ one_to_one_still xs ys order size h = record {
 }
 
 -- ---- it costs no more
--- what an assignment costs with another column for one row
+-- the cost of an assignment in which one row gets another column
 cost_set : (costs : List (List ℕ)) (to : List ℕ) (i v : ℕ) → i < length to → length costs ≡ length to
     → assignment_cost costs (set to i v) + cost_at costs i (get_or to i 0)
     ≡ assignment_cost costs to + cost_at costs i v
@@ -72,7 +72,7 @@ one_letter : (p q : Bool)
     ≤ cond (differ false q) 1 0 + cond (differ p false) 1 0
 one_letter p q = grind arith
 
--- where another cable becomes what the spare one does, and the spare one nothing
+-- The other cable becomes the pair of the spare one, and the spare one becomes a nothing.
 exchanged : (spare cable : Cable) (column : Column) → is_spare spare ≡ true
     → cable_cost spare None + cable_cost cable column ≤ cable_cost spare column + cable_cost cable None
 exchanged (None, None) cable column h =
@@ -116,7 +116,7 @@ costs_no_more cables pairs xs ys spare place many size once swapped a b empty ta
     (λ column. cable_cost (cable_of cables place) column) nothing in
     rw (swapped.3 0) (omega (arith, ap (λ j. cost_at costs place j) stays))
 
--- ---- the spare cables from there on become nothing, also the one whose pair was exchanged
+-- ---- the spare cables from this one on become nothings, also the one that gave its pair away
 pub still_free : (cables : List Cable) (xs ys : List ℕ) (pairs spare place : ℕ) → SwappedAt xs ys spare place
     → comes_before cables place spare ≡ true → pairs ≤ get_or xs place 0
     → ((k : ℕ) → suc spare ≤ k → k < 13 → is_spare_at cables k ≡ true → pairs ≤ get_or xs k 0)

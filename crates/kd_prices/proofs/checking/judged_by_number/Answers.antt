@@ -1,4 +1,6 @@
-use Rattle.kd_prices.proofs.Prelude.{◌≡◌, ◌+◌, ◌<◌, ◌^◌, pos, SFits, w32, to_z, rules, arith, sym, ap, ◌∙◌, refl, false≢true, to_z-of_z, to_z_pos, price_sum, priced_count, NotTheSheet, ◌≢◌, ℕ, ℤ, of_z, Refused, Found, PriceTooHigh, SumDiffers}
+use Rattle.kd_prices.proofs.Prelude.{◌≡◌, ◌+◌, ◌<◌, ◌^◌, pos, SFits, w32, to_z, rules, arith, sym, ap, ◌∙◌, refl}
+use Rattle.kd_prices.proofs.Prelude.{false≢true, to_z-of_z, to_z_pos, price_sum, priced_count, NotTheSheet, ◌≢◌, ℕ, ℤ}
+use Rattle.kd_prices.proofs.Prelude.{of_z, Refused, Found, PriceTooHigh, SumDiffers}
 use Rattle.std.proofs.lemmas.Result.{err_from_is_err_and}
 use Rattle.kd_prices.proofs.checking.judged_by_number.Goals as goal
 
@@ -10,7 +12,8 @@ returns-in_err-walk g c =
 pub returns-then-not-reads_as : goal.returns-then-not-reads_as
 returns-then-not-reads_as g c =
     Found c.in_ok-walk.walk.reached c.in_ok-walk.ensures.leads
-    (Refused NotTheSheet ((λ same reads. false≢true (sym c.if-not-reads_as.true ∙ c.reads_as.ensures.1 reads)), refl) refl)
+    (Refused NotTheSheet ((λ same reads. false≢true (sym c.if-not-reads_as.true ∙ c.reads_as.ensures.1 reads)), refl)
+    refl)
 
 pub returns-in-Some : goal.returns-in-Some
 returns-in-Some g c =
@@ -25,7 +28,7 @@ returns-then-sum-priced_count g c =
     (Found tt (rw c.requires.costs at c.in_default.ensures)
     (Refused SumDiffers ((λ same sum. differs sum), refl) refl)))
 
--- a sum and a count that are alike in 32 bits
+-- A sum and a count that are equal in 32 bits are equal.
 same_sum : (sum : ℤ) (count : ℕ) → SFits w32 sum → count < 2 ^ 31 → of_z w32 sum ≡ count → sum ≡ pos count
 same_sum sum count small few e = sym (to_z-of_z w32 sum small) ∙ ap (to_z w32) e ∙ to_z_pos w32 count few
 

@@ -6,7 +6,8 @@ use Rattle.kd_prices.proofs.expanding.priced.Goals as goal
 pub returns-in_err-price_of : goal.returns-in_err-price_of
 returns-in_err-price_of c =
     rw c.from_residual.ensures
-    (no_expansion c.args.looks.now c.args.kinds.now c.loop-look.look-index _ (omega arith) c.look-item.is c.in_err-price_of.ensures)
+    (no_expansion c.args.looks.now c.args.kinds.now c.loop-look.look-index _ (omega arith)
+    c.look-item.is c.in_err-price_of.ensures)
 
 pub loop-look-preserved : goal.loop-look-preserved
 loop-look-preserved c =

@@ -9,7 +9,9 @@ returns c =
     let price : to_z w32 (of_z w32 c.from.result) ≡ c.from.result = to_z-of_z w32 c.from.result (search rules) in
     let other : to_z w32 (of_z w32 c.from-2.result) ≡ c.from-2.result = to_z-of_z w32 c.from-2.result (search rules) in
     let cost : to_z w32 (of_z w32 c.from-3.result) ≡ c.from-3.result = to_z-of_z w32 c.from-3.result (search rules) in
-    let raw : SFits w32 (to_z w32 (of_z w32 c.from.result) +ℤ to_z w32 (of_z w32 c.from-2.result)) = first_of (search rules, omega (arith, ints), grind (arith, ints)) in
+    let raw : SFits w32 (to_z w32 (of_z w32 c.from.result) +ℤ to_z w32 (of_z w32 c.from-2.result)) =
+    first_of (search rules, omega (arith, ints), grind (arith, ints)) in
     let fits : SFits w32 (c.from.result +ℤ c.from-2.result) = rw (price, other) at raw in
-    let sum : to_z w32 (of_z w32 (c.from.result +ℤ c.from-2.result)) ≡ (c.from.result +ℤ c.from-2.result) = to_z-of_z w32 (c.from.result +ℤ c.from-2.result) fits in
+    let sum : to_z w32 (of_z w32 (c.from.result +ℤ c.from-2.result)) ≡ (c.from.result +ℤ c.from-2.result) =
+    to_z-of_z w32 (c.from.result +ℤ c.from-2.result) fits in
     rw (price, other, cost, sum) (grind (arith, ints), grind (arith, ints))

@@ -7,7 +7,9 @@ returns-then-eq c =
     let same = slice_eq-Decides Decides-int_eq c.as_slice-2.result.now c.args.prices.now c.eq.result c.eq.ensures in
     record {
       good = c.first_kinds-kinds.ensures.kinds;
-      expanded = subst (AreExpanded c.args.looks.now c.first_kinds-kinds.result.items) (sym c.as_slice-2.ensures.value ∙ same.0 c.if-eq.true)
+      expanded =
+          subst (AreExpanded c.args.looks.now c.first_kinds-kinds.result.items)
+          (sym c.as_slice-2.ensures.value ∙ same.0 c.if-eq.true)
           (rw c.as_slice.ensures.value at c.in_ok-priced.ensures.0);
     }
 

@@ -5,7 +5,8 @@ pub returns : goal.returns
 returns c =
     record {
       none = λ m s settings prices doubt proves h.
-          let same = only_checked m s settings prices (Err doubt) (Ok tt) h (proving_says m s settings prices proves) in cc;
+          let same =
+          only_checked m s settings prices (Err doubt) (Ok tt) h (proving_says m s settings prices proves) in cc;
       one = λ m s settings prices doubt other a b.
           let same = only_checked m s settings prices (Err doubt) (Err other) a b in cc;
     }

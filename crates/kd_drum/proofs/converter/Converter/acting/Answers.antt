@@ -10,8 +10,11 @@ returns-clause-each c =
     let stands = c.self.invariant.0 in
     let key = key_of inside.w1 inside.w2 inside.w3 inside.w4 inside.w5 inside.w6 inside.rows in
     rw (c.from.ensures, c.from-2.ensures, c.from-3.ensures, c.from-4.ensures, c.from-5.ensures, c.from-6.ensures)
-    (subst (λ (k : PinKey). (wheel : ℕ) → is_in (set_of c.acting.result c.acting-2.result c.acting-3.result c.acting-4.result c.acting-5.result c.acting-6.result) wheel ≡ acts_after k 0 wheel) c.self.view_is
-    (in_set_of _ _ _ _ _ _ (λ wheel. is_effective (pins_on key.pins wheel) ((start_on key wheel + 0 + offset_of wheel) % size_of wheel))
+    (subst (λ (k : PinKey). (wheel : ℕ)
+    → is_in (set_of c.acting.result c.acting-2.result c.acting-3.result c.acting-4.result c.acting-5.result
+    c.acting-6.result) wheel ≡ acts_after k 0 wheel) c.self.view_is
+    (in_set_of _ _ _ _ _ _ (λ wheel. is_effective (pins_on key.pins wheel)
+    ((start_on key wheel + 0 + offset_of wheel) % size_of wheel))
     (c.acting.ensures ∙ acts_now key 1 26 inside.w1 stands.first refl refl)
     (c.acting-2.ensures ∙ acts_now key 2 25 inside.w2 stands.second refl refl)
     (c.acting-3.ensures ∙ acts_now key 3 23 inside.w3 stands.third refl refl)

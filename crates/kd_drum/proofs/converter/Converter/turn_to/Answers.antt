@@ -1,5 +1,6 @@
 use Rattle.std.proofs.Common.{ap, ◌∙◌, ◌∷◌, [], arith, rules}
-use Rattle.kd_drum.{proofs.Letters.shows_letter, proofs.Letters.six_letters, specs.Converter.OnWheels, specs.Converter.pin_key_turned}
+use Rattle.kd_drum.{proofs.Letters.shows_letter, proofs.Letters.six_letters, specs.Converter.OnWheels}
+use Rattle.kd_drum.specs.Converter.{pin_key_turned}
 use Rattle.kd_drum.proofs.converter.Converter.turn_to.Goals as goal
 
 pub returns-clause-turned : goal.returns-clause-turned
@@ -7,16 +8,25 @@ returns-clause-turned c =
     let there = c.args.letters in
     let on : OnWheels there = c.can_show.ensures.0 (search rules) in
     let stands = c.self.invariant.0 in
-    let l1 = shows_letter _ _ there 0 _ _ stands.first.ring (search rules) (on 1 (omega arith) (omega arith)) c.show.ensures.shows in
-    let l2 = shows_letter _ _ there 1 _ _ stands.second.ring (search rules) (on 2 (omega arith) (omega arith)) c.show-2.ensures.shows in
-    let l3 = shows_letter _ _ there 2 _ _ stands.third.ring (search rules) (on 3 (omega arith) (omega arith)) c.show-3.ensures.shows in
-    let l4 = shows_letter _ _ there 3 _ _ stands.fourth.ring (search rules) (on 4 (omega arith) (omega arith)) c.show-4.ensures.shows in
-    let l5 = shows_letter _ _ there 4 _ _ stands.fifth.ring (search rules) (on 5 (omega arith) (omega arith)) c.show-5.ensures.shows in
-    let l6 = shows_letter _ _ there 5 _ _ stands.sixth.ring (search rules) (on 6 (omega arith) (omega arith)) c.show-6.ensures.shows in
+    let l1 = shows_letter _ _ there 0 _ _ stands.first.ring (search rules)
+    (on 1 (omega arith) (omega arith)) c.show.ensures.shows in
+    let l2 = shows_letter _ _ there 1 _ _ stands.second.ring (search rules)
+    (on 2 (omega arith) (omega arith)) c.show-2.ensures.shows in
+    let l3 = shows_letter _ _ there 2 _ _ stands.third.ring (search rules)
+    (on 3 (omega arith) (omega arith)) c.show-3.ensures.shows in
+    let l4 = shows_letter _ _ there 3 _ _ stands.fourth.ring (search rules)
+    (on 4 (omega arith) (omega arith)) c.show-4.ensures.shows in
+    let l5 = shows_letter _ _ there 4 _ _ stands.fifth.ring (search rules)
+    (on 5 (omega arith) (omega arith)) c.show-5.ensures.shows in
+    let l6 = shows_letter _ _ there 5 _ _ stands.sixth.ring (search rules)
+    (on 6 (omega arith) (omega arith)) c.show-6.ensures.shows in
     let letters = (λ i. l1 i ∷ l2 i ∷ l3 i ∷ l4 i ∷ l5 i ∷ l6 i ∷ []) ∙ six_letters there (search rules) in
     (λ i. record {
-      pins = ap (λ w. w.pins) c.show.ensures.turned i ∷ ap (λ w. w.pins) c.show-2.ensures.turned i ∷ ap (λ w. w.pins) c.show-3.ensures.turned i
-          ∷ ap (λ w. w.pins) c.show-4.ensures.turned i ∷ ap (λ w. w.pins) c.show-5.ensures.turned i ∷ ap (λ w. w.pins) c.show-6.ensures.turned i ∷ [];
+      pins =
+          ap (λ w. w.pins) c.show.ensures.turned i ∷ ap (λ w. w.pins) c.show-2.ensures.turned i
+          ∷ ap (λ w. w.pins) c.show-3.ensures.turned i
+          ∷ ap (λ w. w.pins) c.show-4.ensures.turned i ∷ ap (λ w. w.pins) c.show-5.ensures.turned i
+          ∷ ap (λ w. w.pins) c.show-6.ensures.turned i ∷ [];
       letters = letters i;
       rows = c.self.inside.rows;
     }) ∙ ap (λ key. pin_key_turned key there) c.self.view_is

@@ -6,12 +6,17 @@ pub invariant_of-result : goal.invariant_of-result
 invariant_of-result g c =
     let key = c.key.inside in
     let made = c.from_fn-rotors.ensures.items in
-    let sit = each_made made (SitsAt key.plugs key.wheels key.rings) (λ slot s q lt called. (search rules, (search rules, search rules, search (rules, no_shift)))) in
+    let sit = each_made made (SitsAt key.plugs key.wheels key.rings)
+    (λ slot s q lt called. (search rules, (search rules, search rules, search (rules, no_shift)))) in
     rw c.new.ensures (
       refl,
-      wired (key_in (record { wheels = key.wheels; window = key.window }) key.rings key.reflector key.plugs) c.from_fn-rotors.result c.of-reflecting.result c.around_slow-inner.result c.enclosing-whole.result
-          c.index-rotors.result c.index-window.result g.row.S c.index-window.result (are_seats key.plugs c.from_fn-rotors.result key.wheels key.rings (search rules) (search rules) (λ slot s lt. sit slot s (grind arith)))
-          c.map-board.ensures.plugboard (grind arith) (grind arith) made.long (search rules) (search rules) (search rules)
+      wired (key_in (record { wheels = key.wheels; window = key.window }) key.rings key.reflector key.plugs)
+          c.from_fn-rotors.result c.of-reflecting.result c.around_slow-inner.result c.enclosing-whole.result
+          c.index-rotors.result c.index-window.result g.row.S c.index-window.result
+          (are_seats key.plugs c.from_fn-rotors.result key.wheels key.rings (search rules) (search rules)
+          (λ slot s lt. sit slot s (grind arith)))
+          c.map-board.ensures.plugboard (grind arith) (grind arith) made.long (search rules) (search rules)
+          (search rules)
           (omega (arith, c.requires.least)) c.index-rotors.is (grind arith) (grind arith),
       c.requires.least,
       c.requires.most,

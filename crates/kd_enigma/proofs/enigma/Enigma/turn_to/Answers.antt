@@ -6,8 +6,11 @@ invariant_of-self g c =
     let inside = c.self.inside in
     let kept = c.self.invariant.1 in (
       grind arith,
-      wired (key_in c.new-self-inside.result inside.rings inside.reflector inside.plugs) inside.rotors inside.reflecting c.around_slow-self-inside.result c.enclosing-self-inside.result
-          c.index-self.result c.index-window.result g.row.S c.index-window.result (grind (arith, kept)) kept.board kept.reflector (grind arith) (search rules) (search rules) (search rules) (search rules)
+      wired (key_in c.new-self-inside.result inside.rings inside.reflector inside.plugs)
+          inside.rotors inside.reflecting c.around_slow-self-inside.result c.enclosing-self-inside.result
+          c.index-self.result c.index-window.result g.row.S c.index-window.result
+          (grind (arith, kept)) kept.board kept.reflector (grind arith) (search rules) (search rules) (search rules)
+          (search rules)
           (omega (arith, c.self.invariant.2)) c.index-self.is (grind arith) (grind arith),
       c.self.invariant.2,
       c.self.invariant.3,

@@ -10,7 +10,8 @@ pub loop-one-preserved : goal.loop-one-preserved
 loop-one-preserved c =
     let says = c.plug.ensures in
     plugged_more c.args.pairs.now c.loop-one.one-index c.loop-one.table c.loop-one.invariant c.loop-one-item.result
-    c.loop-one-test.true c.loop-one-item.is c.plug.new.table (says.can.0 (search rules)) says.letters (says.after (search rules))
+    c.loop-one-test.true c.loop-one-item.is c.plug.new.table (says.can.0 (search rules)) says.letters
+    (says.after (search rules))
 
 pub returns-then-not-plug-clause-ok : goal.returns-then-not-plug-clause-ok
 returns-then-not-plug-clause-ok c =

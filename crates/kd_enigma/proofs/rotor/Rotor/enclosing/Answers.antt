@@ -6,5 +6,8 @@ pub returns : goal.returns
 returns c =
     let inside = c.self.inside in
     let turns = rotor inside.wheel inside.ring in
-    let ways = read_at (λ window. (followed_by inside.board (turns window), followed_by (inverse (turns window)) inside.board)) inside.ways c.args.window c.index.result c.index-self-index.result c.self.invariant c.index.ensures.value (omega arith) in
+    let ways =
+    read_at (λ window. (followed_by inside.board (turns window), followed_by (inverse (turns window)) inside.board))
+    inside.ways c.args.window c.index.result c.index-self-index.result c.self.invariant c.index.ensures.value
+    (omega arith) in
     grind arith

@@ -1,8 +1,9 @@
-use Rattle.std.proofs.{Common.{arith, ap, ◌∙◌, ◌+◌, ◌%◌, ◌<◌, ◌≡◌, ℕ, get_or, map}, lemmas.List.FromFn.get_or-map-range_with_len}
+use Rattle.std.proofs.Common.{arith, ap, ◌∙◌, ◌+◌, ◌%◌, ◌<◌, ◌≡◌, ℕ, get_or, map}
+use Rattle.std.proofs.lemmas.List.FromFn.{get_or-map-range_with_len}
 use Rattle.kd_tables.specs.Permutation.{alphabet}
 use Rattle.kd_tables.proofs.letter.Letter.next.Goals as goal
 
--- what the table has for a letter
+-- the entry of the table for a letter
 next_at : (letter : ℕ) → letter < 26 → get_or (map (λ x. (x + 1) % 26) alphabet) letter 0 ≡ (letter + 1) % 26
 next_at letter lt = get_or-map-range_with_len (λ x. (x + 1) % 26) 0 26 letter letter 0 lt (omega arith)
 

@@ -4,5 +4,8 @@ use Rattle.kd_tables.proofs.ring.Ring.letter_of.Goals as goal
 pub returns-clause-there_alone : goal.returns-clause-there_alone
 returns-clause-there_alone g c =
     let letters = c.self.inside.letters in
-    rw (get_or_default letters c.args.place c.index-self-place.result 0 (omega (arith, c.self.invariant.full)), ← c.self.view_is)
+    rw (
+      get_or_default letters c.args.place c.index-self-place.result 0 (omega (arith, c.self.invariant.full)),
+      ← c.self.view_is,
+    )
     (letter_leads_to_place g.row.N letters c.self.invariant c.args.place c.requires)
