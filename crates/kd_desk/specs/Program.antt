@@ -1,5 +1,5 @@
 -- What the program does: the command that its words say, on the files that they name.
-use Rattle.std.specs.Prelude.{◌≡◌, ◌⊎◌, ℕ, Bool, true, false, List, [], ◌++◌, Option, None, Some, IfSome}
+use Rattle.std.specs.Prelude.{◌≡◌, ◌⊎◌, ℕ, Bool, true, false, List, [], Option, None, Some, IfSome}
 use Rattle.std.specs.Prelude.{Result, Ok, Err, IfOk, IfErr, IsTrue}
 use Rattle.kd_sheet.specs.declared.fault.SheetFault.TheVariants.{NoMemory}
 use Rattle.kd_sheet.specs.MachineFile.{machine_of}
