@@ -1,4 +1,4 @@
-//! The key desk's program: it hands the host's words, files and streams to the desk, and ends as that says.
+//! The program `desk`: hands the host's command line, files and streams to `run_desk`.
 #![tactic(auto)]
 
 use kd_desk::{HostFiles, ReaderSource, Stop, WriterSink, end, run_desk};
@@ -19,7 +19,7 @@ fn main(rt: HostRuntime) -> ExitCode {
     })
 }
 
-/// The program's words.
+/// The command line, the program's own name first.
 fn words(rt: &HostRuntime) -> Result<Vec<String>, Stop> {
     Ok(std::env::args(rt)?.collect(rt.alloc())?)
 }

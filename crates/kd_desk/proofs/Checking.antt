@@ -1,6 +1,8 @@
--- What is told of a card.
-use Rattle.{kd_card.proofs.Shortest.proving_cards_are_shortest, kd_card.specs.Proving.Proves, kd_desk.specs.Ports.WritesText}
-use Rattle.kd_desk.proofs.Prelude.{◌≡◌, ℕ, List, length, Result, Parts, Setting, IsMachine, Day, IsLegalDay, PriceParts, IsCard, DeskFault, Port, Checks, Shortest, verdict_text}
+-- The answers of `run_check` to a card.
+use Rattle.{kd_card.proofs.Shortest.proving_cards_are_shortest, kd_card.specs.Proving.Proves}
+use Rattle.kd_desk.specs.Ports.{WritesText}
+use Rattle.kd_desk.proofs.Prelude.{◌≡◌, ℕ, List, length, Result, Parts, Setting, IsMachine, Day, IsLegalDay, PriceParts}
+use Rattle.kd_desk.proofs.Prelude.{IsCard, DeskFault, Port, Checks, Shortest, verdict_text}
 
 -- a card that proves itself
 pub told : (m : Parts) (s : Day) (number : ℕ) (bytes : List ℕ)

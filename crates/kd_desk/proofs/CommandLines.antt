@@ -1,28 +1,38 @@
--- Commands and the values of their words.
-use Rattle.kd_desk.proofs.Prelude.{◌≡◌, ◌≢◌, ℕ, List, Option, Some, None, Bor, decimal, option_map, sym, ap, ◌∙◌, Result, Ok, IfSome, IfOk, true, [], refl, subst, App, FailsBy, HasKind, HasMatchesOf, Row, fault_of, first_of, first_value, is_simple, is_simple_and_free, kind_of, rows_of, subcommand_of, subcommand_rows_of, same_Some, IsDayNumber, Stop, Usage, Named, IsOf, Says, arith}
+-- Commands, and the values of their words as clap finds them.
+use Rattle.kd_desk.proofs.Prelude.{◌≡◌, ◌≢◌, ℕ, List, Option, Some, None, Bor, decimal, option_map, sym, ap, ◌∙◌}
+use Rattle.kd_desk.proofs.Prelude.{Result, Ok, IfSome, IfOk, true, [], refl, subst, App, FailsBy, HasKind, HasMatchesOf}
+use Rattle.kd_desk.proofs.Prelude.{Row, fault_of, first_of, first_value, is_simple, is_simple_and_free, kind_of}
+use Rattle.kd_desk.proofs.Prelude.{rows_of, subcommand_of, subcommand_rows_of, same_Some, IsDayNumber, Stop, Usage}
+use Rattle.kd_desk.proofs.Prelude.{Named, IsOf, Says, arith}
 use Rattle.clap.proofs.{OnLiterals.clap_on_literals, WalkLemmas.first_value-rows}
 use Rattle.clap.specs.declared.error.{Error.Error, kind.ErrorKind.TheVariants.OutOfMemory}
 use Rattle.clap.specs.declared.parser.matches.{ArgMatches.ArgMatches, Found.Found}
 use Rattle.{kd_desk.specs.{CommandLine.desk_grammar, declared.command.Command.Command}, std.proofs.Common.ok_or}
 
--- a command with its files' names as they were lent
+-- a command with borrowed file names
 abbrev Lent : Type 0
 Lent = Command (Bor (List ℕ)) (Bor (List ℕ))
 
--- what a getter of the matches reads, by their rows
-pub read_none : (found : Found) (id : List ℕ) (word : Option (Bor (List ℕ))) → option_map (λ s. s.now) word ≡ first_value found id → word ≡ None → first_of id (rows_of found) ≡ None
+-- what a getter of clap's matches reads, by the matches' rows
+pub read_none : (found : Found) (id : List ℕ) (word : Option (Bor (List ℕ)))
+    → option_map (λ s. s.now) word ≡ first_value found id → word ≡ None → first_of id (rows_of found) ≡ None
 read_none found id word reads none = sym (first_value-rows found id) ∙ sym reads ∙ ap (option_map (λ s. s.now)) none
 
-pub read_some : (found : Found) (id : List ℕ) (word : Option (Bor (List ℕ))) (read : Bor (List ℕ)) → option_map (λ s. s.now) word ≡ first_value found id → word ≡ Some read
+pub read_some : (found : Found) (id : List ℕ) (word : Option (Bor (List ℕ))) (read : Bor (List ℕ))
+    → option_map (λ s. s.now) word ≡ first_value found id → word ≡ Some read
     → first_of id (rows_of found) ≡ Some read.now
-read_some found id word read reads some = sym (first_value-rows found id) ∙ sym reads ∙ ap (option_map (λ s. s.now)) some
+read_some found id word read reads some =
+    sym (first_value-rows found id) ∙ sym reads ∙ ap (option_map (λ s. s.now)) some
 
--- a word that says no day
-pub other_word : (found : Found) (id : List ℕ) (word : Option (Bor (List ℕ))) (read : Bor (List ℕ)) → option_map (λ s. s.now) word ≡ first_value found id → word ≡ Some read
-    → ((day : ℕ) → IsDayNumber day → read.now ≢ decimal day) → (day : ℕ) → IsDayNumber day → first_of id (rows_of found) ≢ Some (decimal day)
-other_word found id word read reads some other day within is = other day within (same_Some _ _ (sym (read_some found id word read reads some) ∙ is))
+-- a word that is no day's number
+pub other_word : (found : Found) (id : List ℕ) (word : Option (Bor (List ℕ))) (read : Bor (List ℕ))
+    → option_map (λ s. s.now) word ≡ first_value found id → word ≡ Some read
+    → ((day : ℕ) → IsDayNumber day → read.now ≢ decimal day) → (day : ℕ) → IsDayNumber day
+    → first_of id (rows_of found) ≢ Some (decimal day)
+other_word found id word read reads some other day within is =
+    other day within (same_Some _ _ (sym (read_some found id word read reads some) ∙ is))
 
--- clap says all of this grammar
+-- the grammar is simple enough that clap's contract says all about it
 pub grammar_is_simple : is_simple_and_free desk_grammar ≡ true
 unfolding clap_on_literals desk_grammar
 grammar_is_simple = refl
@@ -31,33 +41,41 @@ pub grammar_is_known : is_simple desk_grammar ≡ true
 unfolding clap_on_literals desk_grammar
 grammar_is_known = refl
 
--- what a parse by the grammar answers
+-- the answer of a parse by the desk's grammar
 pub parse_fails_by : (app : App) (words : List (List ℕ)) (result : Result ArgMatches Error) → app ≡ desk_grammar
-    → (is_simple_and_free app ≡ true → FailsBy (fault_of app words) result) → FailsBy (fault_of desk_grammar words) result
-parse_fails_by app words result is fails = subst (λ a. FailsBy (fault_of a words) result) is (fails (ap is_simple_and_free is ∙ grammar_is_simple))
+    → (is_simple_and_free app ≡ true → FailsBy (fault_of app words) result)
+    → FailsBy (fault_of desk_grammar words) result
+parse_fails_by app words result is fails =
+    subst (λ a. FailsBy (fault_of a words) result) is (fails (ap is_simple_and_free is ∙ grammar_is_simple))
 
 pub parse_takes : (app : App) (words : List (List ℕ)) (m : ArgMatches) → app ≡ desk_grammar
     → (is_simple_and_free app ≡ true → FailsBy (fault_of app words) (Ok m)) → fault_of desk_grammar words ≡ []
 parse_takes app words m is fails = parse_fails_by app words (Ok m) is fails
 
-pub parse_enters : (app : App) (words : List (List ℕ)) (m : ArgMatches) → app ≡ desk_grammar → HasMatchesOf app words m → subcommand_rows_of m ≡ subcommand_of desk_grammar words
+pub parse_enters : (app : App) (words : List (List ℕ)) (m : ArgMatches) → app ≡ desk_grammar → HasMatchesOf app words m
+    → subcommand_rows_of m ≡ subcommand_of desk_grammar words
 parse_enters app words m is has = (subst (λ a. HasMatchesOf a words m) is has grammar_is_known).1
 
-pub no_fault_said : (words : List (List ℕ)) (error : Error) → HasKind (fault_of desk_grammar words) error → kind_of error ≢ OutOfMemory → (command : Named) → Says words command → ⊥
+pub no_fault_said : (words : List (List ℕ)) (error : Error) → HasKind (fault_of desk_grammar words) error
+    → kind_of error ≢ OutOfMemory → (command : Named) → Says words command → ⊥
 no_fault_said words error has other command says = let kinds = rw says.taken at has in grind (arith, other)
 
-pub no_subcommand_said : (words : List (List ℕ)) → subcommand_of desk_grammar words ≡ None → (command : Named) → Says words command → ⊥
+pub no_subcommand_said : (words : List (List ℕ)) → subcommand_of desk_grammar words ≡ None → (command : Named)
+    → Says words command → ⊥
 no_subcommand_said words none command says = rw none at says.said
 
-pub said_subcommand : (words : List (List ℕ)) (said : List ℕ × List Row) → fault_of desk_grammar words ≡ [] → subcommand_of desk_grammar words ≡ Some said → (command : Named) → IsOf said command → Says words command
+pub said_subcommand : (words : List (List ℕ)) (said : List ℕ × List Row) → fault_of desk_grammar words ≡ []
+    → subcommand_of desk_grammar words ≡ Some said → (command : Named) → IsOf said command → Says words command
 said_subcommand words said taken e command is = record { taken = taken; said = rw e is }
 
--- a name and rows that are read apart
+-- a command's name and rows, read one by one
 pub paired : {X : Type 0} (entered : Option X) (name : X → List ℕ) (rows : X → List Row) (n : List ℕ) (r : List Row)
-    → Some n ≡ option_map name entered → Some r ≡ option_map (λ (p : List ℕ × List Row). p.1) (option_map {U = List ℕ × List Row} (λ x. (name x, rows x)) entered) → option_map {U = List ℕ × List Row} (λ x. (name x, rows x)) entered ≡ Some (n, r)
+    → Some n ≡ option_map name entered → Some r ≡ option_map (λ (p : List ℕ × List Row). p.1)
+    (option_map {U = List ℕ × List Row} (λ x. (name x, rows x)) entered)
+    → option_map {U = List ℕ × List Row} (λ x. (name x, rows x)) entered ≡ Some (n, r)
 paired entered name rows n r is is_rows = grind (arith)
 
--- the answer of a command that may not be there
-pub ok_said : (said : Option Lent) (answer : Result Lent Stop) (P Q : Lent → Type 0) → answer ≡ ok_or said Usage → ((command : Lent) → P command → Q command)
-    → IfSome said P → IfOk answer Q
+-- the answer for a command that may be missing
+pub ok_said : (said : Option Lent) (answer : Result Lent Stop) (P Q : Lent → Type 0) → answer ≡ ok_or said Usage
+    → ((command : Lent) → P command → Q command) → IfSome said P → IfOk answer Q
 ok_said said answer P Q e d g = grind arith

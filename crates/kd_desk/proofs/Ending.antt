@@ -15,7 +15,7 @@ adds_none : (known : Option (List ℕ)) → Appends known known []
 adds_none None = tt
 adds_none (Some bytes) = sym (append-nil bytes)
 
--- where all was done, nothing is told
+-- if all went well, nothing is written to standard error
 pub ends_well : {E : Type 0} (taken : E → Option (List ℕ)) (failed : E → Bool) (errors : E)
     (answer : Result (Unit {0}) Stop) → answer ≡ Ok tt → EndsAs answer (port taken failed errors errors) 0
 ends_well taken failed errors answer is = subst (λ a. EndsAs a (port taken failed errors errors) 0) (sym is) (record {
@@ -25,7 +25,7 @@ ends_well taken failed errors answer is = subst (λ a. EndsAs a (port taken fail
   failed = sym (or_false (failed errors));
 })
 
--- what stopped the program is told in its line
+-- the line of a `Stop` is written to standard error
 pub ends_told : (answer : Result (Unit {0}) Stop) (errors : Port) (stop : Stop) (bytes : List ℕ)
     (written : Result (Unit {0}) Device) → answer ≡ Err stop → bytes ≡ stop_line stop
     → Writes errors.had errors.has bytes written → errors.has_failed ≡ (errors.had_failed || is_err written)

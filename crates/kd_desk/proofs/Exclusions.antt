@@ -1,8 +1,9 @@
--- Settings that bytes say, and lines that a machine refuses.
+-- Bytes are one list of settings or have one fault; settings that lead to a machine have no refused line.
 use Rattle.kd_desk.proofs.Prelude.{arith, ◌≡◌, Bool, List, [], ◌∷◌, ◌++◌, Some, sym, subst, Parts, Setting, why_refused}
 use Rattle.kd_desk.proofs.Prelude.{Leads, IsTrue, IsFalse, ap, ◌∙◌, OfCard, OfList, InCard, InList}
 use Rattle.kd_state.specs.declared.setting.why.Why.{Why}
-use Rattle.kd_state.proofs.{Lines.{lists_have_no_fault, one_list_fault, texts_tell_lists}, Telling.Refusing.carries_to_one}
+use Rattle.kd_state.proofs.Lines.{lists_have_no_fault, one_list_fault, texts_tell_lists}
+use Rattle.kd_state.proofs.Telling.Refusing.{carries_to_one}
 use Rattle.kd_card.proofs.OneCard.{cards_have_no_fault, one_card_fault, texts_tell_cards}
 use Rattle.kd_desk.specs.declared.fault.DeskFault.TheVariants as faults
 use Rattle.kd_desk.specs.Laws.{TextsTellSettings, SettingsHaveNoFault, SettingsHaveOneFault, LeadsOrRefuses}
@@ -11,29 +12,37 @@ both : (b : Bool) → IsTrue b → IsFalse b → ⊥
 both b holds fails = cc
 
 pub one_list : TextsTellSettings
-one_list bytes xs ys (OfCard begun day prices card) (OfCard also other others same) = (texts_tell_cards bytes day other xs ys prices others card same).1
+one_list bytes xs ys (OfCard begun day prices card) (OfCard also other others same) =
+    (texts_tell_cards bytes day other xs ys prices others card same).1
 one_list bytes xs ys (OfCard begun day prices card) (OfList unbegun list) = absurd (both _ begun unbegun)
 one_list bytes xs ys (OfList unbegun list) (OfCard begun day prices card) = absurd (both _ begun unbegun)
 one_list bytes xs ys (OfList unbegun list) (OfList also same) = texts_tell_lists bytes xs ys list same
 
 pub no_fault : SettingsHaveNoFault
-no_fault bytes xs fault (OfCard begun day prices card) (InCard also of_card is told) = cards_have_no_fault bytes day xs prices of_card card is
+no_fault bytes xs fault (OfCard begun day prices card) (InCard also of_card is told) =
+    cards_have_no_fault bytes day xs prices of_card card is
 no_fault bytes xs fault (OfCard begun day prices card) (InList unbegun of_list is told) = both _ begun unbegun
 no_fault bytes xs fault (OfList unbegun list) (InCard begun of_card is told) = both _ begun unbegun
-no_fault bytes xs fault (OfList unbegun list) (InList also of_list is told) = lists_have_no_fault bytes xs of_list list is
+no_fault bytes xs fault (OfList unbegun list) (InList also of_list is told) =
+    lists_have_no_fault bytes xs of_list list is
 
 pub one_fault : SettingsHaveOneFault
-one_fault bytes fault other (InCard begun card is told) (InCard also same are as_told) = told ∙ ap (λ f. faults.Card f) (one_card_fault bytes card same is are) ∙ sym as_told
-one_fault bytes fault other (InCard begun card is told) (InList unbegun list are as_told) = absurd (both _ begun unbegun)
-one_fault bytes fault other (InList unbegun list is told) (InCard begun card are as_told) = absurd (both _ begun unbegun)
-one_fault bytes fault other (InList unbegun list is told) (InList also same are as_told) = told ∙ ap (λ f. faults.List f) (one_list_fault bytes list same is are) ∙ sym as_told
+one_fault bytes fault other (InCard begun card is told) (InCard also same are as_told) =
+    told ∙ ap (λ f. faults.Card f) (one_card_fault bytes card same is are) ∙ sym as_told
+one_fault bytes fault other (InCard begun card is told) (InList unbegun list are as_told) =
+    absurd (both _ begun unbegun)
+one_fault bytes fault other (InList unbegun list is told) (InCard begun card are as_told) =
+    absurd (both _ begun unbegun)
+one_fault bytes fault other (InList unbegun list is told) (InList also same are as_told) =
+    told ∙ ap (λ f. faults.List f) (one_list_fault bytes list same is are) ∙ sym as_told
 
 refused_behind : (front rest : List Setting) (x : Setting) (m between n : Parts) (why : Why)
     → Leads m (front ++ x ∷ rest) n → Leads m front between → why_refused between x ≡ Some why → ⊥
 refused_behind [] rest x m between n why leads at refused = cc (at, leads.1.allowed, refused)
 refused_behind (y ∷ front) rest x m between n why leads at refused =
     let same = carries_to_one m leads.0 at.0 y leads.1 at.1 in
-    refused_behind front rest x at.0 between n why (subst (λ k. Leads k (front ++ x ∷ rest) n) same leads.2) at.2 refused
+    refused_behind front rest x at.0 between n why
+    (subst (λ k. Leads k (front ++ x ∷ rest) n) same leads.2) at.2 refused
 
 pub lead_or_refuse : LeadsOrRefuses
 lead_or_refuse m n xs line why leads first = grind (arith, refused_behind)

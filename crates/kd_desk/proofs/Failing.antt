@@ -1,32 +1,35 @@
--- What a failed call leaves of its ports.
+-- How a call leaves its ports when it fails.
 use Rattle.kd_desk.proofs.Prelude.{arith, ◌≡◌, ℕ, Bool, true, false, ◌||◌, List, Option, Result, Ok, Err, IsErrAnd}
 use Rattle.kd_desk.proofs.Prelude.{IsTrue, inr, sym, subst, Port, IsWell, Fail, Appends, TakesFront, DeskFault}
 use Rattle.kd_desk.specs.{Ports.WritesText, declared.fault.DeskFault.TheVariants.Device}
 
--- what is known of a port, in its order
+-- a port, by its bytes and its failure before and after a call
 abbrev pub over : Option (List ℕ) → Option (List ℕ) → Bool → Bool → Port
 over had has before after = record { had = had; has = has; had_failed = before; has_failed = after }
 
--- a failed call leaves the flag up
+-- after a failed call, the port has failed
 pub failed_now : (before after : Bool) → after ≡ (before || true) → IsTrue after
 failed_now before after e = grind (arith, e)
 
--- a call that did not fail leaves the flag as it was
+-- a call that didn't fail leaves the failure as it was
 pub well_now : (before after : Bool) → after ≡ (before || false) → after ≡ before
 well_now before after e = grind (arith, e)
 
--- a sink failed, or it did not, and the source was let be
-pub sink_fails : (source sink : Port) (failed : Bool) → IsWell source → sink.has_failed ≡ (sink.had_failed || failed) → Fail source sink failed
+-- the sink failed or didn't, and the source wasn't used
+pub sink_fails : (source sink : Port) (failed : Bool) → IsWell source → sink.has_failed ≡ (sink.had_failed || failed)
+    → Fail source sink failed
 sink_fails source sink false well is = (well, well_now sink.had_failed sink.has_failed is)
-sink_fails source sink true well is = inr (record { failed = failed_now sink.had_failed sink.has_failed is; well = well })
+sink_fails source sink true well is =
+    inr (record { failed = failed_now sink.had_failed sink.has_failed is; well = well })
 
--- the error that `?` makes
+-- the error that `?` returns
 pub err_is : {T F : Type 0} (answer : Result T F) (fault : F)
     → IsErrAnd answer (λ made. made ≡ fault) → answer ≡ Err fault
 err_is answer fault e = grind arith
 
--- what holds of that error
-pub answered : {T F : Type 0} (answer : Result T F) (fault : F) (P : Result T F → Type 0) → IsErrAnd answer (λ made. made ≡ fault) → P (Err fault) → P answer
+-- what holds of the error that `?` returns holds of the answer
+pub answered : {T F : Type 0} (answer : Result T F) (fault : F) (P : Result T F → Type 0)
+    → IsErrAnd answer (λ made. made ≡ fault) → P (Err fault) → P answer
 answered answer fault P made p = subst P (sym (err_is answer fault made)) p
 
 -- a text that was written, whole or in part

@@ -1,4 +1,4 @@
--- A month on a machine whose cables in use are among the first needs no other cable.
+-- A month on a machine that uses only its first cables needs no other cable.
 use Rattle.kd_desk.proofs.Exclusions.{one_list}
 use Rattle.kd_desk.proofs.Prelude.{List, Ok, Parts, [], machine_of, subst, sym, ℕ, ◌∙◌, ◌∷◌, ◌≡◌}
 use Rattle.kd_desk.specs.FewCables.{DayHasPairsUpTo, FewCablesServeAMonth, FileUsesNoneAbove, KeepsToFirst}

@@ -16,7 +16,7 @@ use Rattle.{kd_sheet.specs.{Sheet.day_of, SheetFile.sheet_of}, std.proofs.Common
 use Rattle.std.proofs.lemmas.List.Elements.{All-cons, All-nil, All-tail}
 use Rattle.kd_card.specs.declared.card.Card as declared
 
--- ---- whatever is written sets the machine
+-- ---- cards and files that are written set the machine
 
 card_printed : (m : Parts) (s : Day) (number : ℕ) (sink : Port) → Prints m s number sink well
     → WritesCard m s number sink well
@@ -126,7 +126,7 @@ months_are_fewest file sheet numbers papers m month days cards lists of_file of_
     let are = in_turn file sheet numbers papers m month days cards of_file of_sheet due set say in
     cards_are_fewest_in_all m days cards lists (machine_of-IsMachine file m of_file) rotor are.0 are.1 reach
 
--- ---- and there is something to be written
+-- ---- such cards and files exist
 
 -- the card that was planned for a day, and the file of the machine to which it leads
 pub papers_for : WrittenFilesAreReadBack → (m n : Parts) (s : Day) → IsMachine m → IsLegalDay s
@@ -164,4 +164,5 @@ pub days_on : (model other : Model) (month : List (Option Day)) (number : ℕ) (
     → all ≡ number ∷ numbers → other ≡ model → All (HasDayOf model month) all → All (HasDayOf other month) numbers
 days_on model other month number numbers all is same days =
     let there = subst (All (HasDayOf model month)) is days in
-    subst (λ model. All (HasDayOf model month) numbers) (sym same) (All-tail (HasDayOf model month) number numbers there)
+    subst (λ model. All (HasDayOf model month) numbers) (sym same)
+    (All-tail (HasDayOf model month) number numbers there)

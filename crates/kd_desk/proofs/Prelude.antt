@@ -1,8 +1,14 @@
--- What the proofs of this crate speak of.
-pub use Rattle.std.proofs.Common.{Bool, Bor, Err, IfOk, IfSome, IsErr, IsErrAnd, IsFalse, IsSomeAnd, IsTrue, List, MatchResult, None, Ok, Option, Result, Some, [], ap, append_assoc, ap₂, arith, codes, decimal, false, inl, inr, is_ok, length, map, option_map, refl, rules, subst, suc, sym, take, true, true≢false, ℕ, ◌++◌, ◌+◌, ◌-◌, ◌<◌, ◌||◌, ◌∙◌, ◌∷◌, ◌≡◌, ◌≢◌, ◌≤◌, ◌⊎◌}
+-- Words of other crates and of std that the proofs of this crate use.
+pub use Rattle.std.proofs.Common.{Bool, Bor, Err, IfOk, IfSome, IsErr, IsErrAnd, IsFalse, IsSomeAnd, IsTrue, List}
+pub use Rattle.std.proofs.Common.{MatchResult, None, Ok, Option, Result, Some, [], ap, append_assoc, ap₂, arith, codes}
+pub use Rattle.std.proofs.Common.{decimal, false, inl, inr, is_ok, length, map, option_map, refl, rules, subst, suc}
+pub use Rattle.std.proofs.Common.{sym, take, true, true≢false, ℕ, ◌++◌, ◌+◌, ◌-◌, ◌<◌, ◌||◌, ◌∙◌, ◌∷◌, ◌≡◌, ◌≢◌, ◌≤◌}
+pub use Rattle.std.proofs.Common.{◌⊎◌}
 pub use Rattle.std.{proofs.lemmas.Option.same_Some, specs.Io.KnownBytes.{Appends, Consumes}, specs.Option.ok_or}
 pub use Rattle.clap.specs.Simple.{app_of_fields}
-pub use Rattle.clap.specs.Words.{App, FailsBy, HasKind, HasMatchesOf, Row, app_of, fault_of, first_of, first_value, found_of, is_simple, is_simple_and_free, kind_of, new_app, new_rule, rows_of, rule_of, subcommand_of, subcommand_rows_of}
+pub use Rattle.clap.specs.Words.{App, FailsBy, HasKind, HasMatchesOf, Row, app_of, fault_of, first_of, first_value}
+pub use Rattle.clap.specs.Words.{found_of, is_simple, is_simple_and_free, kind_of, new_app, new_rule, rows_of, rule_of}
+pub use Rattle.clap.specs.Words.{subcommand_of, subcommand_rows_of}
 pub use Rattle.{clap.specs.declared.builder.arg.Arg.Arg, kd_card.specs.CardText.IsCard}
 pub use Rattle.kd_card.specs.declared.prices.PriceParts.{PriceParts}
 pub use Rattle.kd_desk.specs.CommandLine.{IsActionOf, IsOf, Named, NamedAction, Says, named}

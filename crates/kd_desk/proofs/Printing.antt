@@ -1,4 +1,4 @@
--- What a card that was planned and written promises.
+-- What a planned and written card promises.
 use Rattle.kd_desk.proofs.Prelude.{Day, DeskFault, IsCard, IsLegalDay, IsMachine, List, Parts, Port, PriceParts, Result}
 use Rattle.{kd_desk.proofs.Prelude.{arith, day_number, subst, sym, ℕ, ◌≡◌}, kd_prices.specs.KindCards.IsByKind}
 use Rattle.{kd_desk.specs.{Ports.WritesText, RunCard.{Card, Prints}}, kd_plan.specs.Planned.Plans}
@@ -15,13 +15,15 @@ module _ (m : Parts) (s : Day) (is_machine : IsMachine m) (legal : IsLegalDay s)
   decipher one other text set are =
       equally_set one other s text set.machine set.other_machine legal set.on_key set.other_on_key set.letters are
 
-  -- the card that was planned and the same one with prices by kind
-  module _ (planned card : declared.Card) (plans : Plans m s planned.settings.items planned.prices) (kinds : IsByKind m s planned card) where
+  -- the planned card, and the same card with prices by kind
+  module _ (planned card : declared.Card) (plans : Plans m s planned.settings.items planned.prices)
+      (kinds : IsByKind m s planned card) where
     same : Plans m s card.settings.items planned.prices
     same = subst (λ settings. Plans m s settings planned.prices) (sym kinds.settings) plans
 
     pub printed : (text : List ℕ) (day : ℕ) (sink : Port) (answer : Result (Unit {0}) DeskFault) → day ≡ day_number s
-        → IsCard text day card.settings.items card.prices → WritesText text sink answer → Prints m s (day_number s) sink answer
+        → IsCard text day card.settings.items card.prices → WritesText text sink answer
+        → Prints m s (day_number s) sink answer
     printed text day sink answer number is_card takes =
         let dated = subst (λ d. IsCard text d card.settings.items card.prices) number is_card in
         Card (record {

@@ -1,4 +1,4 @@
--- What forms tell of orders.
+-- What forms say about orders.
 use Rattle.kd_desk.proofs.Prelude.{List, ℕ, ◌++◌, inl, Day, IsLegalDay, FormFault, TellOfOrders}
 use Rattle.kd_form.specs.{FormText.IsReceiveFault, Sending.IsFormOf}
 use Rattle.kd_form.proofs.OneText.{forms_become_one_text, received_forms_have_no_fault, stays_refused}
@@ -6,12 +6,15 @@ use Rattle.kd_form.proofs.GivenBack.{forms_give_their_orders, orders_give_letter
 
 pub tell_of_orders : (s : Day) → IsLegalDay s → TellOfOrders s
 tell_of_orders s legal =
-    let unsent : (form order : List ℕ) (fault : FormFault) → IsReceiveFault s form fault → ¬ (IsFormOf s order form) = λ form order fault is sent.
+    let unsent : (form order : List ℕ) (fault : FormFault) → IsReceiveFault s form fault → ¬ (IsFormOf s order form) =
+    λ form order fault is sent.
     let gives = orders_give_letters s order form sent in
-    received_forms_have_no_fault s form gives.0 fault (forms_give_their_orders s order form gives.0 legal sent gives.1) is in
+    received_forms_have_no_fault s form gives.0 fault
+    (forms_give_their_orders s order form gives.0 legal sent gives.1) is in
     record {
       back = λ form text order given is sent gives.
           forms_become_one_text s form text given is (forms_give_their_orders s order form given legal sent gives);
       of_no_order = unsent;
-      of_no_front = λ form more order fault stands. unsent (form ++ more) order fault (stands.0, inl (stays_refused s form more stands.0 fault stands.1));
+      of_no_front = λ form more order fault stands. unsent (form ++ more) order fault
+          (stands.0, inl (stays_refused s form more stands.0 fault stands.1));
     }

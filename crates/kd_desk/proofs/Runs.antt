@@ -1,4 +1,4 @@
--- Files that are read one after another, and what the program answers to a command.
+-- Files that are read one after another, and the program's answer to a command.
 use Rattle.kd_desk.specs.{Program.is_stopped_before, RunSteps.is_refused_before, Stops.stop_after}
 use Rattle.kd_desk.specs.declared.{fault.DeskFault.DeskFault, fault.DeskFault.TheVariants.{Device, File}}
 use Rattle.kd_desk.specs.declared.stop.Stop.TheVariants.{ReadFailed, Refused}
@@ -20,12 +20,12 @@ Known = Option (List ℕ → Option (List ℕ))
 joined : (one : Asking) (old new rest : List Asking) → new ≡ old ++ one ∷ [] → new ++ rest ≡ old ++ one ∷ rest
 joined one old new rest is = ap (λ l. l ++ rest) is ∙ append_assoc old (one ∷ []) rest
 
--- one was had, and then all others were
+-- one file was read or opened, and then all others
 pub all_on : (name : List ℕ) (names : List (List ℕ)) (old new newer : List Asking)
     → new ≡ old ++ had name ∷ [] → newer ≡ new ++ map had names → newer ≡ old ++ map had (name ∷ names)
 all_on name names old new newer is more = more ∙ joined (had name) old new (map had names) is
 
--- one was had, and then one was not
+-- one file was read or opened, and a later one wasn't
 pub misses_on : (name : List ℕ) (names : List (List ℕ)) (old new newer : List Asking)
     → new ≡ old ++ had name ∷ [] → MissesOne names new newer → MissesOne (name ∷ names) old newer
 misses_on name names old new newer is more = record {
@@ -36,12 +36,12 @@ misses_on name names old new newer is more = record {
   asked = more.asked ∙ joined (had name) old new (map had more.before ++ missed more.name ∷ []) is;
 }
 
--- the first was not had
+-- the first file couldn't be read or opened
 pub misses_first : (name : List ℕ) (names : List (List ℕ)) (old new : List Asking) → new ≡ old ++ missed name ∷ []
     → MissesOne (name ∷ names) old new
 misses_first name names old new is = record { before = []; name = name; after = names; names_are = refl; asked = is }
 
--- and that is what `?` answers
+-- one file couldn't be read or opened, and the answer is the error that `?` returns
 pub misses_so : {T : Type 0} (names : List (List ℕ)) (old new : List Asking) (answer : Result T FileFault)
     (fault : FileFault) → IsErrAnd answer (λ made. made ≡ fault) → MissesOne names old new
     → AskFor names old new (is_ok answer)
@@ -76,18 +76,19 @@ module _ (names : List (List ℕ)) (asked : List Asking) where
       → IsDone command source sink answer → AskFor names [] asked true → Asks answer
   asked_all command source sink answer done asks = subst Asks (sym done.answers) (asks_after _ done.told asks)
 
--- ---- what the words say
+-- ---- what the command line says
 
-said_by : (said : Option (List ℕ × List Row)) (one other : Named) → IsSomeAnd said (λ x. IsOf x one) → IsSomeAnd said (λ x. IsOf x other) → one ≡ other
+said_by : (said : Option (List ℕ × List Row)) (one other : Named) → IsSomeAnd said (λ x. IsOf x one)
+    → IsSomeAnd said (λ x. IsOf x other) → one ≡ other
 said_by said one other e d = grind (arith, same_command)
 
--- the words say one command
+-- a command line says at most one command
 pub said_command : (words : List (List ℕ)) (one other : Named) → Says words one → Says words other → one ≡ other
 said_command words one other says same = said_by (subcommand_of desk_grammar words) one other says.said same.said
 
 -- ---- what is done
 
--- of a file that was not opened nothing is left
+-- nothing is left of a file that wasn't opened
 pub nothing_left : Opened
 nothing_left = record { bytes = None; failed = false }
 
@@ -100,37 +101,39 @@ abbrev stopped : FileFault → Result (Unit {0}) Stop
 stopped fault = Err (Unread fault)
 
 module _ (source sink : Port) (answer : Result (Unit {0}) Stop) where
-  unread_by : (fault other : FileFault) → fails fault ≡ fails other → answer ≡ Err (Unread fault) → answer ≡ Err (Unread other)
-  unread_by fault other is answers = answers ∙ subst (λ (r : Result KnownCommand FileFault). IsErrAnd r (λ f. stopped fault ≡ stopped f)) is refl
+  unread_by : (fault other : FileFault) → fails fault ≡ fails other → answer ≡ Err (Unread fault)
+      → answer ≡ Err (Unread other)
+  unread_by fault other is answers =
+      answers ∙ subst (λ (r : Result KnownCommand FileFault). IsErrAnd r (λ f. stopped fault ≡ stopped f)) is refl
 
-  file_refused : (meant : Result KnownCommand FileFault) (fault : FileFault) → Gives meant (Err fault) → answer ≡ Err (Unread fault)
-      → CarriesOut meant source sink answer
+  file_refused : (meant : Result KnownCommand FileFault) (fault : FileFault) → Gives meant (Err fault)
+      → answer ≡ Err (Unread fault) → CarriesOut meant source sink answer
   file_refused meant fault e d = grind (arith, unread_by)
 
-  carried_out : (meant : Result KnownCommand FileFault) (command : KnownCommand) → Gives meant (Ok command) → IsDone command source sink answer
-      → CarriesOut meant source sink answer
+  carried_out : (meant : Result KnownCommand FileFault) (command : KnownCommand) → Gives meant (Ok command)
+      → IsDone command source sink answer → CarriesOut meant source sink answer
   carried_out meant command (inl is) done = subst (λ r. CarriesOut r source sink answer) is (inl done)
   carried_out meant command (inr lacks) done = cc
 
-  -- whatever is known of files, for each command that is the one that was said
+  -- each command that the words say is the one parsed, whatever is known of the files
   module _ (known : Known) (said command : Named) (same : said ≡ command) where
     abbrev Meant : (List ℕ → Option (List ℕ)) → Type 0
     Meant held = CarriesOut (command_over held command) source sink answer
 
-    pub unread : (fault : FileFault) → IsErrAnd answer (λ made. made ≡ Unread fault) → IfSome known (λ held. Gives (command_over held said) (Err fault))
-        → IfSome known Meant
+    pub unread : (fault : FileFault) → IsErrAnd answer (λ made. made ≡ Unread fault)
+        → IfSome known (λ held. Gives (command_over held said) (Err fault)) → IfSome known Meant
     unread fault made gives = grind (arith, err_is, file_refused, same)
 
-    done_of : (of_files : KnownCommand) → IsDone of_files source sink answer → (k : Known) → IfSome k (λ held. Gives (command_over held said) (Ok of_files))
-        → IfSome k Meant
+    done_of : (of_files : KnownCommand) → IsDone of_files source sink answer → (k : Known)
+        → IfSome k (λ held. Gives (command_over held said) (Ok of_files)) → IfSome k Meant
     done_of of_files done None gives = tt
     done_of of_files done (Some held) gives = grind (arith, carried_out, same, done)
 
-    pub done : (of_files : KnownCommand) → IsDone of_files source sink answer → IfSome known (λ held. Gives (command_over held said) (Ok of_files))
-        → IfSome known Meant
+    pub done : (of_files : KnownCommand) → IsDone of_files source sink answer
+        → IfSome known (λ held. Gives (command_over held said) (Ok of_files)) → IfSome known Meant
     done of_files is gives = done_of of_files is known gives
 
--- What stops the program before anything was written was a refusal before that.
+-- If the program stopped before anything was written, the command was refused before that.
 pub refused_before : (file_failed : Bool) (told : Result (Unit {0}) DeskFault) (answer : Result (Unit {0}) Stop)
     → answer ≡ stop_after file_failed told → IsTrue (is_stopped_before answer) → IsTrue (is_refused_before told)
 refused_before file_failed (Ok done) answer e early = subst (λ a. IsTrue (is_stopped_before a)) e early

@@ -1,8 +1,9 @@
--- A name and the values of words say one command at most.
+-- A command's name and the values of its words are at most one command.
 use Rattle.kd_desk.proofs.Prelude.{◌≡◌, ℕ, List, arith, same_Some, Row, Named, NamedAction, IsActionOf, IsOf}
 use Rattle.std.proofs.lemmas.Fmt.{decimal_injective}
 
-same_action : (said : List ℕ × List Row) (one other : NamedAction) → IsActionOf said one → IsActionOf said other → one ≡ other
+same_action : (said : List ℕ × List Row) (one other : NamedAction) → IsActionOf said one → IsActionOf said other
+    → one ≡ other
 same_action said one other is are = grind (arith, same_Some, decimal_injective)
 
 pub same_command : (said : List ℕ × List Row) (one other : Named) → IsOf said one → IsOf said other → one ≡ other

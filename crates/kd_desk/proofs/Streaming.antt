@@ -1,4 +1,4 @@
--- What the desk makes of what is told of a message.
+-- The desk's answer from a message's answer.
 use Rattle.kd_desk.proofs.Prelude.{arith, ◌≡◌, Result, Ok, Err, IsErrAnd, MatchResult, IsTrue, FormFault, Port, Fail}
 use Rattle.kd_desk.proofs.Prelude.{DeskFault, answer_to_message, is_refused_before, is_device}
 use Rattle.kd_desk.{proofs.Failing.err_is, specs.Messages.fault_of_message}
@@ -15,7 +15,7 @@ pub fails : (source sink : Port) (told : Result (Unit {0}) FormFault) (answer : 
     → Fail source sink (streams.is_device told) → Fail source sink (is_device answer)
 fails source sink told answer is failed = grind arith
 
--- `map_err` answers the desk's own refusal
+-- `map_err` gives the desk's fault for a message's fault
 pub passed_on : (told : Result (Unit {0}) FormFault) (answer : Result (Unit {0}) DeskFault)
     → MatchResult told (λ x. answer ≡ Ok x) (λ e. IsErrAnd answer (λ made. made ≡ fault_of_message e))
     → answer ≡ answer_to_message told

@@ -1,5 +1,6 @@
--- What the program's words say, by what clap makes of the desk's grammar.
-use Rattle.std.specs.Prelude.{codes, decimal, ◌≡◌, ℕ, true, false, List, [], ◌∷◌, ◌++◌, map, fold, Option, Some, None, IsSomeAnd}
+-- Which command a command line says, by clap's rules for the desk's grammar.
+use Rattle.std.specs.Prelude.{codes, decimal, ◌≡◌, ℕ, true, false, List, [], ◌∷◌, ◌++◌, map, fold, Option, Some, None}
+use Rattle.std.specs.Prelude.{IsSomeAnd}
 use Rattle.std.specs.Borrow.{Bor}
 use Rattle.clap.specs.declared.builder.command.Command.{Command as Grammar, out-Command}
 use Rattle.clap.specs.Words.{App, app_of, Row, Shape, first_of, fault_of, new_rule, subcommand_of}
@@ -13,35 +14,35 @@ use Rattle.kd_desk.specs.declared.command.Task.TheVariants as tasks
 use Rattle.kd_desk.specs.declared.command.Way.{Way}
 use Rattle.kd_desk.specs.declared.command.Way.TheVariants.{Send, Receive}
 
--- a command with its words: no options and no help
+-- a command with its words, without options and without help
 abbrev pub command_shape : List ℕ → List (List ℕ) → Shape
 command_shape name words = record (new_shape name) {
   disable_help_flag = true;
   rules = map new_rule words;
 }
 
--- a command that has no commands of its own
+-- a command without subcommands
 abbrev pub alone : Shape → App
 alone shape = record { top = shape; subs = [] }
 
--- the same with the words as they are borrowed
+-- `command_shape`, over borrowed words
 abbrev pub shape_with : List ℕ → List (Bor (List ℕ)) → Shape
 shape_with name words = command_shape name (map (λ word. word.now) words)
 
--- a grammar with these commands, each with its words
+-- the grammar with these commands added, each with its words
 abbrev pub with_commands : App → List (Bor (List ℕ) × Bor (List (Bor (List ℕ)))) → App
 with_commands app commands = fold (λ a command. with_subcommand a (shape_with command.0.now command.1.now)) app commands
 
--- a grammar is that command, and its words are its own alone
+-- the grammar is the command `name` with these words, none of which is global
 pub record IsMadeOf (grammar : Grammar) (name : List ℕ) (words : List (Bor (List ℕ))) : Type 0 where
   pub shape : app_of grammar ≡ alone (shape_with name words)
   pub local : (out-Command grammar).has_globals ≡ false
 
--- the words that name a machine file, a sheet and a day
+-- the words for a machine file, a sheet and a day
 abbrev pub day_words : List (List ℕ)
 day_words = codes "MACHINE" ∷ codes "SHEET" ∷ codes "DAY" ∷ []
 
--- the name of the command by which a message goes this way, and the word that names its file
+-- the name of the command that sends or receives, and the word for its file
 abbrev pub way_name : Way → List ℕ
 way_name Send = codes "send"
 way_name Receive = codes "receive"
@@ -59,7 +60,7 @@ apply_shape = command_shape (codes "apply") (codes "MACHINE" ∷ codes "LIST" �
 abbrev pub card_shape : Shape
 card_shape = command_shape (codes "card") day_words
 
--- a command with these words, and one that names a file more
+-- a command with a machine file, a sheet, a day and one more file
 abbrev pub file_shape : List ℕ → List ℕ → Shape
 file_shape name word = command_shape name (day_words ++ word ∷ [])
 
@@ -79,9 +80,9 @@ desk_grammar = record {
   subs = type_shape ∷ apply_shape ∷ card_shape ∷ check_shape ∷ way_shape Send ∷ way_shape Receive ∷ [];
 }
 
--- ---- a command with other files
+-- ---- the files of a command
 
--- with others in the place of those that are read whole, and of the one that is opened
+-- the task with `f` applied to the files that are read whole, and `g` to the one that is opened
 abbrev pub with_task_files : {F G O P : Type 0} → (F → G) → (O → P) → Task F O → Task G P
 with_task_files f g tasks.Card = tasks.Card
 with_task_files f g (tasks.Check card) = tasks.Check (f card)
@@ -95,7 +96,7 @@ with_action_files f g (actions.OnDay sheet day task) = actions.OnDay (f sheet) d
 abbrev pub with_files : {F G O P : Type 0} → (F → G) → (O → P) → Command F O → Command G P
 with_files f g command = record { machine = f command.machine; action = with_action_files f g command.action }
 
--- with the texts of names that were lent
+-- the task with its file names as texts, no longer borrowed
 abbrev pub task_named : Task (Bor (List ℕ)) (Bor (List ℕ)) → Task (List ℕ) (List ℕ)
 task_named task = with_task_files (λ name. name.now) (λ name. name.now) task
 
@@ -105,7 +106,7 @@ action_named action = with_action_files (λ name. name.now) (λ name. name.now) 
 abbrev pub named : Command (Bor (List ℕ)) (Bor (List ℕ)) → Command (List ℕ) (List ℕ)
 named command = with_files (λ name. name.now) (λ name. name.now) command
 
--- with another in the place of the one that is opened
+-- the task with `g` applied to the opened file
 abbrev pub with_task_opened : {F O P : Type 0} → (O → P) → Task F O → Task F P
 with_task_opened g task = with_task_files (λ file. file) g task
 
@@ -115,7 +116,7 @@ with_action_opened g action = with_action_files (λ file. file) g action
 abbrev pub with_opened : {F O P : Type 0} → (O → P) → Command F O → Command F P
 with_opened g command = with_files (λ file. file) g command
 
--- the file that is opened, where there is one
+-- the opened file, if the task has one
 abbrev pub task_opened : {F O : Type 0} → Task F O → Option O
 task_opened tasks.Card = None
 task_opened (tasks.Check card) = None
@@ -131,7 +132,7 @@ opened_by command = action_opened command.action
 
 -- ---- what the words say
 
--- a command whose files are known by their names
+-- a command with file names
 abbrev pub Named : Type 0
 Named = Command (List ℕ) (List ℕ)
 
@@ -141,7 +142,7 @@ NamedAction = Action (List ℕ) (List ℕ)
 abbrev pub NamedTask : Type 0
 NamedTask = Task (List ℕ) (List ℕ)
 
--- the name of the command that does this
+-- the name of the command for a task
 abbrev pub task_name : NamedTask → List ℕ
 task_name tasks.Card = codes "card"
 task_name (tasks.Check card) = codes "check"
@@ -152,13 +153,13 @@ action_name actions.Type = codes "type"
 action_name (actions.Apply list) = codes "apply"
 action_name (actions.OnDay sheet day task) = task_name task
 
--- the words that name a sheet, and a day by its number in decimal
+-- the words name this sheet and this day, whose number is in decimal
 pub record HaveDay (rows : List Row) (sheet : List ℕ) (day : ℕ) : Type 0 where
   pub sheet_word : first_of (codes "SHEET") rows ≡ Some sheet
   pub day_word : first_of (codes "DAY") rows ≡ Some (decimal day)
   pub of_month : IsDayNumber day
 
--- the values of the words behind the machine's are those of what is done
+-- the words name the files of the task
 abbrev pub HasFile : List Row → NamedTask → Type 0
 HasFile rows tasks.Card = Unit {0}
 HasFile rows (tasks.Check card) = first_of (codes "CARD") rows ≡ Some card
@@ -169,12 +170,12 @@ HasWords rows actions.Type = Unit {0}
 HasWords rows (actions.Apply list) = first_of (codes "LIST") rows ≡ Some list
 HasWords rows (actions.OnDay sheet day task) = HaveDay rows sheet day × HasFile rows task
 
--- a name and the values of words are those of what is done
+-- the command's name and the values of its words make this action
 pub record IsActionOf (said : List ℕ × List Row) (action : NamedAction) : Type 0 where
   pub name : said.0 ≡ action_name action
   pub words : HasWords said.1 action
 
--- they are those of the command, or of none
+-- the command's name and the values of its words make this command
 pub record IsOf (said : List ℕ × List Row) (command : Named) : Type 0 where
   pub machine : first_of (codes "MACHINE") said.1 ≡ Some command.machine
   pub action : IsActionOf said command.action
@@ -182,7 +183,7 @@ pub record IsOf (said : List ℕ × List Row) (command : Named) : Type 0 where
 abbrev pub IsOfNone : List ℕ × List Row → Type 0
 IsOfNone said = (command : Named) → ¬ (IsOf said command)
 
--- the words, the program's own name first, are taken by the grammar and say the command, or they say none
+-- the command line, the program's own name first, satisfies the grammar and is this command
 pub record Says (words : List (List ℕ)) (command : Named) : Type 0 where
   pub taken : fault_of desk_grammar words ≡ []
   pub said : IsSomeAnd (subcommand_of desk_grammar words) (λ said. IsOf said command)
@@ -190,7 +191,7 @@ pub record Says (words : List (List ℕ)) (command : Named) : Type 0 where
 abbrev pub SaysNothing : List (List ℕ) → Type 0
 SaysNothing words = (command : Named) → ¬ (Says words command)
 
--- the names of the files, in the order of the words
+-- the file names of a task, in the order of the words
 abbrev pub task_files : NamedTask → List (List ℕ)
 task_files tasks.Card = []
 task_files (tasks.Check card) = card ∷ []

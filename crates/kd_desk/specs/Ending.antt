@@ -1,4 +1,4 @@
--- How the program ends: its line on standard error, and its status.
+-- How the program ends: its line on standard error, and its exit status.
 use Rattle.std.specs.Prelude.{codes, ◌≡◌, ℕ, ◌||◌, List, [], ◌∷◌, ◌++◌, Result, Ok, Err, is_err}
 use Rattle.kd_tables.specs.declared.writing.Device.{Device}
 use Rattle.kd_tables.specs.Ports.{Port}
@@ -13,19 +13,19 @@ use Rattle.kd_desk.specs.Stops.{fault_of_file}
 abbrev pub refused_line : DeskFault → List ℕ
 refused_line fault = codes "refused " ++ desk_fault_text fault ++ 10 ∷ []
 
--- the line that tells what stopped the program
+-- the line for a `Stop`
 abbrev pub stop_line : Stop → List ℕ
 stop_line Usage = codes "usage: desk COMMAND WORDS" ++ 10 ∷ []
 stop_line (Unread fault) = refused_line (fault_of_file fault)
 stop_line ReadFailed = refused_line faults.Device
 stop_line (Refused fault) = refused_line fault
 
--- what is told on standard error: nothing where all was done
+-- what is written to standard error: nothing if all went well
 abbrev pub told_of : Result (Unit {0}) Stop → List ℕ
 told_of (Ok done) = []
 told_of (Err stop) = stop_line stop
 
--- the status: 0 where all was done, 2 for words that are no command, 1 for a refusal
+-- the exit status: 0 if all went well, 2 for words that are no command, 1 for a refusal
 abbrev pub status_of : Result (Unit {0}) Stop → ℕ
 status_of (Ok done) = 0
 status_of (Err Usage) = 2
@@ -33,7 +33,7 @@ status_of (Err (Unread fault)) = 1
 status_of (Err ReadFailed) = 1
 status_of (Err (Refused fault)) = 1
 
--- The program ends with the status of this answer. What is told of it was written to standard error, or a prefix where
+-- The program ends with the status of this answer. Its line was written to standard error, or a prefix of it if
 -- that failed.
 pub record EndsAs (answer : Result (Unit {0}) Stop) (errors : Port) (status : ℕ) : Type 0 where
   pub ends : status ≡ status_of answer

@@ -1,4 +1,4 @@
--- What is told of a command that is refused.
+-- How each fault of a command is written.
 use Rattle.std.specs.Prelude.{ℕ, List}
 use Rattle.kd_tables.specs.declared.refusal.Refusal.TheVariants as refusals
 use Rattle.kd_tables.specs.Refusals.{refusal_name}

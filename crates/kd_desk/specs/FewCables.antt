@@ -16,12 +16,14 @@ FileUsesNoneAbove number file = (m : Parts) → machine_of file ≡ Ok m → Use
 
 -- the settings of the card name no cable above `number`
 abbrev pub CardNamesNoneAbove : ℕ → List ℕ → Type 0
-CardNamesNoneAbove number card = (settings : List Setting) → AreSettings card settings → All (NamesNoneAbove number) settings
+CardNamesNoneAbove number card =
+    (settings : List Setting) → AreSettings card settings → All (NamesNoneAbove number) settings
 
 -- the sheet's day has at most `number` pairs
 abbrev pub DayHasPairsUpTo : ℕ → List ℕ → ℕ → Type 0
 DayHasPairsUpTo number sheet day =
-    (month : List (Option Day)) (s : Day) → sheet_of sheet ≡ Ok month → day_of month day ≡ Some s → HasPairsUpTo number s
+    (month : List (Option Day)) (s : Day) → sheet_of sheet ≡ Ok month → day_of month day ≡ Some s
+    → HasPairsUpTo number s
 
 -- a day's card and the machine's file after it keep to the first `number` cables
 pub record KeepsToFirst (number : ℕ) (papers : Papers) : Type 0 where

@@ -1,4 +1,4 @@
--- What is read of a file, and what is known of one that is opened.
+-- Reading and opening files: what is known of their bytes, and which names were asked for.
 use Rattle.std.specs.Prelude.{◌≡◌, ◌⊎◌, ℕ, ◌+◌, ◌≤◌, nat_le, Bool, true, false, IsTrue, List, [], ◌∷◌, ◌++◌, map}
 use Rattle.std.specs.Prelude.{length, Option, Some, None, Result, Ok, Err, find, bytes_eq, option_map, if◌then◌else◌}
 use Rattle.std.specs.Result.{result_map_both}
@@ -8,12 +8,12 @@ use Rattle.kd_tables.specs.Ports.{read_limit, Port, IsWell}
 use Rattle.kd_desk.specs.declared.files.fault.FileFault.{FileFault}
 use Rattle.kd_desk.specs.declared.files.fault.FileFault.TheVariants.{NoMemory, Device, ReadTooLong}
 
--- the bytes of a file, if it is there and not too long
+-- the bytes of a file, or why it can't be read: there is none, or it is too long
 abbrev pub content_of : Option (List ℕ) → Result (List ℕ) FileFault
 content_of None = Err Device
 content_of (Some bytes) = if nat_le (length bytes) read_limit then Ok bytes else Err ReadTooLong
 
--- what is known of a file that was opened: the bytes that it has yet to give, and whether a read of it has failed
+-- what is known of an opened file: the bytes that are still to come, and whether a read of it has failed
 pub record Opened : Type 0 where
   pub bytes : Option (List ℕ)
   pub failed : Bool
@@ -21,28 +21,28 @@ pub record Opened : Type 0 where
 abbrev pub opened : {O : Type 0} → (O → Option (List ℕ)) → (O → Bool) → O → Opened
 opened bytes failed file = record { bytes = bytes file; failed = failed file }
 
--- the file, opened, if it is there: all of its bytes are yet to come
+-- the opened file, if there is one: all of its bytes are still to come
 abbrev pub opening_of : Option (List ℕ) → Result Opened FileFault
 opening_of None = Err Device
 opening_of (Some bytes) = Ok (record { bytes = Some bytes; failed = false })
 
--- the bytes of the first file of this name, among files that are names with bytes
+-- the bytes of the first file with this name, in a list of names with bytes
 abbrev pub held_in : List (Bor (List ℕ) × Bor (List ℕ)) → List ℕ → Option (List ℕ)
 held_in files name = option_map (λ file. file.1.now) (find (λ file. bytes_eq file.0.now name) files)
 
--- the answer is the one that is meant, unless memory ran out
+-- the answer is the one expected, unless memory ran out
 abbrev pub Gives : {X : Type 0} → Result X FileFault → Result X FileFault → Type 0
 Gives meant answer = (answer ≡ meant) ⊎ (answer ≡ Err NoMemory)
 
--- the same, by what is known of an opened file that is answered, or of the one that the answer holds
+-- the answer, with the opened file replaced by what is known of it, is the one expected
 abbrev pub IsOpening : {O : Type 0} → Result Opened FileFault → (O → Opened) → Result O FileFault → Type 0
 IsOpening meant known answer = result_map_both known (λ fault. fault) answer ≡ meant
 
 abbrev pub IsReading : {X Y : Type 0} → Result Y FileFault → (X → Y) → Result X FileFault → Type 0
 IsReading meant known answer = Gives meant (result_map_both known (λ fault. fault) answer)
 
--- What was read of a source, by the answer: all that it had; or one byte more than a file may have; or what came before a
--- read failed, or memory ran out.
+-- What was read of a source, by the answer: all that it had; one byte more than a file may have; or what came
+-- before a read failed or memory ran out.
 abbrev pub IsReadAs : Port → List ℕ → Result (List ℕ) FileFault → Type 0
 IsReadAs source read (Ok bytes) = (bytes ≡ read) × (length read ≤ read_limit) × IsAtEnd source.has × IsWell source
 IsReadAs source read (Err ReadTooLong) = (length read ≡ read_limit + 1) × IsWell source
@@ -54,7 +54,7 @@ pub record IsReadWhole (source : Port) (answer : Result (List ℕ) FileFault) : 
   pub given : Consumes source.had source.has read
   pub is : IsReadAs source read answer
 
--- a name that was asked for, and whether its file was had
+-- a name that was asked for, and whether its file could be read or opened
 abbrev pub Asking : Type 0
 Asking = List ℕ × Bool
 
@@ -71,7 +71,7 @@ pub record MissesOne (names : List (List ℕ)) (old new : List Asking) : Type 0 
   pub names_are : names ≡ before ++ name ∷ after
   pub asked : new ≡ old ++ (map had before ++ missed name ∷ [])
 
--- these names were asked for in turn: all were had, or the first that was not is the last that was asked for
+-- the names were asked for in order, all of them, or up to the first whose file couldn't be read or opened
 abbrev pub AskFor : List (List ℕ) → List Asking → List Asking → Bool → Type 0
 AskFor names old new true = new ≡ old ++ map had names
 AskFor names old new false = MissesOne names old new

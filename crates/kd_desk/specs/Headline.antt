@@ -1,4 +1,4 @@
--- What a card promises of the machine that it leaves.
+-- What a card promises of the machine to which it leads.
 use Rattle.std.specs.Prelude.{◌≡◌, ◌<◌, ℕ, List, All}
 use Rattle.kd_state.specs.declared.machine.parts.Parts.{Parts}
 use Rattle.kd_state.specs.declared.setting.Setting.{Setting}
@@ -8,18 +8,18 @@ use Rattle.kd_state.specs.SheetDay.{Day}
 use Rattle.kd_state.specs.OnKey.{OnKey, ReadsAs}
 use Rattle.kd_state.specs.TwoCiphers.{IsReady, window_of, physical_cipher, sheet_cipher}
 
--- the machine reads as the day, so it is ready, and it enciphers each text as the day's own machine
+-- the machine reads as the day, is ready, and enciphers each text as the day's own machine
 pub record IsSheetsMachine (n : Parts) (s : Day) : Type 0 where
   pub machine : IsMachine n
   pub reads : ReadsAs n s
   pub ready : IsReady n
   pub enciphers : (text : List ℕ) → physical_cipher n text ≡ sheet_cipher s text
 
--- the settings, carried out one after another, every one legal, leave such a machine
+-- each setting is legal after the ones before it, and together they lead to a machine that reads as the day
 abbrev pub LeavesTheSheetsMachine : Parts → Day → List Setting → Type 0
 LeavesTheSheetsMachine m s settings = (n : Parts) × Leads m settings n × IsSheetsMachine n s
 
--- two machines are on the day's key and show the same letters, whichever these are
+-- two machines are on the day's key and show the same letters
 pub record AreEquallySet (s : Day) (one other : Parts) : Type 0 where
   pub machine : IsMachine one
   pub other_machine : IsMachine other
@@ -27,7 +27,7 @@ pub record AreEquallySet (s : Day) (one other : Parts) : Type 0 where
   pub other_on_key : OnKey other s
   pub letters : window_of one ≡ window_of other
 
--- what a machine enciphers an equally set one deciphers
+-- a machine deciphers what an equally set one enciphers
 abbrev pub EquallySetDecipher : Day → Type 0
 EquallySetDecipher s =
     (one other : Parts) (text : List ℕ) → AreEquallySet s one other → All (λ letter. letter < 26) text

@@ -1,4 +1,4 @@
--- A month on one machine: for day after day of a sheet a card, and the machine's next file.
+-- A month on one machine: a card for each day, and the machine's file after it.
 use Rattle.std.specs.Prelude.{◌≡◌, ◌⊎◌, ℕ, List, [], ◌∷◌, false, Option, Some, Result, Ok, IfOk}
 use Rattle.std.specs.List.{AllZip}
 use Rattle.kd_tables.specs.declared.model.Model.{Model}
@@ -25,29 +25,28 @@ pub record Papers : Type 0 where
   pub card : List ℕ
   pub file : List ℕ
 
--- a sink that has taken the text and nothing else, and the answer of a call that went well
+-- a sink that has taken just this text, and a call that went well
 abbrev pub taken : List ℕ → Port
 taken text = record { had = Some []; has = Some text; had_failed = false; has_failed = false }
 
 abbrev pub well : Result (Unit {0}) DeskFault
 well = Ok tt
 
--- the card is what `run_card` writes of a machine's file and the sheet's day of that number, and the next file is what
--- `run_apply` writes of the file and that card
+-- the card is what `run_card` writes for the machine's file and day `number`, and the next file is what
+-- `run_apply` writes for the file and that card
 pub record AreWritten (file sheet : List ℕ) (number : ℕ) (papers : Papers) : Type 0 where
   pub printed : OnDay file sheet number (λ m s. Prints m s number (taken papers.card) well) well
   pub applied : IfOk (machine_of file) (λ m. Applies m papers.card (taken papers.file) well ⊎ LacksMemory well)
 
--- so they are for day after day, each card of the file before it
+-- cards and files are written for one day after another, each card from the file before it
 abbrev pub AreWrittenInTurn : List ℕ → List ℕ → List ℕ → List Papers → Type 0
 AreWrittenInTurn file sheet [] [] = Unit {0}
 AreWrittenInTurn file sheet (number ∷ numbers) (papers ∷ more) =
     AreWritten file sheet number papers × AreWrittenInTurn papers.file sheet numbers more
 AreWrittenInTurn file sheet numbers papers = ⊥
 
--- the card's settings lead the file's machine to that of the next file, which reads and enciphers as the sheet's day of
--- that number, the card's prices prove it, no settings whatever that lead to the day are fewer, and spare cables stay
--- free
+-- The card's settings lead from the file's machine to the next file's, which reads and enciphers as day
+-- `number`. The card's prices prove it, no fewer settings lead to the day, and spare cables stay free.
 pub record SetTheMachine (file sheet : List ℕ) (number : ℕ) (papers : Papers) : Type 0 where
   pub m : Parts
   pub of_file : machine_of file ≡ Ok m
@@ -64,14 +63,14 @@ pub record SetTheMachine (file sheet : List ℕ) (number : ℕ) (papers : Papers
   pub of_next : machine_of papers.file ≡ Ok n
   pub sheets : IsSheetsMachine n s
 
--- so they do, day after day
+-- the card and the file of each day set the machine to that day
 abbrev pub SetTheMachineInTurn : List ℕ → List ℕ → List ℕ → List Papers → Type 0
 SetTheMachineInTurn file sheet [] [] = Unit {0}
 SetTheMachineInTurn file sheet (number ∷ numbers) (papers ∷ more) =
     SetTheMachine file sheet number papers × SetTheMachineInTurn papers.file sheet numbers more
 SetTheMachineInTurn file sheet numbers papers = ⊥
 
--- the days of the month that have these numbers
+-- the days of the month with these numbers
 abbrev pub AreDaysOf : List (Option Day) → List ℕ → List Day → Type 0
 AreDaysOf month numbers days = AllZip (λ number s. day_of month number ≡ Some s) numbers days
 
@@ -79,19 +78,20 @@ AreDaysOf month numbers days = AllZip (λ number s. day_of month number ≡ Some
 abbrev pub AreCardsOf : List Papers → List (List Setting) → Type 0
 AreCardsOf papers cards = AllZip (λ paper settings. AreSettings paper.card settings) papers cards
 
--- the month has a day of that number, and it is of the model
+-- the month has a day with this number, and it is of this model
 pub record HasDayOf (model : Model) (month : List (Option Day)) (number : ℕ) : Type 0 where
   pub s : Day
   pub of_month : day_of month number ≡ Some s
   pub of_model : day_model s ≡ model
 
--- from each file of the one machine there are a card and a next file for the day, and that is a file of the other one
+-- from each file of machine `m`, a card for the day and a next file can be written, and the next file is one of
+-- machine `n`
 abbrev pub HasPapers : Parts → Day → Parts → Type 0
 HasPapers m s n = (file sheet : List ℕ) (month : List (Option Day)) → machine_of file ≡ Ok m → sheet_of sheet ≡ Ok month
     → day_of month (day_number s) ≡ Some s
     → (papers : Papers) × AreWritten file sheet (day_number s) papers × (machine_of papers.file ≡ Ok n)
 
--- and there are such for days of the month, one after another
+-- cards and files for these days can be written, one after another
 abbrev pub HasPapersInTurn : Parts → List (Option Day) → List ℕ → Type 0
 HasPapersInTurn m month numbers = (file sheet : List ℕ) → machine_of file ≡ Ok m → sheet_of sheet ≡ Ok month
     → (papers : List Papers) × AreWrittenInTurn file sheet numbers papers

@@ -10,11 +10,12 @@ use Rattle.kd_sheet.specs.SheetFile.{sheet_of}
 use Rattle.kd_desk.specs.declared.fault.DeskFault.{DeskFault}
 use Rattle.kd_desk.specs.declared.fault.DeskFault.TheVariants.{File, NoSuchDay}
 
--- The bytes of a machine file say a machine, and those of a sheet a day of that number; or this is the first fault: of the
--- machine file, of the sheet, or that it has no such day. Or memory ran out over the files.
+-- The files describe a machine and a day with this number, or give the first fault: of the machine file, of the
+-- sheet, or that there is no such day. Or memory ran out over the files.
 pub data FindsDay (machine sheet : List ℕ) (number : ℕ) (found : Result (Parts × Day) DeskFault) : Type 0 where
   LackedMemory : found ≡ Err (File NoMemory) → FindsDay machine sheet number found
-  NoMachine : (fault : SheetFault) → machine_of machine ≡ Err fault → found ≡ Err (File fault) → FindsDay machine sheet number found
+  NoMachine : (fault : SheetFault) → machine_of machine ≡ Err fault → found ≡ Err (File fault)
+      → FindsDay machine sheet number found
   NoSheet : (m : Parts) (fault : SheetFault) → machine_of machine ≡ Ok m → sheet_of sheet ≡ Err fault
       → found ≡ Err (File fault) → FindsDay machine sheet number found
   NoDay : (m : Parts) (days : List (Option Day)) → machine_of machine ≡ Ok m → sheet_of sheet ≡ Ok days
@@ -22,8 +23,9 @@ pub data FindsDay (machine sheet : List ℕ) (number : ℕ) (found : Result (Par
   Found : (m : Parts) (days : List (Option Day)) (s : Day) → machine_of machine ≡ Ok m → sheet_of sheet ≡ Ok days
       → day_of days number ≡ Some s → found ≡ Ok (m, s) → FindsDay machine sheet number found
 
--- this is done with the machine and the day, or the first fault is answered
-pub record OnDay (machine sheet : List ℕ) (number : ℕ) (does : Parts → Day → Type 0) (answer : Result (Unit {0}) DeskFault) : Type 0 where
+-- the machine and the day satisfy `does`, or the answer is the first fault
+pub record OnDay (machine sheet : List ℕ) (number : ℕ) (does : Parts → Day → Type 0)
+    (answer : Result (Unit {0}) DeskFault) : Type 0 where
   pub found : Result (Parts × Day) DeskFault
   pub finds : FindsDay machine sheet number found
   pub done : MatchResult found (λ on. does on.0 on.1) (λ fault. answer ≡ Err fault)

@@ -5,7 +5,7 @@ use Rattle.kd_tables.specs.Writing.{Writes}
 use Rattle.kd_desk.specs.declared.fault.DeskFault.{DeskFault}
 use Rattle.kd_desk.specs.declared.fault.DeskFault.TheVariants.{Device}
 
--- the text was written, or a prefix of it where the device failed
+-- the text was written, or a prefix of it if the device failed
 pub record WritesText (text : List ℕ) (sink : Port) (answer : Result (Unit {0}) DeskFault) : Type 0 where
   pub written : Writes sink.had sink.has text answer
   pub device : OnErr answer (answer ≡ Err Device)

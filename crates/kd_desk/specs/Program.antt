@@ -1,12 +1,13 @@
--- What the program does: the command that its words say, on the files that they name.
-use Rattle.std.specs.Prelude.{◌≡◌, ◌⊎◌, ℕ, Bool, true, false, List, [], ◌++◌, Option, None, Some, IfSome}
+-- What the program does: the command of its command line, on the files that the command line names.
+use Rattle.std.specs.Prelude.{◌≡◌, ◌⊎◌, ℕ, Bool, true, false, List, [], Option, None, Some, IfSome}
 use Rattle.std.specs.Prelude.{Result, Ok, Err, IfOk, IfErr, IsTrue}
 use Rattle.kd_sheet.specs.declared.fault.SheetFault.TheVariants.{NoMemory}
 use Rattle.kd_sheet.specs.MachineFile.{machine_of}
 use Rattle.kd_state.specs.declared.machine.parts.Parts.{Parts}
 use Rattle.kd_state.specs.SheetDay.{Day}
 use Rattle.kd_desk.specs.CommandLine.{Says, SaysNothing, files_of}
-use Rattle.kd_desk.specs.CommandLine.{Named, NamedAction, NamedTask, with_opened, with_task_opened, opened_by, task_opened}
+use Rattle.kd_desk.specs.CommandLine.{Named, NamedAction, NamedTask, with_opened, with_task_opened, opened_by}
+use Rattle.kd_desk.specs.CommandLine.{task_opened}
 use Rattle.kd_desk.specs.declared.command.Command.{Command}
 use Rattle.kd_desk.specs.declared.command.Action.{Action}
 use Rattle.kd_desk.specs.declared.command.Action.TheVariants as actions
@@ -31,7 +32,7 @@ use Rattle.kd_desk.specs.RunCard.{Prints}
 use Rattle.kd_desk.specs.RunCheck.{Checks}
 use Rattle.kd_desk.specs.RunSteps.{LacksMemory, AnswersFault, is_refused_before, is_device}
 
--- a command with what is known of its files: the bytes of those that are read whole
+-- a command with what is known of its files: the bytes of those read whole, and the opened one
 abbrev pub KnownTask : Type 0
 KnownTask = Task (List ℕ) Opened
 
@@ -41,12 +42,12 @@ KnownAction = Action (List ℕ) Opened
 abbrev pub KnownCommand : Type 0
 KnownCommand = Command (List ℕ) Opened
 
--- what a file gives goes into what is made of it, or its fault stands for it
+-- goes on with `made` and the file, or gives the file's fault
 abbrev pub with_file : {F X : Type 0} → Result F FileFault → (F → Result X FileFault) → Result X FileFault
 with_file (Ok file) made = made file
 with_file (Err fault) made = Err fault
 
--- a command with what its files' names stand for, or the fault of the first that can't be had, in the order of the words
+-- a task with the contents of its files, or the fault of the first file that can't be read or opened
 abbrev pub task_over : (List ℕ → Option (List ℕ)) → NamedTask → Result KnownTask FileFault
 task_over held tasks.Card = Ok tasks.Card
 task_over held (tasks.Check card) = with_file (content_of (held card)) (λ bytes. Ok (tasks.Check bytes))
@@ -63,66 +64,68 @@ command_over held command =
     with_file (content_of (held command.machine))
     (λ bytes. with_file (action_over held command.action) (λ a. Ok (record { machine = bytes; action = a })))
 
--- a text was typed on the machine of a machine file, or the call was refused for the file
+-- a text was typed on the machine of a machine file, or the machine file was refused
 pub record TypesOn (machine : List ℕ) (source sink : Port) (answer : Result (Unit {0}) DeskFault) : Type 0 where
   pub refused : IfErr (machine_of machine) (λ fault. AnswersFault answer (File fault))
   pub typed : IfOk (machine_of machine) (λ m. Types m source sink answer ⊎ LacksMemory answer)
 
--- settings were carried out on the machine of a machine file, or the call was refused for the file
+-- settings were carried out on the machine of a machine file, or the machine file was refused
 pub record AppliesTo (machine list : List ℕ) (sink : Port) (answer : Result (Unit {0}) DeskFault) : Type 0 where
   pub refused : IfErr (machine_of machine) (λ fault. AnswersFault answer (File fault))
   pub applied : IfOk (machine_of machine) (λ m. Applies m list sink answer ⊎ LacksMemory answer)
 
--- what a task does with a machine and a day: a message's file is read as a source is
+-- what a task does with a machine and a day; a message's file is read like a source
 abbrev pub DoesTask : Task (List ℕ) Port → ℕ → Port → Result (Unit {0}) DeskFault → Parts → Day → Type 0
 DoesTask tasks.Card number sink answer m s = Prints m s number sink answer
 DoesTask (tasks.Check card) number sink answer m s = Checks m s number card sink answer
 DoesTask (tasks.Message Send order) number sink answer m s = Sends m s order sink answer
 DoesTask (tasks.Message Receive form) number sink answer m s = Receives m s form sink answer
 
--- what is done with the machine of a machine file: only typing looks at the source
+-- what an action does with the machine of a machine file; only typing reads the source
 abbrev pub DoesAction : List ℕ → Action (List ℕ) Port → Port → Port → Result (Unit {0}) DeskFault → Type 0
 DoesAction machine actions.Type source sink answer = TypesOn machine source sink answer
 DoesAction machine (actions.Apply list) source sink answer = AppliesTo machine list sink answer × IsLeft source
 DoesAction machine (actions.OnDay sheet day task) source sink answer =
     OnDay machine sheet day (DoesTask task day sink answer) answer × IsLeft source
 
--- what a command does, with the bytes of its files
+-- what a command does with the bytes of its files
 abbrev pub Does : Command (List ℕ) Port → Port → Port → Result (Unit {0}) DeskFault → Type 0
 Does command source sink answer = DoesAction command.machine command.action source sink answer
 
--- a file that was opened, from what was known of it before to what is known after
+-- the opened file as a port, from what was known of it before to what is known after
 abbrev pub read_to : Opened → Opened → Port
 read_to left file = record { had = file.bytes; has = left.bytes; had_failed = file.failed; has_failed = left.failed }
 
--- whether a read of the file failed, where one is opened
+-- whether a read of the opened file failed, if there is one
 abbrev pub has_file_failed : Option Opened → Opened → Bool
 has_file_failed None left = false
 has_file_failed (Some file) left = left.failed
 
--- no read of the file has failed yet, where one is opened
+-- no read of the opened file has failed yet, if there is one
 abbrev pub IsUnfailed : {O : Type 0} → (O → Bool) → Option O → Type 0
 IsUnfailed failed file = IfSome file (λ f. failed f ≡ false)
 
--- memory ran out, over the words or a file's bytes, or as a file was read
+-- memory ran out, over the command line or over a file
 abbrev pub StopsForMemory : Result (Unit {0}) Stop → Type 0
 StopsForMemory answer = (answer ≡ Err (Refused (File NoMemory))) ⊎ (answer ≡ Err (Unread files.NoMemory))
 
--- A command was carried out, and what it answered stops the program, or ends it well. Of a file that it opened, this is left.
+-- A command was carried out, and its answer stops the program or ends it well. `left` is what is left of the
+-- file that it opened.
 pub record IsDone (command : KnownCommand) (source sink : Port) (answer : Result (Unit {0}) Stop) : Type 0 where
   pub left : Opened
   pub told : Result (Unit {0}) DeskFault
   pub does : Does (with_opened (read_to left) command) source sink told
   pub answers : answer ≡ stop_after (has_file_failed (opened_by command) left) told
 
--- the same of a task, with a machine file and a day of a sheet
-pub record IsTaskDone (machine sheet : List ℕ) (number : ℕ) (task : KnownTask) (sink : Port) (answer : Result (Unit {0}) Stop) : Type 0 where
+-- `IsDone` for a task, with a machine file and a day of a sheet
+pub record IsTaskDone (machine sheet : List ℕ) (number : ℕ) (task : KnownTask) (sink : Port)
+    (answer : Result (Unit {0}) Stop) : Type 0 where
   pub left : Opened
   pub told : Result (Unit {0}) DeskFault
   pub does : OnDay machine sheet number (DoesTask (with_task_opened (read_to left) task) number sink told) told
   pub answers : answer ≡ stop_after (has_file_failed (task_opened task) left) told
 
--- A command was carried out, or it was refused for a file that can't be had; or memory ran out.
+-- A command was carried out, or was refused for a file that can't be read or opened; or memory ran out.
 abbrev pub CarriesOut : Result KnownCommand FileFault → Port → Port → Result (Unit {0}) Stop → Type 0
 CarriesOut (Ok command) source sink answer = IsDone command source sink answer ⊎ StopsForMemory answer
 CarriesOut (Err fault) source sink answer = (answer ≡ Err (Unread fault)) ⊎ StopsForMemory answer
@@ -135,20 +138,20 @@ is_stopped_before (Err (Unread _)) = true
 is_stopped_before (Err ReadFailed) = false
 is_stopped_before (Err (Refused fault)) = is_refused_before (Err fault)
 
--- whether the program stopped at a standard input or output that failed
+-- whether the program stopped because standard input or output failed
 abbrev pub is_stopped_by_port : Result (Unit {0}) Stop → Bool
 is_stopped_by_port (Err (Refused fault)) = is_device (Err fault)
 is_stopped_by_port _ = false
 
--- Which files were asked for, by the answer: each up to the first that could not be had; none where memory ran out over
--- the words; and else all of them.
+-- Which files were asked for, by the answer: none, if memory ran out over the command line; each up to the
+-- first that couldn't be read or opened; otherwise all of them.
 abbrev pub AsksFor : List (List ℕ) → List Asking → Result (Unit {0}) Stop → Type 0
 AsksFor names asked (Err Usage) = asked ≡ []
 AsksFor names asked (Err (Unread fault)) = AskFor names [] asked false
 AsksFor names asked (Err (Refused fault)) = AskFor names [] asked true ⊎ ((asked ≡ []) × (fault ≡ File NoMemory))
 AsksFor names asked answer = AskFor names [] asked true
 
--- What the program answered to its words, over files of which so much is known, and which names it asked for.
+-- The program's answer to a command line, with what is known of the files, and the names that it asked for.
 pub record IsRun (words : List (List ℕ)) (known : Option (List ℕ → Option (List ℕ))) (asked : List Asking)
     (source sink : Port) (Untouched : Type 0) (answer : Result (Unit {0}) Stop) : Type 0 where
   pub carried : (command : Named) → Says words command
@@ -160,7 +163,7 @@ pub record IsRun (words : List (List ℕ)) (known : Option (List ℕ → Option 
   pub untouched : IsTrue (is_stopped_before answer) → Untouched
   pub failed : Fail source sink (is_stopped_by_port answer)
 
--- The program answered what is so, and it ended as that answer says.
+-- The program's answer satisfies `IsSo`, and it ended as that answer says.
 pub record HasEnded (IsSo : Result (Unit {0}) Stop → Type 0) (errors : Port) (status : ℕ) : Type 0 where
   pub answer : Result (Unit {0}) Stop
   pub is_so : IsSo answer

@@ -1,4 +1,4 @@
--- What the desk does with a machine and with bytes that say settings.
+-- What the desk does with a machine and the bytes of a list or a card.
 use Rattle.std.specs.Prelude.{◌≡◌, ℕ, List, Result, Ok, Err}
 use Rattle.kd_state.specs.declared.machine.parts.Parts.{Parts}
 use Rattle.kd_state.specs.declared.setting.Setting.{Setting}
@@ -12,9 +12,9 @@ use Rattle.kd_tables.specs.Ports.{Port}
 use Rattle.kd_desk.specs.Ports.{WritesText}
 use Rattle.kd_desk.specs.Settings.{AreSettings, IsSettingsFault}
 
--- What becomes of a machine and of bytes that say settings: they say none, for their fault; or the first line that the machine
--- refuses in its turn is told; or the settings lead it to another machine, whose file is written: whoever reads that file
--- finds just this machine.
+-- The bytes are no settings, and their fault is answered; or the first line that the machine refuses is
+-- answered; or the settings lead to another machine, and its file is written. Whoever reads that file gets just
+-- this machine.
 pub data Applies (m : Parts) (bytes : List ℕ) (sink : Port) (answer : Result (Unit {0}) DeskFault) : Type 0 where
   NoSettings : (fault : DeskFault) → IsSettingsFault bytes fault → answer ≡ Err fault → Applies m bytes sink answer
   RefusedLine : (settings : List Setting) (fault : IllegalAt) → AreSettings bytes settings

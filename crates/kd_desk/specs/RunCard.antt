@@ -1,4 +1,4 @@
--- What the desk writes where it prints a card.
+-- What the desk writes as a card.
 use Rattle.std.specs.Prelude.{◌≡◌, ◌≢◌, ℕ, List, Result, Err}
 use Rattle.kd_state.specs.declared.machine.parts.Parts.{Parts}
 use Rattle.kd_state.specs.declared.setting.Setting.{Setting}
@@ -16,11 +16,12 @@ use Rattle.kd_desk.specs.Headline.{LeavesTheSheetsMachine, EquallySetDecipher}
 use Rattle.kd_tables.specs.Ports.{Port}
 use Rattle.kd_desk.specs.Ports.{WritesText}
 
--- The text of a card for day `number` was written, or a prefix of it where the device failed. The card has a price for each
--- kind; the prices by number that these mean prove it, and with them it is a planned card: no settings that reach the day are
--- fewer, and spare cables stay free. Its settings leave a machine that is ready and enciphers as the day's own; and what a
--- machine on the day's key enciphers an equally set one deciphers.
-pub record WritesCard (m : Parts) (s : Day) (number : ℕ) (sink : Port) (answer : Result (Unit {0}) DeskFault) : Type 0 where
+-- The text of a card for day `number` was written, or a prefix of it if the device failed. The card has one
+-- price for each kind. They stand for prices by number, which prove the card and make it a planned one: no
+-- fewer settings reach the day, and spare cables stay free. Its settings lead to a machine that is ready and
+-- enciphers as the day's own. A machine on the day's key deciphers what an equally set one enciphers.
+pub record WritesCard (m : Parts) (s : Day) (number : ℕ) (sink : Port)
+    (answer : Result (Unit {0}) DeskFault) : Type 0 where
   pub settings : List Setting
   pub prices : PriceParts
   pub version : version_of prices ≡ ByKind
@@ -32,7 +33,7 @@ pub record WritesCard (m : Parts) (s : Day) (number : ℕ) (sink : Port) (answer
   pub card : IsCard text number settings prices
   pub written : WritesText text sink answer
 
--- a card of the machine for the day: refused where they are of different models, and else written
+-- machine and day are of different models, or a card was written
 pub data Prints (m : Parts) (s : Day) (number : ℕ) (sink : Port) (answer : Result (Unit {0}) DeskFault) : Type 0 where
   Different : model_of m ≢ day_model s → answer ≡ Err OtherModel → Prints m s number sink answer
   Card : WritesCard m s number sink answer → Prints m s number sink answer

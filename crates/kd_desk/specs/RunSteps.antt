@@ -1,4 +1,4 @@
--- What the desk answers to a machine file, and to what comes with it.
+-- Answers of a call: out of memory, a fault, refused before anything was written, a failed device.
 use Rattle.std.specs.Prelude.{◌≡◌, ◌⊎◌, Bool, true, false, Result, Ok, Err}
 use Rattle.kd_sheet.specs.declared.fault.SheetFault.TheVariants.{NoMemory}
 use Rattle.kd_desk.specs.declared.fault.DeskFault.{DeskFault}

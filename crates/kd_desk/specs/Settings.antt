@@ -1,4 +1,4 @@
--- What bytes say as settings: a card's, where they begin as a card does, and else a list's.
+-- Settings as bytes: a card if they begin as one, otherwise a list.
 use Rattle.std.specs.Prelude.{codes, ◌≡◌, ℕ, nat_eq, Bool, List, IsTrue, IsFalse}
 use Rattle.std.specs.List.{starts_with}
 use Rattle.kd_state.specs.declared.setting.Setting.{Setting}
@@ -15,7 +15,7 @@ use Rattle.kd_desk.specs.declared.fault.DeskFault.TheVariants as faults
 abbrev pub begins_as_card : List ℕ → Bool
 begins_as_card bytes = starts_with nat_eq bytes (codes "CARD ")
 
--- the bytes are a card of these settings, whatever its day and its prices, or a list of them
+-- the bytes are a card with these settings, for any day and with any prices, or a list of them
 pub data AreSettings (bytes : List ℕ) (settings : List Setting) : Type 0 where
   OfCard : IsTrue (begins_as_card bytes) → (day : ℕ) (prices : PriceParts) → IsCard bytes day settings prices
       → AreSettings bytes settings

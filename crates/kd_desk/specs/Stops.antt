@@ -10,23 +10,23 @@ use Rattle.kd_sheet.specs.declared.fault.SheetFault.TheVariants.{NoMemory}
 use Rattle.kd_desk.specs.declared.stop.Stop.{Stop}
 use Rattle.kd_desk.specs.declared.stop.Stop.TheVariants.{Usage, ReadFailed, Refused}
 
--- what keeps a file from being read: want of memory, or the device
+-- why a file can't be read: no memory, or the device failed
 abbrev pub fault_of_kind : ErrorKind → FileFault
 fault_of_kind OutOfMemory = files.NoMemory
 fault_of_kind _ = files.Device
 
--- the refusal of the desk that a file's fault is
+-- the desk's fault for a file's fault
 abbrev pub fault_of_file : FileFault → DeskFault
 fault_of_file files.NoMemory = File NoMemory
 fault_of_file files.Device = Device
 fault_of_file files.ReadTooLong = ReadTooLong
 
--- what keeps the program's words from being read: want of memory, or a word that is no text
+-- why the command line can't be read: no memory, or a word that isn't UTF-8
 abbrev pub stop_of_kind : ErrorKind → Stop
 stop_of_kind OutOfMemory = Refused (File NoMemory)
 stop_of_kind _ = Usage
 
--- what stops the program where a command answers this: a device that failed is the file's, where that has failed
+-- the `Stop` for a command's answer; a failed device is the opened file's, if a read of that file failed
 abbrev pub stop_after : Bool → Result (Unit {0}) DeskFault → Result (Unit {0}) Stop
 stop_after file_failed (Ok done) = Ok done
 stop_after true (Err Device) = Err ReadFailed

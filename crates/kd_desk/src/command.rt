@@ -1,7 +1,9 @@
+//! The desk's commands, and the parser of its command line.
 ghost use Rattle.std.specs.Prelude.{◌≡◌, ◌≢◌, [], ◌∷◌, ℕ, List, false, codes, map, Err, IfSome, IfOk, IfErr};
 ghost use Rattle.clap.specs.Words.{App, app_of, found_of, kind_of, rows_of};
 ghost use Rattle.kd_desk.specs.CommandLine.{IsMadeOf, way_name, way_word, desk_grammar, with_commands};
-ghost use Rattle.kd_desk.specs.CommandLine.{named, action_named, HaveDay, IsActionOf, IsOf, IsOfNone, Says, SaysNothing};
+ghost use Rattle.kd_desk.specs.CommandLine.{named, action_named, HaveDay, IsActionOf, IsOf};
+ghost use Rattle.kd_desk.specs.CommandLine.{IsOfNone, Says, SaysNothing};
 
 use crate::fault::DeskFault;
 use crate::stop::Stop;
@@ -12,8 +14,9 @@ use kd_state::day_of_text;
 use std::alloc::{AllocError, Global};
 use std::convert::AsStr;
 
-/// A command of the desk, with its files: those that are read whole, as `F`, and the one that is read as it comes, as `O`.
-/// Either is a name, or what the name stands for.
+/// A command of the desk with its files: `F` for each that is read whole, `O` for the one that is streamed.
+///
+/// `F` and `O` are file names at first, then the contents and the opened file.
 #[derive(Drop)]
 pub struct Command<F, O> {
     /// The machine file.
@@ -22,16 +25,16 @@ pub struct Command<F, O> {
     pub action: Action<F, O>,
 }
 
-/// What is done with a machine.
+/// What is done with the machine.
 #[derive(Drop)]
 pub enum Action<F, O> {
-    /// The standard input is typed on it.
+    /// Standard input is typed on it.
     Type,
-    /// The settings of this file are carried out on it, and its file is printed.
+    /// The settings in `list` are carried out on it, and its new machine file is printed.
     Apply {
         list: F,
     },
-    /// It goes together with a day of the sheet of this file.
+    /// `task` is done with it and a day of `sheet`.
     OnDay {
         sheet: F,
         /// The day's number, from 1 to 31.
@@ -40,28 +43,28 @@ pub enum Action<F, O> {
     },
 }
 
-/// What is done with a machine and a day.
+/// What is done with the machine and the day.
 #[derive(Drop)]
 pub enum Task<F, O> {
-    /// The card that leads the machine to the day is printed.
+    /// The shortest card from the machine to the day is printed.
     Card,
-    /// It is told of the card in this file whether its prices prove it shortest, from the machine to the day.
+    /// The card in this file is checked: whether its prices prove it shortest, from the machine to the day.
     Check(F),
-    /// The message in this file goes this way, part by part.
+    /// The message in this file is sent or received, part by part.
     Message(Way, O),
 }
 
-/// Which way a message goes.
+/// The direction of a message.
 #[derive(Clone, Copy)]
 pub enum Way {
-    /// The form is printed that an order becomes.
+    /// The message is an order, and its form is printed.
     Send,
-    /// The text is printed that a form becomes.
+    /// The message is a form, and its text is printed.
     Receive,
 }
 
 impl Way {
-    /// The word of the grammar that names the message's file.
+    /// The grammar's word for the message's file.
     fn word(self) -> &'static str
         ensures { result.now ≡ way_word self }
     {
@@ -72,16 +75,16 @@ impl Way {
     }
 }
 
-/// A command with the names of its files.
+/// A command with file names, not yet read.
 pub type Named<'a> = Command<&'a str, &'a str>;
 
-/// What a command with these names does.
+/// An action with file names, not yet read.
 pub type NamedAction<'a> = Action<&'a str, &'a str>;
 
-/// The command of the program's words, the program's own name first.
+/// Parses the command line; its first word is the program's own name.
 ///
-/// A word that begins with `-` and is longer is a file name only after the word `--`, which counts once and behind the
-/// command's name. Other words than a command's are `Usage`. The only other error is want of memory.
+/// A word that begins with `-` and is longer is a file name only after the word `--`, which may come once,
+/// after the command's name. Words that are no command give `Usage`. The only other error is want of memory.
 pub fn parse_words<'a, S: AsStr>(alloc: Global, words: &'a [S]) -> Result<Named<'a>, Stop>
     ensures said { IfOk result (λ command. Says (map S.text words.entry.now) (named command)) }
     ensures usage { result ≡ Err Stop.Usage → SaysNothing (map S.text words.entry.now) }
@@ -98,7 +101,7 @@ pub fn parse_words<'a, S: AsStr>(alloc: Global, words: &'a [S]) -> Result<Named<
     command_of(name, words).ok_or(Stop::Usage)
 }
 
-/// The command of this name with these words.
+/// The command `name` with the values of its words.
 fn command_of<'a>(name: &str, words: &ArgMatches<'a>) -> Option<Named<'a>>
     ensures said { IfSome result (λ command.
         IsOf (name.now, rows_of (found_of words.now)) (named command)) }
@@ -109,7 +112,7 @@ fn command_of<'a>(name: &str, words: &ArgMatches<'a>) -> Option<Named<'a>>
     Some(Command { machine, action })
 }
 
-/// What a command of this name with these words does.
+/// The action of the command `name` with the values of its words.
 fn action_of<'a>(name: &str, words: &ArgMatches<'a>) -> Option<NamedAction<'a>>
     ensures said { IfSome result (λ action.
         IsActionOf (name.now, rows_of (found_of words.now)) (action_named action)) }
@@ -127,7 +130,7 @@ fn action_of<'a>(name: &str, words: &ArgMatches<'a>) -> Option<NamedAction<'a>>
     }
 }
 
-/// The carrying out of the settings that these words name.
+/// The action of `apply`, with the list that the words name.
 fn apply_of<'a>(words: &ArgMatches<'a>) -> Option<NamedAction<'a>>
     ensures said { IfSome result (λ action.
         IsActionOf (codes "apply", rows_of (found_of words.now)) (action_named action)) }
@@ -138,7 +141,7 @@ fn apply_of<'a>(words: &ArgMatches<'a>) -> Option<NamedAction<'a>>
     Some(Action::Apply { list })
 }
 
-/// The card for the day that these words say, if it is one.
+/// The action of `card`, if the word `DAY` is a day's number.
 fn card_of<'a>(words: &ArgMatches<'a>) -> Option<NamedAction<'a>>
     ensures said { IfSome result (λ action.
         IsActionOf (codes "card", rows_of (found_of words.now)) (action_named action)) }
@@ -150,7 +153,7 @@ fn card_of<'a>(words: &ArgMatches<'a>) -> Option<NamedAction<'a>>
     Some(Action::OnDay { sheet, day, task })
 }
 
-/// The check of a card that these words say, if the day among them is one.
+/// The action of `check`, if the word `DAY` is a day's number.
 fn check_of<'a>(words: &ArgMatches<'a>) -> Option<NamedAction<'a>>
     ensures said { IfSome result (λ action.
         IsActionOf (codes "check", rows_of (found_of words.now)) (action_named action)) }
@@ -163,7 +166,7 @@ fn check_of<'a>(words: &ArgMatches<'a>) -> Option<NamedAction<'a>>
     Some(Action::OnDay { sheet, day, task })
 }
 
-/// The message that these words say, going this way, if the day among them is one.
+/// The action of `send` or `receive`, if the word `DAY` is a day's number.
 fn message_of<'a>(words: &ArgMatches<'a>, way: Way) -> Option<NamedAction<'a>>
     ensures said { IfSome result (λ action.
         IsActionOf (way_name way, rows_of (found_of words.now)) (action_named action)) }
@@ -176,7 +179,7 @@ fn message_of<'a>(words: &ArgMatches<'a>, way: Way) -> Option<NamedAction<'a>>
     Some(Action::OnDay { sheet, day, task })
 }
 
-/// The sheet and the day that these words name.
+/// The sheet's name and the day's number, if the word `DAY` is one.
 fn day_of<'a>(words: &ArgMatches<'a>) -> Option<(&'a str, u8)>
     ensures said { IfSome result (λ on. HaveDay (rows_of (found_of words.now)) on.0.now on.1) }
     ensures none { result ≡ None → (sheet : List ℕ) (day : ℕ)
@@ -187,7 +190,7 @@ fn day_of<'a>(words: &ArgMatches<'a>) -> Option<(&'a str, u8)>
     Some((sheet, day))
 }
 
-/// The commands of the desk, each with its words.
+/// The commands of the desk, each with the names of its words.
 static COMMANDS: [(&str, &[&str]); 6] = [
     ("type", &["MACHINE"]),
     ("apply", &["MACHINE", "LIST"]),
@@ -197,7 +200,7 @@ static COMMANDS: [(&str, &[&str]); 6] = [
     ("receive", &["MACHINE", "SHEET", "DAY", "FORM"]),
 ];
 
-/// What may stand on the command line: no options and no help.
+/// The grammar of the command line, without options and without help.
 fn grammar<'a>(alloc: Global) -> Result<Grammar<'a>, AllocError>
     ensures { IfOk result (λ grammar. app_of grammar ≡ desk_grammar) }
 {
@@ -207,7 +210,7 @@ fn grammar<'a>(alloc: Global) -> Result<Grammar<'a>, AllocError>
     with_commands(alloc, desk, &COMMANDS)
 }
 
-/// The grammar with these commands, each with its words.
+/// Adds `commands`, each with its words, to `grammar`.
 fn with_commands<'a>(
     alloc: Global,
     grammar: Grammar<'a>,
@@ -224,7 +227,7 @@ fn with_commands<'a>(
     Ok(grammar)
 }
 
-/// A command with these words.
+/// The grammar of the command `name` with these words.
 fn with_words<'a>(
     alloc: Global,
     name: &'a str,
@@ -239,7 +242,7 @@ fn with_words<'a>(
     Ok(command)
 }
 
-/// Why words that don't parse stop the program.
+/// The `Stop` for a command line that doesn't parse.
 fn stop(error: &Error) -> Stop
     ensures memory { kind_of error.now ≡ ErrorKind.OutOfMemory
         → result ≡ Stop.Refused (DeskFault.File SheetFault.NoMemory) }

@@ -1,3 +1,4 @@
+//! DeskFault: why a command is refused.
 ghost use Rattle.std.specs.Prelude.{◌≡◌, Some};
 ghost use Rattle.kd_desk.specs.FaultText.{desk_fault_text};
 
@@ -13,35 +14,35 @@ use std::alloc::AllocError;
 use std::fmt;
 use thiserror::Error;
 
-/// Why the desk refuses: the first fault of a call's steps.
+/// Why the desk refuses a command: the first fault of its steps.
 #[derive(Clone, Copy, Debug, PartialEq, Eq, Error)]
 pub enum DeskFault {
-    /// A fault of a machine file or of a key sheet, or want of memory.
+    /// A fault of a machine file or of a key sheet, or no memory.
     File(SheetFault),
-    /// Bytes that are no list of settings.
+    /// A list of settings can't be read.
     List(ListFault),
-    /// Bytes that are no card.
+    /// A card can't be read.
     Card(CardFault),
-    /// A line of a list or of a card that the machine refuses in its turn.
+    /// The machine refuses a line of a list or of a card, after the lines before it.
     Illegal(IllegalAt),
     /// The machine and the sheet's day are of different models.
     OtherModel,
     /// A read or a write failed.
     Device,
-    /// More bytes follow than are read.
+    /// A source or a file has more than `READ_LIMIT` bytes.
     ReadTooLong,
     /// The sheet has no day of this number.
     NoSuchDay,
-    /// The card is another day's.
+    /// The card is for another day.
     OtherDay,
-    /// Why a card doesn't prove itself.
+    /// The card doesn't prove itself, for this reason.
     Doubtful(Doubt),
-    /// Why a text can't be typed, an order becomes no form, or a form no text.
+    /// A text can't be typed, an order can't be sent, or a form can't be received.
     Message(FormFault),
 }
 
 impl DeskFault {
-    /// The refusal's number and name, and what it speaks of.
+    /// The refusal's number and name, followed by the place or the numbers of the fault.
     pub fn text(&self) -> Text
         ensures { result.bytes ≡ desk_fault_text self.now }
     {

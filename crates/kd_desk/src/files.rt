@@ -1,4 +1,4 @@
-//! The files that the program's words name.
+//! The trait of the files that the command line names.
 ghost use Rattle.std.specs.Prelude.{◌≡◌, ◌<◌, [], ◌∷◌, ◌++◌, ℕ, false, List, Option, None, IfSome, IfOk, is_ok, length};
 ghost use Rattle.kd_desk.specs.Files.{content_of, opening_of, opened, Asking, Gives, IsOpening};
 
@@ -14,19 +14,21 @@ pub use host::{HostFile, HostFiles};
 use kd_tables::Source;
 use std::alloc::Global;
 
-/// Files, each under its name. They keep which were asked for.
+/// Files by name, and a record of the names that were asked for.
 pub trait Files<'n> {
-    /// A file that was opened, and is read as it comes.
+    /// An opened file, which is streamed.
     type Opened: Source + Drop;
 
-    /// The bytes that a name stands for, or none where there is no such file, if that is known.
+    /// The bytes of each file, or `None` if there is no such file; unknown for the host's files.
     ghost known: { Self → Option (List ℕ → Option (List ℕ)) } = { λ _. None };
 
-    /// The names that were asked for, in order, each with whether its file was had.
+    /// The names asked for, in order, and for each whether the file could be read or opened.
     ghost asked: { Self → List Asking };
 
-    /// All the bytes of the file of this name. One that can't be had is `Device`, and a longer one than 1,048,576 bytes
-    /// `ReadTooLong`. Three names may be asked for.
+    /// Reads the file `name` whole.
+    ///
+    /// `Device` if there is no such file or a read fails, `ReadTooLong` if it has more than 1,048,576 bytes. At
+    /// most three names may be asked for.
     fn read(&mut self, alloc: Global, name: &'n str) -> Result<Content, FileFault>
         requires { length (asked self.old) < 3 }
         ensures content { IfSome (known self.old)
@@ -34,8 +36,9 @@ pub trait Files<'n> {
         ensures asked { asked self.new ≡ asked self.old ++ (name.now, is_ok result) ∷ [] }
         ensures same { known self.new ≡ known self.old };
 
-    /// The file of this name, opened, with all of its bytes yet to come. One that can't be opened is `Device`. Three names may
-    /// be asked for.
+    /// Opens the file `name`, of which nothing is read yet.
+    ///
+    /// `Device` if it can't be opened. At most three names may be asked for.
     fn open(&mut self, name: &'n str) -> Result<Self::Opened, FileFault>
         requires { length (asked self.old) < 3 }
         ensures opened { IfSome (known self.old) (λ held.

@@ -1,5 +1,4 @@
-//! Laws over settings that are carried out: what the desk answers to them is one of three things, and never two of them. And
-//! what a machine goes through in a month, by cards and files.
+//! Laws: settings have exactly one answer, and each card of a month sets the machine to its day.
 ghost use Rattle.std.specs.Prelude.{◌≡◌, All};
 ghost use Rattle.kd_state.specs.Machine.{model_of};
 ghost use Rattle.kd_state.specs.SheetDay.{day_model};
@@ -16,39 +15,43 @@ use kd_sheet::laws::written_files_are_read_back;
 use kd_state::{Entry, Machine, Parts, SheetDay, carry_all};
 use kd_tables::MemorySink;
 
-/// Bytes say one list of settings at most, and if they say one, they have no fault; and they have one at most.
+/// Bytes are at most one list of settings, have at most one fault, and never both.
 pub fn bytes_say_settings_or_have_a_fault()
     ensures settings { TextsTellSettings }
     ensures no_fault { SettingsHaveNoFault }
     ensures one_fault { SettingsHaveOneFault }
 {}
 
-/// Of settings that lead a machine to another one no line is refused in its turn.
+/// If settings lead a machine to another one, none of their lines is refused.
 pub fn settings_lead_or_are_refused()
     ensures { LeadsOrRefuses }
 {}
 
-/// Whatever cards and files are written from a machine's file on, for day after day of a sheet: each card's settings lead the
-/// file's machine to that of the next file, which reads and enciphers as the day's own, and no settings that lead to the day
-/// are fewer.
+/// Cards and machine files, written for one day of a sheet after another, set the machine to each day.
+///
+/// The settings of each card lead from one file's machine to the next file's. That machine reads and enciphers
+/// as the day's own, and no fewer settings lead to the day.
 pub fn months_set_the_machine()
     ensures { MonthsSetTheMachine }
 {}
 
-/// On a rotor machine these cards have in total at most as many settings as any other lists that reach these days one
-/// after another, from the same machine.
+/// On a rotor machine, a month's cards together have no more settings than any other lists.
+///
+/// The other lists start from the same machine, and reach the same days one after another.
 #[tactic(auto, using(crate::proofs::Months::months_are_fewest))]
 pub fn months_are_fewest()
     ensures { MonthsAreFewest }
 {}
 
-/// Whoever owns ten cables, say, never needs an eleventh: where a machine uses none but its first ten cables, and no day has
-/// more than ten pairs, no card of the month names another cable, and the machine uses none.
+/// Whoever owns ten cables, say, never needs an eleventh.
+///
+/// If a machine uses only its first ten cables, and no day has more than ten pairs, no card of the month names
+/// another cable, and the machine never uses one.
 pub fn few_cables_serve_a_month()
     ensures { FewCablesServeAMonth }
 {}
 
-/// And there are such cards and files for each machine, each sheet and all of its days that are of the machine's model.
+/// A month's cards and files exist for each machine, each sheet, and its days of the machine's model.
 pub fn months_can_be_written(machine: &Machine, sheet: &Sheet, numbers: &[u8])
     requires { All (HasDayOf (model_of machine.now) sheet.now) numbers.now }
     ensures { HasPapersInTurn machine.now sheet.now numbers.now }
@@ -59,19 +62,19 @@ pub fn months_can_be_written(machine: &Machine, sheet: &Sheet, numbers: &[u8])
     }
 }
 
-/// The machine after the day's card.
+/// The machine to which the day's card leads `machine`.
 fn set_to(machine: &Machine, day: &SheetDay) -> Machine
     requires { day_model day.now ≡ model_of machine.now }
     ensures model { model_of result ≡ model_of machine.now }
     ensures written { HasPapers machine.now day.now result }
 {
-    // Getters tell that both are legal.
+    // The calls of `parts` and `entry` show the prover that machine and day are legal.
     prove!(matches!(machine.parts(), Parts::Rotor(_) | Parts::Pin(_)));
     prove!(matches!(day.entry(), Entry::Rotor(_) | Entry::Pin(_)));
     settings_lead_or_are_refused();
     written_files_are_read_back();
     let card = in_kinds(machine, day, &plan(machine, day).unwrap());
-    // What is written is a card, whatever the sink takes of it.
+    // What is written is a card, even if the sink takes none of it.
     let _ = write_card(&mut MemorySink::<0>::new(0), day.day(), &card);
     carry_all(machine, card.settings.as_slice()).unwrap()
 }

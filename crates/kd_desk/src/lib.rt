@@ -1,6 +1,6 @@
-//! The calls of the key desk: types on the machine that a machine file describes, prints and checks the shortest card to a day
-//! of a sheet, carries settings out, and sends and receives messages. `run_desk` is the whole program, from its words to its
-//! bytes.
+//! The calls of the key desk: type a text, print and check cards, carry settings out, send and receive messages.
+//!
+//! `run_desk` is the whole program, from its command line to its output.
 #![tactic(auto)]
 
 mod command;

@@ -1,4 +1,4 @@
-//! Settings that are read of a list or of a card.
+//! Reads settings from a list or from a card.
 ghost use Rattle.std.specs.Prelude.{MatchResult};
 ghost use Rattle.kd_desk.specs.Settings.{AreSettings, IsSettingsFault};
 
@@ -6,11 +6,12 @@ use crate::fault::DeskFault;
 use kd_card::{Card, read_card};
 use kd_state::{Settings, read_list};
 
-/// How a card begins.
+/// The first bytes of every card.
 const CARD: &[u8] = b"CARD ";
 
-/// The settings that the bytes say: those of a card, where they begin as one, whatever its day and its prices; else those
-/// of a list, a line for each.
+/// Reads `bytes` as a card if they begin as one, otherwise as a list with one setting on each line.
+///
+/// The card may be for any day, and have any prices.
 pub fn read_settings(bytes: &[u8]) -> Result<Settings, DeskFault>
     ensures { MatchResult result
         (λ settings. AreSettings bytes.now settings.items)

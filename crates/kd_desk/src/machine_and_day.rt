@@ -1,4 +1,4 @@
-//! The machine and the day that files say.
+//! Reads the machine of a machine file and a day of a key sheet.
 ghost use Rattle.std.specs.Prelude.{◌≡◌, IfOk};
 ghost use Rattle.kd_state.specs.Machine.{IsMachine};
 ghost use Rattle.kd_state.specs.SheetDay.{IsLegalDay, day_number};
@@ -9,7 +9,7 @@ use kd_sheet::{read_machine, read_sheet};
 use kd_state::{Entry, Machine, Parts, SheetDay};
 use std::alloc::Global;
 
-/// The machine of a machine file, and the sheet's day of this number.
+/// Reads the machine of the file `machine`, and day `number` of the file `sheet`.
 ///
 /// The machine file's faults come first, then the sheet's, then `NoSuchDay`.
 pub fn find_day(
@@ -25,7 +25,7 @@ pub fn find_day(
     let machine = read_machine(alloc, machine)?;
     let sheet = read_sheet(alloc, sheet)?;
     let day = sheet.into_day(number).ok_or(DeskFault::NoSuchDay)?;
-    // Getters tell that both are legal.
+    // The calls of `parts` and `entry` show the prover that machine and day are legal.
     prove!(matches!(machine.parts(), Parts::Rotor(_) | Parts::Pin(_)));
     prove!(matches!(day.entry(), Entry::Rotor(_) | Entry::Pin(_)));
     Ok((machine, day))

@@ -1,4 +1,4 @@
-//! How bytes reach the desk and leave it.
+//! A source that reads from a reader, and a sink that writes to a writer.
 mod reader_source;
 mod writer_sink;
 

@@ -1,7 +1,8 @@
-//! The program, from its words to its bytes.
+//! The program: reads the command line, then the files, and carries the command out.
 ghost use Rattle.std.specs.Prelude.{◌≡◌, ◌≤◌, ◌⊎◌, ◌||◌, [], false, map, length, Err, IfSome, IfOk, IsTrue, is_ok};
 ghost use Rattle.kd_desk.specs.CommandLine.{named, action_named, task_named, files_of, action_files, task_files};
-ghost use Rattle.kd_desk.specs.CommandLine.{with_opened, with_action_opened, with_task_opened, opened_by, action_opened, task_opened};
+ghost use Rattle.kd_desk.specs.CommandLine.{with_opened, with_action_opened, with_task_opened};
+ghost use Rattle.kd_desk.specs.CommandLine.{opened_by, action_opened, task_opened};
 ghost use Rattle.kd_desk.specs.CommandLine.{Says, SaysNothing};
 ghost use Rattle.kd_desk.specs.Program.{command_over, action_over, task_over, AsksFor, CarriesOut, DoesTask, IsDone};
 ghost use Rattle.kd_desk.specs.Program.{HasEnded, IsRun, IsTaskDone, StopsForMemory};
@@ -25,12 +26,13 @@ use kd_tables::{Sink, Source};
 use std::alloc::Global;
 use std::convert::AsStr;
 
-/// Carries out the command that the program's words say, the program's own name first, on the files that they name.
+/// Carries out the command line `words`, whose first word is the program's own name.
 ///
-/// Answers the status with which the program ends, and writes a line to `errors` that tells why it is not 0. The usage
-/// line has status 2, every refusal status 1. The files are taken in the order of the words, each once: an order and a
-/// form are opened, every other file is read whole before the next. Where one can't be had, nothing is read from the
-/// source or written to the sink. An order or a form is read as the command is carried out.
+/// Returns the program's exit status, and unless it is 0 writes one line to `errors` that says why. The usage
+/// line has status 2, every refusal status 1. The files are taken in the order of the words, each once: an
+/// order or a form is opened, every other file is read whole before the next is taken. If a file can't be read
+/// or opened, nothing is read from `source` or written to `sink`. An order or a form is read only as the
+/// command is carried out.
 pub fn run_desk<'n, S: AsStr, F: Files<'n>, R: Source, W: Sink, E: Sink>(
     alloc: Global,
     words: &'n [S],
@@ -49,7 +51,7 @@ pub fn run_desk<'n, S: AsStr, F: Files<'n>, R: Source, W: Sink, E: Sink>(
     end(carry_words(alloc, words, files, source, sink), errors)
 }
 
-/// Carries out the command that the words say.
+/// Parses the command line, reads its files, and carries the command out.
 fn carry_words<'n, S: AsStr, F: Files<'n>, R: Source, W: Sink>(
     alloc: Global,
     words: &'n [S],
@@ -78,8 +80,9 @@ fn carry_words<'n, S: AsStr, F: Files<'n>, R: Source, W: Sink>(
     carry_out(alloc, command, source, sink)
 }
 
-/// The command with what its files' names stand for. They are taken in the order of the words, each before the next; or why
-/// the first that can't be had is refused.
+/// Replaces the file names of `command` by contents and the opened file, in the order of the words.
+///
+/// For the first file that can't be read or opened, returns its fault, and asks for no later file.
 fn read_files<'n, F: Files<'n>>(
     alloc: Global,
     command: Named<'n>,
@@ -98,7 +101,7 @@ fn read_files<'n, F: Files<'n>>(
     Ok(Command { machine, action })
 }
 
-/// The same of what is done with a machine.
+/// `read_files`, for the files of an action.
 fn read_action<'n, F: Files<'n>>(
     alloc: Global,
     action: NamedAction<'n>,
@@ -127,7 +130,7 @@ fn read_action<'n, F: Files<'n>>(
     }
 }
 
-/// The same of what is done with a machine and a day.
+/// `read_files`, for the file of a task.
 fn read_task<'n, F: Files<'n>>(
     alloc: Global,
     task: Task<&'n str, &'n str>,
@@ -155,7 +158,7 @@ fn read_task<'n, F: Files<'n>>(
     }
 }
 
-/// Carries out a command on the bytes of its files.
+/// Carries out a command whose files are read or opened.
 fn carry_out<O: Source + Drop, R: Source, W: Sink>(
     alloc: Global,
     command: Command<Content, O>,
@@ -182,7 +185,7 @@ fn carry_out<O: Source + Drop, R: Source, W: Sink>(
     }
 }
 
-/// Does what is to be done with the machine and the day of this number.
+/// Carries out `task` with the machine and day `number` of the sheet.
 fn carry_task<O: Source + Drop, W: Sink>(
     alloc: Global,
     machine: &[u8],
@@ -210,7 +213,7 @@ fn carry_task<O: Source + Drop, W: Sink>(
     }
 }
 
-/// Lets the message that the file gives go this way, on the machine and the day of this number.
+/// Sends or receives the message in `file`, with the machine and day `number` of the sheet.
 fn carry_message<O: Source, W: Sink>(
     alloc: Global,
     machine: &[u8],

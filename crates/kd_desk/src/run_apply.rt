@@ -1,3 +1,4 @@
+//! The command `apply`: carries settings out, and writes the machine file.
 ghost use Rattle.std.specs.Prelude.{◌≡◌, ◌⊎◌, ◌||◌, IfOk, IfErr, IsTrue};
 ghost use Rattle.kd_sheet.specs.MachineFile.{machine_of};
 ghost use Rattle.kd_desk.specs.declared.fault.DeskFault.TheVariants.{File};
@@ -12,12 +13,11 @@ use kd_state::{Machine, carry_all};
 use kd_tables::Sink;
 use std::alloc::Global;
 
-/// Carries the settings of a list or of a card out, one after another, on the machine that the file describes, and writes
-/// the file of the machine that stands then.
+/// Carries out the settings of `list` on the machine in `machine`, and writes its new file.
 ///
-/// The machine file's faults come first, then those of the list or of the card, then the first line that the machine
-/// refuses, and nothing is written where the call is refused for these. A card may be of any day, and have any prices.
-/// After `Device` a prefix of the file was written.
+/// `list` is a list or a card; the card may be for any day, and have any prices. The machine file's faults come
+/// first, then the faults of `list`, then the first line that the machine refuses. After each of these, nothing
+/// is written. After `Device`, a prefix of the new file is written.
 pub fn run_apply<W: Sink>(
     alloc: Global,
     machine: &[u8],
@@ -34,7 +34,7 @@ pub fn run_apply<W: Sink>(
     apply(&machine, list, sink)
 }
 
-/// The same of a machine that is read already. This takes no memory.
+/// `run_apply` for a machine that is read already. Takes no memory.
 pub fn apply<W: Sink>(machine: &Machine, list: &[u8], sink: &mut W) -> Result<(), DeskFault>
     ensures applied { Applies machine.now list.now
         (port W.taken W.has_failed sink.old sink.new) result }

@@ -1,3 +1,4 @@
+//! The command `card`: prints the shortest card to a day.
 ghost use Rattle.std.specs.Prelude.{◌≡◌, ◌||◌, IsTrue};
 ghost use Rattle.kd_card.specs.Proving.{ProvesByNumber};
 ghost use Rattle.kd_prices.specs.KindCards.{IsByKind};
@@ -17,10 +18,10 @@ use kd_state::{Entry, Machine, Parts, SheetDay};
 use kd_tables::Sink;
 use std::alloc::Global;
 
-/// Writes the shortest card that leads the machine of the machine file to the sheet's day of this number.
+/// Writes the shortest card from the machine in `machine` to day `number` of `sheet`.
 ///
-/// The machine file's faults come first, then the sheet's, then `NoSuchDay`, then `OtherModel`, and nothing is written
-/// where the call is refused for these. After `Device` a prefix of the card was written.
+/// The machine file's faults come first, then the sheet's, then `NoSuchDay`, then `OtherModel`. After each of
+/// these, nothing is written. After `Device`, a prefix of the card is written.
 pub fn run_card<W: Sink>(
     alloc: Global,
     machine: &[u8],
@@ -37,14 +38,14 @@ pub fn run_card<W: Sink>(
     print_card(&machine, &day, sink)
 }
 
-/// The same of a machine and a day that are read already. This takes no memory.
+/// `run_card` for a machine and a day that are read already. Takes no memory.
 pub fn print_card<W: Sink>(machine: &Machine, day: &SheetDay, sink: &mut W) -> Result<(), DeskFault>
     ensures prints { Prints machine.now day.now (day_number day.now)
         (port W.taken W.has_failed sink.old sink.new) result }
     ensures untouched { IsTrue (is_refused_before result) → sink.new ≡ sink.old }
     ensures failed { W.has_failed sink.new ≡ (W.has_failed sink.old || is_device result) }
 {
-    // Getters tell that both are legal.
+    // The calls of `parts` and `entry` show the prover that machine and day are legal.
     prove!(matches!(machine.parts(), Parts::Rotor(_) | Parts::Pin(_)));
     prove!(matches!(day.entry(), Entry::Rotor(_) | Entry::Pin(_)));
     let card = in_kinds(machine, day, &plan(machine, day)?);
@@ -52,7 +53,7 @@ pub fn print_card<W: Sink>(machine: &Machine, day: &SheetDay, sink: &mut W) -> R
     Ok(())
 }
 
-/// The same card with a price for each kind.
+/// `card` with one price for each kind.
 pub(crate) fn in_kinds(machine: &Machine, day: &SheetDay, card: &Card) -> Card
     requires machine { IsMachine machine.now }
     requires day { IsLegalDay day.now }

@@ -1,3 +1,4 @@
+//! The command `check`: says whether a card proves itself shortest.
 ghost use Rattle.std.specs.Prelude.{◌≡◌, ◌||◌, is_err, IsTrue};
 ghost use Rattle.kd_tables.specs.Writing.{Writes};
 ghost use Rattle.kd_desk.specs.OnDay.{OnDay};
@@ -15,12 +16,12 @@ use kd_state::{Entry, Machine, Parts, SheetDay};
 use kd_tables::{Device, Sink, put_all};
 use std::alloc::Global;
 
-/// Tells of a card, whoever made it, that it is a shortest one from the machine of the machine file to the sheet's day of
-/// this number, and how many settings it has.
+/// Checks that `card` is shortest from the machine in `machine` to day `number` of `sheet`.
 ///
-/// The machine file's faults come first, then the sheet's, then `NoSuchDay`, then the card's, then `OtherDay`, then the first
-/// doubt that the card proves itself, and nothing is written where the call is refused for these. After `Device` a prefix of
-/// the line was written.
+/// If its prices prove it shortest, whoever made it, writes SHORTEST and how many settings it has. The machine
+/// file's faults come first, then the sheet's, then `NoSuchDay`, then the card's, then `OtherDay`, then the
+/// first reason why the card doesn't prove itself. After each of these, nothing is written. After `Device`, a
+/// prefix of the line is written.
 pub fn run_check<W: Sink>(
     alloc: Global,
     machine: &[u8],
@@ -38,7 +39,7 @@ pub fn run_check<W: Sink>(
     check_card(&machine, &day, number, card, sink)
 }
 
-/// The same of a machine and a day that are read already. This takes no memory.
+/// `run_check` for a machine and a day that are read already. Takes no memory.
 pub fn check_card<W: Sink>(
     machine: &Machine,
     day: &SheetDay,
@@ -51,7 +52,7 @@ pub fn check_card<W: Sink>(
     ensures untouched { IsTrue (is_refused_before result) → sink.new ≡ sink.old }
     ensures failed { W.has_failed sink.new ≡ (W.has_failed sink.old || is_device result) }
 {
-    // Getters tell that both are legal.
+    // The calls of `parts` and `entry` show the prover that machine and day are legal.
     prove!(matches!(machine.parts(), Parts::Rotor(_) | Parts::Pin(_)));
     prove!(matches!(day.entry(), Entry::Rotor(_) | Entry::Pin(_)));
     let (dated, card) = read_card(card)?;
@@ -63,7 +64,7 @@ pub fn check_card<W: Sink>(
     Ok(())
 }
 
-/// Writes that a card of so many settings is shortest.
+/// Writes that a card of `number` settings is shortest.
 fn write_verdict<W: Sink>(sink: &mut W, number: usize) -> Result<(), Device>
     ensures text { Writes (W.taken sink.old) (W.taken sink.new) (verdict_text number) result }
     ensures failed { W.has_failed sink.new ≡ (W.has_failed sink.old || is_err result) }

@@ -1,3 +1,4 @@
+//! The command `receive`: writes the text of a form.
 ghost use Rattle.std.specs.Prelude.{◌≡◌, IsTrue};
 ghost use Rattle.kd_desk.specs.Messages.{Receives};
 ghost use Rattle.kd_desk.specs.OnDay.{OnDay};
@@ -10,13 +11,13 @@ use kd_form::receive_stream;
 use kd_tables::{Sink, Source};
 use std::alloc::Global;
 
-/// Writes the text that a form becomes on the machine of the machine file, if it is on the key of the sheet's day of this
-/// number. The form is read as it comes, and the text of a part is written as soon as the next part begins.
+/// Receives `form` on the machine in `machine`, set to day `number` of `sheet`, and writes its text.
 ///
-/// The machine file's faults come first, then the sheet's, then `NoSuchDay`, then `NotReady` and `NotOnKey`, and nothing is
-/// read or written where the call is refused for these. Then come the form's faults, `ReadTooLong` where it has more than
-/// 1,048,576 bytes, and `Device` where a read or a write fails: the texts of the parts before are written by then, and after
-/// a write that failed a prefix of what was to be written.
+/// The form is read as it comes, and a part's text is written once the next part begins. The machine file's
+/// faults come first, then the sheet's, then `NoSuchDay`, `NotReady` and `NotOnKey`. After each of these,
+/// nothing is read or written. Then come the form's faults, `ReadTooLong` if it has more than 1,048,576 bytes,
+/// and `Device` if a read or a write fails. The texts of the parts before are written by then; if a write
+/// failed, only a prefix of them.
 pub fn run_receive<R: Source, W: Sink>(
     alloc: Global,
     machine: &[u8],

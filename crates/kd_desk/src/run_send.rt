@@ -1,3 +1,4 @@
+//! The command `send`: writes the form of an order.
 ghost use Rattle.std.specs.Prelude.{◌≡◌, IsTrue};
 ghost use Rattle.kd_desk.specs.Messages.{Sends};
 ghost use Rattle.kd_desk.specs.OnDay.{OnDay};
@@ -10,13 +11,12 @@ use kd_form::send_stream;
 use kd_tables::{Sink, Source};
 use std::alloc::Global;
 
-/// Writes the form that an order becomes on the machine of the machine file, if it is on the key of the sheet's day of this
-/// number. The order is read as it comes, and a part is written as soon as it stands.
+/// Sends `order` on the machine in `machine`, set to day `number` of `sheet`, and writes its form.
 ///
-/// The machine file's faults come first, then the sheet's, then `NoSuchDay`, then `NotReady` and `NotOnKey`, and nothing is
-/// read or written where the call is refused for these. Then come the order's faults, `ReadTooLong` where it has more than
-/// 1,048,576 bytes, and `Device` where a read or a write fails: the parts that stood before are written by then, and after
-/// a write that failed a prefix of what was to be written.
+/// The order is read as it comes, and a part is written once it is complete. The machine file's faults come
+/// first, then the sheet's, then `NoSuchDay`, `NotReady` and `NotOnKey`. After each of these, nothing is read
+/// or written. Then come the order's faults, `ReadTooLong` if it has more than 1,048,576 bytes, and `Device` if
+/// a read or a write fails. The complete parts are written by then; if a write failed, only a prefix of them.
 pub fn run_send<R: Source, W: Sink>(
     alloc: Global,
     machine: &[u8],

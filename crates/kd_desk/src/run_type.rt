@@ -1,3 +1,4 @@
+//! The command `type`: types a text on a machine.
 ghost use Rattle.std.specs.Prelude.{◌≡◌, ◌⊎◌, IfOk, IfErr, IsTrue};
 ghost use Rattle.kd_desk.specs.declared.fault.DeskFault.TheVariants as faults;
 ghost use Rattle.kd_sheet.specs.MachineFile.{machine_of};
@@ -11,14 +12,13 @@ use kd_sheet::read_machine;
 use kd_tables::{Sink, Source};
 use std::alloc::Global;
 
-/// Types the text that the source gives on the machine that the file describes, and writes the lamps that light up, in
-/// capital letters, and a line feed.
+/// Types the text from `source` on the machine in `machine`, and writes the lamps, then LF.
 ///
-/// The text has capital letters; spaces, carriage returns and line feeds between them are passed over. The machine file's
-/// faults come first, then a machine that isn't ready, and nothing is read or written where the call is refused for these.
-/// Then the text is read to its end, a piece at a time: the call is refused at the first byte that is not allowed, and where more
-/// than 1,048,576 bytes come, and has then written the lamps of the letters before, without the line feed. So it has where
-/// a read fails; where a write fails, it has written less than it was to write.
+/// The text has capital letters; spaces, CR and LF between them are passed over. The lamps are written as
+/// capital letters. The machine file's faults come first, then `NotReady`. After each of these, nothing is read
+/// or written. Then the text is read to its end. The call is refused at the first byte that isn't allowed, and
+/// if more than 1,048,576 bytes come. In both cases, and if a read fails, the lamps of the letters before are
+/// written, without LF. If a write fails, only a prefix is written.
 pub fn run_type<R: Source, W: Sink>(
     alloc: Global,
     machine: &[u8],

@@ -1,3 +1,4 @@
+//! Stop: why the program stops, with its exit status and its line on standard error.
 ghost use Rattle.std.specs.Prelude.{◌≡◌, false, Err};
 ghost use Rattle.kd_tables.specs.Ports.{port};
 ghost use Rattle.kd_desk.specs.Ending.{refused_line, status_of, stop_line, EndsAs};
@@ -16,18 +17,18 @@ type Line = ArrayString<80>;
 /// Why the program stops.
 #[derive(Clone, Copy, Debug, PartialEq, Eq)]
 pub enum Stop {
-    /// The words are no command of the desk.
+    /// The command line is no command of the desk.
     Usage,
-    /// A file that the words name can't be read whole, or can't be opened.
+    /// A file that the command line names can't be read whole, or can't be opened.
     Unread(FileFault),
-    /// A file was opened, and a read of it failed as the command was carried out.
+    /// A read of the opened file failed as the command was carried out.
     ReadFailed,
     /// The command was refused.
     Refused(DeskFault),
 }
 
 impl Stop {
-    /// What stops the program where a command that is carried out answers this.
+    /// The `Stop` for the answer of a command.
     pub(crate) fn after(done: Result<(), DeskFault>) -> Result<(), Stop>
         ensures { result ≡ stop_after false done }
     {
@@ -37,7 +38,9 @@ impl Stop {
         }
     }
 
-    /// The same of a command that has opened a file, of which a read has failed or hasn't.
+    /// The `Stop` for the answer of a command that has opened a file.
+    ///
+    /// `file_failed` says whether a read of that file failed.
     pub(crate) fn after_file(done: Result<(), DeskFault>, file_failed: bool) -> Result<(), Stop>
         ensures { result ≡ stop_after file_failed done }
     {
@@ -47,7 +50,7 @@ impl Stop {
         }
     }
 
-    /// The line that tells of it.
+    /// The line on standard error.
     fn line(&self) -> Line
         ensures { result.bytes ≡ stop_line self.now }
     {
@@ -63,7 +66,7 @@ impl Stop {
         }
     }
 
-    /// The status with which the program ends.
+    /// The program's exit status.
     fn status(&self) -> u8
         ensures { result ≡ status_of (Err self.now) }
     {
@@ -74,7 +77,7 @@ impl Stop {
     }
 }
 
-/// The line that tells of a refusal.
+/// The line for a refusal.
 fn refused_line(fault: DeskFault) -> Line
     ensures { result.bytes ≡ refused_line fault }
 {
@@ -85,8 +88,9 @@ fn refused_line(fault: DeskFault) -> Line
     line
 }
 
-/// Ends the program with this answer: writes the line that tells what stopped it, and answers the status, even where
-/// the line could not be written.
+/// Writes the line for an error to `errors`, and returns the exit status.
+///
+/// The status doesn't depend on whether the line could be written.
 pub fn end<E: Sink>(answer: Result<(), Stop>, errors: &mut E) -> u8
     ensures { EndsAs answer (port E.taken E.has_failed errors.old errors.new) result }
 {

@@ -1,4 +1,4 @@
-//! What becomes of a call of the desk, and what is so of all of them.
+//! Runs the calls of the desk, and tests what all of them have in common.
 use crate::samples::{
     CANCELLING, DAYS, ENIGMA, FORM, OFF_KEY, ORDER, TEXT, TWO_BARS, Text, changed,
 };
@@ -21,7 +21,7 @@ use kd_trials::texts::{EMPTY_KINDS, M1_WRITTEN, NO_SETTINGS};
 use std::alloc::{AllocError, Global};
 use std::process::Abort;
 
-/// A call of the desk. Those on a day have its number.
+/// A call of the desk, with the day's number if it has a day.
 #[derive(Clone, Copy)]
 pub enum Call {
     Type,
@@ -32,7 +32,7 @@ pub enum Call {
     Receive(u8),
 }
 
-/// What a call answered, and the sink that it wrote to.
+/// The answer of a call, and the sink to which it wrote.
 #[derive(Drop)]
 pub struct Ran {
     pub answer: Result<(), DeskFault>,
@@ -40,14 +40,14 @@ pub struct Ran {
 }
 
 impl Ran {
-    /// This was answered, and these bytes were written.
+    /// Checks the answer, and the bytes written.
     pub fn ended(&self, rt: &impl Abort, answer: Result<(), DeskFault>, written: &[u8]) {
         assert_eq!(rt; self.answer, answer);
         assert_eq!(rt; self.sink.taken(), written);
     }
 }
 
-/// What becomes of the call on a machine file, a sheet, and a list or a card, with so much room for what is written.
+/// Runs `call` on a machine file, a sheet, and a list or a card, with room for `room` bytes of output.
 pub fn run<R: Source>(
     alloc: Global,
     call: Call,
@@ -70,14 +70,15 @@ pub fn run<R: Source>(
     Ran { answer, sink }
 }
 
-/// What is typed, sent or received, the answer, and what is written.
+/// What is typed, sent or received; then the answer, and what is written.
 type Streamed = (&'static str, Result<(), DeskFault>, &'static str);
 
-/// A call, a machine, and what becomes of texts on it.
+/// A call, a machine, and texts with their answers.
 pub type Streams = (Call, Text, &'static [Streamed]);
 
-/// Each of the texts has its answer, in whatever pieces it comes. Nothing is asked of the source once it has told its
-/// end: that would fail.
+/// Checks the answer to a text, in pieces of each size.
+///
+/// After its end, the source isn't read again; that read would fail.
 fn is_streamed(rt: &impl Abort, alloc: Global, call: Call, machine: &str, streamed: &Streamed) {
     let (text, answer, written) = streamed;
     for piece in [1, 2, 7] {
@@ -88,7 +89,7 @@ fn is_streamed(rt: &impl Abort, alloc: Global, call: Call, machine: &str, stream
     }
 }
 
-/// Each of the texts has its answer.
+/// Checks the answers to texts.
 pub fn are_streamed(rt: &impl Abort, alloc: Global, cases: &[Streams]) -> Result<(), AllocError> {
     for (call, machine, texts) in cases {
         let machine = changed(alloc, machine)?;
@@ -99,13 +100,13 @@ pub fn are_streamed(rt: &impl Abort, alloc: Global, cases: &[Streams]) -> Result
     Ok(())
 }
 
-/// A part of a card or a list, what stands in its place, and what is written then, or the fault.
+/// A part of a card or a list, its replacement, and what is written for the changed one, or the fault.
 pub type Judged = (&'static str, &'static str, Result<Text, DeskFault>);
 
-/// A call, a machine, a card or a list, and what becomes of it with changes.
+/// A call, a machine, a card or a list, and changes of it with their answers.
 pub type Cards = (Call, Text, TextName, &'static [Judged]);
 
-/// Each of the cards and lists has its answer.
+/// Checks the answers to cards and lists.
 pub fn are_judged(rt: &impl Abort, alloc: Global, cases: &[Cards]) -> Result<(), AllocError> {
     for (call, machine, list, changes) in cases {
         let machine = changed(alloc, machine)?;
@@ -116,7 +117,7 @@ pub fn are_judged(rt: &impl Abort, alloc: Global, cases: &[Cards]) -> Result<(),
     Ok(())
 }
 
-/// The card or the list has its answer.
+/// Checks the answer to a changed card or list.
 fn is_judged(
     rt: &impl Abort,
     alloc: Global,
@@ -173,7 +174,7 @@ fn stops_where_the_sink_fails(rt: HostRuntime) -> Result<(), AllocError> {
     Ok(())
 }
 
-/// On a machine and a sheet the calls are refused so, whatever is typed, applied, checked, sent or received.
+/// Checks that each call on this machine file and this sheet has the fault.
 fn are_refused(
     rt: &impl Abort,
     alloc: Global,
@@ -244,7 +245,7 @@ fn refuses_the_machine_first(rt: HostRuntime) -> Result<(), AllocError> {
     Ok(())
 }
 
-/// The calls on a day that the sheet hasn't.
+/// The calls on a day that the sheet doesn't have.
 const ON_DAY: &[Call] = &[
     Call::Card(5),
     Call::Check(5),
@@ -253,7 +254,7 @@ const ON_DAY: &[Call] = &[
     Call::Card(0),
 ];
 
-/// The calls on the order's and the form's day.
+/// The calls on the day of the order and the form.
 const OF_MESSAGES: &[Call] = &[Call::Send(17), Call::Receive(17)];
 
 /// The machine with an empty slot, and one with one letter in a cable.
@@ -261,7 +262,7 @@ const EMPTY_SLOT: Text = (Unready, "", "");
 
 const LOOSE_END: Text = (M1, "version", "cables = [\"C\"]\nversion");
 
-/// Two days of a sheet with one number, and a row that is none.
+/// A sheet with two entries for one day, and one with a row that no bar can read as.
 const TWICE: Text = (Sheet, "day = 1\n", "day = 3\n");
 
 const NO_ROW: Text = (
@@ -270,7 +271,7 @@ const NO_ROW: Text = (
     "\"0-3\", \"3-6\", \"0-0\", \"4-4\"",
 );
 
-/// Calls, a machine, a sheet, and the fault.
+/// Calls, a machine file, a sheet, and the fault.
 static KEYS: [(&[Call], Text, Text, DeskFault); 15] = [
     (ON_DAY, EMPTY_SLOT, (Empty, "", "="), File(NotToml)),
     (

@@ -1,7 +1,8 @@
+//! Tests of the command line.
 use kd_desk::{Action, Command, Stop, Task, Way, parse_words};
 use std::alloc::Global;
 
-/// The program's words, and the machine file that they name.
+/// A command line, and the machine file that it names.
 static TYPE: [(&[&str], &str); 7] = [
     (&["desk", "type", "m.toml"], "m.toml"),
     (&["desk", "type", "-"], "-"),
@@ -12,7 +13,7 @@ static TYPE: [(&[&str], &str); 7] = [
     (&["desk", "type", "type"], "type"),
 ];
 
-/// The program's words, and the machine file and the list that they name.
+/// A command line, and the machine file and the list that it names.
 static APPLY: [(&[&str], &str, &str); 4] = [
     (&["desk", "apply", "m.toml", "l.txt"], "m.toml", "l.txt"),
     (&["desk", "apply", "apply", "-"], "apply", "-"),
@@ -28,7 +29,7 @@ static APPLY: [(&[&str], &str, &str); 4] = [
     ),
 ];
 
-/// The name of a command with a day, how many words it has, and the third file that it names, if it names one.
+/// A command with a day, its number of words, and the third file that it names, if there is one.
 static ON_A_DAY: [(&str, usize, &str); 4] = [
     ("card", 5, ""),
     ("check", 6, "x.txt"),
@@ -36,7 +37,7 @@ static ON_A_DAY: [(&str, usize, &str); 4] = [
     ("receive", 6, "x.txt"),
 ];
 
-/// Words for a day, and the day that they are.
+/// The word for a day, and the day's number, if it is one.
 static DAYS: [(&str, Option<u8>); 14] = [
     ("1", Some(1)),
     ("9", Some(9)),
@@ -54,7 +55,7 @@ static DAYS: [(&str, Option<u8>); 14] = [
     ("-1", None),
 ];
 
-/// Words that say no command.
+/// Command lines that are no command.
 static OTHERS: [&[&str]; 26] = [
     &["desk"],
     &["desk", ""],
@@ -116,10 +117,10 @@ fn finds_the_machine_and_the_list(rt: HostRuntime) {
     }
 }
 
-/// What the words say of a day: the machine, the sheet, the day, the command's name, and the third file.
+/// A parsed command with a day: machine, sheet, day, the command's name, and the third file.
 type Said<'a> = (&'a str, &'a str, u8, &'a str, &'a str);
 
-/// The command with a day that the words say, if they say one.
+/// Parses a command with a day, if the words are one.
 fn on_a_day<'a>(alloc: Global, words: &'a [&'a str]) -> Option<Said<'a>> {
     let Command { machine, action } = parse_words(alloc, words).ok()?;
     let Action::OnDay { sheet, day, task } = action else {

@@ -1,3 +1,4 @@
+//! Tests of the texts of faults.
 use kd_card::CardFault;
 use kd_desk::DeskFault::{self, Card, Doubtful, File, Illegal, List, Message};
 use kd_form::FormFault::{
@@ -13,8 +14,7 @@ use kd_sheet::SheetFault::{
 use kd_state::{IllegalAt, ListFault, Why};
 use std::test::Fail;
 
-/// Each refusal that is printed, and its text: each number, with two places where it speaks of one, each key, and each
-/// reason.
+/// Every fault with its text: each number, twice if it has a place, each key, and each reason.
 static REFUSALS: [(DeskFault, &str); 101] = [
     (File(LetterTwice), "1 LetterTwice"),
     (Message(FormFault::NotReady), "4 NotReady"),

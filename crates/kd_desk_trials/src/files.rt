@@ -1,10 +1,11 @@
+//! Tests of the host's files, and of contents.
 use kd_desk::{FileFault, Files, HostFiles, ReaderSource, read_whole};
 use kd_tables::Source;
 use std::fs;
 use std::io::{self, Read};
 use std::test::Fail;
 
-/// How many bytes there are, and whether they are read.
+/// The length of a file, and whether it is read.
 static SIZES: [(u64, Result<usize, FileFault>); 7] = [
     (0, Ok(0)),
     (5, Ok(5)),
@@ -24,7 +25,7 @@ fn reads_to_the_limit(rt: HostRuntime) {
     }
 }
 
-/// Whether a file of this content is read alike twice.
+/// Whether two reads of a file both give `content`.
 fn is_read_twice(rt: &HostRuntime, name: &str, content: &str) -> Result<bool, Fail> {
     fs::write(rt, name, content)?;
     let mut files = HostFiles::new(rt);
@@ -44,7 +45,7 @@ fn reads_files_of_the_host(rt: HostRuntime) -> Result<(), Fail> {
     Ok(())
 }
 
-/// Whether an opened file gives this content, which is shorter than 8 bytes, and then ends.
+/// Whether an opened file gives `content`, shorter than 8 bytes, and then ends.
 fn is_given(rt: &HostRuntime, name: &str, content: &str) -> Result<bool, Fail> {
     fs::write(rt, name, content)?;
     let mut files = HostFiles::new(rt);
@@ -65,7 +66,7 @@ fn opens_files_of_the_host(rt: HostRuntime) -> Result<(), Fail> {
     Ok(())
 }
 
-/// Why a file of this name can't be read, and why it can't be opened.
+/// The faults of reading and of opening the file `name`.
 fn faults(rt: &HostRuntime, name: &str) -> (Option<FileFault>, Option<FileFault>) {
     let mut files = HostFiles::new(rt);
     let read = files.read(rt.alloc(), name).err();

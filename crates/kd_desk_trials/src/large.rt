@@ -1,4 +1,4 @@
-//! Large files, full months and long lists: none of their faults is called want of memory.
+//! Large files, full months and long lists, none of which is refused for want of memory.
 use crate::calls::{Call, run};
 use crate::samples::{DAYS, MACHINE};
 use kd_desk::DeskFault::{self, Doubtful, File, Illegal};
@@ -10,10 +10,10 @@ use kd_trials::named::TextName::{EmptyKinds, NoSettings, PlainDay};
 use std::alloc::{AllocError, Global};
 use std::process::Abort;
 
-/// How many comments of 64 bytes stand before a file: it has some 5,000 bytes then, 70,000, or nearly 1,048,576.
+/// How many comments of 64 bytes precede a file, which then has about 5,000, 70,000 or 1,048,576 bytes.
 static COMMENTS: [usize; 3] = [75, 1_100, 16_200];
 
-/// The file behind so many comments of 64 bytes.
+/// `file` after `comments` comments of 64 bytes.
 fn padded(alloc: Global, comments: usize, file: &str) -> Result<String, AllocError> {
     let comment = "# ............................................................\n";
     let mut text = comment.repeat(alloc, comments)?;
@@ -21,14 +21,14 @@ fn padded(alloc: Global, comments: usize, file: &str) -> Result<String, AllocErr
     Ok(text)
 }
 
-/// What follows a machine file, and what a machine file with that is refused for.
+/// What is appended to a machine file, and the fault that this makes.
 static BEHIND_MACHINES: [(&str, DeskFault); 3] = [
     ("x =", File(NotToml)),
     ("cables = [\"AB\", \"BC\"]\n", File(LetterTwice)),
     ("letters = \"AAAAA\"\n", File(NotToml)),
 ];
 
-/// What follows a sheet, and what a sheet with that is refused for.
+/// What is appended to a sheet, and the fault that this makes.
 static BEHIND_SHEETS: [(&str, DeskFault); 3] = [
     ("x =", File(NotToml)),
     ("[[day]]\nday = 11\n", File(DayTwice(11))),
@@ -38,7 +38,7 @@ static BEHIND_SHEETS: [(&str, DeskFault); 3] = [
     ),
 ];
 
-/// The call on these files answers so, and writes this.
+/// Checks the answer of a call on these files, and what it writes.
 fn ends(
     rt: &impl Abort,
     alloc: Global,
@@ -51,7 +51,7 @@ fn ends(
     ran.ended(rt, answer, written.as_bytes());
 }
 
-/// With so many comments, files are read as they are without, and refused for their faults.
+/// Checks that files after so many comments are read as without them, and have the same faults.
 fn are_read(rt: &impl Abort, alloc: Global, comments: usize) -> Result<(), AllocError> {
     let machine = padded(alloc, comments, MACHINE)?;
     let sheet = padded(alloc, comments, DAYS)?;
@@ -91,7 +91,7 @@ fn large_files_are_read_or_refused(rt: HostRuntime) -> Result<(), AllocError> {
     Ok(())
 }
 
-/// A sheet with a day of an Enigma I for each number up to the last one.
+/// A sheet with `days` days of an Enigma I.
 fn month(alloc: Global, days: u8) -> Result<String, AllocError> {
     let mut sheet = String::new(alloc);
     for day in 1..=days {
@@ -120,7 +120,7 @@ fn a_sheet_has_31_days(rt: HostRuntime) -> Result<(), AllocError> {
     Ok(())
 }
 
-/// The last of 192 settings is refused by its number, of a list and of a card.
+/// The last of 192 lines is refused with its number, in a list and in a card.
 #[test]
 fn the_last_of_192_lines_is_refused(rt: HostRuntime) -> Result<(), AllocError> {
     let alloc = rt.alloc();

@@ -1,4 +1,4 @@
-//! Tests of the desk's public calls, a module for each, on machine files, sheets, cards, orders and forms as texts.
+//! Tests of the desk's public calls, on machine files, sheets, cards, orders and forms as texts.
 #![tactic(auto)]
 
 #[cfg(test)]

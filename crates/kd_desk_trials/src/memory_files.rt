@@ -1,3 +1,4 @@
+//! Files in memory, for tests of the program.
 ghost use Rattle.std.specs.Prelude.{◌≡◌, [], option_map};
 ghost use Rattle.kd_desk.specs.Files.{content_of, held_in, Gives};
 
@@ -5,7 +6,7 @@ use kd_desk::{Asked, Content, FileFault, Files};
 use kd_tables::MemorySource;
 use std::alloc::Global;
 
-/// Files in memory: a name and the bytes of each.
+/// Files in memory: the name and the bytes of each.
 #[derive(Drop)]
 pub struct MemoryFiles<'n> {
     files: &'n [(&'n str, &'n [u8])],
@@ -13,7 +14,7 @@ pub struct MemoryFiles<'n> {
 }
 
 impl<'n> MemoryFiles<'n> {
-    /// These files. Of two with one name the first is read.
+    /// Creates files in memory. If two have one name, the first is read.
     pub fn new(files: &'n [(&'n str, &'n [u8])]) -> Self
         ensures files { result.files ≡ files.entry }
         ensures asked { result.asked ≡ [] }
@@ -24,7 +25,7 @@ impl<'n> MemoryFiles<'n> {
         }
     }
 
-    /// The bytes of the first file of this name.
+    /// The bytes of the first file with this name.
     fn find(&self, name: &str) -> Option<&'n [u8]>
         ensures { option_map (λ bytes. bytes.now) result ≡ held_in self.now.files.now name.now }
     {
@@ -32,7 +33,7 @@ impl<'n> MemoryFiles<'n> {
         Some(*bytes)
     }
 
-    /// The same, as the content of a file.
+    /// The content of the first file with this name.
     fn content(&self, alloc: Global, name: &str) -> Result<Content, FileFault>
         ensures { Gives (content_of (held_in self.now.files.now name.now)) result }
     {

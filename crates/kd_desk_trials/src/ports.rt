@@ -1,3 +1,4 @@
+//! Tests of the sources that read from readers, and of the sinks that write to writers.
 use kd_desk::{ReaderSource, WriterSink};
 use kd_tables::{Failed, Sink, Source};
 use std::io::{self, ErrorKind, Read, Write};
@@ -21,7 +22,7 @@ impl Read for Interrupted {
     }
 }
 
-/// A reader that finds no memory.
+/// A reader whose reads fail for want of memory.
 #[derive(Drop)]
 struct OutOfMemory;
 
@@ -31,7 +32,7 @@ impl Read for OutOfMemory {
     }
 }
 
-/// A writer that takes so many bytes, and then none.
+/// A writer that takes `room` bytes, and then none.
 #[derive(Drop)]
 struct Full {
     room: usize,
@@ -49,10 +50,10 @@ impl Write for Full {
     }
 }
 
-/// The size of a buffer, what is got, and whether a get has failed by then.
+/// The size of a buffer, what a get answers, and whether a get has failed by then.
 type Get = (usize, Result<&'static [u8], Failed>, bool);
 
-/// Of a reader of ENIGMA.
+/// Gets from a reader of the bytes ENIGMA.
 static GETS: [Get; 6] = [
     (1, Ok(b"E"), false),
     (0, Ok(b""), false),
@@ -62,7 +63,7 @@ static GETS: [Get; 6] = [
     (1, Ok(b""), false),
 ];
 
-/// Of the reader that is interrupted.
+/// Gets from the reader that is interrupted.
 static GETS_OF_INTERRUPTED: [Get; 4] = [
     (4096, Err(Failed), true),
     (4096, Ok(b"AA"), true),
@@ -70,7 +71,7 @@ static GETS_OF_INTERRUPTED: [Get; 4] = [
     (0, Ok(b""), true),
 ];
 
-/// The gets follow one another on the source.
+/// Checks gets, one after another, on one source.
 fn are_got<R: Read + Drop>(rt: &impl Abort, source: &mut ReaderSource<R>, gets: &[Get]) {
     let mut buffer = [0; 4096];
     for (size, got, failed) in gets {
@@ -102,7 +103,7 @@ fn a_read_that_finds_no_memory_says_so(rt: HostRuntime) {
     assert!(rt; source.lacks_memory());
 }
 
-/// How many bytes are put into a writer that takes 1,103 of them, how many are taken, and whether a put has failed by then.
+/// How many bytes are put into a writer with room for 1,103, how many it takes, and whether a put has failed.
 static PUTS: [(usize, Result<usize, Failed>, bool); 7] = [
     (0, Ok(0), false),
     (1100, Ok(1100), false),

@@ -1,3 +1,4 @@
+//! Tests of the whole program, on files in memory.
 ghost use Rattle.std.specs.Prelude.{◌≡◌, []};
 
 use crate::memory_files::MemoryFiles;
@@ -8,7 +9,7 @@ use kd_trials::texts::{EMPTY_KINDS, M1, M1_WRITTEN, M209, NO_SETTINGS, SHEET, UN
 use std::alloc::{AllocError, Global};
 use std::process::Abort;
 
-/// The status of a run, and what it wrote to its two outputs.
+/// The exit status of a run, and what it wrote to its two outputs.
 #[derive(Drop)]
 struct Ran {
     status: u8,
@@ -17,7 +18,7 @@ struct Ran {
 }
 
 impl Ran {
-    /// The run ended with the status that belongs to this line on standard error, and wrote this.
+    /// Checks the line on standard error, the exit status that belongs to it, and the output.
     fn ended(&self, rt: &impl Abort, told: &str, written: &str) {
         assert_eq!(rt; self.status, status_of(told));
         assert_eq!(rt; self.errors.taken(), told.as_bytes());
@@ -25,7 +26,7 @@ impl Ran {
     }
 }
 
-/// The status that belongs to a line on standard error.
+/// The exit status that belongs to a line on standard error.
 fn status_of(told: &str) -> u8 {
     if told.is_empty() {
         0
@@ -36,7 +37,7 @@ fn status_of(told: &str) -> u8 {
     }
 }
 
-/// What becomes of the words with these files and this standard input, with so much room on the output.
+/// Runs the program on a command line, files and standard input, with room for `room` bytes of output.
 fn run<'n, F: Files<'n>>(
     alloc: Global,
     words: &'n [&'n str],
@@ -57,7 +58,7 @@ fn run<'n, F: Files<'n>>(
     }
 }
 
-/// The files that the words name: each name, and its text.
+/// The files that the command lines name: each name, and its text.
 static HELD: [(&str, &str); 10] = [
     ("m", M1),
     ("s", SHEET),
@@ -74,12 +75,12 @@ static HELD: [(&str, &str); 10] = [
 /// The name of a file, and its bytes.
 type Held<'a> = (&'a str, &'a [u8]);
 
-/// These files.
+/// The files in `HELD`.
 fn files() -> [Held<'static>; 10] {
     HELD.map(|(name, text)| (name, text.as_bytes()))
 }
 
-/// Some of them, and one with these bytes.
+/// Some of these files, and a file with the bytes `long`.
 fn with_long(long: &[u8]) -> [Held<'_>; 4] {
     [
         ("m", MACHINE.as_bytes()),
@@ -89,7 +90,7 @@ fn with_long(long: &[u8]) -> [Held<'_>; 4] {
     ]
 }
 
-/// The machine that the list leads to.
+/// The machine to which the list leads.
 const TURNED: &str = "version = 1
 model = \"Enigma I\"
 reflector = \"B\"
@@ -99,10 +100,10 @@ letters = \"BAAAA\"
 cables = [\"\", \"\", \"\", \"\", \"\", \"\", \"\", \"\", \"\", \"\", \"\", \"\", \"\"]
 ";
 
-/// What the program tells of words that are no command.
+/// The line for words that are no command.
 const USAGE: &str = "usage: desk COMMAND WORDS\n";
 
-/// What it tells of a file that isn't there, that is too long, or that is no TOML document, and of other refusals.
+/// The lines for a file that is missing, one that is too long, one that is no TOML document, and other faults.
 const MISSING: &str = "refused 6 Device\n";
 
 const TOO_LONG: &str = "refused 38 ReadTooLong\n";
@@ -119,7 +120,7 @@ const NOT_READY: &str = "refused 4 NotReady\n";
 
 const NOT_ON_KEY: &str = "refused 27 NotOnKey\n";
 
-/// The program's words, and what is written.
+/// A command line, and what is written.
 static DONE: [(&[&str], &str); 7] = [
     (&["desk", "type", "m"], "BDZGO\n"),
     (&["desk", "apply", "m", "c"], M1_WRITTEN),
@@ -139,7 +140,7 @@ fn carries_each_command_out(rt: HostRuntime) {
     }
 }
 
-/// The program's words, and what it tells of why it stops.
+/// A command line, and the line on standard error.
 type Stopped = (&'static [&'static str], &'static str);
 
 static STOPPED: [Stopped; 22] = [
@@ -167,7 +168,7 @@ static STOPPED: [Stopped; 22] = [
     (&["desk", "receive", "m", "s", "17", "none"], MISSING),
 ];
 
-/// Where one file has a byte too much. An order is opened with the other files, and not read then.
+/// Command lines with a file that is one byte too long. An order is opened with the other files, and not read yet.
 static LONG: [Stopped; 6] = [
     (&["desk", "type", "long"], TOO_LONG),
     (&["desk", "apply", "none", "long"], MISSING),
@@ -177,7 +178,7 @@ static LONG: [Stopped; 6] = [
     (&["desk", "send", "bad", "bad", "1", "long"], NO_TOML),
 ];
 
-/// Each of the words stop the program, and nothing is written.
+/// Checks that each command line is refused with its line, and that nothing is written.
 fn are_stopped<'a>(rt: &impl Abort, alloc: Global, files: &'a [Held<'a>], cases: &'a [Stopped]) {
     for (words, told) in cases {
         let mut files = MemoryFiles::new(files);
@@ -193,8 +194,7 @@ fn stops_before_it_writes(rt: HostRuntime) -> Result<(), AllocError> {
     Ok(())
 }
 
-/// What is told of an order or a form that can't be read: behind the faults of the machine file and the sheet, of the
-/// day, and of the machine.
+/// The lines for an order or a form that can't be read: the faults of machine file, sheet, day and machine come first.
 static CUT_OFF: [Stopped; 10] = [
     (&["desk", "send", "bad", "bad", "5", "f"], NO_TOML),
     (&["desk", "send", "empty", "bad", "5", "f"], NO_TOML),
@@ -208,7 +208,7 @@ static CUT_OFF: [Stopped; 10] = [
     (&["desk", "check", "m", "s", "5", "f"], NO_SUCH_DAY),
 ];
 
-/// Files that are read as those in memory are, and that can be opened, but then no byte be read of them.
+/// Files that are read as in memory; those that are opened fail at the first read.
 #[derive(Drop)]
 struct CutOff<'n> {
     files: MemoryFiles<'n>,
@@ -240,7 +240,7 @@ fn stops_where_a_file_can_not_be_read_on(rt: HostRuntime) {
     }
 }
 
-/// The program's words, the standard input, the room on the output, what is told, and what is written.
+/// A command line, standard input, the room for output, the line on standard error, and the output.
 static HALF_WAY: [(&[&str], &str, usize, &str, &str); 2] = [
     (
         &["desk", "type", "m"],
@@ -267,7 +267,7 @@ fn stops_half_way(rt: HostRuntime) {
     }
 }
 
-/// So many bytes in an order without lines of keys and letters, and what is told of it.
+/// The length of an order without keys and letters, and the line on standard error.
 static LENGTHS: [(usize, &str); 2] = [(1_048_571, "refused 29 EmptyText\n"), (1_048_572, TOO_LONG)];
 
 #[test]
@@ -283,7 +283,7 @@ fn stops_where_an_order_is_too_long(rt: HostRuntime) -> Result<(), AllocError> {
     Ok(())
 }
 
-/// An answer, and what is told of it.
+/// An answer, and its line on standard error.
 static ENDS: [(Result<(), Stop>, &str); 6] = [
     (Ok(()), ""),
     (Err(Stop::Usage), USAGE),

@@ -1,3 +1,4 @@
+//! Tests of the command `apply`.
 use crate::calls::{Call, Cards, are_judged};
 use crate::run_check::{FAULTY_BARS, FAULTY_CABLES};
 use crate::samples::{CANCELLING, ENIGMA, ONE_BAR, PLUGGED, TWO_BARS};
@@ -11,7 +12,9 @@ use kd_trials::named::TextName::{
 };
 use std::alloc::AllocError;
 
-/// Lists and cards that are carried out. In an empty list the empty part is the whole, and of a card neither day nor prices count.
+/// Lists and cards that are carried out; a card's day and prices don't count.
+///
+/// In an empty list, the part that is replaced is empty, and the replacement is the whole list.
 static APPLIED: [Cards; 16] = [
     (
         Call::Apply,

@@ -1,3 +1,4 @@
+//! Tests of the command `card`.
 use crate::calls::{Call, Streams, are_streamed, run};
 use crate::samples::{CANCELLING, DAYS, ENIGMA, ONE_BAR, PLUGGED, TWO_BARS, Text, changed};
 use kd_tables::{MemorySource, Sink};
@@ -7,7 +8,7 @@ use std::alloc::{AllocError, Global};
 use std::process::Abort;
 use std::test::Fail;
 
-/// Machines, and their cards where no price can be chosen.
+/// Machines, and their cards, if no price is free.
 static UNPRICED: [Streams; 6] = [
     (Call::Card(11), ENIGMA, &[("", Ok(()), EMPTY_KINDS)]),
     (
@@ -62,7 +63,7 @@ fn prints_cards_without_prices(rt: HostRuntime) -> Result<(), AllocError> {
     are_streamed(&rt, rt.alloc(), &UNPRICED)
 }
 
-/// A machine, a day, how its card begins and ends, and how often texts stand in it. The prices may be chosen.
+/// A machine, a day, how its card begins and ends, and how often some texts are in it. The prices are free.
 type Priced = (
     Text,
     u8,
@@ -167,7 +168,7 @@ static PRICED: [Priced; 7] = [
     ),
 ];
 
-/// The card of such a machine.
+/// Checks a card with free prices.
 fn is_printed(
     rt: &impl Abort,
     alloc: Global,

@@ -1,3 +1,4 @@
+//! Tests of the command `check`.
 use crate::calls::{Call, Cards, Judged, are_judged, run};
 use crate::samples::{CANCELLING, DAYS, ENIGMA, MACHINE, ONE_BAR, PLUGGED, TWO_BARS};
 use kd_card::CardFault::{BadHead, BadLine, CountWrong, PriceMissing, TooMany, Trailing};
@@ -12,7 +13,7 @@ use kd_trials::named::TextName::{
 };
 use std::alloc::AllocError;
 
-/// What keeps the card without settings from being one, by its lines.
+/// Changes of the card without settings that make it no card, line by line.
 pub const FAULTY_CABLES: &[Judged] = &[
     ("CARD 1", "CARD 3", Err(Card(BadHead))),
     ("DAY 11", "DAY 0", Err(Card(BadHead))),
@@ -36,7 +37,7 @@ pub const FAULTY_CABLES: &[Judged] = &[
     ("SUM 0\n", "SUM 0\n\n", Err(Card(Trailing))),
 ];
 
-/// The same of the card that moves one lug.
+/// Changes of the card that moves one lug that make it no card.
 pub const FAULTY_BARS: &[Judged] = &[
     ("BARS 1", "BARS +1", Err(Card(BadLine(4)))),
     ("BARS 1", "BARS 01", Err(Card(BadLine(4)))),
@@ -49,7 +50,7 @@ pub const FAULTY_BARS: &[Judged] = &[
     ("SUM 1\n", "SUM", Err(Card(BadLine(6)))),
 ];
 
-/// Cards that are checked. Their own faults come before another day, and that before the doubts.
+/// Cards and their answers. A card's own fault comes before `OtherDay`, and this before the doubts.
 static CHECKED: [Cards; 18] = [
     (
         Call::Check(8),
@@ -85,7 +86,7 @@ static CHECKED: [Cards; 18] = [
         &[("DAY 11", "DAY 8", Err(Doubtful(NotTheSheet)))],
     ),
     (Call::Check(8), PLUGGED, NoSettings, FAULTY_CABLES),
-    // Six settings are needed, and the last of them once.
+    // Six settings are needed; the last of them is needed just once.
     (
         Call::Check(11),
         (M1, "AAAAA", "BBBBB"),

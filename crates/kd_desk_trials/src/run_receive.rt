@@ -1,3 +1,4 @@
+//! Tests of the command `receive`.
 use crate::calls::{Call, Streams, are_streamed};
 use crate::samples::{CONVERTER_FORM, CONVERTER_TEXT, ENIGMA, FORM, M4_FORM, TEXT, TURNED};
 use kd_desk::DeskFault::Message;
@@ -8,7 +9,7 @@ use kd_form::FormFault::{
 use kd_trials::named::TextName::{M3, M4AsEnigma, WithoutPins};
 use std::alloc::AllocError;
 
-/// Forms on each machine, and the texts that they become: of a refused form those of the parts before.
+/// Forms for each machine and their texts; if a form is refused, the texts of the parts before the fault.
 static RECEIVED: [Streams; 5] = [
     (
         Call::Receive(17),

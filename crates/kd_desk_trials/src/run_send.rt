@@ -1,3 +1,4 @@
+//! Tests of the command `send`.
 use crate::calls::{Call, Streams, are_streamed};
 use crate::samples::{
     CONVERTER_FORM, CONVERTER_ORDER, ENIGMA, FORM, M4_FORM, M4_ORDER, ORDER, TURNED,
@@ -7,7 +8,7 @@ use kd_form::FormFault::{BadByte, EmptyText, IndicatorSpent, KeyNotOnWheel, Part
 use kd_trials::named::TextName::{M3, M4AsEnigma, WithoutPins};
 use std::alloc::AllocError;
 
-/// 246 letters with one line of keys.
+/// An order with 246 letters and one line of keys.
 const LONG: &str = "PART AAA AAA QX UGZ
 TEXT
 AAAAAAAAAAAAAAAAAAAAAAAAAAAAAAAAAAAAAAAAAAAAAAAAAAAAAAAAAAAA
@@ -17,7 +18,7 @@ AAAAAAAAAAAAAAAAAAAAAAAAAAAAAAAAAAAAAAAAAAAAAAAAAAAAAAAAAAAA
 AAAAAA
 ";
 
-/// There is no line of keys, or one where two are needed.
+/// The faults of an order without a line of keys, and of one with one line where two are needed.
 const NO_KEYS: DeskFault = Message(PartKeys {
     needed: 1,
     given: 0,
@@ -28,7 +29,7 @@ const FEW_KEYS: DeskFault = Message(PartKeys {
     given: 1,
 });
 
-/// Orders on each machine, and the forms that they become.
+/// Orders for each machine, and their forms.
 static SENT: [Streams; 5] = [
     (
         Call::Send(17),

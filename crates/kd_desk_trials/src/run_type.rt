@@ -1,3 +1,4 @@
+//! Tests of the command `type`.
 ghost use Rattle.std.specs.Prelude.{false};
 
 use crate::calls::{Call, Streams, are_streamed, run};
@@ -8,7 +9,7 @@ use kd_tables::{Failed, MemorySource, Source};
 use kd_trials::named::TextName::{AllMet, M1, M3, M4, M4AsEnigma, M209, TenCablesWritten};
 use std::alloc::AllocError;
 
-/// Texts on each machine, and the lamps that light up.
+/// Texts for each machine, and the lamps that light up.
 static TYPED: [Streams; 11] = [
     (
         Call::Type,
@@ -70,7 +71,7 @@ fn types_to_the_first_byte_that_is_not_allowed(rt: HostRuntime) -> Result<(), Al
     are_streamed(&rt, rt.alloc(), &TYPED)
 }
 
-/// The get that fails, counted from 0, and the lamps before.
+/// The get that fails, counted from 0, and the lamps written before.
 static FAILED_READS: [(usize, &str); 4] = [(0, ""), (1, "BD"), (2, "BDZG"), (3, "BDZGO")];
 
 #[test]
@@ -82,7 +83,7 @@ fn stops_at_a_failed_read(rt: HostRuntime) {
     }
 }
 
-/// A source of so many spaces.
+/// A source of `left` spaces.
 #[derive(Drop)]
 struct Spaces {
     left: usize,
@@ -103,7 +104,7 @@ impl Source for Spaces {
     }
 }
 
-/// So many spaces, the last ones without an end, the answer, and what is written.
+/// A number of spaces, in the last case without end, the answer, and what is written.
 static SPACES: [(usize, Result<(), DeskFault>, &str); 3] = [
     (1_048_576, Ok(()), "\n"),
     (1_048_577, Err(ReadTooLong), ""),

@@ -1,12 +1,12 @@
-//! The machine files, the key sheet, and the orders and forms that tests begin from.
+//! The machine files, the key sheet, the orders and the forms from which the tests start.
 use kd_trials::named::TextName::{self, M1, M209};
 use kd_trials::texts;
 use std::alloc::{AllocError, Global};
 
-/// A text, a part of it, and what stands wherever the part stood.
+/// A text, a part of it, and the replacement for each place where the part is.
 pub type Text = (TextName, &'static str, &'static str);
 
-/// The text with its change.
+/// The text with its part replaced.
 pub fn changed(alloc: Global, (name, old, new): &Text) -> Result<String, AllocError> {
     name.text().replace(alloc, old, new)
 }
@@ -14,30 +14,32 @@ pub fn changed(alloc: Global, (name, old, new): &Text) -> Result<String, AllocEr
 /// An Enigma I with reflector B, the wheels I, II and III in the slots, and all rings and letters A.
 pub const ENIGMA: Text = (M1, "", "");
 
-/// It with two cables.
+/// `ENIGMA` with two cables.
 pub const PLUGGED: Text = (M1, "version", "cables = [\"AB\", \"CD\"]\nversion");
 
-/// It with a ring and a letter that differ from the day's, and leave the cipher as it is.
+/// `ENIGMA` with a ring and a letter that differ from the day's and leave the cipher as it is.
 pub const CANCELLING: Text = (M1, "\"AAAAA\"", "\"BAAAA\"");
 
-/// It showing other letters.
+/// `ENIGMA` with other letters in its windows.
 pub const TURNED: Text = (M1, "letters = \"AAAAA\"", "letters = \"QRSAA\"");
 
-/// It with another ring, which is off the key.
+/// `ENIGMA` with another ring, which is off the key.
 pub const OFF_KEY: Text = (M1, "rings = \"AAAAA\"", "rings = \"BAAAA\"");
 
-/// A Converter M-209 whose first two bars have to change places, or one lug of the first has to move.
+/// A Converter M-209 that needs its first two bars to change places, or one lug of the first moved.
 pub const TWO_BARS: Text = (M209, "\"1-2\", \"0L-0R\"", "\"3-0R\", \"0L-3\"");
 
-/// One whose first bar has to move both lugs.
+/// A Converter M-209 that needs both lugs of its first bar moved.
 pub const ONE_BAR: Text = (M209, "\"1-2\"", "\"1-3\"");
 
-/// The Enigma's file and this sheet, for the bodies of tests: a constant's bytes would be carried through their proofs.
+/// The Enigma's file and the sheet, for the bodies of tests.
+///
+/// They are statics, since the bytes of a constant would be carried through the proofs of the tests.
 pub static MACHINE: &str = texts::M1;
 
 pub static DAYS: &str = texts::SHEET;
 
-/// An order for the Enigma and the M3, the form that it becomes, and the text that this becomes.
+/// An order for the Enigma and the M3, its form, and the form's text.
 pub const ORDER: &str = "PART AAA AAA QX UGZ
 TEXT
 AAAAA";
@@ -48,7 +50,7 @@ QXUGZ BDZGO
 
 pub const TEXT: &str = "AAAAA\n";
 
-/// An order for the M4, and the form that it becomes.
+/// An order for the M4, and its form.
 pub const M4_ORDER: &str = "PART AAAA AAAA QX UGZ
 TEXT
 AAAAA";
@@ -57,7 +59,7 @@ pub const M4_FORM: &str = "PART 1/1 10 AAAA BDZG
 QXUGZ BDZGO
 ";
 
-/// An order for the Converter without pins, the form that it becomes, and the text that this becomes.
+/// An order for the Converter without pins, its form, and the form's text.
 pub const CONVERTER_ORDER: &str = "PART T ABCDEF
 TEXT
 HELLO WORLD";

@@ -1,31 +1,54 @@
--- The reader of a form, byte by byte, and at the end.
-pub use Rattle.kd_form.proofs.Prelude.{err_is, [], ◌≡◌, ◌≢◌, ◌⊎◌, inl, inr, ℕ, ◌+◌, ◌-◌, ◌≤◌, List, ◌∷◌, ◌++◌, length, take, refl, sym, ap, subst, ◌∙◌, append_assoc, length-append, Ok, Err, arith, codes, All, IsTrue, Option, Some, None, MatchOption, option_to_list, take-append_seam, cases_lt, cases_eq, append-nil, take_all, take-take, take-append-le, length-take, length-take-le, filter_map-append, All-nil, All-push, ArrayVec, is_text_byte, Day, line_of, IsFirstPart, FormFault, Heading, IsLineText, heading_words, letter_of_byte, letters_from, IsHeading, BeginsHeading, Answer, SaysBody, HasHeading, IsExpected, IsEarlyFault, InHeading, InNumber, InBody, IsPartFault, HoldsBody, IsBodyGiven, HasBegun, HoldsPart, HoldsStage, HoldsForm, IsHeadingOff, Missing, Other, IsPartRead, PartOrder, given_letters, IsRefusedForGood, NoHeading, form_message, IsRefused, Closes, Held, OfRest, ReadsTo, IsReadTo, StandsAt, EndsAt, IsComplete, IsLast, AtPart, cut, parts_of, Place, at_first, place_behind, HasTail, place_of, map-append, given_byte, blank_of, BadHeading, BadByte, false≢true, All-take}
+-- What the reader of a form holds after one more byte, and its answer at the end.
+pub use Rattle.kd_form.proofs.Prelude.{err_is, [], ◌≡◌, ◌≢◌, ◌⊎◌, inl, inr, ℕ, ◌+◌, ◌-◌, ◌≤◌, List, ◌∷◌, ◌++◌, length}
+pub use Rattle.kd_form.proofs.Prelude.{take, refl, sym, ap, subst, ◌∙◌, append_assoc, length-append, Ok, Err, arith}
+pub use Rattle.kd_form.proofs.Prelude.{codes, All, IsTrue, Option, Some, None, MatchOption, option_to_list}
+pub use Rattle.kd_form.proofs.Prelude.{take-append_seam, cases_lt, cases_eq, append-nil, take_all, take-take}
+pub use Rattle.kd_form.proofs.Prelude.{take-append-le, length-take, length-take-le, filter_map-append, All-nil}
+pub use Rattle.kd_form.proofs.Prelude.{All-push, ArrayVec, is_text_byte, Day, line_of, IsFirstPart, FormFault, Heading}
+pub use Rattle.kd_form.proofs.Prelude.{IsLineText, heading_words, letter_of_byte, letters_from, IsHeading}
+pub use Rattle.kd_form.proofs.Prelude.{BeginsHeading, Answer, SaysBody, HasHeading, IsExpected, IsEarlyFault, InHeading}
+pub use Rattle.kd_form.proofs.Prelude.{InNumber, InBody, IsPartFault, HoldsBody, IsBodyGiven, HasBegun, HoldsPart}
+pub use Rattle.kd_form.proofs.Prelude.{HoldsStage, HoldsForm, IsHeadingOff, Missing, Other, IsPartRead, PartOrder}
+pub use Rattle.kd_form.proofs.Prelude.{given_letters, IsRefusedForGood, NoHeading, form_message, IsRefused, Closes}
+pub use Rattle.kd_form.proofs.Prelude.{Held, OfRest, ReadsTo, IsReadTo, StandsAt, EndsAt, IsComplete, IsLast, AtPart}
+pub use Rattle.kd_form.proofs.Prelude.{cut, parts_of, Place, at_first, place_behind, HasTail, place_of, map-append}
+pub use Rattle.kd_form.proofs.Prelude.{given_byte, blank_of, BadHeading, BadByte, false≢true, All-take}
 use Rattle.kd_form.specs.declared.{part_body.PartBody.PartBody, form_reader.{FormReader.FormReader, Stage.Stage}}
-pub use Rattle.kd_form.proofs.Headings.{at_most, has_byte, one_heading, begins_there, as_parts, begins, begins_more, first_ends, first_more, may_begin, one_more, single, follows, not_begun, ended_heading, whole_line, no_bad_byte, bad_behind}
+pub use Rattle.kd_form.proofs.Headings.{at_most, has_byte, one_heading, begins_there, as_parts, begins, begins_more}
+pub use Rattle.kd_form.proofs.Headings.{first_ends, first_more, may_begin, one_more, single, follows, not_begun}
+pub use Rattle.kd_form.proofs.Headings.{ended_heading, whole_line, no_bad_byte, bad_behind}
 use Rattle.kd_form.proofs.Lines.{letters_first, head_unbroken}
 use Rattle.kd_form.proofs.OneText.{read_or_refused, reads_meet, reads_then, stands_at, stays_refused}
 use Rattle.kd_form.specs.declared.form_reader.Stage.TheVariants as stages
 
 -- -------- the body of a part, byte by byte
 
--- kept up to a length, once more
+-- keeping up to a length before more is appended makes no difference
 pub take_kept : (n : ℕ) (xs ys : List ℕ) → take n (take n xs ++ ys) ≡ take n (xs ++ ys)
-take_kept n xs ys = grind (arith, cases_lt, take-append-le {A = ℕ}, length-take {A = ℕ}, take-take {A = ℕ}, take_all {A = ℕ})
+take_kept n xs ys =
+    grind (arith, cases_lt, take-append-le {A = ℕ}, length-take {A = ℕ}, take-take {A = ℕ}, take_all {A = ℕ})
 
 letters_kept : (old body : List ℕ) (byte : ℕ) → old ≡ take 525 (letters_from None body)
     → take 525 (old ++ option_to_list (letter_of_byte None byte)) ≡ take 525 (letters_from None (body ++ byte ∷ []))
 letters_kept old body byte kept =
-    ap (λ l. take 525 (l ++ option_to_list (letter_of_byte None byte))) kept ∙ take_kept 525 (letters_from None body) (option_to_list (letter_of_byte None byte))
-    ∙ ap (λ l. take 525 (letters_from None body ++ l)) (sym (letters_first None byte [] ∙ append-nil (option_to_list (letter_of_byte None byte))))
+    ap (λ l. take 525 (l ++ option_to_list (letter_of_byte None byte))) kept
+    ∙ take_kept 525 (letters_from None body) (option_to_list (letter_of_byte None byte))
+    ∙ ap (λ l. take 525 (letters_from None body ++ l))
+    (sym (letters_first None byte [] ∙ append-nil (option_to_list (letter_of_byte None byte))))
     ∙ ap (take 525) (sym (filter_map-append (letter_of_byte None) body (byte ∷ [])))
 
--- ---- a byte more
+-- ---- one more byte of a body
 
-pub first_longer : (part line body : List ℕ) (byte : ℕ) → IsFirstPart 10 part line body → IsFirstPart 10 (part ++ byte ∷ []) line (body ++ byte ∷ [])
+pub first_longer : (part line body : List ℕ) (byte : ℕ) → IsFirstPart 10 part line body
+    → IsFirstPart 10 (part ++ byte ∷ []) line (body ++ byte ∷ [])
 first_longer part line body byte first =
-    record { joined = ap (λ l. l ++ byte ∷ []) first.joined ∙ append_assoc line (10 ∷ body) (byte ∷ []); without = first.without }
+    record {
+      joined = ap (λ l. l ++ byte ∷ []) first.joined
+          ∙ append_assoc line (10 ∷ body) (byte ∷ []);
+      without = first.without;
+    }
 
--- the last line with it
+-- the last line with one more byte
 tail_more : (line body first now : List ℕ) (byte : ℕ) → HasTail line body first → (byte ≡ 10 → now ≡ [])
     → (byte ≢ 10 → now ≡ take 6 (first ++ byte ∷ [])) → HasTail line (body ++ byte ∷ []) now
 tail_more line body first now byte was ends longer = elim (cases_eq byte 10) [
@@ -34,7 +57,12 @@ tail_more line body first now byte was ends longer = elim (cases_eq byte 10) [
     tail = [];
     front = was.front ++ 10 ∷ was.tail;
     lines = sym (append-nil (body ++ byte ∷ []));
-    broken = cc (append_assoc line (10 ∷ body) (byte ∷ []), append_assoc line (10 ∷ was.settled) was.tail, append_assoc was.front (10 ∷ []) was.tail);
+    broken =
+        cc (
+          append_assoc line (10 ∷ body) (byte ∷ []),
+          append_assoc line (10 ∷ was.settled) was.tail,
+          append_assoc was.front (10 ∷ []) was.tail,
+        );
     unbroken = All-nil (λ b. b ≢ 10);
     kept = ends is;
   }
@@ -49,10 +77,11 @@ tail_more line body first now byte was ends longer = elim (cases_eq byte 10) [
   }
 ]
 
-pub body_more : (s : Day) (b new : PartBody) (part body : List ℕ) (byte : ℕ) (letter : Option ℕ) → new.heading ≡ b.heading
-    → letter ≡ letter_of_byte None byte → (b.letters.items ≡ take 525 b.letters.items → new.letters.items ≡ take 525 (b.letters.items ++ option_to_list letter))
-    → (byte ≡ 10 → new.line.items ≡ []) → (byte ≢ 10 → new.line.items ≡ take 6 (b.line.items ++ byte ∷ [])) → IsTrue (is_text_byte byte)
-    → HoldsBody s b part body → HoldsBody s new (part ++ byte ∷ []) (body ++ byte ∷ [])
+pub body_more : (s : Day) (b new : PartBody) (part body : List ℕ) (byte : ℕ) (letter : Option ℕ)
+    → new.heading ≡ b.heading → letter ≡ letter_of_byte None byte → (b.letters.items ≡ take 525 b.letters.items
+    → new.letters.items ≡ take 525 (b.letters.items ++ option_to_list letter))
+    → (byte ≡ 10 → new.line.items ≡ []) → (byte ≢ 10 → new.line.items ≡ take 6 (b.line.items ++ byte ∷ []))
+    → IsTrue (is_text_byte byte) → HoldsBody s b part body → HoldsBody s new (part ++ byte ∷ []) (body ++ byte ∷ [])
 body_more s b new part body byte letter same told more ends longer allowed holds =
     record {
       line = holds.line;
@@ -61,34 +90,40 @@ body_more s b new part body byte letter same told more ends longer allowed holds
       is_heading = rw same holds.is_heading;
       last = tail_more holds.line body b.line.items new.line.items byte holds.last ends longer;
       allowed = All-push (λ b. IsTrue (is_text_byte b)) body byte holds.allowed allowed;
-      kept = more (rw holds.kept (sym (take-take 525 525 (letters_from None body) (omega arith)))) ∙ rw told (letters_kept b.letters.items body byte holds.kept);
+      kept =
+          more (rw holds.kept (sym (take-take 525 525 (letters_from None body) (omega arith))))
+          ∙ rw told (letters_kept b.letters.items body byte holds.kept);
     }
 
 -- ---- the letters of a whole body
 
--- the letters themselves are shown, or more than a body has
-are_shown : (others : ℕ) (kept shown letters more : List ℕ) → others ≤ 4 → length more ≡ others → kept ≡ take 525 (letters ++ more)
+-- without the `others` last ones, the kept letters are the body's, or both are more than a body may have
+are_shown : (others : ℕ) (kept shown letters more : List ℕ) → others ≤ 4 → length more ≡ others
+    → kept ≡ take 525 (letters ++ more)
     → shown ≡ take (length kept - others) kept → (shown ≡ letters) ⊎ ((521 ≤ length shown) × (521 ≤ length letters))
 are_shown others kept shown letters more few size is cut = elim (cases_lt 525 (length (letters ++ more))) [
   | inl long ↦ inr (grind (arith, length-take-le 525 (letters ++ more), length-take {A = ℕ}, length-append {A = ℕ}))
   | inr short ↦ inl (grind (arith, take_all 525 (letters ++ more), take-append_seam letters, length-append letters))
 ]
 
-pub body_told : (s : Day) (h : Heading) (others : ℕ) (kept shown letters more : List ℕ) (v : Answer) → IsHeading s h → others ≤ 4
-    → length more ≡ others → kept ≡ take 525 (letters ++ more) → shown ≡ take (length kept - others) kept
+pub body_told : (s : Day) (h : Heading) (others : ℕ) (kept shown letters more : List ℕ) (v : Answer) → IsHeading s h
+    → others ≤ 4 → length more ≡ others → kept ≡ take 525 (letters ++ more) → shown ≡ take (length kept - others) kept
     → SaysBody s h.part h shown v → SaysBody s h.part h letters v
 body_told s h others kept shown letters more v is few size kept_is cut told = grind (arith, are_shown, at_most)
 
 -- -------- a whole part
 
-body_heading : (s : Day) (b : PartBody) (part body : List ℕ) → HoldsBody s b part body → HasHeading s part b.heading body
-body_heading s b part body holds = record { is_heading = holds.is_heading; first = inl (holds.line, holds.first, holds.text) }
+body_heading : (s : Day) (b : PartBody) (part body : List ℕ) → HoldsBody s b part body
+    → HasHeading s part b.heading body
+body_heading s b part body holds =
+    record { is_heading = holds.is_heading; first = inl (holds.line, holds.first, holds.text) }
 
--- what is said of the letters that are kept, if so many more follow those of the body
+-- `P` holds of the body's letters, if `others` letters more are kept
 abbrev pub IsSaid : PartBody → ℕ → (List ℕ → Type 0) → Type 0
-IsSaid b others P = (letters more : List ℕ) → length more ≡ others → b.letters.items ≡ take 525 (letters ++ more) → P letters
+IsSaid b others P =
+    (letters more : List ℕ) → length more ≡ others → b.letters.items ≡ take 525 (letters ++ more) → P letters
 
--- the body of a whole part, the next one, of so many; these letters more are kept
+-- the body of a whole part, which is the next one; the letters `more` are kept after its own
 pub record IsNext (s : Day) (b : PartBody) (number : ℕ) (expected : Option ℕ) (part body more : List ℕ) : Type 0 where
   pub has : HasHeading s part b.heading body
   pub numbered : b.heading.part ≡ number
@@ -96,17 +131,20 @@ pub record IsNext (s : Day) (b : PartBody) (number : ℕ) (expected : Option ℕ
   pub allowed : All (λ b. IsTrue (is_text_byte b)) body
   pub kept : b.letters.items ≡ take 525 (letters_from None body ++ more)
 
-module _ (s : Day) (b : PartBody) (number : ℕ) (expected : Option ℕ) (part body more : List ℕ) (next : IsNext s b number expected part body more) where
+module _ (s : Day) (b : PartBody) (number : ℕ) (expected : Option ℕ) (part body more : List ℕ)
+    (next : IsNext s b number expected part body more) where
   next_read : (made : List ℕ) → IsSaid b (length more) (λ letters. IsBodyGiven s b.heading letters made)
       → (one : List ℕ) × IsPartRead s number b.heading.parts part one × (made ≡ given_letters s one)
   next_read made told = grind (arith, told (letters_from None body) more refl next.kept)
 
-  pub next_refused : (fault : FormFault) → IsSaid b (length more) (λ letters. SaysBody s b.heading.part b.heading letters (Err fault))
+  pub next_refused : (fault : FormFault)
+      → IsSaid b (length more) (λ letters. SaysBody s b.heading.part b.heading letters (Err fault))
       → (start : ℕ) → IsPartFault s number expected start part fault
   next_refused fault told start = grind (arith, told (letters_from None body) more refl next.kept)
 
--- why the line of a heading is refused, where the form ends in it, or where an LF has come
-pub off : (s : Day) (number : ℕ) (expected : Option ℕ) (start : ℕ) (part : List ℕ) (found : Option Heading) (fault : FormFault)
+-- the fault of a heading line, where the form ends in it or an LF has come
+pub off : (s : Day) (number : ℕ) (expected : Option ℕ) (start : ℕ) (part : List ℕ) (found : Option Heading)
+    (fault : FormFault)
     → MatchOption found ((h : Heading) (body : List ℕ) → ¬ (HasHeading s part h body)) (λ h. HasHeading s part h [])
     → IsHeadingOff number expected found fault → IsEarlyFault s number expected start part fault
 off s number expected start part found fault told (Missing none is) = InHeading (rw none at told) is
@@ -114,12 +152,16 @@ off s number expected start part found fault told (Other h there wrong is) = InN
 
 -- -------- the reader of a form, byte by byte
 
-has_begun : (s : Day) (stage : Stage) (number : ℕ) (expected : Option ℕ) (part : List ℕ) → HoldsStage s stage number expected part → HasBegun part
+has_begun : (s : Day) (stage : Stage) (number : ℕ) (expected : Option ℕ) (part : List ℕ)
+    → HoldsStage s stage number expected part → HasBegun part
 has_begun s (stages.Heading line) number expected part held = held.0.begins
-has_begun s (stages.Body b) number expected part held = inr (begins_there s part b.heading held.body (body_heading s b part held.body held.holds))
+has_begun s (stages.Body b) number expected part held =
+    inr (begins_there s part b.heading held.body (body_heading s b part held.body held.holds))
 
-not_refused : (s : Day) (stage : Stage) (number : ℕ) (expected : Option ℕ) (start : ℕ) (part line body : List ℕ) (fault : FormFault)
-    → HoldsStage s stage number expected part → IsFirstPart 10 part line body → ¬ (IsEarlyFault s number expected start part fault)
+not_refused : (s : Day) (stage : Stage) (number : ℕ) (expected : Option ℕ) (start : ℕ) (part line body : List ℕ)
+    (fault : FormFault)
+    → HoldsStage s stage number expected part → IsFirstPart 10 part line body
+    → ¬ (IsEarlyFault s number expected start part fault)
 not_refused s (stages.Heading shown) number expected start part line body fault held broken early =
     has_byte 10 line body (rw broken.joined at held.0.unbroken)
 not_refused s (stages.Body b) number expected start part line body fault held broken (InHeading none is) =
@@ -127,7 +169,8 @@ not_refused s (stages.Body b) number expected start part line body fault held br
 not_refused s (stages.Body b) number expected start part line body fault held broken (InNumber h rest has other is) =
     let same = one_heading s part b.heading h held.body rest (body_heading s b part held.body held.holds) has in
     grind (arith, same, held.numbered, held.due)
-not_refused s (stages.Body b) number expected start part line body fault held broken (InBody h rest place has numbered due bad is) =
+not_refused s (stages.Body b) number expected start part line body fault held broken
+    (InBody h rest place has numbered due bad is) =
     let same = one_heading s part b.heading h held.body rest (body_heading s b part held.body held.holds) has in
     no_bad_byte rest place (rw same.1 at held.holds.allowed) bad
 
@@ -137,7 +180,7 @@ module _ (s : Day) (r : FormReader) (form text : List ℕ) (h : HoldsForm s r fo
   abbrev pub here : Place
   here = place_of r h.front
 
-  -- what is so of the last part with more bytes is so of the form with them
+  -- what holds of the last part with more bytes holds of the form with them
   pub reaches : (B : OfRest) (more made letters : List ℕ) (parts : List (List ℕ)) → parts_of (h.last ++ more) ≡ parts
       → ReadsTo s B here parts letters → made ≡ given_letters s letters → IsReadTo s B (form ++ more) (text ++ made)
   reaches B more made letters parts are reads given = (
@@ -154,18 +197,21 @@ module _ (s : Day) (r : FormReader) (form text : List ℕ) (h : HoldsForm s r fo
   abbrev IsHere : OfRest
   IsHere p parts = (p ≡ here) × (parts ≡ h.last ∷ [])
 
-  -- what is held is neither refused, nor passed by what is
-  never_refused : (fault : FormFault) (p : Place) (parts : List (List ℕ)) → IsHere p parts → ¬ (StandsAt s fault p parts)
+  -- the part that is held isn't refused, and parts that are read don't go past it
+  never_refused : (fault : FormFault) (p : Place) (parts : List (List ℕ)) → IsHere p parts
+      → ¬ (StandsAt s fault p parts)
   never_refused fault p parts (there, alone) stands =
       let found = rw (there, alone) at stands in
-      not_refused s r.stage r.number r.expected (length h.front) h.last found.0.0 found.0.1 fault h.stage found.0.2 found.1
+      not_refused s r.stage r.number r.expected
+      (length h.front) h.last found.0.0 found.0.1 fault h.stage found.0.2 found.1
 
   unrefused : (before : List ℕ) (fault : FormFault) → ¬ (IsRefusedForGood s form before fault)
   unrefused before fault (NoHeading none empty is) = elim h.begun [
     | inl nil ↦
         let (more, begun) = may_begin h.last (has_begun s r.stage r.number r.expected h.last h.stage) in
         none more (subst (λ l. BeginsHeading (l ++ more)) (sym (rw nil at h.joined)) begun)
-    | inr begun ↦ none [] (subst BeginsHeading (sym h.joined ∙ sym (append-nil form)) (begins_more h.front h.last begun))
+    | inr begun ↦
+        none [] (subst BeginsHeading (sym h.joined ∙ sym (append-nil form)) (begins_more h.front h.last begun))
   ]
   unrefused before fault (AtPart (others, stands, so)) =
       let (letters, reads, is) = ends_so IsHere [] [] (inl ((refl, refl), refl)) refl in
@@ -180,7 +226,8 @@ module _ (s : Day) (r : FormReader) (form text : List ℕ) (h : HoldsForm s r fo
     is = h;
     open_yet = record {
       unrefused = λ fault found. unrefused found.0 fault found.1;
-      written = subst (IsReadTo s IsLast form) (append-nil text) (ends_so IsLast [] [] (inl ((h.last, refl), refl)) refl);
+      written =
+          subst (IsReadTo s IsLast form) (append-nil text) (ends_so IsLast [] [] (inl ((h.last, refl), refl)) refl);
     };
   }
 
@@ -192,33 +239,44 @@ refused s form text fault found = record {
   written = λ more. inl (stays_refused s form more text fault found);
 }
 
--- a digit stands behind the five bytes of a heading
+-- the byte is a digit after the five bytes `PART `
 abbrev pub IsDigitDue : PartBody → ℕ → Type 0
 IsDigitDue b byte = (b.line.items ≡ codes "PART ") × (48 ≤ byte) × (byte ≤ 57)
 
--- its last line
-by_lines : (s : Day) (b : PartBody) (part body : List ℕ) (holds : HoldsBody s b part body) → part ≡ holds.last.front ++ 10 ∷ holds.last.tail
+-- the part, divided before its last line
+by_lines : (s : Day) (b : PartBody) (part body : List ℕ) (holds : HoldsBody s b part body)
+    → part ≡ holds.last.front ++ 10 ∷ holds.last.tail
 by_lines s b part body holds =
     let tail = holds.last in
-    cc (holds.first.joined, tail.lines, tail.broken, append_assoc holds.line (10 ∷ tail.settled) tail.tail, append_assoc tail.front (10 ∷ []) tail.tail)
+    cc (
+      holds.first.joined,
+      tail.lines,
+      tail.broken,
+      append_assoc holds.line (10 ∷ tail.settled) tail.tail,
+      append_assoc tail.front (10 ∷ []) tail.tail,
+    )
 
--- where none does, the part goes on
-pub goes_on : (s : Day) (b : PartBody) (part body : List ℕ) (byte : ℕ) → HoldsBody s b part body → (cut part).1 ≡ [] → ¬ (IsDigitDue b byte)
-    → cut (part ++ byte ∷ []) ≡ (part ++ byte ∷ [], [])
+-- if the byte isn't such a digit, the part goes on
+pub goes_on : (s : Day) (b : PartBody) (part body : List ℕ) (byte : ℕ) → HoldsBody s b part body → (cut part).1 ≡ []
+    → ¬ (IsDigitDue b byte) → cut (part ++ byte ∷ []) ≡ (part ++ byte ∷ [], [])
 goes_on s b part body byte holds none not =
     grind (arith, by_lines s b part body holds, append_assoc, first_more holds.last.front holds.last.tail byte)
 
--- the body without these five bytes, and their letters
-record Settled (s : Day) (b : PartBody) (number : ℕ) (expected : Option ℕ) (part : List ℕ) (mine : HoldsPart s b number expected part) : Type 0 where
+-- the body without the five bytes `PART `, and the letters that these give
+record Settled (s : Day) (b : PartBody) (number : ℕ) (expected : Option ℕ) (part : List ℕ)
+    (mine : HoldsPart s b number expected part) : Type 0 where
   split : part ≡ mine.holds.last.front ++ 10 ∷ codes "PART "
-  next : IsNext s b number expected (mine.holds.last.front ++ 10 ∷ []) mine.holds.last.settled (letters_from None (codes "PART "))
+  next : IsNext s b number expected (mine.holds.last.front ++ 10 ∷ []) mine.holds.last.settled
+      (letters_from None (codes "PART "))
 
-settled : (s : Day) (b : PartBody) (number : ℕ) (expected : Option ℕ) (part : List ℕ) (mine : HoldsPart s b number expected part) → b.line.items ≡ codes "PART "
+settled : (s : Day) (b : PartBody) (number : ℕ) (expected : Option ℕ) (part : List ℕ)
+    (mine : HoldsPart s b number expected part) → b.line.items ≡ codes "PART "
     → Settled s b number expected part mine
 settled s b number expected part mine begun =
     let holds = mine.holds in
     let last = holds.last in
-    let tail : last.tail ≡ codes "PART " = sym (whole_line 6 last.tail b.line.items last.kept (omega (arith, ap length begun))) ∙ begun in
+    let tail : last.tail ≡ codes "PART " =
+    sym (whole_line 6 last.tail b.line.items last.kept (omega (arith, ap length begun))) ∙ begun in
     let lines : mine.body ≡ last.settled ++ codes "PART " = last.lines ∙ ap (λ l. last.settled ++ l) tail in
     record {
       split = by_lines s b part mine.body holds ∙ ap (λ l. last.front ++ 10 ∷ l) tail;
@@ -236,9 +294,9 @@ settled s b number expected part mine begun =
       };
     }
 
--- ---- a byte more of a form that is held
+-- ---- one more byte of a form that is held
 
--- the reader behind that byte
+-- the reader after one more byte
 abbrev pub behind : FormReader → Stage → FormReader
 behind r stage = record r { position = r.position + 1; stage = stage }
 
@@ -246,20 +304,24 @@ module _ (s : Day) (r : FormReader) (form text : List ℕ) (h : HoldsForm s r fo
   pub in_stage : (stage : Stage) → r.stage ≡ stage → HoldsStage s stage r.number r.expected h.last
   in_stage stage is = subst (λ st. HoldsStage s st r.number r.expected h.last) is h.stage
 
-  -- a byte more of the same part
-  pub grows : (stage : Stage) (made : List ℕ) (byte : ℕ) → made ≡ [] → cut (h.last ++ byte ∷ []) ≡ (h.last ++ byte ∷ [], [])
-      → HoldsStage s stage r.number r.expected (h.last ++ byte ∷ []) → HoldsForm s (behind r stage) (form ++ byte ∷ []) (text ++ made)
+  -- one more byte of the same part
+  pub grows : (stage : Stage) (made : List ℕ) (byte : ℕ) → made ≡ []
+      → cut (h.last ++ byte ∷ []) ≡ (h.last ++ byte ∷ [], [])
+      → HoldsStage s stage r.number r.expected (h.last ++ byte ∷ [])
+      → HoldsForm s (behind r stage) (form ++ byte ∷ []) (text ++ made)
   grows stage made byte none one there = grind (arith, append_assoc, append-nil, length-append)
 
-  -- with more bytes a part is refused
-  pub refused_at : (fault : FormFault) (more part : List ℕ) (others : List (List ℕ)) → cut (h.last ++ more) ≡ (part, others)
+  -- with more bytes, a part is refused
+  pub refused_at : (fault : FormFault) (more part : List ℕ) (others : List (List ℕ))
+      → cut (h.last ++ more) ≡ (part, others)
       → StandsAt s fault (here s r form text h) (part ∷ others) → IsRefused (form_message s) (form ++ more) text fault
   refused_at fault more part others are stands =
       let (letters, reads, is) =
-      reaches s r form text h (StandsAt s fault) more [] [] (part ∷ others) (as_parts (h.last ++ more) part others are) (inl (stands, refl)) refl in
+      reaches s r form text h (StandsAt s fault) more [] [] (part ∷ others) (as_parts (h.last ++ more) part others are)
+      (inl (stands, refl)) refl in
       refused s (form ++ more) text fault (AtPart (letters, reads, sym (append-nil text) ∙ is))
 
-  -- ---- the part ends, as a digit stands behind the five bytes of a heading
+  -- ---- the part ends, as a digit comes after the five bytes `PART `
 
   module _ (b : PartBody) (byte : ℕ) (stage : r.stage ≡ stages.Body b) (digit : IsDigitDue b byte) where
     abbrev there : HoldsPart s b r.number r.expected h.last
@@ -280,14 +342,20 @@ module _ (s : Day) (r : FormReader) (form text : List ℕ) (h : HoldsForm s r fo
     cut_off : (more : List ℕ) → cut (h.last ++ byte ∷ more) ≡ (whole, parts_of (codes "PART " ++ byte ∷ more))
     cut_off more = grind (arith, ended.split, append_assoc, first_ends front more byte)
 
-    pub part_refused : (fault : FormFault) → IsSaid b 4 (λ letters. SaysBody s b.heading.part b.heading letters (Err fault))
+    pub part_refused : (fault : FormFault)
+        → IsSaid b 4 (λ letters. SaysBody s b.heading.part b.heading letters (Err fault))
         → IsRefused (form_message s) (form ++ byte ∷ []) text fault
     part_refused fault told =
         let found = next_refused s b _ _ whole _ _ ended.next fault told (length h.front) in
         refused_at fault (byte ∷ []) whole _ (cut_off []) found
 
-    pub part_read : (made : List ℕ) (line : ArrayVec ℕ) → IsSaid b 4 (λ letters. IsBodyGiven s b.heading letters made) → line.items ≡ codes "PART " ++ byte ∷ []
-        → HoldsForm s (record { position = r.position + 1; number = r.number + 1; expected = Some b.heading.parts; stage = stages.Heading line }) (form ++ byte ∷ []) (text ++ made)
+    pub part_read : (made : List ℕ) (line : ArrayVec ℕ) → IsSaid b 4 (λ letters. IsBodyGiven s b.heading letters made)
+        → line.items ≡ codes "PART " ++ byte ∷ [] → HoldsForm s (record {
+          position = r.position + 1;
+          number = r.number + 1;
+          expected = Some b.heading.parts;
+          stage = stages.Heading line;
+        }) (form ++ byte ∷ []) (text ++ made)
     part_read made line told is_head =
         let heads : List ℕ = codes "PART " ++ byte ∷ [] in
         let has = ended.next.has in
@@ -310,7 +378,8 @@ module _ (s : Day) (r : FormReader) (form text : List ℕ) (h : HoldsForm s r fo
 
   -- ---- the end
 
-  pub closes_refused : (made : List ℕ) (fault : FormFault) → ((start : ℕ) → IsPartFault s r.number r.expected start h.last fault) → made ≡ []
+  pub closes_refused : (made : List ℕ) (fault : FormFault)
+      → ((start : ℕ) → IsPartFault s r.number r.expected start h.last fault) → made ≡ []
       → Closes (form_message s) form (text ++ made) (Err fault)
   closes_refused made fault found none =
       let ends = ends_so s r form text h (EndsAt s fault) [] made (inl (found (length h.front), refl)) none in
@@ -324,13 +393,16 @@ module _ (s : Day) (r : FormReader) (form text : List ℕ) (h : HoldsForm s r fo
     next_last = grind (arith, body_heading, append-nil, letters_from)
 
     module _ (given : List ℕ) (told : IsSaid b 0 (λ letters. IsBodyGiven s b.heading letters given)) where
-      -- the last part is read, and then this is so
-      ends_read : (B : OfRest) → B (place_behind (here s r form text h) b.heading.parts h.last) [] → IsReadTo s B form (text ++ given)
+      -- the last part is read, and `B` holds of the rest
+      ends_read : (B : OfRest) → B (place_behind (here s r form text h) b.heading.parts h.last) []
+          → IsReadTo s B form (text ++ given)
       ends_read B so =
           let (one, read, is) = next_read s b _ _ h.last _ _ next_last given told in
-          ends_so s r form text h B one given (inr (b.heading.parts, one, [], read, mine.due, (so, refl), sym (append-nil one))) is
+          ends_so s r form text h B one given (inr
+          (b.heading.parts, one, [], read, mine.due, (so, refl), sym (append-nil one))) is
 
-      pub closes : (made : List ℕ) → b.heading.parts ≡ r.number → made ≡ given ++ 10 ∷ [] → Closes (form_message s) form (text ++ made) (Ok tt)
+      pub closes : (made : List ℕ) → b.heading.parts ≡ r.number → made ≡ given ++ 10 ∷ []
+          → Closes (form_message s) form (text ++ made) (Ok tt)
       closes made same is =
           let (letters, read, text_is) = ends_read IsComplete (b.heading.parts, refl, ap (λ n. n + 1) (sym same)) in
           record { letters = letters; read = read; is = cc (is, text_is, append_assoc text given (10 ∷ [])) }

@@ -1,7 +1,20 @@
--- The text of a part, and that the form that an order becomes gives the order's letters back.
-pub use Rattle.kd_form.proofs.Prelude.{OrdersGiveLetters, append-nil, take-append-drop, IsWithout, ◌≡◌, ℕ, zero, suc, ◌+◌, ◌<◌, ◌≤◌, List, [], ◌∷◌, ◌++◌, length, take, drop, refl, sym, ap, subst, ◌∙◌, append_assoc, length-drop, arith, map, All, IsTrue, Some, None, flat_map, cons_option, nat_tests, All-nil, All-cons, All-head, All-tail, All-append, All-take, All-drop, filter_map-append, is_text_byte, letters_text, line_of, pieces, groups_of, with_line, body_text, Part, heading_words, part_text, letter_of_byte, letters_from, Day, IsHeading, BeginsHeading, HasHeading, WithoutReturn, cut, common_steps, ◌≢◌, ◌%◌, inl, inr, length-append, Option, IfSome, cases_lt, take_all, drop_all, length-take, length-take-le, IsLegalDay, Keys, given_text, sent_letters, AreKeys, FormsGiveTheirOrders, Suits, part_size, filled, SaysBody, Ok, IsPartRead, blank_of, text_letters, AreMadeTexts, ReadsTo, at_first, IsComplete, IsExpected, take-append_seam, All-more}
-use Rattle.kd_form.proofs.Headings.{allowed_one, at_cut, cut_behind, ended_heading, has_byte, plain_heading, words_begin, one_byte}
-use Rattle.kd_form.proofs.MadeParts.{pieces-next, pieces-none, more_pieces, IsPiece, GivesBack, part_gives_back, size_some}
+-- The text of a part gives back its letters, and an order's form the order's letters.
+pub use Rattle.kd_form.proofs.Prelude.{OrdersGiveLetters, append-nil, take-append-drop, IsWithout, ◌≡◌, ℕ, zero, suc}
+pub use Rattle.kd_form.proofs.Prelude.{◌+◌, ◌<◌, ◌≤◌, List, [], ◌∷◌, ◌++◌, length, take, drop, refl, sym, ap, subst}
+pub use Rattle.kd_form.proofs.Prelude.{◌∙◌, append_assoc, length-drop, arith, map, All, IsTrue, Some, None, flat_map}
+pub use Rattle.kd_form.proofs.Prelude.{cons_option, nat_tests, All-nil, All-cons, All-head, All-tail, All-append}
+pub use Rattle.kd_form.proofs.Prelude.{All-take, All-drop, filter_map-append, is_text_byte, letters_text, line_of}
+pub use Rattle.kd_form.proofs.Prelude.{pieces, groups_of, with_line, body_text, Part, heading_words, part_text}
+pub use Rattle.kd_form.proofs.Prelude.{letter_of_byte, letters_from, Day, IsHeading, BeginsHeading, HasHeading}
+pub use Rattle.kd_form.proofs.Prelude.{WithoutReturn, cut, common_steps, ◌≢◌, ◌%◌, inl, inr, length-append, Option}
+pub use Rattle.kd_form.proofs.Prelude.{IfSome, cases_lt, take_all, drop_all, length-take, length-take-le, IsLegalDay}
+pub use Rattle.kd_form.proofs.Prelude.{Keys, given_text, sent_letters, AreKeys, FormsGiveTheirOrders, Suits, part_size}
+pub use Rattle.kd_form.proofs.Prelude.{filled, SaysBody, Ok, IsPartRead, blank_of, text_letters, AreMadeTexts, ReadsTo}
+pub use Rattle.kd_form.proofs.Prelude.{at_first, IsComplete, IsExpected, take-append_seam, All-more}
+use Rattle.kd_form.proofs.Headings.{allowed_one, at_cut, cut_behind, ended_heading, has_byte, plain_heading}
+use Rattle.kd_form.proofs.Headings.{words_begin, one_byte}
+use Rattle.kd_form.proofs.MadeParts.{pieces-next, pieces-none, more_pieces, IsPiece, GivesBack, part_gives_back}
+use Rattle.kd_form.proofs.MadeParts.{size_some}
 use Rattle.kd_form.proofs.{Lines.AreAllowed, Lines.without, OneOrder.all_of_the_day, OneOrder.one_order}
 
 -- -------- the body of a part as it is written: the letters that it gives, its bytes, and its lines
@@ -9,8 +22,10 @@ use Rattle.kd_form.proofs.{Lines.AreAllowed, Lines.without, OneOrder.all_of_the_
 abbrev pub AreOfTheAlphabet : List ℕ → Type 0
 AreOfTheAlphabet letters = All (λ letter. letter < 26) letters
 
--- what holds of no letters, and of letters if it holds of those behind their first piece, holds of all
-by_length : (size : ℕ) (P : List ℕ → Type 0) → 0 < size → P [] → ((letters : List ℕ) → 0 < length letters → P (drop size letters) → P letters)
+-- induction by pieces: `P` holds of all letters if it holds of none, and of letters if it holds of those after
+-- their first piece
+by_length : (size : ℕ) (P : List ℕ → Type 0) → 0 < size → P []
+    → ((letters : List ℕ) → 0 < length letters → P (drop size letters) → P letters)
     → (most : ℕ) (letters : List ℕ) → length letters ≤ most → P letters
 by_length size P large none more most [] few = none
 by_length size P large none more zero (l ∷ letters) few = absurd (omega arith)
@@ -19,18 +34,20 @@ by_length size P large none more (suc most) (l ∷ letters) few =
 
 -- ---- the letters that a body gives, and its bytes
 
--- the text is allowed, and gives these letters
+-- each byte of the text is allowed, and the text gives these letters
 pub record Gives (text letters : List ℕ) : Type 0 where
   pub allowed : AreAllowed text
   pub gives : letters_from None text ≡ letters
 
-gives_both : (one other letters more : List ℕ) → Gives one letters → Gives other more → Gives (one ++ other) (letters ++ more)
+gives_both : (one other letters more : List ℕ) → Gives one letters → Gives other more
+    → Gives (one ++ other) (letters ++ more)
 gives_both one other letters more a b = grind (arith, common_steps, All-append, filter_map-append)
 
 gives_none : Gives [] []
 gives_none = record { allowed = All-nil (λ b. IsTrue (is_text_byte b)); gives = refl }
 
-letter_told : (letter : ℕ) → letter < 26 → IsTrue (is_text_byte (letter + 65)) × (letter_of_byte None (letter + 65) ≡ Some letter)
+letter_told : (letter : ℕ) → letter < 26
+    → IsTrue (is_text_byte (letter + 65)) × (letter_of_byte None (letter + 65) ≡ Some letter)
 letter_told letter less = grind (arith, nat_tests)
 
 pub gives_word : (letters : List ℕ) → AreOfTheAlphabet letters → Gives (letters_text letters) letters
@@ -42,18 +59,21 @@ gives_word (l ∷ letters) are =
       gives = ap (λ found. cons_option found []) told.1;
     }) (gives_word letters (All-tail (λ x. x < 26) l letters are))
 
--- a byte between words or behind them
-gives_after : (byte : ℕ) (word letters rest more : List ℕ) → IsTrue (is_text_byte byte) → letters_from None (byte ∷ []) ≡ [] → Gives word letters
+-- a byte between words or after them
+gives_after : (byte : ℕ) (word letters rest more : List ℕ) → IsTrue (is_text_byte byte)
+    → letters_from None (byte ∷ []) ≡ [] → Gives word letters
     → Gives rest more → Gives (word ++ byte ∷ rest) (letters ++ more)
 gives_after byte word letters rest more allowed none a b =
     gives_both word (byte ∷ rest) letters more a (grind (arith, common_steps, All-cons))
 
-gives_words : (word letters : List ℕ) (words : List (List ℕ)) (more : List ℕ) → Gives word letters → Gives (line_of words) more
-    → Gives (line_of (word ∷ words)) (letters ++ more)
-gives_words word letters [] more a b = subst (Gives word) (sym (append-nil letters) ∙ ap (λ ls. letters ++ ls) b.gives) a
-gives_words word letters (next ∷ words) more a b = gives_after 32 word letters (line_of (next ∷ words)) more refl refl a b
+gives_words : (word letters : List ℕ) (words : List (List ℕ)) (more : List ℕ) → Gives word letters
+    → Gives (line_of words) more → Gives (line_of (word ∷ words)) (letters ++ more)
+gives_words word letters [] more a b =
+    subst (Gives word) (sym (append-nil letters) ∙ ap (λ ls. letters ++ ls) b.gives) a
+gives_words word letters (next ∷ words) more a b =
+    gives_after 32 word letters (line_of (next ∷ words)) more refl refl a b
 
--- where a piece in front of others gives its letters and theirs, all pieces give all letters
+-- if a piece before others gives its own letters and theirs, all pieces together give all letters
 gives_pieces : (size : ℕ) (whole : List (List ℕ) → List ℕ) → 0 < size → whole [] ≡ []
     → ((piece : List ℕ) (others : List (List ℕ)) (more : List ℕ) → AreOfTheAlphabet piece → Gives (whole others) more
     → Gives (whole (piece ∷ others)) (piece ++ more))
@@ -61,8 +81,10 @@ gives_pieces : (size : ℕ) (whole : List (List ℕ) → List ℕ) → 0 < size 
 gives_pieces size whole large none step letters =
     by_length size (λ letters. AreOfTheAlphabet letters → Gives (whole (pieces size letters)) letters) large
     (λ are. rw (pieces-none size large, none) gives_none) (λ letters some rest are.
-    rw (pieces-next size letters large some) (subst (Gives (whole (take size letters ∷ pieces size (drop size letters)))) (take-append-drop size letters)
-    (step (take size letters) (pieces size (drop size letters)) (drop size letters) (All-take (λ l. l < 26) size letters are)
+    rw (pieces-next size letters large some)
+    (subst (Gives (whole (take size letters ∷ pieces size (drop size letters)))) (take-append-drop size letters)
+    (step (take size letters) (pieces size (drop size letters)) (drop size letters)
+    (All-take (λ l. l < 26) size letters are)
     (rest (All-drop (λ l. l < 26) size letters are))))) (length letters) letters (omega arith)
 
 gives_line : (line : List ℕ) → AreOfTheAlphabet line → Gives (line_of (groups_of line)) line
@@ -75,8 +97,9 @@ gives_body = gives_pieces 50 (flat_map (λ line. with_line (groups_of line) []))
 
 -- ---- the lines of a body
 
--- behind an LF they end in LF
-lines_end : (items : List (List ℕ)) → (front : List ℕ) × (10 ∷ flat_map (λ line. with_line (groups_of line) []) items ≡ front ++ 10 ∷ [])
+-- after an LF, the lines end in LF
+lines_end : (items : List (List ℕ))
+    → (front : List ℕ) × (10 ∷ flat_map (λ line. with_line (groups_of line) []) items ≡ front ++ 10 ∷ [])
 lines_end [] = ([], refl)
 lines_end (item ∷ items) =
     let (front, is) = lines_end items in
@@ -85,78 +108,101 @@ lines_end (item ∷ items) =
 -- -------- a part as it is written: its heading, and where it ends in what it begins
 
 -- a written part has its heading, and its body follows
-pub part_has_heading : (s : Day) (made : Part) → IsHeading s made.heading → HasHeading s (part_text made) made.heading (body_text made.body)
+pub part_has_heading : (s : Day) (made : Part) → IsHeading s made.heading
+    → HasHeading s (part_text made) made.heading (body_text made.body)
 part_has_heading s made is =
     let plain = plain_heading s made.heading is in
     let line : List ℕ = line_of (heading_words made.heading) in
     ended_heading s line (body_text made.body) made.heading (without 10 line (omega arith) plain) is
-    (WithoutReturn refl (λ front same. has_byte 13 front [] (subst (IsWithout 13) same (without 13 line (omega arith) plain))))
+    (WithoutReturn refl (λ front same. has_byte 13 front []
+    (subst (IsWithout 13) same (without 13 line (omega arith) plain))))
 
 -- a written part begins a heading line
-pub part_begins_heading : (s : Day) (made : Part) (more : List ℕ) → IsHeading s made.heading → BeginsHeading (part_text made ++ more)
+pub part_begins_heading : (s : Day) (made : Part) (more : List ℕ) → IsHeading s made.heading
+    → BeginsHeading (part_text made ++ more)
 part_begins_heading s made more is = grind (arith, append_assoc, words_begin)
 
--- a written part is the first part of what it begins, behind an LF, where another one may follow
-pub part_is_first : (s : Day) (made : Part) (rest : List ℕ) (others : List (List ℕ)) → IsHeading s made.heading → All (λ letter. letter < 26) made.body
+-- a written part after an LF is the first part of what it begins, if another one may follow
+pub part_is_first : (s : Day) (made : Part) (rest : List ℕ) (others : List (List ℕ)) → IsHeading s made.heading
+    → All (λ letter. letter < 26) made.body
     → cut (10 ∷ rest) ≡ (10 ∷ [], others) → cut (10 ∷ (part_text made ++ rest)) ≡ (10 ∷ [], part_text made ∷ others)
 part_is_first s made rest others is are follows =
     let line : List ℕ = line_of (heading_words made.heading) in
     let (front, ends) = lines_end (pieces 50 made.body) in
-    let allowed = All-cons (λ b. IsTrue (is_text_byte b)) 10 (body_text made.body) refl (gives_body made.body are).allowed in
-    let tail : cut (front ++ 10 ∷ rest) ≡ (front ++ 10 ∷ [], others) = allowed_one front rest others (subst AreAllowed ends allowed) follows in
+    let allowed =
+    All-cons (λ b. IsTrue (is_text_byte b)) 10 (body_text made.body) refl (gives_body made.body are).allowed in
+    let tail : cut (front ++ 10 ∷ rest) ≡ (front ++ 10 ∷ [], others) =
+    allowed_one front rest others (subst AreAllowed ends allowed) follows in
     let joined : part_text made ++ rest ≡ line ++ (front ++ 10 ∷ rest) =
-    append_assoc line (10 ∷ body_text made.body) rest ∙ ap (λ t. line ++ (t ++ rest)) ends ∙ ap (λ t. line ++ t) (append_assoc front (10 ∷ []) rest) in
+    append_assoc line (10 ∷ body_text made.body) rest ∙ ap (λ t. line ++ (t ++ rest)) ends
+    ∙ ap (λ t. line ++ t) (append_assoc front (10 ∷ []) rest) in
     let whole : cut (part_text made ++ rest) ≡ (part_text made, others) =
-    ap cut joined ∙ cut_behind line (front ++ 10 ∷ rest) (without 10 line (omega arith) (plain_heading s made.heading is))
+    ap cut joined ∙ cut_behind line (front ++ 10 ∷ rest)
+    (without 10 line (omega arith) (plain_heading s made.heading is))
     ∙ ap (λ (c : List ℕ × List (List ℕ)). (line ++ c.0, c.1)) tail ∙ ap (λ t. (line ++ t, others)) (sym ends) in
-    at_cut (part_text made ++ rest) (part_begins_heading s made rest is) ∙ ap (λ (c : List ℕ × List (List ℕ)). (10 ∷ [], c.0 ∷ c.1)) whole
+    at_cut (part_text made ++ rest) (part_begins_heading s made rest is)
+    ∙ ap (λ (c : List ℕ × List (List ℕ)). (10 ∷ [], c.0 ∷ c.1)) whole
 
 -- -------- the form that an order becomes gives the order's letters back
 
-letters_within : (blank : Option ℕ) (text : List ℕ) → IfSome blank (λ letter. letter < 26) → All (λ letter. letter < 26) (letters_from blank text)
+letters_within : (blank : Option ℕ) (text : List ℕ) → IfSome blank (λ letter. letter < 26)
+    → All (λ letter. letter < 26) (letters_from blank text)
 letters_within blank [] less = All-nil (λ letter. letter < 26)
 letters_within blank (byte ∷ text) less = grind (arith, All-cons {X = ℕ}, letters_from, letters_within blank text less)
 
--- behind whole groups the rest is filled as the whole text is
+-- after whole groups, filling the rest is filling the whole text
 filled_behind : (front rest : List ℕ) → length front % 5 ≡ 0 → filled front ++ filled rest ≡ filled (front ++ rest)
 filled_behind front rest whole = grind (arith, length-append {A = ℕ}, append_assoc {A = ℕ}, append-nil {A = ℕ})
 
 filled_pieces : (letters : List ℕ) → filled (take 500 letters) ++ filled (drop 500 letters) ≡ filled letters
 filled_pieces letters = elim (cases_lt (length letters) 500) [
   | inl short ↦ grind (arith, take_all 500 letters, drop_all 500 letters, append-nil (filled letters))
-  | inr long ↦ grind (arith, filled_behind (take 500 letters) (drop 500 letters), length-take-le 500 letters, take-append-drop 500 letters)
+  | inr long ↦
+      grind (
+        arith,
+        filled_behind (take 500 letters) (drop 500 letters),
+        length-take-le 500 letters,
+        take-append-drop 500 letters,
+      )
 ]
 
--- the pieces, sent one after another, are the letters as they are sent
-sent_pieces : (s : Day) (letters : List ℕ) → flat_map (sent_letters s) (pieces (part_size s) letters) ≡ sent_letters s letters
+-- the letters sent of all pieces, one after another, are those sent of all letters
+sent_pieces : (s : Day) (letters : List ℕ)
+    → flat_map (sent_letters s) (pieces (part_size s) letters) ≡ sent_letters s letters
 sent_pieces s letters =
-    by_length (part_size s) (λ letters. flat_map (sent_letters s) (pieces (part_size s) letters) ≡ sent_letters s letters) (size_some s)
+    by_length (part_size s) (λ letters. flat_map (sent_letters s) (pieces (part_size s) letters)
+    ≡ sent_letters s letters) (size_some s)
     (rw (pieces-none (part_size s) (size_some s)) (grind arith))
     (λ letters some rest. rw (pieces-next (part_size s) letters (size_some s) some)
-    (ap (λ t. sent_letters s (take (part_size s) letters) ++ t) rest ∙ grind (arith, take-append-drop {A = ℕ}, filled_pieces)))
+    (ap (λ t. sent_letters s (take (part_size s) letters) ++ t) rest
+    ∙ grind (arith, take-append-drop {A = ℕ}, filled_pieces)))
     (length letters) letters (omega arith)
 
-are_pieces : (s : Day) (letters : List ℕ) → All (λ letter. letter < 26) letters → All (IsPiece s) (pieces (part_size s) letters)
+are_pieces : (s : Day) (letters : List ℕ) → All (λ letter. letter < 26) letters
+    → All (IsPiece s) (pieces (part_size s) letters)
 are_pieces s letters =
-    by_length (part_size s) (λ letters. All (λ letter. letter < 26) letters → All (IsPiece s) (pieces (part_size s) letters)) (size_some s)
+    by_length (part_size s) (λ letters. All (λ letter. letter < 26) letters
+    → All (IsPiece s) (pieces (part_size s) letters)) (size_some s)
     (λ within. rw (pieces-none (part_size s) (size_some s)) (All-nil (IsPiece s)))
     (λ letters some rest within. rw (pieces-next (part_size s) letters (size_some s) some)
     (All-cons (IsPiece s) (take (part_size s) letters) _
     (grind (arith, size_some s, length-take (part_size s) letters, All-take (λ l. l < 26) (part_size s) letters))
     (rest (All-drop (λ letter. letter < 26) (part_size s) letters within)))) (length letters) letters (omega arith)
 
--- behind an LF the form is nothing but parts, which are read as the letters of the pieces
+-- after an LF, the form has only parts that are read as the letters of the pieces
 record AreGivenBack (s : Day) (part parts count : ℕ) (pieces : List (List ℕ)) (form : List ℕ) : Type 0 where
   texts : List (List ℕ)
   counted : length texts ≡ count
   begins : texts ≢ [] → BeginsHeading form
   cut_so : cut (10 ∷ form) ≡ (10 ∷ [], texts)
   read : (expected : Option ℕ) (start : ℕ) → IsExpected expected parts → (texts ≡ [] → expected ≡ Some parts)
-      → ReadsTo s IsComplete (record { number = part; expected = expected; start = start }) texts (flat_map (sent_letters s) pieces)
+      → ReadsTo s IsComplete (record { number = part; expected = expected; start = start }) texts
+      (flat_map (sent_letters s) pieces)
 
-parts_are_given_back : (s : Day) (part parts : ℕ) (keys : List Keys) (pieces : List (List ℕ)) (form : List ℕ) → IsLegalDay s
-    → All (AreKeys s) keys → All (Suits s) keys → All (IsPiece s) pieces → 1 ≤ part → part + length keys ≡ parts + 1 → parts ≤ 99
-    → AreMadeTexts s part parts keys pieces form → AreGivenBack s part parts (length keys) pieces form
+parts_are_given_back : (s : Day) (part parts : ℕ) (keys : List Keys) (pieces : List (List ℕ)) (form : List ℕ)
+    → IsLegalDay s
+    → All (AreKeys s) keys → All (Suits s) keys → All (IsPiece s) pieces → 1 ≤ part → part + length keys ≡ parts + 1
+    → parts ≤ 99 → AreMadeTexts s part parts keys pieces form → AreGivenBack s part parts (length keys) pieces form
 parts_are_given_back s part parts [] [] form legal are suited all first last few made = rw made (record {
   texts = [];
   counted = refl;
@@ -164,9 +210,11 @@ parts_are_given_back s part parts [] [] form legal are suited all first last few
   cut_so = one_byte 10;
   read = λ expected start due known. ((parts, known refl, omega arith), refl);
 })
-parts_are_given_back s part parts (k ∷ keys) (piece ∷ pieces) form legal are suited all first last few (one, more, (made, makes, written), others, joined) =
+parts_are_given_back s part parts (k ∷ keys) (piece ∷ pieces) form legal are suited all first last few
+    (one, more, (made, makes, written), others, joined) =
     let rest : AreGivenBack s (part + 1) parts (length keys) pieces more =
-    parts_are_given_back s (part + 1) parts keys pieces more legal (All-tail (AreKeys s) k keys are) (All-tail (Suits s) k keys suited)
+    parts_are_given_back s (part + 1) parts keys pieces more legal (All-tail (AreKeys s) k keys are)
+    (All-tail (Suits s) k keys suited)
     (All-tail (IsPiece s) piece pieces all) (omega arith) (omega arith) few others in
     let back : GivesBack s part parts (sent_letters s piece) made =
     part_gives_back s part parts k piece made legal (All-head (AreKeys s) k keys are) (All-head (Suits s) k keys suited)
@@ -179,7 +227,9 @@ parts_are_given_back s part parts (k ∷ keys) (piece ∷ pieces) form legal are
       numbered = back.numbered;
       so_many = back.so_many;
       allowed = given.allowed;
-      read = subst (λ ls. SaysBody s part made.heading ls (Ok (sent_letters s piece))) (sym given.gives) (inr (back.counted, back.read));
+      read =
+          subst (λ ls. SaysBody s part made.heading ls (Ok (sent_letters s piece))) (sym given.gives)
+          (inr (back.counted, back.read));
     } in
     rw (joined, written) (record {
       texts = part_text made ∷ rest.texts;
@@ -199,7 +249,8 @@ forms_give_their_orders s order form given legal is due =
     let back : AreGivenBack s 1 (length is.keys) (length is.keys) (pieces (part_size s) letters) form =
     parts_are_given_back s 1 (length is.keys) is.keys (pieces (part_size s) letters) form legal
     (all_of_the_day _ s is.keys is.head order_is.is_head.lines) is.sendable.suited
-    (are_pieces s letters (letters_within (blank_of s) is.text (grind arith))) (omega arith) (omega arith) order_is.is_head.few is.made in
+    (are_pieces s letters (letters_within (blank_of s) is.text (grind arith))) (omega arith)
+    (omega arith) order_is.is_head.few is.made in
     let some : back.texts ≢ [] =
     grind (arith, common_steps, more_pieces, size_some, is.some, back.counted, is.counted) in
     let read = back.read None 0 tt (λ none. absurd (some none)) in

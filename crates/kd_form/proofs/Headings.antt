@@ -1,5 +1,20 @@
--- A form is cut into its parts, also as more of it comes; and the line of a heading, with which a part begins.
-pub use Rattle.kd_form.proofs.Prelude.{figures, common_steps, ◌≡◌, ◌≢◌, ◌⊎◌, inl, inr, ℕ, ◌<◌, ◌≤◌, List, [], ◌∷◌, ◌++◌, length, get_or, take, drop, refl, sym, ap, ◌∙◌, append_assoc, length-append, length-take, arith, codes, All-head, All-tail, All-get_or, IsTrue, nat_tests, cases_Bool, cases_eq, cases_lt, false≢true, append-nil, take-append-le, take-append-drop, take-append_seam, get_or-append, get_or-append_seam, get_or-take, get_or_past, BeginsHeading, cut, parts_of, FitsAt, HasBegun, IsWithout, IsBadAt, is_text_byte, AllPass-from_list_all, All-take, All-same, take-take, take_more, rules, ◌^◌, ◌+◌, decimal, All, Option, Some, None, MatchOption, All-from_get_or, All-cons, All-nil, All-append, All-map, All-push, All-weaker, IsFirstPart, line_of, words_of, texts_tell_first_parts, numbers_are_words, lines_split_into_words, parts_make_lines, fraction, indicator_words, heading_words, length-map, append_cancel_right, take_all, get_or-map, letters_text, AreFewLetters, IsFraction, IsLetterCount, IsHeading, AreHeadingWords, HasFirstLine, IsLineText, Day, OfRotors, OfPins, Heading, Indicator, HasIndicator, HasSlots, HasPins, HasHeading, drop-cons, map, IsFalse, word_by_bytes}
+-- How a form is divided into parts, also with more bytes; and the heading line with which a part begins.
+pub use Rattle.kd_form.proofs.Prelude.{figures, common_steps, ◌≡◌, ◌≢◌, ◌⊎◌, inl, inr, ℕ, ◌<◌, ◌≤◌, List, [], ◌∷◌, ◌++◌}
+pub use Rattle.kd_form.proofs.Prelude.{length, get_or, take, drop, refl, sym, ap, ◌∙◌, append_assoc, length-append}
+pub use Rattle.kd_form.proofs.Prelude.{length-take, arith, codes, All-head, All-tail, All-get_or, IsTrue, nat_tests}
+pub use Rattle.kd_form.proofs.Prelude.{cases_Bool, cases_eq, cases_lt, false≢true, append-nil, take-append-le}
+pub use Rattle.kd_form.proofs.Prelude.{take-append-drop, take-append_seam, get_or-append, get_or-append_seam}
+pub use Rattle.kd_form.proofs.Prelude.{get_or-take, get_or_past, BeginsHeading, cut, parts_of, FitsAt, HasBegun}
+pub use Rattle.kd_form.proofs.Prelude.{IsWithout, IsBadAt, is_text_byte, AllPass-from_list_all, All-take, All-same}
+pub use Rattle.kd_form.proofs.Prelude.{take-take, take_more, rules, ◌^◌, ◌+◌, decimal, All, Option, Some, None}
+pub use Rattle.kd_form.proofs.Prelude.{MatchOption, All-from_get_or, All-cons, All-nil, All-append, All-map, All-push}
+pub use Rattle.kd_form.proofs.Prelude.{All-weaker, IsFirstPart, line_of, words_of, texts_tell_first_parts}
+pub use Rattle.kd_form.proofs.Prelude.{numbers_are_words, lines_split_into_words, parts_make_lines, fraction}
+pub use Rattle.kd_form.proofs.Prelude.{indicator_words, heading_words, length-map, append_cancel_right, take_all}
+pub use Rattle.kd_form.proofs.Prelude.{get_or-map, letters_text, AreFewLetters, IsFraction, IsLetterCount, IsHeading}
+pub use Rattle.kd_form.proofs.Prelude.{AreHeadingWords, HasFirstLine, IsLineText, Day, OfRotors, OfPins, Heading}
+pub use Rattle.kd_form.proofs.Prelude.{Indicator, HasIndicator, HasSlots, HasPins, HasHeading, drop-cons, map, IsFalse}
+pub use Rattle.kd_form.proofs.Prelude.{word_by_bytes}
 use Rattle.std.proofs.lemmas.Fmt.{digits_decimal, decimal_injective, length-decimal-le, decimal_nonempty}
 use Rattle.{kd_form.specs.FormParts.begins_heading, std.proofs.lemmas.Slice.Eq.bytes_eq-Decides}
 pub use Rattle.kd_form.proofs.OneOrder.{no_bad_byte, same_letters, same_word, bad_behind}
@@ -7,7 +22,8 @@ pub use Rattle.kd_form.proofs.Lines.{AreAllowed, plain_text, whole_line, same_fr
 
 -- ---- where a heading begins
 
-pub told : (bytes : List ℕ) → BeginsHeading bytes → (take 5 bytes ≡ codes "PART ") × (48 ≤ get_or bytes 5 0) × (get_or bytes 5 0 ≤ 57)
+pub told : (bytes : List ℕ) → BeginsHeading bytes
+    → (take 5 bytes ≡ codes "PART ") × (48 ≤ get_or bytes 5 0) × (get_or bytes 5 0 ≤ 57)
 unfolding begins_heading
 told bytes begins = grind (arith, nat_tests, bytes_eq-Decides (take 5 bytes) (codes "PART "))
 
@@ -18,45 +34,63 @@ begins digit rest low high = grind (arith, nat_tests)
 pub heading_size : (bytes : List ℕ) → BeginsHeading bytes → 6 ≤ length bytes
 heading_size bytes begun = grind (arith, told bytes begun, cases_lt 5 (length bytes), get_or_past bytes 5 0)
 
--- its first six bytes tell
+-- the first six bytes decide whether a heading begins
 pub begins_front : (bytes more : List ℕ) → 6 ≤ length bytes → begins_heading (bytes ++ more) ≡ begins_heading bytes
 unfolding begins_heading
-begins_front bytes more long = rw (take-append-le 5 bytes more (omega arith), get_or-append bytes more 0 5 (omega arith)) refl
+begins_front bytes more long =
+    rw (take-append-le 5 bytes more (omega arith), get_or-append bytes more 0 5 (omega arith)) refl
 
 pub begins_more : (bytes more : List ℕ) → BeginsHeading bytes → BeginsHeading (bytes ++ more)
 begins_more bytes more begun = begins_front bytes more (heading_size bytes begun) ∙ begun
 
 heading_byte : (bytes : List ℕ) (place : ℕ) → BeginsHeading bytes → place < 6 → 32 ≤ get_or bytes place 0
 heading_byte bytes place begun inside =
-    grind (arith, cases_lt place 5, told bytes begun, get_or-take 5 bytes place 0, All-get_or (λ b. 32 ≤ b) (codes "PART ") place 0, plain_text (codes "PART ") refl)
+    grind (
+      arith,
+      cases_lt place 5,
+      told bytes begun,
+      get_or-take 5 bytes place 0,
+      All-get_or (λ b. 32 ≤ b) (codes "PART ") place 0,
+      plain_text (codes "PART ") refl,
+    )
 
--- an LF isn't among them
+-- these six bytes have no LF
 pub before_break : (front rest : List ℕ) → BeginsHeading (front ++ 10 ∷ rest) → BeginsHeading front
 before_break front rest begun =
-    grind (arith, heading_byte (front ++ 10 ∷ rest) (length front), get_or-append_seam front 10 rest 0, begins_front front (10 ∷ rest), cases_lt (length front) 6)
+    grind (
+      arith,
+      heading_byte (front ++ 10 ∷ rest) (length front),
+      get_or-append_seam front 10 rest 0,
+      begins_front front (10 ∷ rest),
+      cases_lt (length front) 6,
+    )
 
 -- ---- what may become a heading
 
--- fewer than six bytes that begin a heading are its first ones
-few_begin : (bytes more : List ℕ) → length bytes ≤ 5 → BeginsHeading (bytes ++ more) → bytes ≡ take (length bytes) (codes "PART ")
+-- fewer than six bytes that begin a heading are a prefix of `PART `
+few_begin : (bytes more : List ℕ) → length bytes ≤ 5 → BeginsHeading (bytes ++ more)
+    → bytes ≡ take (length bytes) (codes "PART ")
 few_begin bytes more few begun =
-    sym (take-append_seam bytes more) ∙ sym (take-take (length bytes) 5 (bytes ++ more) few) ∙ ap (take (length bytes)) (told (bytes ++ more) begun).0
+    sym (take-append_seam bytes more) ∙ sym (take-take (length bytes) 5 (bytes ++ more) few)
+    ∙ ap (take (length bytes)) (told (bytes ++ more) begun).0
 
 pub may_begin : (bytes : List ℕ) → HasBegun bytes → (more : List ℕ) × BeginsHeading (bytes ++ more)
 may_begin bytes (inl (count, few, is)) = (
   drop count (codes "PART 0"),
-  rw (is, ← take-append-le count (codes "PART ") (codes "0") few, take-append-drop count (codes "PART 0")) (begins 48 [] (omega arith) (omega arith)),
+  rw (is, ← take-append-le count (codes "PART ") (codes "0") few, take-append-drop count (codes "PART 0"))
+      (begins 48 [] (omega arith) (omega arith)),
 )
 may_begin bytes (inr begun) = ([], rw (append-nil bytes) begun)
 
 fits_there : (bytes : List ℕ) (place : ℕ) → BeginsHeading bytes → FitsAt place (get_or bytes place 0)
 fits_there bytes place begun = grind (arith, common_steps, told bytes begun, get_or-take 5 bytes place 0)
 
--- a byte that fits may follow them
-pub follows : (part line : List ℕ) (byte : ℕ) → line ≡ take 64 part → HasBegun part → FitsAt (length line) byte → HasBegun (part ++ byte ∷ [])
+-- a byte that fits may follow such bytes
+pub follows : (part line : List ℕ) (byte : ℕ) → line ≡ take 64 part → HasBegun part → FitsAt (length line) byte
+    → HasBegun (part ++ byte ∷ [])
 follows part line byte e d g = grind (arith, common_steps, begins_more, length-take, take_more, begins)
 
--- and with one that doesn't no heading begins
+-- with a byte that doesn't fit, no heading begins
 pub not_begun : (part line : List ℕ) (byte : ℕ) → line ≡ take 64 part → ¬ (FitsAt (length line) byte)
     → (length part < 6) × ((more : List ℕ) → ¬ (BeginsHeading ((part ++ byte ∷ []) ++ more)))
 not_begun part line byte kept off =
@@ -71,10 +105,11 @@ cut_or_not byte bytes = grind (arith, cases_eq byte 10, cases_Bool (begins_headi
 pub at_cut : (bytes : List ℕ) → BeginsHeading bytes → cut (10 ∷ bytes) ≡ (10 ∷ [], parts_of bytes)
 at_cut bytes begun = rw begun refl
 
-pub no_cut : (byte : ℕ) (bytes : List ℕ) → ((byte ≡ 10) → ¬ (BeginsHeading bytes)) → cut (byte ∷ bytes) ≡ (byte ∷ (cut bytes).0, (cut bytes).1)
+pub no_cut : (byte : ℕ) (bytes : List ℕ) → ((byte ≡ 10) → ¬ (BeginsHeading bytes))
+    → cut (byte ∷ bytes) ≡ (byte ∷ (cut bytes).0, (cut bytes).1)
 no_cut byte bytes not = grind (arith, nat_tests, cases_eq byte 10, cases_Bool (begins_heading bytes))
 
--- where no other part follows, the byte ends none, and no later one does
+-- if no other part follows, the byte ends no part, and no later byte does
 uncut : (byte : ℕ) (bytes : List ℕ) → (cut (byte ∷ bytes)).1 ≡ []
     → ((byte ≡ 10) → ¬ (BeginsHeading bytes)) × ((cut bytes).1 ≡ [])
 uncut byte bytes none = grind (arith, cut_or_not byte bytes, at_cut bytes, no_cut byte bytes)
@@ -91,9 +126,10 @@ first_there (byte ∷ bytes) = elim (cut_or_not byte bytes) [
 
 pub single : (form : List ℕ) → (cut form).1 ≡ [] → (cut form).0 ≡ form
 single [] none = refl
-single (byte ∷ bytes) none = let is = uncut byte bytes none in rw (no_cut byte bytes is.0) (ap (λ l. byte ∷ l) (single bytes is.1))
+single (byte ∷ bytes) none =
+    let is = uncut byte bytes none in rw (no_cut byte bytes is.0) (ap (λ l. byte ∷ l) (single bytes is.1))
 
--- the first part is whole: more bytes only add to what follows
+-- the first part is complete: more bytes only add to what follows it
 pub record IsDone (form : List ℕ) : Type 0 where
   pub rest : List ℕ
   pub long : 6 ≤ length form
@@ -106,10 +142,11 @@ first_done [] some = absurd (some refl)
 first_done (byte ∷ bytes) some =
     grind (arith, cut_or_not byte bytes, heading_size, at_cut, begins_more, no_cut, first_done bytes, begins_front)
 
--- ---- a byte more of the last part
+-- ---- one more byte of the last part
 
--- behind bytes without an LF
-pub cut_behind : (line bytes : List ℕ) → IsWithout 10 line → cut (line ++ bytes) ≡ (line ++ (cut bytes).0, (cut bytes).1)
+-- cutting after bytes without LF
+pub cut_behind : (line bytes : List ℕ) → IsWithout 10 line
+    → cut (line ++ bytes) ≡ (line ++ (cut bytes).0, (cut bytes).1)
 cut_behind [] bytes unbroken = refl
 cut_behind (byte ∷ line) bytes unbroken =
     grind (arith, no_cut, All-head, All-tail, cut_behind line bytes (All-tail (λ b. b ≢ 10) byte line unbroken))
@@ -120,30 +157,40 @@ one_byte byte = no_cut byte [] (λ is begun. omega (arith, heading_size [] begun
 pub one_more : (line : List ℕ) (byte : ℕ) → IsWithout 10 line → cut (line ++ byte ∷ []) ≡ (line ++ byte ∷ [], [])
 one_more line byte unbroken = cut_behind line (byte ∷ []) unbroken ∙ rw (one_byte byte) refl
 
--- five bytes and one more that begin a heading
-last_digit : (bytes : List ℕ) (byte : ℕ) → length bytes < 6 → BeginsHeading (bytes ++ byte ∷ []) → (bytes ≡ codes "PART ") × (48 ≤ byte) × (byte ≤ 57)
+-- if five bytes and one more begin a heading, the last one is a digit after `PART `
+last_digit : (bytes : List ℕ) (byte : ℕ) → length bytes < 6 → BeginsHeading (bytes ++ byte ∷ [])
+    → (bytes ≡ codes "PART ") × (48 ≤ byte) × (byte ≤ 57)
 last_digit bytes byte few begun =
-    grind (arith, told (bytes ++ byte ∷ []) begun, heading_size (bytes ++ byte ∷ []) begun, length-append bytes (byte ∷ []), get_or-append_seam bytes byte [] 0, take-append_seam bytes (byte ∷ []))
+    grind (
+      arith,
+      told (bytes ++ byte ∷ []) begun,
+      heading_size (bytes ++ byte ∷ []) begun,
+      length-append bytes (byte ∷ []),
+      get_or-append_seam bytes byte [] 0,
+      take-append_seam bytes (byte ∷ []),
+    )
 
--- no heading begins in the last line, unless a digit stands behind its five bytes
+-- no part begins in the last line, unless a digit comes after its five bytes `PART `
 pub first_more : (front tail : List ℕ) (byte : ℕ) → IsWithout 10 tail → (cut (front ++ 10 ∷ tail)).1 ≡ []
-    → ((tail ≡ codes "PART ") → (48 ≤ byte) → (byte ≤ 57) → ⊥) → cut (front ++ 10 ∷ (tail ++ byte ∷ [])) ≡ (front ++ 10 ∷ (tail ++ byte ∷ []), [])
+    → ((tail ≡ codes "PART ") → (48 ≤ byte) → (byte ≤ 57) → ⊥)
+    → cut (front ++ 10 ∷ (tail ++ byte ∷ [])) ≡ (front ++ 10 ∷ (tail ++ byte ∷ []), [])
 first_more [] tail byte unbroken none not = grind (arith, uncut, no_cut, last_digit, begins_front, one_more)
 first_more (x ∷ front) tail byte unbroken none not =
     grind (arith, uncut, no_cut, begins_more, before_break, append_assoc, first_more front tail byte unbroken)
 
 -- the digit of a heading ends the part before it
-pub first_ends : (front more : List ℕ) (digit : ℕ) → (cut (front ++ 10 ∷ codes "PART ")).1 ≡ [] → 48 ≤ digit → digit ≤ 57
+pub first_ends : (front more : List ℕ) (digit : ℕ) → (cut (front ++ 10 ∷ codes "PART ")).1 ≡ [] → 48 ≤ digit
+    → digit ≤ 57
     → cut (front ++ 10 ∷ (codes "PART " ++ digit ∷ more)) ≡ (front ++ 10 ∷ [], parts_of (codes "PART " ++ digit ∷ more))
 first_ends [] more digit none low high = at_cut (codes "PART " ++ digit ∷ more) (begins digit more low high)
 first_ends (x ∷ front) more digit none low high =
     grind (arith, uncut, no_cut, begins_more, before_break, append_assoc, first_ends front more digit)
 
--- fewer than six bytes of what begins a heading may stand in a body
+-- fewer than six bytes that begin a heading are all allowed in a body
 few_allowed : (bytes more : List ℕ) → length bytes < 6 → BeginsHeading (bytes ++ more) → AreAllowed bytes
 few_allowed bytes more few begun = grind (arith, common_steps, All-same, few_begin, All-take, AllPass-from_list_all)
 
--- with more bytes the first bad one stays where it is, in the same part
+-- with more bytes, the first byte that isn't allowed stays where it is, in the same part
 stays : (front rest more : List ℕ) (byte : ℕ) → AreAllowed front → IsFalse (is_text_byte byte)
     → (cut (front ++ byte ∷ rest)).1 ≡ []
     → (other : List ℕ) × ((cut ((front ++ byte ∷ rest) ++ more)).0 ≡ front ++ byte ∷ other)
@@ -163,22 +210,25 @@ stays (b ∷ front) rest more byte allowed bad none =
           (other, rw (no_cut b (body ++ more) not, same) refl)
     ]
 
-bad_stays : (body more : List ℕ) (place : ℕ) → (cut body).1 ≡ [] → IsBadAt body place → IsBadAt ((cut (body ++ more)).0) place
+bad_stays : (body more : List ℕ) (place : ℕ) → (cut body).1 ≡ [] → IsBadAt body place
+    → IsBadAt ((cut (body ++ more)).0) place
 bad_stays body more place none bad =
     let (other, is) = stays bad.before bad.rest more bad.byte bad.allowed bad.bad (rw bad.joined at none) in
     rw (bad.joined, is, bad.size) (bad_behind bad.before other bad.byte bad.allowed bad.bad)
 
--- a line, and a body in which the same bytes are bad
+-- a line, and a body in which the same bytes aren't allowed
 pub record IsAlike (part line body : List ℕ) : Type 0 where
   pub other : List ℕ
   pub is : part ≡ line ++ 10 ∷ other
   pub bad : (place : ℕ) → IsBadAt body place → IsBadAt other place
 
-pub alike : (line body more : List ℕ) → IsWithout 10 line → (cut (line ++ 10 ∷ body)).1 ≡ [] → IsAlike (cut ((line ++ 10 ∷ body) ++ more)).0 line body
+pub alike : (line body more : List ℕ) → IsWithout 10 line → (cut (line ++ 10 ∷ body)).1 ≡ []
+    → IsAlike (cut ((line ++ 10 ∷ body) ++ more)).0 line body
 alike line body more unbroken none =
     let is = uncut 10 body (sym (ap (λ c. c.1) (cut_behind line (10 ∷ body) unbroken)) ∙ none) in
     let part : (cut ((line ++ 10 ∷ body) ++ more)).0 ≡ line ++ (cut (10 ∷ (body ++ more))).0 =
-    ap (λ l. (cut l).0) (append_assoc line (10 ∷ body) more) ∙ ap (λ c. c.0) (cut_behind line (10 ∷ (body ++ more)) unbroken) in
+    ap (λ l. (cut l).0) (append_assoc line (10 ∷ body) more)
+    ∙ ap (λ c. c.0) (cut_behind line (10 ∷ (body ++ more)) unbroken) in
     elim (cut_or_not 10 (body ++ more)) [
       | inl (break, begun) ↦
           let few : length body < 6 = grind (arith, cases_lt (length body) 6, begins_front body more, is.0 refl) in
@@ -194,9 +244,9 @@ alike line body more unbroken none =
       }
     ]
 
--- what is allowed, and ends in LF, has no other part
-pub allowed_one : (front rest : List ℕ) (others : List (List ℕ)) → AreAllowed (front ++ 10 ∷ []) → cut (10 ∷ rest) ≡ (10 ∷ [], others)
-    → cut (front ++ 10 ∷ rest) ≡ (front ++ 10 ∷ [], others)
+-- bytes that are all allowed and end in LF are one part
+pub allowed_one : (front rest : List ℕ) (others : List (List ℕ)) → AreAllowed (front ++ 10 ∷ [])
+    → cut (10 ∷ rest) ≡ (10 ∷ [], others) → cut (front ++ 10 ∷ rest) ≡ (front ++ 10 ∷ [], others)
 allowed_one [] rest others allowed is = is
 allowed_one (byte ∷ front) rest others allowed is =
     let good = All-tail (λ b. IsTrue (is_text_byte b)) byte (front ++ 10 ∷ []) allowed in
@@ -205,11 +255,19 @@ allowed_one (byte ∷ front) rest others allowed is =
   where
     no_digit : (bytes : List ℕ) → AreAllowed (bytes ++ 10 ∷ []) → ¬ (BeginsHeading bytes)
     no_digit bytes good begun =
-        grind (arith, nat_tests, heading_size bytes begun, told bytes begun, get_or-append bytes (10 ∷ []) 0 5, length-append bytes (10 ∷ []), All-get_or (λ b. IsTrue (is_text_byte b)) (bytes ++ 10 ∷ []) 5 0)
+        grind (
+          arith,
+          nat_tests,
+          heading_size bytes begun,
+          told bytes begun,
+          get_or-append bytes (10 ∷ []) 0 5,
+          length-append bytes (10 ∷ []),
+          All-get_or (λ b. IsTrue (is_text_byte b)) (bytes ++ 10 ∷ []) 5 0,
+        )
 
 -- -------- which part of how many, as it is written
 
--- no byte is below this one
+-- no byte is below `least`
 abbrev IsFrom : ℕ → List ℕ → Type 0
 IsFrom least text = All (λ b. least ≤ b) text
 
@@ -217,7 +275,8 @@ lower : (least low : ℕ) (text : List ℕ) → low ≤ least → IsFrom least t
 lower least low text less from = All-weaker (λ b. least ≤ b) (λ b. low ≤ b) (λ b above. omega arith) text from
 
 number_from : (number : ℕ) → number < 2 ^ 64 → IsFrom 48 (decimal number)
-number_from number small = All-from_get_or (λ b. 48 ≤ b) (decimal number) 0 (λ i inside. (digits_decimal figures number small i inside).0)
+number_from number small =
+    All-from_get_or (λ b. 48 ≤ b) (decimal number) 0 (λ i inside. (digits_decimal figures number small i inside).0)
 
 letters_from : (letters : List ℕ) → IsFrom 65 (letters_text letters)
 letters_from letters = All-map (λ b. 65 ≤ b) (λ l. l + 65) letters (λ k d inside. omega arith)
@@ -225,7 +284,7 @@ letters_from letters = All-map (λ b. 65 ≤ b) (λ l. l + 65) letters (λ k d i
 fraction_from : (part parts : ℕ) → part < 2 ^ 64 → parts < 2 ^ 64 → IsFrom 47 (fraction part parts)
 fraction_from part parts small few = grind (arith, common_steps, All-append, All-push, lower, number_from)
 
--- numbers before a byte that is no digit
+-- equal texts have the same number before a byte that is no digit, and the same rest
 one_number : (number found byte : ℕ) (rest more : List ℕ) → number < 2 ^ 64 → found < 2 ^ 64 → byte < 48
     → decimal number ++ byte ∷ rest ≡ decimal found ++ byte ∷ more → (number ≡ found) × (rest ≡ more)
 one_number number found byte rest more small little low same =
@@ -234,10 +293,13 @@ one_number number found byte rest more small little low same =
 
 pub fraction_parts : (word one other : List ℕ) (part parts : ℕ) → IsFraction part parts → IsFirstPart 47 word one other
     → fraction part parts ≡ word → (decimal part ≡ one) × (decimal parts ≡ other)
-fraction_parts word one other part parts number first is = search (rules, texts_tell_first_parts, All-weaker, number_from, append_assoc)
+fraction_parts word one other part parts number first is =
+    search (rules, texts_tell_first_parts, All-weaker, number_from, append_assoc)
 
-pub same_fraction : (word one other : List ℕ) (part parts found last : ℕ) → IsFraction part parts → found < 2 ^ 8 → last < 2 ^ 8
-    → IsFirstPart 47 word one other → decimal found ≡ one → decimal last ≡ other → fraction part parts ≡ word → (part ≡ found) × (parts ≡ last)
+pub same_fraction : (word one other : List ℕ) (part parts found last : ℕ) → IsFraction part parts → found < 2 ^ 8
+    → last < 2 ^ 8
+    → IsFirstPart 47 word one other → decimal found ≡ one → decimal last ≡ other → fraction part parts ≡ word
+    → (part ≡ found) × (parts ≡ last)
 same_fraction word one other part parts found last number small few first read also is =
     let both = fraction_parts word one other part parts number first is in
     grind (arith, both, decimal_injective part found, decimal_injective parts last)
@@ -249,8 +311,8 @@ pub record AreSpelled (word : List ℕ) (index : ℕ) (letters : List ℕ) : Typ
   pub spelled : letters_text letters ≡ take index word
   pub within : All (λ letter. letter < 26) letters
 
-pub capital_at : (word others : List ℕ) (index : ℕ) → index < length word → AreFewLetters others → letters_text others ≡ word
-    → (65 ≤ get_or word index 0) × (get_or word index 0 ≤ 90)
+pub capital_at : (word others : List ℕ) (index : ℕ) → index < length word → AreFewLetters others
+    → letters_text others ≡ word → (65 ≤ get_or word index 0) × (get_or word index 0 ≤ 90)
 capital_at word others index inside are same =
     grind (arith, length-map, get_or-map, All-get_or (λ l. l < 26) others index 0)
 
@@ -261,8 +323,10 @@ pub ruleset spelling = (capital_at, All-push)
 pub at_most : (s : Day) (count : ℕ) → IsLetterCount s count → count ≤ 520
 at_most s count e = grind arith
 
-pub same_count : (s : Day) (count found : ℕ) (word : List ℕ) → IsLetterCount s count → found < 2 ^ 16 → decimal count ≡ word → decimal found ≡ word → count ≡ found
-same_count s count found word are small is read = decimal_injective count found (omega (arith, at_most s count are)) (omega arith) (is ∙ sym read)
+pub same_count : (s : Day) (count found : ℕ) (word : List ℕ) → IsLetterCount s count → found < 2 ^ 16
+    → decimal count ≡ word → decimal found ≡ word → count ≡ found
+same_count s count found word are small is read =
+    decimal_injective count found (omega (arith, at_most s count are)) (omega arith) (is ∙ sym read)
 
 -- the numbers of a heading are small
 record IsSmall (h : Heading) : Type 0 where
@@ -283,16 +347,20 @@ line_words s found h line has is same =
     ap words_of (sym same) ∙ lines_split_into_words (heading_words h) (λ none. cc)
     (grind (arith, common_steps, are_small, as_words, length-append {A = ℕ}, All-cons, All-nil))
 
-pub too_many_words : (s : Day) (found : Option ℕ) (h : Heading) (line : List ℕ) → MatchOption found (HasPins s) (HasSlots s)
+pub too_many_words : (s : Day) (found : Option ℕ) (h : Heading) (line : List ℕ)
+    → MatchOption found (HasPins s) (HasSlots s)
     → IsHeading s h → 5 < length (words_of line) → line_of (heading_words h) ≢ line
 too_many_words s found h line has is many same = grind (arith, ap length (line_words s found h line has is same))
 
--- the heading of a line, if it has one
+-- the answer is the heading of the line, or that the line is none
 abbrev IsTold : Day → Option Heading → List ℕ → Type 0
-IsTold s answer line = MatchOption answer ((h : Heading) → IsHeading s h → line_of (heading_words h) ≢ line) (λ h. IsHeading s h × (line_of (heading_words h) ≡ line))
+IsTold s answer line =
+    MatchOption answer ((h : Heading) → IsHeading s h → line_of (heading_words h) ≢ line)
+    (λ h. IsHeading s h × (line_of (heading_words h) ≡ line))
 
 pub heading_told : (s : Day) (found : Option ℕ) (line : List ℕ) (words shown : List (List ℕ)) (answer : Option Heading)
-    → MatchOption found (HasPins s) (HasSlots s) → words ≡ words_of line → shown ≡ words → AreHeadingWords s shown answer → IsTold s answer line
+    → MatchOption found (HasPins s) (HasSlots s) → words ≡ words_of line → shown ≡ words
+    → AreHeadingWords s shown answer → IsTold s answer line
 heading_told s found line words shown None has are same told =
     λ h is line_is. told h is (sym (line_words s found h line has is line_is) ∙ sym are ∙ sym same)
 heading_told s found line words shown (Some h) has are same told =
@@ -317,16 +385,16 @@ pub ended_heading : (s : Day) (front body : List ℕ) (h : Heading) → IsWithou
 ended_heading s front body h unbroken is text =
     record { is_heading = is; first = inl (front, record { joined = refl; without = unbroken }, text) }
 
--- what stands before the first LF is the heading, and the body follows it
+-- the bytes before the first LF are the heading line, and the body follows it
 pub heading_there : (s : Day) (front body : List ℕ) (h : Heading) (rest : List ℕ) → IsWithout 10 front
     → HasHeading s (front ++ 10 ∷ body) h rest → IsLineText front (line_of (heading_words h)) × (rest ≡ body)
 heading_there s front body h rest unbroken has = grind (arith, texts_tell_first_parts, has_byte)
 
--- a line has one text
+-- a line has one text without its CR
 one_line_text : (line text other : List ℕ) → IsLineText line text → IsLineText line other → text ≡ other
 one_line_text line text other e d = grind (arith, append_cancel_right)
 
--- ---- the first 64 bytes of a line tell its heading
+-- ---- the first 64 bytes of a line determine its heading
 
 heading_length : (s : Day) (found : Option ℕ) (h : Heading) → MatchOption found (HasPins s) (HasSlots s) → IsHeading s h
     → length (line_of (heading_words h)) ≤ 50
@@ -336,8 +404,8 @@ heading_length s found h has is =
     let all = length-decimal-le 2 h.parts in
     grind (arith, are_small s h is, at_most s h.letters is.letters, count, one, all, length-append {A = ℕ}, length-map)
 
-pub open_told : (s : Day) (found : Option ℕ) (part line : List ℕ) (answer : Option Heading) → MatchOption found (HasPins s) (HasSlots s) → IsTold s answer line
-    → IsWithout 10 part → line ≡ take 64 part
+pub open_told : (s : Day) (found : Option ℕ) (part line : List ℕ) (answer : Option Heading)
+    → MatchOption found (HasPins s) (HasSlots s) → IsTold s answer line → IsWithout 10 part → line ≡ take 64 part
     → MatchOption answer ((h : Heading) (body : List ℕ) → ¬ (HasHeading s part h body)) (λ h. HasHeading s part h [])
 open_told s found part line None has told unbroken kept = λ h body there.
     let is : line_of (heading_words h) ≡ part = grind (arith, has_byte) in
@@ -349,7 +417,8 @@ open_told s found part line (Some h) has told unbroken kept =
     record { is_heading = told.0; first = inr (unbroken, cc (whole, told.1), refl) }
 
 pub ended_told : (s : Day) (found : Option ℕ) (part line text : List ℕ) (answer : Option Heading)
-    → MatchOption found (HasPins s) (HasSlots s) → IsLineText line text → IsTold s answer text → IsWithout 10 part → line ≡ take 64 part
+    → MatchOption found (HasPins s) (HasSlots s) → IsLineText line text → IsTold s answer text → IsWithout 10 part
+    → line ≡ take 64 part
     → MatchOption answer ((h : Heading) (body : List ℕ) → ¬ (HasHeading s (part ++ 10 ∷ []) h body))
     (λ h. IsHeading s h × IsLineText part (line_of (heading_words h)))
 ended_told s found part line text None has cut told unbroken kept = λ h body there.
@@ -363,9 +432,10 @@ ended_told s found part line text (Some h) has cut told unbroken kept =
 
 -- -------- a part has one heading, and one body
 
--- the count of letters, and the indicator behind it
-one_end : (s : Day) (count found : ℕ) (i j : Option Indicator) → count < 2 ^ 64 → found < 2 ^ 64 → HasIndicator s i → HasIndicator s j
-    → line_of (decimal count ∷ indicator_words i) ≡ line_of (decimal found ∷ indicator_words j) → (count ≡ found) × (i ≡ j)
+-- equal line ends have the same count of letters and the same indicator
+one_end : (s : Day) (count found : ℕ) (i j : Option Indicator) → count < 2 ^ 64 → found < 2 ^ 64 → HasIndicator s i
+    → HasIndicator s j → line_of (decimal count ∷ indicator_words i) ≡ line_of (decimal found ∷ indicator_words j)
+    → (count ≡ found) × (i ≡ j)
 one_end (OfRotors s) count found (Some i) (Some j) small little has had same =
     let counts = one_number count found 32 _ _ small little (omega arith) same in
     let starts = same_word i.start j.start _ _ counts.1 in
@@ -388,12 +458,15 @@ one_heading s part h other body rest a b =
     (grind (arith, same, are_small, one_number, append_assoc, one_end), same.1)
 
 -- the line begins with PART, a space and a digit
-pub words_begin : (s : Day) (h : Heading) (more : List ℕ) → IsHeading s h → BeginsHeading (line_of (heading_words h) ++ more)
+pub words_begin : (s : Day) (h : Heading) (more : List ℕ) → IsHeading s h
+    → BeginsHeading (line_of (heading_words h) ++ more)
 words_begin s h more is = grind (arith, are_small, decimal_nonempty, digits_decimal, figures, drop-cons, begins)
 
 line_front : (text line rest : List ℕ) → HasFirstLine text line rest → (more : List ℕ) × (text ≡ line ++ more)
 line_front text line rest e = grind (arith, append_assoc, append-nil)
 
-pub begins_there : (s : Day) (part : List ℕ) (h : Heading) (body : List ℕ) → HasHeading s part h body → BeginsHeading part
+pub begins_there : (s : Day) (part : List ℕ) (h : Heading) (body : List ℕ) → HasHeading s part h body
+    → BeginsHeading part
 begins_there s part h body has =
-    let (more, is) = line_front part (line_of (heading_words h)) body has.first in rw is (words_begin s h more has.is_heading)
+    let (more, is) =
+    line_front part (line_of (heading_words h)) body has.first in rw is (words_begin s h more has.is_heading)

@@ -1,19 +1,34 @@
--- Fronts of a list that are told by what they have, text that is plain, and the lines of an order up to its text.
+-- Prefixes of a list up to an item with a property, plain text, and the lines of an order's head.
 use Rattle.{std.specs.Cmp.Lexicographic.pointwise_decides, kd_state.specs.Machine.AreLetters}
 use Rattle.kd_form.specs.declared.pattern_line.Unread.TheVariants.{Open, Off}
-pub use Rattle.kd_form.proofs.Prelude.{err_is, ◌≡◌, ◌≢◌, ℕ, ◌+◌, ◌≤◌, ◌<◌, true, List, [], ◌∷◌, ◌++◌, refl, subst, length-append, arith, take, ap, ◌∙◌, length, sym, codes, All, nat_le, IsTrue, is_text_byte, list_all, nat_tests, take_all, length-take, AllPass-from_list_all, All-append, All-cons, All-map, All-weaker, All-head, All-tail, letters_text, line_of, IsWithout, Option, option_to_list, letter_of_byte, letters_from, Keys, Rotor, Pin, key_words, common_steps, zero, suc, inl, inr, false, get_or, drop, replicate, append_assoc, length-drop, ◌==◌, AllWithin, cases_Bool, get_or-take, take-append-drop, length-replicate, length-take-le, append-nil, drop_more, All-nil, All-replicate, All-take, All-drop, Unread, IsEnded, IsKeyLine, filled_in, blanks, fits, letters_at, IsFilledLine, IsPatternLine, AreAppended, BreaksOff, Result, Ok, Err, MatchResult, Day, OfRotors, OfPins, AreKeys, places_for, rotor_pattern, key_pattern, key_letters, IsAnyKeyLine, FormFault, Suits, IsKeysFault, IsFirstKeysFault, BeginsWithKeys, nil_from_length, false≢true}
+pub use Rattle.kd_form.proofs.Prelude.{err_is, ◌≡◌, ◌≢◌, ℕ, ◌+◌, ◌≤◌, ◌<◌, true, List, [], ◌∷◌, ◌++◌, refl, subst}
+pub use Rattle.kd_form.proofs.Prelude.{length-append, arith, take, ap, ◌∙◌, length, sym, codes, All, nat_le, IsTrue}
+pub use Rattle.kd_form.proofs.Prelude.{is_text_byte, list_all, nat_tests, take_all, length-take, AllPass-from_list_all}
+pub use Rattle.kd_form.proofs.Prelude.{All-append, All-cons, All-map, All-weaker, All-head, All-tail, letters_text}
+pub use Rattle.kd_form.proofs.Prelude.{line_of, IsWithout, Option, option_to_list, letter_of_byte, letters_from, Keys}
+pub use Rattle.kd_form.proofs.Prelude.{Rotor, Pin, key_words, common_steps, zero, suc, inl, inr, false, get_or, drop}
+pub use Rattle.kd_form.proofs.Prelude.{replicate, append_assoc, length-drop, ◌==◌, AllWithin, cases_Bool, get_or-take}
+pub use Rattle.kd_form.proofs.Prelude.{take-append-drop, length-replicate, length-take-le, append-nil, drop_more}
+pub use Rattle.kd_form.proofs.Prelude.{All-nil, All-replicate, All-take, All-drop, Unread, IsEnded, IsKeyLine}
+pub use Rattle.kd_form.proofs.Prelude.{filled_in, blanks, fits, letters_at, IsFilledLine, IsPatternLine, AreAppended}
+pub use Rattle.kd_form.proofs.Prelude.{BreaksOff, Result, Ok, Err, MatchResult, Day, OfRotors, OfPins, AreKeys}
+pub use Rattle.kd_form.proofs.Prelude.{places_for, rotor_pattern, key_pattern, key_letters, IsAnyKeyLine, FormFault}
+pub use Rattle.kd_form.proofs.Prelude.{Suits, IsKeysFault, IsFirstKeysFault, BeginsWithKeys, nil_from_length}
+pub use Rattle.kd_form.proofs.Prelude.{false≢true}
 
--- the list begins with nothing that has the property
+-- the list doesn't begin with an item that has the property
 abbrev pub IsOff : {X : Type 0} → (X → Type 0) → List X → Type 0
 IsOff P [] = Unit {0}
 IsOff P (x ∷ xs) = ¬ (P x)
 
--- two fronts of one list whose items have a property, up to one that hasn't, are the same
-pub same_front : {X : Type 0} (P : X → Type 0) (front other rest more : List X) → All P front → All P other → IsOff P rest → IsOff P more
-    → front ++ rest ≡ other ++ more → (front ≡ other) × (rest ≡ more)
+-- two prefixes of one list, up to the first item without the property, are the same
+pub same_front : {X : Type 0} (P : X → Type 0) (front other rest more : List X) → All P front → All P other
+    → IsOff P rest → IsOff P more → front ++ rest ≡ other ++ more → (front ≡ other) × (rest ≡ more)
 same_front P [] [] rest more all alls off none same = (refl, same)
-same_front P [] (y ∷ other) rest more all alls off none same = absurd (subst (IsOff P) same off (All-head P y other alls))
-same_front P (x ∷ front) [] rest more all alls off none same = absurd (subst (IsOff P) (sym same) none (All-head P x front all))
+same_front P [] (y ∷ other) rest more all alls off none same =
+    absurd (subst (IsOff P) same off (All-head P y other alls))
+same_front P (x ∷ front) [] rest more all alls off none same =
+    absurd (subst (IsOff P) (sym same) none (All-head P x front all))
 same_front P (x ∷ front) (y ∷ other) rest more all alls off none same =
     let both = same_front P front other rest more (All-tail P x front all) (All-tail P y other alls) off none (cc) in
     (cc, both.1)
@@ -21,35 +36,40 @@ same_front P (x ∷ front) (y ∷ other) rest more all alls off none same =
 abbrev pub IsPlain : List ℕ → Type 0
 IsPlain text = All (λ byte. 32 ≤ byte) text
 
--- of a text that is written out, by a test
+-- a literal text is plain if a test says so
 pub plain_text : (text : List ℕ) → list_all (λ b. nat_le 32 b) text ≡ true → IsPlain text
-plain_text text passes = All-weaker (λ b. IsTrue (nat_le 32 b)) (λ b. 32 ≤ b) (λ b told. grind (arith, nat_tests)) text (AllPass-from_list_all (λ b. nat_le 32 b) text passes)
+plain_text text passes =
+    All-weaker (λ b. IsTrue (nat_le 32 b)) (λ b. 32 ≤ b) (λ b told. grind (arith, nat_tests)) text
+    (AllPass-from_list_all (λ b. nat_le 32 b) text passes)
 
 pub plain_letters : (letters : List ℕ) → IsPlain (letters_text letters)
 plain_letters letters = All-map (λ b. 32 ≤ b) (λ l. l + 65) letters (λ k d inside. omega arith)
 
 pub plain_more : (word text : List ℕ) → IsPlain word → IsPlain text → IsPlain (word ++ 32 ∷ text)
-plain_more word text one other = All-append (λ b. 32 ≤ b) word (32 ∷ text) one (All-cons (λ b. 32 ≤ b) 32 text (omega arith) other)
+plain_more word text one other =
+    All-append (λ b. 32 ≤ b) word (32 ∷ text) one (All-cons (λ b. 32 ≤ b) 32 text (omega arith) other)
 
 pub plain_keys : (k : Keys) → IsPlain (line_of (key_words k))
 plain_keys (Rotor k) = search (arith, plain_more, plain_letters, plain_text (codes "PART") refl)
 plain_keys (Pin k) = grind (arith, plain_more, plain_text, plain_letters)
 
 pub without : (byte : ℕ) (text : List ℕ) → byte < 32 → IsPlain text → IsWithout byte text
-without byte text low plain = All-weaker (λ b. 32 ≤ b) (λ b. b ≢ byte) (λ b above same. omega (arith, above, same)) text plain
+without byte text low plain =
+    All-weaker (λ b. 32 ≤ b) (λ b. b ≢ byte) (λ b above same. omega (arith, above, same)) text plain
 
 pub head_unbroken : IsWithout 10 (codes "PART ")
 head_unbroken = without 10 (codes "PART ") (omega arith) (plain_text (codes "PART ") refl)
 
--- a line of which less was kept than could be is whole
+-- a line is whole if fewer than `n` bytes of it were kept
 pub whole_line : (n : ℕ) (part line : List ℕ) → line ≡ take n part → length line < n → line ≡ part
 whole_line n part line kept short = kept ∙ take_all n part (omega (arith, ap length kept, length-take n part))
 
--- the letters of a text, one byte more
-pub letters_first : (blank : Option ℕ) (byte : ℕ) (text : List ℕ) → letters_from blank (byte ∷ text) ≡ option_to_list (letter_of_byte blank byte) ++ letters_from blank text
+-- the letters of a text with one byte before it
+pub letters_first : (blank : Option ℕ) (byte : ℕ) (text : List ℕ)
+    → letters_from blank (byte ∷ text) ≡ option_to_list (letter_of_byte blank byte) ++ letters_from blank text
 letters_first blank byte text = grind arith
 
--- bytes that may stand in a text
+-- bytes that are allowed in a text
 abbrev pub AreAllowed : List ℕ → Type 0
 AreAllowed bytes = All (λ b. IsTrue (is_text_byte b)) bytes
 
@@ -75,7 +95,7 @@ line_less mark byte pattern letters bytes is =
 no_letters : AreLetters 0 []
 no_letters = record { count = refl; within = All-nil (λ l. l < 26) }
 
--- the bytes end: a line goes on with the letter A in each place that is left
+-- the bytes end: a line goes on with the letter A in each place left
 pub line_open : (pattern bytes : List ℕ) → length bytes ≡ 0 → BreaksOff (IsPatternLine pattern) bytes Open
 line_open pattern bytes none =
     let others : List ℕ = replicate (blanks pattern) 0 in
@@ -84,22 +104,37 @@ line_open pattern bytes none =
       count = length-replicate {A = ℕ} (blanks pattern) 0;
       within = All-replicate (λ l. l < 26) (blanks pattern) 0 (omega arith);
     } in
-    rw (nil_from_length bytes none) (text, (λ nil. omega (arith, ap length nil, length-append {A = ℕ})), (others, record { are_letters = are; ended = inl refl }))
+    rw (nil_from_length bytes none) (
+      text,
+      (λ nil. omega (arith, ap length nil, length-append {A = ℕ})),
+      (others, record { are_letters = are; ended = inl refl }),
+    )
 
 -- a byte doesn't fit its mark
-pub line_off : (mark byte : ℕ) (marks rest pattern bytes : List ℕ) → pattern ≡ mark ∷ marks → bytes ≡ byte ∷ rest → fits mark byte ≡ false
-    → BreaksOff (IsPatternLine pattern) bytes Off
+pub line_off : (mark byte : ℕ) (marks rest pattern bytes : List ℕ) → pattern ≡ mark ∷ marks → bytes ≡ byte ∷ rest
+    → fits mark byte ≡ false → BreaksOff (IsPatternLine pattern) bytes Off
 line_off mark byte marks rest pattern bytes first next unfit = grind (arith, false≢true, line_less)
 
--- or it does, and the line goes on as what is left of the pattern does
-pub line_on : (mark byte : ℕ) (marks rest pattern bytes old now new : List ℕ) (answer : Result (Unit {0}) Unread) → pattern ≡ mark ∷ marks → bytes ≡ byte ∷ rest
-    → fits mark byte ≡ true → now ≡ old ++ letters_at mark byte
+-- a byte fits its mark, and the line goes on with the rest of the pattern
+pub line_on : (mark byte : ℕ) (marks rest pattern bytes old now new : List ℕ) (answer : Result (Unit {0}) Unread)
+    → pattern ≡ mark ∷ marks → bytes ≡ byte ∷ rest → fits mark byte ≡ true → now ≡ old ++ letters_at mark byte
     → MatchResult answer (λ _. AreAppended marks rest now new) (BreaksOff (IsPatternLine marks) rest)
     → MatchResult answer (λ _. AreAppended pattern bytes old new) (BreaksOff (IsPatternLine pattern) bytes)
 line_on mark byte marks rest pattern bytes old now new (Ok done) first next fit put (more, line, is) =
-    rw (first, next) (letters_at mark byte ++ more, line_more mark byte marks more rest fit line, cc (put, is, append_assoc old (letters_at mark byte) more))
+    rw (first, next) (
+      letters_at mark byte ++ more,
+      line_more mark byte marks more rest fit line,
+      cc (put, is, append_assoc old (letters_at mark byte) more),
+    )
 line_on mark byte marks rest pattern bytes old now new (Err Open) first next fit put (more, some, (letters, line)) =
-    rw (first, next) (more, some, (letters_at mark byte ++ letters, line_more mark byte marks letters (rest ++ more) fit line))
+    rw (first, next) (
+      more,
+      some,
+      (
+        letters_at mark byte ++ letters,
+        line_more mark byte marks letters (rest ++ more) fit line,
+      ),
+    )
 line_on mark byte marks rest pattern bytes old now new (Err Off) first next fit put none =
     rw (first, next) (λ more line. none more (line_less mark byte marks line.0 (rest ++ more) line.1).1)
 
@@ -107,13 +142,16 @@ line_on mark byte marks rest pattern bytes old now new (Err Off) first next fit 
 pub line_ends : (pattern bytes letters : List ℕ) (answer : Result (Unit {0}) Unread) → length pattern ≡ 0
     → MatchResult answer (λ _. IsEnded [] bytes) (BreaksOff (IsEnded []) bytes)
     → MatchResult answer (λ _. AreAppended pattern bytes letters letters) (BreaksOff (IsPatternLine pattern) bytes)
-line_ends [] bytes letters (Ok done) none ended = ([], record { are_letters = no_letters; ended = ended }, sym (append-nil letters))
-line_ends [] bytes letters (Err Open) none (more, some, ended) = (more, some, ([], record { are_letters = no_letters; ended = ended }))
+line_ends [] bytes letters (Ok done) none ended =
+    ([], record { are_letters = no_letters; ended = ended }, sym (append-nil letters))
+line_ends [] bytes letters (Err Open) none (more, some, ended) =
+    (more, some, ([], record { are_letters = no_letters; ended = ended }))
 line_ends [] bytes letters (Err Off) none off = λ more line. off more line.1.ended
 line_ends (mark ∷ pattern) bytes letters answer none told = absurd (omega arith)
 
--- of the end nothing is there, or its CR
-pub end_open : (bytes : List ℕ) → length bytes < 2 → (1 ≤ length bytes → get_or bytes 0 0 ≡ 13) → BreaksOff (IsEnded []) bytes Open
+-- nothing of the line end is there, or only its CR
+pub end_open : (bytes : List ℕ) → length bytes < 2 → (1 ≤ length bytes → get_or bytes 0 0 ≡ 13)
+    → BreaksOff (IsEnded []) bytes Open
 end_open [] few first = (10 ∷ [], (λ none. cc), inl refl)
 end_open (a ∷ bytes) few first = (10 ∷ [], (λ none. cc), inr (grind (arith, nil_from_length bytes)))
 
@@ -129,24 +167,29 @@ blanks-places (suc n) other = ap (λ m. m + 1) (blanks-places n other) ∙ omega
 filled_word : (n : ℕ) (letters other more : List ℕ) → length letters ≡ n
     → filled_in (places_for n ++ other) (letters ++ more) ≡ letters_text letters ++ filled_in other more
 filled_word zero [] other more count = refl
-filled_word (suc n) (l ∷ letters) other more count = ap (λ text. (l + 65) ∷ text) (filled_word n letters other more (omega arith))
+filled_word (suc n) (l ∷ letters) other more count =
+    ap (λ text. (l + 65) ∷ text) (filled_word n letters other more (omega arith))
 filled_word _ _ other more count = absurd (omega arith)
 
-filled-places : (n : ℕ) (letters : List ℕ) → length letters ≡ n → filled_in (places_for n) letters ≡ letters_text letters
+filled-places : (n : ℕ) (letters : List ℕ) → length letters ≡ n
+    → filled_in (places_for n) letters ≡ letters_text letters
 filled-places n letters count = simp append-nil at (filled_word n letters [] [] count)
 
 pub key_line : (s : Day) (k : Keys) → AreKeys s k → filled_in (key_pattern s) (key_letters k) ≡ line_of (key_words k)
 key_line (OfRotors s) (Rotor k) are = grind (arith, common_steps, filled_word, filled-places)
-key_line (OfPins s) (Pin k) are = ap (λ t. codes "PART " ++ (k.chosen + 65) ∷ 32 ∷ t) (filled-places 6 k.external are.external.count)
+key_line (OfPins s) (Pin k) are =
+    ap (λ t. codes "PART " ++ (k.chosen + 65) ∷ 32 ∷ t) (filled-places 6 k.external are.external.count)
 key_line _ _ are = absurd are
 
 rotor_blanks : (slots : ℕ) → blanks (rotor_pattern slots) ≡ slots + (slots + (2 + 3))
 rotor_blanks slots = grind (arith, blanks-places)
 
-letters_joined : {m n : ℕ} {one other : List ℕ} → AreLetters m one → AreLetters n other → AreLetters (m + n) (one ++ other)
+letters_joined : {m n : ℕ} {one other : List ℕ} → AreLetters m one → AreLetters n other
+    → AreLetters (m + n) (one ++ other)
 letters_joined a b = grind (arith, common_steps, length-append, All-append)
 
-letters_cut : (m n : ℕ) (letters : List ℕ) → AreLetters (m + n) letters → AreLetters m (take m letters) × AreLetters n (drop m letters)
+letters_cut : (m n : ℕ) (letters : List ℕ) → AreLetters (m + n) letters
+    → AreLetters m (take m letters) × AreLetters n (drop m letters)
 letters_cut m n letters are = grind (arith, common_steps, length-take-le, length-drop, All-take, All-drop)
 
 -- ---- any letters make keys
@@ -174,8 +217,8 @@ pub keys_broken : (s : Day) (bytes : List ℕ) (why : Unread) → BreaksOff (IsP
 keys_broken s bytes Open (more, some, line) = (more, some, as_key_line s (bytes ++ more) line)
 keys_broken s bytes Off none = λ more line. none more (as_form_line s (bytes ++ more) line)
 
-pub keys_read : (s : Day) (bytes letters : List ℕ) (k : Keys) → IsFilledLine (key_pattern s) letters bytes → key_letters k ≡ letters → AreKeys s k
-    → AreKeys s k × IsKeyLine k bytes
+pub keys_read : (s : Day) (bytes letters : List ℕ) (k : Keys) → IsFilledLine (key_pattern s) letters bytes
+    → key_letters k ≡ letters → AreKeys s k → AreKeys s k × IsKeyLine k bytes
 keys_read s bytes letters k filled told are = grind (arith, key_line)
 
 pub unsuited : (s : Day) (keys : List Keys) (index : ℕ) (k : Keys) (fault : FormFault) → index < length keys
@@ -198,9 +241,9 @@ unsuited s keys index k fault inside is before found =
 ended_tail : (text line : List ℕ) → IsEnded text line → (tail : List ℕ) × IsEnded [] tail × (line ≡ text ++ tail)
 ended_tail text line ended = grind arith
 
--- the line is told by the bytes that it begins, and so are its words and what follows it
-pub same_line : (text other line end rest more : List ℕ) → IsPlain text → IsPlain other → IsEnded text line → IsEnded other end
-    → line ++ rest ≡ end ++ more → (text ≡ other) × (line ≡ end) × (rest ≡ more)
+-- the bytes that a line begins determine the line, its text, and what follows it
+pub same_line : (text other line end rest more : List ℕ) → IsPlain text → IsPlain other → IsEnded text line
+    → IsEnded other end → line ++ rest ≡ end ++ more → (text ≡ other) × (line ≡ end) × (rest ≡ more)
 same_line text other line end rest more one two a b same =
     let (tail, ended, joined) = ended_tail text line a in
     let (close, ending, linked) = ended_tail other end b in
@@ -213,7 +256,7 @@ pub text_front : (last text : List ℕ) → IsEnded (codes "TEXT") last → get_
 text_front last text ended = grind arith
 
 module _ {P : List ℕ → Type 0} (Q : List ℕ → Type 0) (s : Day) (more : List ℕ) where
-  -- with more bytes the lines may be followed by other ones
+  -- with more bytes, other lines may follow
   pub lines_more : (keys others : List Keys) (bytes : List ℕ)
       → ((rest : List ℕ) → P rest → BeginsWithKeys s others Q (rest ++ more))
       → BeginsWithKeys s keys P bytes → BeginsWithKeys s (keys ++ others) Q (bytes ++ more)

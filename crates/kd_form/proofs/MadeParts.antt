@@ -1,5 +1,20 @@
 -- How a part of a form is made: ciphers and their letters, the internal key, and the letters in groups.
-pub use Rattle.kd_form.proofs.Prelude.{common_steps, ◌≡◌, ◌∙◌, ℕ, ◌<◌, List, [], ◌∷◌, length, get_or, arith, All, slice_index, enumerate_from, get_or-eq_default, cases_lt, length-map, All-get_or, All-from_get_or, All-map, Day, OfRotors, OfPins, cipher_from, ◌≢◌, suc, ◌+◌, ◌≤◌, inl, inr, ◌++◌, map, refl, ap, subst, append_assoc, length-append, slice_get, Some, Contains, cases_eq, append-nil, map_push, ComesFirst, ArePicked, IsInternalKey, HaveRunOut, IsTakenInTurn, OnWheel, OffWheel, ◌-◌, ◌%◌, take, drop, sym, length-drop, add-one, min, replicate, codes, decimal, Option, option_map, div_ceil, join_with_byte, div-eq_of_lt, mod-eq_of_lt, take_min, drop_min, length-replicate, Heading, fraction, indicator_words, heading_words, pieces, behind_spaces, with_line, Part, pin_day, IsLegalDay, Keys, Rotor, Pin, PinKeys, Indicator, Suits, rotor_letters, enciphered_choice, pin_letters, list_letters, IsMade, part_size, pin_indicators, filled, sheet_key, IsWindow, take-append_seam, drop-append_seam, HasIndicator, message_key, HasIndicatorsAround, group_in, keys_in, list_in, text_in, SaysLetters, Ok, All-append, All-cons, All-replicate, twice_on_key, IsFraction, IsHeading, sent_letters, AreKeys, nat_tests, AreRising}
+pub use Rattle.kd_form.proofs.Prelude.{common_steps, ◌≡◌, ◌∙◌, ℕ, ◌<◌, List, [], ◌∷◌, length, get_or, arith, All}
+pub use Rattle.kd_form.proofs.Prelude.{slice_index, enumerate_from, get_or-eq_default, cases_lt, length-map, All-get_or}
+pub use Rattle.kd_form.proofs.Prelude.{All-from_get_or, All-map, Day, OfRotors, OfPins, cipher_from, ◌≢◌, suc, ◌+◌, ◌≤◌}
+pub use Rattle.kd_form.proofs.Prelude.{inl, inr, ◌++◌, map, refl, ap, subst, append_assoc, length-append, slice_get}
+pub use Rattle.kd_form.proofs.Prelude.{Some, Contains, cases_eq, append-nil, map_push, ComesFirst, ArePicked}
+pub use Rattle.kd_form.proofs.Prelude.{IsInternalKey, HaveRunOut, IsTakenInTurn, OnWheel, OffWheel, ◌-◌, ◌%◌, take}
+pub use Rattle.kd_form.proofs.Prelude.{drop, sym, length-drop, add-one, min, replicate, codes, decimal, Option}
+pub use Rattle.kd_form.proofs.Prelude.{option_map, div_ceil, join_with_byte, div-eq_of_lt, mod-eq_of_lt, take_min}
+pub use Rattle.kd_form.proofs.Prelude.{drop_min, length-replicate, Heading, fraction, indicator_words, heading_words}
+pub use Rattle.kd_form.proofs.Prelude.{pieces, behind_spaces, with_line, Part, pin_day, IsLegalDay, Keys, Rotor, Pin}
+pub use Rattle.kd_form.proofs.Prelude.{PinKeys, Indicator, Suits, rotor_letters, enciphered_choice, pin_letters}
+pub use Rattle.kd_form.proofs.Prelude.{list_letters, IsMade, part_size, pin_indicators, filled, sheet_key, IsWindow}
+pub use Rattle.kd_form.proofs.Prelude.{take-append_seam, drop-append_seam, HasIndicator, message_key}
+pub use Rattle.kd_form.proofs.Prelude.{HasIndicatorsAround, group_in, keys_in, list_in, text_in, SaysLetters, Ok}
+pub use Rattle.kd_form.proofs.Prelude.{All-append, All-cons, All-replicate, twice_on_key, IsFraction, IsHeading}
+pub use Rattle.kd_form.proofs.Prelude.{sent_letters, AreKeys, nat_tests, AreRising}
 use Rattle.{kd_enigma.specs.Cipher.{path, product}, kd_state.specs.TwoCiphers.{EngineKey, key_left, key_with_window}}
 use Rattle.{kd_form.specs.Making.IsTurnedFrom, kd_tables.specs.{Permutation.{alphabet, followed_by}, Rings.ring_of}}
 use Rattle.std.proofs.lemmas.List.FromFn.{get_or-range_with_len, length-enumerate_from, length-range_with_len}
@@ -7,16 +22,17 @@ use Rattle.std.proofs.lemmas.List.FromFn.{get_or-range_with_len, length-enumerat
 pub enciphered_length : (s : Day) (window text : List ℕ) → length (cipher_from s window text) ≡ length text
 enciphered_length s window text = grind (arith, length-map, length-enumerate_from)
 
--- a table of letters has a letter at each place, since what stands past its end is read as the first
+-- each place of a table of letters reads as a letter; a place after its end reads as the first letter
 pub letter_read : (table : List ℕ) (place : ℕ) → All (λ letter. letter < 26) table → slice_index table place < 26
 letter_read table place letters = grind (arith, cases_lt, All-get_or {X = ℕ}, get_or-eq_default {A = ℕ})
 
--- products end in the alphabet
+-- each entry of a product is a letter
 product_letters : (ps : List (List ℕ)) → All (λ letter. letter < 26) (product ps)
 unfolding product followed_by
 product_letters [] =
     All-from_get_or (λ letter. letter < 26) alphabet 0
-    (λ i inside. let below : i < 26 = omega (arith, length-range_with_len 0 26) in omega (arith, get_or-range_with_len 0 26 i 0 below))
+    (λ i inside. let below : i < 26 = omega (arith, length-range_with_len 0 26) in
+    omega (arith, get_or-range_with_len 0 26 i 0 below))
 product_letters (p ∷ ps) =
     All-map (λ letter. letter < 26) (λ y. slice_index (product ps) y) p
     (λ k d inside. letter_read (product ps) (get_or p k d) (product_letters ps))
@@ -30,28 +46,32 @@ enciphered_letters (OfPins s) window text =
 
 pub ruleset stay_letters = (common_steps, enciphered_letters)
 
--- ---- the day's own machine stays it, whatever is enciphered on it
+-- ---- the day's own machine stays on the day's key, whatever is enciphered on it
 
 pub own_at_first : (s : Day) (key : EngineKey) → key ≡ sheet_key s → IsTurnedFrom s key
 own_at_first (OfRotors s) key is = (_, is)
 own_at_first (OfPins s) key is = (_, is)
 
 pub own_when_turned : (s : Day) (key : EngineKey) (window : List ℕ) → IsTurnedFrom s key
-    → (key_with_window key window ≡ key_with_window (sheet_key s) window) × (IsWindow key window ≡ IsWindow (sheet_key s) window)
+    → (key_with_window key window ≡ key_with_window (sheet_key s) window)
+    × (IsWindow key window ≡ IsWindow (sheet_key s) window)
 own_when_turned s key window turned = grind arith
 
-pub own_when_left : (s : Day) (key left : EngineKey) (window : List ℕ) (count : ℕ) → IsTurnedFrom s key → left ≡ key_left (key_with_window key window) count
-    → IsTurnedFrom s left
-own_when_left (OfRotors s) key left window count (shown, is) left_is = (_, left_is ∙ ap (λ k. key_left (key_with_window k window) count) is)
-own_when_left (OfPins s) key left window count (shown, is) left_is = (_, left_is ∙ ap (λ k. key_left (key_with_window k window) count) is)
+pub own_when_left : (s : Day) (key left : EngineKey) (window : List ℕ) (count : ℕ) → IsTurnedFrom s key
+    → left ≡ key_left (key_with_window key window) count → IsTurnedFrom s left
+own_when_left (OfRotors s) key left window count (shown, is) left_is =
+    (_, left_is ∙ ap (λ k. key_left (key_with_window k window) count) is)
+own_when_left (OfPins s) key left window count (shown, is) left_is =
+    (_, left_is ∙ ap (λ k. key_left (key_with_window k window) count) is)
 
--- -------- the first of all rising places is found by striking out: letter by letter, and wheel by wheel
+-- -------- striking out letters finds the first rising places, letter by letter and wheel by wheel
 
--- rising places from this one on, of letters on the wheels from this one to the sixth
+-- rising places from `start` on, whose letters are on the wheels from `wheel` to the sixth
 abbrev pub Picks : List ℕ → ℕ → ℕ → List ℕ → Type 0
 Picks letters wheel start [] = wheel ≡ 7
 Picks letters wheel start (place ∷ places) =
-    (start ≤ place) × (place < length letters) × Contains (ring_of wheel) (slice_index letters place) × Picks letters (wheel + 1) (place + 1) places
+    (start ≤ place) × (place < length letters) × Contains (ring_of wheel) (slice_index letters place)
+    × Picks letters (wheel + 1) (place + 1) places
 
 pub record IsFirstPick (letters : List ℕ) (wheel start : ℕ) (places : List ℕ) : Type 0 where
   pub picks : Picks letters wheel start places
@@ -60,14 +80,15 @@ pub record IsFirstPick (letters : List ℕ) (wheel start : ℕ) (places : List �
 abbrev pub HasNoPick : List ℕ → ℕ → ℕ → Type 0
 HasNoPick letters wheel start = (places : List ℕ) → ¬ (Picks letters wheel start places)
 
-earlier : (letters : List ℕ) (wheel start other : ℕ) (places : List ℕ) → other ≤ start → Picks letters wheel start places → Picks letters wheel other places
+earlier : (letters : List ℕ) (wheel start other : ℕ) (places : List ℕ) → other ≤ start
+    → Picks letters wheel start places → Picks letters wheel other places
 earlier letters wheel start other [] less picks = picks
 earlier letters wheel start other (place ∷ places) less (after, inside, on, more) = (omega arith, inside, on, more)
 
 module _ (letters : List ℕ) (wheel start : ℕ) (inside : start < length letters) where
-  -- it is on the wheel: a pick begins there or later, and goes on behind that
-  first_on : (places : List ℕ) → wheel < 7 → Contains (ring_of wheel) (slice_index letters start) → IsFirstPick letters (wheel + 1) (start + 1) places
-      → IsFirstPick letters wheel start (start ∷ places)
+  -- the letter is on the wheel: a pick begins there or later, and goes on after it
+  first_on : (places : List ℕ) → wheel < 7 → Contains (ring_of wheel) (slice_index letters start)
+      → IsFirstPick letters (wheel + 1) (start + 1) places → IsFirstPick letters wheel start (start ∷ places)
   first_on places less on first = record {
     picks = grind (arith, first.picks);
     first = λ others picks. grind (arith, cases_eq, first.first);
@@ -75,35 +96,41 @@ module _ (letters : List ℕ) (wheel start : ℕ) (inside : start < length lette
 
   none_on : wheel < 7 → HasNoPick letters (wheel + 1) (start + 1) → HasNoPick letters wheel start
   none_on less none [] picks = omega arith
-  none_on less none (other ∷ others) (after, within, on, more) = none others (earlier letters (wheel + 1) (other + 1) (start + 1) others (omega arith) more)
+  none_on less none (other ∷ others) (after, within, on, more) =
+      none others (earlier letters (wheel + 1) (other + 1) (start + 1) others (omega arith) more)
 
-  -- it isn't: a pick begins later
-  later : (places : List ℕ) → ¬ (Contains (ring_of wheel) (slice_index letters start)) → Picks letters wheel start places → Picks letters wheel (start + 1) places
+  -- the letter isn't on the wheel: a pick begins later
+  later : (places : List ℕ) → ¬ (Contains (ring_of wheel) (slice_index letters start))
+      → Picks letters wheel start places → Picks letters wheel (start + 1) places
   later [] off picks = picks
   later (place ∷ places) off picks = grind (arith, cases_eq)
 
--- So far these letters are picked, and the next place is this one or a later one. What is the first pick for the wheels that
--- are left makes the first pick for all, and where there is none, there is none for all.
+-- The letters `done` are picked, and the next place is `start` or later. The first pick for the wheels left
+-- makes the first pick for all wheels; if there is none, there is none for all.
 pub record IsPicking (letters : List ℕ) (start : ℕ) (done : List ℕ) : Type 0 where
   pub places : List ℕ
   pub few : length done ≤ 6
   pub taken : done ≡ map (λ place. slice_index letters place) places
-  pub made : (more : List ℕ) → IsFirstPick letters (length done + 1) start more → IsFirstPick letters 1 0 (places ++ more)
+  pub made : (more : List ℕ) → IsFirstPick letters (length done + 1) start more
+      → IsFirstPick letters 1 0 (places ++ more)
   pub spent : HasNoPick letters (length done + 1) start → HasNoPick letters 1 0
 
 pub picking_none : (letters : List ℕ) → IsPicking letters 0 []
-picking_none letters = record { places = []; few = omega arith; taken = refl; made = λ more first. first; spent = λ none. none }
+picking_none letters =
+    record { places = []; few = omega arith; taken = refl; made = λ more first. first; spent = λ none. none }
 
 no_seventh : (letter : ℕ) → ¬ (Contains (ring_of 7) letter)
 unfolding ring_of
 no_seventh letter on = grind arith
 
-pub picking_more : (letters : List ℕ) (start letter : ℕ) (done next : List ℕ) → IsPicking letters start done → start < length letters
+pub picking_more : (letters : List ℕ) (start letter : ℕ) (done next : List ℕ) → IsPicking letters start done
+    → start < length letters
     → letter ≡ slice_index letters start → IsTakenInTurn done letter next → IsPicking letters (start + 1) next
 picking_more letters start letter done next picking inside is (OnWheel on taken) =
     let less : length done < 6 = elim (cases_lt (length done) 6) [
       | inl few ↦ few
-      | inr six ↦ absurd (no_seventh letter (subst (λ w. Contains (ring_of w) letter) (omega (arith, six, picking.few)) on))
+      | inr six ↦
+          absurd (no_seventh letter (subst (λ w. Contains (ring_of w) letter) (omega (arith, six, picking.few)) on))
     ] in
     let wheel : length next ≡ length done + 1 = ap length taken ∙ length-append done (letter ∷ []) in
     record {
@@ -111,8 +138,10 @@ picking_more letters start letter done next picking inside is (OnWheel on taken)
       few = omega (arith, wheel, less);
       taken = grind (arith, map_push, picking.taken);
       made = λ more first. rw (append_assoc picking.places (start ∷ []) more) (picking.made (start ∷ more)
-          (first_on letters (length done + 1) start inside more (omega (arith, less)) (rw is at on) (rw wheel at first)));
-      spent = λ none. picking.spent (none_on letters (length done + 1) start inside (omega (arith, less)) (rw wheel at none));
+          (first_on letters (length done + 1) start inside more (omega (arith, less)) (rw is at on)
+          (rw wheel at first)));
+      spent = λ none. picking.spent (none_on letters (length done + 1) start inside (omega (arith, less))
+          (rw wheel at none));
     }
 picking_more letters start letter done next picking inside is (OffWheel off same) = rw same (record {
   places = picking.places;
@@ -122,21 +151,23 @@ picking_more letters start letter done next picking inside is (OffWheel off same
     picks = earlier letters _ (start + 1) start more (omega arith) first.picks;
     first = λ others picks. first.first others (later letters _ start inside others (rw is at off) picks);
   });
-  spent = λ none. picking.spent (λ others picks. none others (later letters _ start inside others (rw is at off) picks));
+  spent =
+      λ none. picking.spent (λ others picks. none others (later letters _ start inside others (rw is at off) picks));
 })
 
--- ---- all rising places, said in one
+-- ---- picks and rising places are the same
 
 on_wheels : (letters : List ℕ) (wheel start : ℕ) (places : List ℕ) → Picks letters wheel start places
     → AreRising start (length letters) places × (length places + wheel ≡ 7)
-    × ((i letter : ℕ) → slice_get (map (λ p. slice_index letters p) places) i ≡ Some letter → Contains (ring_of (wheel + i)) letter)
+    × ((i letter : ℕ) → slice_get (map (λ p. slice_index letters p) places) i ≡ Some letter
+    → Contains (ring_of (wheel + i)) letter)
 on_wheels letters wheel start [] picks = (tt, omega arith, λ i letter is. absurd (cc))
 on_wheels letters wheel start (place ∷ places) (after, inside, on, more) =
     grind (arith, on_wheels letters (wheel + 1) (place + 1) places more)
 
-picks_of : (letters : List ℕ) (wheel start : ℕ) (places : List ℕ) → AreRising start (length letters) places → length places + wheel ≡ 7
-    → ((i letter : ℕ) → slice_get (map (λ p. slice_index letters p) places) i ≡ Some letter → Contains (ring_of (wheel + i)) letter)
-    → Picks letters wheel start places
+picks_of : (letters : List ℕ) (wheel start : ℕ) (places : List ℕ) → AreRising start (length letters) places
+    → length places + wheel ≡ 7 → ((i letter : ℕ) → slice_get (map (λ p. slice_index letters p) places) i ≡ Some letter
+    → Contains (ring_of (wheel + i)) letter) → Picks letters wheel start places
 picks_of letters wheel start [] rising count each = omega arith
 picks_of letters wheel start (place ∷ places) (after, inside, rising) count each =
     let on = each 0 (slice_index letters place) refl in
@@ -146,7 +177,8 @@ picks_of letters wheel start (place ∷ places) (after, inside, rising) count ea
 picks_from_picked : (letters places picked : List ℕ) → ArePicked letters places picked → Picks letters 1 0 places
 picks_from_picked letters places picked are = grind (arith, picks_of, length-map)
 
-pub key_picked : (letters done : List ℕ) (start : ℕ) → IsPicking letters start done → length done ≡ 6 → IsInternalKey letters done
+pub key_picked : (letters done : List ℕ) (start : ℕ) → IsPicking letters start done → length done ≡ 6
+    → IsInternalKey letters done
 key_picked letters done start picking six =
     grind (arith, picking.made [], append-nil, on_wheels, length-map, picks_from_picked)
 
@@ -154,9 +186,11 @@ none_left : (letters : List ℕ) (wheel : ℕ) → wheel < 7 → HasNoPick lette
 none_left letters wheel less [] picks = omega arith
 none_left letters wheel less (place ∷ places) (after, inside, on, more) = omega arith
 
-pub run_out : (letters done : List ℕ) (start : ℕ) → IsPicking letters start done → length letters ≤ start → length done ≢ 6 → HaveRunOut letters
+pub run_out : (letters done : List ℕ) (start : ℕ) → IsPicking letters start done → length letters ≤ start
+    → length done ≢ 6 → HaveRunOut letters
 run_out letters done start picking end less places picked are =
-    picking.spent (λ others picks. none_left letters _ (omega (arith, less, picking.few)) others (earlier letters _ start (length letters) others end picks))
+    picking.spent (λ others picks. none_left letters _ (omega (arith, less, picking.few)) others
+    (earlier letters _ start (length letters) others end picks))
     places (picks_from_picked letters places picked are)
 
 -- -------- letters in groups and lines, piece by piece
@@ -188,22 +222,24 @@ first_pieces size n letters front rest large some is one other =
     grind (arith, pieces-next size letters, take_min size letters, drop_min size letters)
 
 pub heading_line : (front whole : List ℕ) (h : Heading)
-    → whole ≡ (((((((front ++ codes "PART ") ++ decimal h.part) ++ codes "/") ++ decimal h.parts) ++ codes " ") ++ decimal h.letters)
+    → whole ≡ (((((((front ++ codes "PART ") ++ decimal h.part) ++ codes "/") ++ decimal h.parts) ++ codes " ")
+    ++ decimal h.letters)
     ++ behind_spaces (indicator_words h.indicator)) ++ codes "\n"
     → whole ≡ front ++ with_line (heading_words h) []
 heading_line front whole h written = grind (arith, append_assoc {A = ℕ}, line_of_groups)
 
--- the internal key is there where the keys suit the day
+-- keys that suit the day have an internal key
 pub has_internal : (s : Day) (k : PinKeys) → Suits s (Pin k)
     → (internal : List ℕ) × IsInternalKey (enciphered_choice s k) internal
 has_internal s k suits = grind arith
 
 -- the deciphered message key is a window
-pub key_is_window : (s : Day) (i : Indicator) (key : List ℕ) → HasIndicator s (Some i) → key ≡ message_key s i → All (λ l. l < 26) key
-    → IsWindow (sheet_key s) key
+pub key_is_window : (s : Day) (i : Indicator) (key : List ℕ) → HasIndicator s (Some i) → key ≡ message_key s i
+    → All (λ l. l < 26) key → IsWindow (sheet_key s) key
 key_is_window s i key has is within = grind (arith, enciphered_length, length-map)
 
-pub list_told : (s : Day) (found : Option (List ℕ)) (due : List ℕ) → found ≡ option_map (λ d. d.list) (pin_day s) → found ≡ Some due → due ≡ list_letters s
+pub list_told : (s : Day) (found : Option (List ℕ)) (due : List ℕ) → found ≡ option_map (λ d. d.list) (pin_day s)
+    → found ≡ Some due → due ≡ list_letters s
 list_told s found due told is = grind arith
 
 -- -------- a part as it is made, and what it gives back
@@ -214,7 +250,7 @@ pub record IsPiece (s : Day) (piece : List ℕ) : Type 0 where
   pub few : length piece ≤ part_size s
   pub within : All (λ letter. letter < 26) piece
 
--- the part is the one of that number, of so many, and gives these letters
+-- the part is part `part` of `parts`, and gives these letters
 pub record GivesBack (s : Day) (part parts : ℕ) (text : List ℕ) (made : Part) : Type 0 where
   pub is_heading : IsHeading s made.heading
   pub numbered : made.heading.part ≡ part
@@ -235,27 +271,36 @@ record ArePlaced (k : PinKeys) (list text letters : List ℕ) : Type 0 where
   text_is : text ≡ text_in letters
 
 pin_places : (k : PinKeys) (external list text : List ℕ) → k.external ≡ external → length external ≡ 6 → length list ≡ 2
-    → ArePlaced k list text (((k.chosen ∷ k.chosen ∷ k.external ++ list) ++ text) ++ (k.chosen ∷ k.chosen ∷ k.external ++ list))
+    → ArePlaced k list text (((k.chosen ∷ k.chosen ∷ k.external ++ list) ++ text)
+    ++ (k.chosen ∷ k.chosen ∷ k.external ++ list))
 pin_places k (a ∷ b ∷ c ∷ d ∷ e ∷ f ∷ []) (x ∷ y ∷ []) text is six two =
     let first : List ℕ = k.chosen ∷ k.chosen ∷ a ∷ b ∷ c ∷ d ∷ e ∷ f ∷ x ∷ y ∷ [] in
-    let size : length ((first ++ text) ++ first) - 10 ≡ length (first ++ text) = omega (arith, length-append (first ++ text) first) in
-    let less : length ((first ++ text) ++ first) - 10 - 10 ≡ length text = omega (arith, length-append (first ++ text) first, length-append first text) in
+    let size : length ((first ++ text) ++ first) - 10 ≡ length (first ++ text) =
+    omega (arith, length-append (first ++ text) first) in
+    let less : length ((first ++ text) ++ first) - 10 - 10 ≡ length text =
+    omega (arith, length-append (first ++ text) first, length-append first text) in
     rw is (record {
-      around = record { again = sym (ap (λ n. drop n ((first ++ text) ++ first)) size ∙ drop-append_seam (first ++ text) first); twice = refl };
+      around = record {
+        again = sym (ap (λ n. drop n ((first ++ text) ++ first)) size
+            ∙ drop-append_seam (first ++ text) first);
+        twice = refl;
+      };
       keys = refl;
       listed = refl;
       text_is = sym (ap (λ n. take n (text ++ first)) less ∙ take-append_seam text first);
     })
 pin_places k _ _ text is six two = absurd (omega arith)
 
-pub part_gives_back : (s : Day) (part parts : ℕ) (k : Keys) (piece : List ℕ) (made : Part) → IsLegalDay s → AreKeys s k → Suits s k → IsFraction part parts → IsPiece s piece
+pub part_gives_back : (s : Day) (part parts : ℕ) (k : Keys) (piece : List ℕ) (made : Part) → IsLegalDay s → AreKeys s k
+    → Suits s k → IsFraction part parts → IsPiece s piece
     → IsMade s part parts k piece made → GivesBack s part parts (sent_letters s piece) made
 part_gives_back (OfRotors s) part parts (Rotor k) piece made legal are suits fraction is makes =
     let day : Day = OfRotors s in
     let enciphered : List ℕ = cipher_from day k.key piece in
     let count : length (rotor_letters day k piece) ≡ 5 + length piece =
     omega (arith, length-append {A = ℕ}, enciphered_length day k.key piece, are.fillers.count, are.group.count) in
-    let key : cipher_from day k.start (cipher_from day k.start k.key) ≡ k.key = twice_on_key day k.start k.key legal are.key.within in
+    let key : cipher_from day k.start (cipher_from day k.start k.key) ≡ k.key =
+    twice_on_key day k.start k.key legal are.key.within in
     let text : cipher_from day k.key enciphered ≡ piece = twice_on_key day k.key piece legal is.within in
     let placed = rotor_places k.fillers k.group enciphered are.fillers.count are.group.count in
     rw makes (record {
@@ -271,7 +316,8 @@ part_gives_back (OfPins s) part parts (Pin k) piece made legal are suits fractio
     let indicators : List ℕ = pin_indicators day k in
     let enciphered : List ℕ = cipher_from day internal (filled piece) in
     let more : ℕ = (5 - length piece % 5) % 5 in
-    let groups : length (filled piece) ≡ length piece + more = omega (arith, length-append piece (replicate more 23), length-replicate {A = ℕ} more 23) in
+    let groups : length (filled piece) ≡ length piece + more =
+    omega (arith, length-append piece (replicate more 23), length-replicate {A = ℕ} more 23) in
     let count : length (pin_letters day k internal piece) ≡ 20 + length (filled piece) =
     omega (
       arith,
@@ -287,18 +333,23 @@ part_gives_back (OfPins s) part parts (Pin k) piece made legal are suits fractio
     (All-cons (λ letter. letter < 26) k.chosen (k.external ++ list_letters day) are.chosen
     (All-append (λ letter. letter < 26) k.external (list_letters day) are.external.within legal.list.within)) in
     let inner : All (λ letter. letter < 26) (filled piece) =
-    All-append (λ letter. letter < 26) piece (replicate more 23) is.within (All-replicate (λ letter. letter < 26) more 23 (omega arith)) in
+    All-append (λ letter. letter < 26) piece (replicate more 23) is.within
+    (All-replicate (λ letter. letter < 26) more 23 (omega arith)) in
     rw makes (record {
       is_heading = grind (arith, count, groups);
       numbered = refl;
       so_many = refl;
       within = All-append (λ letter. letter < 26) (indicators ++ enciphered) indicators
-          (All-append (λ letter. letter < 26) indicators enciphered outer (enciphered_letters day internal (filled piece))) outer;
+          (All-append (λ letter. letter < 26) indicators enciphered outer
+          (enciphered_letters day internal (filled piece))) outer;
       counted = refl;
-      read = let placed = pin_places k k.external (list_letters day) enciphered refl are.external.count legal.list.count in
+      read =
+          let placed = pin_places k k.external (list_letters day) enciphered refl are.external.count legal.list.count in
           let on_wheels = subst (λ (x : PinKeys). IsWindow (sheet_key day) x.external) placed.keys suits.0 in
           let best = subst (λ (x : PinKeys). IsInternalKey (enciphered_choice day x) internal) placed.keys first in
-          let is = sym (twice_on_key day internal (filled piece) legal inner) ∙ ap (cipher_from day internal) placed.text_is in
+          let is =
+          sym (twice_on_key day internal (filled piece) legal inner)
+          ∙ ap (cipher_from day internal) placed.text_is in
           inr (placed.around, inr (on_wheels, inr (sym placed.listed, inr (internal, best, ap Ok is))));
     })
 part_gives_back _ part parts _ piece made legal are suits fraction is makes = absurd suits

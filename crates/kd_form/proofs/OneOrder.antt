@@ -1,25 +1,37 @@
--- An order is read in one way, and becomes one form, or has one fault.
-pub use Rattle.kd_form.proofs.Prelude.{common_steps, ◌≡◌, ◌≢◌, ℕ, ◌+◌, inl, inr, List, [], ◌∷◌, ◌++◌, length, refl, sym, ap, subst, ◌∙◌, append_assoc, arith, Err, Ok, drop, ◌≤◌, ◌⊎◌, codes, All, IsTrue, IsFalse, append_cancel_right, append-nil, All-cons, All-nil, All-map, letters_text, is_text_byte, line_of, Day, OfRotors, OfPins, Keys, Rotor, Pin, ComesFirst, IsInternalKey, key_words, AreKeys, IsEnded, BeginsWithKeys, IsOrder, IsHead, IsHeadFault, IsMadeText, enciphered_choice, part_size, Suits, pieces, AreMadeTexts, text_letters, parts_needed, IsBadAt, IsKeysFault, IsFirstKeysFault, StandsInOrder, InHead, InKeys, InText, Cut, NoLetter, InParts, IsSendFault, IsSendable, IsFormOf, Answer, IsCaught, IsFound, IsJudged, false≢true, FormFault, BadByte, EmptyText, PartKeys, nil_from_length, length-append}
+-- An order is read in one way, and becomes one form or has one fault.
+pub use Rattle.kd_form.proofs.Prelude.{common_steps, ◌≡◌, ◌≢◌, ℕ, ◌+◌, inl, inr, List, [], ◌∷◌, ◌++◌, length, refl, sym}
+pub use Rattle.kd_form.proofs.Prelude.{ap, subst, ◌∙◌, append_assoc, arith, Err, Ok, drop, ◌≤◌, ◌⊎◌, codes, All, IsTrue}
+pub use Rattle.kd_form.proofs.Prelude.{IsFalse, append_cancel_right, append-nil, All-cons, All-nil, All-map}
+pub use Rattle.kd_form.proofs.Prelude.{letters_text, is_text_byte, line_of, Day, OfRotors, OfPins, Keys, Rotor, Pin}
+pub use Rattle.kd_form.proofs.Prelude.{ComesFirst, IsInternalKey, key_words, AreKeys, IsEnded, BeginsWithKeys, IsOrder}
+pub use Rattle.kd_form.proofs.Prelude.{IsHead, IsHeadFault, IsMadeText, enciphered_choice, part_size, Suits, pieces}
+pub use Rattle.kd_form.proofs.Prelude.{AreMadeTexts, text_letters, parts_needed, IsBadAt, IsKeysFault, IsFirstKeysFault}
+pub use Rattle.kd_form.proofs.Prelude.{StandsInOrder, InHead, InKeys, InText, Cut, NoLetter, InParts, IsSendFault}
+pub use Rattle.kd_form.proofs.Prelude.{IsSendable, IsFormOf, Answer, IsCaught, IsFound, IsJudged, false≢true, FormFault}
+pub use Rattle.kd_form.proofs.Prelude.{BadByte, EmptyText, PartKeys, nil_from_length, length-append}
 use Rattle.kd_form.proofs.Lines.{same_front, plain_keys, key_first, text_front, same_line, plain_text}
 
--- there is one answer at most
+-- at most one answer satisfies this
 abbrev pub IsOnly : {V : Type 0} → (V → Type 0) → Type 0
 IsOnly {V} Answer = (v w : V) → Answer v → Answer w → v ≡ w
 
 pub only_this : {V : Type 0} {u : V} → IsOnly (λ (v : V). v ≡ u)
 only_this v w a b = a ∙ sym b
 
-pub only_either : {V : Type 0} {One Other : V → Type 0} → IsOnly One → IsOnly Other → ((v w : V) → One v → ¬ (Other w)) → IsOnly (λ v. One v ⊎ Other v)
+pub only_either : {V : Type 0} {One Other : V → Type 0} → IsOnly One → IsOnly Other → ((v w : V) → One v → ¬ (Other w))
+    → IsOnly (λ v. One v ⊎ Other v)
 only_either ones others apart v w a b = grind arith
 
-pub only_found : {X V : Type 0} {Has : X → Type 0} {Later : X → V → Type 0} → ((x y : X) → Has x → Has y → x ≡ y) → ((x : X) → IsOnly (Later x))
-    → IsOnly (IsFound Has Later)
+pub only_found : {X V : Type 0} {Has : X → Type 0} {Later : X → V → Type 0} → ((x y : X) → Has x → Has y → x ≡ y)
+    → ((x : X) → IsOnly (Later x)) → IsOnly (IsFound Has Later)
 only_found one laters v w (x, has, later) (y, also, latter) = laters y v w (rw (one x y has also) at later) latter
 
-pub only_judged : {V : Type 0} {Holds : Type 0} {refusal : V} {Later : V → Type 0} → IsOnly Later → IsOnly (IsJudged Holds refusal Later)
+pub only_judged : {V : Type 0} {Holds : Type 0} {refusal : V} {Later : V → Type 0} → IsOnly Later
+    → IsOnly (IsJudged Holds refusal Later)
 only_judged laters = only_either (λ v w a b. a.1 ∙ sym b.1) (λ v w a b. laters v w a.1 b.1) (λ v w a b. a.0 b.0)
 
-pub only_caught : {X V : Type 0} {Has : X → Type 0} {refusal : X → V} {Holds : Type 0} {Later : V → Type 0} → ((x y : X) → Has x → Has y → x ≡ y)
+pub only_caught : {X V : Type 0} {Has : X → Type 0} {refusal : X → V} {Holds : Type 0} {Later : V → Type 0}
+    → ((x y : X) → Has x → Has y → x ≡ y)
     → ((x : X) → Holds → ¬ (Has x)) → IsOnly Later → IsOnly (IsCaught Has refusal Holds Later)
 only_caught one apart laters = grind (arith, only_either, only_found, only_this)
 
@@ -38,10 +50,17 @@ one_part s part parts (Rotor k) text one other (made, is, bytes) (again, also, w
 one_part s part parts (Pin k) text one other (made, (internal, first, is), bytes) (again, (key, best, also), written) =
     let same = one_internal_key (enciphered_choice s k) internal key first best in cc
 
-one_form : (s : Day) (part parts : ℕ) (keys : List Keys) (texts : List (List ℕ)) → IsOnly (AreMadeTexts s part parts keys texts)
+one_form : (s : Day) (part parts : ℕ) (keys : List Keys) (texts : List (List ℕ))
+    → IsOnly (AreMadeTexts s part parts keys texts)
 one_form s part parts [] [] form other a b = a ∙ sym b
-one_form s part parts (k ∷ keys) (text ∷ texts) form other (one, more, made, mades, joined) (two, rest, again, agains, linked) =
-    cc (one_part s part parts k text one two made again, one_form s (part + 1) parts keys texts more rest mades agains, joined, linked)
+one_form s part parts (k ∷ keys) (text ∷ texts) form other (one, more, made, mades, joined)
+    (two, rest, again, agains, linked) =
+    cc (
+      one_part s part parts k text one two made again,
+      one_form s (part + 1) parts keys texts more rest mades agains,
+      joined,
+      linked,
+    )
 one_form s part parts _ _ form other a b = absurd a
 
 -- ---- one line of keys
@@ -51,14 +70,18 @@ same_letters [] [] same = refl
 same_letters (x ∷ letters) (y ∷ others) same = grind (arith, same_letters letters others)
 same_letters _ _ same = cc
 
--- words before a space
-pub same_word : (letters others rest more : List ℕ) → letters_text letters ++ 32 ∷ rest ≡ letters_text others ++ 32 ∷ more → (letters ≡ others) × (rest ≡ more)
+-- equal texts have the same word before the first space, and the same rest
+pub same_word : (letters others rest more : List ℕ)
+    → letters_text letters ++ 32 ∷ rest ≡ letters_text others ++ 32 ∷ more → (letters ≡ others) × (rest ≡ more)
 same_word letters others rest more same =
-    let both = same_front (λ b. 65 ≤ b) _ _ (32 ∷ rest) (32 ∷ more) (All-map (λ b. 65 ≤ b) (λ l. l + 65) letters (λ k d inside. omega arith))
+    let both =
+    same_front (λ b. 65 ≤ b) _ _ (32 ∷ rest) (32 ∷ more)
+    (All-map (λ b. 65 ≤ b) (λ l. l + 65) letters (λ k d inside. omega arith))
     (All-map (λ b. 65 ≤ b) (λ l. l + 65) others (λ k d inside. omega arith)) (omega arith) (omega arith) same in
     (same_letters letters others both.0, ap (drop 1) both.1)
 
-same_keys : (s : Day) (k other : Keys) → AreKeys s k → AreKeys s other → line_of (key_words k) ≡ line_of (key_words other) → k ≡ other
+same_keys : (s : Day) (k other : Keys) → AreKeys s k → AreKeys s other
+    → line_of (key_words k) ≡ line_of (key_words other) → k ≡ other
 same_keys s (Rotor k) (Rotor other) are also same =
     grind (arith, same_word k.start, same_word k.key, same_word k.fillers, same_letters k.group)
 same_keys s (Pin k) (Pin other) are also same =
@@ -73,7 +96,7 @@ pub all_of_the_day : (P : List ℕ → Type 0) (s : Day) (keys : List Keys) (byt
 all_of_the_day P s [] bytes lines = All-nil (AreKeys s)
 all_of_the_day P s (k ∷ keys) bytes lines = grind (arith, All-cons, all_of_the_day P s keys)
 
--- a head goes on as the bytes do behind these lines of keys
+-- after its lines of keys, a head goes on as the bytes do
 pub behind : {P : List ℕ → Type 0} (s : Day) (keys others : List Keys) (bytes head text more : List ℕ)
     → BeginsWithKeys s keys P bytes → BeginsWithKeys s others (IsEnded (codes "TEXT")) head
     → bytes ++ text ≡ head ++ more → (after : List Keys) × (rest last : List ℕ) × (others ≡ keys ++ after) × P rest
@@ -131,7 +154,7 @@ no_head_fault s order keys head text position is fault =
           fault.stops byte (more ++ text) more rest (keys, subst (IsHead s keys) longer is.is_head)
     ]
 
--- no order goes on behind the place of a fault
+-- no order goes on after the position of a fault
 not_later : (s : Day) (order : List ℕ) (one other byte : ℕ) (more : List ℕ) (a : IsHeadFault s order one)
     (b : IsHeadFault s order other) → b.before ≡ a.before ++ byte ∷ more → ¬ (a.rest ≡ byte ∷ (more ++ b.rest))
 not_later s order one other byte more a b longer rest =
@@ -159,7 +182,8 @@ first_keys_fault s keys fault other a b =
     (suits_or_not s a.unsuited _ fault a.is) (suits_or_not s b.unsuited _ other b.is) (sym a.joined ∙ b.joined) in
     grind (arith, same, one_keys_fault s (length b.before + 1) b.unsuited fault other)
 
-pub no_keys_fault : (s : Day) (keys : List Keys) (fault : FormFault) → All (Suits s) keys → ¬ (IsFirstKeysFault s keys fault)
+pub no_keys_fault : (s : Day) (keys : List Keys) (fault : FormFault) → All (Suits s) keys
+    → ¬ (IsFirstKeysFault s keys fault)
 no_keys_fault s keys fault all is = grind (arith, same_front (Suits s) keys is.before, append-nil keys)
 
 -- ---- faults in the text
@@ -169,9 +193,9 @@ one_bad_byte text place other a b =
     let same = same_front (λ x. IsTrue (is_text_byte x)) a.before b.before (a.byte ∷ a.rest) (b.byte ∷ b.rest) in
     grind (arith, same, false≢true, a.bad, b.bad, a.joined, b.joined, a.size, b.size)
 
--- behind bytes that are allowed
-pub bad_behind : (front rest : List ℕ) (byte : ℕ) → All (λ b. IsTrue (is_text_byte b)) front → IsFalse (is_text_byte byte)
-    → IsBadAt (front ++ byte ∷ rest) (length front)
+-- the first byte that isn't allowed, after bytes that are
+pub bad_behind : (front rest : List ℕ) (byte : ℕ) → All (λ b. IsTrue (is_text_byte b)) front
+    → IsFalse (is_text_byte byte) → IsBadAt (front ++ byte ∷ rest) (length front)
 bad_behind front rest byte allowed bad = grind arith
 
 pub bad_longer : (text more : List ℕ) (place : ℕ) → IsBadAt text place → IsBadAt (text ++ more) place
@@ -179,26 +203,29 @@ bad_longer text more place bad = grind (arith, append_assoc {A = ℕ})
 
 pub no_bad_byte : (text : List ℕ) (place : ℕ) → All (λ x. IsTrue (is_text_byte x)) text → ¬ (IsBadAt text place)
 no_bad_byte text place all is =
-    let same = same_front (λ x. IsTrue (is_text_byte x)) text is.before [] (is.byte ∷ is.rest) all is.allowed tt (λ good. false≢true (sym is.bad ∙ good))
+    let same =
+    same_front (λ x. IsTrue (is_text_byte x)) text is.before [] (is.byte ∷ is.rest) all is.allowed tt
+    (λ good. false≢true (sym is.bad ∙ good))
     (append-nil text ∙ is.joined) in cc (same.1)
 
 -- ---- one answer
 
--- with these keys and this text: for the number of letters, a refusal or a form
+-- the answer for an order with these keys and this text, by the number of letters
 abbrev pub IsSizeAnswer : Day → List Keys → List ℕ → Answer → Type 0
 IsSizeAnswer s keys letters =
     IsJudged (letters ≢ []) (Err EmptyText) (IsJudged (parts_needed s (length letters) ≡ length keys)
     (Err (PartKeys (parts_needed s (length letters)) (length keys)))
     (IsFound (AreMadeTexts s 1 (length keys) keys (pieces (part_size s) letters)) (λ form v. v ≡ Ok form)))
 
--- before that, a refusal for the keys or for a byte of the text
+-- the answer by the keys and the bytes of the text, before the number of letters counts
 abbrev pub IsLaterAnswer : Day → List Keys × List ℕ × List ℕ → Answer → Type 0
 IsLaterAnswer s (keys, head, text) =
     IsCaught (IsFirstKeysFault s keys) (λ fault. Err fault) (All (Suits s) keys)
-    (IsCaught (IsBadAt text) (λ place. Err (BadByte (length head + place + 1))) (All (λ b. IsTrue (is_text_byte b)) text)
+    (IsCaught (IsBadAt text) (λ place. Err (BadByte (length head + place + 1)))
+    (All (λ b. IsTrue (is_text_byte b)) text)
     (IsSizeAnswer s keys (text_letters s text)))
 
--- and before that, for the head
+-- the answer by the head, before keys and text count
 abbrev pub IsOrderAnswer : Day → List ℕ → Answer → Type 0
 IsOrderAnswer s order v =
     IsFound (IsHeadFault s order) (λ position w. w ≡ Err (BadByte position)) v
@@ -208,14 +235,17 @@ pub only_order : (s : Day) (order : List ℕ) → IsOnly (IsOrderAnswer s order)
 only_order s order =
     only_either (only_found (one_place s order) (λ position. only_this))
     (only_found (λ x y a b. grind (arith, one_order s order x.0 y.0 x.1 y.1 x.2 y.2 a b))
-    (λ (keys, head, text). only_caught (first_keys_fault s keys) (no_keys_fault s keys) (only_caught (one_bad_byte text) (no_bad_byte text)
-    (only_judged (only_judged (only_found (one_form s 1 (length keys) keys (pieces (part_size s) (text_letters s text))) (λ form. only_this)))))))
+    (λ (keys, head, text). only_caught (first_keys_fault s keys) (no_keys_fault s keys)
+    (only_caught (one_bad_byte text) (no_bad_byte text)
+    (only_judged (only_judged (only_found (one_form s 1 (length keys) keys (pieces (part_size s) (text_letters s text)))
+    (λ form. only_this)))))))
     (λ v w a b. no_head_fault s order b.0.0 b.0.1 b.0.2 a.0 b.1 a.1)
 
 pub form_answer : (s : Day) (order form : List ℕ) → IsFormOf s order form → IsOrderAnswer s order (Ok form)
 form_answer s order form a = inr ((a.keys, a.head, a.text), a.sendable.is_order, grind arith)
 
-pub fault_answer : (s : Day) (order : List ℕ) (fault : FormFault) → IsSendFault s order fault → IsOrderAnswer s order (Err fault)
+pub fault_answer : (s : Day) (order : List ℕ) (fault : FormFault) → IsSendFault s order fault
+    → IsOrderAnswer s order (Err fault)
 fault_answer s order fault (inl (InHead position is few e)) = inl (position, is, ap Err e)
 fault_answer s order fault (inl (InKeys keys head text is k)) = inr ((keys, head, text), is, inl (fault, k, refl))
 fault_answer s order fault (inl (InText keys head text place is suited bad e)) =
@@ -224,7 +254,7 @@ fault_answer s order fault (inr (Cut is e)) = inl (length order + 1, is, ap Err 
 fault_answer s order fault (inr (NoLetter ks hd t is none e)) = inr ((ks, hd, t), is.is_order, grind arith)
 fault_answer s order fault (inr (InParts ks hd t is some differ e)) = inr ((ks, hd, t), is.is_order, grind arith)
 
--- nothing stands in an order whose keys suit and whose text is allowed so far
+-- no fault stands in an order whose keys suit and whose text is allowed so far
 pub nothing_stands : (s : Day) (order : List ℕ) (keys : List Keys) (head text : List ℕ) (fault : FormFault)
     → IsSendable s order keys head text → ¬ (StandsInOrder s order fault)
 nothing_stands s order keys head text fault is (InHead p h few e) = no_head_fault s order keys head text p is.is_order h
@@ -233,7 +263,7 @@ nothing_stands s order keys head text fault is (InKeys ks hd t q k) =
 nothing_stands s order keys head text fault is (InText ks hd t n q su b e) =
     no_bad_byte t n (rw ((one_order s order keys ks head hd text t is.is_order q).2) at is.allowed) b
 
--- and in one that ends in its head
+-- no fault stands in an order that ends in its head
 pub nothing_stands_yet : (s : Day) (order : List ℕ) (fault : FormFault) → IsHeadFault s order (length order + 1)
     → ¬ (StandsInOrder s order fault)
 nothing_stands_yet s order fault cut (InHead p h few e) = omega (arith, one_place s order (length order + 1) p cut h)

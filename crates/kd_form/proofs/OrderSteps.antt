@@ -1,18 +1,33 @@
--- The reader of an order, byte by byte, and at the end.
-pub use Rattle.kd_form.proofs.Prelude.{append-nil, length-take, [], ◌≡◌, ◌≢◌, ℕ, zero, suc, ◌+◌, ◌*◌, ◌<◌, ◌≤◌, inl, inr, List, ◌∷◌, ◌++◌, Some, length, take, drop, refl, sym, ap, ◌∙◌, append_assoc, length-append, length-drop, arith, get_or, Option, Result, Ok, Err, IsTrue, slice_get, codes, All, MatchResult, div_ceil, take_all, drop_all, drop-take, drop-drop, take-take, take_more, length-take-le, Day, Keys, pieces, IsMadeText, part_size, Suits, parts_needed, AreMadeTexts, letters_from, text_letters, IsFirstKeysFault, StandsInOrder, InHead, InKeys, InText, NoLetter, InParts, CanBeWritten, IsSentBefore, orders, AreTaken, IsHeadRead, IsHeadLine, IsTextRead, IsLastTaken, IsFresh, IsOpen, IsOrderRead, IsStageRead, All-nil, Unread, AreKeys, IsPatternLine, BreaksOff, key_pattern, key_words, line_of, IsEnded, IsKeyLine, BeginsWithKeys, IsAnyHead, IsHead, IsOrder, IsHeadFault, is_text_byte, FormFault, IsRefused, Closes, Held, IsAnyKeyLine, common_steps, BadByte, Cut, blank_of, All-push, filter_map-append, ◌-◌, cases_lt, drop_at, le_of_mul-le-mul_left, take_at}
+-- What the reader of an order holds after one more byte, and its answer at the end.
+pub use Rattle.kd_form.proofs.Prelude.{append-nil, length-take, [], ◌≡◌, ◌≢◌, ℕ, zero, suc, ◌+◌, ◌*◌, ◌<◌, ◌≤◌, inl}
+pub use Rattle.kd_form.proofs.Prelude.{inr, List, ◌∷◌, ◌++◌, Some, length, take, drop, refl, sym, ap, ◌∙◌, append_assoc}
+pub use Rattle.kd_form.proofs.Prelude.{length-append, length-drop, arith, get_or, Option, Result, Ok, Err, IsTrue}
+pub use Rattle.kd_form.proofs.Prelude.{slice_get, codes, All, MatchResult, div_ceil, take_all, drop_all, drop-take}
+pub use Rattle.kd_form.proofs.Prelude.{drop-drop, take-take, take_more, length-take-le, Day, Keys, pieces, IsMadeText}
+pub use Rattle.kd_form.proofs.Prelude.{part_size, Suits, parts_needed, AreMadeTexts, letters_from, text_letters}
+pub use Rattle.kd_form.proofs.Prelude.{IsFirstKeysFault, StandsInOrder, InHead, InKeys, InText, NoLetter, InParts}
+pub use Rattle.kd_form.proofs.Prelude.{CanBeWritten, IsSentBefore, orders, AreTaken, IsHeadRead, IsHeadLine, IsTextRead}
+pub use Rattle.kd_form.proofs.Prelude.{IsLastTaken, IsFresh, IsOpen, IsOrderRead, IsStageRead, All-nil, Unread, AreKeys}
+pub use Rattle.kd_form.proofs.Prelude.{IsPatternLine, BreaksOff, key_pattern, key_words, line_of, IsEnded, IsKeyLine}
+pub use Rattle.kd_form.proofs.Prelude.{BeginsWithKeys, IsAnyHead, IsHead, IsOrder, IsHeadFault, is_text_byte, FormFault}
+pub use Rattle.kd_form.proofs.Prelude.{IsRefused, Closes, Held, IsAnyKeyLine, common_steps, BadByte, Cut, blank_of}
+pub use Rattle.kd_form.proofs.Prelude.{All-push, filter_map-append, ◌-◌, cases_lt, drop_at, le_of_mul-le-mul_left}
+pub use Rattle.kd_form.proofs.Prelude.{take_at}
 use Rattle.std.proofs.lemmas.{Grind.div_ceil_times, Option.slice_get_within, Option.get_or_from_slice_get}
 use Rattle.kd_form.specs.declared.{order_reader.parts.PartWriter.PartWriter, order_reader.head.HeadReader.HeadReader}
 use Rattle.kd_form.specs.declared.{order_reader.OrderReader.OrderReader, order_reader.Stage.Stage}
 pub use Rattle.kd_form.proofs.MadeParts.{pieces-next, pieces-none, size_some}
-use Rattle.kd_form.proofs.Lines.{length-filled, as_form_line, key_first, lines_more, same_line, text_front, text_line, IsPlain, letters_first, plain_keys, plain_text}
-pub use Rattle.kd_form.proofs.OneOrder.{Shorter, Longer, all_of_the_day, fronts, no_head_fault, no_keys_fault, nothing_stands, nothing_stands_yet, one_order, bad_longer, bad_behind, behind}
+use Rattle.kd_form.proofs.Lines.{length-filled, as_form_line, key_first, lines_more, same_line, text_front, text_line}
+use Rattle.kd_form.proofs.Lines.{IsPlain, letters_first, plain_keys, plain_text}
+pub use Rattle.kd_form.proofs.OneOrder.{Shorter, Longer, all_of_the_day, fronts, no_head_fault, no_keys_fault}
+pub use Rattle.kd_form.proofs.OneOrder.{nothing_stands, nothing_stands_yet, one_order, bad_longer, bad_behind, behind}
 use Rattle.kd_form.specs.declared.pattern_line.Unread.TheVariants as unread
 use Rattle.kd_form.specs.declared.order_reader.Stage.TheVariants as stages
 use Rattle.kd_form.specs.SendStream as stream
 
 -- -------- the parts of an order, letter by letter
 
--- the pieces of letters that have a last piece behind so many whole ones
+-- the pieces of letters that make `k` whole pieces and a last one
 pieces_more : (size k : ℕ) (letters : List ℕ) → 0 < size → size * k < length letters → length letters ≤ size * k + size
     → pieces size letters ≡ pieces size (take (size * k) letters) ++ drop (size * k) letters ∷ []
 pieces_more size zero letters large some few = grind (arith, pieces-next, take_all, drop_all, pieces-none)
@@ -40,7 +55,7 @@ last_number size (suc other) letters written large some can needed =
 module _ (s : Day) (keys : List Keys) (w : PartWriter) (k : Keys) (letters sent one : List ℕ)
     (is : AreTaken s keys w letters sent) (found : slice_get keys w.written ≡ Some k)
     (made : IsMadeText s (w.written + 1) (length keys) k w.letters.items one) where
-  -- the letters that are kept become the next part
+  -- the kept letters become the next part
   pub part_more : part_size s * w.written < length letters → length letters ≤ part_size s * w.written + part_size s
       → AreMadeTexts s 1 (length keys) (take (w.written + 1) keys) (pieces (part_size s) letters) (sent ++ one)
   part_more some few =
@@ -49,7 +64,7 @@ module _ (s : Day) (keys : List Keys) (w : PartWriter) (k : Keys) (letters sent 
       rw (take_more keys w.written k inside, get_or_from_slice_get keys w.written k k found)
       (grind (arith, pieces_more (part_size s) w.written letters, size_some s, made_more, is.made, length-take-le))
 
-  -- the end shows that it is the last one
+  -- at the end, the kept letters become the last part
   pub last_written : w.count ≢ 0 → div_ceil w.count (part_size s) ≡ length keys
       → (letters ≢ []) × (parts_needed s (length letters) ≡ length keys)
       × AreMadeTexts s 1 (length keys) keys (pieces (part_size s) letters) (sent ++ one)
@@ -60,7 +75,7 @@ module _ (s : Day) (keys : List Keys) (w : PartWriter) (k : Keys) (letters sent 
 -- -------- an order up to its text, byte by byte
 
 module _ (s : Day) (count : ℕ) where
-  -- its first byte tells whether it is a line of keys
+  -- the first byte tells whether a line is a line of keys
   pub next_keys : (line : List ℕ) (why : Unread) → get_or line 0 0 ≡ 80 → count < 99
       → BreaksOff (IsAnyKeyLine s) line why → BreaksOff (IsHeadLine s count) line why
   next_keys line unread.Open first room (more, some, key) = (more, some, inl (key, room))
@@ -80,14 +95,14 @@ module _ (s : Day) (count : ℕ) where
   next_plain line (inl key) = (line_of (key_words key.0.keys), plain_keys key.0.keys, key.0.keyed)
   next_plain line (inr text) = (codes "TEXT", plain_text (codes "TEXT") refl, text)
 
-  -- no such line begins another one
+  -- no line of a head begins another one
   next_whole : (line more : List ℕ) → IsHeadLine s count line → IsHeadLine s count (line ++ more) → more ≡ []
   next_whole line more one other =
       let (text, plain, ended) = next_plain line one in
       let (longer, also, end) = next_plain (line ++ more) other in
       (same_line text longer line (line ++ more) more [] plain also ended end (sym (append-nil (line ++ more)))).2
 
-  -- where one goes on with these bytes and none with one more, none stands in front of what goes on with that
+  -- if a line goes on with these bytes, and none does with one more, no line is a prefix of what follows
   pub no_next : (line other one left : List ℕ) (byte : ℕ) → BreaksOff (IsHeadLine s count) line unread.Open
       → BreaksOff (IsHeadLine s count) (line ++ byte ∷ []) unread.Off → IsHeadLine s count one
       → ¬ (line ++ byte ∷ other ≡ one ++ left)
@@ -100,7 +115,7 @@ module _ (s : Day) (count : ℕ) where
         cc
   ]
 
--- lines of keys and the line TEXT begin with the next line
+-- the lines of keys and the line TEXT begin with the next line
 pub head_next : (s : Day) (count : ℕ) (keys : List Keys) (bytes : List ℕ) → count + length keys ≤ 99
     → BeginsWithKeys s keys (IsEnded (codes "TEXT")) bytes
     → (line rest : List ℕ) × IsHeadLine s count line × (bytes ≡ line ++ rest)
@@ -114,7 +129,7 @@ module _ (s : Day) (keys : List Keys) (line order : List ℕ) (is : IsHeadRead s
   pub text_head : (more : List ℕ) → IsEnded (codes "TEXT") (line ++ more) → IsHead s keys (order ++ more)
   text_head more ended = grind (arith, append-nil keys, lines_more)
 
-  -- behind one line of keys more
+  -- after one more line of keys
   pub one_more : (Q : List ℕ → Type 0) (k : Keys) (more end : List ℕ) → AreKeys s k → IsKeyLine k (line ++ more) → Q end
       → BeginsWithKeys s (keys ++ k ∷ []) Q (order ++ (more ++ end))
   one_more Q k more end are keyed holds = grind (arith, lines_more, append_assoc)
@@ -137,7 +152,7 @@ module _ (s : Day) (keys : List Keys) (line order : List ℕ) (is : IsHeadRead s
       → IsHeadRead s keys (line ++ byte ∷ []) (order ++ byte ∷ [])
   head_open byte begins = grind (arith, append-nil keys, lines_more)
 
--- -------- what the reader of an order shows: what is refused, and what is sent by then
+-- -------- the faults that the reader of an order has found, and what is sent by then
 
 pub letters_few : (blank : Option ℕ) (text : List ℕ) → length (letters_from blank text) ≤ length text
 letters_few blank [] = omega arith
@@ -178,7 +193,7 @@ module _ (s : Day) where
     written = written;
   }
 
-  -- ---- where the reader stands
+  -- ---- how far the reader has read
 
   text_sent : (keys : List Keys) (w : PartWriter) (order sent : List ℕ) → IsTextRead s keys w order sent
       → IsSentBefore s order sent
@@ -204,7 +219,7 @@ module _ (s : Day) where
 
   -- ---- in the text
 
-  -- the keys of an order are there, and its text may begin
+  -- the head of an order is complete, and its text may begin
   pub text_begins : (r : OrderReader) (order text sent : List ℕ) (answer : Result (Unit {0}) FormFault)
       → r.stage ≡ stages.Text → r.read ≡ length order → IsOrder s order r.head.keys.items order [] → IsFresh r.parts
       → text ≡ [] → sent ≡ []

@@ -1,19 +1,32 @@
--- Bytes that are fed one after another, reads that follow one another, and texts that are typed so.
-pub use Rattle.kd_form.proofs.Prelude.{err_is, append-nil, take-append-drop, AtSource, InFeeding, IsStopped, [], ◌≡◌, ℕ, ◌+◌, ◌-◌, ◌≤◌, ◌<◌, Bool, true, false, ◌||◌, List, ◌++◌, Option, Some, Result, Ok, Err, length, take, drop, IsTrue, refl, sym, ap, subst, ◌∙◌, append_assoc, length-append, length-drop, arith, Appends, Consumes, Keeps, IsAtEnd, starts_with_of_append, read_limit, Port, IsWell, Ends, TakesFront, FormFault, Message, ByThen, ByTheEnd, Answers, Whole, Stands, AtEnd, SinkFails, IsStreamed, FallsShort, ClosesAt, Held, HasRoom, IsFed, FeedsAll, EndsIn, ClosesAs, IsRead, ReadsNext, fault_of, answer_to, stops_at_device, length-take-le, ◌∷◌, IsFalse, get_or, suc, drop-cons, map-append, take_all, All-append, filter_map-append, is_text_byte, Parts, cipher_in_turn, engine_cipher, cipher, physical_cipher, BadByte, IsRefused, cipher_text, texts, IsTextFault, Lights, IsAllowedTo, IsTypedTo, take_more, rules, TooLong, port, All-nil, letters_text, typed_letters, false≢true, NotReady, Off}
-pub use Rattle.std.proofs.KnownBytes.{Consumes-nil, Consumes-kept, Consumes-trans, Appends-nil, Appends-trans, starts_with_rest}
+-- Feeding bytes one after another, reading piece after piece, and typing a text so.
+pub use Rattle.kd_form.proofs.Prelude.{err_is, append-nil, take-append-drop, AtSource, InFeeding, IsStopped, [], ◌≡◌, ℕ}
+pub use Rattle.kd_form.proofs.Prelude.{◌+◌, ◌-◌, ◌≤◌, ◌<◌, Bool, true, false, ◌||◌, List, ◌++◌, Option, Some, Result}
+pub use Rattle.kd_form.proofs.Prelude.{Ok, Err, length, take, drop, IsTrue, refl, sym, ap, subst, ◌∙◌, append_assoc}
+pub use Rattle.kd_form.proofs.Prelude.{length-append, length-drop, arith, Appends, Consumes, Keeps, IsAtEnd}
+pub use Rattle.kd_form.proofs.Prelude.{starts_with_of_append, read_limit, Port, IsWell, Ends, TakesFront, FormFault}
+pub use Rattle.kd_form.proofs.Prelude.{Message, ByThen, ByTheEnd, Answers, Whole, Stands, AtEnd, SinkFails, IsStreamed}
+pub use Rattle.kd_form.proofs.Prelude.{FallsShort, ClosesAt, Held, HasRoom, IsFed, FeedsAll, EndsIn, ClosesAs, IsRead}
+pub use Rattle.kd_form.proofs.Prelude.{ReadsNext, fault_of, answer_to, stops_at_device, length-take-le, ◌∷◌, IsFalse}
+pub use Rattle.kd_form.proofs.Prelude.{get_or, suc, drop-cons, map-append, take_all, All-append, filter_map-append}
+pub use Rattle.kd_form.proofs.Prelude.{is_text_byte, Parts, cipher_in_turn, engine_cipher, cipher, physical_cipher}
+pub use Rattle.kd_form.proofs.Prelude.{BadByte, IsRefused, cipher_text, texts, IsTextFault, Lights, IsAllowedTo}
+pub use Rattle.kd_form.proofs.Prelude.{IsTypedTo, take_more, rules, TooLong, port, All-nil, letters_text, typed_letters}
+pub use Rattle.kd_form.proofs.Prelude.{false≢true, NotReady, Off}
+pub use Rattle.std.proofs.KnownBytes.{Consumes-nil, Consumes-kept, Consumes-trans, Appends-nil, Appends-trans}
+pub use Rattle.std.proofs.KnownBytes.{starts_with_rest}
 use Rattle.{kd_form.proofs.OneOrder.{bad_behind, no_bad_byte}, std.specs.Io.StartsWith}
 use Rattle.kd_form.specs.{StreamSteps.Ends as MessageEnds, declared.{stream.stop.Stop.Stop, typing.Typist.Typist}}
 use Rattle.kd_form.specs.declared.stream.stop.Stop.TheVariants as stops
 
--- what is known of a port, in its order
+-- a port, by its bytes and its failure before and after a call
 abbrev pub over : Option (List ℕ) → Option (List ℕ) → Bool → Bool → Port
 over had has before after = record { had = had; has = has; had_failed = before; has_failed = after }
 
--- a failed call leaves the flag up
+-- after a failed call, the port has failed
 failed_now : (before after : Bool) → after ≡ (before || true) → IsTrue after
 failed_now before after e = grind arith
 
--- a call that did not fail leaves the flag as it was
+-- a call that didn't fail leaves the failure as it was
 pub well_now : (before after : Bool) → after ≡ (before || false) → after ≡ before
 well_now before after e = grind arith
 
@@ -23,66 +36,87 @@ all_of_it xs = starts_with_of_append xs xs [] (sym (append-nil xs))
 starts_longer : (bytes more front : List ℕ) → StartsWith bytes front → StartsWith (bytes ++ more) front
 starts_longer bytes more front starts =
     let rest = starts_with_rest bytes front starts in
-    starts_with_of_append (bytes ++ more) front (drop (length front) bytes ++ more) (ap (λ l. l ++ more) rest ∙ append_assoc front (drop (length front) bytes) more)
+    starts_with_of_append (bytes ++ more) front (drop (length front) bytes ++ more)
+    (ap (λ l. l ++ more) rest ∙ append_assoc front (drop (length front) bytes) more)
 
--- less of what was made was put, so less of what was due
+-- if only a prefix of what was made was put, what was put falls short of what was due
 pub short_of : (text made : List ℕ) (count : ℕ) → count < length made
     → FallsShort (text ++ made) (text ++ take count made)
 short_of text made count less = grind (arith, length-drop {A = ℕ}, take-append-drop {A = ℕ}, append_assoc {A = ℕ})
 
 -- ---- byte after byte
 
--- what was made of a byte was put in part
-pub fed_in_part : (m : Message) (new : List ℕ → List ℕ → Type 0) (bytes text made : List ℕ) (took wrote : Option (List ℕ)) (d f : Bool)
-    → Held m new bytes (text ++ made) → TakesFront took wrote made → IsFed m new bytes text (over took wrote d f) (Err stops.Device)
+-- only a prefix of what a byte gave was put
+pub fed_in_part : (m : Message) (new : List ℕ → List ℕ → Type 0) (bytes text made : List ℕ)
+    (took wrote : Option (List ℕ)) (d f : Bool)
+    → Held m new bytes (text ++ made) → TakesFront took wrote made
+    → IsFed m new bytes text (over took wrote d f) (Err stops.Device)
 fed_in_part m new bytes text made took wrote d f held part = grind (arith, all_of_it, short_of)
 
-pub fed_none : (m : Message) (old : List ℕ → List ℕ → Type 0) (took : Option (List ℕ)) (d : Bool) → FeedsAll m old old [] (over took took d d) (Ok tt)
+pub fed_none : (m : Message) (old : List ℕ → List ℕ → Type 0) (took : Option (List ℕ)) (d : Bool)
+    → FeedsAll m old old [] (over took took d d) (Ok tt)
 fed_none m old took d bytes text held = grind (arith, Appends-nil, append-nil {A = ℕ})
 
--- one byte more
-pub fed_next : (m : Message) (old now new : List ℕ → List ℕ → Type 0) (front next : List ℕ) (took taken wrote : Option (List ℕ)) (d e f : Bool)
-    (answer : Result (Unit {0}) Stop) → FeedsAll m old now front (over took taken d e) (Ok tt) → FeedsAll m now new next (over taken wrote e f) answer
+-- bytes are fed, and then the next ones
+pub fed_next : (m : Message) (old now new : List ℕ → List ℕ → Type 0) (front next : List ℕ)
+    (took taken wrote : Option (List ℕ)) (d e f : Bool)
+    (answer : Result (Unit {0}) Stop) → FeedsAll m old now front (over took taken d e) (Ok tt)
+    → FeedsAll m now new next (over taken wrote e f) answer
     → FeedsAll m old new (front ++ next) (over took wrote d f) answer
-fed_next m old now new front next took taken wrote d e f answer before after bytes text held = grind (arith, Appends-trans, append_assoc {A = ℕ})
+fed_next m old now new front next took taken wrote d e f answer before after bytes text held =
+    grind (arith, Appends-trans, append_assoc {A = ℕ})
 
 -- ---- room for more bytes
 
-pub room_for : (m : Message) (holds : List ℕ → List ℕ → Type 0) (room less : ℕ) → less ≤ room → HasRoom m holds room → HasRoom m holds less
-room_for m holds room less few has = record { bytes = has.bytes; text = has.text; held = has.held; within = omega (arith, has.within, few) }
+pub room_for : (m : Message) (holds : List ℕ → List ℕ → Type 0) (room less : ℕ) → less ≤ room → HasRoom m holds room
+    → HasRoom m holds less
+room_for m holds room less few has =
+    record { bytes = has.bytes; text = has.text; held = has.held; within = omega (arith, has.within, few) }
 
--- behind the bytes that were fed
-pub room_less : (m : Message) (old new : List ℕ → List ℕ → Type 0) (more : List ℕ) (sink : Port) (room less : ℕ) → length more + less ≤ room → HasRoom m old room
-    → FeedsAll m old new more sink (Ok tt) → HasRoom m new less
+-- the room left after the bytes that were fed
+pub room_less : (m : Message) (old new : List ℕ → List ℕ → Type 0) (more : List ℕ) (sink : Port) (room less : ℕ)
+    → length more + less ≤ room → HasRoom m old room → FeedsAll m old new more sink (Ok tt) → HasRoom m new less
 room_less m old new more sink room less few has fed = grind (arith, length-append {A = ℕ})
 
--- the bytes before a place, the one there, and those behind it
+-- the bytes before a place, the byte there, and the bytes after it
 pub up_to : (bytes : List ℕ) (place : ℕ) → place < length bytes
     → take place bytes ++ get_or bytes place 0 ∷ [] ++ drop (suc place) bytes ≡ bytes
 up_to bytes place inside = grind (arith, append_assoc, drop-cons, take-append-drop)
 
--- the same of bytes that are the same
-pub fed_whole : (m : Message) (old new : List ℕ → List ℕ → Type 0) (front whole : List ℕ) (sink : Port) (answer : Result (Unit {0}) Stop) → front ≡ whole
+-- feeding, with equal bytes in the place of the bytes fed
+pub fed_whole : (m : Message) (old new : List ℕ → List ℕ → Type 0) (front whole : List ℕ) (sink : Port)
+    (answer : Result (Unit {0}) Stop) → front ≡ whole
     → FeedsAll m old new front sink answer → FeedsAll m old new whole sink answer
 fed_whole m old new front whole sink answer same fed = subst (λ all. FeedsAll m old new all sink answer) same fed
 
--- once it stopped, it says so of all bytes
-pub fed_up_to : (m : Message) (old new : List ℕ → List ℕ → Type 0) (front more : List ℕ) (sink : Port) (stop : Stop) → FeedsAll m old new front sink (Err stop)
-    → FeedsAll m old new (front ++ more) sink (Err stop)
+-- a stop on some bytes is the stop on all bytes
+pub fed_up_to : (m : Message) (old new : List ℕ → List ℕ → Type 0) (front more : List ℕ) (sink : Port) (stop : Stop)
+    → FeedsAll m old new front sink (Err stop) → FeedsAll m old new (front ++ more) sink (Err stop)
 fed_up_to m old new front more sink stop fed bytes text held = grind (arith, append_assoc, starts_longer)
 
 -- ---- a read
 
 -- the source failed
-pub read_failed : (m : Message) (new : List ℕ → List ℕ → Type 0) (bytes text : List ℕ) (room : ℕ) (had has took : Option (List ℕ)) (a c d : Bool)
+pub read_failed : (m : Message) (new : List ℕ → List ℕ → Type 0) (bytes text : List ℕ) (room : ℕ)
+    (had has took : Option (List ℕ)) (a c d : Bool)
     → Held m new bytes text → length bytes + room ≤ read_limit → Keeps had has → c ≡ (a || true)
     → IsRead m new bytes text room (over had has a c) (over took took d d) (Err stops.Device)
 read_failed m new bytes text room had has took a c d held few kept up =
-    grind (arith, AtSource, failed_now, Consumes-kept had had has [], Consumes-nil had, Appends-nil took, append-nil {A = ℕ})
+    grind (
+      arith,
+      AtSource,
+      failed_now,
+      Consumes-kept had had has [],
+      Consumes-nil had,
+      Appends-nil took,
+      append-nil {A = ℕ},
+    )
 
--- what was fed of a read stopped
-pub read_stopped : (m : Message) (old new : List ℕ → List ℕ → Type 0) (bytes text more : List ℕ) (room : ℕ) (had has took wrote : Option (List ℕ)) (a c d f : Bool) (stop : Stop)
-    → Held m old bytes text → length bytes + room ≤ read_limit → length more ≤ room → Consumes had has more → c ≡ (a || false)
+-- feeding the bytes of a read stopped
+pub read_stopped : (m : Message) (old new : List ℕ → List ℕ → Type 0) (bytes text more : List ℕ) (room : ℕ)
+    (had has took wrote : Option (List ℕ)) (a c d f : Bool) (stop : Stop)
+    → Held m old bytes text → length bytes + room ≤ read_limit → length more ≤ room → Consumes had has more
+    → c ≡ (a || false)
     → FeedsAll m old new more (over took wrote d f) (Err stop) → f ≡ (d || stops_at_device {T = Unit {0}} (Err stop))
     → IsRead m new bytes text room (over had has a c) (over took wrote d f) (Err stop)
 read_stopped m old new bytes text more room had has took wrote a c d f stop held few inside given well fed up =
@@ -90,7 +124,7 @@ read_stopped m old new bytes text more room had has took wrote a c d f stop held
 
 -- ---- read after read
 
--- so many bytes were read, the reader holds them, and no port failed
+-- `count` bytes were read, the reader holds them, and no port has failed
 pub record SoFar (m : Message) (holds : List ℕ → List ℕ → Type 0) (source sink : Port) (count : ℕ) : Type 0 where
   pub read : List ℕ
   pub text : List ℕ
@@ -106,25 +140,30 @@ pub SoFar-room : (m : Message) (holds : List ℕ → List ℕ → Type 0) (sourc
     → room ≤ read_limit → HasRoom m holds room
 SoFar-room m holds source sink count room before few = grind arith
 
--- the answer where a read stops, by the ports since an earlier time, since which they didn't fail
-stopped : (m : Message) (new : List ℕ → List ℕ → Type 0) (read text : List ℕ) (had has next took taken wrote : Option (List ℕ)) (a b c d e f : Bool) (stop : Stop)
-    → b ≡ a → e ≡ d → length read ≤ read_limit → IsStopped m new (over has next b c) (over taken wrote e f) read text stop
+-- the answer when a read stops, if the ports didn't fail since an earlier time
+stopped : (m : Message) (new : List ℕ → List ℕ → Type 0) (read text : List ℕ)
+    (had has next took taken wrote : Option (List ℕ)) (a b c d e f : Bool) (stop : Stop)
+    → b ≡ a → e ≡ d → length read ≤ read_limit
+    → IsStopped m new (over has next b c) (over taken wrote e f) read text stop
     → Answers m (over had next a c) (over took wrote d f) read text (Err (fault_of stop))
 stopped m new read text had has next took taken wrote a b c d e f stop p q few (AtSource open' fails is) = grind arith
 stopped m new read text had has next took taken wrote a b c d e f (stops.Refused fault) p q few (InFeeding is well up) =
     Stands fault few (subst (λ b. m.stands b fault) (append-nil read) (is.stands []))
     (subst (λ b. m.before (Some fault) b text) (append-nil read) (is.written [])) (well ∙ p, well_now e f up ∙ q) refl
 stopped m new read text had has next took taken wrote a b c d e f stops.Device p q few (InFeeding is well up) =
-    SinkFails is.due few (ByThen is.front is.of_bytes is.open_yet) is.of_due (record { failed = failed_now e f up; well = well ∙ p }) refl
+    SinkFails is.due few (ByThen is.front is.of_bytes is.open_yet) is.of_due
+    (record { failed = failed_now e f up; well = well ∙ p }) refl
 
--- A step behind what was read, by what is known of the ports at the start, between and behind it.
-module _ (m : Message) (old new : List ℕ → List ℕ → Type 0) (had has next took taken wrote : Option (List ℕ)) (a b c d e f : Bool) (count room : ℕ)
+-- One more read after those so far, by the ports at the start, in between, and after it.
+module _ (m : Message) (old new : List ℕ → List ℕ → Type 0) (had has next took taken wrote : Option (List ℕ))
+    (a b c d e f : Bool) (count room : ℕ)
     (before : SoFar m old (over had has a b) (over took taken d e) count) (space : room ≡ read_limit - count) where
   pub SoFar-read : (n : ℕ) → ReadsNext m old new room (over has next b c) (over taken wrote e f) (Ok n)
       → SoFar m new (over had next a c) (over took wrote d f) (count + n) × (n ≡ 0 → IsAtEnd next)
   SoFar-read n reads = grind (arith, length-append {A = ℕ}, Consumes-trans, Appends-trans)
 
-  pub IsStreamed-stopped : (stop : Stop) (fault : FormFault) → fault ≡ fault_of stop → ReadsNext m old new room (over has next b c) (over taken wrote e f) (Err stop)
+  pub IsStreamed-stopped : (stop : Stop) (fault : FormFault) → fault ≡ fault_of stop
+      → ReadsNext m old new room (over has next b c) (over taken wrote e f) (Err stop)
       → IsStreamed m (over had next a c) (over took wrote d f) (Err fault)
   IsStreamed-stopped stop fault is reads =
       let step = reads before.read before.text before.held (omega (arith, before.counted, before.within, space)) in
@@ -134,28 +173,34 @@ module _ (m : Message) (old new : List ℕ → List ℕ → Type 0) (had has nex
         given = Consumes-trans had has next before.read step.more before.given step.given;
         written = Appends-trans took taken wrote before.text step.made before.written step.written;
         answers = rw is (stopped m new _ _ had has next took taken wrote a b c d e f stop before.well.0 before.well.1
-            (omega (arith, length-append before.read step.more, before.counted, before.within, space, step.within)) step.read);
+            (omega (arith, length-append before.read step.more, before.counted, before.within, space, step.within))
+            step.read);
       }
 
 -- ---- the end
 
--- what was left of a message was put in part
-pub closed_in_part : (m : Message) (old : List ℕ → List ℕ → Type 0) (made : List ℕ) (took wrote : Option (List ℕ)) (d f : Bool) (answer : Result (Unit {0}) FormFault)
+-- only a prefix of what was left of a message was put
+pub closed_in_part : (m : Message) (old : List ℕ → List ℕ → Type 0) (made : List ℕ) (took wrote : Option (List ℕ))
+    (d f : Bool) (answer : Result (Unit {0}) FormFault)
     → MessageEnds m old made answer → TakesFront took wrote made
     → ClosesAt m old (over took wrote d f) (Err stops.Device)
 closed_in_part m old made took wrote d f answer ends part bytes text held = grind (arith, short_of)
 
-closed : (m : Message) (holds : List ℕ → List ℕ → Type 0) (read text made : List ℕ) (source : Port) (took taken wrote : Option (List ℕ)) (d e f : Bool)
-    (told : Result (Unit {0}) Stop) → Held m holds read text → length read ≤ read_limit → IsAtEnd source.has → IsWell source → e ≡ d
-    → EndsIn m read (text ++ made) told → f ≡ (e || stops_at_device told) → Answers m source (over took wrote d f) read (text ++ made) (answer_to told)
+closed : (m : Message) (holds : List ℕ → List ℕ → Type 0) (read text made : List ℕ) (source : Port)
+    (took taken wrote : Option (List ℕ)) (d e f : Bool)
+    (told : Result (Unit {0}) Stop) → Held m holds read text → length read ≤ read_limit → IsAtEnd source.has
+    → IsWell source → e ≡ d → EndsIn m read (text ++ made) told → f ≡ (e || stops_at_device told)
+    → Answers m source (over took wrote d f) read (text ++ made) (answer_to told)
 closed m holds read text made source took taken wrote d e f (Ok done) held few ended well same ends up =
     Whole few ended ends (well, well_now e f up ∙ same) refl
-closed m holds read text made source took taken wrote d e f (Err (stops.Refused fault)) held few ended well same ends up =
+closed m holds read text made source took taken wrote d e f
+    (Err (stops.Refused fault)) held few ended well same ends up =
     AtEnd fault few ended held.open_yet.unrefused ends.0 ends.1 (well, well_now e f up ∙ same) refl
 closed m holds read text made source took taken wrote d e f (Err stops.Device) held few ended well same ends up =
     SinkFails ends.0 few (ByTheEnd ends.1 ended ends.2) ends.3 (record { failed = failed_now e f up; well = well }) refl
 
-pub IsStreamed-closed : (m : Message) (holds : List ℕ → List ℕ → Type 0) (source : Port) (took taken wrote : Option (List ℕ)) (d e f : Bool) (count : ℕ)
+pub IsStreamed-closed : (m : Message) (holds : List ℕ → List ℕ → Type 0) (source : Port)
+    (took taken wrote : Option (List ℕ)) (d e f : Bool) (count : ℕ)
     (answer : Result (Unit {0}) FormFault) → SoFar m holds source (over took taken d e) count × IsAtEnd source.has
     → ClosesAs m holds (over taken wrote e f) answer → IsStreamed m source (over took wrote d f) answer
 IsStreamed-closed m holds source took taken wrote d e f count answer (before, ended) closes =
@@ -166,17 +211,20 @@ IsStreamed-closed m holds source took taken wrote d e f count answer (before, en
       text = before.text ++ one.made;
       given = before.given;
       written = Appends-trans took taken wrote before.text one.made before.written one.written;
-      answers = subst (Answers m source (over took wrote d f) before.read (before.text ++ one.made)) (sym closes.answers)
-          (closed m holds before.read before.text one.made source took taken wrote d e f closes.told before.held few ended before.well.0 before.well.1 one.ended closes.failed);
+      answers =
+          subst (Answers m source (over took wrote d f) before.read (before.text ++ one.made)) (sym closes.answers)
+          (closed m holds before.read before.text one.made source took taken wrote d e f closes.told before.held few
+          ended before.well.0 before.well.1 one.ended closes.failed);
     }
 
--- One byte more was asked for, and there is none.
-pub SoFar-ended : (m : Message) (holds : List ℕ → List ℕ → Type 0) (had has next : Option (List ℕ)) (sink : Port) (a b c : Bool) (count : ℕ)
-    → SoFar m holds (over had has a b) sink count → (end : Bool) → end ≡ true → Ends has next (Ok end) → c ≡ (b || false)
-    → SoFar m holds (over had next a c) sink count × IsAtEnd next
+-- One more byte was asked for, and there is none.
+pub SoFar-ended : (m : Message) (holds : List ℕ → List ℕ → Type 0) (had has next : Option (List ℕ)) (sink : Port)
+    (a b c : Bool) (count : ℕ)
+    → SoFar m holds (over had has a b) sink count → (end : Bool) → end ≡ true → Ends has next (Ok end)
+    → c ≡ (b || false) → SoFar m holds (over had next a c) sink count × IsAtEnd next
 SoFar-ended m holds had has next sink a b c count before end is ends well = grind arith
 
--- -------- what a piece of a text lights up, and what was typed so far
+-- -------- the lamps of a piece, and what was typed so far
 
 module _ (m : Parts) where
   text_is : (t : Typist) (bytes text : List ℕ) → IsTypedTo m t bytes text → text ≡ cipher_text (physical_cipher m) bytes
@@ -192,7 +240,7 @@ module _ (m : Parts) where
     };
   }
 
-  -- the bytes behind the first bad one make no difference
+  -- the bytes after the first one that isn't allowed make no difference
   refused_there : (t : Typist) (front rest text : List ℕ) (byte : ℕ) → IsTypedTo m t front text
       → IsFalse (is_text_byte byte)
       → IsRefused (texts (physical_cipher m)) (front ++ byte ∷ rest) text (BadByte (length front + 1))
@@ -205,14 +253,15 @@ module _ (m : Parts) where
         written = λ more. (front, rw append_assoc (grind arith), text_is t front text typed);
       }
 
-  -- ---- a piece more
+  -- ---- one more piece
 
   module _ (old new : Typist) (more lamps : List ℕ) (n : ℕ) (front : IsAllowedTo more n)
       (lights : Lights old.engine new.engine (take n more) lamps) (counted : new.read ≡ old.read + n) where
     typed_on : (bytes text : List ℕ) → IsTypedTo m old bytes text
         → IsTypedTo m new (bytes ++ take n more) (text ++ lamps)
     typed_on bytes text typed = record {
-      counted = omega (arith, counted, typed.counted, length-append bytes (take n more), length-take-le n more front.within);
+      counted =
+          omega (arith, counted, typed.counted, length-append bytes (take n more), length-take-le n more front.within);
       allowed = All-append (λ b. IsTrue (is_text_byte b)) bytes (take n more) typed.allowed front.allowed;
       behind = grind (arith, append_assoc, typed.behind, cipher_in_turn, filter_map-append, map-append);
     }
@@ -224,7 +273,8 @@ module _ (m : Parts) where
         record { made = lamps; written = wrote_all; fed = rw (take_all n more all) at typed }
 
     pub read_refused : (took wrote : Option (List ℕ)) (d f : Bool) → Appends took wrote lamps → n < length more
-        → FeedsAll (texts (physical_cipher m)) (IsTypedTo m old) (IsTypedTo m new) more (over took wrote d f) (Err (stops.Refused (BadByte (new.read + 1))))
+        → FeedsAll (texts (physical_cipher m)) (IsTypedTo m old) (IsTypedTo m new) more (over took wrote d f)
+        (Err (stops.Refused (BadByte (new.read + 1))))
     read_refused took wrote d f wrote_all inside bytes text held =
         let typed = typed_on bytes text held.is in
         let rest = drop (suc n) more in
@@ -234,10 +284,13 @@ module _ (m : Parts) where
         record { made = lamps; written = wrote_all; fed = grind (arith, fed, append_assoc, joined, typed.counted) }
 
     pub read_in_part : (took wrote : Option (List ℕ)) (d f : Bool) → TakesFront took wrote lamps
-        → FeedsAll (texts (physical_cipher m)) (IsTypedTo m old) (IsTypedTo m new) more (over took wrote d f) (Err stops.Device)
+        → FeedsAll (texts (physical_cipher m)) (IsTypedTo m old) (IsTypedTo m new) more (over took wrote d f)
+        (Err stops.Device)
     read_in_part took wrote d f part =
-        fed_whole _ _ _ _ _ _ _ (take-append-drop n more) (fed_up_to _ _ _ (take n more) (drop n more) _ stops.Device (λ bytes text held.
-        fed_in_part _ _ _ text lamps took wrote d f (typed_held new (bytes ++ take n more) (text ++ lamps) (typed_on bytes text held.is)) part))
+        fed_whole _ _ _ _ _ _ _ (take-append-drop n more)
+        (fed_up_to _ _ _ (take n more) (drop n more) _ stops.Device (λ bytes text held.
+        fed_in_part _ _ _ text lamps took wrote d f
+        (typed_held new (bytes ++ take n more) (text ++ lamps) (typed_on bytes text held.is)) part))
 
 pub typed_ends : (m : Parts) (t : Typist) → MessageEnds (texts (physical_cipher m)) (IsTypedTo m t) (10 ∷ []) (Ok tt)
 typed_ends m t bytes text held = (held.is.allowed, ap (λ l. l ++ 10 ∷ []) (text_is m t bytes text held.is))

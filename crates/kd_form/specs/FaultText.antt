@@ -1,4 +1,4 @@
--- What is told of an order that becomes no form, and of a form that becomes no text.
+-- How each fault of a text, an order or a form is written.
 use Rattle.std.specs.Prelude.{decimal, ℕ, List, ◌++◌}
 use Rattle.kd_tables.specs.declared.refusal.Refusal.TheVariants as refusals
 use Rattle.kd_tables.specs.Refusals.{refusal_name, spaced}

@@ -1,5 +1,6 @@
--- The parts of a form: a heading line, and all lines up to the next. Places are counted from 0.
-use Rattle.std.specs.Prelude.{codes, ◌≡◌, ◌≢◌, ◌⊎◌, ℕ, ◌%◌, ◌<◌, ◌≤◌, ◌==◌, ◌&&◌, nat_le, Bool, IsTrue, if◌then◌else◌, List, [], ◌∷◌, ◌++◌, length, take, slice_index, All, Option, MatchOption}
+-- The parts of a form: a heading line, and all lines before the next heading line. Places are counted from 0.
+use Rattle.std.specs.Prelude.{codes, ◌≡◌, ◌≢◌, ◌⊎◌, ℕ, ◌%◌, ◌<◌, ◌≤◌, ◌==◌, ◌&&◌, nat_le, Bool, IsTrue, if◌then◌else◌}
+use Rattle.std.specs.Prelude.{List, [], ◌∷◌, ◌++◌, length, take, slice_index, All, Option, MatchOption}
 use Rattle.std.specs.Str.{bytes_eq}
 use Rattle.kd_state.specs.SheetDay.{Day, OfRotors, OfPins}
 use Rattle.kd_state.specs.Words.{IsFirstPart, IsWithout}
@@ -7,57 +8,61 @@ use Rattle.kd_form.specs.declared.heading.Heading.{Heading}
 use Rattle.kd_form.specs.Part.{heading_words}
 use Rattle.kd_form.specs.Reading.{HasIndicator}
 
--- whether a heading line begins here: with PART, a space and a digit
+-- whether a heading line begins here: `PART `, then a digit
 unfoldable pub begins_heading : List ℕ → Bool
-begins_heading bytes = bytes_eq (take 5 bytes) (codes "PART ") && (nat_le 48 (slice_index bytes 5) && nat_le (slice_index bytes 5) 57)
+begins_heading bytes =
+    bytes_eq (take 5 bytes) (codes "PART ") && (nat_le 48 (slice_index bytes 5) && nat_le (slice_index bytes 5) 57)
 
 abbrev pub BeginsHeading : List ℕ → Type 0
 BeginsHeading bytes = IsTrue (begins_heading bytes)
 
--- The first part of a form, and the others: behind an LF another one begins wherever a heading line does.
+-- The first part of a form, and the other parts. After an LF, a new part begins if a heading line follows.
 abbrev pub cut : List ℕ → List ℕ × List (List ℕ)
 cut [] = ([], [])
 cut (byte ∷ bytes) =
-    if byte == 10 && begins_heading bytes then (byte ∷ [], (cut bytes).0 ∷ (cut bytes).1) else (byte ∷ (cut bytes).0, (cut bytes).1)
+    if byte == 10 && begins_heading bytes then (byte ∷ [], (cut bytes).0 ∷ (cut bytes).1)
+    else (byte ∷ (cut bytes).0, (cut bytes).1)
 
 abbrev pub parts_of : List ℕ → List (List ℕ)
 parts_of form = (cut form).0 ∷ (cut form).1
 
 -- ---- headings
 
--- how many letters a body may have: the first group and up to 245 letters of text; or the indicators twice and groups of text
+-- how many letters a body may have: on a rotor machine, fillers, group and 1 to 245 letters of text; on the
+-- Converter M-209, the indicators twice and 1 to 100 groups of text
 abbrev pub IsLetterCount : Day → ℕ → Type 0
 IsLetterCount (OfRotors s) count = (6 ≤ count) × (count ≤ 250)
 IsLetterCount (OfPins s) count = (25 ≤ count) × (count ≤ 520) × (count % 5 ≡ 0)
 
--- one part of so many, from 1 to 99
+-- part `part` of `parts`, at most 99
 pub record IsFraction (part parts : ℕ) : Type 0 where
   pub first : 1 ≤ part
   pub in_order : part ≤ parts
   pub few : parts ≤ 99
 
--- a heading that a part of the day can have
+-- a heading of the day's model
 pub record IsHeading (s : Day) (h : Heading) : Type 0 where
   pub number : IsFraction h.part h.parts
   pub letters : IsLetterCount s h.letters
   pub indicator : HasIndicator s h.indicator
 
--- the words of a line are those of such a heading, or of none
+-- the words of the heading found are `words`; if none is found, no heading of the day's model has these words
 abbrev pub AreHeadingWords : Day → List (List ℕ) → Option Heading → Type 0
 AreHeadingWords s words found =
-    MatchOption found ((h : Heading) → IsHeading s h → heading_words h ≢ words) (λ h. IsHeading s h × (heading_words h ≡ words))
+    MatchOption found ((h : Heading) → IsHeading s h → heading_words h ≢ words)
+    (λ h. IsHeading s h × (heading_words h ≡ words))
 
 -- at most four letters
 pub record AreFewLetters (letters : List ℕ) : Type 0 where
   pub few : length letters ≤ 4
   pub within : All (λ letter. letter < 26) letters
 
--- the line without the CR at its end, if it has one
+-- `text` is the line without the CR at its end, if it has one
 pub data IsLineText (line text : List ℕ) : Type 0 where
   WithReturn : line ≡ text ++ 13 ∷ [] → IsLineText line text
   WithoutReturn : text ≡ line → ((front : List ℕ) → line ≢ front ++ 13 ∷ []) → IsLineText line text
 
--- this is the first line of the text, without its end, and the rest follows it; the last line may lack its end
+-- `line` is the first line of `text`, without its line end, and `rest` follows it; the last line may lack its end
 abbrev pub HasFirstLine : List ℕ → List ℕ → List ℕ → Type 0
 HasFirstLine text line rest =
     ((shown : List ℕ) × IsFirstPart 10 text shown rest × IsLineText shown line)

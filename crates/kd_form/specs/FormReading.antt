@@ -1,5 +1,6 @@
--- What the reader of a form holds while the form comes. The contract of the whole does not speak of it.
-use Rattle.std.specs.Prelude.{codes, ◌≡◌, ◌≢◌, ◌⊎◌, ℕ, ◌<◌, ◌≤◌, List, [], ◌∷◌, ◌++◌, length, take, slice_index, All, IsTrue, Option, Some, None, Ok}
+-- What the reader of a form holds after some of its bytes. No public contract cites this file.
+use Rattle.std.specs.Prelude.{codes, ◌≡◌, ◌≢◌, ◌⊎◌, ℕ, ◌<◌, ◌≤◌, List, [], ◌∷◌, ◌++◌, length, take, slice_index, All}
+use Rattle.std.specs.Prelude.{IsTrue, Option, Some, None, Ok}
 use Rattle.kd_tables.specs.Text.{is_text_byte}
 use Rattle.kd_state.specs.SheetDay.{Day}
 use Rattle.kd_state.specs.Words.{line_of, IsFirstPart, IsWithout}
@@ -18,21 +19,21 @@ use Rattle.kd_form.specs.FormText.{Place, OfRest, ReadsTo, at_first, given_lette
 
 -- ---- the last part
 
--- the byte may stand at that place of the line of a heading: up to its first digit there is one, or a digit
+-- the byte may be at this place of a heading line: `PART ` comes first, then a digit
 abbrev pub FitsAt : ℕ → ℕ → Type 0
 FitsAt place byte = (place < 5 → byte ≡ slice_index (codes "PART ") place) × (place ≡ 5 → (48 ≤ byte) × (byte ≤ 57))
 
--- bytes with which a heading line begins, or that may yet become such
+-- the bytes begin a heading line, or are a prefix of `PART `
 abbrev pub HasBegun : List ℕ → Type 0
 HasBegun bytes = ((count : ℕ) × (count ≤ 5) × (bytes ≡ take count (codes "PART "))) ⊎ BeginsHeading bytes
 
--- the line of a heading, as far as it has come, and up to 64 bytes of it
+-- `part` is a prefix of a heading line, without LF, and `held` has up to 64 bytes of it
 pub record HoldsLine (held part : List ℕ) : Type 0 where
   pub kept : held ≡ take 64 part
   pub unbroken : IsWithout 10 part
   pub begins : HasBegun part
 
--- the last line of what stands behind a line, as far as it has come, with its first bytes, and the lines before it
+-- `first` has up to 6 bytes of the last line of `body`, which may be incomplete; `line` is the line before `body`
 pub record HasTail (line body first : List ℕ) : Type 0 where
   pub settled : List ℕ
   pub tail : List ℕ
@@ -42,7 +43,7 @@ pub record HasTail (line body first : List ℕ) : Type 0 where
   pub unbroken : IsWithout 10 tail
   pub kept : first ≡ take 6 tail
 
--- the heading of the part, and up to 525 letters of its body
+-- `part` has the heading held and this body, of which up to 525 letters are held
 pub record HoldsBody (s : Day) (b : PartBody) (part body : List ℕ) : Type 0 where
   pub line : List ℕ
   pub first : IsFirstPart 10 part line body
@@ -52,7 +53,7 @@ pub record HoldsBody (s : Day) (b : PartBody) (part body : List ℕ) : Type 0 wh
   pub allowed : All (λ b. IsTrue (is_text_byte b)) body
   pub kept : b.letters.items ≡ take 525 (letters_from None body)
 
--- the body of the part of that number, of which the form is to have so many
+-- `part` is part `number`, has the expected number of parts, and its body is held
 pub record HoldsPart (s : Day) (b : PartBody) (number : ℕ) (expected : Option ℕ) (part : List ℕ) : Type 0 where
   pub body : List ℕ
   pub holds : HoldsBody s b part body
@@ -63,17 +64,17 @@ abbrev pub HoldsStage : Day → Stage → ℕ → Option ℕ → List ℕ → Ty
 HoldsStage s (stages.Heading line) number expected part = HoldsLine line.items part × (length part < 6 → number ≡ 1)
 HoldsStage s (stages.Body b) number expected part = HoldsPart s b number expected part
 
--- the letters are read as the body behind that heading, and its text is given
+-- `letters` are the body after this heading, and `made` is its text
 abbrev pub IsBodyGiven : Day → Heading → List ℕ → List ℕ → Type 0
 IsBodyGiven s h letters made = (text : List ℕ) × SaysBody s h.part h letters (Ok text) × (made ≡ given_letters s text)
 
--- the heading is the one that is due: of the part of that number, and of so many
+-- `h` was found; it is the heading of part `number`, with the expected number of parts
 pub record IsHeadingDue (number : ℕ) (expected : Option ℕ) (found : Option Heading) (h : Heading) : Type 0 where
   pub is : found ≡ Some h
   pub numbered : h.part ≡ number
   pub due : IsExpected expected h.parts
 
--- there is no heading; or it isn't that one
+-- no heading was found, or one of another part or with another number of parts
 pub data IsHeadingOff (number : ℕ) (expected : Option ℕ) (found : Option Heading) (fault : FormFault) : Type 0 where
   Missing : found ≡ None → fault ≡ BadHeading number → IsHeadingOff number expected found fault
   Other : (h : Heading) → found ≡ Some h → (h.part ≢ number) ⊎ (¬ (IsExpected expected h.parts)) → fault ≡ PartOrder
@@ -81,15 +82,15 @@ pub data IsHeadingOff (number : ℕ) (expected : Option ℕ) (found : Option Hea
 
 -- ---- the form
 
--- where the reader stands behind these bytes, and that nothing is left there
+-- the place of the part that the reader reads, after the bytes `front`
 abbrev pub place_of : FormReader → List ℕ → Place
 place_of r front = record { number = r.number; expected = r.expected; start = length front }
 
 abbrev pub IsAt : Place → OfRest
 IsAt q p parts = (p ≡ q) × (parts ≡ [])
 
--- The form, as far as it has come, has made this text: the parts at its front are read, and the last one is held. More bytes
--- leave those parts as they are.
+-- The reader has read `form` and made `text`: the parts before the last one are deciphered, and the last one is
+-- held. Further bytes don't change the parts before it.
 pub record HoldsForm (s : Day) (r : FormReader) (form text : List ℕ) : Type 0 where
   pub front : List ℕ
   pub last : List ℕ

@@ -1,36 +1,36 @@
--- The internal key of the Converter M-209: letters for its six wheels, picked from the enciphered chosen letter.
+-- The internal key of the Converter M-209: a letter for each of its six wheels, picked from twelve enciphered letters.
 use Rattle.std.specs.Prelude.{◌≡◌, ◌++◌, Contains, ◌⊎◌, ℕ, ◌+◌, ◌<◌, ◌≤◌, List, [], ◌∷◌, length, map, slice_index}
 use Rattle.kd_tables.specs.Rings.{ring_of}
 use Rattle.kd_state.specs.Machine.{AreOnWheels}
 
--- rising places, from the first one on and below the end
+-- places in rising order, from `first` on and below `end`
 abbrev pub AreRising : ℕ → ℕ → List ℕ → Type 0
 AreRising first end [] = Unit {0}
 AreRising first end (place ∷ places) = (first ≤ place) × (place < end) × AreRising (place + 1) end places
 
--- of two lists the one comes first in the order of lists, or they are the same
+-- the first list comes before the second in lexicographic order, or is the same
 abbrev pub ComesFirst : List ℕ → List ℕ → Type 0
 ComesFirst [] others = Unit {0}
 ComesFirst (place ∷ places) [] = ⊥
 ComesFirst (place ∷ places) (other ∷ others) = (place < other) ⊎ ((place ≡ other) × ComesFirst places others)
 
--- the letters at these rising places, each of which is on the wheel whose turn it is
+-- `picked` are the letters at these rising places, each of them on the wheel in turn
 pub record ArePicked (letters places picked : List ℕ) : Type 0 where
   pub rising : AreRising 0 (length letters) places
   pub taken : picked ≡ map (λ place. slice_index letters place) places
   pub on_wheels : AreOnWheels picked
 
--- The letters at the first of all such places are the key. A letter that isn't on the wheel in turn is struck out by it.
+-- The key has the letters at the first list of such places. So each letter that it skips isn't on the wheel in turn.
 pub record IsInternalKey (letters key : List ℕ) : Type 0 where
   pub places : List ℕ
   pub picked : ArePicked letters places key
   pub first : (others other : List ℕ) → ArePicked letters others other → ComesFirst places others
 
--- there are no such places: the letters run out
+-- there are no six such places: the letters run out
 abbrev pub HaveRunOut : List ℕ → Type 0
 HaveRunOut letters = (places picked : List ℕ) → ¬ (ArePicked letters places picked)
 
--- the letter is the key's next one if it is on the wheel in turn
+-- `next` is `key` with the letter appended, if it is on the wheel in turn
 pub data IsTakenInTurn (key : List ℕ) (letter : ℕ) (next : List ℕ) : Type 0 where
   OnWheel : Contains (ring_of (length key + 1)) letter → next ≡ key ++ letter ∷ [] → IsTakenInTurn key letter next
   OffWheel : ¬ (Contains (ring_of (length key + 1)) letter) → next ≡ key → IsTakenInTurn key letter next

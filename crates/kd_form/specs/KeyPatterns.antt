@@ -1,4 +1,4 @@
--- The line of keys as a pattern with letters.
+-- The pattern of a line of keys, and the letters that fill it.
 use Rattle.std.specs.Prelude.{codes, ◌≡◌, ◌⊎◌, ℕ, List, [], ◌∷◌, ◌++◌, length, replicate}
 use Rattle.kd_state.specs.Words.{line_of}
 use Rattle.kd_state.specs.SheetDay.{Day, RotorDay, PinDay, OfRotors, OfPins}
@@ -7,11 +7,11 @@ use Rattle.kd_form.specs.declared.keys.Keys.TheVariants.{Rotor, Pin}
 use Rattle.kd_form.specs.Keys.{AreKeys}
 use Rattle.kd_form.specs.Order.{IsKeyLine}
 
--- so many letters
+-- `number` places for letters
 abbrev pub places_for : ℕ → List ℕ
 places_for number = replicate number 95
 
--- the pattern of the line on a machine with so many slots, and on the Converter M-209
+-- the pattern of a line of keys, for a rotor machine with `slots` slots and for the Converter M-209
 abbrev pub rotor_pattern : ℕ → List ℕ
 rotor_pattern slots = line_of (codes "PART" ∷ places_for slots ∷ places_for slots ∷ places_for 2 ∷ places_for 3 ∷ [])
 
@@ -22,18 +22,18 @@ abbrev pub key_pattern : Day → List ℕ
 key_pattern (OfRotors s) = rotor_pattern (length s.wheels)
 key_pattern (OfPins s) = pin_pattern
 
--- the letters of the keys, in order
+-- the letters of the keys, in the line's order
 abbrev pub key_letters : Keys → List ℕ
 key_letters (Rotor k) = k.start ++ (k.key ++ (k.fillers ++ k.group))
 key_letters (Pin k) = k.chosen ∷ k.external
 
--- the bytes are the line of any keys that are the day's
+-- `bytes` are a line of keys of the day's model, with its end
 pub record IsAnyKeyLine (s : Day) (bytes : List ℕ) : Type 0 where
   pub keys : Keys
   pub of_the_day : AreKeys s keys
   pub keyed : IsKeyLine keys bytes
 
--- it is a day of a rotor machine with so many slots, three or four; or one of the Converter M-209
+-- a day of a rotor machine with `slots` slots, three or four; and one of the Converter M-209
 pub record HasSlots (s : Day) (slots : ℕ) : Type 0 where
   pub day : RotorDay
   pub is : s ≡ OfRotors day

@@ -8,24 +8,25 @@ use Rattle.kd_form.specs.declared.keys.Keys.TheVariants.{Rotor, Pin}
 use Rattle.kd_form.specs.declared.keys.RotorKeys.{RotorKeys}
 use Rattle.kd_form.specs.declared.keys.PinKeys.{PinKeys}
 
--- the words of the line
+-- the words of a line of keys
 abbrev pub key_words : Keys → List (List ℕ)
-key_words (Rotor k) = codes "PART" ∷ letters_text k.start ∷ letters_text k.key ∷ letters_text k.fillers ∷ letters_text k.group ∷ []
+key_words (Rotor k) =
+    codes "PART" ∷ letters_text k.start ∷ letters_text k.key ∷ letters_text k.fillers ∷ letters_text k.group ∷ []
 key_words (Pin k) = codes "PART" ∷ letters_text (k.chosen ∷ []) ∷ letters_text k.external ∷ []
 
--- on a rotor machine a letter for each slot in the ground and in the message key, two fillers, and a group of three letters
+-- a letter for each slot in the ground and in the message key, two fillers, and a group of three letters
 pub record AreRotorKeys (slots : ℕ) (k : RotorKeys) : Type 0 where
   pub start : AreLetters slots k.start
   pub key : AreLetters slots k.key
   pub fillers : AreLetters 2 k.fillers
   pub group : AreLetters 3 k.group
 
--- on the Converter M-209 a chosen letter and six external ones
+-- a chosen letter and six external ones
 pub record ArePinKeys (k : PinKeys) : Type 0 where
   pub chosen : k.chosen < 26
   pub external : AreLetters 6 k.external
 
--- the keys are of the day's kind
+-- keys of the day's model
 abbrev pub AreKeys : Day → Keys → Type 0
 AreKeys (OfRotors s) (Rotor k) = AreRotorKeys (length s.wheels) k
 AreKeys (OfPins s) (Pin k) = ArePinKeys k

@@ -1,32 +1,37 @@
--- What holds of orders and forms.
+-- What the laws of orders and forms promise.
 use Rattle.std.specs.Prelude.{◌≡◌, ◌⊎◌, ℕ, List, ◌++◌}
 use Rattle.kd_state.specs.SheetDay.{Day, IsLegalDay}
 use Rattle.kd_form.specs.declared.fault.FormFault.{FormFault}
 use Rattle.kd_form.specs.Sending.{IsFormOf, StandsInOrder, IsSendFault}
 use Rattle.kd_form.specs.FormText.{IsTextOf, IsRefusedForGood, IsReceiveFault, IsGivenOf}
 
--- an order becomes one form at most
+-- an order becomes at most one form
 abbrev pub OrdersBecomeOneForm : Type 0
-OrdersBecomeOneForm = (s : Day) (order form other : List ℕ) → IsFormOf s order form → IsFormOf s order other → form ≡ other
+OrdersBecomeOneForm =
+    (s : Day) (order form other : List ℕ) → IsFormOf s order form → IsFormOf s order other → form ≡ other
 
 -- an order that becomes a form has no fault
 abbrev pub SentOrdersHaveNoFault : Type 0
-SentOrdersHaveNoFault = (s : Day) (order form : List ℕ) (fault : FormFault) → IsFormOf s order form → ¬ (IsSendFault s order fault)
+SentOrdersHaveNoFault =
+    (s : Day) (order form : List ℕ) (fault : FormFault) → IsFormOf s order form → ¬ (IsSendFault s order fault)
 
--- and an order has one fault at most
+-- an order has at most one fault
 abbrev pub OrdersHaveOneFault : Type 0
-OrdersHaveOneFault = (s : Day) (order : List ℕ) (fault other : FormFault) → IsSendFault s order fault → IsSendFault s order other → fault ≡ other
+OrdersHaveOneFault =
+    (s : Day) (order : List ℕ) (fault other : FormFault) → IsSendFault s order fault → IsSendFault s order other
+    → fault ≡ other
 
--- and each order has an answer
+-- an order becomes a form or has a fault
 abbrev pub OrderIsAnswered : Day → List ℕ → Type 0
 OrderIsAnswered s order = ((form : List ℕ) × IsFormOf s order form) ⊎ ((fault : FormFault) × IsSendFault s order fault)
 
--- what stands in an order is its fault whatever follows it
+-- a fault that stands in an order is its fault, whatever bytes follow
 abbrev pub OrdersStayRefused : Type 0
 OrdersStayRefused =
-    (s : Day) (order more : List ℕ) (fault : FormFault) → StandsInOrder s order fault → IsSendFault s (order ++ more) fault
+    (s : Day) (order more : List ℕ) (fault : FormFault) → StandsInOrder s order fault
+    → IsSendFault s (order ++ more) fault
 
--- a form becomes one text at most
+-- a form becomes at most one text
 abbrev pub FormsBecomeOneText : Type 0
 FormsBecomeOneText =
     (s : Day) (form text other : List ℕ) → IsTextOf s form text → IsTextOf s form other → text ≡ other
@@ -36,27 +41,27 @@ abbrev pub ReceivedFormsHaveNoFault : Type 0
 ReceivedFormsHaveNoFault =
     (s : Day) (form text : List ℕ) (fault : FormFault) → IsTextOf s form text → ¬ (IsReceiveFault s form fault)
 
--- and a form has one fault at most
+-- a form has at most one fault
 abbrev pub FormsHaveOneFault : Type 0
 FormsHaveOneFault =
     (s : Day) (form : List ℕ) (fault other : FormFault) → IsReceiveFault s form fault → IsReceiveFault s form other
     → fault ≡ other
 
--- and what refuses a form for good also refuses it with any bytes behind it
+-- a fault that a form has for good, it also has with more bytes
 abbrev pub FormsStayRefused : Type 0
 FormsStayRefused =
     (s : Day) (form more text : List ℕ) (fault : FormFault) → IsRefusedForGood s form text fault
     → IsRefusedForGood s (form ++ more) text fault
 
--- and each form has an answer
+-- a form becomes a text or has a fault
 abbrev pub FormIsAnswered : Day → List ℕ → Type 0
 FormIsAnswered s form = ((text : List ℕ) × IsTextOf s form text) ⊎ ((fault : FormFault) × IsReceiveFault s form fault)
 
--- an order that becomes a form gives letters
+-- an order that becomes a form has a text to give back
 abbrev pub OrdersGiveLetters : Type 0
 OrdersGiveLetters = (s : Day) (order form : List ℕ) → IsFormOf s order form → (given : List ℕ) × IsGivenOf s order given
 
--- and the form becomes the letters that the order gives
+-- the form of an order becomes the text that it has to give back
 abbrev pub FormsGiveTheirOrders : Type 0
 FormsGiveTheirOrders =
     (s : Day) (order form given : List ℕ) → IsLegalDay s → IsFormOf s order form → IsGivenOf s order given

@@ -1,4 +1,4 @@
--- What part of a form becomes of a piece of text and its keys.
+-- The part of a form that some text becomes with its keys.
 use Rattle.std.specs.Prelude.{◌≡◌, ℕ, ◌-◌, ◌%◌, List, [], ◌∷◌, ◌++◌, length, Option, Some, None, replicate}
 use Rattle.kd_state.specs.Machine.{AreOnWheels}
 use Rattle.kd_state.specs.SheetDay.{Day, OfRotors, OfPins, AreOfAGroup}
@@ -11,25 +11,25 @@ use Rattle.kd_form.specs.declared.heading.Indicator.{Indicator}
 use Rattle.kd_form.specs.InternalKey.{IsInternalKey}
 use Rattle.kd_form.specs.Part.{Part, part_text}
 
--- what the day's own machine makes of a text, if it shows these letters first
+-- what the day's own machine makes of `text`, with the letters of `window` showing first
 abbrev pub cipher_from : Day → List ℕ → List ℕ → List ℕ
 cipher_from s window text = cipher (key_with_window (sheet_key s) window) text
 
--- the key of the day's own machine, whatever letters show
+-- the key of the day's own machine, with any letters in its windows
 abbrev pub IsTurnedFrom : Day → EngineKey → Type 0
 IsTurnedFrom s key = (window : List ℕ) × (key ≡ key_with_window (sheet_key s) window)
 
--- the two letters of the sheet's list, which the Converter M-209 has
+-- the two letters of the day's list; none on a rotor machine
 abbrev pub list_letters : Day → List ℕ
 list_letters (OfRotors s) = []
 list_letters (OfPins s) = s.list
 
--- how many letters of the text a part has at most
+-- how many letters of text a part has at most
 abbrev pub part_size : Day → ℕ
 part_size (OfRotors s) = 245
 part_size (OfPins s) = 500
 
--- the part of that number, of so many, with these letters in its body
+-- part `part` of `parts`, with `letters` as its body
 abbrev pub part_of : ℕ → ℕ → Option Indicator → List ℕ → Part
 part_of part parts indicator letters = record {
   heading = record { part = part; parts = parts; letters = length letters; indicator = indicator };
@@ -38,11 +38,11 @@ part_of part parts indicator letters = record {
 
 -- ---- rotor machines
 
--- the ground, and the message key, enciphered from there
+-- the ground, and the message key enciphered from the ground
 abbrev pub indicator_of : Day → RotorKeys → Indicator
 indicator_of s k = record { start = k.start; key = cipher_from s k.start k.key }
 
--- the fillers, the group, and the text, enciphered from the message key
+-- the fillers, the group, and the text enciphered from the message key
 abbrev pub rotor_letters : Day → RotorKeys → List ℕ → List ℕ
 rotor_letters s k text = k.fillers ++ k.group ++ cipher_from s k.key text
 
@@ -60,25 +60,28 @@ pin_indicators s k = k.chosen ∷ k.chosen ∷ k.external ++ list_letters s
 abbrev pub filled : List ℕ → List ℕ
 filled text = text ++ replicate ((5 - length text % 5) % 5) 23
 
--- the indicators, the text, filled and enciphered from the internal key, and the indicators again
+-- the indicators, the filled text enciphered from the internal key, and the indicators again
 abbrev pub pin_letters : Day → PinKeys → List ℕ → List ℕ → List ℕ
 pin_letters s k internal text = pin_indicators s k ++ cipher_from s internal (filled text) ++ pin_indicators s k
 
 -- ---- every model
 
--- the keys suit the day: the group is one of the day's; or the external letters are on their wheels, and lead to an internal key
+-- the keys suit the day: their group is one of the day's; or the external letters are on their wheels, and give
+-- an internal key
 abbrev pub Suits : Day → Keys → Type 0
 Suits (OfRotors s) (Rotor k) = AreOfAGroup s.groups k.group
-Suits (OfPins s) (Pin k) = AreOnWheels k.external × ((internal : List ℕ) × IsInternalKey (enciphered_choice (OfPins s) k) internal)
+Suits (OfPins s) (Pin k) =
+    AreOnWheels k.external × ((internal : List ℕ) × IsInternalKey (enciphered_choice (OfPins s) k) internal)
 Suits (OfRotors s) (Pin k) = ⊥
 Suits (OfPins s) (Rotor k) = ⊥
 
--- the part of that number, of so many, that the text becomes by these keys
+-- part `part` of `parts`: `text` enciphered with these keys
 abbrev pub IsMade : Day → ℕ → ℕ → Keys → List ℕ → Part → Type 0
 IsMade s part parts (Rotor k) text made = made ≡ part_of part parts (Some (indicator_of s k)) (rotor_letters s k text)
 IsMade s part parts (Pin k) text made =
-    (internal : List ℕ) × IsInternalKey (enciphered_choice s k) internal × (made ≡ part_of part parts None (pin_letters s k internal text))
+    (internal : List ℕ) × IsInternalKey (enciphered_choice s k) internal
+    × (made ≡ part_of part parts None (pin_letters s k internal text))
 
--- the bytes are that part, as it is written
+-- `bytes` are part `part` of `parts`, as it is written
 abbrev pub IsMadeText : Day → ℕ → ℕ → Keys → List ℕ → List ℕ → Type 0
 IsMadeText s part parts keys text bytes = (made : Part) × IsMade s part parts keys text made × (bytes ≡ part_text made)

@@ -8,36 +8,36 @@ use Rattle.kd_state.specs.Words.{line_of}
 use Rattle.kd_form.specs.declared.heading.Heading.{Heading}
 use Rattle.kd_form.specs.declared.heading.Indicator.{Indicator}
 
--- the letters in pieces of so many, of which the last may be shorter
+-- the letters in pieces of `size`, of which the last may be shorter
 abbrev pub pieces : ℕ → List ℕ → List (List ℕ)
 pieces size letters = first_chunks size (div_ceil (length letters) size) letters
 
--- which part of how many
+-- which part of how many, as in `2/5`
 abbrev pub fraction : ℕ → ℕ → List ℕ
 fraction part parts = decimal part ++ codes "/" ++ decimal parts
 
--- the ground and the enciphered message key
+-- the words of the ground and of the enciphered message key
 abbrev pub indicator_words : Option Indicator → List (List ℕ)
 indicator_words (Some indicator) = letters_text indicator.start ∷ letters_text indicator.key ∷ []
 indicator_words None = []
 
--- the words of the heading
+-- the words of a heading line
 abbrev pub heading_words : Heading → List (List ℕ)
 heading_words h = codes "PART" ∷ fraction h.part h.parts ∷ decimal h.letters ∷ indicator_words h.indicator
 
--- words, each behind a space
+-- words, each after a space
 abbrev pub behind_spaces : List (List ℕ) → List ℕ
 behind_spaces words = flat_map (λ word. 32 ∷ word) words
 
--- the line of these words, with LF at its end, and what follows it
+-- the line of these words with LF at its end, then `rest`
 abbrev pub with_line : List (List ℕ) → List ℕ → List ℕ
 with_line words rest = line_of words ++ 10 ∷ rest
 
--- a line of the body: groups of five letters, with one space between them
+-- the words of a line of the body: groups of five letters
 abbrev pub groups_of : List ℕ → List (List ℕ)
 groups_of letters = map letters_text (pieces 5 letters)
 
--- the body: ten groups a line
+-- the lines of a body, ten groups each
 abbrev pub body_text : List ℕ → List ℕ
 body_text letters = flat_map (λ line. with_line (groups_of line) []) (pieces 50 letters)
 

@@ -1,38 +1,40 @@
 -- Patterns of lines: `_` stands for a letter, and each other byte for itself.
-use Rattle.std.specs.Prelude.{◌≡◌, ℕ, ◌+◌, ◌-◌, ◌==◌, ◌++◌, ◌&&◌, nat_le, Bool, List, [], ◌∷◌, drop, slice_index, if◌then◌else◌}
+use Rattle.std.specs.Prelude.{◌≡◌, ℕ, ◌+◌, ◌-◌, ◌==◌, ◌++◌, ◌&&◌, nat_le, Bool, List, [], ◌∷◌, drop, slice_index}
+use Rattle.std.specs.Prelude.{if◌then◌else◌}
 use Rattle.kd_state.specs.Machine.{AreLetters}
 use Rattle.kd_form.specs.Order.{IsEnded}
 
--- the pattern with these letters in the places of its `_`, each with the next one
+-- the pattern with `letters` in the places of its `_`, in order
 abbrev pub filled_in : List ℕ → List ℕ → List ℕ
 filled_in [] letters = []
 filled_in (mark ∷ pattern) letters =
-    if mark == 95 then (slice_index letters 0 + 65) ∷ filled_in pattern (drop 1 letters) else mark ∷ filled_in pattern letters
+    if mark == 95 then (slice_index letters 0 + 65) ∷ filled_in pattern (drop 1 letters)
+    else mark ∷ filled_in pattern letters
 
--- how many letters it takes
+-- how many letters the pattern takes
 abbrev pub blanks : List ℕ → ℕ
 blanks [] = 0
 blanks (mark ∷ pattern) = if mark == 95 then blanks pattern + 1 else blanks pattern
 
--- the bytes are the line of that pattern with these letters, with its end
+-- `bytes` are the line of the pattern with these letters, with its end
 pub record IsFilledLine (pattern letters bytes : List ℕ) : Type 0 where
   pub are_letters : AreLetters (blanks pattern) letters
   pub ended : IsEnded (filled_in pattern letters) bytes
 
--- or with any letters
+-- `bytes` are a line of the pattern with any letters, with its end
 abbrev pub IsPatternLine : List ℕ → List ℕ → Type 0
 IsPatternLine pattern bytes = (letters : List ℕ) × IsFilledLine pattern letters bytes
 
 -- ---- one byte
 
--- the byte may stand for the mark
+-- the byte fits the mark
 abbrev pub fits : ℕ → ℕ → Bool
 fits mark byte = if mark == 95 then nat_le 65 byte && nat_le byte 90 else byte == mark
 
--- the letter that it then gives
+-- the letter that the byte gives, if the mark is `_`
 abbrev pub letters_at : ℕ → ℕ → List ℕ
 letters_at mark byte = if mark == 95 then (byte - 65) ∷ [] else []
 
--- behind those letters the letters of the line were appended
+-- `bytes` are a line of the pattern, and `new` is `old` with its letters appended
 abbrev pub AreAppended : List ℕ → List ℕ → List ℕ → List ℕ → Type 0
 AreAppended pattern bytes old new = (more : List ℕ) × IsFilledLine pattern more bytes × (new ≡ old ++ more)

@@ -4,7 +4,8 @@ use Rattle.std.specs.List.{slice_range}
 use Rattle.kd_state.specs.Machine.{AreLetters}
 use Rattle.kd_state.specs.SheetDay.{Day, OfRotors, OfPins, AreOfADaysGroup}
 use Rattle.kd_state.specs.TwoCiphers.{sheet_key, IsWindow}
-use Rattle.kd_form.specs.declared.fault.FormFault.TheVariants.{KeyNotOnWheel, WrongGroup, IndicatorSpent, IndicatorsDiffer}
+use Rattle.kd_form.specs.declared.fault.FormFault.TheVariants.{KeyNotOnWheel, WrongGroup, IndicatorSpent}
+use Rattle.kd_form.specs.declared.fault.FormFault.TheVariants.{IndicatorsDiffer}
 use Rattle.kd_form.specs.declared.keys.PinKeys.{PinKeys}
 use Rattle.kd_form.specs.declared.heading.Indicator.{Indicator}
 use Rattle.kd_form.specs.Steps.{Answer, IsJudged, IsSought}
@@ -13,15 +14,15 @@ use Rattle.kd_form.specs.Making.{cipher_from, list_letters, enciphered_choice}
 
 -- ---- rotor machines
 
--- two fillers, a group of three letters, and the text, enciphered
+-- the group, which two fillers precede
 abbrev pub group_in : List ℕ → List ℕ
 group_in letters = slice_range letters 2 5
 
--- the message key that the indicator gives, deciphered from the ground
+-- the message key in the indicator, deciphered from the ground
 abbrev pub message_key : Day → Indicator → List ℕ
 message_key s indicator = cipher_from s indicator.start indicator.key
 
--- the group is none of the day's; or the text is deciphered from the message key
+-- the group is none of the day's, or the text is deciphered from the message key
 abbrev pub SaysRotor : Day → ℕ → Indicator → List ℕ → Answer → Type 0
 SaysRotor s part indicator letters =
     IsJudged (AreOfADaysGroup s (group_in letters)) (Err (WrongGroup part))
@@ -29,12 +30,13 @@ SaysRotor s part indicator letters =
 
 -- ---- the Converter M-209
 
--- ten letters of indicators at the beginning, of which the first two are the same, and the same ten at the end
+-- the last ten letters are the first ten, of which the first two are the same
 pub record HasIndicatorsAround (letters : List ℕ) : Type 0 where
   pub again : take 10 letters ≡ drop (length letters - 10) letters
   pub twice : slice_index letters 0 ≡ slice_index letters 1
 
--- the chosen letter, twice, the external letters, and the letters of a list; then the text, enciphered
+-- what the indicators have, and what is between them: the chosen letter twice, the external letters, the
+-- letters of the list; then the enciphered text
 abbrev pub keys_in : List ℕ → PinKeys
 keys_in letters = record { chosen = slice_index letters 1; external = slice_range letters 2 8 }
 
@@ -44,19 +46,21 @@ list_in letters = slice_range letters 8 10
 abbrev pub text_in : List ℕ → List ℕ
 text_in letters = slice_range letters 10 (length letters - 10)
 
--- The last ten letters aren't the first ten, or the first two differ; an external letter isn't on its wheel; the list is another
--- one; or the letters run out. Else the text is deciphered from the internal key.
+-- The tests in their order: the indicators are around the text; each external letter is on its wheel; the list
+-- is the day's; there is an internal key. The first one that fails gives the fault. Otherwise the text is
+-- deciphered from the internal key.
 abbrev pub SaysPin : Day → ℕ → List ℕ → Answer → Type 0
 SaysPin s part letters =
     IsJudged (HasIndicatorsAround letters) (Err (IndicatorsDiffer part))
     (IsJudged (IsWindow (sheet_key s) (keys_in letters).external) (Err KeyNotOnWheel)
     (IsJudged (list_in letters ≡ list_letters s) (Err (WrongGroup part))
-    (IsSought (IsInternalKey (enciphered_choice s (keys_in letters))) (HaveRunOut (enciphered_choice s (keys_in letters)))
+    (IsSought (IsInternalKey (enciphered_choice s (keys_in letters)))
+    (HaveRunOut (enciphered_choice s (keys_in letters)))
     (Err (IndicatorSpent part)) (λ internal v. v ≡ Ok (cipher_from s internal (text_in letters))))))
 
 -- ---- every model
 
--- the heading has an indicator on a rotor machine: a letter for each slot in the ground and in the message key
+-- the indicator of a heading: on a rotor machine, a letter for each slot in the ground and in the message key
 abbrev pub HasIndicator : Day → Option Indicator → Type 0
 HasIndicator (OfRotors s) (Some i) = AreLetters (length s.wheels) i.start × AreLetters (length s.wheels) i.key
 HasIndicator (OfPins s) None = Unit {0}

@@ -1,4 +1,4 @@
--- What one part of a form becomes: the letters of its text, or a fault. Parts are counted from 1, positions in bytes from 1.
+-- What one part of a form becomes: the letters of its text, or a fault. Parts and bytes are counted from 1.
 use Rattle.std.specs.Prelude.{◌≡◌, ◌≢◌, ◌⊎◌, ℕ, ◌+◌, ◌-◌, List, length, All, IsTrue, Option, Some, None, Ok, Err}
 use Rattle.kd_tables.specs.Text.{is_text_byte}
 use Rattle.kd_state.specs.SheetDay.{Day}
@@ -12,16 +12,17 @@ use Rattle.kd_form.specs.Steps.{Answer, IsJudged}
 use Rattle.kd_form.specs.Reading.{SaysLetters}
 use Rattle.kd_form.specs.FormParts.{IsHeading, HasFirstLine}
 
--- the first line of the part is that of this heading, and the body follows it
+-- `h` is the heading in the part's first line, and `body` follows it
 pub record HasHeading (s : Day) (part : List ℕ) (h : Heading) (body : List ℕ) : Type 0 where
   pub is_heading : IsHeading s h
   pub first : HasFirstLine part (line_of (heading_words h)) body
 
--- the letters of a body are more or fewer than its heading says; or they become what they say
+-- the body has more or fewer letters than its heading says, or is deciphered
 abbrev pub SaysBody : Day → ℕ → Heading → List ℕ → Answer → Type 0
-SaysBody s number h letters = IsJudged (length letters ≡ h.letters) (Err (CountWrong number)) (SaysLetters s number h.indicator letters)
+SaysBody s number h letters =
+    IsJudged (length letters ≡ h.letters) (Err (CountWrong number)) (SaysLetters s number h.indicator letters)
 
--- the part is the one of that number, of so many, its body has as many letters as the heading says, and they become this text
+-- the part is part `number` of `parts`, and its body becomes `text`
 pub record IsPartRead (s : Day) (number parts : ℕ) (part text : List ℕ) : Type 0 where
   pub heading : Heading
   pub body : List ℕ
@@ -31,22 +32,26 @@ pub record IsPartRead (s : Day) (number parts : ℕ) (part text : List ℕ) : Ty
   pub allowed : All (λ b. IsTrue (is_text_byte b)) body
   pub read : SaysBody s number heading (letters_from None body) (Ok text)
 
--- the number of parts is the one that is expected, if one is
+-- `parts` is the expected number of parts, if one is expected
 abbrev pub IsExpected : Option ℕ → ℕ → Type 0
 IsExpected None parts = Unit {0}
 IsExpected (Some first) parts = first ≡ parts
 
--- The first of the reasons that show as soon as they have come, for a part before which so many bytes of the form stand: it
--- has no heading; it isn't the one of that number, or the number of parts is another one; or a byte of the body may not stand
--- there.
-pub data IsEarlyFault (s : Day) (number : ℕ) (expected : Option ℕ) (start : ℕ) (part : List ℕ) (fault : FormFault) : Type 0 where
-  InHeading : ((h : Heading) (body : List ℕ) → ¬ (HasHeading s part h body)) → fault ≡ BadHeading number → IsEarlyFault s number expected start part fault
-  InNumber : (h : Heading) (body : List ℕ) → HasHeading s part h body → (h.part ≢ number) ⊎ (¬ (IsExpected expected h.parts)) → fault ≡ PartOrder
+-- The first fault that shows before the part ends: it has no heading; it is another part, or has another number
+-- of parts; or a byte of its body isn't allowed. Before the part, the form has `start` bytes.
+pub data IsEarlyFault (s : Day) (number : ℕ) (expected : Option ℕ) (start : ℕ) (part : List ℕ)
+    (fault : FormFault) : Type 0 where
+  InHeading : ((h : Heading) (body : List ℕ) → ¬ (HasHeading s part h body)) → fault ≡ BadHeading number
       → IsEarlyFault s number expected start part fault
-  InBody : (h : Heading) (body : List ℕ) (place : ℕ) → HasHeading s part h body → h.part ≡ number → IsExpected expected h.parts → IsBadAt body place
-      → fault ≡ BadByte (start + (length part - length body) + place + 1) → IsEarlyFault s number expected start part fault
+  InNumber : (h : Heading) (body : List ℕ) → HasHeading s part h body
+      → (h.part ≢ number) ⊎ (¬ (IsExpected expected h.parts)) → fault ≡ PartOrder
+      → IsEarlyFault s number expected start part fault
+  InBody : (h : Heading) (body : List ℕ) (place : ℕ) → HasHeading s part h body → h.part ≡ number
+      → IsExpected expected h.parts → IsBadAt body place
+      → fault ≡ BadByte (start + (length part - length body) + place + 1)
+      → IsEarlyFault s number expected start part fault
 
--- the reasons that only a whole part has: its letters are refused
+-- a fault that only the whole part shows: its letters are refused
 pub record IsLateFault (s : Day) (number : ℕ) (expected : Option ℕ) (part : List ℕ) (fault : FormFault) : Type 0 where
   pub heading : Heading
   pub body : List ℕ
@@ -56,6 +61,7 @@ pub record IsLateFault (s : Day) (number : ℕ) (expected : Option ℕ) (part : 
   pub allowed : All (λ b. IsTrue (is_text_byte b)) body
   pub found : SaysBody s number heading (letters_from None body) (Err fault)
 
--- the first of all reasons
+-- the first fault of the part
 abbrev pub IsPartFault : Day → ℕ → Option ℕ → ℕ → List ℕ → FormFault → Type 0
-IsPartFault s number expected start part fault = IsEarlyFault s number expected start part fault ⊎ IsLateFault s number expected part fault
+IsPartFault s number expected start part fault =
+    IsEarlyFault s number expected start part fault ⊎ IsLateFault s number expected part fault

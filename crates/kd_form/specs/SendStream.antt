@@ -1,4 +1,4 @@
--- An order that is sent as it comes. Parts are counted from 1.
+-- What is written of an order before its end. Parts are counted from 1.
 use Rattle.std.specs.Prelude.{◌≡◌, ◌⊎◌, ℕ, ◌*◌, ◌<◌, ◌≤◌, List, [], ◌∷◌, ◌++◌, length, take, All, IsTrue, IsFalse}
 use Rattle.kd_tables.specs.Text.{is_text_byte}
 use Rattle.kd_state.specs.SheetDay.{Day}
@@ -9,31 +9,32 @@ use Rattle.kd_form.specs.Order.{IsOrder}
 use Rattle.kd_form.specs.Sending.{text_letters, StandsInOrder, IsSendFault, AreMadeTexts, IsFormOf}
 use Rattle.kd_form.specs.Streams.{Message}
 
--- the bytes of the text before the first that may not stand there
+-- the prefix of the text before the first byte that isn't allowed
 pub record IsAllowedFront (text front : List ℕ) : Type 0 where
   pub rest : List ℕ
   pub joined : text ≡ front ++ rest
   pub allowed : All (λ b. IsTrue (is_text_byte b)) front
   pub ends : (byte : ℕ) (more : List ℕ) → rest ≡ byte ∷ more → IsFalse (is_text_byte byte)
 
--- Of so many parts of a size so many can be written once so many letters have come: behind each of them another part is due, and
--- a letter has come for it.
+-- How many of `parts` parts can be written after `letters` letters: all after which a letter for one more part
+-- has come. A part has at most `size` letters.
 pub record CanBeWritten (size parts letters written : ℕ) : Type 0 where
   pub due : (written ≡ 0) ⊎ ((written < parts) × (size * written < letters))
   pub most : (other : ℕ) → other < parts → size * other < letters → other ≤ written
 
--- What is sent of an order before its end: nothing before its text begins, nor where its keys don't suit the day; then the parts
--- that can be written.
+-- What is written of an order before its end: nothing before its text begins, or if its keys don't suit the
+-- day; then the parts that can be written.
 pub data IsSentBefore (s : Day) (order sent : List ℕ) : Type 0 where
-  NotYet : ((keys : List Keys) (head text : List ℕ) → IsOrder s order keys head text → ¬ (All (Suits s) keys)) → sent ≡ []
-      → IsSentBefore s order sent
-  InText : (keys : List Keys) (head text front : List ℕ) (written : ℕ) → IsOrder s order keys head text → All (Suits s) keys
+  NotYet : ((keys : List Keys) (head text : List ℕ) → IsOrder s order keys head text → ¬ (All (Suits s) keys))
+      → sent ≡ [] → IsSentBefore s order sent
+  InText : (keys : List Keys) (head text front : List ℕ) (written : ℕ) → IsOrder s order keys head text
+      → All (Suits s) keys
       → IsAllowedFront text front → CanBeWritten (part_size s) (length keys) (length (text_letters s front)) written
       → AreMadeTexts s 1 (length keys) (take written keys)
       (pieces (part_size s) (take (part_size s * written) (text_letters s front))) sent
       → IsSentBefore s order sent
 
--- orders, as messages that are read as they come
+-- orders, as a kind of message
 abbrev pub orders : Day → Message
 orders s = record {
   stands = StandsInOrder s;

@@ -1,11 +1,13 @@
--- What an order becomes: a form, or the first fault. Parts are counted from 1, positions in bytes from 1.
-use Rattle.std.specs.Prelude.{◌≡◌, ◌≢◌, ℕ, ◌+◌, ◌-◌, ◌≤◌, ◌⊎◌, ◌==◌, List, [], ◌∷◌, ◌++◌, length, filter_map, All, IsTrue, IsFalse, Option, Some, None, if◌then◌else◌}
+-- What an order becomes: its form, or the first fault. Parts and bytes are counted from 1.
+use Rattle.std.specs.Prelude.{◌≡◌, ◌≢◌, ℕ, ◌+◌, ◌-◌, ◌≤◌, ◌⊎◌, ◌==◌, List, [], ◌∷◌, ◌++◌, length, filter_map, All}
+use Rattle.std.specs.Prelude.{IsTrue, IsFalse, Option, Some, None, if◌then◌else◌}
 use Rattle.std.specs.Int.{div_ceil}
 use Rattle.kd_tables.specs.Text.{is_capital, is_text_byte}
 use Rattle.kd_state.specs.Machine.{AreOnWheels}
 use Rattle.kd_state.specs.SheetDay.{Day, OfRotors, OfPins, AreOfAGroup}
 use Rattle.kd_form.specs.declared.fault.FormFault.{FormFault}
-use Rattle.kd_form.specs.declared.fault.FormFault.TheVariants.{BadByte, EmptyText, PartKeys, KeyNotOnWheel, WrongGroup, IndicatorSpent}
+use Rattle.kd_form.specs.declared.fault.FormFault.TheVariants.{BadByte, EmptyText, PartKeys, KeyNotOnWheel, WrongGroup}
+use Rattle.kd_form.specs.declared.fault.FormFault.TheVariants.{IndicatorSpent}
 use Rattle.kd_form.specs.declared.keys.Keys.{Keys}
 use Rattle.kd_form.specs.declared.keys.Keys.TheVariants.{Rotor, Pin}
 use Rattle.kd_form.specs.InternalKey.{HaveRunOut}
@@ -20,7 +22,7 @@ abbrev pub blank_of : Day → Option ℕ
 blank_of (OfRotors s) = None
 blank_of (OfPins s) = Some 25
 
--- the letter that a byte of the text gives, where a space stands for that
+-- the letter that a byte of a text gives; a space gives `blank`
 abbrev pub letter_of_byte : Option ℕ → ℕ → Option ℕ
 letter_of_byte blank byte = if is_capital byte then Some (byte - 65) else if byte == 32 then blank else None
 
@@ -31,7 +33,7 @@ letters_from blank text = filter_map (letter_of_byte blank) text
 abbrev pub text_letters : Day → List ℕ → List ℕ
 text_letters s text = letters_from (blank_of s) text
 
--- the byte is the first that may not stand in a text
+-- `place` is the index of the first byte that isn't allowed in a text
 pub record IsBadAt (text : List ℕ) (place : ℕ) : Type 0 where
   pub before : List ℕ
   pub byte : ℕ
@@ -41,13 +43,13 @@ pub record IsBadAt (text : List ℕ) (place : ℕ) : Type 0 where
   pub allowed : All (λ b. IsTrue (is_text_byte b)) before
   pub bad : IsFalse (is_text_byte byte)
 
--- how many parts so many letters take
+-- how many parts `letters` letters need
 abbrev pub parts_needed : Day → ℕ → ℕ
 parts_needed s letters = div_ceil letters (part_size s)
 
 -- ---- why there is no form
 
--- why the part's keys don't suit the day
+-- why the keys of part `part` don't suit the day
 abbrev pub IsKeysFault : Day → ℕ → Keys → FormFault → Type 0
 IsKeysFault (OfRotors s) part (Rotor k) fault = ¬ (AreOfAGroup s.groups k.group) × (fault ≡ WrongGroup part)
 IsKeysFault (OfPins s) part (Pin k) fault =
@@ -56,7 +58,7 @@ IsKeysFault (OfPins s) part (Pin k) fault =
 IsKeysFault (OfRotors s) part (Pin k) fault = ⊥
 IsKeysFault (OfPins s) part (Rotor k) fault = ⊥
 
--- the keys of all parts suit the day, up to those of one part
+-- the fault of the first keys that don't suit the day
 pub record IsFirstKeysFault (s : Day) (keys : List Keys) (fault : FormFault) : Type 0 where
   pub before : List Keys
   pub unsuited : Keys
@@ -65,13 +67,13 @@ pub record IsFirstKeysFault (s : Day) (keys : List Keys) (fault : FormFault) : T
   pub suited : All (Suits s) before
   pub is : IsKeysFault s (length before + 1) unsuited fault
 
--- Nothing in the order is refused so far: its keys suit the day, and its text has no byte that may not stand there.
+-- The order has no fault so far: its keys suit the day, and each byte of its text is allowed.
 pub record IsSendable (s : Day) (order : List ℕ) (keys : List Keys) (head text : List ℕ) : Type 0 where
   pub is_order : IsOrder s order keys head text
   pub suited : All (Suits s) keys
   pub allowed : All (λ b. IsTrue (is_text_byte b)) text
 
--- The refusal that an order shows, whatever follows it: in the lines up to the text; in the keys; or in the bytes of the text.
+-- The fault that an order has whatever follows: in its head, in its keys, or in a byte of its text.
 pub data StandsInOrder (s : Day) (order : List ℕ) (fault : FormFault) : Type 0 where
   InHead : (position : ℕ) → IsHeadFault s order position → position ≤ length order → fault ≡ BadByte position
       → StandsInOrder s order fault
@@ -80,31 +82,32 @@ pub data StandsInOrder (s : Day) (order : List ℕ) (fault : FormFault) : Type 0
   InText : (keys : List Keys) (head text : List ℕ) (place : ℕ) → IsOrder s order keys head text → All (Suits s) keys
       → IsBadAt text place → fault ≡ BadByte (length head + place + 1) → StandsInOrder s order fault
 
--- The refusal of an order at its end, in which nothing is refused before: it ends in the lines up to its text; there is no
--- letter; or there are not as many lines of keys as parts.
+-- The fault that an order has only at its end: it ends in its head, it has no letter, or it needs more or fewer
+-- parts than it has lines of keys.
 pub data EndsOrder (s : Day) (order : List ℕ) (fault : FormFault) : Type 0 where
   Cut : IsHeadFault s order (length order + 1) → fault ≡ BadByte (length order + 1) → EndsOrder s order fault
-  NoLetter : (keys : List Keys) (head text : List ℕ) → IsSendable s order keys head text → text_letters s text ≡ [] → fault ≡ EmptyText
-      → EndsOrder s order fault
+  NoLetter : (keys : List Keys) (head text : List ℕ) → IsSendable s order keys head text → text_letters s text ≡ []
+      → fault ≡ EmptyText → EndsOrder s order fault
   InParts : (keys : List Keys) (head text : List ℕ) → IsSendable s order keys head text → text_letters s text ≢ []
       → parts_needed s (length (text_letters s text)) ≢ length keys
       → fault ≡ PartKeys (parts_needed s (length (text_letters s text))) (length keys) → EndsOrder s order fault
 
--- the first of the reasons
+-- the first fault of the order
 abbrev pub IsSendFault : Day → List ℕ → FormFault → Type 0
 IsSendFault s order fault = StandsInOrder s order fault ⊎ EndsOrder s order fault
 
 -- ---- the form
 
--- the parts from this one on, of so many, made of these pieces by these keys, one after another
+-- the bytes are the parts from `part` on, of `parts`, made from these pieces with these keys, one after another
 abbrev pub AreMadeTexts : Day → ℕ → ℕ → List Keys → List (List ℕ) → List ℕ → Type 0
 AreMadeTexts s part parts [] [] bytes = bytes ≡ []
 AreMadeTexts s part parts (k ∷ keys) (piece ∷ pieces) bytes =
-    (one more : List ℕ) × IsMadeText s part parts k piece one × AreMadeTexts s (part + 1) parts keys pieces more × (bytes ≡ one ++ more)
+    (one more : List ℕ) × IsMadeText s part parts k piece one × AreMadeTexts s (part + 1) parts keys pieces more
+    × (bytes ≡ one ++ more)
 AreMadeTexts s part parts [] (piece ∷ pieces) bytes = ⊥
 AreMadeTexts s part parts (k ∷ keys) [] bytes = ⊥
 
--- the form that the order becomes, where no reason is against it: all of its parts but the last are full
+-- the form of an order without a fault: all of its parts but the last are full
 pub record IsFormOf (s : Day) (order form : List ℕ) : Type 0 where
   pub keys : List Keys
   pub head : List ℕ

@@ -1,23 +1,23 @@
--- What is said of an answer, step by step: each step refuses, or leaves the answer to a later one.
+-- Answers by steps: each step gives its refusal, or leaves the answer to the next step.
 use Rattle.std.specs.Prelude.{◌≡◌, ◌⊎◌, List, ℕ, Result}
 use Rattle.kd_form.specs.declared.fault.FormFault.{FormFault}
 
--- letters, or why there are none
+-- letters, or a fault
 abbrev pub Answer : Type 0
 Answer = Result (List ℕ) FormFault
 
--- the answer is that of the thing that is found
+-- some `x` satisfies `Has`, and the answer satisfies `Later x`
 abbrev pub IsFound : {X V : Type 0} → (X → Type 0) → (X → V → Type 0) → V → Type 0
 IsFound {X} Has Later v = (x : X) × Has x × Later x v
 
--- and this refusal where there is none
+-- the answer is `refusal` where `none` holds; else some `x` satisfies `Has`, and the answer satisfies `Later x`
 abbrev pub IsSought : {X V : Type 0} → (X → Type 0) → Type 0 → V → (X → V → Type 0) → V → Type 0
 IsSought Has none refusal Later v = (none × (v ≡ refusal)) ⊎ IsFound Has Later v
 
--- the answer is this refusal where a condition doesn't hold, and a later answer where it does
+-- the answer is `refusal` unless `Holds`; else it satisfies `Later`
 abbrev pub IsJudged : {V : Type 0} → Type 0 → V → (V → Type 0) → V → Type 0
 IsJudged Holds refusal Later v = (¬ Holds × (v ≡ refusal)) ⊎ (Holds × Later v)
 
--- the answer is the refusal for the thing that is found, and a later answer where a condition denies that there is one
+-- the answer is the refusal of some `x` that satisfies `Has`; else `Holds`, and the answer satisfies `Later`
 abbrev pub IsCaught : {X V : Type 0} → (X → Type 0) → (X → V) → Type 0 → (V → Type 0) → V → Type 0
 IsCaught Has refusal Holds Later v = IsFound Has (λ x w. w ≡ refusal x) v ⊎ (Holds × Later v)

@@ -1,5 +1,6 @@
--- Messages that are read as they come: what is answered, and what was written by then.
-use Rattle.std.specs.Prelude.{◌≡◌, ◌≢◌, ℕ, ◌≤◌, Bool, true, false, List, [], ◌∷◌, ◌++◌, length, Option, None, Some, Result, Ok, Err, MatchResult}
+-- Messages that are read as they come: the answer, and what was written by then.
+use Rattle.std.specs.Prelude.{◌≡◌, ◌≢◌, ℕ, ◌≤◌, Bool, true, false, List, [], ◌∷◌, ◌++◌, length, Option, None, Some}
+use Rattle.std.specs.Prelude.{Result, Ok, Err, MatchResult}
 use Rattle.std.specs.Io.{StartsWith}
 use Rattle.std.specs.Io.KnownBytes.{Appends, Consumes, IsAtEnd}
 use Rattle.kd_tables.specs.Ports.{read_limit, Port, IsWell, FailsAlone}
@@ -9,56 +10,60 @@ use Rattle.kd_form.specs.declared.fault.FormFault.{FormFault}
 use Rattle.kd_form.specs.declared.fault.FormFault.TheVariants.{NotReady, Device, NotOnKey, ReadTooLong}
 use Rattle.kd_form.specs.OnTheKey.{IsOnKey, IsKeyFault}
 
--- A kind of message, over its bytes: the refusal that they show whatever follows them; the refusal of the whole message; what it
--- becomes; and what is written before that refusal, or before more bytes are had, where there is none.
+-- A kind of message, by its bytes: the fault that stands whatever follows; the fault of the whole message; what
+-- the message becomes; and what is written before this fault, or, without one, before more bytes are read.
 pub record Message : Type 1 where
   pub stands : List ℕ → FormFault → Type 0
   pub refused : List ℕ → FormFault → Type 0
   pub becomes : List ℕ → List ℕ → Type 0
   pub before : Option FormFault → List ℕ → List ℕ → Type 0
 
--- nothing in the bytes is refused yet, and this text is written by then
+-- no fault stands in the bytes, and `text` is written by then
 pub record IsOpen (m : Message) (bytes text : List ℕ) : Type 0 where
   pub unrefused : (fault : FormFault) → ¬ (m.stands bytes fault)
   pub written : m.before None bytes text
 
--- whatever follows the bytes, this is the refusal, and this text is written before it
+-- the bytes have this fault whatever follows, and `text` is written before it
 pub record IsRefused (m : Message) (bytes text : List ℕ) (fault : FormFault) : Type 0 where
   pub stands : (more : List ℕ) → m.stands (bytes ++ more) fault
   pub refused : (more : List ℕ) → m.refused (bytes ++ more) fault
   pub written : (more : List ℕ) → m.before (Some fault) (bytes ++ more) text
 
--- the bytes are the whole message, which becomes this text, or is refused when this text is written
+-- the bytes are the whole message: it becomes `text`, or has a fault before which `text` is written
 abbrev pub Closes : Message → List ℕ → List ℕ → Result (Unit {0}) FormFault → Type 0
 Closes m bytes text answer =
     MatchResult answer (λ _. m.becomes bytes text) (λ fault. m.refused bytes fault × m.before (Some fault) bytes text)
 
 -- ---- the answer
 
--- What would be written: by the time that a front of what was read had come; or by the end, if the source has ended.
+-- What has to be written: once a prefix of `read` has come, or at the end of the source.
 pub data IsDue (m : Message) (source : Port) (read text : List ℕ) : Type 0 where
   ByThen : (front : List ℕ) → StartsWith read front → IsOpen m front text → IsDue m source read text
-  ByTheEnd : (answer : Result (Unit {0}) FormFault) → IsAtEnd source.has → Closes m read text answer → IsDue m source read text
+  ByTheEnd : (answer : Result (Unit {0}) FormFault) → IsAtEnd source.has → Closes m read text answer
+      → IsDue m source read text
 
 -- neither port failed in the call
 abbrev pub AreWell : Port → Port → Type 0
 AreWell source sink = IsWell source × IsWell sink
 
--- the text is a front of what was due, and not the whole of it
+-- `text` is a proper prefix of `due`
 pub record FallsShort (due text : List ℕ) : Type 0 where
   pub missing : List ℕ
   pub some : missing ≢ []
   pub joined : due ≡ text ++ missing
 
--- What was read, no further than the limit, and what was written, by the answer: it was the whole message; a refusal stands,
--- whatever follows; nothing stands, and the whole message is refused; or one byte more came than may; or a device failed, after
--- all that was due by then where it was the source, and after less than what was due where it was the sink.
-pub data Answers (m : Message) (source sink : Port) (read text : List ℕ) (answer : Result (Unit {0}) FormFault) : Type 0 where
+-- What was read, up to the limit, and what was written, by the answer. `Whole`: the message is complete.
+-- `Stands`: a fault stands, whatever follows. `AtEnd`: no fault stands, but the whole message has one.
+-- `TooLong`: one byte more than the limit came. `SourceFails`: all that was due by then is written.
+-- `SinkFails`: less than what was due is written.
+pub data Answers (m : Message) (source sink : Port) (read text : List ℕ)
+    (answer : Result (Unit {0}) FormFault) : Type 0 where
   Whole : length read ≤ read_limit → IsAtEnd source.has → m.becomes read text → AreWell source sink → answer ≡ Ok tt
       → Answers m source sink read text answer
-  Stands : (fault : FormFault) → length read ≤ read_limit → m.stands read fault → m.before (Some fault) read text → AreWell source sink
-      → answer ≡ Err fault → Answers m source sink read text answer
-  AtEnd : (fault : FormFault) → length read ≤ read_limit → IsAtEnd source.has → ((other : FormFault) → ¬ (m.stands read other))
+  Stands : (fault : FormFault) → length read ≤ read_limit → m.stands read fault → m.before (Some fault) read text
+      → AreWell source sink → answer ≡ Err fault → Answers m source sink read text answer
+  AtEnd : (fault : FormFault) → length read ≤ read_limit → IsAtEnd source.has
+      → ((other : FormFault) → ¬ (m.stands read other))
       → m.refused read fault → m.before (Some fault) read text → AreWell source sink → answer ≡ Err fault
       → Answers m source sink read text answer
   TooLong : (front : List ℕ) (byte : ℕ) → read ≡ front ++ byte ∷ [] → length front ≡ read_limit → IsOpen m front text
@@ -69,7 +74,7 @@ pub data Answers (m : Message) (source sink : Port) (read text : List ℕ) (answ
       → FailsAlone sink source
       → answer ≡ Err Device → Answers m source sink read text answer
 
--- The same of the bytes that a source had and has yet to give, and that a sink had taken and has taken.
+-- `Answers`, of the bytes that the call took from the source and put into the sink.
 pub record IsStreamed (m : Message) (source sink : Port) (answer : Result (Unit {0}) FormFault) : Type 0 where
   pub read : List ℕ
   pub text : List ℕ
@@ -90,19 +95,19 @@ is_off_key (Err NotReady) = true
 is_off_key (Err NotOnKey) = true
 is_off_key _ = false
 
--- nothing was read, or written, and nothing failed
+-- the port is as it was, and didn't fail
 pub record IsLeft (p : Port) : Type 0 where
   pub has : p.has ≡ p.had
   pub well : IsWell p
 
--- Where something is against it, the call is refused for that, and the ports are left. Else the message is read and
--- written.
+-- If there is a fault beforehand, it is the answer, and both ports are left as they were. Otherwise the message
+-- is read and written.
 pub data StreamsUnless (is_fault : FormFault → Type 0) (may : Type 0) (message : Message) (source sink : Port)
     (answer : Result (Unit {0}) FormFault) : Type 0 where
   Off : (fault : FormFault) → is_fault fault → answer ≡ Err fault → IsLeft source → IsLeft sink
       → StreamsUnless is_fault may message source sink answer
   On : may → IsStreamed message source sink answer → StreamsUnless is_fault may message source sink answer
 
--- so it is for a machine that isn't ready and on the key
+-- `StreamsUnless`, where the fault is that the machine isn't ready or isn't on the key
 abbrev pub StreamsOnKey : Parts → Day → Message → Port → Port → Result (Unit {0}) FormFault → Type 0
 StreamsOnKey m s message source sink answer = StreamsUnless (IsKeyFault m s) (IsOnKey m s) message source sink answer

@@ -1,5 +1,6 @@
--- A text that is typed on a machine, as a message: it becomes the cipher of its letters, and LF.
-use Rattle.std.specs.Prelude.{◌≡◌, ℕ, ◌+◌, ◌<◌, ◌≤◌, List, [], ◌∷◌, ◌++◌, length, take, slice_index, All, IsTrue, IsFalse, None, Result}
+-- A text that is typed, as a kind of message: it becomes the ciphertext of its letters, then LF.
+use Rattle.std.specs.Prelude.{◌≡◌, ℕ, ◌+◌, ◌<◌, ◌≤◌, List, [], ◌∷◌, ◌++◌, length, take, slice_index, All, IsTrue}
+use Rattle.std.specs.Prelude.{IsFalse, None, Result}
 use Rattle.kd_tables.specs.Text.{is_text_byte, letters_text}
 use Rattle.kd_tables.specs.Ports.{Port}
 use Rattle.kd_state.specs.declared.machine.parts.Parts.{Parts}
@@ -11,19 +12,19 @@ use Rattle.kd_form.specs.Sending.{letters_from, IsBadAt}
 use Rattle.kd_form.specs.SendStream.{IsAllowedFront}
 use Rattle.kd_form.specs.Streams.{Message, StreamsUnless}
 
--- the letters among the bytes, where a space stands for none
+-- the letters in the bytes; a space gives none
 abbrev pub typed_letters : List ℕ → List ℕ
 typed_letters bytes = letters_from None bytes
 
--- what is made of them, in capital letters
+-- the ciphertext of these letters, in capital letters
 abbrev pub cipher_text : (List ℕ → List ℕ) → List ℕ → List ℕ
 cipher_text enciphers bytes = letters_text (enciphers (typed_letters bytes))
 
--- the first byte that is not allowed, counted from 1
+-- `BadByte` with the position of the first byte that isn't allowed, counted from 1
 abbrev pub IsTextFault : List ℕ → FormFault → Type 0
 IsTextFault bytes fault = (place : ℕ) × IsBadAt bytes place × (fault ≡ BadByte (place + 1))
 
--- texts, as messages that are typed as they come: each letter before the first bad byte lights its lamp
+-- texts, as a kind of message: each letter before the first byte that isn't allowed lights its lamp
 abbrev pub texts : (List ℕ → List ℕ) → Message
 texts enciphers = record {
   stands = IsTextFault;
@@ -32,26 +33,28 @@ texts enciphers = record {
   before = λ reason bytes text. (front : List ℕ) × IsAllowedFront bytes front × (text ≡ cipher_text enciphers front);
 }
 
--- a machine that isn't ready is refused for that; on one that is, the text is typed
+-- a machine that isn't ready is refused; on one that is, the text is typed
 abbrev pub TypesIfReady : Parts → Port → Port → Result (Unit {0}) FormFault → Type 0
 TypesIfReady m source sink answer =
-    StreamsUnless (λ fault. ¬ (IsReady m) × (fault ≡ NotReady)) (IsReady m) (texts (physical_cipher m)) source sink answer
+    StreamsUnless (λ fault. ¬ (IsReady m) × (fault ≡ NotReady)) (IsReady m)
+    (texts (physical_cipher m)) source sink answer
 
--- ---- what the code keeps; the contracts of the public calls do not speak of it
+-- ---- what the code holds; no public contract cites it
 
--- The keys of the letters among the bytes were pressed: their cipher is what lit up, and the machine stepped as often.
+-- `lamps` is the ciphertext of the letters in `bytes`, and `left` is the key after as many steps.
 pub record Lights (key left : EngineKey) (bytes lamps : List ℕ) : Type 0 where
   pub cipher : lamps ≡ cipher_text (cipher key) bytes
   pub after : left ≡ key_left key (length (typed_letters bytes))
 
--- so many bytes at the front are allowed, and the next one, if there is one, is not
+-- the first `front` bytes are allowed, and the next one, if there is one, isn't
 pub record IsAllowedTo (bytes : List ℕ) (front : ℕ) : Type 0 where
   pub within : front ≤ length bytes
   pub allowed : All (λ b. IsTrue (is_text_byte b)) (take front bytes)
   pub next : front < length bytes → IsFalse (is_text_byte (slice_index bytes front))
 
--- the bytes are allowed and were typed, and what follows is enciphered on from there
+-- all of `bytes` are allowed and were typed, and what follows is enciphered from there on
 pub record IsTypedTo (m : Parts) (t : Typist) (bytes text : List ℕ) : Type 0 where
   pub counted : t.read ≡ length bytes
   pub allowed : All (λ b. IsTrue (is_text_byte b)) bytes
-  pub behind : (more : List ℕ) → cipher_text (physical_cipher m) (bytes ++ more) ≡ text ++ cipher_text (cipher t.engine) more
+  pub behind : (more : List ℕ)
+      → cipher_text (physical_cipher m) (bytes ++ more) ≡ text ++ cipher_text (cipher t.engine) more

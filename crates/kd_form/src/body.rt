@@ -1,4 +1,4 @@
-//! How the letters of a part are written.
+//! Writes the letters of a part's body in groups of five.
 ghost use Rattle.std.specs.Prelude.{◌≡◌, ◌+◌, ◌*◌, ◌≤◌, [], ◌∷◌, ◌++◌, length};
 ghost use Rattle.arrayvec.specs.ArrayString.{array_string_len};
 ghost use Rattle.kd_tables.specs.Text.{letters_text};
@@ -8,7 +8,7 @@ use arrayvec::ArrayString;
 use kd_state::push_letter;
 use kd_tables::Letter;
 
-/// Appends the letters in groups of five, ten groups a line.
+/// Appends `letters` in groups of five, ten groups a line.
 pub(crate) fn push_body<const N: usize>(text: &mut ArrayString<N>, letters: &[Letter])
     requires { array_string_len text.old + 2 * length letters.now ≤ N }
     ensures bytes { text.new.bytes ≡ text.old.bytes ++ body_text letters.now }
@@ -22,7 +22,7 @@ pub(crate) fn push_body<const N: usize>(text: &mut ArrayString<N>, letters: &[Le
     push_body(text, rest);
 }
 
-/// Appends a line of groups.
+/// Appends `letters` as one line: groups of five, with a space between them.
 #[tactic(auto, using(crate::proofs::MadeParts::in_groups))]
 fn push_line<const N: usize>(text: &mut ArrayString<N>, letters: &[Letter])
     requires some { 1 ≤ length letters.now }
@@ -36,7 +36,7 @@ fn push_line<const N: usize>(text: &mut ArrayString<N>, letters: &[Letter])
     text.push_str("\n");
 }
 
-/// Appends groups, each behind a space.
+/// Appends `letters` in groups of five, each after a space.
 fn push_groups<const N: usize>(text: &mut ArrayString<N>, letters: &[Letter])
     requires { array_string_len text.old + 2 * length letters.now ≤ N }
     ensures bytes { text.new.bytes ≡ text.old.bytes ++ behind_spaces (groups_of letters.now) }
@@ -51,7 +51,7 @@ fn push_groups<const N: usize>(text: &mut ArrayString<N>, letters: &[Letter])
     push_groups(text, rest);
 }
 
-/// The first so many letters, or all if there are fewer, and the others.
+/// Splits off the first `size` letters, or all of them if there are fewer.
 #[tactic(auto, using(crate::proofs::MadeParts::first_pieces))]
 fn first_piece(letters: &[Letter], size: usize) -> (&[Letter], &[Letter])
     requires size { 1 ≤ size }
@@ -64,7 +64,7 @@ fn first_piece(letters: &[Letter], size: usize) -> (&[Letter], &[Letter])
     letters.split_at(letters.len().min(size))
 }
 
-/// Appends the letters.
+/// Appends `letters`, without spaces.
 pub(crate) fn push_letters<const N: usize>(text: &mut ArrayString<N>, letters: &[Letter])
     requires { array_string_len text.old + length letters.now ≤ N }
     ensures bytes { text.new.bytes ≡ text.old.bytes ++ letters_text letters.now }

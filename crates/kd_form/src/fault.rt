@@ -1,3 +1,4 @@
+//! FormFault: why a text, an order or a form is refused.
 ghost use Rattle.std.specs.Prelude.{◌≡◌, Some};
 ghost use Rattle.kd_form.specs.FaultText.{form_fault_text};
 
@@ -6,7 +7,7 @@ use kd_tables::{Device, Refusal, Text};
 use std::fmt;
 use thiserror::Error;
 
-/// Why an order becomes no form, or a form no text. Positions are counted in bytes from 1, and parts from 1.
+/// Why a text, an order or a form is refused. Bytes and parts are counted from 1.
 #[derive(Clone, Copy, Debug, PartialEq, Eq, Error)]
 pub enum FormFault {
     /// A slot of the machine is empty, or a cable has one letter.
@@ -17,32 +18,32 @@ pub enum FormFault {
     NoMemory,
     /// The machine isn't set as the day says.
     NotOnKey,
-    /// The byte may not stand there, or one is missing there.
+    /// The byte at this position isn't allowed there, or is missing.
     BadByte(usize),
-    /// The order has no letter to be sent.
+    /// The order's text has no letter.
     EmptyText,
-    /// The text takes another number of parts than there are lines of keys.
+    /// The text needs `needed` parts, and the order has `given` lines of keys.
     PartKeys { needed: usize, given: usize },
     /// An external letter isn't on its wheel.
     KeyNotOnWheel,
-    /// The part's group is none of the day's; on the Converter M-209 its list isn't the day's.
+    /// This part's group is none of the day's; on the Converter M-209, its list isn't the day's.
     WrongGroup(u8),
-    /// The letters that are to give the internal key run out.
+    /// This part's enciphered letters run out before each wheel has a letter of the internal key.
     IndicatorSpent(u8),
-    /// The part doesn't begin with a heading that the day's model has.
+    /// This part doesn't begin with a heading of the day's model.
     BadHeading(u8),
-    /// The part has another number of letters than its heading says.
+    /// This part has more or fewer letters than its heading says.
     CountWrong(u8),
-    /// The indicators at the part's end aren't those at its beginning, or the chosen letter doesn't stand there twice.
+    /// This part ends in other indicators than it begins with, or their first two letters differ.
     IndicatorsDiffer(u8),
-    /// The parts aren't numbered in order, say different numbers of parts, or one is missing.
+    /// The parts aren't numbered in order, their headings differ in the number of parts, or one is missing.
     PartOrder,
-    /// The source gives more bytes than are read of it.
+    /// The source has more than `READ_LIMIT` bytes.
     ReadTooLong,
 }
 
 impl FormFault {
-    /// The refusal's number and name, and the place or the part.
+    /// The refusal's number and name, followed by the numbers that the variant has.
     pub fn text(&self) -> Text
         ensures { result.bytes ≡ form_fault_text self.now }
     {

@@ -1,4 +1,4 @@
-//! A form, as it comes: one part of it is held at a time.
+//! Reads a form byte by byte: divides it into parts, and each part into heading line and body.
 ghost use Rattle.std.specs.Prelude.{codes, ◌≡◌, ◌≢◌, ◌⊎◌, ◌↔◌, ◌+◌, ◌≤◌, ℕ, List, [], ◌∷◌, ◌++◌};
 ghost use Rattle.std.specs.Prelude.{length, take, IsTrue, MatchResult};
 ghost use Rattle.kd_form.specs.declared.heading.Heading.{Heading};
@@ -16,28 +16,28 @@ use super::text::is_text_byte;
 use arrayvec::ArrayVec;
 use kd_state::SheetDay;
 
-/// More bytes than the line of a heading has, with its end.
+/// More bytes than any heading line has, its line end included.
 const LINE: usize = 64;
 
-/// What has come of a form and isn't written yet.
+/// A reader of a form, which holds one part at a time.
 #[derive(Drop)]
 pub(crate) struct FormReader {
-    /// How many bytes have come.
+    /// How many bytes were read.
     pub(crate) position: usize,
-    /// Which part is read, counted from 1.
+    /// The number of the current part, counted from 1.
     pub(crate) number: u8,
-    /// Of how many the form is, once one has been read.
+    /// How many parts the form has, once its first part has been read.
     pub(crate) expected: Option<u8>,
-    /// What has come of it.
+    /// How far the current part has been read.
     pub(crate) stage: Stage,
 }
 
-/// What has come of a part.
+/// How far a part has been read, and the bytes of it that are held.
 #[derive(Drop)]
 pub(crate) enum Stage {
-    /// The first bytes of the line of its heading.
+    /// Within its heading line, of which the first `LINE` bytes are held.
     Heading(ArrayVec<u8, LINE>),
-    /// Its heading, and what has come of its body.
+    /// Within its body.
     Body(PartBody),
 }
 
@@ -103,7 +103,9 @@ impl MessageReader for FormReader {
     }
 }
 
-/// Why the form may not end in the line of a part's heading: there is none, or its body has no letter.
+/// The fault of a form that ends within the heading line of part `number`.
+///
+/// If the heading is valid, the fault is that its body has no letters.
 fn fault_in_heading(
     day: &SheetDay,
     number: u8,
@@ -120,7 +122,9 @@ fn fault_in_heading(
     }
 }
 
-/// Whether the byte may follow these in the line of a heading: up to its first digit, there is one byte or a digit.
+/// Whether `byte` may follow `line` in a heading line.
+///
+/// A heading line begins with `PART `, then a digit. What follows is tested at the line's end.
 fn may_follow(line: &[u8], byte: u8) -> bool
     ensures { IsTrue result ↔ FitsAt (length line.now) byte }
 {
@@ -130,7 +134,7 @@ fn may_follow(line: &[u8], byte: u8) -> bool
     }
 }
 
-/// The first bytes of the line of a heading, up to its first digit.
+/// The first bytes of a heading line: `PART `, then `digit`.
 fn heading_from(digit: u8) -> ArrayVec<u8, LINE>
     ensures { result.items ≡ codes "PART " ++ digit ∷ [] }
 {
@@ -140,7 +144,7 @@ fn heading_from(digit: u8) -> ArrayVec<u8, LINE>
     line
 }
 
-/// Refuses what isn't the heading of the part of that number, where the form is to have so many.
+/// Returns `heading` if it belongs to part `number`, and has the expected number of parts.
 fn check_heading(
     number: u8,
     expected: Option<u8>,
@@ -159,7 +163,7 @@ fn check_heading(
     Ok(heading)
 }
 
-/// Whether the number of parts is the first part's, if there was one.
+/// Whether `parts` is the number of parts in the first heading, if there was one.
 fn is_expected(expected: Option<u8>, parts: u8) -> bool
     ensures { IsTrue result ↔ IsExpected expected parts }
 {

@@ -1,4 +1,4 @@
-//! The letters of a text as they are given.
+//! Writes the letters of a received text as bytes.
 ghost use Rattle.std.specs.Prelude.{◌≡◌, ◌≤◌, length};
 ghost use Rattle.kd_form.specs.FormText.{given_byte, given_letters};
 
@@ -7,7 +7,7 @@ use arrayvec::ArrayVec;
 use kd_state::SheetDay;
 use kd_tables::Letter;
 
-/// The letters as they are given: on the Converter M-209 a space for each Z.
+/// `letters` as bytes: capital letters; on the Converter M-209, a space for each Z.
 pub(crate) fn given_letters<const N: usize>(day: &SheetDay, letters: &[Letter]) -> ArrayVec<u8, N>
     requires { length letters.now ≤ N }
     ensures { result.items ≡ given_letters day.now letters.now }
@@ -20,7 +20,7 @@ pub(crate) fn given_letters<const N: usize>(day: &SheetDay, letters: &[Letter]) 
     given
 }
 
-/// The byte that is given for a letter, where a space may stand for one.
+/// The byte for `letter`: a space if it is `blank`, otherwise a capital letter.
 fn given_byte(blank: &Option<Letter>, letter: Letter) -> u8
     ensures { result ≡ given_byte blank.now letter }
 {

@@ -1,4 +1,4 @@
-//! The heading of a part of a form.
+//! The heading of a part of a form, and how it is written.
 ghost use Rattle.std.specs.Prelude.{◌≡◌, ◌+◌, ◌≤◌, [], ◌++◌};
 ghost use Rattle.arrayvec.specs.ArrayString.{array_string_len};
 ghost use Rattle.kd_form.specs.Part.{heading_words, indicator_words, behind_spaces, with_line};
@@ -9,29 +9,29 @@ use itoa::Buffer;
 use kd_state::{PerSlot, push_number};
 use kd_tables::Letter;
 
-/// The heading of a part of a form.
+/// What the heading line of a part says.
 #[derive(Clone, Copy)]
 pub(crate) struct Heading {
-    /// Which part it is, counted from 1.
+    /// The part's number, counted from 1.
     pub(crate) part: u8,
-    /// Of how many.
+    /// How many parts the form has.
     pub(crate) parts: u8,
     /// How many letters the body has.
     pub(crate) letters: usize,
-    /// What the heading tells of the keys: nothing on the Converter M-209.
+    /// What a rotor machine's heading says of the keys; `None` on the Converter M-209.
     pub(crate) indicator: Option<Indicator>,
 }
 
-/// The indicator in the heading of a rotor machine's part.
+/// What the heading of a rotor machine's part says of the keys.
 #[derive(Clone, Copy)]
 pub(crate) struct Indicator {
-    /// The ground: what the windows show when the message key is deciphered.
+    /// The ground: the letters in the windows before the message key is deciphered.
     pub(crate) start: PerSlot<Letter>,
-    /// The message key, enciphered.
+    /// The enciphered message key.
     pub(crate) key: PerSlot<Letter>,
 }
 
-/// Appends the line of the heading.
+/// Appends `heading` as a line.
 #[tactic(auto, using(crate::proofs::MadeParts::heading_line))]
 pub(crate) fn push_heading<const N: usize>(text: &mut ArrayString<N>, heading: &Heading)
     requires { array_string_len text.old + 50 ≤ N }
@@ -49,7 +49,7 @@ pub(crate) fn push_heading<const N: usize>(text: &mut ArrayString<N>, heading: &
     text.push_str("\n");
 }
 
-/// Appends the ground and the enciphered message key, each behind a space, if the heading has them.
+/// Appends the ground and the enciphered message key, each after a space; nothing for `None`.
 fn push_indicator<const N: usize>(text: &mut ArrayString<N>, indicator: &Option<Indicator>)
     requires { array_string_len text.old + 10 ≤ N }
     ensures bytes { text.new.bytes

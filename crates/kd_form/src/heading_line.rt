@@ -1,4 +1,4 @@
-//! The line of a heading, read.
+//! Reads the heading line of a part.
 ghost use Rattle.std.specs.Prelude.{◌≡◌, ◌≢◌, ◌⊎◌, ◌↔◌, ℕ, ◌^◌, ◌<◌, List, [], ◌∷◌, ◌++◌};
 ghost use Rattle.std.specs.Prelude.{All, decimal, map, take, IsTrue, MatchOption};
 ghost use Rattle.kd_tables.specs.Text.{letters_text};
@@ -18,7 +18,7 @@ use arrayvec::ArrayVec;
 use kd_state::{PerSlot, SheetDay, number_of_text, split_once, split_words, wide_number_of_text};
 use kd_tables::Letter;
 
-/// Which part of how many the word says, if they are from 1 to 99.
+/// Reads a word such as `2/5`: the part's number, and the number of parts, at most 99.
 fn read_fraction(word: &[u8]) -> Option<(u8, u8)>
     ensures { MatchOption result
         ((part parts : ℕ) → IsFraction part parts → fraction part parts ≢ word.now)
@@ -33,7 +33,7 @@ fn read_fraction(word: &[u8]) -> Option<(u8, u8)>
     Some((part, parts))
 }
 
-/// How many letters the word says, if a body may have so many.
+/// Reads how many letters the body has, if a body of the day's model can have that many.
 #[tactic(auto, using(crate::proofs::Headings::same_count))]
 fn read_count(day: &SheetDay, word: &[u8]) -> Option<u16>
     ensures { MatchOption result
@@ -47,7 +47,7 @@ fn read_count(day: &SheetDay, word: &[u8]) -> Option<u16>
     Some(count)
 }
 
-/// The letters of the word, at most four.
+/// Reads `word` as capital letters, at most four.
 #[tactic(auto, using(crate::proofs::Headings::spelling))]
 fn read_letters(word: &[u8]) -> Option<ArrayVec<Letter, 4>>
     ensures { MatchOption result
@@ -65,7 +65,7 @@ fn read_letters(word: &[u8]) -> Option<ArrayVec<Letter, 4>>
     Some(letters)
 }
 
-/// The letters of the word, one for each of so many slots.
+/// Reads `word` as capital letters, one for each of `slots` slots.
 fn read_slots(slots: usize, word: &[u8]) -> Option<PerSlot<Letter>>
     requires { (slots ≡ 3) ⊎ (slots ≡ 4) }
     ensures { MatchOption result
@@ -79,7 +79,7 @@ fn read_slots(slots: usize, word: &[u8]) -> Option<PerSlot<Letter>>
     PerSlot::new(letters.as_slice())
 }
 
-/// The indicator that has these words, if a heading of the day can have it.
+/// Reads the words after the count; `Some(None)` if the day's model has no indicator.
 fn read_indicator(day: &SheetDay, words: &[&[u8]]) -> Option<Option<Indicator>>
     ensures { MatchOption result
         ((found : _) → HasIndicator day.now found
@@ -98,7 +98,7 @@ fn read_indicator(day: &SheetDay, words: &[&[u8]]) -> Option<Option<Indicator>>
     }
 }
 
-/// Whether a body may have so many letters.
+/// Whether a body of the day's model can have `count` letters.
 fn is_letter_count(day: &SheetDay, count: u16) -> bool
     ensures { IsTrue result ↔ IsLetterCount day.now count }
 {
@@ -108,7 +108,7 @@ fn is_letter_count(day: &SheetDay, count: u16) -> bool
     }
 }
 
-/// The heading that has these words, if a part of the day can have it.
+/// Reads the words of a heading line, if they are a heading of the day's model.
 fn heading_of_words(day: &SheetDay, words: &[&[u8]]) -> Option<Heading>
     ensures { AreHeadingWords day.now (map (λ word. word.now) words.now) result }
 {
@@ -130,7 +130,7 @@ fn heading_of_words(day: &SheetDay, words: &[&[u8]]) -> Option<Heading>
     })
 }
 
-/// The heading of the line, if a part of the day can have it.
+/// Reads a heading line, without its line end, if it is one of the day's model.
 #[tactic(auto, using(crate::proofs::Headings::too_many_words))]
 fn heading_of_line(day: &SheetDay, line: &[u8]) -> Option<Heading>
     ensures { MatchOption result
@@ -142,7 +142,9 @@ fn heading_of_line(day: &SheetDay, line: &[u8]) -> Option<Heading>
     heading_of_words(day, words.as_slice())
 }
 
-/// The heading of a part of which no more has come than its first line, without an LF: of that the first 64 bytes are given.
+/// The heading of a part that ends within its heading line, before any LF.
+///
+/// `line` has the first 64 bytes of the heading line.
 pub(crate) fn heading_of_open(day: &SheetDay, line: &[u8]) -> Option<Heading>
     ensures { (part : List ℕ) → IsWithout 10 part → line.now ≡ take 64 part → MatchOption result
         ((h : Heading) (body : List ℕ) → ¬ HasHeading day.now part h body)
@@ -152,7 +154,9 @@ pub(crate) fn heading_of_open(day: &SheetDay, line: &[u8]) -> Option<Heading>
     heading_of_line(day, line)
 }
 
-/// The same of a line that has its LF, which is not given. A CR before it belongs to the line's end.
+/// The heading of a part whose heading line has ended in LF, or in CR and LF.
+///
+/// `line` has the first 64 bytes of the heading line, without the LF.
 pub(crate) fn heading_of_ended(day: &SheetDay, line: &[u8]) -> Option<Heading>
     ensures { (part : List ℕ) → IsWithout 10 part → line.now ≡ take 64 part → MatchOption result
         ((h : Heading) (body : List ℕ) → ¬ HasHeading day.now (part ++ 10 ∷ []) h body)
@@ -162,7 +166,7 @@ pub(crate) fn heading_of_ended(day: &SheetDay, line: &[u8]) -> Option<Heading>
     heading_of_line(day, without_return(line))
 }
 
-/// The line without the CR at its end, if it has one.
+/// `line` without the CR at its end, if it has one.
 fn without_return(line: &[u8]) -> &[u8]
     ensures { IsLineText line.now result.now }
 {

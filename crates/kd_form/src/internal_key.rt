@@ -1,4 +1,4 @@
-//! The internal key of the Converter M-209.
+//! Picks the internal key of the Converter M-209 from twelve enciphered letters.
 ghost use Rattle.std.specs.Prelude.{◌≡◌, ◌≤◌, ◌<◌, ◌+◌, ◌++◌, ◌∷◌, MatchOption};
 ghost use Rattle.kd_state.specs.TwoCiphers.{sheet_key, IsWindow};
 ghost use Rattle.kd_form.specs.InternalKey.{IsInternalKey, HaveRunOut, IsTakenInTurn};
@@ -9,7 +9,7 @@ use super::own_machine::OwnMachine;
 use arrayvec::ArrayVec;
 use kd_tables::{Letter, place_on_wheel};
 
-/// The internal key to which the external letters lead, if the letters don't run out.
+/// The internal key that `keys` give on the day's machine, or `None` if the letters run out.
 pub(crate) fn internal_key_of(own: &mut OwnMachine, keys: &PinKeys) -> Option<ArrayVec<Letter, 6>>
     requires { IsWindow (sheet_key own.old) keys.now.external }
     ensures day { own.new ≡ own.old }
@@ -22,8 +22,9 @@ pub(crate) fn internal_key_of(own: &mut OwnMachine, keys: &PinKeys) -> Option<Ar
     internal_key(&letters)
 }
 
-/// The letters for the six wheels, taken in order from these: one that isn't on the wheel in turn is struck out. None where
-/// the letters run out.
+/// Picks a letter for each of the six wheels, in order; `None` if `letters` run out.
+///
+/// A letter that isn't on the wheel in turn is skipped.
 #[tactic(auto, using(crate::proofs::MadeParts::picking_none, crate::proofs::MadeParts::picking_more))]
 fn internal_key(letters: &[Letter]) -> Option<ArrayVec<Letter, 6>>
     ensures { MatchOption result
@@ -37,7 +38,7 @@ fn internal_key(letters: &[Letter]) -> Option<ArrayVec<Letter, 6>>
     if key.is_full() { Some(key) } else { None }
 }
 
-/// Appends the letter if it is on the wheel in turn. Once each wheel has one, none is.
+/// Appends `letter` if it is on the first wheel that has no letter yet.
 fn take_in_turn(key: &mut ArrayVec<Letter, 6>, letter: Letter)
     ensures { IsTakenInTurn key.old.items letter key.new.items }
 {

@@ -1,9 +1,9 @@
-//! Lists that are kept up to a length.
+//! Lists of which only the first items are kept.
 ghost use Rattle.std.specs.Prelude.{◌≡◌, [], ◌∷◌, ◌++◌, take};
 
 use arrayvec::ArrayVec;
 
-/// Appends the item, if there is room for it.
+/// Appends `item`, if there is room for it.
 pub(crate) fn keep<T: Copy, const N: usize>(items: &mut ArrayVec<T, N>, item: T)
     ensures { items.new.items ≡ take N (items.old.items ++ item ∷ []) }
 {

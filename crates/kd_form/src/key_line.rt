@@ -1,4 +1,4 @@
-//! The line of an order that gives the keys of a part.
+//! The line of an order that has the keys of one part.
 ghost use Rattle.std.specs.Prelude.{◌≡◌, ◌≤◌, ◌+◌, ◌⊎◌, ◌++◌, ◌∷◌, length, MatchOption};
 ghost use Rattle.kd_state.specs.Machine.{AreLetters};
 ghost use Rattle.kd_form.specs.Keys.{AreKeys, AreRotorKeys, ArePinKeys};
@@ -9,7 +9,7 @@ use super::keys::{Keys, PinKeys, RotorKeys};
 use kd_state::{Entry, PerSlot, SheetDay};
 use kd_tables::Letter;
 
-/// The pattern of the line.
+/// The pattern of a line of keys, with `_` for each letter.
 pub(crate) fn key_pattern(day: &SheetDay) -> &'static [u8]
     ensures pattern { result.now ≡ key_pattern day.now }
     ensures few { blanks (key_pattern day.now) ≤ 13 }
@@ -22,7 +22,7 @@ pub(crate) fn key_pattern(day: &SheetDay) -> &'static [u8]
     }
 }
 
-/// How many slots the day's machine has; none on the Converter M-209.
+/// How many slots the day's machine has; `None` for the Converter M-209.
 pub(crate) fn slots_of(day: &SheetDay) -> Option<usize>
     ensures { MatchOption result
         (HasPins day.now)
@@ -34,7 +34,7 @@ pub(crate) fn slots_of(day: &SheetDay) -> Option<usize>
     }
 }
 
-/// The keys with these letters.
+/// Makes keys from the letters of a line, in the line's order.
 pub(crate) fn keys_of(day: &SheetDay, letters: &[Letter]) -> Keys
     requires { AreLetters (blanks (key_pattern day.now)) letters.now }
     ensures letters { key_letters result ≡ letters.now }
@@ -46,7 +46,7 @@ pub(crate) fn keys_of(day: &SheetDay, letters: &[Letter]) -> Keys
     }
 }
 
-/// The keys with these letters on a machine with so many slots.
+/// Makes keys from the letters of a line, for a machine with `slots` slots.
 fn rotor_keys(slots: usize, letters: &[Letter]) -> RotorKeys
     requires slots { (slots ≡ 3) ⊎ (slots ≡ 4) }
     requires letters { AreLetters (slots + slots + 5) letters.now }
@@ -69,7 +69,7 @@ fn rotor_keys(slots: usize, letters: &[Letter]) -> RotorKeys
     }
 }
 
-/// The keys with these letters on the Converter M-209.
+/// Makes keys from the letters of a line, for the Converter M-209.
 fn pin_keys(letters: &[Letter]) -> PinKeys
     requires { AreLetters 7 letters.now }
     ensures letters { letters.now ≡ result.chosen ∷ result.external }

@@ -1,7 +1,8 @@
+//! Keys: what the sender chose for one part of a form.
 use kd_state::PerSlot;
 use kd_tables::Letter;
 
-/// What an order gives for one part of the form.
+/// What the sender chose for one part of a form.
 #[derive(Clone, Copy)]
 pub(crate) enum Keys {
     Rotor(RotorKeys),
@@ -11,11 +12,11 @@ pub(crate) enum Keys {
 /// The keys of a part on a rotor machine.
 #[derive(Clone, Copy)]
 pub(crate) struct RotorKeys {
-    /// The ground: what the windows show when the message key is enciphered.
+    /// The ground: the letters in the windows before the message key is enciphered.
     pub(crate) start: PerSlot<Letter>,
-    /// The message key: what the windows show when the text is.
+    /// The message key: the letters in the windows before the text is enciphered.
     pub(crate) key: PerSlot<Letter>,
-    /// The two letters in front of the group.
+    /// The two letters before the group.
     pub(crate) fillers: [Letter; 2],
     /// The letters of one of the day's groups, in any order.
     pub(crate) group: [Letter; 3],
@@ -26,11 +27,11 @@ pub(crate) struct RotorKeys {
 pub(crate) struct PinKeys {
     /// The letter that is enciphered twelve times for the internal key.
     pub(crate) chosen: Letter,
-    /// What the wheels show then.
+    /// The letters that the wheels show before the chosen letter is enciphered.
     pub(crate) external: [Letter; 6],
 }
 
-/// What stands in the unused places of a list of keys.
+/// What fills the unused places of an `ArrayVec` of keys.
 impl Default for Keys {
     fn default() -> Self {
         Keys::Pin(PinKeys {

@@ -1,4 +1,4 @@
-//! Messages that are read as they come: texts that are typed, orders that are sent, and the forms that they become.
+//! Types texts, turns orders into forms and forms into texts, byte by byte as they arrive.
 #![tactic(auto)]
 
 mod body;

@@ -1,4 +1,4 @@
-//! A part of a form, made of a piece of text and its keys.
+//! Makes one part of a form from its keys and its share of the text.
 ghost use Rattle.std.specs.Prelude.{◌≡◌, ◌≤◌, ℕ, List, length};
 ghost use Rattle.kd_form.specs.InternalKey.{IsInternalKey};
 ghost use Rattle.kd_form.specs.Keys.{AreKeys};
@@ -16,10 +16,10 @@ use arrayvec::{ArrayString, ArrayVec};
 use kd_state::{PerSlot, SheetDay};
 use kd_tables::Letter;
 
-/// No part is longer: its heading, and 520 letters in groups.
+/// Enough bytes for any part: its heading, and 520 letters in groups.
 pub(crate) const LONGEST: usize = 1100;
 
-/// The text of the part of that number, of so many, that a piece of text becomes by keys that suit the day.
+/// Writes part `part` of `parts`: its heading, and `text` enciphered with `keys`.
 pub(crate) fn make_part(
     day: &SheetDay,
     part: u8,
@@ -46,7 +46,7 @@ pub(crate) fn make_part(
     }
 }
 
-/// The text of the part of that number, of so many, with these letters in its body.
+/// Writes part `part` of `parts`: its heading, and `letters` as its body.
 fn text_of(
     part: u8,
     parts: u8,
@@ -68,7 +68,7 @@ fn text_of(
     text
 }
 
-/// The ground, and the message key, enciphered from there.
+/// The ground, and the message key enciphered from the ground.
 #[tactic(auto, using(crate::proofs::MadeParts::enciphered_length))]
 fn indicator_of(own: &mut OwnMachine, keys: &RotorKeys) -> Indicator
     requires { AreKeys own.old (Keys.Rotor keys.now) }
@@ -83,7 +83,7 @@ fn indicator_of(own: &mut OwnMachine, keys: &RotorKeys) -> Indicator
     }
 }
 
-/// The letters of a rotor machine's part.
+/// The body of a rotor machine's part: fillers, group, and `text` enciphered.
 fn rotor_letters(own: &mut OwnMachine, keys: &RotorKeys, text: &[Letter]) -> ArrayVec<Letter, 520>
     requires keys { AreKeys own.old (Keys.Rotor keys.now) }
     requires few { length text.now ≤ 245 }
@@ -98,7 +98,7 @@ fn rotor_letters(own: &mut OwnMachine, keys: &RotorKeys, text: &[Letter]) -> Arr
     letters
 }
 
-/// The letters of a part on the Converter M-209.
+/// The body of a Converter M-209's part: `text` enciphered, with the indicators before and after it.
 #[tactic(auto, using(crate::proofs::MadeParts::has_internal))]
 fn pin_letters(own: &mut OwnMachine, keys: &PinKeys, text: &[Letter]) -> ArrayVec<Letter, 520>
     requires keys { AreKeys own.old (Keys.Pin keys.now) }
@@ -120,7 +120,7 @@ fn pin_letters(own: &mut OwnMachine, keys: &PinKeys, text: &[Letter]) -> ArrayVe
     letters
 }
 
-/// The indicators of a part on the Converter M-209.
+/// The chosen letter twice, the external letters, and the two letters of the day's list.
 pub(crate) fn indicators_of(day: &SheetDay, keys: &PinKeys) -> ArrayVec<Letter, 10>
     requires { AreKeys day.now (Keys.Pin keys.now) }
     ensures value { result.items ≡ pin_indicators day.now keys.now }
@@ -135,7 +135,7 @@ pub(crate) fn indicators_of(day: &SheetDay, keys: &PinKeys) -> ArrayVec<Letter, 
     indicators
 }
 
-/// The text, filled with X to whole groups of five.
+/// `text`, filled with X to whole groups of five.
 fn filled(text: &[Letter]) -> ArrayVec<Letter, 500>
     requires { length text.now ≤ 500 }
     ensures { result.items ≡ filled text.now }

@@ -1,4 +1,4 @@
-//! An order, byte by byte.
+//! Reads an order byte by byte, and makes the parts of its form.
 ghost use Rattle.std.specs.Prelude.{◌≡◌, [], ◌∷◌, ◌++◌};
 
 pub(crate) mod head;
@@ -12,7 +12,7 @@ use head::{HeadReader, HeadStep};
 use kd_state::SheetDay;
 use parts::PartWriter;
 
-/// What reads an order, and writes its parts.
+/// A reader of an order, which makes the parts of its form.
 #[derive(Drop)]
 pub(crate) struct OrderReader {
     /// How many bytes were read.
@@ -22,10 +22,10 @@ pub(crate) struct OrderReader {
     parts: PartWriter,
 }
 
-/// Where in an order the next byte stands.
+/// Where in an order the next byte is.
 #[derive(Clone, Copy)]
 pub(crate) enum Stage {
-    /// In the lines up to its text.
+    /// In its head: the lines of keys and the line TEXT.
     Head,
     /// In its text.
     Text,

@@ -1,4 +1,4 @@
-//! The day's own machine, from any letters on, and letters that are appended.
+//! The day's own machine, with any letters in its windows; and `push_letters`.
 ghost use Rattle.std.specs.Prelude.{◌≡◌, ◌↔◌, ◌≤◌, ◌+◌, ◌<◌, ◌++◌, length, All, IsTrue};
 ghost use Rattle.std.specs.Bool.{OnTrue};
 ghost use Rattle.kd_state.specs.TwoCiphers.{sheet_key, IsWindow};
@@ -9,11 +9,11 @@ use kd_state::{Engine, SheetDay, own_engine};
 use kd_tables::Letter;
 use std::marker::Model;
 
-/// The day's own machine, which is turned to one window after another.
+/// The day's own machine, whose windows are set anew for each text.
 #[derive(Drop)]
 pub(crate) struct OwnMachine<'day> {
     pub(crate) day: &'day SheetDay,
-    /// It is set to the day's key, whatever letters show.
+    /// The engine, set to the day's key, whatever letters show.
     engine: Engine,
 }
 
@@ -29,7 +29,7 @@ impl<'day> Model for OwnMachine<'day> {
 }
 
 impl<'day> OwnMachine<'day> {
-    /// The machine as the day sets it.
+    /// Creates the machine as the day sets it.
     #[tactic(auto, using(crate::proofs::MadeParts::own_at_first))]
     pub(crate) fn new(day: &'day SheetDay) -> Self
         ensures { result ≡ day.now }
@@ -40,8 +40,9 @@ impl<'day> OwnMachine<'day> {
         }
     }
 
-    /// Enciphers or deciphers a text in its place on the machine, which shows these letters first. False where there isn't
-    /// one for each slot or wheel, or one isn't on its wheel.
+    /// Enciphers or deciphers `text` in place, with the letters of `window` showing first.
+    ///
+    /// Returns false if `window` isn't one letter for each slot or wheel, each on its wheel.
     #[tactic(auto, using(crate::proofs::MadeParts::own_when_turned))]
     pub(crate) fn encipher(&mut self, window: &[Letter], text: &mut [Letter]) -> bool
         ensures day { self.new ≡ self.old }
@@ -55,7 +56,7 @@ impl<'day> OwnMachine<'day> {
         turned
     }
 
-    /// Whether there is a letter for each slot or wheel, each on its wheel.
+    /// Whether `window` is one letter for each slot or wheel, each on its wheel.
     pub(crate) fn can_show(&mut self, window: &[Letter]) -> bool
         ensures day { self.new ≡ self.old }
         ensures window { IsTrue result ↔ IsWindow (sheet_key self.old) window.now }
@@ -63,7 +64,7 @@ impl<'day> OwnMachine<'day> {
         self.encipher(window, &mut [])
     }
 
-    /// What the machine makes of a text, if it shows these letters first.
+    /// `text`, enciphered or deciphered with the letters of `window` showing first.
     #[tactic(auto, using(crate::proofs::MadeParts::stay_letters))]
     pub(crate) fn enciphered<const N: usize>(
         &mut self,
@@ -83,7 +84,7 @@ impl<'day> OwnMachine<'day> {
     }
 }
 
-/// Appends letters, for which there is room.
+/// Appends `more` to `letters`, which must have room.
 pub(crate) fn push_letters<const N: usize>(letters: &mut ArrayVec<Letter, N>, more: &[Letter])
     requires { length letters.old.items + length more.now ≤ N }
     ensures { letters.new.items ≡ letters.old.items ++ more.now }

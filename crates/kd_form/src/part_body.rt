@@ -1,4 +1,4 @@
-//! The body of a part of a form, as it comes.
+//! Reads the body of a part of a form byte by byte.
 ghost use Rattle.std.specs.Prelude.{codes, ◌≡◌, ◌≢◌, ◌↔◌, ◌<◌, ◌≤◌, ℕ, List, [], ◌∷◌, ◌++◌, length};
 ghost use Rattle.std.specs.Prelude.{take, slice_index, IsTrue, MatchResult, MatchOption, OnErr};
 ghost use Rattle.std.specs.Prelude.{OnOk};
@@ -23,26 +23,27 @@ use arrayvec::ArrayVec;
 use kd_state::SheetDay;
 use kd_tables::Letter;
 
-/// One letter more than a body has at most, so that a longer one is told from it, and the four of `PART`, which may yet begin
-/// the next heading.
+/// How many letters of a body are kept.
+///
+/// A body has at most 520. One more shows that it is too long, and the four of `PART` may begin the next heading.
 const KEPT: usize = 525;
 
-/// As many bytes tell whether a line begins as a heading does.
+/// How many bytes of a line tell whether it begins a heading.
 const FIRST: usize = 6;
 
-/// The body of a part of a form, as far as it has come.
+/// The body of a part of a form, as far as it has been read.
 #[derive(Drop)]
 pub(crate) struct PartBody {
     /// What the part's heading says.
     pub(crate) heading: Heading,
-    /// Its first letters.
+    /// The first letters of the body.
     pub(crate) letters: ArrayVec<Letter, KEPT>,
-    /// The first bytes of its last line.
+    /// The first bytes of the current line.
     pub(crate) line: ArrayVec<u8, FIRST>,
 }
 
 impl PartBody {
-    /// The body behind that heading, of which nothing has come.
+    /// Creates the body after `heading`, of which nothing has been read.
     pub(crate) fn new(heading: Heading) -> PartBody
         ensures heading { result.heading ≡ heading }
         ensures letters { result.letters.items ≡ [] }
@@ -55,14 +56,14 @@ impl PartBody {
         }
     }
 
-    /// Whether the byte is the first digit of the next heading.
+    /// Whether `byte` is the first digit of the next heading line.
     pub(crate) fn ends_before(&self, byte: u8) -> bool
         ensures { IsTrue result ↔ ((self.now.line.items ≡ codes "PART ") × (48 ≤ byte) × (byte ≤ 57)) }
     {
         is_text(self.line.as_slice(), b"PART ") && byte.is_ascii_digit()
     }
 
-    /// Takes a byte that may stand in a body.
+    /// Takes the next byte, which must be allowed in a body.
     pub(crate) fn push(&mut self, byte: u8)
         requires { IsTrue (is_text_byte byte) }
         ensures heading { self.new.heading ≡ self.old.heading }
@@ -73,8 +74,9 @@ impl PartBody {
         keep_byte(&mut self.line, byte);
     }
 
-    /// Tells the letters of the part's text as they are given. The last ones of the body, so many, are left out: those of the
-    /// next heading. It stands apart, as the bytes before the last one have no room to be made for them.
+    /// Deciphers the body into `made`, without its last `others` letters, which are the next heading's.
+    ///
+    /// Not inlined: otherwise every byte read would pay for this frame.
     #[inline(never)]
     pub(crate) fn give(
         &self,
@@ -101,7 +103,7 @@ impl PartBody {
     }
 }
 
-/// Keeps the letter, if there is one.
+/// Appends `letter`, if there is one and room for it.
 fn keep_letter(letters: &mut ArrayVec<Letter, KEPT>, letter: Option<Letter>)
     ensures { letters.old.items ≡ take 525 letters.old.items
         → letters.new.items ≡ take 525 (letters.old.items ++ option_to_list letter) }
@@ -111,7 +113,9 @@ fn keep_letter(letters: &mut ArrayVec<Letter, KEPT>, letter: Option<Letter>)
     }
 }
 
-/// Keeps the byte among the first ones of its line. Mostly nothing is written, and the next byte needn't wait for it.
+/// Appends `byte` while there is room; an LF begins a new line.
+///
+/// For most bytes nothing is written, so that the next byte needn't wait.
 fn keep_byte(line: &mut ArrayVec<u8, FIRST>, byte: u8)
     ensures ended { byte ≡ 10 → line.new.items ≡ [] }
     ensures longer { byte ≢ 10 → line.new.items ≡ take 6 (line.old.items ++ byte ∷ []) }
@@ -123,7 +127,7 @@ fn keep_byte(line: &mut ArrayVec<u8, FIRST>, byte: u8)
     }
 }
 
-/// The byte at that place of the five with which a heading begins, before its first digit.
+/// The byte of `PART ` at `place`, counted from 0; `None` after its five bytes.
 pub(crate) fn head_byte(place: usize) -> Option<u8>
     ensures { MatchOption result
         (5 ≤ place)

@@ -1,4 +1,4 @@
-//! The letters of a part's body, read.
+//! Reads the letters of a part's body: tests indicators and group, and deciphers the rest.
 ghost use Rattle.std.specs.Prelude.{◌≡◌, ◌+◌, ◌^◌, ◌<◌, ◌≤◌, ◌↔◌, Some, length, IsTrue};
 ghost use Rattle.std.specs.Prelude.{MatchResult};
 ghost use Rattle.kd_form.specs.Reading.{HasIndicator, SaysRotor, SaysPin};
@@ -17,7 +17,7 @@ use arrayvec::ArrayVec;
 use kd_state::SheetDay;
 use kd_tables::Letter;
 
-/// The letters of the text of a rotor machine's part.
+/// Tests the group of a rotor machine's part, and deciphers the letters after it.
 #[tactic(auto, using(crate::proofs::MadeParts::key_is_window))]
 fn read_rotor_letters(
     day: &SheetDay,
@@ -42,7 +42,7 @@ fn read_rotor_letters(
     Ok(own.enciphered(key.as_slice(), &letters[5..]))
 }
 
-/// Whether the last ten letters are the first ten, of which the first two are the same.
+/// Whether the last ten letters are the first ten, and the first two are the same.
 #[tactic(auto, using(crate::proofs::Lines::comparing))]
 fn has_indicators_around(letters: &[Letter]) -> bool
     requires { 20 ≤ length letters.now }
@@ -51,7 +51,7 @@ fn has_indicators_around(letters: &[Letter]) -> bool
     letters[..10] == letters[letters.len() - 10..] && letters[0] == letters[1]
 }
 
-/// The keys in the indicators.
+/// The keys in the indicators with which `letters` begin.
 fn keys_in(letters: &[Letter]) -> PinKeys
     requires { 20 ≤ length letters.now }
     ensures { result ≡ keys_in letters.now }
@@ -61,7 +61,7 @@ fn keys_in(letters: &[Letter]) -> PinKeys
     PinKeys { chosen, external }
 }
 
-/// The letters of the text of a part on the Converter M-209.
+/// Tests the indicators of a Converter M-209's part, and deciphers the letters between them.
 fn read_pin_letters(
     day: &SheetDay,
     part: u8,
@@ -93,7 +93,9 @@ fn read_pin_letters(
     }
 }
 
-/// The letters of the text of a part that has this heading and these letters in its body, or more than a body has.
+/// Deciphers `letters`, the body of the part with `heading`.
+///
+/// Of a body that is too long, `letters` has only the first ones, still more than any heading says.
 pub(crate) fn read_body(
     day: &SheetDay,
     heading: &Heading,

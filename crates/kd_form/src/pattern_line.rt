@@ -1,4 +1,4 @@
-//! Patterns of lines: `_` stands for a letter, and each other byte for itself.
+//! Reads a line by its pattern, in which `_` stands for a letter and each other byte for itself.
 ghost use Rattle.std.specs.Prelude.{◌≡◌, ◌≤◌, ◌<◌, [], ◌+◌, ◌++◌, MatchResult};
 ghost use Rattle.std.specs.Bool.{OnTrue, OnFalse};
 ghost use Rattle.arrayvec.specs.ArrayVec.{array_vec_len};
@@ -8,19 +8,19 @@ ghost use Rattle.kd_form.specs.Patterns.{blanks, fits, letters_at, IsFilledLine,
 use arrayvec::ArrayVec;
 use kd_tables::Letter;
 
-/// No pattern takes more letters than the line of a part's keys on four wheels.
+/// The most letters that a pattern has: those of a line of keys for four slots.
 const MOST: usize = 13;
 
-/// Why bytes are no line.
+/// Why bytes aren't a line of a pattern.
 #[derive(Clone, Copy)]
 pub(crate) enum Unread {
-    /// More has to follow.
+    /// They are a prefix of such a line.
     Open,
-    /// No line begins so.
+    /// No such line begins with them.
     Off,
 }
 
-/// The letters of the line of that pattern, with its end.
+/// Reads `bytes` as a line of `pattern` with its line end; returns the letters for each `_`.
 pub(crate) fn read_pattern(pattern: &[u8], bytes: &[u8]) -> Result<ArrayVec<Letter, MOST>, Unread>
     requires { blanks pattern.now ≤ 13 }
     ensures { MatchResult result
@@ -32,7 +32,7 @@ pub(crate) fn read_pattern(pattern: &[u8], bytes: &[u8]) -> Result<ArrayVec<Lett
     Ok(letters)
 }
 
-/// Appends the letters of the line of that pattern, with its end.
+/// Reads `bytes` as a line of `pattern` with its line end, and appends the letters for each `_`.
 #[tactic(auto, using(crate::proofs::Lines::line_open, crate::proofs::Lines::line_off, crate::proofs::Lines::line_on, crate::proofs::Lines::line_ends))]
 fn read_letters(
     pattern: &[u8],
@@ -56,7 +56,7 @@ fn read_letters(
     read_letters(marks, rest, letters)
 }
 
-/// Whether the byte may stand for the mark; if it stands for a letter, appends that.
+/// Whether `byte` fits `mark`; if `mark` is `_`, appends the byte's letter.
 fn take_letter(letters: &mut ArrayVec<Letter, MOST>, mark: u8, byte: u8) -> bool
     requires { mark ≡ 95 → array_vec_len letters.old < 13 }
     ensures fits { result ≡ fits mark byte }
@@ -75,7 +75,7 @@ fn take_letter(letters: &mut ArrayVec<Letter, MOST>, mark: u8, byte: u8) -> bool
     }
 }
 
-/// Refuses what isn't the end of a line: LF, or CR and LF.
+/// Checks that `bytes` are a line end: LF, or CR and LF.
 #[tactic(auto, using(crate::proofs::Lines::end_open, crate::proofs::Lines::end_off))]
 fn read_end(bytes: &[u8]) -> Result<(), Unread>
     ensures { MatchResult result

@@ -1,4 +1,4 @@
-//! The text that a form becomes.
+//! Receives a form: `receive` returns its text, and `receive_stream` writes it to a sink.
 ghost use Rattle.std.specs.Prelude.{◌≡◌, ℕ, List, IsTrue};
 ghost use Rattle.kd_tables.specs.Ports.{Fail, port};
 ghost use Rattle.kd_form.specs.FormText.{form_message, IsTextOf, IsReceiveFault};
@@ -15,12 +15,12 @@ use kd_state::{Machine, SheetDay};
 use kd_tables::{Sink, Source};
 use std::alloc::Global;
 
-/// The text that the form becomes on a machine that is on the day's key: capital letters, on the Converter M-209 with a space
-/// for each Z, and LF.
+/// Deciphers `form` on `machine`, which must be on the day's key. The text ends in LF.
 ///
-/// `NotReady` and `NotOnKey` come first, and then the form's first fault, part after part: `BadHeading`, `PartOrder`,
-/// `BadByte`, `CountWrong`, and what is wrong with its letters; at the end `PartOrder` again. `NoMemory` is told only of a form
-/// that becomes a text.
+/// On the Converter M-209, a space stands for each Z. `NotReady` and `NotOnKey` come first, then the form's
+/// first fault, part by part: `BadHeading`, `PartOrder`, `BadByte`, `CountWrong`, and the faults of the
+/// letters. At the end of the form, `PartOrder` means that parts are missing. `NoMemory` comes only for a form
+/// without a fault.
 pub fn receive(
     alloc: Global,
     machine: &Machine,
@@ -35,13 +35,12 @@ pub fn receive(
     bytes_of::<FormReader>(alloc, day, form)
 }
 
-/// Reads a form from the source as it comes, and writes its text to the sink, part by part. No more than one part is held, and
-/// no memory is taken.
+/// Reads a form from `source`, and writes its text to `sink`, part by part.
 ///
-/// `NotReady` and `NotOnKey` come first, and nothing is read then. What refuses the form whatever follows comes before
-/// `ReadTooLong`, and before `Device` where it is the source that fails; what refuses it at its end is told there. The texts
-/// of the parts before are written by then. `ReadTooLong` is told where more than `READ_LIMIT` bytes come, and `Device` where
-/// a get or a put fails.
+/// It holds at most one part, and takes no memory. `NotReady` and `NotOnKey` come before anything is read. A
+/// fault that further bytes can't change comes before `ReadTooLong`, and before `Device` if the source fails;
+/// the other faults come at the end of the form. The texts of the parts before the fault are written by then.
+/// `ReadTooLong` means that the source has more than `READ_LIMIT` bytes, `Device` that a get or a put failed.
 #[tactic(auto, using(crate::proofs::OneText::off_key, crate::proofs::OneText::form_told))]
 pub fn receive_stream<R: Source, W: Sink>(
     machine: &Machine,

@@ -1,4 +1,4 @@
-//! The form that an order becomes.
+//! Sends an order: `send` returns its form, and `send_stream` writes it to a sink.
 ghost use Rattle.std.specs.Prelude.{◌≡◌, ◌≤◌, ℕ, List, IsTrue, MatchResult};
 ghost use Rattle.kd_tables.specs.Ports.{Fail, port};
 ghost use Rattle.kd_form.specs.Making.{part_size};
@@ -16,10 +16,10 @@ use kd_state::{Machine, SheetDay};
 use kd_tables::{Sink, Source};
 use std::alloc::Global;
 
-/// The form that the order becomes on a machine that is on the day's key.
+/// Enciphers `order` on `machine`, which must be on the day's key, into a form.
 ///
-/// `NotReady` and `NotOnKey` come first, and then the order's first fault: in the lines up to its text, in the keys of a part,
-/// in the bytes of the text, `EmptyText`, `PartKeys`. `NoMemory` is told only of an order that becomes a form.
+/// `NotReady` and `NotOnKey` come first, then the order's first fault: in its head, in the keys of a part, in
+/// the bytes of its text, `EmptyText`, `PartKeys`. `NoMemory` comes only for an order without a fault.
 pub fn send(
     alloc: Global,
     machine: &Machine,
@@ -34,13 +34,13 @@ pub fn send(
     bytes_of::<OrderReader>(alloc, day, order)
 }
 
-/// Reads an order from the source as it comes, and writes the form that it becomes on a machine that is on the day's key, part
-/// by part. It holds one part, and takes no memory.
+/// Reads an order from `source`, and writes its form to `sink`, part by part.
 ///
-/// `NotReady` and `NotOnKey` come first, and then nothing is read or written. What the bytes show whatever follows comes
-/// before `ReadTooLong`, and before `Device` where it is the source that fails; what the end of the order shows comes at the
-/// end of the source. A part is written once a letter has come for the next one, so a part may be out when the order is
-/// refused. At most 1,048,576 bytes are read, and one more to see that there are more.
+/// It holds at most one part, and takes no memory. `NotReady` and `NotOnKey` come before anything is read or
+/// written. A fault that further bytes can't change comes before `ReadTooLong`, and before `Device` if the
+/// source fails; the other faults come at the end of the source. A part is written once the first letter of the
+/// next one has been read, so the sink may have parts of an order that is refused. At most 1,048,576 bytes are
+/// read, and one more to see whether there are more.
 #[tactic(auto, using(crate::proofs::OneText::off_key))]
 pub fn send_stream<R: Source, W: Sink>(
     machine: &Machine,
@@ -60,7 +60,7 @@ pub fn send_stream<R: Source, W: Sink>(
     stream(day, &mut OrderReader::start(day), source, sink)
 }
 
-/// How many letters of the text a part has at most.
+/// How many letters of text a part has at most.
 pub(crate) fn part_size(day: &SheetDay) -> usize
     ensures value { result ≡ part_size day.now }
     ensures some { 245 ≤ result }

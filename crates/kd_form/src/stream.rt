@@ -1,4 +1,4 @@
-//! Messages that are read from a source as they come, and written to a sink piece by piece.
+//! The loop that reads a message from a source, and writes its result to a sink.
 ghost use Rattle.std.specs.Prelude.{[]};
 ghost use Rattle.kd_tables.specs.Ports.{port};
 ghost use Rattle.kd_form.specs.Streams.{IsStreamed};
@@ -15,7 +15,9 @@ use kd_tables::{READ_LIMIT, Sink, Source, is_at_end};
 use piece::{close, read_next};
 use reader::{PIECE, PieceReader};
 
-/// Reads a message from the source to its end, on a day or on a machine, and writes what becomes of it as it comes.
+/// Reads a message from `source` to its end, and writes its result to `sink` piece by piece.
+///
+/// `on` is the day or the machine that the reader works with.
 pub(crate) fn stream<On, M: PieceReader<On>, R: Source, W: Sink>(
     on: &On,
     reader: &mut M,

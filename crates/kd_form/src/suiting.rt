@@ -1,4 +1,4 @@
-//! Whether the keys of an order suit the day.
+//! Checks that the keys of an order suit the day.
 ghost use Rattle.std.specs.Prelude.{◌≤◌, length, All, MatchResult};
 ghost use Rattle.kd_form.specs.Keys.{AreKeys};
 ghost use Rattle.kd_form.specs.Making.{Suits};
@@ -10,7 +10,9 @@ use super::keys::{Keys, PinKeys};
 use super::own_machine::OwnMachine;
 use kd_state::SheetDay;
 
-/// Refuses the first keys that don't suit the day. It stands apart, as each byte of an order would make room for what it keeps.
+/// Checks that the keys of all parts suit the day; otherwise, returns the first fault.
+///
+/// Not inlined: otherwise every byte read would pay for this frame.
 #[inline(never)]
 #[tactic(auto, using(crate::proofs::Prelude::err_is, crate::proofs::Lines::unsuited))]
 pub(crate) fn check_keys(day: &SheetDay, keys: &[Keys]) -> Result<(), FormFault>
@@ -26,7 +28,7 @@ pub(crate) fn check_keys(day: &SheetDay, keys: &[Keys]) -> Result<(), FormFault>
     Ok(())
 }
 
-/// Refuses the keys of the part of that number if they don't suit the day.
+/// Checks that the keys of part `part` suit the day.
 fn check_part(day: &SheetDay, part: u8, keys: &Keys) -> Result<(), FormFault>
     requires { AreKeys day.now keys.now }
     ensures { MatchResult result
@@ -45,7 +47,7 @@ fn check_part(day: &SheetDay, part: u8, keys: &Keys) -> Result<(), FormFault>
     }
 }
 
-/// Refuses the keys of a part on the Converter M-209 if they don't suit the day.
+/// Checks that the keys of part `part` on the Converter M-209 suit the day.
 fn check_pin_keys(own: &mut OwnMachine, part: u8, keys: &PinKeys) -> Result<(), FormFault>
     requires { AreKeys own.old (Keys.Pin keys.now) }
     ensures { MatchResult result

@@ -1,4 +1,4 @@
-//! The text of an order: capital letters and spaces, with line ends anywhere.
+//! The bytes of a text: capital letters, spaces and line ends, and the letters that they give.
 ghost use Rattle.std.specs.Prelude.{◌≡◌, ◌↔◌, IsTrue};
 ghost use Rattle.kd_tables.specs.Text.{is_text_byte};
 ghost use Rattle.kd_form.specs.Sending.{blank_of, letter_of_byte};
@@ -6,7 +6,7 @@ ghost use Rattle.kd_form.specs.Sending.{blank_of, letter_of_byte};
 use kd_state::SheetDay;
 use kd_tables::Letter;
 
-/// The letter that a space stands for: Z on the Converter M-209, and none on a rotor machine.
+/// The letter that a space stands for: Z on the Converter M-209, `None` on a rotor machine.
 pub(crate) fn blank_of(day: &SheetDay) -> Option<Letter>
     ensures { result ≡ blank_of day.now }
 {
@@ -16,7 +16,7 @@ pub(crate) fn blank_of(day: &SheetDay) -> Option<Letter>
     }
 }
 
-/// The letter that a byte of the text gives, where a space stands for that.
+/// The letter that `byte` gives; a space gives `blank`.
 pub(crate) fn letter_of_byte(blank: &Option<Letter>, byte: u8) -> Option<Letter>
     ensures { result ≡ letter_of_byte blank.now byte }
 {
@@ -26,14 +26,14 @@ pub(crate) fn letter_of_byte(blank: &Option<Letter>, byte: u8) -> Option<Letter>
     Letter::from_byte(byte)
 }
 
-/// Whether the byte may stand in a text.
+/// Whether `byte` is allowed in a text.
 pub(crate) fn is_text_byte(byte: u8) -> bool
     ensures { result ≡ is_text_byte byte }
 {
     matches!(byte, b'A'..=b'Z' | b' ' | b'\r' | b'\n')
 }
 
-/// Whether the bytes are this text.
+/// Whether `bytes` are exactly `text`.
 pub(crate) fn is_text(bytes: &[u8], text: &[u8]) -> bool
     ensures { IsTrue result ↔ (bytes.now ≡ text.now) }
 {

@@ -1,4 +1,4 @@
-//! A text that is typed on a machine.
+//! Types a text on a machine.
 ghost use Rattle.std.specs.Prelude.{◌≡◌, IsTrue};
 ghost use Rattle.kd_tables.specs.Ports.{Fail, port};
 ghost use Rattle.kd_form.specs.Streams.{is_device, is_off_key};
@@ -15,12 +15,11 @@ use kd_state::{Engine, Machine};
 use kd_tables::{Letter, Sink, Source, put_all};
 use piece::type_piece;
 
-/// Types all that the source gives on the machine as it stands, and writes the lamps that light up, as capital
-/// letters, and LF.
+/// Types the text from `source` on `machine`, and writes the lamps as capital letters, then LF.
 ///
-/// `NotReady` comes first, and then nothing is read or written. The first byte that is not allowed is refused behind
-/// the lamps of the letters before it, whatever follows; that comes before `ReadTooLong`, and before `Device` where it
-/// is the source that fails. At most 1,048,576 bytes are read, and one more to see that there are more.
+/// `NotReady` comes before anything is read or written. The first byte that isn't allowed is refused after the
+/// lamps of the letters before it, whatever follows. This fault comes before `ReadTooLong`, and before `Device`
+/// if the source fails. At most 1,048,576 bytes are read, and one more to see whether there are more.
 #[tactic(auto, using(crate::proofs::OneText::text_told))]
 pub fn type_stream<R: Source, W: Sink>(
     machine: &Machine,
@@ -44,15 +43,15 @@ pub fn type_stream<R: Source, W: Sink>(
     stream(machine, &mut typist, source, sink)
 }
 
-/// What types a text.
+/// A reader that types a text.
 #[derive(Drop)]
 pub(crate) struct Typist {
     engine: Engine,
     /// How many bytes were typed.
     read: usize,
-    /// The letters of a piece. The two vectors are kept from piece to piece, so that they are filled once.
+    /// The letters of a piece. Both vectors are reused, so that their places are filled only once.
     letters: ArrayVec<Letter, PIECE>,
-    /// The lamps that lit up.
+    /// The lamps that lit up, as capital letters.
     lamps: ArrayVec<u8, PIECE>,
 }
 

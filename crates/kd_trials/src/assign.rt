@@ -1,11 +1,11 @@
-//! Tests of the cheapest assignment.
+//! Tests of minimum-cost assignments.
 ghost use Rattle.std.specs.Prelude.{◌≤◌};
 ghost use Rattle.kd_assign.specs.Prices.{CostsAtMost};
 
 use kd_assign::assign;
 use std::process::Abort;
 
-/// The answer for the costs is that, with so many comparisons.
+/// Checks the assignment `to` for the table `cost`, its total cost, and the number of comparisons.
 fn is_answered<const N: usize>(
     rt: &impl Abort,
     cost: &[[u8; N]; N],
@@ -22,7 +22,7 @@ fn is_answered<const N: usize>(
     assert_eq!(rt; (solution.total, solution.scans.count()), (total, scans));
 }
 
-/// A row is moved to make room for another; and where each row finds a free column, roots alone are compared.
+/// In some tables a row is moved to make room for another; in others each row finds a free column at once.
 #[test]
 fn answers_small_tables(rt: HostRuntime) {
     is_answered(&rt, &[[4]], [0], 4, 1);
@@ -37,7 +37,7 @@ fn answers_three_rows(rt: HostRuntime) {
     assert_eq!(rt; solution.total, 1);
 }
 
-/// The total for a table of one cost.
+/// The cost of the assignment for a table whose costs are all `each`.
 fn total_of_all<const N: usize>(each: u8) -> u16
     requires some { 1 ≤ N }
     requires few { N ≤ 32 }

@@ -7,10 +7,10 @@ use crate::texts::{
 mod read;
 mod write;
 
-/// A card's text, its day, and the numbers of the lines with the number of settings and with the sum.
+/// A card's text and its day; then the numbers of the SETTINGS line and of the SUM line.
 type Sample = (&'static str, u8, (usize, usize));
 
-/// Cards of both versions, of cables and of bars.
+/// Cards of both versions, with settings of cables and of bars.
 static CARDS: [Sample; 9] = [
     (TWO_CABLES, 8, (6, 9)),
     (ONE_LUG, 9, (3, 6)),

@@ -7,10 +7,11 @@ use kd_tables::Letter;
 use std::alloc::Global;
 use std::process::Abort;
 
-/// A day of a Converter, how many bars the first letter meets, and what becomes of letters A.
+/// A day of a Converter, how many bars the first letter meets, and the ciphertext of letters A.
 type Case = (File, u8, &'static [u8]);
 
-/// The first bar is met by two wheels and counts once; all bars are met by one pin, which acts on the first letter alone.
+/// In the first case, two wheels meet one bar, which counts once. In the second, one pin meets all bars, and
+/// acts on the first letter alone.
 static CASES: [Case; 2] = [
     (
         (
@@ -24,7 +25,7 @@ static CASES: [Case; 2] = [
     ((DayOfAllMet, "", ""), 27, b"AZZZZ"),
 ];
 
-/// The day's pins and rows make of letters A what they are told to.
+/// Checks the bars met and the ciphertext of a case.
 fn presses(rt: &impl Abort, alloc: Global, (sheet, met, lamps): &Case) -> Option<()> {
     let day = day(rt, alloc, sheet);
     let mut converter = Converter::new(day.pins()?, letters(rt, b"AAAAAA"), day.rows()?).ok()?;

@@ -1,8 +1,8 @@
-//! Letters of texts.
+//! Makes letters from text.
 use kd_tables::Letter;
 use std::process::Abort;
 
-/// The letter of that capital letter.
+/// The letter for a capital letter's byte.
 pub fn letter(rt: &impl Abort, byte: u8) -> Letter {
     Letter::from_byte(byte).expect(rt, "a capital letter")
 }

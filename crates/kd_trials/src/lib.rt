@@ -1,5 +1,6 @@
-//! Tests of the public calls of the crates below the desk, a module for each crate, and the machines and days that they are
-//! tried on. There is nothing else here but the texts: a crate with tests is proved twice, so the tests have one of their own.
+//! Tests of the public calls of the crates below the desk: a module for each crate, and sample machines and days.
+//!
+//! The tests have a crate of their own, since a crate with tests is proved twice.
 #![tactic(auto)]
 
 #[cfg(test)]

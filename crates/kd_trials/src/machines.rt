@@ -5,10 +5,10 @@ use kd_state::{Machine, SheetDay};
 use std::alloc::Global;
 use std::process::Abort;
 
-/// A file, a part of it, and what stands in the part's place, wherever that is. Nothing in the place of nothing changes nothing.
+/// A file, a part of it, and the replacement for each place where the part is; no change if both are empty.
 pub type File = (TextName, &'static str, &'static str);
 
-/// The file of a machine, and a sheet with one day.
+/// A machine file, and a sheet with one day.
 pub type Told = (File, File);
 
 /// A machine with its day.
@@ -17,7 +17,7 @@ pub type Keyed = (Machine, SheetDay);
 /// An Enigma I on its day.
 pub const PLAIN: Told = ((M1, "", ""), (PlainDay, "", ""));
 
-/// An Enigma I two of whose cables have to change places.
+/// An Enigma I that needs two cables to change places.
 pub const CABLES: Told = (
     (M1, "version = 1", "version = 1\ncables = [\"AB\", \"CD\"]"),
     (PlainDay, "plugs = []", "plugs = [\"BC\", \"DE\"]"),
@@ -26,7 +26,7 @@ pub const CABLES: Told = (
 /// A Converter without effective pins, on its day.
 pub const IDLE: Told = ((WithoutPins, "", ""), (DayWithoutPins, "", ""));
 
-/// A Converter two of whose bars come to read as two rows if one lug is moved.
+/// A Converter on which one moved lug makes two bars read as two rows.
 pub const TWO_BARS: Told = (
     (
         WithoutPins,
@@ -40,16 +40,16 @@ pub const TWO_BARS: Told = (
     ),
 );
 
-/// A Converter on which both lugs of a bar have to be moved, the right one first.
+/// A Converter that needs both lugs of a bar moved, the right one first.
 pub const ONE_BAR: Told = (
     (WithoutPins, "bars = [\"0L-0R\"", "bars = [\"1-3\""),
     (DayWithoutPins, "rows = [\"0-0\"", "rows = [\"3-6\""),
 );
 
-/// A machine and a day of two models.
+/// A machine and a day of different models.
 pub const TWO_MODELS: Told = ((M1, "", ""), (DayWithoutPins, "", ""));
 
-/// The machine of that file.
+/// Reads the machine of a changed machine file.
 pub fn machine(rt: &impl Abort, alloc: Global, (file, old, new): &File) -> Machine {
     let text = file
         .text()
@@ -61,7 +61,7 @@ pub fn machine(rt: &impl Abort, alloc: Global, (file, old, new): &File) -> Machi
         .expect(rt, "a machine file")
 }
 
-/// The first day of the month in that sheet.
+/// Reads the first day of a changed sheet.
 pub fn day(rt: &impl Abort, alloc: Global, (sheet, old, new): &File) -> SheetDay {
     let text = sheet
         .text()
@@ -74,7 +74,7 @@ pub fn day(rt: &impl Abort, alloc: Global, (sheet, old, new): &File) -> SheetDay
     sheet.into_day(1).expect(rt, "a day")
 }
 
-/// That machine with its day.
+/// Reads a machine and its day.
 pub fn keyed(rt: &impl Abort, alloc: Global, (file, sheet): &Told) -> Keyed {
     (machine(rt, alloc, file), day(rt, alloc, sheet))
 }

@@ -1,7 +1,9 @@
-//! The texts by their names. A table of cases that holds names is proved far sooner than one that holds each text again.
+//! Names for the texts of `texts`.
+//!
+//! A table of cases is proved far faster with names than with the texts themselves.
 use crate::texts;
 
-/// A machine file, a sheet or a card of `texts`, or nothing.
+/// The name of a machine file, a sheet or a card of `texts`, or of the empty text.
 #[derive(Clone, Copy)]
 pub enum TextName {
     M1,
@@ -45,7 +47,7 @@ pub enum TextName {
 }
 
 impl TextName {
-    /// The text that has the name.
+    /// The text with this name.
     pub fn text(self) -> &'static str {
         match self {
             TextName::M1 => texts::M1,

@@ -4,13 +4,13 @@ use kd_pins::PinWheel;
 use kd_tables::{Letter, ring2, ring6};
 use std::process::Abort;
 
-/// Whether the pin of the wheel acts that stands past this letter.
+/// Whether the acting pin of `wheel` is effective when the wheel shows `shown`.
 fn acts<const N: usize>(mut wheel: PinWheel<N>, shown: Letter) -> Option<bool> {
     wheel.set(shown).ok()?;
     Some(wheel.acting())
 }
 
-/// The sixth wheel, on which the pin at J alone is effective, and the second one, on which that at N is.
+/// On the sixth wheel only the pin at J is effective, on the second only the pin at N.
 #[test]
 fn the_acting_pin_is_counted_in_the_wheels_own_order(rt: HostRuntime) {
     let mut pins = [false; 17];

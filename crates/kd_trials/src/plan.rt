@@ -9,10 +9,10 @@ use kd_tables::MemorySink;
 use std::alloc::Global;
 use std::process::Abort;
 
-/// A machine and a day, how their card begins, and how it ends. The prices between may be chosen.
+/// A machine and a day, and how their card begins and ends. The prices between are free.
 type Case = (Told, &'static str, &'static str);
 
-/// The prices where no cable has to be moved.
+/// The prices if no cable has to be moved.
 const NO_PRICES: &str = "
 CABLES 0 0 0 0 0 0 0 0 0 0 0 0 0
 PAIRS 0 0 0 0 0 0 0 0 0 0 0 0 0
@@ -20,8 +20,8 @@ SUM 0
 ";
 
 static CASES: [Case; 11] = [
-    // Cables that share letters with pairs. By number it would be six lines on the second day, since cable 1 has no letter
-    // of its first pair.
+    // Cables that share letters with pairs. Cable by cable, the second day would take six lines, since cable 1
+    // has no letter of its first pair.
     (
         CABLES,
         "CARD 1 DAY 1\nPULL 1 A\nPULL 2 C\nPUT 1 C\nPUT 2 E\nSETTINGS 4\nCABLES ",
@@ -43,7 +43,7 @@ static CASES: [Case; 11] = [
         "CARD 1 DAY 1\nPUT 1 F\nSETTINGS 1\nCABLES ",
         "\nSUM 1\n",
     ),
-    // Wheels, rings, letters and reflectors.
+    // Settings of wheels, rings, letters and reflectors.
     (PLAIN, "CARD 1 DAY 1\nSETTINGS 0", NO_PRICES),
     (
         ((M1, "AAAAA", "BAAAA"), (PlainDay, "", "")),
@@ -72,8 +72,8 @@ static CASES: [Case; 11] = [
         "CARD 1 DAY 1\nSEAT 1 Gamma\nREFLECTOR c\nSETTINGS 2",
         NO_PRICES,
     ),
-    // To keep the bar for the row that it reads as already would cost two lines, so another bar takes the row; and a right
-    // lug makes room.
+    // Keeping the first bar for the row that it reads as would take two lines, so another bar takes this row.
+    // In the last case, a right lug makes room for a left one.
     (
         TWO_BARS,
         "CARD 1 DAY 1\nLUG 1 R 6\nSETTINGS 1\nBARS ",
@@ -102,7 +102,7 @@ static CASES: [Case; 11] = [
     ),
 ];
 
-/// The card of the machine and the day is that.
+/// Checks how the planned card begins and ends.
 fn is_planned(rt: &impl Abort, alloc: Global, (told, front, end): &Case) {
     let (machine, day) = keyed(rt, alloc, told);
     let card = plan(&machine, &day).ok().expect(rt, "one model");
@@ -122,11 +122,11 @@ fn cards_are_planned(rt: HostRuntime) {
     }
 }
 
-/// The cables of an Enigma I, the pairs of a day, and the spare cables that become pairs.
+/// The cables of an Enigma I, a day's pairs, and the numbers of the spare cables that become pairs.
 type SpareCase = (&'static str, &'static str, &'static [u8]);
 
 static SPARES: [SpareCase; 9] = [
-    // As many pairs as cables in use, on letters of which each cable has none, one or both.
+    // As many pairs as cables in use. Each cable has one, both or none of the pairs' letters.
     (
         "version = 1\ncables = [\"AB\", \"CD\", \"EF\", \"GH\", \"IJ\", \"KL\", \"MN\", \"OP\", \"QR\", \"ST\"]",
         "plugs = [\"AZ\", \"BY\", \"CX\", \"DW\", \"EV\", \"FU\", \"GT\", \"HS\", \"IR\", \"JQ\"]",
@@ -137,7 +137,7 @@ static SPARES: [SpareCase; 9] = [
         "plugs = [\"AC\", \"BD\", \"EG\", \"FH\", \"IK\", \"JL\", \"MO\", \"NP\", \"UV\", \"WX\"]",
         &[],
     ),
-    // Two pairs more than cables in use: the two spare cables with the lowest numbers.
+    // Two pairs more than cables in use: the two spare cables with the lowest numbers are taken.
     (
         "version = 1\ncables = [\"AB\", \"CD\", \"EF\", \"GH\", \"IJ\", \"KL\", \"MN\", \"OP\"]",
         "plugs = [\"AZ\", \"BY\", \"CX\", \"DW\", \"EV\", \"FU\", \"GT\", \"HS\", \"IR\", \"JQ\"]",
@@ -148,7 +148,7 @@ static SPARES: [SpareCase; 9] = [
         "plugs = [\"AZ\", \"BY\", \"CX\", \"DW\", \"EV\", \"FU\", \"GT\", \"HS\"]",
         &[2, 5],
     ),
-    // A cable with one letter is in use, wherever it lies.
+    // A cable with one letter is in use, whatever its number.
     ("version = 1\ncables = [\"A\"]", "plugs = [\"BC\"]", &[]),
     (
         "version = 1\ncables = [\"\", \"\", \"\", \"\", \"\", \"\", \"\", \"\", \"\", \"\", \"\", \"\", \"A\"]",
@@ -161,7 +161,7 @@ static SPARES: [SpareCase; 9] = [
         "plugs = [\"YZ\", \"WX\"]",
         &[],
     ),
-    // All thirteen.
+    // All thirteen cables are spare.
     (
         "version = 1\ncables = []",
         "plugs = [\"AB\", \"CD\", \"EF\", \"GH\", \"IJ\", \"KL\", \"MN\", \"OP\", \"QR\", \"ST\", \"UV\", \"WX\", \"YZ\"]",
@@ -174,7 +174,7 @@ static SPARES: [SpareCase; 9] = [
     ),
 ];
 
-/// The card is shortest, and puts two letters into each of these spare cables, and none into another one.
+/// Checks that the card is shortest, and plugs just these spare cables, with two letters each.
 fn keeps_spares_free(rt: &impl Abort, alloc: Global, (cables, plugs, taken): &SpareCase) {
     let told = (
         (M1, "version = 1", *cables),
@@ -202,7 +202,7 @@ fn spare_cables_stay_free(rt: HostRuntime) {
     }
 }
 
-/// Machines and days of two models.
+/// Machines and days of different models.
 static OF_TWO_MODELS: [Told; 2] = [TWO_MODELS, ((M3, "", ""), (PlainDay, "", ""))];
 
 #[test]

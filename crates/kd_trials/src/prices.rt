@@ -12,7 +12,7 @@ use kd_tables::MemorySink;
 use std::alloc::Global;
 use std::process::Abort;
 
-/// A machine and a day, a card, and what the check says of it.
+/// A machine and a day, a card, and the answer of `check`.
 type Case = (Told, File, Result<(), Doubt>);
 
 static CASES: [Case; 29] = [
@@ -71,7 +71,7 @@ static CASES: [Case; 29] = [
     (UNLIKE_BARS, (OneBarKind, "", ""), Err(Doubt::PriceMissing)),
 ];
 
-/// The check says that of the card.
+/// Checks the answer of `check` for a card.
 fn is_said(rt: &impl Abort, alloc: Global, (told, (text, old, new), due): &Case) {
     let (machine, day) = keyed(rt, alloc, told);
     let text = text
@@ -90,14 +90,15 @@ fn cards_are_checked(rt: HostRuntime) {
     }
 }
 
-/// A machine and a day, a card, and its text with one price for each kind, if there is one: not where the prices are by
-/// kind, nor where those of two bars that are alike differ.
+/// A machine and a day, a card, and its text with one price for each kind.
+///
+/// There is no such text if the prices are by kind already, or if two bars of one kind have different prices.
 static KINDS: [(Told, File, Option<TextName>); 8] = [
     (TWO_BARS, (OneLug, "", ""), Some(BarKinds)),
     (CABLES, (TwoCables, "", ""), Some(TwoCableKinds)),
     (TWO_BARS, (BarKinds, "", ""), None),
     (TWO_BARS, (OneLug, "BARS 1 1 0 0", "BARS 1 1 1 -1"), None),
-    // One kind of thirteen or of 27 things, and as many kinds as things.
+    // One kind with thirteen or 27 things, and as many kinds as things.
     (PLAIN, (NoSettings, "", ""), Some(EmptyKinds)),
     (FULL_CABLES, (NoSettings, "", ""), Some(UnlikeCableKinds)),
     (ALIKE_BARS, (NoLugs, "", ""), Some(OneBarKind)),
@@ -118,12 +119,12 @@ const FULL_CABLES: Told = (
     ),
 );
 
-/// A Converter whose bars all stand alike, and one whose bars all stand otherwise, on their days.
+/// A Converter whose bars all have one standing, and one whose bars all have different ones, on their days.
 const ALIKE_BARS: Told = ((AllMet, "", ""), (DayOfAllMet, "", ""));
 
 const UNLIKE_BARS: Told = ((UnlikeBars, "", ""), (DayOfUnlikeBars, "", ""));
 
-/// The card becomes that.
+/// Checks the text of a card with one price for each kind.
 fn becomes(
     rt: &impl Abort,
     alloc: Global,

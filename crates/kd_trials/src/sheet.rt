@@ -7,13 +7,13 @@ mod faults;
 mod files;
 mod first_faults;
 
-/// What a file is.
+/// The kind of a file.
 enum Kind {
     MachineFile,
     Sheet,
 }
 
-/// What the file is refused for, if it is.
+/// The fault of a file, if it has one.
 fn fault(alloc: Global, kind: &Kind, file: &[u8]) -> Option<SheetFault> {
     match kind {
         Kind::MachineFile => read_machine(alloc, file).err(),

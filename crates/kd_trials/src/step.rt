@@ -6,7 +6,7 @@ use kd_step::Stepper;
 use kd_tables::Wheel;
 use std::process::Abort;
 
-/// Steps wheels from a window, and compares what shows after each step.
+/// Steps the wheels from a window, and compares the window after each step.
 fn steps<const S: usize>(rt: &impl Abort, wheels: &[Wheel; S], from: &[u8; S], shown: &[[u8; S]])
     requires least { 3 ≤ S }
     requires most { S ≤ 4 }
@@ -18,7 +18,7 @@ fn steps<const S: usize>(rt: &impl Abort, wheels: &[Wheel; S], from: &[u8; S], s
     }
 }
 
-/// Three wheels, the window that they step from, and those that show then.
+/// Three wheels, the window from which they step, and the windows after each step.
 static OF_THREE: [(&[Wheel; 3], &[u8; 3], &[[u8; 3]]); 4] = [
     (
         &[Wheel::I, Wheel::II, Wheel::III],
@@ -38,7 +38,8 @@ static OF_THREE: [(&[Wheel; 3], &[u8; 3], &[[u8; 3]]); 4] = [
     ),
 ];
 
-/// The middle wheel steps twice, but once where both are at their notches; a wheel has two notches; Beta stands still.
+/// The middle wheel steps twice in a row, but only once if the right wheel is at its notch too. A wheel can
+/// have two notches. Beta never steps.
 #[test]
 fn wheels_step(rt: HostRuntime) {
     for (wheels, from, shown) in &OF_THREE {

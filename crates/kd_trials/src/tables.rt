@@ -23,7 +23,7 @@ static WHEELS: [PublishedWheel; 10] = [
     (Wheel::Gamma, "Gamma", b"FSOKANUERHMBTIYCWLQPZXVGJD", b""),
 ];
 
-/// The wheel has its name, its wiring and its notches.
+/// Checks name, wiring and notches of a wheel.
 fn is_published(rt: &impl Abort, (wheel, name, wired, notches): &PublishedWheel) {
     assert_eq!(rt; wheel.text().as_str(), *name);
     assert!(rt; Wheel::from_text(name.as_bytes()) == Some(*wheel));
@@ -82,7 +82,7 @@ fn models_have_names_and_parts(rt: HostRuntime) {
     }
 }
 
-/// A wheel of the Converter, a letter, and its place there.
+/// The number of a Converter's wheel, a letter, and its place on the wheel.
 static PLACES_ON_WHEELS: [(u8, u8, Option<usize>); 13] = [
     (1, b'Z', Some(25)),
     (2, b'Z', Some(24)),
@@ -106,7 +106,7 @@ fn pin_wheels_have_their_own_letters(rt: HostRuntime) {
     }
 }
 
-/// Each standing in their order, with what it reads as.
+/// All standings in order, each with the row that it reads as.
 static STANDINGS: [(&str, &str); 28] = [
     ("1-0L", "0-1"),
     ("1-2", "1-2"),
@@ -138,7 +138,7 @@ static STANDINGS: [(&str, &str); 28] = [
     ("0R-6", "0-6"),
 ];
 
-/// The standing has its text, and its reading that of its own.
+/// Checks text and reading of a standing.
 fn is_standing(rt: &impl Abort, standing: Standing, (text, reading): &(&str, &str)) {
     assert_eq!(rt; standing.text().as_str(), *text);
     assert!(rt; Standing::from_text(text.as_bytes()) == Some(standing));
@@ -159,7 +159,7 @@ fn bars_have_28_standings(rt: HostRuntime) -> Result<(), Fail> {
     Ok(())
 }
 
-/// Each reading in their order.
+/// All readings in order, each with its two numbers.
 static READINGS: [(&str, u8, u8); 22] = [
     ("0-0", 0, 0),
     ("0-1", 0, 1),

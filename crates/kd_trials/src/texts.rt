@@ -9,7 +9,7 @@ rings = \"AAAAA\"
 letters = \"AAAAA\"
 ";
 
-/// The same machine with its cables, as it is written.
+/// `M1` as the desk writes it, with its empty cables.
 pub const M1_WRITTEN: &str = "version = 1
 model = \"Enigma I\"
 reflector = \"B\"
@@ -29,7 +29,7 @@ letters = \"ABALA\"
 cables = [\"AV\", \"SB\", \"CG\", \"DL\", \"FU\", \"HZ\", \"IN\", \"MK\", \"OW\", \"RX\"]
 ";
 
-/// The same machine as it is written.
+/// `TEN_CABLES` as the desk writes it.
 pub const TEN_CABLES_WRITTEN: &str = "version = 1
 model = \"Enigma I\"
 reflector = \"B\"
@@ -57,7 +57,7 @@ pins = [\"P\", \"O\", \"\", \"\", \"\", \"\"]
 bars = [\"1-2\", \"0L-0R\", \"0L-0R\", \"0L-0R\", \"0L-0R\", \"0L-0R\", \"0L-0R\", \"0L-0R\", \"0L-0R\", \"0L-0R\", \"0L-0R\", \"0L-0R\", \"0L-0R\", \"0L-0R\", \"0L-0R\", \"0L-0R\", \"0L-0R\", \"0L-0R\", \"0L-0R\", \"0L-0R\", \"0L-0R\", \"0L-0R\", \"0L-0R\", \"0L-0R\", \"0L-0R\", \"0L-0R\", \"0L-0R\"]
 ";
 
-/// An M3 with the wheels and the reflector of that Enigma I.
+/// An M3 with the wheels and the reflector of `M1`.
 pub const M3: &str = "version = 1
 model = \"M3\"
 reflector = \"B\"
@@ -97,7 +97,7 @@ bars = [\"0L-0R\", \"0L-0R\", \"0L-0R\", \"0L-0R\", \"0L-0R\", \"0L-0R\", \"0L-0
 ]
 ";
 
-/// A day with the settings of that Enigma I.
+/// A day with the settings of `M1`.
 pub const PLAIN_DAY: &str = "[[day]]
 day = 1
 model = \"Enigma I\"
@@ -121,7 +121,7 @@ plugs = [\"AV\", \"BS\", \"CG\", \"DL\", \"FU\", \"HZ\", \"IN\", \"KM\", \"OW\",
 groups = [\"UGZ\"]
 ";
 
-/// A day with the settings of the M4 that acts as an Enigma I.
+/// A day with the settings of `M4_AS_ENIGMA`.
 pub const DAY_OF_M4: &str = "[[day]]
 day = 1
 model = \"M4\"
@@ -133,7 +133,7 @@ plugs = []
 groups = [\"ZUG\"]
 ";
 
-/// A day with the settings of the Converter without effective pins.
+/// A day with the settings of `WITHOUT_PINS`.
 pub const DAY_WITHOUT_PINS: &str = "[[day]]
 day = 1
 model = \"M-209\"
@@ -146,7 +146,7 @@ window = \"AAAAAA\"
 list = \"QV\"
 ";
 
-/// A day with the settings of the Converter all of whose bars are met by the first wheel.
+/// A day with the settings of `ALL_MET`.
 pub const DAY_OF_ALL_MET: &str = "[[day]]
 day = 1
 model = \"M-209\"
@@ -159,7 +159,7 @@ window = \"AAAAAA\"
 list = \"QV\"
 ";
 
-/// Two cables change places.
+/// A card on which two cables change places.
 pub const TWO_CABLES: &str = "CARD 1 DAY 8
 PULL 1 A
 PULL 2 C
@@ -171,7 +171,7 @@ PAIRS 0 0 0 0 0 0 0 0 0 0 0 0 0
 SUM 4
 ";
 
-/// One lug is moved.
+/// A card that moves one lug.
 pub const ONE_LUG: &str = "CARD 1 DAY 9
 LUG 1 R 6
 SETTINGS 1
@@ -180,7 +180,7 @@ ROWS -1 0 0 0 0 0 0 0 0 0 0 0 0 0 0 0 0 0 0 0 0 0 0 0 0 0 0
 SUM 1
 ";
 
-/// Nothing has to be done.
+/// A card without settings.
 pub const NO_SETTINGS: &str = "CARD 1 DAY 11
 SETTINGS 0
 CABLES 0 0 0 0 0 0 0 0 0 0 0 0 0
@@ -188,7 +188,7 @@ PAIRS 0 0 0 0 0 0 0 0 0 0 0 0 0
 SUM 0
 ";
 
-/// Two cables change places, and the prices are by kind.
+/// A card on which two cables change places, with prices by kind.
 pub const TWO_CABLE_KINDS: &str = "CARD 2 DAY 8
 PULL 1 A
 PULL 2 C
@@ -204,7 +204,7 @@ PAIR - 11 0
 SUM 4
 ";
 
-/// One lug is moved, and the prices are by kind.
+/// A card that moves one lug, with prices by kind.
 pub const BAR_KINDS: &str = "CARD 2 DAY 9
 LUG 1 R 6
 SETTINGS 1
@@ -217,7 +217,7 @@ ROW 3-6 1 0
 SUM 1
 ";
 
-/// Nothing has to be done, and the prices are by kind.
+/// A card without settings, with prices by kind.
 pub const EMPTY_KINDS: &str = "CARD 2 DAY 11
 SETTINGS 0
 CABLE - 13 0
@@ -225,7 +225,7 @@ PAIR - 13 0
 SUM 0
 ";
 
-/// All bars stand alike, and all rows read alike.
+/// A card on which all bars have one standing and all rows one reading.
 pub const ALIKE_BARS: &str = "CARD 2 DAY 13
 SETTINGS 0
 BAR 1-2 27 2
@@ -233,7 +233,7 @@ ROW 3-4 27 0
 SUM 54
 ";
 
-/// A cable with one letter comes before those of two that begin with it.
+/// A card by kind: a cable with one letter comes before cables with two letters.
 pub const HALF_CABLES: &str = "CARD 2 DAY 31
 SETTINGS 0
 CABLE A 1 -9999
@@ -248,7 +248,7 @@ PAIR YZ 1 -12
 SUM -12
 ";
 
-/// The highest price of a bar, and the lowest of a row: their sum is 0.
+/// A card with the highest price of a bar and the lowest price of a row, whose sum is 0.
 pub const HIGHEST: &str = "CARD 1 DAY 9
 LUG 1 R 6
 SETTINGS 1
@@ -266,7 +266,7 @@ ROWS 0 0 0 0 0 0 0 0 0 0 0 0 0 0 0 0 0 0 0 0 0 0 0 0 0 0 0
 SUM 0
 ";
 
-/// The same, with a price of the first bar that is above its cost.
+/// The card `NO_PRICES` with a price of the first bar that is above its cost.
 pub const HIGHER: &str = "CARD 1 DAY 9
 LUG 1 R 6
 SETTINGS 1
@@ -275,8 +275,7 @@ ROWS -1 0 0 0 0 0 0 0 0 0 0 0 0 0 0 0 0 0 0 0 0 0 0 0 0 0 0
 SUM 2
 ";
 
-/// A line more than is needed, since the first bar is kept for the row that it reads as already, and prices with the right
-/// sum that pretend it isn't.
+/// A card with one line more than needed, as the first bar keeps its row, and with prices that hide this.
 pub const TWO_LUGS: &str = "CARD 1 DAY 9
 LUG 2 R 6
 LUG 2 L 3
@@ -286,7 +285,7 @@ ROWS 0 0 0 0 0 0 0 0 0 0 0 0 0 0 0 0 0 0 0 0 0 0 0 0 0 0 0
 SUM 2
 ";
 
-/// The same, by kind.
+/// `TWO_LUGS` with prices by kind.
 pub const TWO_LUGS_BY_KIND: &str = "CARD 2 DAY 9
 LUG 2 R 6
 LUG 2 L 3
@@ -300,7 +299,7 @@ ROW 3-6 1 0
 SUM 2
 ";
 
-/// The right lug of a bar makes room for the left one.
+/// A card on which the right lug of a bar makes room for the left one.
 pub const BOTH_LUGS: &str = "CARD 1 DAY 10
 LUG 1 R 6
 LUG 1 L 3
@@ -310,7 +309,7 @@ ROWS 0 0 0 0 0 0 0 0 0 0 0 0 0 0 0 0 0 0 0 0 0 0 0 0 0 0 0
 SUM 2
 ";
 
-/// No line where two cables have to change places, and prices that say none is needed.
+/// A card without lines where two cables have to change places, and with prices that hide this.
 pub const NO_LINE: &str = "CARD 2 DAY 8
 SETTINGS 0
 CABLE AB 1 0
@@ -322,7 +321,7 @@ PAIR - 11 0
 SUM 0
 ";
 
-/// That Enigma I with an empty slot, which isn't ready.
+/// `M1` with an empty slot; it isn't ready.
 pub const UNREADY: &str = "version = 1
 model = \"Enigma I\"
 reflector = \"B\"
@@ -331,7 +330,7 @@ rings = \"AAAAA\"
 letters = \"AAAAA\"
 ";
 
-/// A Converter M-209 that differs from its day in each pin and letter, and in both lugs of each bar.
+/// A Converter M-209 that differs from its day in each pin, each letter, and both lugs of each bar.
 pub const FARTHEST: &str = "version = 1
 model = \"M-209\"
 letters = \"BBBBBB\"
@@ -343,7 +342,7 @@ bars = [
 ]
 ";
 
-/// A sheet with a day for each of these machines.
+/// A sheet with a day for each of the machines above.
 pub const SHEET: &str = "[[day]]
 day = 3
 model = \"M3\"
@@ -475,7 +474,7 @@ window = \"AAAA\"
 plugs = []
 ";
 
-/// A Converter M-209 without effective pins, each of whose bars stands otherwise.
+/// A Converter M-209 without effective pins, whose bars have different standings.
 pub const UNLIKE_BARS: &str = "version = 1
 model = \"M-209\"
 letters = \"AAAAAA\"
@@ -487,7 +486,7 @@ bars = [
 ]
 ";
 
-/// A day with the settings of that Converter.
+/// A day with the settings of `UNLIKE_BARS`.
 pub const DAY_OF_UNLIKE_BARS: &str = "[[day]]
 day = 1
 model = \"M-209\"
@@ -501,7 +500,7 @@ window = \"AAAAAA\"
 list = \"QV\"
 ";
 
-/// No lug has to be moved, and all prices are 0.
+/// A card without settings, whose prices are all 0.
 pub const NO_LUGS: &str = "CARD 1 DAY 1
 SETTINGS 0
 BARS 0 0 0 0 0 0 0 0 0 0 0 0 0 0 0 0 0 0 0 0 0 0 0 0 0 0 0
@@ -509,7 +508,7 @@ ROWS 0 0 0 0 0 0 0 0 0 0 0 0 0 0 0 0 0 0 0 0 0 0 0 0 0 0 0
 SUM 0
 ";
 
-/// The same card for that Converter, by kind: each standing once.
+/// `NO_LUGS` for `UNLIKE_BARS`, with prices by kind: one bar of each.
 pub const UNLIKE_BAR_KINDS: &str = "CARD 2 DAY 1
 SETTINGS 0
 BAR 1-0L 1 0
@@ -564,7 +563,7 @@ ROW 5-6 1 0
 SUM 0
 ";
 
-/// The same card for the Converter all of whose bars are met by the first wheel: one kind of bars, and one of rows.
+/// `NO_LUGS` for `ALL_MET`, with prices by kind: one kind of bars, one kind of rows.
 pub const ONE_BAR_KIND: &str = "CARD 2 DAY 1
 SETTINGS 0
 BAR 1-0L 27 0
@@ -572,7 +571,7 @@ ROW 0-1 27 0
 SUM 0
 ";
 
-/// A card of a machine with thirteen cables that are all on their day, by kind.
+/// A card for a machine whose thirteen cables are all as the day has them, with prices by kind.
 pub const UNLIKE_CABLE_KINDS: &str = "CARD 2 DAY 11
 SETTINGS 0
 CABLE AB 1 0

@@ -1,9 +1,12 @@
+//! The record of the file names that were asked for.
 ghost use Rattle.std.specs.Prelude.{◌≡◌, ◌<◌, [], ◌∷◌, ◌++◌, length};
 
 use arrayvec::ArrayVec;
 use std::marker::Model;
 
-/// The names that were asked for, in order, each with whether its file was had. No command names more than three files.
+/// The names asked for, in order, and for each whether the file could be read or opened.
+///
+/// No command names more than three files.
 #[derive(Drop)]
 pub struct Asked<'n> {
     names: ArrayVec<(&'n str, bool), 3>,
@@ -19,7 +22,7 @@ impl<'n> Model for Asked<'n> {
 }
 
 impl<'n> Asked<'n> {
-    /// None yet.
+    /// Creates a record without names.
     pub fn new() -> Self
         ensures { result ≡ [] }
     {
@@ -28,7 +31,7 @@ impl<'n> Asked<'n> {
         }
     }
 
-    /// This name was asked for too, and its file was had or wasn't.
+    /// Records that `name` was asked for; `had` says whether the file could be read or opened.
     pub fn add(&mut self, name: &'n str, had: bool)
         requires { length self.old < 3 }
         ensures { self.new ≡ self.old ++ (name.now, had) ∷ [] }

@@ -1,3 +1,4 @@
+//! The bytes of a file that is read whole.
 ghost use Rattle.std.specs.Prelude.{◌≡◌, Some};
 ghost use Rattle.kd_tables.specs.Ports.{port};
 ghost use Rattle.kd_desk.specs.Files.{content_of, IsReadWhole};
@@ -7,10 +8,10 @@ use kd_tables::{READ_LIMIT, Source};
 use std::alloc::Global;
 use std::marker::Model;
 
-/// How many bytes of a file are read at once, at most.
+/// The most bytes that are read at once.
 const PIECE: usize = 4096;
 
-/// The bytes of a file: at most 1,048,576.
+/// The bytes of a file, at most 1,048,576.
 #[derive(Drop)]
 pub struct Content {
     bytes: Vec<u8>,
@@ -28,7 +29,7 @@ impl Model for Content {
 }
 
 impl Content {
-    /// These bytes, if they aren't more than a file may have.
+    /// Takes `bytes`, or returns `ReadTooLong` if they are more than a file may have.
     pub fn new(bytes: Vec<u8>) -> Result<Self, FileFault>
         ensures { result ≡ content_of (Some bytes.items) }
     {
@@ -38,7 +39,7 @@ impl Content {
         Ok(Content { bytes })
     }
 
-    /// The bytes.
+    /// All bytes of the file.
     pub fn as_slice(&self) -> &[u8]
         ensures { result.now ≡ self.now }
     {
@@ -46,7 +47,9 @@ impl Content {
     }
 }
 
-/// All the bytes of a source, unless they are more than a file may have. One byte more is read, to see that there are more.
+/// Reads `source` to its end; `ReadTooLong` if it has more bytes than a file may have.
+///
+/// Reads at most one byte more than that, to see whether there are more.
 pub fn read_whole<S: Source>(alloc: Global, source: &mut S) -> Result<Content, FileFault>
     ensures { IsReadWhole (port S.remaining S.has_failed source.old source.new) result }
 {

@@ -1,3 +1,4 @@
+//! FileFault: why a file can't be read or opened.
 use std::alloc::AllocError;
 use std::io;
 
@@ -8,7 +9,7 @@ pub enum FileFault {
     NoMemory,
     /// There is no such file, or a read failed.
     Device,
-    /// The file has more bytes than are read.
+    /// The file has more than 1,048,576 bytes.
     ReadTooLong,
 }
 

@@ -1,3 +1,4 @@
+//! The files of the host system.
 ghost use Rattle.std.specs.Prelude.{◌≡◌, [], false, IfOk};
 
 use super::asked::Asked;
@@ -15,7 +16,7 @@ pub struct HostFiles<'n> {
 }
 
 impl<'n> HostFiles<'n> {
-    /// The files that this runtime opens.
+    /// Creates the files that `rt` opens, none of them asked for yet.
     pub fn new(rt: &'n HostRuntime) -> Self
         ensures { result.asked ≡ [] }
     {
@@ -44,7 +45,7 @@ impl<'n> Files<'n> for HostFiles<'n> {
     }
 }
 
-/// All the bytes of the file of this name.
+/// Reads the file `name` whole.
 fn read_file(rt: &HostRuntime, alloc: Global, name: &str) -> Result<Content, FileFault> {
     let mut file = open_file(rt, name)?;
     match read_whole(alloc, &mut file) {
@@ -53,7 +54,7 @@ fn read_file(rt: &HostRuntime, alloc: Global, name: &str) -> Result<Content, Fil
     }
 }
 
-/// The file of this name, opened.
+/// Opens the file `name`.
 fn open_file(rt: &HostRuntime, name: &str) -> Result<HostFile, FileFault>
     ensures { IfOk result (λ file. file.source.failed ≡ false) }
 {
@@ -61,14 +62,14 @@ fn open_file(rt: &HostRuntime, name: &str) -> Result<HostFile, FileFault>
     Ok(HostFile::new(file))
 }
 
-/// A file of the system that was opened. What it gives no contract says.
+/// An opened file of the host. No contract says which bytes it gives.
 #[derive(Drop)]
 pub struct HostFile {
     source: ReaderSource<File>,
 }
 
 impl HostFile {
-    /// What this file gives.
+    /// Wraps an opened `file`.
     fn new(file: File) -> Self
         ensures { result.source.failed ≡ false }
     {

@@ -1,3 +1,4 @@
+//! A source for whatever can be read, as standard input.
 ghost use Rattle.std.specs.Prelude.{◌≡◌, ◌||◌, false, is_err};
 ghost use Rattle.kd_tables.specs.Ports.{Gets};
 
@@ -13,7 +14,7 @@ pub struct ReaderSource<R: Read + Drop> {
 }
 
 impl<R: Read + Drop> ReaderSource<R> {
-    /// A source of what the reader gives.
+    /// Creates a source of the bytes that `reader` gives.
     pub fn new(reader: R) -> Self
         ensures reader { result.reader ≡ reader }
         ensures failed { result.failed ≡ false }
@@ -25,7 +26,7 @@ impl<R: Read + Drop> ReaderSource<R> {
         }
     }
 
-    /// Whether the last read that failed wanted memory.
+    /// Whether the last failed read failed for want of memory.
     pub fn lacks_memory(&self) -> bool
         ensures { result ≡ self.now.lacks_memory }
     {

@@ -1,4 +1,4 @@
-//! The lines of an order up to its text, byte by byte.
+//! Reads the head of an order byte by byte: the lines of keys and the line TEXT.
 ghost use Rattle.std.specs.Prelude.{◌≡◌, ◌<◌, ◌↔◌, IsTrue, slice_index, List, ℕ, [], ◌∷◌, ◌++◌};
 ghost use Rattle.std.specs.Prelude.{codes, MatchOption, MatchResult};
 ghost use Rattle.kd_form.specs.Keys.{AreKeys};
@@ -11,30 +11,30 @@ use crate::pattern_line::{Unread, read_pattern};
 use arrayvec::ArrayVec;
 use kd_state::SheetDay;
 
-/// No line up to the text is longer.
+/// Enough bytes for any line of a head, its line end included.
 const LINE: usize = 25;
 
-/// What reads the lines of an order up to its text.
+/// A reader of an order's head.
 #[derive(Drop)]
 pub(crate) struct HeadReader {
     keys: ArrayVec<Keys, 99>,
-    /// The line that is read.
+    /// The bytes of the current line.
     line: ArrayVec<u8, LINE>,
 }
 
-/// What a byte is in these lines.
+/// How a head goes on after a byte.
 #[derive(Clone, Copy)]
 pub(crate) enum HeadStep {
-    /// More has to follow.
+    /// More bytes have to follow.
     Open,
-    /// It ends the last line: the text follows.
+    /// The head is complete, and the text follows.
     Text,
-    /// It may not stand there.
+    /// No head has this byte here.
     Bad,
 }
 
 impl HeadReader {
-    /// One that has read nothing.
+    /// Creates a reader that has read nothing.
     pub(crate) fn new() -> Self
         ensures keys { result.keys.items ≡ [] }
         ensures line { result.line.items ≡ [] }
@@ -45,14 +45,16 @@ impl HeadReader {
         }
     }
 
-    /// The keys in the lines that are read.
+    /// The keys in the lines read so far.
     pub(crate) fn keys(&self) -> &[Keys]
         ensures { result.now ≡ self.now.keys.items }
     {
         self.keys.as_slice()
     }
 
-    /// Takes the next byte. It stands apart, as a byte of the text would make room for what this one keeps.
+    /// Takes the next byte.
+    ///
+    /// Not inlined: otherwise every byte read would pay for this frame.
     #[inline(never)]
     #[tactic(auto, using(crate::proofs::OrderSteps::line_short))]
     pub(crate) fn take(&mut self, day: &SheetDay, byte: u8) -> HeadStep
@@ -75,7 +77,9 @@ impl HeadReader {
     }
 }
 
-/// The keys in the line behind so many lines of keys, or none in the line TEXT. Its first byte tells which it can be.
+/// Reads the line after `count` lines of keys: its keys, or `None` for the line TEXT.
+///
+/// The first byte tells which of the two it can be.
 #[tactic(auto, using(crate::proofs::OrderSteps::next_text))]
 fn read_line(day: &SheetDay, count: usize, line: &[u8]) -> Result<Option<Keys>, Unread>
     ensures { MatchResult result
@@ -92,7 +96,7 @@ fn read_line(day: &SheetDay, count: usize, line: &[u8]) -> Result<Option<Keys>, 
     }
 }
 
-/// Whether the bytes can only begin with a line of keys, by the first one.
+/// Whether the first of `bytes` is P, as in a line of keys.
 fn is_key_line(bytes: &[u8]) -> bool
     ensures { IsTrue result ↔ (slice_index bytes.now 0 ≡ 80) }
 {

@@ -1,4 +1,4 @@
-//! The letters of an order's text, and the parts that are made of them.
+//! Collects the letters of an order's text, and makes parts from them.
 ghost use Rattle.std.specs.Prelude.{◌≡◌, ◌<◌, ◌≤◌, ◌+◌, ◌^◌, List, ℕ, [], ◌∷◌, ◌++◌, length, Some};
 ghost use Rattle.std.specs.Prelude.{slice_get};
 ghost use Rattle.kd_form.specs.declared.keys.Keys.{Keys};
@@ -16,19 +16,19 @@ use arrayvec::ArrayVec;
 use kd_state::SheetDay;
 use kd_tables::Letter;
 
-/// What takes the letters of an order's text, and makes parts of them.
+/// A collector of the letters of an order's text, which makes parts from them.
 #[derive(Drop)]
 pub(crate) struct PartWriter {
-    /// The letters that aren't in a part yet, as far as a part has room.
+    /// The first letters that are in no part yet, at most as many as a part has.
     letters: ArrayVec<Letter, 500>,
     /// How many letters the text has so far.
     count: usize,
-    /// How many parts were made.
+    /// How many parts have been made.
     written: u8,
 }
 
 impl PartWriter {
-    /// One that has taken nothing.
+    /// Creates a collector without letters.
     pub(crate) fn new() -> Self
         ensures { IsFresh result }
     {
@@ -39,20 +39,21 @@ impl PartWriter {
         }
     }
 
-    /// Takes the next byte of the text, and the letter that it gives, if it gives one.
+    /// Takes the next byte of the text, and keeps the letter that it gives, if any.
     pub(crate) fn take(&mut self, day: &SheetDay, keys: &[Keys], byte: u8, made: &mut Made)
         requires taken { (letters sent : List ℕ) × AreTaken day.now keys.now self.old letters sent
             × (length letters < 2 ^ 63) }
         requires empty { made.old.items ≡ [] }
         ensures { (letters sent : List ℕ) → AreTaken day.now keys.now self.old letters sent
-            → AreTaken day.now keys.now self.new (letters ++ text_letters day.now (byte ∷ [])) (sent ++ made.new.items) }
+            → AreTaken day.now keys.now self.new
+            (letters ++ text_letters day.now (byte ∷ [])) (sent ++ made.new.items) }
     {
         if let Some(letter) = letter_of_byte(&blank_of(day), byte) {
             self.take_letter(day, keys, letter, made);
         }
     }
 
-    /// Takes the next letter. Where it shows that a part is full and another one follows, that part is made.
+    /// Takes the next letter. If a part is full and another one follows, makes the full one.
     fn take_letter(&mut self, day: &SheetDay, keys: &[Keys], letter: Letter, made: &mut Made)
         requires taken { (letters sent : List ℕ) × AreTaken day.now keys.now self.old letters sent
             × (length letters < 2 ^ 63) }
@@ -70,6 +71,8 @@ impl PartWriter {
     }
 
     /// Makes the last part, at the end of the text.
+    ///
+    /// Refuses a text without letters, or one that needs more or fewer parts than there are keys.
     pub(crate) fn end(
         &mut self,
         day: &SheetDay,
@@ -93,7 +96,7 @@ impl PartWriter {
         Ok(())
     }
 
-    /// Makes a part of the letters that are kept.
+    /// Makes a part from the letters collected.
     fn write(&mut self, day: &SheetDay, keys: &[Keys], made: &mut Made)
         requires keys { AreSuitedKeys day.now keys.now }
         requires another { self.old.written < length keys.now }

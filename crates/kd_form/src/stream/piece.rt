@@ -1,4 +1,4 @@
-//! A message, piece by piece.
+//! One piece of a message: read from the source, fed to the reader, and its result written.
 ghost use Rattle.std.specs.Prelude.{◌≡◌, ◌<◌, ◌≤◌, ◌||◌, [], ◌∷◌, length, OnOk};
 ghost use Rattle.kd_tables.specs.Ports.{port};
 ghost use Rattle.kd_form.specs.StreamSteps.{HasRoom, FeedsAll, ClosesAt, ClosesAs, ReadsNext};
@@ -11,7 +11,7 @@ use arrayvec::ArrayVec;
 use kd_state::SheetDay;
 use kd_tables::{Sink, Source, put_all};
 
-/// Feeds the bytes to the reader, and writes what is made of them.
+/// Feeds `bytes` to the reader, and writes what it makes of them.
 pub(crate) fn feed_all<M: MessageReader, W: Sink>(
     reader: &mut M,
     day: &SheetDay,
@@ -31,7 +31,7 @@ pub(crate) fn feed_all<M: MessageReader, W: Sink>(
     Ok(())
 }
 
-/// Feeds one byte to the reader, and writes what is made of it.
+/// Feeds `byte` to the reader, and writes what it makes of it.
 fn feed_one<M: MessageReader, W: Sink>(
     reader: &mut M,
     day: &SheetDay,
@@ -74,7 +74,7 @@ impl<M: MessageReader> PieceReader<SheetDay> for M {
     }
 }
 
-/// Writes what is left of the message at its end, or tells the fault that is answered.
+/// Ends the message: writes what the reader has left, or returns its fault.
 pub(crate) fn close<On, M: PieceReader<On>, W: Sink>(
     reader: &mut M,
     on: &On,
@@ -88,8 +88,9 @@ pub(crate) fn close<On, M: PieceReader<On>, W: Sink>(
     Ok(())
 }
 
-/// Reads the next bytes through the buffer, as many as there is room for at most, and writes what is made of them.
-/// There are none at the end of the source alone.
+/// Reads up to `room` bytes, feeds them to the reader, and returns how many there were.
+///
+/// There are none only at the end of the source.
 pub(crate) fn read_next<On, M: PieceReader<On>, R: Source, W: Sink>(
     reader: &mut M,
     on: &On,
@@ -108,7 +109,7 @@ pub(crate) fn read_next<On, M: PieceReader<On>, R: Source, W: Sink>(
     read_into(reader, on, source, sink, &mut buffer[..room.min(PIECE)])
 }
 
-/// The same, through a part of the buffer that has the room.
+/// `read_next` with a buffer that is no longer than the room.
 fn read_into<On, M: PieceReader<On>, R: Source, W: Sink>(
     reader: &mut M,
     on: &On,

@@ -1,11 +1,11 @@
-//! The sinks of a message that is held whole.
+//! Sinks for a message that is held whole.
 ghost use Rattle.std.specs.Prelude.{◌≡◌, [], false, Some, is_err};
 ghost use Rattle.kd_tables.specs.Ports.{Puts};
 
 use kd_tables::{Failed, Sink};
 use std::alloc::Global;
 
-/// A sink that keeps what it takes, and fails where memory is refused.
+/// A sink that keeps all bytes, and fails if there is no memory.
 #[derive(Drop)]
 pub(crate) struct Kept {
     bytes: Vec<u8>,
@@ -13,7 +13,7 @@ pub(crate) struct Kept {
 }
 
 impl Kept {
-    /// One that has taken nothing.
+    /// Creates a sink without bytes.
     pub(crate) fn new(alloc: Global) -> Self
         ensures bytes { result.bytes.items ≡ [] }
         ensures failed { result.failed ≡ false }
@@ -24,7 +24,7 @@ impl Kept {
         }
     }
 
-    /// What it has taken.
+    /// The bytes that it has taken.
     pub(crate) fn into_bytes(self) -> Vec<u8>
         ensures { result ≡ self.bytes }
     {
@@ -52,7 +52,7 @@ impl Sink for Kept {
     }
 }
 
-/// A sink that takes everything, and keeps nothing.
+/// A sink that takes all bytes, and keeps none.
 #[derive(Drop)]
 pub(crate) struct Nowhere;
 

@@ -1,7 +1,8 @@
+//! Why a message stops before its end: it is refused, or a device failed.
 use crate::fault::FormFault;
 use kd_tables::Device;
 
-/// Why the writing of a message stops before its end.
+/// Why a message stops before its end.
 #[derive(Clone, Copy)]
 pub(crate) enum Stop {
     /// A read or a write failed.

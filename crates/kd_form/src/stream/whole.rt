@@ -1,4 +1,4 @@
-//! A message that is held whole.
+//! Reads a message that is held whole.
 ghost use Rattle.std.specs.Prelude.{◌≡◌, ◌||◌, MatchResult};
 ghost use Rattle.kd_tables.specs.Ports.{port};
 ghost use Rattle.kd_form.specs.OnTheKey.{IsRefusal};
@@ -13,7 +13,9 @@ use kd_state::SheetDay;
 use kd_tables::Sink;
 use std::alloc::Global;
 
-/// What the message becomes. `NoMemory` is told only of one that becomes something.
+/// The form or the text that `message` becomes.
+///
+/// `NoMemory` comes only for a message without a fault.
 pub(crate) fn bytes_of<M: MessageReader + Drop>(
     alloc: Global,
     day: &SheetDay,
@@ -35,7 +37,7 @@ pub(crate) fn bytes_of<M: MessageReader + Drop>(
     }
 }
 
-/// Refuses a message that becomes nothing.
+/// Checks that `message` has no fault.
 pub(crate) fn judge<M: MessageReader + Drop>(
     day: &SheetDay,
     message: &[u8],
@@ -48,7 +50,7 @@ pub(crate) fn judge<M: MessageReader + Drop>(
     Ok(())
 }
 
-/// Writes what the message becomes.
+/// Writes the form or the text that `message` becomes.
 fn write_whole<M: MessageReader + Drop, W: Sink>(
     day: &SheetDay,
     message: &[u8],

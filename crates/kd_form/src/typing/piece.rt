@@ -1,3 +1,4 @@
+//! Types one piece of a text: finds its letters, and writes the lamps that light up.
 ghost use Rattle.std.specs.Bool.{OnTrue};
 ghost use Rattle.std.specs.Prelude.{◌≡◌, All, ◌<◌, ◌≤◌, ◌+◌, ◌++◌, take, length, option_to_list};
 ghost use Rattle.arrayvec.specs.ArrayVec.{array_vec_len};
@@ -10,7 +11,7 @@ use arrayvec::ArrayVec;
 use kd_state::Engine;
 use kd_tables::Letter;
 
-/// Appends the letter, if there is one.
+/// Appends `letter`, if there is one.
 fn push_letter(letters: &mut ArrayVec<Letter, PIECE>, letter: Option<Letter>)
     requires { array_vec_len letters.old < PIECE }
     ensures items { letters.new.items ≡ letters.old.items ++ option_to_list letter }
@@ -21,7 +22,9 @@ fn push_letter(letters: &mut ArrayVec<Letter, PIECE>, letter: Option<Letter>)
     }
 }
 
-/// Reads bytes as capital letters, many at a time. False where one is something else; the letters then say nothing.
+/// Reads `bytes` as capital letters, many at a time; returns false if one is something else.
+///
+/// After false, `letters` has no meaning.
 fn read_letters(bytes: &[u8], letters: &mut [Letter]) -> bool
     requires { length letters.old ≡ length bytes.now }
     ensures read { OnTrue result (letters_text letters.new ≡ bytes.now) }
@@ -36,7 +39,7 @@ fn read_letters(bytes: &[u8], letters: &mut [Letter]) -> bool
     all
 }
 
-/// Writes letters as capital letters, many at a time.
+/// Writes `letters` as capital letters, many at a time.
 fn write_letters(letters: &[Letter], bytes: &mut [u8])
     requires { length bytes.old ≡ length letters.now }
     ensures { bytes.new ≡ letters_text letters.now }
@@ -46,15 +49,16 @@ fn write_letters(letters: &[Letter], bytes: &mut [u8])
     }
 }
 
-/// Leaves the letters among the bytes, up to the first byte that is not allowed, and answers how many bytes stand
-/// before that one. There is a place for each byte.
+/// Collects the letters before the first byte that isn't allowed, and returns its index.
+///
+/// If all bytes are allowed, returns their number. `letters` has a place for each byte.
 fn letters_among(bytes: &[u8], letters: &mut ArrayVec<Letter, PIECE>) -> usize
     requires few { length bytes.now ≤ PIECE }
     requires places { array_vec_len letters.old ≡ length bytes.now }
     ensures front { IsAllowedTo bytes.now result }
     ensures letters { letters.new.items ≡ typed_letters (take result bytes.now) }
 {
-    // Most pieces have nothing but letters, and are read without a look at each byte by itself.
+    // Most pieces have only letters, and need no test of each single byte.
     if read_letters(bytes, letters) {
         return bytes.len();
     }
@@ -68,7 +72,7 @@ fn letters_among(bytes: &[u8], letters: &mut ArrayVec<Letter, PIECE>) -> usize
     bytes.len()
 }
 
-/// Makes the vector so long. Mostly it is so already, after a piece of that length.
+/// Gives `items` the length `count`. Usually it has this length from the piece before.
 fn make_long<T: Copy + Default>(items: &mut ArrayVec<T, PIECE>, count: usize)
     requires { count ≤ PIECE }
     ensures { array_vec_len items.new ≡ count }
@@ -79,8 +83,10 @@ fn make_long<T: Copy + Default>(items: &mut ArrayVec<T, PIECE>, count: usize)
     }
 }
 
-/// Presses the key of each letter among the bytes, up to the first byte that is not allowed, and answers how many bytes
-/// stand before that one. It leaves the lamps that light up, as capital letters. What the two vectors held is lost.
+/// Types the letters before the first byte that isn't allowed, and returns its index.
+///
+/// If all bytes are allowed, returns their number. Replaces `letters` and `lamps`; `lamps` gets the lamps that
+/// light up, as capital letters.
 pub(super) fn type_piece(
     engine: &mut Engine,
     bytes: &[u8],

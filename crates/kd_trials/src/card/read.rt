@@ -1,3 +1,4 @@
+//! Cards that are refused, for their lines, their length, or their end.
 use super::{CARDS, Sample};
 use crate::texts::{BAR_KINDS, ONE_LUG, TWO_CABLE_KINDS, TWO_CABLES};
 use kd_card::CardFault::{self, BadHead, BadLine, CountWrong, PriceMissing, TooMany, Trailing};
@@ -5,10 +6,10 @@ use kd_card::read_card;
 use std::alloc::{AllocError, Global};
 use std::process::Abort;
 
-/// A part of a card, what stands in the part's place, and what the card is then refused for.
+/// A part of a card, its replacement, and the fault of the changed card.
 type Case = (&'static str, &'static str, CardFault);
 
-/// Cards, each with its cases in the order in which its lines are read.
+/// Cards, each with its cases in the order of its lines.
 static REFUSED: [(&str, &[Case]); 4] = [
     (
         TWO_CABLES,
@@ -148,7 +149,7 @@ static REFUSED: [(&str, &[Case]); 4] = [
     ),
 ];
 
-/// Each of the cards is refused for that.
+/// Checks that each changed card has its fault.
 fn are_refused(
     rt: &impl Abort,
     alloc: Global,
@@ -169,7 +170,7 @@ fn other_cards_are_refused(rt: HostRuntime) -> Result<(), AllocError> {
     Ok(())
 }
 
-/// How many lines of a setting there are, and what the card is refused for that counts four of them.
+/// How many settings a card has, and its fault if it says that there are four.
 static COUNTS: [(usize, CardFault); 3] = [(192, CountWrong), (193, TooMany), (194, TooMany)];
 
 #[test]
@@ -183,7 +184,7 @@ fn no_more_than_192_settings_are_read(rt: HostRuntime) -> Result<(), AllocError>
     Ok(())
 }
 
-/// What the card is refused for that is one up to here.
+/// The fault of a card that ends after `front`.
 fn fault_behind((_, _, lines): &Sample, front: &[u8]) -> CardFault {
     let (count, sum) = *lines;
     match front.split(|byte| *byte == b'\n').count() {
@@ -193,7 +194,7 @@ fn fault_behind((_, _, lines): &Sample, front: &[u8]) -> CardFault {
     }
 }
 
-/// Each front of the card is refused. It has no more than whole lines, or ends within a line that is due.
+/// Checks the fault of each proper prefix of a card.
 fn fronts_are_refused(rt: &impl Abort, sample: &Sample) {
     let text = sample.0.as_bytes();
     for (length, _) in text.iter().enumerate() {

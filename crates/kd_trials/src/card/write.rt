@@ -1,9 +1,10 @@
+//! Cards that are written as they were read.
 use super::{CARDS, Sample};
 use kd_card::{read_card, write_card};
 use kd_tables::MemorySink;
 use std::process::Abort;
 
-/// The card is read, and written into sinks of any room: each takes as much of the text as there is room for.
+/// Reads a card, and writes it into sinks of every size: each takes as much of the text as it has room for.
 fn is_read_and_written(rt: &impl Abort, (text, due, _): &Sample) {
     let text = text.as_bytes();
     let (day, card) = read_card(text).ok().expect(rt, "a card");

@@ -6,8 +6,9 @@ use kd_tables::{MemorySink, MemorySource};
 use std::process::Abort;
 use std::test::Fail;
 
-/// Of that order, of which so many gets succeed and for whose form there is so much room, this is written before a get or a
-/// put fails.
+/// Checks what is written of a form before a get or a put fails.
+///
+/// The source gives `gets` pieces before it fails, and the sink has room for `room` bytes.
 fn sending_fails(
     rt: &impl Abort,
     (machine, day): &Keyed,
@@ -23,7 +24,7 @@ fn sending_fails(
     assert_eq!(rt; sink.taken(), written);
 }
 
-/// The same of a form and its text.
+/// `sending_fails` for a form and its text.
 fn receiving_fails(
     rt: &impl Abort,
     (machine, day): &Keyed,
@@ -39,7 +40,7 @@ fn receiving_fails(
     assert_eq!(rt; sink.taken(), written);
 }
 
-/// The 246th letter comes with the 42nd get, and then the first part is out.
+/// The 246th letter comes with the 42nd get; then the first part is written.
 #[test]
 fn a_source_or_a_sink_of_an_order_fails(rt: HostRuntime) -> Result<(), Fail> {
     let plain = keyed(&rt, rt.alloc(), &PLAIN);
@@ -62,7 +63,7 @@ fn a_source_or_a_sink_of_an_order_fails(rt: HostRuntime) -> Result<(), Fail> {
     Ok(())
 }
 
-/// The digit of the second heading comes with the sixth get, and then the first part's text is out.
+/// The digit of the second heading comes with the sixth get; then the first part's text is written.
 #[test]
 fn a_source_or_a_sink_of_a_form_fails(rt: HostRuntime) {
     let plain = keyed(&rt, rt.alloc(), &PLAIN);

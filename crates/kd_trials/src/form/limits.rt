@@ -5,7 +5,7 @@ use kd_form::{FormFault, receive_stream, send_stream};
 use kd_tables::{Failed, MemorySink, Source};
 use std::process::Abort;
 
-/// A source that gives these bytes first, and then one byte again and again, so many bytes in all.
+/// A source of `left` bytes: `front`, and then `byte` again and again.
 #[derive(Drop)]
 struct Filler {
     front: &'static [u8],
@@ -41,7 +41,7 @@ impl Source for Filler {
 /// More bytes than are ever read.
 const ENDLESS: usize = usize::MAX;
 
-/// How a message begins, the byte with which it goes on, how many bytes it has, and what it is refused for.
+/// How a message begins, the byte that fills the rest, its length in bytes, and its fault.
 type Case = (&'static [u8], u8, usize, FormFault);
 
 static ORDERS: [Case; 4] = [
@@ -66,7 +66,7 @@ static ORDERS: [Case; 4] = [
     ),
 ];
 
-/// A heading without an end stands for nothing, however long it is.
+/// A heading line that doesn't end has no fault yet, however long it is.
 static FORMS: [Case; 5] = [
     (
         b"PART 1/1 10 AAA BDZ\n",
@@ -100,7 +100,7 @@ static FORMS: [Case; 5] = [
     ),
 ];
 
-/// The call answers so, has written nothing, and has read no further than one byte beyond the limit.
+/// Checks the answer, that nothing is written, and that at most one byte more than the limit is read.
 fn is_cut(rt: &impl Abort, (machine, day): &Keyed, way: &Way, (front, byte, length, due): &Case) {
     let mut source = Filler {
         front: *front,

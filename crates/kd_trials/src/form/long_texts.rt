@@ -1,4 +1,4 @@
-//! Texts of many parts.
+//! Texts that take many parts.
 use super::samples::{KEYS, PIN_KEYS, order_of};
 use crate::machines::{IDLE, Keyed, PLAIN, Told, keyed};
 use kd_form::{FormFault, receive, receive_stream, send, send_stream};
@@ -7,9 +7,10 @@ use std::alloc::Global;
 use std::process::Abort;
 use std::test::Fail;
 
-/// A text of letters A that is sent and received back: a machine on its day, a line of its keys, how many of them there are,
-/// how many letters; how many bytes a source gives at once; how the form begins, how its last part begins, how long that part
-/// and the whole form are; and what stands behind the letters in the text that is received.
+/// A text of letters A that is sent and received back.
+///
+/// `told` are the machine and its day, `keys` is the line of keys for each part. The other fields say how the
+/// form begins, how its last part begins, and how long this part and the form are.
 struct Case {
     told: Told,
     keys: &'static str,
@@ -24,7 +25,7 @@ struct Case {
 }
 
 static CASES: [Case; 6] = [
-    // A part of 250 letters has five lines of 60 bytes behind its heading, and one of 520 ten, and one of 24.
+    // The body of 250 letters has five lines of 60 bytes; that of 520 has ten, and one of 24.
     Case {
         told: PLAIN,
         keys: KEYS,
@@ -99,7 +100,7 @@ static CASES: [Case; 6] = [
     },
 ];
 
-/// The order becomes the form, and the form the text, in whatever of the pieces they come.
+/// Checks that the order becomes the form and the form the text, for each size of pieces.
 fn are_streamed(
     rt: &impl Abort,
     (machine, day): &Keyed,
@@ -120,7 +121,7 @@ fn are_streamed(
     }
 }
 
-/// The form begins so, its last part does, and it is so long.
+/// Checks how the form and its last part begin, and how long they are.
 fn is_form(rt: &impl Abort, form: &[u8], case: &Case) {
     let last = form.len().saturating_sub(case.last_length);
     assert_eq!(rt; form.len(), case.length);
@@ -128,7 +129,7 @@ fn is_form(rt: &impl Abort, form: &[u8], case: &Case) {
     assert!(rt; form.get(last..).unwrap_or(&[]).starts_with(case.last));
 }
 
-/// The text is sent and received back, whole and as it comes.
+/// Sends the text and receives it back, whole and as a stream.
 fn is_sent_and_received(rt: &impl Abort, alloc: Global, case: &Case) -> Result<(), Fail> {
     let keyed = keyed(rt, alloc, &case.told);
     let order = order_of(alloc, case.keys, case.parts, case.letters)?;
@@ -158,7 +159,7 @@ fn long_texts_are_sent_and_received(rt: HostRuntime) -> Result<(), Fail> {
     Ok(())
 }
 
-/// The form is refused for the order of its parts, as a stream once so many letters A are out.
+/// Checks that the form has the fault `PartOrder`, and what the stream has written by then.
 fn is_out_of_order(
     rt: &impl Abort,
     alloc: Global,

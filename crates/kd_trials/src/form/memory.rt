@@ -1,4 +1,6 @@
-//! Messages that are made whole, where memory may run out: `tests/refusals` has each request for memory refused in turn.
+//! Messages that are made whole, and may run out of memory.
+//!
+//! `tests/refusals` runs these tests with each request for memory refused in turn.
 use super::samples::{CONVERTER_FORM, CONVERTER_ORDER, TWO_PARTS, Way};
 use crate::letters::letters;
 use crate::machines::Keyed;
@@ -9,7 +11,7 @@ use kd_tables::{Letter, Model, Place, Reading, Reflector, Standing, Wheel};
 use std::alloc::Global;
 use std::process::Abort;
 
-/// An Enigma I on its day, made without memory.
+/// An Enigma I on its day, which takes no memory to make.
 fn plain(rt: &impl Abort) -> Option<Keyed> {
     let parts = RotorParts {
         model: Model::EnigmaI,
@@ -30,7 +32,7 @@ fn plain(rt: &impl Abort) -> Option<Keyed> {
     Some((Machine::rotor(parts)?, day))
 }
 
-/// A Converter without effective pins on its day, made without memory.
+/// A Converter without effective pins on its day, which takes no memory to make.
 fn idle(rt: &impl Abort) -> Option<Keyed> {
     let pins = PinSet {
         w1: [false; 26],
@@ -50,7 +52,7 @@ fn idle(rt: &impl Abort) -> Option<Keyed> {
     Some((Machine::pin(parts)?, day))
 }
 
-/// Which way a message goes, the message, and what becomes of it.
+/// The direction of a message, the message, and what it becomes, or its fault.
 type Case = (Way, &'static str, Result<&'static str, FormFault>);
 
 static OF_AN_ENIGMA: [Case; 7] = [
@@ -95,7 +97,7 @@ static OF_A_CONVERTER: [Case; 2] = [
     (Way::Received, CONVERTER_FORM, Ok("HELLO WORLDXXXX\n")),
 ];
 
-/// This is answered, or that memory ran out.
+/// Checks that the answer is `due`, or `NoMemory`.
 fn is_due(rt: &impl Abort, answer: Result<Vec<u8>, FormFault>, due: Result<&str, FormFault>) {
     match answer {
         Ok(made) => assert!(rt; due.is_ok_and(|due| due.as_bytes() == made.as_slice())),
@@ -103,7 +105,7 @@ fn is_due(rt: &impl Abort, answer: Result<Vec<u8>, FormFault>, due: Result<&str,
     }
 }
 
-/// That becomes of the messages, or memory ran out.
+/// Checks that each message has its answer, or `NoMemory`.
 fn are_due(rt: &impl Abort, alloc: Global, (machine, day): &Keyed, cases: &[Case]) {
     for (way, message, due) in cases {
         let answer = match way {
@@ -122,7 +124,7 @@ fn orders_and_forms_want_memory(rt: HostRuntime) {
     are_due(&rt, rt.alloc(), &keyed, &OF_A_CONVERTER);
 }
 
-/// An order of 246 letters, which stand behind its first 45 bytes.
+/// An order with 246 letters, after the 45 bytes of its head.
 const TWO_PART_ORDER: &str = "PART AAA AAA QX UGZ\nPART AAA AAA QX UGZ\nTEXT\n\
     AAAAAAAAAAAAAAAAAAAAAAAAAAAAAAAAAAAAAAAAAAAAAAAAAAAAAAAAAAAA\
     AAAAAAAAAAAAAAAAAAAAAAAAAAAAAAAAAAAAAAAAAAAAAAAAAAAAAAAAAAAA\

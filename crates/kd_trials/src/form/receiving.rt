@@ -1,4 +1,4 @@
-//! Forms that are received, whole and as they come.
+//! Forms that are received, whole and as streams.
 use super::samples::{
     Case, FOUR_WHEELS, OF_1941, OFF_KEY, ONE_PIN, OTHER_GROUP, PIECES, TWO_PARTS, UNREADY,
 };
@@ -13,7 +13,7 @@ use std::alloc::Global;
 use std::process::Abort;
 use std::test::Fail;
 
-/// Machines on their days, each with its forms.
+/// Machines and their days, each with its forms.
 static FORMS: [(Told, &[Case]); 7] = [
     (
         PLAIN,
@@ -89,19 +89,19 @@ static FORMS: [(Told, &[Case]); 7] = [
                 "AAAAAAAAAA\n",
                 None,
             ),
-            // Its second part is missing.
+            // The second part is missing.
             (
                 "PART 1/2 10 AAA BDZ\nQXUGZ BDZGO\n",
                 "AAAAA",
                 Some(PartOrder),
             ),
-            // The parts are exchanged.
+            // The parts are in the wrong order.
             (
                 "PART 2/2 10 AAA BDZ\nQXUGZ BDZGO\nPART 1/2 10 AAA BDZ\nQXUGZ BDZGO\n",
                 "",
                 Some(PartOrder),
             ),
-            // PART without a digit behind it is four letters.
+            // PART without a digit after it counts as four letters of the body.
             (
                 "PART 1/1 10 AAA BDZ\nQXUGZ BDZGO\nPART \n",
                 "",
@@ -112,7 +112,7 @@ static FORMS: [(Told, &[Case]); 7] = [
                 "",
                 Some(CountWrong(1)),
             ),
-            // A bad byte is told before the count of letters.
+            // A bad byte is answered before a wrong count of letters.
             ("PART 1/1 10 AAA BDZ\nQXUGZ BDZGO A5", "", Some(BadByte(34))),
             (
                 "PART 1/2 10 AAA BDZ\nQXUGZ BDZGO\nPART 2/2 10 AAA\n",
@@ -208,7 +208,7 @@ static FORMS: [(Told, &[Case]); 7] = [
     (OTHER_GROUP, &[(MESSAGE, "", Some(WrongGroup(1)))]),
 ];
 
-/// The form becomes that text, or is refused behind it, whole and in whatever pieces it comes.
+/// Checks the text of a form, or its fault and the text before, whole and in pieces of each size.
 fn is_received(
     rt: &impl Abort,
     alloc: Global,
@@ -255,7 +255,7 @@ UBSTS LRNBZ SZWNR FXWFY SSXJZ VIJHI DISHP RKLKA YUPAD TXQSP
 INQMA TLPIF SVKDA SCTAC DPBOP VHJK
 ";
 
-/// Of its text only the front and the length are known. Without its last LF the form is whole too.
+/// Of the message's text only the beginning and the length are known. The form may lack its last LF.
 #[test]
 fn a_message_of_1941(rt: HostRuntime) -> Result<(), Fail> {
     let keyed = keyed(&rt, rt.alloc(), &OF_1941);
@@ -280,11 +280,12 @@ fn a_message_of_1941(rt: HostRuntime) -> Result<(), Fail> {
     Ok(())
 }
 
-/// Below so many bytes of the form, and not below the number of the case before, this is written, and then comes that fault, if
-/// there is one.
+/// A length, and the text and the fault of each prefix of the form that is shorter than this length.
+///
+/// It holds from the length of the case before on.
 type Cut = (usize, &'static [u8], Option<FormFault>);
 
-/// Of two parts. A part is whole at the end of the form, and at the digit of the next heading.
+/// Prefixes of a form of two parts. A part is complete at the end of the form, or at the digit of the next heading.
 static OF_TWO_PARTS: [Cut; 7] = [
     (19, b"", Some(BadHeading(1))),
     (31, b"", Some(CountWrong(1))),
@@ -295,13 +296,13 @@ static OF_TWO_PARTS: [Cut; 7] = [
     (65, b"AAAAAAAAAA\n", None),
 ];
 
-/// Of the message of 1941.
+/// Prefixes of the message of 1941.
 static OF_ONE_PART: [Cut; 2] = [
     (20, b"", Some(BadHeading(1))),
     (235, b"", Some(CountWrong(1))),
 ];
 
-/// The form is cut at each place below the last case's.
+/// Checks the prefixes of a form, up to the last length in `cuts`.
 fn is_cut(rt: &impl Abort, alloc: Global, keyed: &Keyed, form: &[u8], cuts: &[Cut]) {
     let mut first = 0;
     for (last, text, fault) in cuts {

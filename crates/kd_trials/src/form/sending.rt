@@ -1,4 +1,4 @@
-//! Orders that are sent, whole and as they come.
+//! Orders that are sent, whole and as streams.
 use super::samples::{
     Case, FOUR_WHEELS, KEYS, OFF_KEY, ONE_PIN, PIECES, PIN_KEYS, TURNED, UNREADY, order_of,
 };
@@ -12,7 +12,7 @@ use kd_tables::{MemorySink, MemorySource};
 use std::alloc::{AllocError, Global};
 use std::process::Abort;
 
-/// Machines on their days, each with its orders.
+/// Machines and their days, each with its orders.
 static ORDERS: [(Told, &[Case]); 7] = [
     (
         PLAIN,
@@ -48,7 +48,7 @@ static ORDERS: [(Told, &[Case]); 7] = [
             ),
         ],
     ),
-    // Whatever letters the machine shows.
+    // The letters in the windows don't matter.
     (
         TURNED,
         &[(
@@ -83,7 +83,7 @@ static ORDERS: [(Told, &[Case]); 7] = [
             ),
             ("PART A ABCDEZ\nTEXT\nA", "", Some(KeyNotOnWheel)),
             ("PART T ABCDEZ\nTEXT\nA", "", Some(KeyNotOnWheel)),
-            // Spaces are letters.
+            // On the Converter, spaces are letters.
             (
                 "PART T ABCDEF\nTEXT\n \n ",
                 "PART 1/1 25\nTTABC DEFQV AACCC TTABC DEFQV\n",
@@ -102,7 +102,7 @@ static ORDERS: [(Told, &[Case]); 7] = [
     ),
 ];
 
-/// The order is sent so, whole and in whatever pieces it comes.
+/// Checks the form of an order, or its fault and the parts before, whole and in pieces of each size.
 fn is_sent(rt: &impl Abort, alloc: Global, (machine, day): &Keyed, (order, form, fault): &Case) {
     let order = order.as_bytes();
     for piece in &PIECES {
@@ -128,11 +128,11 @@ fn orders_are_sent(rt: HostRuntime) {
     }
 }
 
-/// A machine on its day, a line of its keys, how many of them and how many letters A an order has, what the order is refused
-/// for, and how many bytes are written by then as it comes.
+/// A machine and its day, a line of keys, how many of them and how many letters A an order has, its fault, and
+/// how many bytes the stream has written by then.
 type LongCase = (Told, &'static str, usize, usize, FormFault, usize);
 
-/// With too many lines of keys the first part is out by then, and with too few nothing is.
+/// With too many lines of keys the first part is written before the fault; with too few, nothing is.
 static LONG_ORDERS: [LongCase; 6] = [
     (
         PLAIN,
@@ -192,7 +192,7 @@ static LONG_ORDERS: [LongCase; 6] = [
     (PLAIN, KEYS, 100, 1, BadByte(1981), 0),
 ];
 
-/// The order is refused for that, whole and as it comes.
+/// Checks the fault of an order, whole and as a stream.
 fn is_refused(
     rt: &impl Abort,
     alloc: Global,

@@ -1,4 +1,4 @@
-//! Files that are cut at each place, and files with a byte there that stands in no text.
+//! Files that are cut at each place, and files with a byte there that no text has.
 use super::Kind::{self, MachineFile, Sheet};
 use super::fault;
 use crate::texts::M1_WRITTEN;
@@ -7,14 +7,13 @@ use kd_sheet::SheetFault;
 use std::alloc::Global;
 use std::process::Abort;
 
-/// A file, and the lengths at which a front of it is whole.
+/// A file, and the lengths of its prefixes that are valid files.
 type Case = (&'static str, &'static [usize]);
 
-/// The file of the machine is whole before its line of cables, which may be absent, and at its end, each without LF and with
-/// it.
+/// The machine file may end before its line of cables, which may be missing, and at its end; there with or without LF.
 static MACHINE_FILES: [Case; 1] = [(M1_WRITTEN, &[107, 108, 169])];
 
-/// A sheet of one day for each model. Each ends with a key that has to be there.
+/// A sheet with one day for each model. Each ends in a key that may not be missing.
 static SHEETS: [Case; 4] = [
     (
         "[[day]]\nday = 1\nmodel = \"Enigma I\"\nreflector = \"B\"\nwheels = [\"I\", \"II\", \"III\"]
@@ -41,7 +40,7 @@ pins = [\"\", \"\", \"\", \"\", \"\", \"\"]\nwindow = \"AAAAAA\"\nlist = \"QV\"\
     ),
 ];
 
-/// The fronts of the file that are read are those of these lengths.
+/// Checks that only the prefixes of these lengths are read without a fault.
 fn are_read_whole(rt: &impl Abort, alloc: Global, kind: &Kind, (file, whole): &Case) {
     let file = file.as_bytes();
     for (length, _) in file.iter().enumerate() {
@@ -50,7 +49,7 @@ fn are_read_whole(rt: &impl Abort, alloc: Global, kind: &Kind, (file, whole): &C
     }
 }
 
-/// The text with a byte FF at that place, behind the last one too.
+/// `text` with a byte FF in the place of the byte at `place`, or after the last one.
 fn with_other_byte(text: &[u8], place: usize) -> ArrayVec<u8, 1024> {
     let mut other = ArrayVec::new();
     let behind = text.get(place..).unwrap_or(&[]).get(1..).unwrap_or(&[]);
@@ -60,7 +59,7 @@ fn with_other_byte(text: &[u8], place: usize) -> ArrayVec<u8, 1024> {
     other
 }
 
-/// No file with a byte FF in it is read.
+/// Checks that a file with a byte FF is refused.
 fn is_text(rt: &impl Abort, alloc: Global, kind: &Kind, (file, _): &Case) {
     for place in 0..=file.len() {
         let file = with_other_byte(file.as_bytes(), place);

@@ -1,4 +1,4 @@
-//! Each fault of each key once, in the order in which the keys are tested, and what comes before what.
+//! Each fault of each key once, in the order in which the keys are tested.
 use super::Kind::{self, MachineFile, Sheet};
 use super::{SHEET, fault};
 use crate::texts::{M1, M4, M209};
@@ -10,7 +10,7 @@ use kd_sheet::SheetFault::{
 use std::alloc::{AllocError, Global};
 use std::process::Abort;
 
-/// Two entries of one day.
+/// A sheet with two entries for one day.
 const TWICE: &str = "[[day]]
 day = 3
 model = \"Enigma I\"
@@ -24,7 +24,7 @@ plugs = []
 day = 3
 ";
 
-/// A part of a file, what stands in the part's place, and the fault that the file then has.
+/// A part of a file, its replacement, and the fault of the changed file.
 type Case = (&'static str, &'static str, SheetFault);
 
 /// A file and its cases.
@@ -159,7 +159,7 @@ static SHEETS: [File; 7] = [
     (TWICE, &[("", "", DayTwice(3))]),
 ];
 
-/// In each of the cases the file has its fault.
+/// Checks that each changed file has its fault.
 fn are_refused(
     rt: &impl Abort,
     alloc: Global,

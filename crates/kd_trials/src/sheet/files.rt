@@ -1,4 +1,4 @@
-//! Machines that are written, and the days of sheets.
+//! Machine files that are read and written, and the days of sheets.
 use super::SHEET;
 use crate::machines::{File, machine};
 use crate::named::TextName::{self, M1, M1Written, M4, M209, TenCables, TenCablesWritten};
@@ -7,8 +7,9 @@ use kd_tables::{Device, MemorySink};
 use std::alloc::{AllocError, Global};
 use std::process::Abort;
 
-/// Each file beside the one that is written for its machine, if that is another one. Either version tells the same machine,
-/// and what no key speaks of is passed over.
+/// A machine file, and the file that is written for its machine, if the two differ.
+///
+/// Both versions can describe the same machine, and unknown keys are ignored.
 static WRITTEN: [(File, Option<TextName>); 16] = [
     ((M1, "", ""), Some(M1Written)),
     ((M1, "version = 1", "version = 2"), Some(M1Written)),
@@ -49,7 +50,7 @@ static WRITTEN: [(File, Option<TextName>); 16] = [
     ((M209, "AAAAAA", "ZYXUSQ"), None),
 ];
 
-/// The machine's file is written so.
+/// Checks the file that is written for a machine.
 fn is_written(
     rt: &impl Abort,
     alloc: Global,
@@ -75,10 +76,10 @@ fn machines_are_written(rt: HostRuntime) -> Result<(), AllocError> {
     Ok(())
 }
 
-/// Files that are written as they are.
+/// Files that are written just as they were read.
 static WHOLE: [TextName; 4] = [M1Written, TenCablesWritten, M4, M209];
 
-/// A sink with less room than the machine's file has taken a front of it that fills the room.
+/// Checks that a sink with too little room takes as long a prefix of the file as it has room for.
 fn fronts_are_taken(rt: &impl Abort, alloc: Global, file: &[u8]) -> Result<(), SheetFault> {
     let machine = read_machine(alloc, file)?;
     for (room, _) in file.iter().enumerate() {
@@ -97,7 +98,7 @@ fn tells_that_the_sink_failed(rt: HostRuntime) -> Result<(), SheetFault> {
     Ok(())
 }
 
-/// Sheets, and their days. What no key speaks of is passed over.
+/// Sheets, and the numbers of their days. Unknown keys are ignored.
 static SHEETS: [(&str, &[u8]); 3] = [
     (SHEET, &[1, 9, 31]),
     ("day = []\n", &[]),

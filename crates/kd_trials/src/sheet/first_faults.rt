@@ -1,4 +1,4 @@
-//! Of two faults of one file, in different keys, the one whose key is tested first is answered.
+//! Files with two faults: the fault of the key that is tested first is answered.
 use super::Kind::{self, MachineFile, Sheet};
 use super::fault;
 use crate::machines::File;
@@ -10,10 +10,10 @@ use kd_sheet::SheetFault::{
 use std::alloc::{AllocError, Global};
 use std::process::Abort;
 
-/// A part of a file, what stands in the part's place, and the fault that this makes.
+/// A part of a file, its replacement, and the fault that this makes.
 type KeyFault = (&'static str, &'static str, SheetFault);
 
-/// Files of each model, with a fault of each key in the order in which the keys are tested.
+/// Files of each model, with one fault for each key, in the order in which the keys are tested.
 static FILES: [(Kind, File, &[KeyFault]); 8] = [
     (
         MachineFile,
@@ -125,7 +125,7 @@ static FILES: [(Kind, File, &[KeyFault]); 8] = [
     ),
 ];
 
-/// With the first fault and any of the later ones, the file has the first.
+/// Checks that the first fault is answered if any of the later ones is in the file too.
 fn comes_before(
     rt: &impl Abort,
     alloc: Global,

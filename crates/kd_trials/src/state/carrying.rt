@@ -9,11 +9,12 @@ use kd_state::{Setting, Why};
 use std::alloc::Global;
 use std::process::Abort;
 
-/// The line of a setting, why it is refused, if it is, and whether the machine is ready then.
+/// A setting's line, why it is refused, if it is, and whether the machine is ready after it.
 type Case = (&'static str, Option<Why>, bool);
 
-/// Machines, each with the settings that it is given one after another. Where two reasons stand against a setting, the first
-/// in the order of testing is answered.
+/// Machines, each with settings that are carried out one after another.
+///
+/// If there are two reasons against a setting, the one that is tested first is answered.
 static MACHINES: [(File, &[Case]); 4] = [
     (
         (M1, "version = 1", "version = 1\ncables = [\"AB\"]"),
@@ -81,7 +82,7 @@ static MACHINES: [(File, &[Case]); 4] = [
     ),
 ];
 
-/// The machine takes its settings so.
+/// Checks the answers of a machine to its settings.
 fn takes(rt: &impl Abort, alloc: Global, (file, cases): &(File, &[Case])) {
     let mut machine = machine(rt, alloc, file);
     for (line, due, is_ready) in *cases {

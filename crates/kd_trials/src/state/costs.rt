@@ -1,8 +1,8 @@
-//! What it costs to change a cable or a bar.
+//! The costs of changing a cable or a bar.
 use kd_state::{bar_cost, cable_cost};
 use kd_tables::{Letter, Reading, Standing};
 
-/// A bar, a row, and what it costs to make the bar read as the row.
+/// A bar, a row, and the cost of making the bar read as the row.
 static BARS: [(&[u8], &[u8], u8); 5] = [
     (b"3-0R", b"0-3", 0),
     (b"0L-3", b"3-6", 2),
@@ -20,7 +20,7 @@ fn what_bars_cost(rt: HostRuntime) {
     }
 }
 
-/// The letters of a cable, those of a pair, or none, and what it costs to make the cable so.
+/// A cable's letters, a pair's letters or none, and the cost of giving the cable the pair's letters.
 static CABLES: [(&[u8; 2], &[u8; 2], u8); 4] = [
     (b"AB", b"BC", 2),
     (b"AB", b"DE", 4),
@@ -28,7 +28,7 @@ static CABLES: [(&[u8; 2], &[u8; 2], u8); 4] = [
     (b"C ", b"  ", 1),
 ];
 
-/// The letters of a text. A byte that is no capital letter stands for none.
+/// The letters of a text of two bytes; `None` for a byte that is no capital letter.
 fn ends([one, other]: &[u8; 2]) -> (Option<Letter>, Option<Letter>) {
     (Letter::from_byte(*one), Letter::from_byte(*other))
 }

@@ -1,4 +1,4 @@
-//! Days of a sheet, and machines that read as them.
+//! Machines that are on a day's key, and others; the parts of a day.
 use crate::letters::letter;
 use crate::machines::{CABLES, IDLE, PLAIN, TWO_BARS, Told, day, keyed};
 use crate::named::TextName::{DayOf1941, DayOfAllMet, DayWithoutPins, M1, PlainDay, WithoutPins};
@@ -19,7 +19,7 @@ static CASES: [Case; 8] = [
         true,
         false,
     ),
-    // Pairs in another order, and other pairs of the same letters.
+    // The same pairs in another order, and other pairs with the same letters.
     (
         (
             (M1, "version = 1", "version = 1\ncables = [\"AB\", \"CD\"]"),
@@ -36,7 +36,7 @@ static CASES: [Case; 8] = [
         false,
         false,
     ),
-    // Bars in another order than the rows, and bars that read otherwise.
+    // The rows in another order, and bars that read differently.
     (
         (
             (
@@ -65,7 +65,7 @@ fn machines_read_as_a_day(rt: HostRuntime) {
     }
 }
 
-/// Whether the day of 1941 tells its parts.
+/// Whether the calls of `SheetDay` give the parts of the day of 1941.
 fn tells_its_wheels(day: &SheetDay) -> bool {
     day.day() == 1
         && day.model() == Model::EnigmaI

@@ -1,11 +1,11 @@
-//! What machines make of a text.
+//! The ciphertexts of machines.
 use crate::letters::{letter, letters};
 use crate::machines::{File, machine};
 use crate::named::TextName::{AllMet, M1, M3, M4, M4AsEnigma, M209, TenCables};
 use std::alloc::Global;
 use std::process::Abort;
 
-/// A machine, the letters to which its wheels are turned, if they are, a text, and what becomes of it.
+/// A machine, the letters to which its wheels are turned, if they are, a text, and its ciphertext.
 type Case = (File, Option<&'static [u8; 3]>, &'static [u8], &'static [u8]);
 
 static CASES: [Case; 11] = [
@@ -16,7 +16,7 @@ static CASES: [Case; 11] = [
         b"AAAAA",
         b"EWTYX",
     ),
-    // Ring and letter of the leftmost wheel, moved together, change nothing of the cipher, nor does Beta beside the three.
+    // The cipher stays the same if ring and letter of the leftmost wheel move together, or Beta is added at A.
     ((M1, "AAAAA", "BAAAA"), None, b"AAAAA", b"BDZGO"),
     ((M4AsEnigma, "", ""), None, b"AAAAA", b"BDZGO"),
     ((M3, "", ""), None, b"AAAAA", b"BDZGO"),
@@ -28,7 +28,7 @@ static CASES: [Case; 11] = [
     ((AllMet, "", ""), None, b"AAAAA", b"AZZZZ"),
 ];
 
-/// The machine makes that of the text.
+/// Checks the ciphertext of a text.
 fn enciphers(rt: &impl Abort, alloc: Global, (file, window, plain, cipher): &Case) {
     let mut engine = machine(rt, alloc, file).engine().ok().expect(rt, "ready");
     if let Some(window) = window {

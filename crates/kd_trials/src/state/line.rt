@@ -1,6 +1,7 @@
+//! Lines of settings.
 use kd_state::Setting;
 
-/// Lines, and whether each is that of a setting.
+/// Lines, and whether each is a setting's line.
 static LINES: [(&str, bool); 26] = [
     ("SEAT 1 IV", true),
     ("REFLECTOR B", true),

@@ -1,7 +1,8 @@
+//! Lists of settings.
 use kd_state::{ListFault, read_list};
 use std::alloc::AllocError;
 
-/// How many settings there are, what follows them, and what the text is refused for, if it is.
+/// How many settings a list has, what follows them, and the list's fault, if it has one.
 static LISTS: [(usize, &str, Option<ListFault>); 13] = [
     (0, "", None),
     (1, "", None),
@@ -18,7 +19,7 @@ static LISTS: [(usize, &str, Option<ListFault>); 13] = [
     (3, "REFLECTOR B \n", Some(ListFault::BadLine(4))),
 ];
 
-/// A list has at most 192 lines, and the first line that is none is told.
+/// A list has at most 192 lines, and the first bad line is answered.
 #[test]
 fn lists_are_read_or_refused(rt: HostRuntime) -> Result<(), AllocError> {
     for (count, rest, due) in &LISTS {

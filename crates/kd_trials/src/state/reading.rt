@@ -1,10 +1,10 @@
-//! What can be read off a machine.
+//! What the calls of `Machine` tell of a machine.
 use crate::machines::machine;
 use crate::named::TextName::{M209, TenCables};
 use kd_state::Machine;
 use kd_tables::{Letter, Model, Place, Reflector, Standing, Wheel};
 
-/// Whether the Enigma with ten cables tells its parts.
+/// Whether the calls of `Machine` give the parts of the Enigma with ten cables.
 fn tells_its_parts(machine: &Machine) -> bool {
     machine.model() == Model::EnigmaI
         && machine.reflector() == Some(Reflector::B)
@@ -16,7 +16,7 @@ fn tells_its_parts(machine: &Machine) -> bool {
         && machine.cable(13) == Some((None, None))
 }
 
-/// Whether the Converter with a bar at 1-2 and a pin at O of its second wheel does.
+/// Whether the calls of `Machine` give the parts of a Converter with a bar at 1-2 and a pin at O of wheel 2.
 fn tells_its_letters_and_bars(machine: &Machine) -> bool {
     machine.model() == Model::M209
         && machine.shown(6) == Some(Letter::A)

@@ -10,4 +10,10 @@ returns-in_err-card-clause-none c = grind (arith, read_none)
 pub returns-clause-said : goal.returns-clause-said
 returns-clause-said c =
     let found = found_of c.args.words.now in
-    record { name = refl; words = (c.in_ok-sheet.ensures.said, read_some found (codes "CARD") c.get_str.result c.in_ok-card.card c.get_str.ensures (search rules)) }
+    record {
+      name = refl;
+      words = (
+        c.in_ok-sheet.ensures.said,
+        read_some found (codes "CARD") c.get_str.result c.in_ok-card.card c.get_str.ensures (search rules),
+      );
+    }

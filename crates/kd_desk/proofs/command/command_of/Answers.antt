@@ -8,6 +8,7 @@ pub returns-clause-said : goal.returns-clause-said
 returns-clause-said c =
     let found = found_of c.args.words.now in
     record {
-      machine = read_some found (codes "MACHINE") c.get_str.result c.in_ok-machine.machine c.get_str.ensures (search rules);
+      machine =
+          read_some found (codes "MACHINE") c.get_str.result c.in_ok-machine.machine c.get_str.ensures (search rules);
       action = c.in_ok-action.ensures.said;
     }

@@ -15,7 +15,10 @@ pub returns-clause-said : goal.returns-clause-said
 returns-clause-said c =
     let found = found_of c.args.words.now in
     record {
-      sheet_word = read_some found (codes "SHEET") c.get_str.result c.in_ok-sheet.sheet c.get_str.ensures (search rules);
-      day_word = read_some found (codes "DAY") c.get_str-2.result c.in_ok-get_str.field-0 c.get_str-2.ensures (search rules) ∙ ap Some (sym (c.in_ok-day.ensures.0 ∙ c.as_bytes.ensures.value));
+      sheet_word =
+          read_some found (codes "SHEET") c.get_str.result c.in_ok-sheet.sheet c.get_str.ensures (search rules);
+      day_word =
+          read_some found (codes "DAY") c.get_str-2.result c.in_ok-get_str.field-0 c.get_str-2.ensures (search rules)
+          ∙ ap Some (sym (c.in_ok-day.ensures.0 ∙ c.as_bytes.ensures.value));
       of_month = c.in_ok-day.ensures.1;
     }

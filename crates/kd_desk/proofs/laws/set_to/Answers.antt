@@ -1,4 +1,5 @@
-use Rattle.{kd_card.proofs.Shortest.model_of-list, kd_desk.proofs.{Months.papers_for, Prelude.Leads, Prelude.rules}, kd_plan.specs.Planned.Plans}
+use Rattle.{kd_card.proofs.Shortest.model_of-list, kd_desk.proofs.{Months.papers_for, Prelude.Leads, Prelude.rules}}
+use Rattle.kd_plan.specs.Planned.{Plans}
 use Rattle.kd_desk.proofs.laws.set_to.Goals as goal
 
 pub returns-clause-written : goal.returns-clause-written

@@ -9,4 +9,5 @@ returns-in-Err c = InCard (sym c.starts_with.ensures.value ∙ c.if-starts_with.
 
 pub returns-else-starts_with : goal.returns-else-starts_with
 returns-else-starts_with c =
-    list_read (λ v. v.items) c.args.bytes.now c.read_list.result c.map_err.result (sym c.starts_with.ensures.value ∙ c.if-starts_with.false) c.read_list.ensures c.map_err.ensures.cases
+    list_read (λ v. v.items) c.args.bytes.now c.read_list.result c.map_err.result
+    (sym c.starts_with.ensures.value ∙ c.if-starts_with.false) c.read_list.ensures c.map_err.ensures.cases

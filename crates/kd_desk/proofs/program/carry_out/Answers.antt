@@ -5,7 +5,12 @@ pub returns-in-Type-clause-does : goal.returns-in-Type-clause-does
 returns-in-Type-clause-does g c =
     let run = c.run_type.ensures in
     rw (c.in-Type.is, ← c.as_slice-machine.ensures)
-    (record { left = nothing_left; told = c.run_type.result; does = record { refused = run.refused; typed = run.typed }; answers = c.after.ensures })
+    (record {
+      left = nothing_left;
+      told = c.run_type.result;
+      does = record { refused = run.refused; typed = run.typed };
+      answers = c.after.ensures;
+    })
 
 pub returns-in-Apply-clause-does : goal.returns-in-Apply-clause-does
 returns-in-Apply-clause-does g c =

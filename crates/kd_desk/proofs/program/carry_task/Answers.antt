@@ -4,12 +4,22 @@ use Rattle.kd_desk.proofs.program.carry_task.Goals as goal
 pub returns-in-Card-clause-does : goal.returns-in-Card-clause-does
 returns-in-Card-clause-does g c =
     rw c.in-Card.is
-    (record { left = nothing_left; told = c.run_card.result; does = c.run_card.ensures.card; answers = c.after.ensures })
+    (record {
+      left = nothing_left;
+      told = c.run_card.result;
+      does = c.run_card.ensures.card;
+      answers = c.after.ensures;
+    })
 
 pub returns-in-Check-clause-does : goal.returns-in-Check-clause-does
 returns-in-Check-clause-does g c =
     rw (c.in-Check.is, ← c.as_slice.ensures)
-    (record { left = nothing_left; told = c.run_check.result; does = c.run_check.ensures.checks; answers = c.after-in-Check.ensures })
+    (record {
+      left = nothing_left;
+      told = c.run_check.result;
+      does = c.run_check.ensures.checks;
+      answers = c.after-in-Check.ensures;
+    })
 
 pub returns-in-Message-clause-does : goal.returns-in-Message-clause-does
 returns-in-Message-clause-does g c =
@@ -21,10 +31,12 @@ returns-in-Message-clause-does g c =
     })
 
 pub returns-in-Card-clause-untouched : goal.returns-in-Card-clause-untouched
-returns-in-Card-clause-untouched g c = λ early. c.run_card.ensures.untouched (refused_before false _ _ c.after.ensures early)
+returns-in-Card-clause-untouched g c =
+    λ early. c.run_card.ensures.untouched (refused_before false _ _ c.after.ensures early)
 
 pub returns-in-Check-clause-untouched : goal.returns-in-Check-clause-untouched
-returns-in-Check-clause-untouched g c = λ early. c.run_check.ensures.untouched (refused_before false _ _ c.after-in-Check.ensures early)
+returns-in-Check-clause-untouched g c =
+    λ early. c.run_check.ensures.untouched (refused_before false _ _ c.after-in-Check.ensures early)
 
 pub returns-in-Message-clause-untouched : goal.returns-in-Message-clause-untouched
 returns-in-Message-clause-untouched g c =

@@ -7,7 +7,8 @@ returns-in_err-dated-clause-checks g c = NoCard _ c.in_err-dated.ensures (err_is
 
 pub returns-then-dated-number-clause-checks : goal.returns-then-dated-number-clause-checks
 returns-then-dated-number-clause-checks g c =
-    Other c.in_ok-dated.dated c.in_ok-dated.card.settings.items c.in_ok-dated.card.prices c.in_ok-dated.ensures (search rules) refl
+    Other c.in_ok-dated.dated c.in_ok-dated.card.settings.items c.in_ok-dated.card.prices c.in_ok-dated.ensures
+    (search rules) refl
 
 pub returns-in_err-check-clause-checks : goal.returns-in_err-check-clause-checks
 returns-in_err-check-clause-checks g c =

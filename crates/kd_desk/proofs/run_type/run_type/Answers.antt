@@ -7,7 +7,8 @@ returns-clause-typed g c =
     let source = port g.R.Source.remaining g.R.Source.has_failed c.args.source.now c.type_stream.new.source in
     let sink = port g.W.Sink.taken g.W.Sink.has_failed c.args.sink.now c.type_stream.new.sink in
     let answer = c.map_err.result in
-    of_read (machine_of c.args.machine.now) c.in_ok-machine.machine (λ m. Types m source sink answer) (LacksMemory answer) c.in_ok-machine.ensures
+    of_read (machine_of c.args.machine.now) c.in_ok-machine.machine (λ m. Types m source sink answer)
+    (LacksMemory answer) c.in_ok-machine.ensures
     (record {
       told = c.type_stream.result;
       so = c.type_stream.ensures.streamed;

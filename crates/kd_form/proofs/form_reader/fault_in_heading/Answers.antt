@@ -4,7 +4,8 @@ use Rattle.kd_form.proofs.form_reader.fault_in_heading.Goals as goal
 pub returns-in-Ok : goal.returns-in-Ok
 returns-in-Ok c = λ part held start.
     let due = c.in-Ok.ensures in
-    let has = rw due.is at (c.heading_of_open-heading.ensures part held.unbroken (c.as_slice.ensures.value ∙ held.kept)) in
+    let has =
+    rw due.is at (c.heading_of_open-heading.ensures part held.unbroken (c.as_slice.ensures.value ∙ held.kept)) in
     inr (record {
       heading = _;
       body = [];
@@ -17,4 +18,5 @@ returns-in-Ok c = λ part held start.
 
 pub returns-in-Err : goal.returns-in-Err
 returns-in-Err c = λ part held start.
-    inl (off _ c.args.number _ start part _ _ (c.heading_of_open-heading.ensures part held.unbroken (c.as_slice.ensures.value ∙ held.kept)) c.in-Err.ensures)
+    inl (off _ c.args.number _ start part _ _ (c.heading_of_open-heading.ensures part held.unbroken
+    (c.as_slice.ensures.value ∙ held.kept)) c.in-Err.ensures)

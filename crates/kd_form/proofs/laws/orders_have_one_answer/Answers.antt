@@ -7,7 +7,8 @@ returns-clause-form c s order form other a b =
 
 pub returns-clause-fault : goal.returns-clause-fault
 returns-clause-fault c s order fault other a b =
-    let same = only_order s order (Err fault) (Err other) (fault_answer s order fault a) (fault_answer s order other b) in cc
+    let same =
+    only_order s order (Err fault) (Err other) (fault_answer s order fault a) (fault_answer s order other b) in cc
 
 pub returns-clause-never_both : goal.returns-clause-never_both
 returns-clause-never_both c s order form fault a b =

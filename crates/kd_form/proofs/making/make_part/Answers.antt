@@ -5,7 +5,12 @@ pub returns-in-Rotor : goal.returns-in-Rotor
 returns-in-Rotor c =
     let shown = c.as_slice.ensures.value ∙ c.rotor_letters-letters.ensures.value in
     let own = c.indicator_of-indicator.ensures.day ∙ c.new-own.ensures in
-    rw c.in-Rotor.is (_, refl, rw (c.indicator_of-indicator.ensures.value, shown, own, c.new-own.ensures) at c.text_of.ensures)
+    rw c.in-Rotor.is (
+      _,
+      refl,
+      rw (c.indicator_of-indicator.ensures.value, shown, own, c.new-own.ensures)
+          at c.text_of.ensures,
+    )
 
 pub returns-in-Pin : goal.returns-in-Pin
 returns-in-Pin c =

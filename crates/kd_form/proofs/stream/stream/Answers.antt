@@ -1,4 +1,6 @@
-use Rattle.kd_form.proofs.Streaming.{err_is, SoFar-room, SoFar-read, SoFar-ended, IsStreamed-stopped, IsStreamed-closed, well_now, [], ◌∷◌, ◌++◌, ◌∙◌, refl, arith, TooLong, Consumes-nil, Consumes-trans, Appends-nil}
+use Rattle.kd_form.proofs.Streaming.{err_is, SoFar-room, SoFar-read, SoFar-ended, IsStreamed-stopped, IsStreamed-closed}
+use Rattle.kd_form.proofs.Streaming.{well_now, [], ◌∷◌, ◌++◌, ◌∙◌, refl, arith, TooLong, Consumes-nil, Consumes-trans}
+use Rattle.kd_form.proofs.Streaming.{Appends-nil}
 use Rattle.kd_form.proofs.stream.stream.Goals as goal
 
 pub loop-read-init : goal.loop-read-init
@@ -16,16 +18,20 @@ returns-in-0 g c =
     IsStreamed-closed _ _ _ _ _ _ _ _ _ _ _ (before, ended c.in-0.is) c.close.ensures
 
 pub loop-read-preserved : goal.loop-read-preserved
-loop-read-preserved g c = (SoFar-read _ _ _ _ _ _ _ _ _ _ _ _ _ _ _ _ _ c.loop-read.invariant refl _ c.in_ok-count.ensures).0
+loop-read-preserved g c =
+    (SoFar-read _ _ _ _ _ _ _ _ _ _ _ _ _ _ _ _ _ c.loop-read.invariant refl _ c.in_ok-count.ensures).0
 
 pub returns-in_err-count : goal.returns-in_err-count
 returns-in_err-count g c =
-    rw (err_is _ _ c.from_residual.ensures.1) (IsStreamed-stopped _ _ _ _ _ _ _ _ _ _ _ _ _ _ _ _ _ c.loop-read.invariant refl _ _ refl c.in_err-count.ensures)
+    rw (err_is _ _ c.from_residual.ensures.1)
+    (IsStreamed-stopped _ _ _ _ _ _ _ _ _ _ _ _ _ _ _ _ _ c.loop-read.invariant refl _ _ refl
+    c.in_err-count.ensures)
 
 pub returns : goal.returns
 returns g c =
     IsStreamed-closed _ _ _ _ _ _ _ _ _ _ _
-    (SoFar-ended _ _ _ _ _ _ _ _ _ _ c.loop-read.invariant _ c.if-not-branch.false c.in_ok-is_at_end.ensures.ends c.in_ok-is_at_end.ensures.failed)
+    (SoFar-ended _ _ _ _ _ _ _ _ _ _ c.loop-read.invariant _ c.if-not-branch.false c.in_ok-is_at_end.ensures.ends
+    c.in_ok-is_at_end.ensures.failed)
     c.close-2.ensures
 
 pub returns-then-not-branch : goal.returns-then-not-branch
@@ -37,6 +43,8 @@ returns-then-not-branch g c =
       text = before.text;
       given = Consumes-trans _ _ _ before.read (ends.0 ∷ []) before.given ends.1;
       written = before.written;
-      answers = TooLong before.read ends.0 refl (omega (arith, before.counted, before.within, c.loop-read-test.false)) before.held.open_yet
+      answers =
+          TooLong before.read ends.0 refl (omega (arith, before.counted, before.within, c.loop-read-test.false))
+          before.held.open_yet
           (well_now _ _ c.in_ok-is_at_end.ensures.failed ∙ before.well.0, before.well.1) refl;
     }

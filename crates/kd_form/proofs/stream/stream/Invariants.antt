@@ -5,7 +5,8 @@ use Rattle.kd_form.proofs.stream.stream.Given as goal
 abbrev pub invariant-loop-read : goal.invariant-loop-read
 invariant-loop-read g l =
     SoFar (g.M.PieceReader.message l.on) (g.M.PieceReader.holds l.on l.reader)
-    (port g.R.Source.remaining g.R.Source.has_failed l.fn.source l.source) (port g.W.Sink.taken g.W.Sink.has_failed l.fn.sink l.sink) l.read
+    (port g.R.Source.remaining g.R.Source.has_failed l.fn.source l.source)
+    (port g.W.Sink.taken g.W.Sink.has_failed l.fn.sink l.sink) l.read
 
 abbrev pub decreases-loop-read : goal.decreases-loop-read
 decreases-loop-read g l = read_limit - l.read

@@ -1,4 +1,5 @@
-use Rattle.kd_form.proofs.Streaming.{err_is, typed_held, [], refl, sym, ap, ◌∙◌, All-nil, IsTrue, is_text_byte, letters_text, typed_letters, cipher, engine_cipher, false≢true, NotReady, Off}
+use Rattle.kd_form.proofs.Streaming.{err_is, typed_held, [], refl, sym, ap, ◌∙◌, All-nil, IsTrue, is_text_byte}
+use Rattle.kd_form.proofs.Streaming.{letters_text, typed_letters, cipher, engine_cipher, false≢true, NotReady, Off}
 use Rattle.kd_form.proofs.typing.type_stream.Goals as goal
 
 pub stream-requires : goal.stream-requires
@@ -6,9 +7,12 @@ stream-requires g c =
     typed_held c.args.machine.now _ [] [] (record {
       counted = refl;
       allowed = All-nil (λ b. IsTrue (is_text_byte b));
-      behind = λ more. ap letters_text (sym (engine_cipher _ (typed_letters more)) ∙ ap (λ k. cipher k (typed_letters more)) (sym c.in_ok-engine.ensures.key));
+      behind = λ more. ap letters_text (sym (engine_cipher _ (typed_letters more))
+          ∙ ap (λ k. cipher k (typed_letters more)) (sym c.in_ok-engine.ensures.key));
     })
 
 pub returns-in_err-engine-clause-streamed : goal.returns-in_err-engine-clause-streamed
 returns-in_err-engine-clause-streamed g c =
-    rw (err_is _ _ c.from_residual.ensures.1) (Off NotReady (λ ready. false≢true (c.in_err-engine.ensures.ready.1 ready), refl) refl (record { has = refl; well = refl }) (record { has = refl; well = refl }))
+    rw (err_is _ _ c.from_residual.ensures.1)
+    (Off NotReady (λ ready. false≢true (c.in_err-engine.ensures.ready.1 ready), refl) refl
+    (record { has = refl; well = refl }) (record { has = refl; well = refl }))

@@ -1,8 +1,10 @@
-use Rattle.kd_form.proofs.FormSteps.{err_is, next_last, next_refused, closes, closes_refused, closes_short, in_stage, [], ℕ, ap, ArrayVec, ◌∙◌}
+use Rattle.kd_form.proofs.FormSteps.{err_is, next_last, next_refused, closes, closes_refused, closes_short, in_stage}
+use Rattle.kd_form.proofs.FormSteps.{[], ℕ, ap, ArrayVec, ◌∙◌}
 use Rattle.kd_form.proofs.form_reader.FormReaderMessageReader.end.Goals as goal
 
 pub give-requires-clause-heading : goal.give-requires-clause-heading
-give-requires-clause-heading c = (in_stage _ c.args.self.now c.requires.room.bytes _ c.requires.room.held.is _ c.in-Body.is).holds.is_heading
+give-requires-clause-heading c =
+    (in_stage _ c.args.self.now c.requires.room.bytes _ c.requires.room.held.is _ c.in-Body.is).holds.is_heading
 
 pub returns-in-Heading : goal.returns-in-Heading
 returns-in-Heading c = λ form text so_far.
@@ -22,5 +24,6 @@ returns-else-body-self c = λ form text so_far.
 pub returns-in_err-give-in-Body : goal.returns-in_err-give-in-Body
 returns-in_err-give-in-Body c = λ form text so_far.
     rw (err_is _ _ c.from_residual.ensures.1) (closes_refused _ c.args.self.now form text so_far.is _ _
-    (next_refused _ _ _ _ _ _ [] (next_last _ c.args.self.now form text so_far.is _ c.in-Body.is) _ c.in_err-give-in-Body.ensures.given)
+    (next_refused _ _ _ _ _ _ [] (next_last _ c.args.self.now form text so_far.is _ c.in-Body.is)
+    _ c.in_err-give-in-Body.ensures.given)
     (ap (λ (v : ArrayVec ℕ). v.items) c.in_err-give-in-Body.ensures.unchanged ∙ c.requires.empty))

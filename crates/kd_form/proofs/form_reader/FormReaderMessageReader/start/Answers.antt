@@ -15,5 +15,8 @@ returns c = held c.args._day.now _ [] [] (record {
   read = ((refl, refl), refl);
   is = refl;
   counted = refl;
-  stage = (record { kept = c.new.ensures; unbroken = All-nil (λ b. b ≢ 10); begins = inl (0, omega arith, refl) }, λ few. refl);
+  stage = (
+    record { kept = c.new.ensures; unbroken = All-nil (λ b. b ≢ 10); begins = inl (0, omega arith, refl) },
+    λ few. refl,
+  );
 })

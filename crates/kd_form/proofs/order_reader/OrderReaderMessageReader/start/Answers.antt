@@ -5,7 +5,8 @@ pub returns : goal.returns
 returns c = order_held c.args._day.now _ [] [] (record {
   counted = refl;
   stage = (
-    rw (c.new.ensures.keys, c.new.ensures.line) (record { lines = refl; few = omega arith; begins = (codes "TEXT\n", (λ none. cc), inr (inl refl)) }),
+    rw (c.new.ensures.keys, c.new.ensures.line)
+        (record { lines = refl; few = omega arith; begins = (codes "TEXT\n", (λ none. cc), inr (inl refl)) }),
     refl,
     c.new-2.ensures,
   );

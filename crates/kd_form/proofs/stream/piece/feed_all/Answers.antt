@@ -1,14 +1,19 @@
-use Rattle.kd_form.proofs.Streaming.{err_is, fed_none, room_for, take_all, refl, fed_next, fed_whole, fed_up_to, room_less, well_now, sym, ◌∙◌, arith, take_more, up_to}
+use Rattle.kd_form.proofs.Streaming.{err_is, fed_none, room_for, take_all, refl, fed_next, fed_whole, fed_up_to}
+use Rattle.kd_form.proofs.Streaming.{room_less, well_now, sym, ◌∙◌, arith, take_more, up_to}
 use Rattle.kd_form.proofs.stream.piece.feed_all.Goals as goal
 
 pub returns-in_err-feed_one-clause-fed : goal.returns-in_err-feed_one-clause-fed
 returns-in_err-feed_one-clause-fed g c =
-    rw (err_is _ _ c.from_residual.ensures.1) (fed_whole _ _ _ _ _ _ _ (up_to c.args.bytes.now c.loop-byte.byte-index c.loop-byte-test.true)
-    (fed_up_to _ _ _ _ _ _ _ (fed_next _ _ _ _ _ _ _ _ _ _ _ _ _ c.loop-byte.invariant.fed c.in_err-feed_one.ensures.fed)))
+    rw (err_is _ _ c.from_residual.ensures.1)
+    (fed_whole _ _ _ _ _ _ _ (up_to c.args.bytes.now c.loop-byte.byte-index c.loop-byte-test.true)
+    (fed_up_to _ _ _ _ _ _ _ (fed_next _ _ _ _ _ _ _ _ _ _ _ _ _ c.loop-byte.invariant.fed
+    c.in_err-feed_one.ensures.fed)))
 
 pub loop-byte-preserved : goal.loop-byte-preserved
 loop-byte-preserved g c = record {
-  room = room_less _ _ _ _ _ _ _ (omega (arith, c.loop-byte-test.true)) c.loop-byte.invariant.room c.in_ok-feed_one.ensures.fed;
+  room =
+      room_less _ _ _ _ _ _ _ (omega (arith, c.loop-byte-test.true))
+      c.loop-byte.invariant.room c.in_ok-feed_one.ensures.fed;
   fed = fed_whole _ _ _ _ _ _ _ (sym (take_more c.args.bytes.now c.loop-byte.byte-index 0 c.loop-byte-test.true))
       (fed_next _ _ _ _ _ _ _ _ _ _ _ _ _ c.loop-byte.invariant.fed c.in_ok-feed_one.ensures.fed);
   empty = c.in_ok-feed_one.ensures.emptied;

@@ -3,7 +3,8 @@ use Rattle.kd_form.proofs.stream.piece.read_into.Goals as goal
 
 pub returns-in_err-read : goal.returns-in_err-read
 returns-in_err-read g c bytes text held few =
-    rw (err_is _ _ c.from_residual.ensures.1) (read_stopped _ _ _ bytes text _ _ _ _ _ _ _ _ _ _ _ held few (search rules)
+    rw (err_is _ _ c.from_residual.ensures.1)
+    (read_stopped _ _ _ bytes text _ _ _ _ _ _ _ _ _ _ _ held few (search rules)
     c.in-Ok.ensures.bytes.given c.in-Ok.ensures.failed c.in_err-read.ensures.fed c.in_err-read.ensures.failed)
 
 pub returns-in_default : goal.returns-in_default

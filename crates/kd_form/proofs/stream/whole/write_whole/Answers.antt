@@ -4,7 +4,8 @@ use Rattle.kd_form.proofs.stream.whole.write_whole.Goals as goal
 pub finish-requires : goal.finish-requires
 finish-requires g c =
     room_less _ _ _ _ _ (length c.args.message.now) 0 (omega arith)
-    (record { bytes = []; text = []; held = c.start-reader.ensures; within = omega (arith, c.if-prove.false) }) c.in_ok-feed_all.ensures.fed
+    (record { bytes = []; text = []; held = c.start-reader.ensures; within = omega (arith, c.if-prove.false) })
+    c.in_ok-feed_all.ensures.fed
 
 pub returns-in_err-feed_all-clause-written : goal.returns-in_err-feed_all-clause-written
 returns-in_err-feed_all-clause-written g c =

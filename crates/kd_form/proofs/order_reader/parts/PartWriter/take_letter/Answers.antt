@@ -1,7 +1,9 @@
-use Rattle.kd_form.proofs.OrderSteps.{common_steps, part_more, size_some, [], ◌≡◌, ◌≤◌, ◌<◌, ◌-◌, ◌*◌, ◌+◌, ◌++◌, ◌∷◌, ℕ, inl, inr, ap, ◌∙◌, arith, cases_lt, drop, drop_at, length, length-append, length-drop, length-take, le_of_mul-le-mul_left, part_size, take_all, take_at}
+use Rattle.kd_form.proofs.OrderSteps.{common_steps, part_more, size_some, [], ◌≡◌, ◌≤◌, ◌<◌, ◌-◌, ◌*◌, ◌+◌, ◌++◌, ◌∷◌}
+use Rattle.kd_form.proofs.OrderSteps.{ℕ, inl, inr, ap, ◌∙◌, arith, cases_lt, drop, drop_at, length, length-append}
+use Rattle.kd_form.proofs.OrderSteps.{length-drop, length-take, le_of_mul-le-mul_left, part_size, take_all, take_at}
 use Rattle.kd_form.proofs.order_reader.parts.PartWriter.take_letter.Goals as goal
 
--- a letter more shows that the part is full
+-- the letter belongs to the next part, so the full one is made
 pub returns-then-from-keys : goal.returns-then-from-keys
 returns-then-from-keys c letters sent is =
     let (k, found, made) = c.write.ensures.made in
@@ -11,8 +13,10 @@ returns-then-from-keys c letters sent is =
     let w = c.args.self.now in
     let size : ℕ = part_size s in
     let large : 0 < size = size_some s in
-    let behind : length (drop (size * w.written) letters) ≡ length letters - size * w.written = length-drop (size * w.written) letters in
-    let full : size ≤ length w.letters.items = omega (arith, c.if-len-part_size.false, c.len.ensures.value, c.part_size.ensures.value) in
+    let behind : length (drop (size * w.written) letters) ≡ length letters - size * w.written =
+    length-drop (size * w.written) letters in
+    let full : size ≤ length w.letters.items =
+    omega (arith, c.if-len-part_size.false, c.len.ensures.value, c.part_size.ensures.value) in
     let another : w.written + 1 < length keys = omega (arith, c.if-from-keys.true, c.from.ensures) in
     let enough : size * w.written + size ≤ length letters =
     omega (arith, ap length is.kept, length-take size (drop (size * w.written) letters), behind, full, large) in

@@ -3,4 +3,6 @@ use Rattle.kd_form.proofs.stream.piece.AnyPieceReaderSheetDay.finish.Goals as go
 
 pub returns-in_err-put_all-clause-ended : goal.returns-in_err-put_all-clause-ended
 returns-in_err-put_all-clause-ended g c =
-    rw (err_is _ _ c.from_residual.ensures.1) (closed_in_part _ _ _ _ _ _ _ _ c.end-answer.ensures (subst (TakesFront _ _) c.as_slice.ensures.value c.in_err-put_all.ensures.text.front))
+    rw (err_is _ _ c.from_residual.ensures.1)
+    (closed_in_part _ _ _ _ _ _ _ _ c.end-answer.ensures
+    (subst (TakesFront _ _) c.as_slice.ensures.value c.in_err-put_all.ensures.text.front))
