@@ -136,7 +136,7 @@ pub record HasKindWords (name : Name) (words : List (List ℕ)) (kind : PricedKi
 abbrev pub kinds_text : List PricedKind → List ℕ
 kinds_text kinds = flat_map (λ kind. line_of (kind_words kind) ++ 10 ∷ []) kinds
 
--- kinds of cables, pairs, bars and rows, as kinds of any sort
+-- a kind of cables, pairs, bars or rows, as a `PricedKind`
 abbrev pub cable_kind : CableKind → PricedKind
 cable_kind kind = record { look = Cable kind.ends; count = kind.count; price = kind.price }
 

@@ -42,9 +42,13 @@ impl Version {
 /// The prices of a card: one list for rows and one for columns of the table of costs, by number or by kind.
 #[derive(Drop)]
 pub enum PriceParts {
+    /// A price for each cable, and for each pair or nothing.
     Cables([i16; 13], [i16; 13]),
+    /// A price for each bar, and for each row of the sheet.
     Bars([i16; 27], [i16; 27]),
+    /// A price for each kind of cable, and of pair or nothing.
     CableKinds(ArrayVec<CableKind, 13>, ArrayVec<PairKind, 13>),
+    /// A price for each kind of bar, and of row.
     BarKinds(ArrayVec<BarKind, 27>, ArrayVec<RowKind, 27>),
 }
 

@@ -1,4 +1,5 @@
--- The cables of a month: a machine whose cables in use are among the first `number` needs no other one.
+-- The cables of a month: a machine that uses no cable above `number` never needs one above it, if no day has more than
+-- `number` pairs.
 use Rattle.std.specs.Prelude.{◌≡◌, ℕ, List, Option, Some, Ok, All}
 use Rattle.kd_state.specs.declared.machine.parts.Parts.{Parts}
 use Rattle.kd_state.specs.declared.setting.Setting.{Setting}

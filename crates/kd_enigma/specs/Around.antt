@@ -4,7 +4,7 @@ use Rattle.kd_tables.specs.Permutation.{alphabet, followed_by, inverse}
 use Rattle.kd_tables.specs.declared.wheel.Wheel.{Wheel}
 use Rattle.kd_enigma.specs.Rotor.{rotor}
 
--- A wheel, its ring, and what lies to its right: the plugboard, or the permutation that leaves each letter.
+-- A wheel, its ring, and what lies to its right: the plugboard, or a permutation that changes no letter.
 pub record SeatedWheel : Type 0 where
   pub wheel : Wheel
   pub ring : ℕ

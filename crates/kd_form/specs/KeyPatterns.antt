@@ -33,13 +33,14 @@ pub record IsAnyKeyLine (s : Day) (bytes : List ℕ) : Type 0 where
   pub of_the_day : AreKeys s keys
   pub keyed : IsKeyLine keys bytes
 
--- a day of a rotor machine with `slots` slots, three or four; and one of the Converter M-209
+-- the day of a rotor machine with `slots` slots, three or four
 pub record HasSlots (s : Day) (slots : ℕ) : Type 0 where
   pub day : RotorDay
   pub is : s ≡ OfRotors day
   pub count : slots ≡ length day.wheels
   pub either : (slots ≡ 3) ⊎ (slots ≡ 4)
 
+-- the day of a Converter M-209
 pub record HasPins (s : Day) : Type 0 where
   pub day : PinDay
   pub is : s ≡ OfPins day

@@ -16,8 +16,8 @@ pub record IsAllowedFront (text front : List ℕ) : Type 0 where
   pub allowed : All (λ b. IsTrue (is_text_byte b)) front
   pub ends : (byte : ℕ) (more : List ℕ) → rest ≡ byte ∷ more → IsFalse (is_text_byte byte)
 
--- How many of `parts` parts can be written after `letters` letters: all after which a letter for one more part
--- has come. A part has at most `size` letters.
+-- `written` is how many of `parts` parts can be written after `letters` letters. A part has at most `size` letters, and
+-- can be written once a letter of the next part has come.
 pub record CanBeWritten (size parts letters written : ℕ) : Type 0 where
   pub due : (written ≡ 0) ⊎ ((written < parts) × (size * written < letters))
   pub most : (other : ℕ) → other < parts → size * other < letters → other ≤ written

@@ -110,7 +110,7 @@ pub data IsStopped (m : Message) (new : List ℕ → List ℕ → Type 0) (sourc
       → sink.has_failed ≡ (sink.had_failed || stops_at_device {T = Unit {0}} (Err stop))
       → IsStopped m new source sink read text stop
 
--- `count` bytes were read and fed, none only at the end of the source; or the read stopped
+-- `count` bytes were read and fed, and `count` is 0 only at the source's end; or the read stopped
 abbrev pub ReadTo : Message → (List ℕ → List ℕ → Type 0) → Port → Port → List ℕ → List ℕ → List ℕ → Result ℕ Stop
     → Type 0
 ReadTo m new source sink bytes more text (Ok count) =

@@ -19,7 +19,7 @@ pub fn orders_have_one_answer()
     ensures never_both { SentOrdersHaveNoFault }
 {}
 
-/// Every order becomes a form or has a fault. The proof reads the order.
+/// Every order becomes a form or has a fault: the body reads `order` and finds which.
 pub fn orders_have_an_answer(day: &SheetDay, order: &[u8])
     ensures { OrderIsAnswered day.now order.now }
 {
@@ -43,7 +43,7 @@ pub fn forms_stay_refused()
     ensures { FormsStayRefused }
 {}
 
-/// Every form becomes a text or has a fault. The proof reads the form.
+/// Every form becomes a text or has a fault: the body reads `form` and finds which.
 pub fn forms_have_an_answer(day: &SheetDay, form: &[u8])
     ensures { FormIsAnswered day.now form.now }
 {

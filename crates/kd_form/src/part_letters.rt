@@ -95,7 +95,7 @@ fn read_pin_letters(
 
 /// Deciphers `letters`, the body of the part with `heading`.
 ///
-/// Of a body that is too long, `letters` has only the first ones, still more than any heading says.
+/// If the body is too long, `letters` has only its first ones, yet more than any heading allows.
 pub(crate) fn read_body(
     day: &SheetDay,
     heading: &Heading,

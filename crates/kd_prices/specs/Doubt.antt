@@ -74,7 +74,7 @@ SaysNeeded m s settings (Ok all) = AreNeeded m s settings
 SaysNeeded m s settings (Err (NeedlessLine line)) = IsFirstNeedless m s settings line
 SaysNeeded m s settings (Err doubt) = ⊥
 
--- Settings that prove themselves by prices by number, or their first doubt.
+-- Settings that prices by number prove shortest, or the first doubt about them.
 abbrev pub SaysByNumber : Parts → Day → List Setting → PriceParts → Says Doubt (Unit {0})
 SaysByNumber m s settings prices = do
   n ← SaysCarried m settings

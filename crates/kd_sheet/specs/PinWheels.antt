@@ -24,7 +24,7 @@ unfoldable pub letters_on_wheels : List ℕ → Option (List ℕ)
 letters_on_wheels text =
     option_and_then (λ letters. if are_on_wheels letters then Some letters else None) (capital_letters 6 text)
 
--- the letters that the six wheels show, as a text at `key`
+-- the letters that the six wheels show, read from the text at `key`
 unfoldable pub shown_in : Key → Members → Result (List ℕ) SheetFault
 shown_in key table = do
   text ← text_at key table

@@ -1,3 +1,4 @@
+//! Why bytes are no machine file or no key sheet.
 ghost use Rattle.std.specs.Prelude.{◌≡◌, Some};
 ghost use Rattle.kd_sheet.specs.FaultText.{sheet_fault_text};
 

@@ -40,7 +40,7 @@ pub enum Refusal {
     IllegalAt,
     /// A card doesn't reach the day.
     NotTheSheet,
-    /// Two prices of a card are together above the cost where their row and column meet.
+    /// The prices of a cable and a pair, or a bar and a row, add up to more than the change costs.
     PriceTooHigh,
     /// The sum of a card's prices isn't the number of its lines for cables or bars.
     SumDiffers,

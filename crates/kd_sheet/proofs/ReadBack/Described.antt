@@ -214,7 +214,8 @@ pub blank_month : (month : List (Option Day)) → AllOfLen (λ day. day ≡ None
 blank_month month blank = grind (arith, same_lists, blank.at, get_or-map-range_with_len)
 
 -- a month stays one when a day is put at its own number
-pub put_day : (month : List (Option Day)) (place : ℕ) (new : Day) → IsMonth month → place + 1 ≡ day_number new → place < 31
+pub put_day : (month : List (Option Day)) (place : ℕ) (new : Day) → IsMonth month → place + 1 ≡ day_number new
+    → place < 31
     → IsMonth (set month place (Some new))
 put_day month place new before here left =
     let at : day_number new - 1 ≡ place = omega arith in

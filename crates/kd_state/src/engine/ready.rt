@@ -137,7 +137,7 @@ fn have_no_single_letter(cables: &[Cable; 13]) -> bool
         .all(|cable| cable.0.is_some() == cable.1.is_some())
 }
 
-/// The pairs of letters of the cables that have two.
+/// The two letters of each cable that has two letters, as a pair.
 fn plugged_pairs(cables: &[Cable; 13]) -> ArrayVec<(Letter, Letter), 13>
     ensures { result.items ≡ filter_map (λ cable. both_ends cable.0 cable.1) cables.now }
 {

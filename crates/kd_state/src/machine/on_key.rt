@@ -117,7 +117,7 @@ fn are_same_readings(readings: [Reading; 27], rows: [Reading; 27]) -> bool
     readings == rows
 }
 
-/// Whether the cables that aren't empty are exactly `pairs`. No order matters.
+/// Whether the cables that aren't empty are exactly `pairs`, in any order of cables and letters.
 fn are_the_pairs(cables: &[Cable], pairs: &[(Letter, Letter)]) -> bool
     ensures { IsTrue result ↔ AreThePairs cables.now pairs.now }
 {
@@ -134,7 +134,7 @@ fn are_paired(cables: &[Cable], pairs: &[(Letter, Letter)]) -> bool
     }
 }
 
-/// Whether one of `cables` joins each pair.
+/// Whether each of `pairs` has a cable in `cables` that joins it.
 fn are_joined(pairs: &[(Letter, Letter)], cables: &[Cable]) -> bool
     ensures { IsTrue result ↔ AllByRecursion (IsJoined cables.now) pairs.now }
 {

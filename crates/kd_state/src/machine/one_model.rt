@@ -1,3 +1,4 @@
+//! A machine and a day of one model, taken apart together.
 use super::Machine;
 use super::parts::Parts;
 use super::pin_parts::PinParts;

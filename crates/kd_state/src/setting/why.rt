@@ -1,3 +1,4 @@
+//! Why a machine refuses a setting.
 ghost use Rattle.std.specs.Prelude.{◌≡◌, ◌≤◌, length};
 ghost use Rattle.kd_state.specs.FaultText.{illegal_text, why_name};
 

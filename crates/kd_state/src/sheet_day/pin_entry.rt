@@ -9,13 +9,13 @@ use kd_tables::{Letter, Reading};
 #[derive(Clone, Copy)]
 pub struct PinEntry {
     pub day: u8,
-    /// The readings asked of the bars, in any order.
+    /// The readings that the bars must have; which bar has which doesn't matter.
     pub rows: [Reading; 27],
     /// Which pins are effective.
     pub pins: PinSet,
     /// The letter that each wheel shows, from wheel 1 to wheel 6.
     pub window: [Letter; 6],
-    /// The two letters of the key list.
+    /// The two letters that name the key list.
     pub list: [Letter; 2],
 }
 
