@@ -20,8 +20,8 @@ pub record ArePicked (letters places picked : List ℕ) : Type 0 where
   pub taken : picked ≡ map (λ place. slice_index letters place) places
   pub on_wheels : AreOnWheels picked
 
--- The key has the letters at the lexicographically first `places` that `ArePicked` allows. So each wheel in turn takes the
--- next letter that is on it.
+-- The key has the letters at the lexicographically first `places` that `ArePicked` allows. So each wheel in turn takes
+-- the next letter that is on it.
 pub record IsInternalKey (letters key : List ℕ) : Type 0 where
   pub places : List ℕ
   pub picked : ArePicked letters places key

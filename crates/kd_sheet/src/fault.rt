@@ -16,9 +16,10 @@ pub enum SheetFault {
     UnknownModel,
     /// A key that has to be there is absent.
     Missing(Key),
-    /// A key's value has the wrong type, the wrong number of parts, or a part of the wrong form; or it is a number out of
-    /// its range, the name of no wheel or of no reflector of the model, a letter that isn't on its pin wheel, or a pin named
-    /// twice.
+    /// A key's value has the wrong type, the wrong number of parts, or a part of the wrong form.
+    ///
+    /// Or it is a number out of its range, the name of no wheel or of no reflector of the model, a letter that isn't on
+    /// its pin wheel, or a pin named twice.
     BadValue(Key),
     /// A letter lies in two places of the cables, or of the pairs.
     LetterTwice,
