@@ -16,28 +16,28 @@ use super::text::is_text_byte;
 use arrayvec::ArrayVec;
 use kd_state::SheetDay;
 
-/// More bytes than any heading line has, its line end included.
+/// How many bytes of a heading line are held: more than any valid one has, its line end included.
 const LINE: usize = 64;
 
 /// A reader of a form, which holds one part at a time.
 #[derive(Drop)]
 pub(crate) struct FormReader {
-    /// How many bytes were read.
+    /// How many bytes of the form were read.
     pub(crate) position: usize,
     /// The number of the current part, counted from 1.
     pub(crate) number: u8,
     /// How many parts the form has, once its first part has been read.
     pub(crate) expected: Option<u8>,
-    /// How far the current part has been read.
+    /// Whether the next byte is in the heading line or in the body of the current part.
     pub(crate) stage: Stage,
 }
 
-/// How far a part has been read, and the bytes of it that are held.
+/// Whether the next byte is in a heading line or in a body, with what is held of it so far.
 #[derive(Drop)]
 pub(crate) enum Stage {
-    /// Within its heading line, of which the first `LINE` bytes are held.
+    /// In the heading line; its first `LINE` bytes are held.
     Heading(ArrayVec<u8, LINE>),
-    /// Within its body.
+    /// In the body.
     Body(PartBody),
 }
 
@@ -124,7 +124,7 @@ fn fault_in_heading(
 
 /// Whether `byte` may follow `line` in a heading line.
 ///
-/// A heading line begins with `PART `, then a digit. What follows is tested at the line's end.
+/// Tests only `PART ` and the digit after it. The rest is tested when the line has ended.
 fn may_follow(line: &[u8], byte: u8) -> bool
     ensures { IsTrue result ↔ FitsAt (length line.now) byte }
 {
@@ -144,7 +144,9 @@ fn heading_from(digit: u8) -> ArrayVec<u8, LINE>
     line
 }
 
-/// Returns `heading` if it belongs to part `number`, and has the expected number of parts.
+/// Returns `heading` if its part is `number` and it has the expected number of parts.
+///
+/// The fault is `BadHeading` if there is no heading, and `PartOrder` for another number.
 fn check_heading(
     number: u8,
     expected: Option<u8>,
@@ -163,7 +165,7 @@ fn check_heading(
     Ok(heading)
 }
 
-/// Whether `parts` is the number of parts in the first heading, if there was one.
+/// Whether `parts` is the number in the form's first heading, or there was no heading yet.
 fn is_expected(expected: Option<u8>, parts: u8) -> bool
     ensures { IsTrue result ↔ IsExpected expected parts }
 {

@@ -33,7 +33,7 @@ fn read_fraction(word: &[u8]) -> Option<(u8, u8)>
     Some((part, parts))
 }
 
-/// Reads how many letters the body has, if a body of the day's model can have that many.
+/// Reads `word` as a number of letters that a body of the day's model can have.
 #[tactic(auto, using(crate::proofs::Headings::same_count))]
 fn read_count(day: &SheetDay, word: &[u8]) -> Option<u16>
     ensures { MatchOption result
@@ -79,7 +79,7 @@ fn read_slots(slots: usize, word: &[u8]) -> Option<PerSlot<Letter>>
     PerSlot::new(letters.as_slice())
 }
 
-/// Reads the words after the count; `Some(None)` if the day's model has no indicator.
+/// Reads the words after the count; on the Converter M-209, which has none, the answer is `Some(None)`.
 fn read_indicator(day: &SheetDay, words: &[&[u8]]) -> Option<Option<Indicator>>
     ensures { MatchOption result
         ((found : _) → HasIndicator day.now found
@@ -130,7 +130,7 @@ fn heading_of_words(day: &SheetDay, words: &[&[u8]]) -> Option<Heading>
     })
 }
 
-/// Reads a heading line, without its line end, if it is one of the day's model.
+/// Reads `line`, without its line end, as a heading of the day's model.
 #[tactic(auto, using(crate::proofs::Headings::too_many_words))]
 fn heading_of_line(day: &SheetDay, line: &[u8]) -> Option<Heading>
     ensures { MatchOption result
@@ -144,7 +144,7 @@ fn heading_of_line(day: &SheetDay, line: &[u8]) -> Option<Heading>
 
 /// The heading of a part that ends within its heading line, before any LF.
 ///
-/// `line` has the first 64 bytes of the heading line.
+/// `line` is the heading line, or its first 64 bytes if it is longer.
 pub(crate) fn heading_of_open(day: &SheetDay, line: &[u8]) -> Option<Heading>
     ensures { (part : List ℕ) → IsWithout 10 part → line.now ≡ take 64 part → MatchOption result
         ((h : Heading) (body : List ℕ) → ¬ HasHeading day.now part h body)
@@ -156,7 +156,7 @@ pub(crate) fn heading_of_open(day: &SheetDay, line: &[u8]) -> Option<Heading>
 
 /// The heading of a part whose heading line has ended in LF, or in CR and LF.
 ///
-/// `line` has the first 64 bytes of the heading line, without the LF.
+/// `line` is the heading line without the LF, or its first 64 bytes if it is longer.
 pub(crate) fn heading_of_ended(day: &SheetDay, line: &[u8]) -> Option<Heading>
     ensures { (part : List ℕ) → IsWithout 10 part → line.now ≡ take 64 part → MatchOption result
         ((h : Heading) (body : List ℕ) → ¬ HasHeading day.now (part ++ 10 ∷ []) h body)

@@ -9,7 +9,7 @@ use super::own_machine::OwnMachine;
 use arrayvec::ArrayVec;
 use kd_tables::{Letter, place_on_wheel};
 
-/// The internal key that `keys` give on the day's machine, or `None` if the letters run out.
+/// The internal key that `keys` give on the day's machine, or `None` if the twelve letters run out.
 pub(crate) fn internal_key_of(own: &mut OwnMachine, keys: &PinKeys) -> Option<ArrayVec<Letter, 6>>
     requires { IsWindow (sheet_key own.old) keys.now.external }
     ensures day { own.new ≡ own.old }

@@ -1,4 +1,4 @@
-//! Lists of which only the first items are kept.
+//! `keep`, which appends to a list until the list is full.
 ghost use Rattle.std.specs.Prelude.{◌≡◌, [], ◌∷◌, ◌++◌, take};
 
 use arrayvec::ArrayVec;

@@ -31,7 +31,7 @@ pub(crate) struct PinKeys {
     pub(crate) external: [Letter; 6],
 }
 
-/// What fills the unused places of an `ArrayVec` of keys.
+/// A placeholder: an `ArrayVec` of keys needs one for its unused places.
 impl Default for Keys {
     fn default() -> Self {
         Keys::Pin(PinKeys {

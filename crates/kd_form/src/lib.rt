@@ -1,4 +1,4 @@
-//! Types texts, turns orders into forms and forms into texts, byte by byte as they arrive.
+//! Types texts, enciphers orders into forms, and deciphers forms into texts, byte by byte as they arrive.
 #![tactic(auto)]
 
 mod body;

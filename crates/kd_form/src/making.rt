@@ -98,7 +98,7 @@ fn rotor_letters(own: &mut OwnMachine, keys: &RotorKeys, text: &[Letter]) -> Arr
     letters
 }
 
-/// The body of a Converter M-209's part: `text` enciphered, with the indicators before and after it.
+/// The body of a part on the Converter M-209: `text` enciphered, with the indicators before and after it.
 #[tactic(auto, using(crate::proofs::MadeParts::has_internal))]
 fn pin_letters(own: &mut OwnMachine, keys: &PinKeys, text: &[Letter]) -> ArrayVec<Letter, 520>
     requires keys { AreKeys own.old (Keys.Pin keys.now) }
@@ -120,7 +120,7 @@ fn pin_letters(own: &mut OwnMachine, keys: &PinKeys, text: &[Letter]) -> ArrayVe
     letters
 }
 
-/// The chosen letter twice, the external letters, and the two letters of the day's list.
+/// The ten indicators: the chosen letter twice, the external letters, and the letters of the day's list.
 pub(crate) fn indicators_of(day: &SheetDay, keys: &PinKeys) -> ArrayVec<Letter, 10>
     requires { AreKeys day.now (Keys.Pin keys.now) }
     ensures value { result.items ≡ pin_indicators day.now keys.now }

@@ -15,19 +15,19 @@ use parts::PartWriter;
 /// A reader of an order, which makes the parts of its form.
 #[derive(Drop)]
 pub(crate) struct OrderReader {
-    /// How many bytes were read.
+    /// How many bytes of the order were read.
     read: usize,
     stage: Stage,
     head: HeadReader,
     parts: PartWriter,
 }
 
-/// Where in an order the next byte is.
+/// The section of an order that its next byte belongs to.
 #[derive(Clone, Copy)]
 pub(crate) enum Stage {
-    /// In its head: the lines of keys and the line TEXT.
+    /// The head: the lines of keys and the line TEXT.
     Head,
-    /// In its text.
+    /// The text.
     Text,
 }
 

@@ -25,10 +25,11 @@ use kd_tables::Letter;
 
 /// How many letters of a body are kept.
 ///
-/// A body has at most 520. One more shows that it is too long, and the four of `PART` may begin the next heading.
+/// A body has at most 520. One more shows that it is too long, and four may be the `PART` of the next
+/// heading.
 const KEPT: usize = 525;
 
-/// How many bytes of a line tell whether it begins a heading.
+/// How many bytes of a line are kept, to see whether it begins a heading.
 const FIRST: usize = 6;
 
 /// The body of a part of a form, as far as it has been read.
@@ -43,7 +44,7 @@ pub(crate) struct PartBody {
 }
 
 impl PartBody {
-    /// Creates the body after `heading`, of which nothing has been read.
+    /// Creates an empty body after `heading`.
     pub(crate) fn new(heading: Heading) -> PartBody
         ensures heading { result.heading ≡ heading }
         ensures letters { result.letters.items ≡ [] }
@@ -74,7 +75,7 @@ impl PartBody {
         keep_byte(&mut self.line, byte);
     }
 
-    /// Deciphers the body into `made`, without its last `others` letters, which are the next heading's.
+    /// Deciphers the body into `made`, without its last `others` letters, which belong to the next heading.
     ///
     /// Not inlined: otherwise every byte read would pay for this frame.
     #[inline(never)]
@@ -115,7 +116,7 @@ fn keep_letter(letters: &mut ArrayVec<Letter, KEPT>, letter: Option<Letter>)
 
 /// Appends `byte` while there is room; an LF begins a new line.
 ///
-/// For most bytes nothing is written, so that the next byte needn't wait.
+/// Most bytes come after the first few of a line and store nothing, so the next byte needn't wait.
 fn keep_byte(line: &mut ArrayVec<u8, FIRST>, byte: u8)
     ensures ended { byte ≡ 10 → line.new.items ≡ [] }
     ensures longer { byte ≢ 10 → line.new.items ≡ take 6 (line.old.items ++ byte ∷ []) }

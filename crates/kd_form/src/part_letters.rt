@@ -51,7 +51,7 @@ fn has_indicators_around(letters: &[Letter]) -> bool
     letters[..10] == letters[letters.len() - 10..] && letters[0] == letters[1]
 }
 
-/// The keys in the indicators with which `letters` begin.
+/// The keys in the indicators at the start of `letters`.
 fn keys_in(letters: &[Letter]) -> PinKeys
     requires { 20 ≤ length letters.now }
     ensures { result ≡ keys_in letters.now }
@@ -95,7 +95,7 @@ fn read_pin_letters(
 
 /// Deciphers `letters`, the body of the part with `heading`.
 ///
-/// If the body is too long, `letters` has only its first ones, yet more than any heading allows.
+/// Of a body that is too long, `letters` may be a prefix, if the prefix is longer than any heading allows.
 pub(crate) fn read_body(
     day: &SheetDay,
     heading: &Heading,

@@ -8,15 +8,15 @@ ghost use Rattle.kd_form.specs.Patterns.{blanks, fits, letters_at, IsFilledLine,
 use arrayvec::ArrayVec;
 use kd_tables::Letter;
 
-/// The most letters that a pattern has: those of a line of keys for four slots.
+/// The most letters that a pattern has, as in a line of keys for four slots.
 const MOST: usize = 13;
 
-/// Why bytes aren't a line of a pattern.
+/// Why bytes can't be read as a line of a pattern.
 #[derive(Clone, Copy)]
 pub(crate) enum Unread {
-    /// They are a prefix of such a line.
+    /// The line is incomplete: the bytes are a prefix of a line that fits.
     Open,
-    /// No such line begins with them.
+    /// No line that fits begins with the bytes.
     Off,
 }
 

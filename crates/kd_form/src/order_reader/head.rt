@@ -22,12 +22,12 @@ pub(crate) struct HeadReader {
     line: ArrayVec<u8, LINE>,
 }
 
-/// How a head goes on after a byte.
+/// What the reader found after one more byte of a head.
 #[derive(Clone, Copy)]
 pub(crate) enum HeadStep {
-    /// More bytes have to follow.
+    /// The head isn't complete yet.
     Open,
-    /// The head is complete, and the text follows.
+    /// The head is complete; the text follows.
     Text,
     /// No head has this byte here.
     Bad,

@@ -19,7 +19,7 @@ use kd_tables::Letter;
 /// A collector of the letters of an order's text, which makes parts from them.
 #[derive(Drop)]
 pub(crate) struct PartWriter {
-    /// The first letters that are in no part yet, at most as many as a part has.
+    /// The letters for the next part, at most as many as a part has.
     letters: ArrayVec<Letter, 500>,
     /// How many letters the text has so far.
     count: usize,
@@ -39,7 +39,7 @@ impl PartWriter {
         }
     }
 
-    /// Takes the next byte of the text, and keeps the letter that it gives, if any.
+    /// Takes the next byte of the text, and the letter that it gives, if any.
     pub(crate) fn take(&mut self, day: &SheetDay, keys: &[Keys], byte: u8, made: &mut Made)
         requires taken { (letters sent : List ℕ) × AreTaken day.now keys.now self.old letters sent
             × (length letters < 2 ^ 63) }
@@ -53,7 +53,9 @@ impl PartWriter {
         }
     }
 
-    /// Takes the next letter. If a part is full and another one follows, makes the full one.
+    /// Takes the next letter of the text; if the current part is full, first writes that part to `made`.
+    ///
+    /// When the part for the last keys is full, further letters are only counted.
     fn take_letter(&mut self, day: &SheetDay, keys: &[Keys], letter: Letter, made: &mut Made)
         requires taken { (letters sent : List ℕ) × AreTaken day.now keys.now self.old letters sent
             × (length letters < 2 ^ 63) }
@@ -70,7 +72,7 @@ impl PartWriter {
         }
     }
 
-    /// Makes the last part, at the end of the text.
+    /// Writes the last part to `made`, at the end of the text.
     ///
     /// Refuses a text without letters, or one that needs more or fewer parts than there are keys.
     pub(crate) fn end(
@@ -96,7 +98,7 @@ impl PartWriter {
         Ok(())
     }
 
-    /// Makes a part from the letters collected.
+    /// Writes the next part to `made`, from the letters collected.
     fn write(&mut self, day: &SheetDay, keys: &[Keys], made: &mut Made)
         requires keys { AreSuitedKeys day.now keys.now }
         requires another { self.old.written < length keys.now }

@@ -1,4 +1,4 @@
-//! One piece of a message: read from the source, fed to the reader, and its result written.
+//! Reads one piece of a message from the source, feeds it to the reader, and writes the result.
 ghost use Rattle.std.specs.Prelude.{◌≡◌, ◌<◌, ◌≤◌, ◌||◌, [], ◌∷◌, length, OnOk};
 ghost use Rattle.kd_tables.specs.Ports.{port};
 ghost use Rattle.kd_form.specs.StreamSteps.{HasRoom, FeedsAll, ClosesAt, ClosesAs, ReadsNext};
@@ -11,7 +11,7 @@ use arrayvec::ArrayVec;
 use kd_state::SheetDay;
 use kd_tables::{Sink, Source, put_all};
 
-/// Feeds `bytes` to the reader, and writes what it makes of them.
+/// Feeds `bytes` to `reader`, and writes to `sink` what the reader makes of them.
 pub(crate) fn feed_all<M: MessageReader, W: Sink>(
     reader: &mut M,
     day: &SheetDay,
@@ -31,7 +31,7 @@ pub(crate) fn feed_all<M: MessageReader, W: Sink>(
     Ok(())
 }
 
-/// Feeds `byte` to the reader, and writes what it makes of it.
+/// Feeds `byte` to `reader`, and writes to `sink` what the reader makes of it.
 fn feed_one<M: MessageReader, W: Sink>(
     reader: &mut M,
     day: &SheetDay,
@@ -74,7 +74,7 @@ impl<M: MessageReader> PieceReader<SheetDay> for M {
     }
 }
 
-/// Ends the message: writes what the reader has left, or returns its fault.
+/// Ends the message: writes the rest of its result, or returns its fault.
 pub(crate) fn close<On, M: PieceReader<On>, W: Sink>(
     reader: &mut M,
     on: &On,
@@ -88,9 +88,9 @@ pub(crate) fn close<On, M: PieceReader<On>, W: Sink>(
     Ok(())
 }
 
-/// Reads up to `room` bytes, feeds them to the reader, and returns how many there were.
+/// Reads up to `room` bytes, feeds them to `reader`, and returns their number.
 ///
-/// There are none only at the end of the source.
+/// Zero means that the source is at its end.
 pub(crate) fn read_next<On, M: PieceReader<On>, R: Source, W: Sink>(
     reader: &mut M,
     on: &On,
@@ -109,7 +109,7 @@ pub(crate) fn read_next<On, M: PieceReader<On>, R: Source, W: Sink>(
     read_into(reader, on, source, sink, &mut buffer[..room.min(PIECE)])
 }
 
-/// `read_next` with a buffer that is no longer than the room.
+/// `read_next`, with a `buffer` no longer than the room.
 fn read_into<On, M: PieceReader<On>, R: Source, W: Sink>(
     reader: &mut M,
     on: &On,

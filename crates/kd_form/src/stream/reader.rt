@@ -1,4 +1,4 @@
-//! The traits of readers: by pieces of up to `PIECE` bytes, and byte by byte.
+//! Two traits of message readers: `PieceReader` takes many bytes at once, `MessageReader` takes one.
 ghost use Rattle.std.specs.Prelude.{◌≡◌, ◌≤◌, ◌||◌, List, ℕ, [], length};
 ghost use Rattle.kd_state.specs.SheetDay.{Day};
 ghost use Rattle.kd_tables.specs.Ports.{port};
@@ -20,10 +20,10 @@ pub(crate) trait PieceReader<On> {
     /// The kind of message.
     ghost message: { On → Message };
 
-    /// The reader has read these bytes, and has made this text from them.
+    /// Relates the reader to the bytes that it has read and the text that it has made from them.
     ghost holds: { On → Self → List ℕ → List ℕ → Type 0 };
 
-    /// Reads `bytes`, the next ones, and writes what it makes of them.
+    /// Reads the next bytes of the message, and writes to `sink` what they make.
     ///
     /// After an error, it must not be called again.
     fn read<W: Sink>(&mut self, on: &On, bytes: &[u8], sink: &mut W) -> Result<(), Stop>
@@ -33,7 +33,7 @@ pub(crate) trait PieceReader<On> {
             bytes.now (port W.taken W.has_failed sink.old sink.new) result }
         ensures failed { W.has_failed sink.new ≡ (W.has_failed sink.old || stops_at_device result) };
 
-    /// Writes what is left to write at the end of the message.
+    /// Ends the message, and writes the rest of its result to `sink`.
     fn finish<W: Sink>(&mut self, on: &On, sink: &mut W) -> Result<(), Stop>
         requires { HasRoom (message on.now) (holds on.now self.old) 0 }
         ensures ended { ClosesAt (message on.now) (holds on.now self.old)
@@ -41,7 +41,7 @@ pub(crate) trait PieceReader<On> {
         ensures failed { W.has_failed sink.new ≡ (W.has_failed sink.old || stops_at_device result) };
 }
 
-/// What a reader makes at one byte: usually nothing, at most one part.
+/// What one byte makes: usually nothing, at most one part.
 pub(crate) type Made = ArrayVec<u8, LONGEST>;
 
 /// A reader of one kind of message, byte by byte, which holds one part at a time.
@@ -49,7 +49,7 @@ pub(crate) trait MessageReader {
     /// The kind of message.
     ghost message: { Day → Message };
 
-    /// The reader has read these bytes, and has made this text from them.
+    /// Relates the reader to the bytes that it has read and the text that it has made from them.
     ghost holds: { Day → Self → List ℕ → List ℕ → Type 0 };
 
     /// Creates a reader that has read nothing.
@@ -65,7 +65,7 @@ pub(crate) trait MessageReader {
         ensures { Feeds (message day.now) (holds day.now self.old) (holds day.now self.new) byte
             made.new.items result };
 
-    /// Leaves in `made` what is left to write at the end of the message, with or without a fault.
+    /// Ends the message, and leaves the rest of its result in `made`, with or without a fault.
     fn end(&mut self, day: &SheetDay, made: &mut Made) -> Result<(), FormFault>
         requires room { HasRoom (message day.now) (holds day.now self.old) 0 }
         requires empty { made.old.items ≡ [] }

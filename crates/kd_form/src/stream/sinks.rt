@@ -1,4 +1,4 @@
-//! Sinks for a message that is held whole.
+//! Two sinks: `Kept` keeps all bytes in memory, and `Nowhere` keeps none.
 ghost use Rattle.std.specs.Prelude.{◌≡◌, [], false, Some, is_err};
 ghost use Rattle.kd_tables.specs.Ports.{Puts};
 
@@ -24,7 +24,7 @@ impl Kept {
         }
     }
 
-    /// The bytes that it has taken.
+    /// Returns the bytes that the sink has taken.
     pub(crate) fn into_bytes(self) -> Vec<u8>
         ensures { result ≡ self.bytes }
     {

@@ -1,4 +1,4 @@
-//! Reads a message that is held whole.
+//! Reads a message that is in memory: returns its form or text, or only looks for a fault.
 ghost use Rattle.std.specs.Prelude.{◌≡◌, ◌||◌, MatchResult};
 ghost use Rattle.kd_tables.specs.Ports.{port};
 ghost use Rattle.kd_form.specs.OnTheKey.{IsRefusal};
@@ -13,7 +13,7 @@ use kd_state::SheetDay;
 use kd_tables::Sink;
 use std::alloc::Global;
 
-/// The form or the text that `message` becomes.
+/// The form or text that `message` gives, or its fault.
 ///
 /// `NoMemory` comes only for a message without a fault.
 pub(crate) fn bytes_of<M: MessageReader + Drop>(
@@ -37,7 +37,7 @@ pub(crate) fn bytes_of<M: MessageReader + Drop>(
     }
 }
 
-/// Checks that `message` has no fault.
+/// Returns the fault of `message`, if it has one.
 pub(crate) fn judge<M: MessageReader + Drop>(
     day: &SheetDay,
     message: &[u8],
@@ -50,7 +50,7 @@ pub(crate) fn judge<M: MessageReader + Drop>(
     Ok(())
 }
 
-/// Writes the form or the text that `message` becomes.
+/// Writes to `sink` the form or text that `message` gives.
 fn write_whole<M: MessageReader + Drop, W: Sink>(
     day: &SheetDay,
     message: &[u8],

@@ -1,4 +1,4 @@
-//! Types one piece of a text: finds its letters, and writes the lamps that light up.
+//! Types one piece of a text: finds its letters, and enciphers them into the lamps that light up.
 ghost use Rattle.std.specs.Bool.{OnTrue};
 ghost use Rattle.std.specs.Prelude.{◌≡◌, All, ◌<◌, ◌≤◌, ◌+◌, ◌++◌, take, length, option_to_list};
 ghost use Rattle.arrayvec.specs.ArrayVec.{array_vec_len};
@@ -51,14 +51,14 @@ fn write_letters(letters: &[Letter], bytes: &mut [u8])
 
 /// Collects the letters before the first byte that isn't allowed, and returns its index.
 ///
-/// If all bytes are allowed, returns their number. `letters` has a place for each byte.
+/// If all bytes are allowed, returns their number. On entry, `letters` is as long as `bytes`.
 fn letters_among(bytes: &[u8], letters: &mut ArrayVec<Letter, PIECE>) -> usize
     requires few { length bytes.now ≤ PIECE }
     requires places { array_vec_len letters.old ≡ length bytes.now }
     ensures front { IsAllowedTo bytes.now result }
     ensures letters { letters.new.items ≡ typed_letters (take result bytes.now) }
 {
-    // Most pieces have only letters, and need no test of each single byte.
+    // Most pieces have only letters, so the bytes needn't be tested one by one.
     if read_letters(bytes, letters) {
         return bytes.len();
     }
@@ -72,7 +72,9 @@ fn letters_among(bytes: &[u8], letters: &mut ArrayVec<Letter, PIECE>) -> usize
     bytes.len()
 }
 
-/// Gives `items` the length `count`. Usually it has this length from the piece before.
+/// Gives `items` the length `count`.
+///
+/// It usually has this length already, from the piece before.
 fn make_long<T: Copy + Default>(items: &mut ArrayVec<T, PIECE>, count: usize)
     requires { count ≤ PIECE }
     ensures { array_vec_len items.new ≡ count }
