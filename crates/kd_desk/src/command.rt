@@ -14,9 +14,10 @@ use kd_state::day_of_text;
 use std::alloc::{AllocError, Global};
 use std::convert::AsStr;
 
-/// A command of the desk with its files: `F` for each that is read whole, `O` for the one that is streamed.
+/// A command of the desk with its files: first their names, then what was read or opened.
 ///
-/// `F` and `O` are file names at first, then the contents and the opened file.
+/// `F` stands for a file that is read whole: its name, then its contents. `O` stands for an order or a form,
+/// which is streamed: its name, then the opened file.
 #[derive(Drop)]
 pub struct Command<F, O> {
     /// The machine file.
@@ -28,13 +29,13 @@ pub struct Command<F, O> {
 /// What is done with the machine.
 #[derive(Drop)]
 pub enum Action<F, O> {
-    /// Standard input is typed on it.
+    /// Types standard input on the machine.
     Type,
-    /// The settings in `list` are carried out on it, and its new machine file is printed.
+    /// Carries out the settings in `list`, and prints the new machine file.
     Apply {
         list: F,
     },
-    /// `task` is done with it and a day of `sheet`.
+    /// Does `task` with the machine and a day of `sheet`.
     OnDay {
         sheet: F,
         /// The day's number, from 1 to 31.
@@ -46,25 +47,25 @@ pub enum Action<F, O> {
 /// What is done with the machine and the day.
 #[derive(Drop)]
 pub enum Task<F, O> {
-    /// The shortest card from the machine to the day is printed.
+    /// Prints the shortest card from the machine to the day.
     Card,
-    /// The card in this file is checked: whether its prices prove it shortest, from the machine to the day.
+    /// Checks whether this card's prices prove it shortest, from the machine to the day.
     Check(F),
-    /// The message in this file is sent or received, part by part.
+    /// Sends or receives the message in this file, part by part.
     Message(Way, O),
 }
 
 /// The direction of a message.
 #[derive(Clone, Copy)]
 pub enum Way {
-    /// The message is an order, and its form is printed.
+    /// The message is an order; its form is printed.
     Send,
-    /// The message is a form, and its text is printed.
+    /// The message is a form; its text is printed.
     Receive,
 }
 
 impl Way {
-    /// The grammar's word for the message's file.
+    /// The name of the message's word on the command line: ORDER or FORM.
     fn word(self) -> &'static str
         ensures { result.now ≡ way_word self }
     {
@@ -83,8 +84,9 @@ pub type NamedAction<'a> = Action<&'a str, &'a str>;
 
 /// Parses the command line; its first word is the program's own name.
 ///
-/// A word that begins with `-` and is longer is a file name only after the word `--`, which may come once,
-/// after the command's name. Words that are no command give `Usage`. The only other error is want of memory.
+/// A file name that begins with `-` must come after the word `--`, unless it is `-` alone. The word `--` may
+/// come once, after the command's name. An invalid command line gives `Usage`; the only other error is lack
+/// of memory.
 pub fn parse_words<'a, S: AsStr>(alloc: Global, words: &'a [S]) -> Result<Named<'a>, Stop>
     ensures said { IfOk result (λ command. Says (map S.text words.entry.now) (named command)) }
     ensures usage { result ≡ Err Stop.Usage → SaysNothing (map S.text words.entry.now) }
@@ -101,7 +103,7 @@ pub fn parse_words<'a, S: AsStr>(alloc: Global, words: &'a [S]) -> Result<Named<
     command_of(name, words).ok_or(Stop::Usage)
 }
 
-/// The command `name` with the values of its words.
+/// The command called `name`, with the file names and the day in `words`.
 fn command_of<'a>(name: &str, words: &ArgMatches<'a>) -> Option<Named<'a>>
     ensures said { IfSome result (λ command.
         IsOf (name.now, rows_of (found_of words.now)) (named command)) }
@@ -112,7 +114,7 @@ fn command_of<'a>(name: &str, words: &ArgMatches<'a>) -> Option<Named<'a>>
     Some(Command { machine, action })
 }
 
-/// The action of the command `name` with the values of its words.
+/// The action of the command `name`, with the file names and the day in `words`.
 fn action_of<'a>(name: &str, words: &ArgMatches<'a>) -> Option<NamedAction<'a>>
     ensures said { IfSome result (λ action.
         IsActionOf (name.now, rows_of (found_of words.now)) (action_named action)) }
@@ -130,7 +132,7 @@ fn action_of<'a>(name: &str, words: &ArgMatches<'a>) -> Option<NamedAction<'a>>
     }
 }
 
-/// The action of `apply`, with the list that the words name.
+/// The action of `apply`, with the list's file name in `words`.
 fn apply_of<'a>(words: &ArgMatches<'a>) -> Option<NamedAction<'a>>
     ensures said { IfSome result (λ action.
         IsActionOf (codes "apply", rows_of (found_of words.now)) (action_named action)) }
@@ -179,7 +181,7 @@ fn message_of<'a>(words: &ArgMatches<'a>, way: Way) -> Option<NamedAction<'a>>
     Some(Action::OnDay { sheet, day, task })
 }
 
-/// The sheet's name and the day's number, if the word `DAY` is one.
+/// The sheet's file name and the day's number, if the word `DAY` is a day's number.
 fn day_of<'a>(words: &ArgMatches<'a>) -> Option<(&'a str, u8)>
     ensures said { IfSome result (λ on. HaveDay (rows_of (found_of words.now)) on.0.now on.1) }
     ensures none { result ≡ None → (sheet : List ℕ) (day : ℕ)
@@ -190,7 +192,7 @@ fn day_of<'a>(words: &ArgMatches<'a>) -> Option<(&'a str, u8)>
     Some((sheet, day))
 }
 
-/// The commands of the desk, each with the names of its words.
+/// The commands of the desk, each with the names of the words after it.
 static COMMANDS: [(&str, &[&str]); 6] = [
     ("type", &["MACHINE"]),
     ("apply", &["MACHINE", "LIST"]),
@@ -227,7 +229,7 @@ fn with_commands<'a>(
     Ok(grammar)
 }
 
-/// The grammar of the command `name` with these words.
+/// The grammar of the command `name`, with one word for each name in `words`.
 fn with_words<'a>(
     alloc: Global,
     name: &'a str,

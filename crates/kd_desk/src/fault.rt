@@ -19,11 +19,11 @@ use thiserror::Error;
 pub enum DeskFault {
     /// A fault of a machine file or of a key sheet, or no memory.
     File(SheetFault),
-    /// A list of settings can't be read.
+    /// A list of settings has this fault.
     List(ListFault),
-    /// A card can't be read.
+    /// A card has this fault.
     Card(CardFault),
-    /// The machine refuses a line of a list or of a card, after the lines before it.
+    /// The machine refuses this line of a list or of a card, once the lines before it are carried out.
     Illegal(IllegalAt),
     /// The machine and the sheet's day are of different models.
     OtherModel,
@@ -35,9 +35,9 @@ pub enum DeskFault {
     NoSuchDay,
     /// The card is for another day.
     OtherDay,
-    /// The card doesn't prove itself, for this reason.
+    /// The card doesn't prove itself shortest, for this reason.
     Doubtful(Doubt),
-    /// A text can't be typed, an order can't be sent, or a form can't be received.
+    /// A text can't be typed, an order sent, or a form received, for this reason.
     Message(FormFault),
 }
 

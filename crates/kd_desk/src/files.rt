@@ -14,7 +14,7 @@ pub use host::{HostFile, HostFiles};
 use kd_tables::Source;
 use std::alloc::Global;
 
-/// Files by name, and a record of the names that were asked for.
+/// Files by name, with a record of the names that were asked for.
 pub trait Files<'n> {
     /// An opened file, which is streamed.
     type Opened: Source + Drop;
@@ -27,8 +27,8 @@ pub trait Files<'n> {
 
     /// Reads the file `name` whole.
     ///
-    /// `Device` if there is no such file or a read fails, `ReadTooLong` if it has more than 1,048,576 bytes. At
-    /// most three names may be asked for.
+    /// Returns `Device` if there is no such file or a read fails, and `ReadTooLong` if the file has more than
+    /// 1,048,576 bytes. At most three names may be asked for.
     fn read(&mut self, alloc: Global, name: &'n str) -> Result<Content, FileFault>
         requires { length (asked self.old) < 3 }
         ensures content { IfSome (known self.old)
@@ -36,9 +36,9 @@ pub trait Files<'n> {
         ensures asked { asked self.new ≡ asked self.old ++ (name.now, is_ok result) ∷ [] }
         ensures same { known self.new ≡ known self.old };
 
-    /// Opens the file `name`, of which nothing is read yet.
+    /// Opens the file `name` for streaming.
     ///
-    /// `Device` if it can't be opened. At most three names may be asked for.
+    /// Returns `Device` if it can't be opened. At most three names may be asked for.
     fn open(&mut self, name: &'n str) -> Result<Self::Opened, FileFault>
         requires { length (asked self.old) < 3 }
         ensures opened { IfSome (known self.old) (λ held.

@@ -15,7 +15,7 @@ use kd_sheet::laws::written_files_are_read_back;
 use kd_state::{Entry, Machine, Parts, SheetDay, carry_all};
 use kd_tables::MemorySink;
 
-/// Bytes are at most one list of settings, have at most one fault, and never both.
+/// Bytes give at most one list of settings and at most one fault, and never both.
 pub fn bytes_say_settings_or_have_a_fault()
     ensures settings { TextsTellSettings }
     ensures no_fault { SettingsHaveNoFault }
@@ -29,8 +29,8 @@ pub fn settings_lead_or_are_refused()
 
 /// Cards and machine files, written for one day of a sheet after another, set the machine to each day.
 ///
-/// The settings of each card lead from one file's machine to the next file's. That machine reads and enciphers
-/// as the day's own, and no fewer settings lead to the day.
+/// Each card's settings lead from the machine of one file to the machine of the next file. This next machine
+/// reads as the day, and enciphers as the day's own machine. No shorter list of settings leads to the day.
 pub fn months_set_the_machine()
     ensures { MonthsSetTheMachine }
 {}
@@ -43,15 +43,15 @@ pub fn months_are_fewest()
     ensures { MonthsAreFewest }
 {}
 
-/// Whoever owns ten cables, say, never needs an eleventh.
+/// The owner of ten cables, or of any other number, never needs one more.
 ///
-/// If a machine uses only its first ten cables, and no day has more than ten pairs, no card of the month names
-/// another cable, and the machine never uses one.
+/// If a machine uses only its first ten cables, and no day has more than ten pairs, no card of the month
+/// names another cable, and the machine never uses one.
 pub fn few_cables_serve_a_month()
     ensures { FewCablesServeAMonth }
 {}
 
-/// A month's cards and files exist for each machine, each sheet, and its days of the machine's model.
+/// Every month can be written: each of the sheet's days of the machine's model has a card and a machine file.
 pub fn months_can_be_written(machine: &Machine, sheet: &Sheet, numbers: &[u8])
     requires { All (HasDayOf (model_of machine.now) sheet.now) numbers.now }
     ensures { HasPapersInTurn machine.now sheet.now numbers.now }
@@ -62,7 +62,7 @@ pub fn months_can_be_written(machine: &Machine, sheet: &Sheet, numbers: &[u8])
     }
 }
 
-/// The machine to which the day's card leads `machine`.
+/// The machine after the settings of the day's card are carried out on `machine`.
 fn set_to(machine: &Machine, day: &SheetDay) -> Machine
     requires { day_model day.now ≡ model_of machine.now }
     ensures model { model_of result ≡ model_of machine.now }
@@ -74,7 +74,7 @@ fn set_to(machine: &Machine, day: &SheetDay) -> Machine
     settings_lead_or_are_refused();
     written_files_are_read_back();
     let card = in_kinds(machine, day, &plan(machine, day).unwrap());
-    // What is written is a card, even if the sink takes none of it.
+    // The contract of `write_card` shows the prover that the text is a card. The sink may take none of it.
     let _ = write_card(&mut MemorySink::<0>::new(0), day.day(), &card);
     carry_all(machine, card.settings.as_slice()).unwrap()
 }

@@ -9,7 +9,7 @@ use kd_state::{Settings, read_list};
 /// The first bytes of every card.
 const CARD: &[u8] = b"CARD ";
 
-/// Reads `bytes` as a card if they begin as one, otherwise as a list with one setting on each line.
+/// Reads `bytes` as a card if they begin with `CARD `, otherwise as a list with one setting on each line.
 ///
 /// The card may be for any day, and have any prices.
 pub fn read_settings(bytes: &[u8]) -> Result<Settings, DeskFault>

@@ -28,11 +28,10 @@ use std::convert::AsStr;
 
 /// Carries out the command line `words`, whose first word is the program's own name.
 ///
-/// Returns the program's exit status, and unless it is 0 writes one line to `errors` that says why. The usage
-/// line has status 2, every refusal status 1. The files are taken in the order of the words, each once: an
-/// order or a form is opened, every other file is read whole before the next is taken. If a file can't be read
-/// or opened, nothing is read from `source` or written to `sink`. An order or a form is read only as the
-/// command is carried out.
+/// Returns the exit status: 0, or 2 for an invalid command line, or 1 for any refusal. With 1 or 2, it writes
+/// one line to `errors` that says why. It takes the files in the order of the words, each once. An order or a
+/// form is opened, and read only as the command is carried out. Every other file is read whole before the
+/// next is taken. If a file can't be read or opened, nothing is read from `source` or written to `sink`.
 pub fn run_desk<'n, S: AsStr, F: Files<'n>, R: Source, W: Sink, E: Sink>(
     alloc: Global,
     words: &'n [S],
@@ -51,7 +50,7 @@ pub fn run_desk<'n, S: AsStr, F: Files<'n>, R: Source, W: Sink, E: Sink>(
     end(carry_words(alloc, words, files, source, sink), errors)
 }
 
-/// Parses the command line, reads its files, and carries the command out.
+/// Parses the command line, reads its files, and carries out the command.
 fn carry_words<'n, S: AsStr, F: Files<'n>, R: Source, W: Sink>(
     alloc: Global,
     words: &'n [S],
@@ -80,9 +79,9 @@ fn carry_words<'n, S: AsStr, F: Files<'n>, R: Source, W: Sink>(
     carry_out(alloc, command, source, sink)
 }
 
-/// Replaces the file names of `command` by contents and the opened file, in the order of the words.
+/// Reads or opens the files that `command` names, in the order of the words.
 ///
-/// For the first file that can't be read or opened, returns its fault, and asks for no later file.
+/// If a file can't be read or opened, returns the fault, and asks for no later file.
 fn read_files<'n, F: Files<'n>>(
     alloc: Global,
     command: Named<'n>,
@@ -101,7 +100,7 @@ fn read_files<'n, F: Files<'n>>(
     Ok(Command { machine, action })
 }
 
-/// `read_files`, for the files of an action.
+/// Reads or opens the files that `action` names, as `read_files` does.
 fn read_action<'n, F: Files<'n>>(
     alloc: Global,
     action: NamedAction<'n>,
@@ -130,7 +129,7 @@ fn read_action<'n, F: Files<'n>>(
     }
 }
 
-/// `read_files`, for the file of a task.
+/// Reads or opens the file that `task` names, as `read_files` does.
 fn read_task<'n, F: Files<'n>>(
     alloc: Global,
     task: Task<&'n str, &'n str>,
@@ -158,7 +157,7 @@ fn read_task<'n, F: Files<'n>>(
     }
 }
 
-/// Carries out a command whose files are read or opened.
+/// Carries out `command`, whose files have been read or opened.
 fn carry_out<O: Source + Drop, R: Source, W: Sink>(
     alloc: Global,
     command: Command<Content, O>,

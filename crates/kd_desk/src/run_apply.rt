@@ -13,11 +13,11 @@ use kd_state::{Machine, carry_all};
 use kd_tables::Sink;
 use std::alloc::Global;
 
-/// Carries out the settings of `list` on the machine in `machine`, and writes its new file.
+/// Carries out the settings of `list` on the machine in `machine`, and writes the new machine file.
 ///
-/// `list` is a list or a card; the card may be for any day, and have any prices. The machine file's faults come
-/// first, then the faults of `list`, then the first line that the machine refuses. After each of these, nothing
-/// is written. After `Device`, a prefix of the new file is written.
+/// `list` is a list or a card; the card may be for any day, and have any prices. The machine file's faults
+/// come first, then the faults of `list`, then the first line that the machine refuses. After each of these,
+/// nothing is written. After `Device`, a prefix of the new file is written.
 pub fn run_apply<W: Sink>(
     alloc: Global,
     machine: &[u8],
@@ -34,7 +34,7 @@ pub fn run_apply<W: Sink>(
     apply(&machine, list, sink)
 }
 
-/// `run_apply` for a machine that is read already. Takes no memory.
+/// `run_apply` for a machine that was read before. Allocates nothing.
 pub fn apply<W: Sink>(machine: &Machine, list: &[u8], sink: &mut W) -> Result<(), DeskFault>
     ensures applied { Applies machine.now list.now
         (port W.taken W.has_failed sink.old sink.new) result }

@@ -38,7 +38,7 @@ pub fn run_card<W: Sink>(
     print_card(&machine, &day, sink)
 }
 
-/// `run_card` for a machine and a day that are read already. Takes no memory.
+/// `run_card` for a machine and a day that were read before. Allocates nothing.
 pub fn print_card<W: Sink>(machine: &Machine, day: &SheetDay, sink: &mut W) -> Result<(), DeskFault>
     ensures prints { Prints machine.now day.now (day_number day.now)
         (port W.taken W.has_failed sink.old sink.new) result }
@@ -53,7 +53,7 @@ pub fn print_card<W: Sink>(machine: &Machine, day: &SheetDay, sink: &mut W) -> R
     Ok(())
 }
 
-/// `card` with one price for each kind.
+/// Replaces the card's prices of single cables and bars by one price for each kind.
 pub(crate) fn in_kinds(machine: &Machine, day: &SheetDay, card: &Card) -> Card
     requires machine { IsMachine machine.now }
     requires day { IsLegalDay day.now }

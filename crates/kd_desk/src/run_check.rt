@@ -18,10 +18,10 @@ use std::alloc::Global;
 
 /// Checks that `card` is shortest from the machine in `machine` to day `number` of `sheet`.
 ///
-/// If its prices prove it shortest, whoever made it, writes SHORTEST and how many settings it has. The machine
-/// file's faults come first, then the sheet's, then `NoSuchDay`, then the card's, then `OtherDay`, then the
-/// first reason why the card doesn't prove itself. After each of these, nothing is written. After `Device`, a
-/// prefix of the line is written.
+/// If the card's prices prove it shortest, writes SHORTEST and its number of settings, whoever made the card.
+/// The machine file's faults come first, then the sheet's, then `NoSuchDay`, then the card's, then
+/// `OtherDay`, then the first reason why the card doesn't prove itself. After each of these, nothing is
+/// written. After `Device`, a prefix of the line is written.
 pub fn run_check<W: Sink>(
     alloc: Global,
     machine: &[u8],
@@ -39,7 +39,7 @@ pub fn run_check<W: Sink>(
     check_card(&machine, &day, number, card, sink)
 }
 
-/// `run_check` for a machine and a day that are read already. Takes no memory.
+/// `run_check` for a machine and a day that were read before. Allocates nothing.
 pub fn check_card<W: Sink>(
     machine: &Machine,
     day: &SheetDay,

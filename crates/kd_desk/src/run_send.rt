@@ -13,10 +13,11 @@ use std::alloc::Global;
 
 /// Sends `order` on the machine in `machine`, set to day `number` of `sheet`, and writes its form.
 ///
-/// The order is read as it comes, and a part is written once it is complete. The machine file's faults come
-/// first, then the sheet's, then `NoSuchDay`, `NotReady` and `NotOnKey`. After each of these, nothing is read
-/// or written. Then come the order's faults, `ReadTooLong` if it has more than 1,048,576 bytes, and `Device` if
-/// a read or a write fails. The complete parts are written by then; if a write failed, only a prefix of them.
+/// The order is streamed: a part is written once the first letter of the next part is read. The machine
+/// file's faults come first, then the sheet's, then `NoSuchDay`, `NotReady` and `NotOnKey`. After each of
+/// these, nothing is read or written. Then come the order's faults, `ReadTooLong` if it has more than
+/// 1,048,576 bytes, and `Device` if a read or a write fails. By then the parts made so far are written, or a
+/// prefix of them if a write failed.
 pub fn run_send<R: Source, W: Sink>(
     alloc: Global,
     machine: &[u8],

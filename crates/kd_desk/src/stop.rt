@@ -17,18 +17,18 @@ type Line = ArrayString<80>;
 /// Why the program stops.
 #[derive(Clone, Copy, Debug, PartialEq, Eq)]
 pub enum Stop {
-    /// The command line is no command of the desk.
+    /// The command line isn't a command of the desk.
     Usage,
     /// A file that the command line names can't be read whole, or can't be opened.
     Unread(FileFault),
-    /// A read of the opened file failed as the command was carried out.
+    /// A read of the opened file failed while the command was carried out.
     ReadFailed,
     /// The command was refused.
     Refused(DeskFault),
 }
 
 impl Stop {
-    /// The `Stop` for the answer of a command.
+    /// Returns the fault of a command as a `Stop`.
     pub(crate) fn after(done: Result<(), DeskFault>) -> Result<(), Stop>
         ensures { result ≡ stop_after false done }
     {
@@ -38,9 +38,9 @@ impl Stop {
         }
     }
 
-    /// The `Stop` for the answer of a command that has opened a file.
+    /// Returns the fault of a command that streams a file, as a `Stop`.
     ///
-    /// `file_failed` says whether a read of that file failed.
+    /// `file_failed` says whether a read of this file failed.
     pub(crate) fn after_file(done: Result<(), DeskFault>, file_failed: bool) -> Result<(), Stop>
         ensures { result ≡ stop_after file_failed done }
     {
@@ -50,7 +50,7 @@ impl Stop {
         }
     }
 
-    /// The line on standard error.
+    /// The line that is written to standard error.
     fn line(&self) -> Line
         ensures { result.bytes ≡ stop_line self.now }
     {
@@ -77,7 +77,7 @@ impl Stop {
     }
 }
 
-/// The line for a refusal.
+/// The line that is written for a refusal.
 fn refused_line(fault: DeskFault) -> Line
     ensures { result.bytes ≡ refused_line fault }
 {
@@ -88,7 +88,7 @@ fn refused_line(fault: DeskFault) -> Line
     line
 }
 
-/// Writes the line for an error to `errors`, and returns the exit status.
+/// Writes the error's line to `errors`, and returns the exit status.
 ///
 /// The status doesn't depend on whether the line could be written.
 pub fn end<E: Sink>(answer: Result<(), Stop>, errors: &mut E) -> u8

@@ -29,7 +29,7 @@ impl Model for Content {
 }
 
 impl Content {
-    /// Takes `bytes`, or returns `ReadTooLong` if they are more than a file may have.
+    /// Wraps `bytes`; returns `ReadTooLong` if there are more than `READ_LIMIT`.
     pub fn new(bytes: Vec<u8>) -> Result<Self, FileFault>
         ensures { result ≡ content_of (Some bytes.items) }
     {
@@ -47,9 +47,9 @@ impl Content {
     }
 }
 
-/// Reads `source` to its end; `ReadTooLong` if it has more bytes than a file may have.
+/// Reads `source` to its end; returns `ReadTooLong` if it has more than `READ_LIMIT` bytes.
 ///
-/// Reads at most one byte more than that, to see whether there are more.
+/// Reads at most one byte beyond the limit, to see whether there are more.
 pub fn read_whole<S: Source>(alloc: Global, source: &mut S) -> Result<Content, FileFault>
     ensures { IsReadWhole (port S.remaining S.has_failed source.old source.new) result }
 {

@@ -5,7 +5,7 @@ use std::io;
 /// Why a file can't be read whole, or can't be opened.
 #[derive(Clone, Copy, Debug, PartialEq, Eq)]
 pub enum FileFault {
-    /// Memory ran out as the file was read.
+    /// Memory ran out while the file was read.
     NoMemory,
     /// There is no such file, or a read failed.
     Device,

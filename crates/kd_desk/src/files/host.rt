@@ -16,7 +16,7 @@ pub struct HostFiles<'n> {
 }
 
 impl<'n> HostFiles<'n> {
-    /// Creates the files that `rt` opens, none of them asked for yet.
+    /// Creates the files that `rt` opens; no name has been asked for yet.
     pub fn new(rt: &'n HostRuntime) -> Self
         ensures { result.asked ≡ [] }
     {

@@ -1,4 +1,4 @@
-//! A source for whatever can be read, as standard input.
+//! A source for anything that can be read, such as standard input.
 ghost use Rattle.std.specs.Prelude.{◌≡◌, ◌||◌, false, is_err};
 ghost use Rattle.kd_tables.specs.Ports.{Gets};
 
