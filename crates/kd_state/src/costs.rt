@@ -12,7 +12,7 @@ ghost use Rattle.kd_state.specs.Costs.{column_letters};
 use crate::machine::cable::{Cable, lies_in};
 use kd_tables::{Letter, Place, Reading, Standing};
 
-/// The cost of making `cable` the pair `column`, or empty: how many letters are in only one of the two.
+/// The cost of making `cable` the pair `column`, or empty: how many letters only one of them has.
 #[tactic(auto, using(crate::proofs::CostTable::at_most_four, crate::proofs::CostTable::counted_more))]
 pub fn cable_cost(cable: Cable, column: Option<(Letter, Letter)>) -> u8
     ensures cost { result ≡ costs.cable_cost cable column }
@@ -27,7 +27,7 @@ pub fn cable_cost(cable: Cable, column: Option<(Letter, Letter)>) -> u8
     cost
 }
 
-/// Whether `letter` is one of the pair's letters. No pair has none.
+/// Whether `letter` is in the pair `column`. `None` has no letter.
 pub fn lies_in_column(column: Option<(Letter, Letter)>, letter: Letter) -> bool
     ensures { result ≡ has_letter (column_letters column) letter }
 {
@@ -45,7 +45,7 @@ pub fn bar_cost(standing: Standing, row: Reading) -> u8
     lugs_moved(standing, nearest_standing(standing, row))
 }
 
-/// The standing that reads as `row` and needs the fewest lugs moved, the first one of equals.
+/// The standing that reads as `row` with the fewest lugs moved; of two equals, the first.
 #[tactic(auto, using(crate::proofs::Prelude::nat_tests))]
 pub fn nearest_standing(standing: Standing, row: Reading) -> Standing
     ensures nearest { costs.nearest_standing standing row ≡ Some result }
@@ -59,7 +59,7 @@ pub fn nearest_standing(standing: Standing, row: Reading) -> Standing
     }
 }
 
-/// The standings that read as `row`, in order: two if a number of `row` is 0 and the other isn't, else one.
+/// The standings that read as `row`, in order: two if exactly one of the row's numbers is 0, else one.
 #[tactic(auto, using(crate::proofs::CostTable::zeros, crate::proofs::CostTable::one_zero, crate::proofs::CostTable::no_zero))]
 fn standings_of(row: Reading) -> (Standing, Option<Standing>)
     ensures { costs.standings_as row ≡ result.0 ∷ option_to_list result.1 }

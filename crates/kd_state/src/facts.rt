@@ -1,4 +1,4 @@
-//! Functions that show the prover what arrays and lists have by their element types.
+//! Functions that show the prover what follows from the element types of arrays and lists.
 //!
 //! They do nothing when the program runs.
 ghost use Rattle.std.specs.Prelude.{◌≡◌, ◌<◌, ◌^◌, All, length};

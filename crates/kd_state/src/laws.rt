@@ -23,7 +23,7 @@ pub fn lines_tell_words()
     ensures one_line { WordsMakeOneLine }
 {}
 
-/// A text determines what stands before the first space, LF or other given byte, and what follows it.
+/// A text determines the bytes before its first space, LF or other given byte, and the bytes after it.
 #[tactic(auto, using(crate::proofs::Lines::texts_tell_first_parts))]
 pub fn texts_tell_first_parts()
     ensures { TextsTellFirstParts }
@@ -52,11 +52,11 @@ pub fn texts_tell_settings()
     ensures one_fault { OneListFault }
 {}
 
-/// Different wheels have different names, and so have different reflectors.
+/// Different wheels have different names, and so do different reflectors.
 ///
 /// A wheel that is allowed in a slot is in the model's box. Each wheel of the box has its own place there, so
-/// two wheels of a day have different places. Two lists have the same letters exactly if each letter is in both
-/// or in neither.
+/// two wheels of a day have different places. Two lists have the same letters exactly if each letter is in
+/// both or in neither.
 pub fn parts_are_told_apart()
     ensures names { NamesTellWheels }
     ensures reflectors { NamesTellReflectors }
@@ -73,7 +73,7 @@ pub fn settings_keep_machines()
     ensures lists { ListsKeepMachines }
 {}
 
-/// A machine refuses a setting or carries it out, with one result only. So it is for a list.
+/// A machine either refuses a setting or carries it out, with one result only. A list has one result too.
 #[tactic(auto, using(crate::proofs::Telling::Refusing::refuses_or_carries, crate::proofs::Telling::Refusing::carries_to_one, crate::proofs::Telling::Refusing::leads_to_one))]
 pub fn a_setting_is_refused_or_carried()
     ensures either { RefusesOrCarries }
@@ -83,8 +83,9 @@ pub fn a_setting_is_refused_or_carried()
 
 /// A setting that is carried out changes what it names and nothing else, as the machine's readers show.
 ///
-/// Conversely, if the readers show just this change and the setting isn't refused, then it was carried out. The
-/// readers show which settings are refused, too.
+/// The readers are the calls that return one part, as `slot` and `ring` do. Conversely, if the readers show
+/// just this change and the setting isn't refused, then it was carried out. The readers also show which
+/// settings are refused.
 #[tactic(auto, using(crate::proofs::Telling::Refusing::Changing::settings_are_told, crate::proofs::Telling::telling_is_making, crate::proofs::Telling::Refusing::refusals_are_told))]
 pub fn readers_tell_what_settings_change()
     ensures told { SettingsAreTold }
@@ -99,7 +100,7 @@ pub fn tables_say_what_is_refused()
     ensures rings { RingsAreByTheTables }
 {}
 
-/// An engine enciphers as the machine that it is made of does, also turned to other letters.
+/// An engine enciphers as the machine that it is made of, also if both are turned to other letters.
 #[tactic(auto, using(crate::proofs::Keys::engine_cipher, crate::proofs::Keys::turned_engine))]
 pub fn engines_encipher_as_their_machines()
     ensures standing { EngineIsTheMachine }
@@ -122,7 +123,7 @@ pub fn being_on_the_key_is_its_cipher()
 
 /// A machine that is turned to other letters keeps the rest of its key.
 ///
-/// If it was on the day's key it stays on it, and enciphers as the day asks from these letters.
+/// A machine on the day's key stays on the key, and enciphers as the day asks from these letters.
 #[tactic(auto, using(crate::proofs::Keys::turned_key, crate::proofs::Keys::turned_on_key, crate::proofs::Keys::turned_cipher))]
 pub fn turning_keeps_the_key()
     ensures key { TurnedHasItsKey }
@@ -132,7 +133,7 @@ pub fn turning_keeps_the_key()
 
 /// A ready machine can be turned to any window.
 ///
-/// A window has a letter for each slot, or one for each pin wheel and on it.
+/// A window is one letter for each slot, or for each pin wheel a letter that is on it.
 #[tactic(auto, using(crate::proofs::Seating::can_be_turned))]
 pub fn ready_machines_can_be_turned()
     ensures { MachinesCanBeTurned }

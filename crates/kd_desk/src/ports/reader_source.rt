@@ -26,7 +26,7 @@ impl<R: Read + Drop> ReaderSource<R> {
         }
     }
 
-    /// Whether the last failed read failed for want of memory.
+    /// Whether the last failed read failed for lack of memory.
     pub fn lacks_memory(&self) -> bool
         ensures { result ≡ self.now.lacks_memory }
     {

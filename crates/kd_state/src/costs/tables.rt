@@ -17,8 +17,8 @@ pub fn column_at(pairs: &[(Letter, Letter)], place: usize) -> Option<(Letter, Le
 
 /// The cost of each cable at each column.
 ///
-/// Entry `[i][j]` is for cable `i` and column `j`, both counted from 0. The columns are the day's pairs, and
-/// then no pair up to 13.
+/// Entry `[i][j]` is for cable `i` and column `j`, both counted from 0. The 13 columns are the day's pairs,
+/// and then `None`.
 pub fn cable_costs(cables: &[Cable; 13], pairs: &[(Letter, Letter)]) -> [[u8; 13]; 13]
     requires { length pairs.now ≤ 13 }
     ensures { result ≡ costs.cable_costs cables.now pairs.now }

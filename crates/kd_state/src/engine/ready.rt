@@ -56,7 +56,7 @@ impl Machine {
 
     /// Creates an engine of the machine as it stands.
     ///
-    /// Refused if a slot is empty or a cable has exactly one letter.
+    /// Returns `NotReady` if a slot is empty or a cable has exactly one letter.
     pub fn engine(&self) -> Result<Engine, NotReady>
         ensures ready { IsOk result ↔ IsReady self.now }
         ensures key { IfOk result (λ engine. engine ≡ physical_key self.now) }
@@ -98,7 +98,7 @@ fn seated_wheels(parts: &RotorParts) -> Option<ArrayVec<SheetWheel, 4>>
     Some(wheels)
 }
 
-/// The seated wheel with its ring and its window letter.
+/// The wheel `seated`, if any, with its ring and its window letter.
 fn seated_wheel(parts: &RotorParts, seated: Option<Wheel>) -> Option<SheetWheel>
     requires rings { length parts.now.rings ≡ length (box_of parts.now.model) }
     requires letters { length parts.now.letters ≡ length (box_of parts.now.model) }
@@ -137,7 +137,7 @@ fn have_no_single_letter(cables: &[Cable; 13]) -> bool
         .all(|cable| cable.0.is_some() == cable.1.is_some())
 }
 
-/// The two letters of each cable that has two letters, as a pair.
+/// The pairs of letters in the cables that have two letters.
 fn plugged_pairs(cables: &[Cable; 13]) -> ArrayVec<(Letter, Letter), 13>
     ensures { result.items ≡ filter_map (λ cable. both_ends cable.0 cable.1) cables.now }
 {

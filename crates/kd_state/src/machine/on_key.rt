@@ -1,4 +1,4 @@
-//! Comparing a machine with a day: whether it is on the day's key, and whether it reads as the day.
+//! Compares a machine with a day: whether it is on the day's key, and whether it reads as the day.
 ghost use Rattle.std.specs.Prelude.{◌≡◌, ◌↔◌, IsTrue, IsPermutation, Some, true, [], ◌∷◌, length, slice_get};
 ghost use Rattle.std.specs.List.{AllByRecursion};
 ghost use Rattle.std.specs.Option.{option_map_or};
@@ -107,7 +107,7 @@ fn show_letters(model: Model, letters: &PerWheel<Letter>, wheels: &[SheetWheel])
     }
 }
 
-/// Whether `readings` are `rows` in any order, each as often.
+/// Whether `readings` are `rows` in any order; each reading must come as often in both.
 fn are_same_readings(readings: [Reading; 27], rows: [Reading; 27]) -> bool
     ensures { IsTrue result ↔ IsPermutation readings rows }
 {
@@ -158,7 +158,7 @@ fn is_joined(cables: &[Cable], pair: (Letter, Letter)) -> bool
     cables.iter().any(|cable| joins(*cable, pair))
 }
 
-/// Whether the letters of `cable` are those of `pair`, in either order.
+/// Whether `cable` has exactly the letters of `pair`, in either order.
 #[tactic(auto, using(crate::proofs::Cables::joined_by_tests, crate::proofs::Cables::tests_of_joined))]
 fn joins(cable: Cable, pair: (Letter, Letter)) -> bool
     ensures { IsTrue result ↔ Joins cable pair }
@@ -169,7 +169,7 @@ fn joins(cable: Cable, pair: (Letter, Letter)) -> bool
         && is_loose_or_of(cable.1, &pair)
 }
 
-/// Whether `end` is loose, or has a letter of `pair`.
+/// Whether `end` has no letter, or a letter of `pair`.
 fn is_loose_or_of(end: Option<Letter>, pair: &(Letter, Letter)) -> bool
     ensures { result ≡ option_map_or (has_letter (pair.now.0 ∷ pair.now.1 ∷ [])) end true }
 {

@@ -1,4 +1,4 @@
-//! A machine and a day of one model, taken apart together.
+//! A machine and a day of the same model, and the parts of both.
 use super::Machine;
 use super::parts::Parts;
 use super::pin_parts::PinParts;
@@ -8,12 +8,12 @@ use crate::sheet_day::entry::Entry;
 use crate::sheet_day::pin_entry::PinEntry;
 use crate::sheet_day::rotor_entry::RotorEntry;
 
-/// A machine and a day of one model, taken apart: both are of rotors, or both of pins.
+/// The parts of a machine and of a day of the same model.
 #[derive(Clone, Copy)]
 pub enum OneModel<'a> {
-    /// An Enigma I, an M3 or an M4, and a day of it.
+    /// An Enigma I, an M3 or an M4, and a day for it.
     Rotor(&'a RotorParts, &'a RotorEntry),
-    /// A Converter M-209, and a day of it.
+    /// A Converter M-209, and a day for it.
     Pin(&'a PinParts, &'a PinEntry),
 }
 
@@ -23,7 +23,7 @@ impl Machine {
     ghost use Rattle.kd_state.specs.SheetDay.{IsLegalDay, day_model};
     ghost use Rattle.kd_state.specs.OneModel.{AreParted};
 
-    /// The machine and the day, taken apart together; none where they are of different models.
+    /// The parts of the machine and of `day`; `None` if they are of different models.
     pub fn of_one_model<'a>(&'a self, day: &'a SheetDay) -> Option<OneModel<'a>>
         ensures parted { MatchOption result
             (model_of self.now ≢ day_model day.now)

@@ -99,7 +99,7 @@ impl PerSlot<Option<Wheel>> {
 impl PerSlot<SheetWheel> {
     ghost use Rattle.kd_state.specs.SheetDay.{seats};
 
-    /// The wheels alone, each in its slot.
+    /// The wheels without rings and letters, each in its slot.
     pub(crate) fn seats(&self) -> PerSlot<Option<Wheel>>
         ensures { result ≡ seats self.now }
     {
@@ -120,7 +120,7 @@ impl PerSlot<SheetWheel> {
     }
 }
 
-/// What stays in a slot once `wheel` has been taken out, if it was there.
+/// The wheel `seated`, or `None` if it is `wheel`.
 fn without_wheel(seated: Option<Wheel>, wheel: Wheel) -> Option<Wheel>
     ensures { result ≡ without wheel seated }
 {

@@ -20,7 +20,7 @@ pub struct PinParts {
 }
 
 impl PinParts {
-    /// Whether these are a machine's parts: each letter is on its wheel.
+    /// Whether the parts are legal: each letter is on its wheel.
     pub(crate) fn is_legal(&self) -> bool
         ensures { IsTrue result ↔ IsLegalPin self.now }
     {

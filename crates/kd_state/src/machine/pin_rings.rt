@@ -40,7 +40,7 @@ fn pins_on(pins: &PinSet, wheel: u8) -> &[bool]
     }
 }
 
-/// Makes the pin at `letter` of pin wheel `wheel` effective or not. The wheel has to have the letter.
+/// Makes the pin at `letter` of pin wheel `wheel` effective or not. The wheel must have the letter.
 pub(crate) fn set_pin(pins: &mut PinSet, wheel: u8, letter: Letter, effective: bool)
     requires wheel { (1 ≤ wheel) × (wheel ≤ 6) }
     requires there { IsSome (place_on (ring_of wheel) letter) }

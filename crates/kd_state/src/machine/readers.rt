@@ -1,4 +1,4 @@
-//! Reading a machine: its slots, rings, letters, cables, pins and lugs.
+//! Readers of a machine: its slots, rings, letters, cables, pins and lugs.
 ghost use Rattle.std.specs.Prelude.{◌≡◌, length, slice_get};
 ghost use Rattle.kd_tables.specs.Tables.{box_of};
 ghost use Rattle.kd_state.specs.ToldApart.{place_in_box};
@@ -25,7 +25,7 @@ impl Machine {
         }
     }
 
-    /// What is in slot `slot`, counted from the left from 1: a wheel or nothing. `None` without that slot.
+    /// The wheel in slot `slot`, counted from 1 from the left, or nothing. `None` if there is no such slot.
     pub fn slot(&self, slot: u8) -> Option<Option<Wheel>>
         ensures { result ≡ slot_in self.now slot }
     {

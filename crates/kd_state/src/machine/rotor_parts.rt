@@ -27,7 +27,7 @@ pub struct RotorParts {
 }
 
 impl RotorParts {
-    /// Whether these are a machine's parts.
+    /// Whether the parts are legal, as `Machine::rotor` defines it.
     pub(crate) fn is_legal(&self) -> bool
         ensures { IsTrue result ↔ IsLegalRotor self.now }
     {
@@ -39,7 +39,7 @@ impl RotorParts {
             && cable::are_apart(&self.cables)
     }
 
-    /// These parts, with the letters of each cable in order.
+    /// The parts with each cable's letters in alphabetical order.
     pub(crate) fn in_order(&self) -> RotorParts
         ensures { Parts.Rotor result ≡ cables_ordered (Parts.Rotor self.now) }
     {

@@ -43,7 +43,7 @@ fn are_allowed(model: Model, slots: &[Option<Wheel>]) -> bool
     true
 }
 
-/// Whether `seated` is allowed in slot `slot`, counted from the left from 1. An empty slot always is.
+/// Whether `seated` is allowed in slot `slot`, counted from 1 from the left. `None` always is.
 fn may_stand(model: Model, slot: u8, seated: Option<Wheel>) -> bool
     ensures { IsTrue result ↔ IfSome seated (IsAllowed model slot) }
 {

@@ -1,4 +1,4 @@
-//! Settings that are carried out one after another.
+//! Carries settings out one after another, up to the first that the machine refuses.
 ghost use Rattle.std.specs.Prelude.{◌≡◌, IfErr, IfOk};
 ghost use Rattle.kd_state.specs.FaultText.{illegal_at_text};
 ghost use Rattle.kd_state.specs.Setting.{IsFirstIllegal, Leads};
@@ -9,7 +9,7 @@ use crate::setting::why::Why;
 use kd_tables::{Refusal, Text};
 use thiserror::Error;
 
-/// A setting of a list that the machine refuses in its turn. Lines are the settings, counted from 1.
+/// The first setting of a list that the machine refuses. `line` is its number, counted from 1.
 #[derive(Clone, Copy, Debug, PartialEq, Eq, Error)]
 #[error("{}", self.text())]
 pub struct IllegalAt {
@@ -26,7 +26,7 @@ impl IllegalAt {
     }
 }
 
-/// The machine to which the settings lead, carried out one after another, or the first that is refused.
+/// Carries `settings` out one after another; returns the new machine, or the first refusal.
 #[tactic(auto, using(crate::proofs::Telling::Refusing::leads_next, crate::proofs::Telling::Refusing::stops_at))]
 pub fn carry_all(machine: &Machine, settings: &[Setting]) -> Result<Machine, IllegalAt>
     ensures carried { IfOk result (λ n. Leads machine.now settings.now n) }

@@ -1,4 +1,4 @@
-//! Lists of settings, and the settings at the front of a text.
+//! Lists of settings, one on each line.
 ghost use Rattle.std.specs.Prelude.{◌≡◌, MatchOption, MatchResult, Some};
 ghost use Rattle.kd_state.specs.FaultText.{list_fault_text};
 ghost use Rattle.kd_state.specs.Line.{BeginsWithLine, BeginsWithNoLine, BeginsWithSettings, IsList, IsListFault};
@@ -13,17 +13,17 @@ use thiserror::Error;
 /// The settings of a list or of a card, in their order: at most 192.
 pub type Settings = ArrayVec<Setting, 192>;
 
-/// Why bytes are no list of settings.
+/// Why bytes aren't a list of settings.
 #[derive(Clone, Copy, Debug, PartialEq, Eq, Error)]
 pub enum ListFault {
-    /// The first line that is no setting's, or has no LF, counted from 1.
+    /// This line, counted from 1, is the first that isn't a setting, or has no LF.
     BadLine(usize),
     /// There are more than 192 lines.
     TooMany,
 }
 
 impl ListFault {
-    /// The refusal's number and name, and its line.
+    /// The refusal's number and name, and the line of `BadLine`.
     pub fn text(&self) -> Text
         ensures { result.bytes ≡ list_fault_text self.now }
     {
@@ -42,7 +42,7 @@ impl fmt::Display for ListFault {
     }
 }
 
-/// The list of settings whose text this is: a line for each, with LF at its end, and at most 192 of them.
+/// Reads a list of settings: one on each line, with LF at its end, and at most 192.
 pub fn read_list(text: &[u8]) -> Result<Settings, ListFault>
     ensures { MatchResult result
         (λ settings. IsList text.now settings.items)
@@ -56,8 +56,9 @@ pub fn read_list(text: &[u8]) -> Result<Settings, ListFault>
     }
 }
 
-/// The settings whose lines stand at the front of the text, up to the first line that is none, and what follows them;
-/// none where there are more than 192.
+/// Reads setting lines up to the first line that is none; returns the settings and the rest of `text`.
+///
+/// `None` if there are more than 192 settings.
 pub fn split_settings(text: &[u8]) -> Option<(Settings, &[u8])>
     ensures { MatchOption result
         (IsListFault text.now ListFault.TooMany)
@@ -75,7 +76,7 @@ pub fn split_settings(text: &[u8]) -> Option<(Settings, &[u8])>
     Some((settings, rest))
 }
 
-/// The setting whose line, with LF at its end, stands at the front of the text, and what follows.
+/// Reads the first line of `text`, with its LF, as a setting; returns the setting and the rest of `text`.
 fn split_setting(text: &[u8]) -> Option<(Setting, &[u8])>
     ensures { MatchOption result
         (BeginsWithNoLine text.now)

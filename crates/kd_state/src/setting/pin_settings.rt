@@ -76,7 +76,7 @@ impl PinParts {
     }
 }
 
-/// Where the bar's other lug stands.
+/// The place of the bar's other lug.
 fn other_place(standing: Standing, lug: Lug) -> Place
     ensures { result ≡ lug_place (other_lug lug) standing }
 {
@@ -93,7 +93,7 @@ fn is_at(place: Place, other: Place) -> bool
     place == other
 }
 
-/// `standing` with its lug `lug` at `place`, if the left lug is still before the right one.
+/// `standing` with its lug `lug` at `place`; `None` if the left lug isn't before the right one then.
 fn with_lug(standing: Standing, lug: Lug, place: Place) -> Option<Standing>
     ensures exists { IsSome result ↔ Stands (with_lug lug place standing) }
     ensures value { IfSome result (λ moved. moved ≡ with_lug lug place standing) }

@@ -8,32 +8,32 @@ use thiserror::Error;
 /// Why a machine refuses a setting.
 #[derive(Clone, Copy, Debug, PartialEq, Eq)]
 pub enum Why {
-    /// The setting is not one of this kind of machine.
+    /// The setting is for another kind of machine.
     OtherModel,
-    /// There is no cable of that number.
+    /// There is no cable with this number.
     NoSuchCable,
-    /// The letter does not lie in the cable.
+    /// The letter isn't in the cable.
     NotThere,
     /// Both ends of the cable are plugged.
     NoLooseEnd,
-    /// The letter lies in a cable.
+    /// The letter is in a cable already.
     SocketTaken,
-    /// The wheel or the reflector may not be put there, or is not one of the model's.
+    /// The model doesn't have this wheel or reflector, or doesn't take the wheel in this slot.
     WheelNotAllowed,
-    /// The slot is empty, or there is no such slot, or no pin wheel of that number to be turned.
+    /// The slot is empty or doesn't exist, or there is no pin wheel with this number.
     SlotEmpty,
-    /// The letter is not on the wheel; of a pin, also where there is no such wheel.
+    /// The letter isn't on the pin wheel. For a pin, also: there is no wheel with this number.
     NotOnWheel,
-    /// There is no bar of that number.
+    /// There is no bar with this number.
     NoSuchBar,
-    /// The bar's other lug stands at the place.
+    /// The bar's other lug is at this place.
     PlaceTaken,
     /// The place lies beyond the bar's other lug.
     WouldPass,
 }
 
 impl Why {
-    /// The reason as a refusal tells it.
+    /// The reason's name, as it is written in a refusal.
     pub fn name(self) -> &'static str
         ensures value { result.now ≡ why_name self }
         ensures short { length result.now ≤ 15 }

@@ -19,7 +19,7 @@ pub struct SheetWheel {
     pub letter: Letter,
 }
 
-/// The first wheel, at A. Lists of wheels are filled with it.
+/// Wheel I with ring and window at A; it fills unused places of lists.
 impl Default for SheetWheel {
     ghost use Rattle.std.specs.Prelude.{◌≡◌};
     ghost use Rattle.kd_tables.specs.declared.wheel.Wheel.TheVariants.{I};
