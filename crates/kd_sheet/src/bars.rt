@@ -1,4 +1,4 @@
-//! The standings of the drum's bars in a machine file, and the readings that a key sheet asks for.
+//! Reads the bars' standings in a machine file, and the bars' readings in a key sheet.
 ghost use Rattle.std.specs.{Prelude.{◌≡◌, ◌+◌, is_some, IfSome}, Option.{option_and_then}};
 ghost use Rattle.toml.specs.{Data.{as_str}, View.{view, table_view}};
 ghost use Rattle.kd_sheet.specs.Bars.{standing_for, bars_in, is_figure, may_read, row_of_text, row_for, rows_in};
@@ -49,7 +49,7 @@ fn digit_value(byte: u8) -> Option<u8>
     }
 }
 
-/// Reads two digits with `-` between them, in either order.
+/// Reads `item` as two digits with `-` between them, in either order.
 #[tactic(auto, unfolding(crate::specs::Bars::row_of_text))]
 fn row_of_item(item: &Value) -> Option<Reading>
     ensures { result ≡ option_and_then row_of_text (as_str (view item.now)) }

@@ -56,7 +56,7 @@ impl FromItem<()> for Cable {
     }
 }
 
-/// Fills up `cables` with empty ones to 13.
+/// `cables`, followed by empty ones up to 13.
 fn fill_up(cables: &[Cable]) -> [Cable; CABLES]
     requires { length cables.now ≤ 13 }
     ensures { result ≡ thirteen cables.now }
@@ -66,7 +66,7 @@ fn fill_up(cables: &[Cable]) -> [Cable; CABLES]
     all
 }
 
-/// Reads the machine's cables. Without the key, all are empty.
+/// Reads the machine's cables. Without the key `cables`, all 13 are empty.
 #[tactic(auto, unfolding(crate::specs::Cables::cables_in))]
 pub fn cables_in(table: &Table) -> Result<[Cable; CABLES], SheetFault>
     ensures { result ≡ cables_in (table_view table.now) }
@@ -104,7 +104,7 @@ impl FromItem<()> for Pair {
     }
 }
 
-/// Reads the day's pairs.
+/// Reads the day's pairs, at most 13.
 #[tactic(auto, unfolding(crate::specs::Cables::pairs_in))]
 pub fn pairs_in(table: &Table) -> Result<Pairs, SheetFault>
     ensures { result_map (λ pairs. pairs.items) result ≡ pairs_in (table_view table.now) }

@@ -63,7 +63,7 @@ impl FromItem<()> for [Letter; 3] {
     }
 }
 
-/// Reads the groups, at most four. Without the key, there are none.
+/// Reads the groups, at most four. Without the key `groups`, there are none.
 #[tactic(auto, unfolding(crate::specs::SheetFile::groups_in))]
 fn groups_in(table: &Table) -> Result<ArrayVec<[Letter; 3], 4>, SheetFault>
     ensures { result_map (λ groups. groups.items) result ≡ groups_in (table_view table.now) }
@@ -83,7 +83,7 @@ fn list_in(table: &Table) -> Result<[Letter; 2], SheetFault>
     letters_of_text(text.as_bytes()).ok_or(SheetFault::BadValue(Key::List))
 }
 
-/// Appends the slots' wheels, each with its ring and its window letter.
+/// Appends the wheel of each slot, with its ring and its window letter.
 fn push_wheels(
     wheels: &mut ArrayVec<SheetWheel, 4>,
     slots: &[Option<Wheel>],
@@ -150,7 +150,7 @@ fn pin_day_in(table: &Table, day: u8) -> Result<SheetDay, SheetFault>
     Ok(SheetDay::pin(day, rows, pins, window, list).unwrap())
 }
 
-/// Reads the day `day` of `model`.
+/// Reads the day with the number `day`, for a machine of `model`.
 #[tactic(auto, unfolding(crate::specs::SheetFile::model_day_in))]
 pub fn model_day_in(table: &Table, day: u8, model: Model) -> Result<SheetDay, SheetFault>
     requires { IsDayNumber day }

@@ -30,14 +30,14 @@ pub fn find_at(table: &Table, key: Key) -> Option<&Value>
     table.get(key.name())
 }
 
-/// The value at `key`, or `Missing`.
+/// The value at `key`, or the fault `Missing`.
 pub fn value_at(table: &Table, key: Key) -> Result<&Value, SheetFault>
     ensures { result_map (λ value. view value.now) result ≡ value_at key (table_view table.now) }
 {
     find_at(table, key).ok_or(SheetFault::Missing(key))
 }
 
-/// The text at `key`, or `Missing` or `BadValue`.
+/// The text at `key`, or the fault `Missing` or `BadValue`.
 pub fn text_at(table: &Table, key: Key) -> Result<&str, SheetFault>
     ensures { result_map (λ text. text.now) result ≡ text_at key (table_view table.now) }
 {
@@ -46,7 +46,7 @@ pub fn text_at(table: &Table, key: Key) -> Result<&str, SheetFault>
         .ok_or(SheetFault::BadValue(key))
 }
 
-/// The items of the array `value`, or `BadValue` of `key`.
+/// The items of the array `value`, or the fault `BadValue(key)`.
 #[tactic(auto, using(crate::proofs::ReadBack::Described::Values::InTurn::items_in_found))]
 pub fn items_in(value: &Value, key: Key) -> Result<&Array, SheetFault>
     ensures { result_map (λ items. map view items.now.items) result
@@ -55,7 +55,7 @@ pub fn items_in(value: &Value, key: Key) -> Result<&Array, SheetFault>
     value.as_array().ok_or(SheetFault::BadValue(key))
 }
 
-/// The items of the array at `key`.
+/// The items of the array at `key`, or the fault `Missing` or `BadValue`.
 pub fn items_at(table: &Table, key: Key) -> Result<&Array, SheetFault>
     ensures { result_map (λ items. map view items.now.items) result
         ≡ items_at key (table_view table.now) }

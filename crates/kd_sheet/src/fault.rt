@@ -1,4 +1,4 @@
-//! Why bytes are no machine file or no key sheet.
+//! SheetFault: why bytes aren't a machine file or a key sheet.
 ghost use Rattle.std.specs.Prelude.{◌≡◌, Some};
 ghost use Rattle.kd_sheet.specs.FaultText.{sheet_fault_text};
 
@@ -10,33 +10,34 @@ use thiserror::Error;
 /// Why a file is refused: its first fault, in the order in which its keys are tested.
 #[derive(Clone, Copy, Debug, PartialEq, Eq, Error)]
 pub enum SheetFault {
-    /// The bytes are no TOML document.
+    /// The bytes aren't a TOML document.
     NotToml,
-    /// The text at `model` names no model, or the M4 in a machine file of version 1.
+    /// The text at `model` isn't the name of a model, or names the M4 in a machine file of version 1.
     UnknownModel,
-    /// A key that has to be there is absent.
+    /// A required key is absent.
     Missing(Key),
-    /// A key's value has the wrong type, the wrong number of parts, or a part of the wrong form.
+    /// A key's value is wrong.
     ///
-    /// Or it is a number out of its range, the name of no wheel or of no reflector of the model, a letter that isn't on
-    /// its pin wheel, or a pin named twice.
+    /// The value, or a part of it, has the wrong type, form or number of parts; is a number out of range; or
+    /// names no wheel, or no reflector of the model. Or a letter isn't on its pin wheel, or a pin is named
+    /// twice.
     BadValue(Key),
-    /// A letter lies in two places of the cables, or of the pairs.
+    /// A letter is in two places of the cables, or of the pairs.
     LetterTwice,
-    /// A wheel stands in two slots.
+    /// A wheel is in two slots.
     WheelTwice,
-    /// A wheel stands in a slot where the model does not take it.
+    /// A wheel is in a slot in which the model doesn't take it.
     WheelNotAllowed,
-    /// A bar has no standing, or a row no reading. Both are counted from 1.
+    /// This bar has no valid standing, or this row no valid reading. Bars and rows are counted from 1.
     BadRow(u8),
-    /// A day of a sheet has the number of an earlier one.
+    /// Two days of a sheet have this number.
     DayTwice(u8),
-    /// Memory ran out as the file was read.
+    /// Memory ran out while the file was read.
     NoMemory,
 }
 
 impl SheetFault {
-    /// The refusal's number and name, and behind these the key, the row or the day.
+    /// The refusal's number and name, followed by the key, the row or the day that the variant has.
     pub fn text(&self) -> Text
         ensures { result.bytes ≡ sheet_fault_text self.now }
     {

@@ -9,12 +9,12 @@ use kd_tables::{Standing, Wheel};
 /// The text of an array's item, at most 32 bytes.
 pub type Item = ArrayString<32>;
 
-/// A thing that is written as a text in an array.
+/// A value that is written as a text in an array.
 pub trait ItemText {
-    /// The bytes of this text.
+    /// The bytes of the value's text.
     ghost item_text: { Self → List ℕ };
 
-    /// Writes the thing as a text.
+    /// The value's text.
     fn item_text(&self) -> Item
         ensures { result.bytes ≡ item_text self.now };
 }

@@ -1,4 +1,4 @@
-//! Reading the items of an array one after another. A reading may depend on the items before.
+//! Reads the items of an array one after another. How an item is read may depend on the items before it.
 ghost use Rattle.std.specs.Prelude.{◌≡◌, ◌<◌, ◌≤◌, List, Result, IfOk, map, length};
 ghost use Rattle.toml.specs.{Data.{Data}, View.{view, table_view}};
 ghost use Rattle.kd_sheet.specs.Document.{in_turn, each_at, up_to, result_map};
@@ -10,7 +10,7 @@ use super::key::Key;
 use arrayvec::ArrayVec;
 use toml::{Table, Value};
 
-/// A type that an item of an array can be read as. `Given` is what reading needs beside the items.
+/// A type that an item of an array can be read as. `Given` is what this needs besides the items.
 pub trait FromItem<Given> {
     /// What an item is read as, after the items `before`: a value or a fault.
     ghost reading: { Given → List Self → Data → Result Self SheetFault };
@@ -21,7 +21,7 @@ pub trait FromItem<Given> {
         ensures { result ≡ reading given.now before.now (view item.now) };
 }
 
-/// Reads `items`, at most `N`.
+/// Reads all `items`, at most `N`, or returns the first fault.
 fn read_items<T: FromItem<G> + Copy + Default, G, const N: usize>(
     given: &G,
     items: &[Value],
@@ -39,7 +39,7 @@ fn read_items<T: FromItem<G> + Copy + Default, G, const N: usize>(
     Ok(values)
 }
 
-/// Reads the `count` items of the array at `key`. `BadValue` if there are more or fewer.
+/// Reads the items of the array at `key`. The fault is `BadValue(key)` unless there are `count` items.
 pub fn read_each<T: FromItem<G> + Copy + Default, G, const N: usize>(
     table: &Table,
     key: Key,
@@ -58,7 +58,7 @@ pub fn read_each<T: FromItem<G> + Copy + Default, G, const N: usize>(
     read_items(given, items)
 }
 
-/// Reads the items of the array `value`. `BadValue` of `key` if there are more than `N`.
+/// Reads the items of the array `value`. The fault is `BadValue(key)` if there are more than `N`.
 pub fn read_up_to<T: FromItem<()> + Copy + Default, const N: usize>(
     value: &Value,
     key: Key,

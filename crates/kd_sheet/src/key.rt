@@ -24,7 +24,7 @@ pub enum Key {
 }
 
 impl Key {
-    /// The key as it stands in a file.
+    /// The key's name in a file.
     pub fn name(self) -> &'static str
         ensures value { result.now ≡ key_name self }
         ensures short { length result.now ≤ 9 }

@@ -1,4 +1,4 @@
-//! Reads machine files.
+//! Reads machine files: their versions, models and parts.
 ghost use Rattle.std.specs.Prelude.{◌≡◌, ◌≤◌, ◌<◌, length};
 ghost use Rattle.toml.specs.View.{table_view};
 ghost use Rattle.kd_tables.specs.Tables.{box_of, slots_of};
@@ -25,7 +25,7 @@ use toml::Table;
 /// The latest version of machine files.
 const VERSION: u8 = 2;
 
-/// Reads the model by its name.
+/// Reads the model from its name.
 #[tactic(auto, unfolding(crate::specs::MachineFile::model_in))]
 pub fn model_in(table: &Table) -> Result<Model, SheetFault>
     ensures { result ≡ model_in (table_view table.now) }
@@ -47,7 +47,7 @@ fn reflector_by_name(model: Model, name: &str) -> Option<Reflector>
     None
 }
 
-/// Reads the reflector by its name.
+/// Reads the reflector from its name.
 #[tactic(auto, unfolding(crate::specs::MachineFile::reflector_in))]
 pub fn reflector_in(table: &Table, model: Model) -> Result<Reflector, SheetFault>
     ensures { result ≡ reflector_in model (table_view table.now) }
@@ -69,7 +69,7 @@ fn box_letters_in(table: &Table, key: Key, model: Model) -> Result<PerWheel<Lett
     Ok(PerWheel::new(letters.as_slice()).unwrap())
 }
 
-/// Reads the parts of a rotor machine, key by key. The first fault counts.
+/// Reads the parts of a rotor machine, key by key, or returns the first fault.
 #[tactic(auto, unfolding(crate::specs::MachineFile::rotor_parts_in))]
 fn rotor_parts_in(table: &Table, model: Model) -> Result<RotorParts, SheetFault>
     requires { 0 < slots_of model }
@@ -85,7 +85,7 @@ fn rotor_parts_in(table: &Table, model: Model) -> Result<RotorParts, SheetFault>
     })
 }
 
-/// Reads the parts of a Converter M-209, key by key. The first fault counts.
+/// Reads the parts of a Converter M-209, key by key, or returns the first fault.
 #[tactic(auto, unfolding(crate::specs::MachineFile::pin_parts_in))]
 fn pin_parts_in(table: &Table) -> Result<PinParts, SheetFault>
     ensures { result ≡ pin_parts_in (table_view table.now) }
@@ -110,7 +110,7 @@ fn parts_in(table: &Table, model: Model) -> Result<Machine, SheetFault>
     }
 }
 
-/// Reads the machine that a file's table describes, or its first fault. The M4 needs version 2.
+/// Reads the machine that a file's table describes, or returns the first fault. The M4 needs version 2.
 #[tactic(auto, unfolding(crate::specs::MachineFile::machine_in, crate::specs::MachineFile::version_in, crate::specs::MachineFile::known_model_in))]
 fn machine_in(table: &Table) -> Result<Machine, SheetFault>
     ensures { result ≡ machine_in (table_view table.now) }
@@ -122,10 +122,10 @@ fn machine_in(table: &Table) -> Result<Machine, SheetFault>
     }
 }
 
-/// Reads a machine file of version 1 or 2, or its first fault. The M4 needs version 2.
+/// Reads a machine file of version 1 or 2, or returns its first fault. The M4 needs version 2.
 ///
-/// `NoMemory` may come instead of any other answer. Only parsing the document takes memory, but no clause says
-/// that memory really ran out.
+/// `NoMemory` may come instead of any other answer. Only parsing the document allocates memory, but no clause
+/// says that memory really ran out.
 pub fn read_machine(alloc: Global, bytes: &[u8]) -> Result<Machine, SheetFault>
     ensures { Answers result (machine_of bytes.now) }
 {

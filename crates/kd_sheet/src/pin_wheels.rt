@@ -62,7 +62,7 @@ fn is_letter_of(ring: &[Letter], byte: u8) -> bool
     false
 }
 
-/// Whether `byte` stands exactly once in `text`.
+/// Whether `byte` occurs exactly once in `text`.
 fn stands_once(text: &[u8], byte: u8) -> bool
     ensures { result ≡ stands_once text.now byte }
 {

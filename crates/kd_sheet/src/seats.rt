@@ -18,7 +18,9 @@ fn wheel_by_name(name: &str) -> Option<Wheel>
     Wheel::from_text(name.as_bytes())
 }
 
-/// The wheel with the name `name`, if it may stand in the slot to the right of `slots`. `key` is for faults.
+/// The wheel with the name `name`, if it may be in the slot to the right of `slots`.
+///
+/// Otherwise the fault is `BadValue(key)`, `WheelNotAllowed` or `WheelTwice`.
 #[tactic(auto, using(crate::proofs::ReadBack::Described::Values::seating), unfolding(crate::specs::Seats::wheel_for))]
 fn wheel_for(
     key: Key,

@@ -9,10 +9,10 @@ use std::marker::Model;
 /// The number of days of the longest month.
 pub(crate) const DAYS: u8 = 31;
 
-/// A key sheet: a month of which some days have an entry. It takes no memory of its own.
+/// A key sheet: a month in which some days have an entry. It allocates nothing.
 #[derive(Drop)]
 pub struct Sheet {
-    /// Day `n` stands at index `n - 1`.
+    /// Day `n` is at index `n - 1`.
     days: [Option<SheetDay>; DAYS as usize],
 }
 
@@ -54,7 +54,7 @@ impl Sheet {
         days.get_mut(place)?.take()
     }
 
-    /// Puts `day` at its number.
+    /// Puts `day` into the sheet, in place of any day with this number.
     pub(crate) fn put(&mut self, day: SheetDay)
         ensures { self.new ≡ slice_set self.old (day_number day - 1) (Some day) }
     {

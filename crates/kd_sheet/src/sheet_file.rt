@@ -1,4 +1,4 @@
-//! Reads key sheets.
+//! Reads key sheets: a TOML document with an array of days.
 ghost use Rattle.std.specs.Prelude.{◌≡◌, map, List, IfOk};
 ghost use Rattle.toml.specs.View.{view, table_view};
 ghost use Rattle.kd_state.specs.SheetDay.{Day, IsDayNumber};
@@ -16,7 +16,7 @@ use kd_state::SheetDay;
 use std::alloc::Global;
 use toml::{Table, Value};
 
-/// Reads the day's number, or `DayTwice` if `sheet` has that day.
+/// Reads a day's number. The fault is `DayTwice` if `sheet` has this day already.
 #[tactic(auto, using(crate::proofs::ReadBack::Described::taken), unfolding(crate::specs::SheetFile::new_number_in, crate::specs::SheetFile::number_in))]
 fn new_number_in(sheet: &Sheet, table: &Table) -> Result<u8, SheetFault>
     ensures value { (days : List Day) → sheet.now ≡ month_of days
@@ -30,7 +30,7 @@ fn new_number_in(sheet: &Sheet, table: &Table) -> Result<u8, SheetFault>
     Ok(number)
 }
 
-/// Reads the day that `item` describes, or its first fault. `sheet` has the days before it.
+/// Reads the day that `item` describes, or returns its first fault. `sheet` has the days before it.
 #[tactic(auto, unfolding(crate::specs::SheetFile::day_for, crate::specs::SheetFile::day_in))]
 fn day_for(sheet: &Sheet, item: &Value) -> Result<SheetDay, SheetFault>
     ensures { (days : List Day) → sheet.now ≡ month_of days → result ≡ day_for days (view item.now) }
@@ -53,10 +53,10 @@ fn month_of_items(items: &[Value]) -> Result<Sheet, SheetFault>
     Ok(sheet)
 }
 
-/// Reads a key sheet, or its first fault.
+/// Reads a key sheet, or returns its first fault.
 ///
-/// `NoMemory` may come instead of any other answer. Only parsing the document takes memory, but no clause says
-/// that memory really ran out.
+/// `NoMemory` may come instead of any other answer. Only parsing the document allocates memory, but no clause
+/// says that memory really ran out.
 #[tactic(auto, unfolding(crate::specs::SheetFile::sheet_in))]
 pub fn read_sheet(alloc: Global, bytes: &[u8]) -> Result<Sheet, SheetFault>
     ensures { Answers result (sheet_of bytes.now) }

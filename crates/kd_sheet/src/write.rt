@@ -128,7 +128,8 @@ fn pin_machine_text(parts: &PinParts) -> Text
 
 /// Writes the file of `machine`: in version 2 for the M4, otherwise in version 1.
 ///
-/// On `Device` the sink has a prefix of the text. The whole text is read as the same machine.
+/// After `Device`, the sink has a prefix of the text. `read_machine` reads the whole text as the same
+/// machine.
 #[tactic(auto, using(crate::proofs::ReadBack::parts_are_read_back))]
 pub fn write_machine<W: Sink>(sink: &mut W, machine: &Machine) -> Result<(), Device>
     ensures text { Writes (W.taken sink.old) (W.taken sink.new) (machine_text machine.now) result }
