@@ -5,7 +5,7 @@ ghost use Rattle.kd_tables.specs.Ports.{Ends};
 use super::source::Source;
 use super::writing::Device;
 
-/// Reads one more byte, and returns whether there was none.
+/// Tries to read one more byte, and returns whether there is none.
 pub fn is_at_end<R: Source>(source: &mut R) -> Result<bool, Device>
     ensures ends { Ends (R.remaining source.old) (R.remaining source.new) result }
     ensures failed { R.has_failed source.new ≡ (R.has_failed source.old || is_err result) }

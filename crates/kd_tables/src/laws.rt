@@ -1,4 +1,4 @@
-//! Laws on tables, letters of pin wheels, permutations of the alphabet, orders, and the limit of a read.
+//! Laws of tables, pin wheels, permutations, the order of letters and readings, and the limit of a read.
 ghost use Rattle.std.specs.Prelude.{◌≡◌, ℕ};
 ghost use Rattle.std.specs.Ordering.{ordering_then, nat_cmp};
 ghost use Rattle.kd_tables.specs.Ports.{read_limit};
@@ -36,10 +36,10 @@ pub fn products_are_permutations()
     ensures shifts { ShiftsArePermutations }
 {}
 
-/// A permutation and its inverse, in either order, leave each letter.
+/// A permutation and its inverse, one after the other, map each letter to itself.
 ///
-/// The inverse of a product is the product of the inverses in the other order. The inverse of a shift by `k` is
-/// the shift by 26 - `k`.
+/// The inverse of a product is the product of the inverses in the other order. The inverse of a shift by `k`
+/// is the shift by 26 - `k`.
 #[tactic(auto, using(crate::proofs::Products::product_inverse, crate::proofs::Products::inverse_product, crate::proofs::Products::product_backwards, crate::proofs::Products::shift_backwards))]
 pub fn inverse_undoes()
     ensures after { InverseUndoesAfter }
@@ -48,7 +48,7 @@ pub fn inverse_undoes()
     ensures shifts { ShiftsBackwards }
 {}
 
-/// Letters of a pin wheel and their places lead back to one another.
+/// On a pin wheel, the letter at a place has this place, and the place of a letter has this letter.
 pub fn letters_and_places_undo()
     ensures places { LettersLeadToPlaces }
     ensures letters { PlacesLeadToLetters }
@@ -61,7 +61,7 @@ pub fn letters_and_readings_have_their_order()
         ≡ ordering_then (nat_cmp one.0 other.0) (nat_cmp one.1 other.1) }
 {}
 
-/// The limit of a read in the code is the one in the definitions.
+/// The limit of a read in the code is the limit in the definitions.
 pub fn the_limit_is_the_definitions()
     ensures { READ_LIMIT ≡ read_limit }
 {}

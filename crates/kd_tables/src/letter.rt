@@ -5,7 +5,7 @@ use std::marker::Model;
 
 /// For each place of the alphabet, the place after it.
 ///
-/// Each key press waits for this, and a table is faster than a comparison.
+/// Each key press waits for this step, and a table is faster than a comparison.
 static NEXT: [u8; 26] = [
     1, 2, 3, 4, 5, 6, 7, 8, 9, 10, 11, 12, 13, 14, 15, 16, 17, 18, 19, 20, 21, 22, 23, 24, 25, 0,
 ];
@@ -33,7 +33,7 @@ impl Letter {
     /// The first letter.
     pub const A: Letter = Letter { index: 0 };
 
-    /// The letter at place `index` of the alphabet, counted from 0, if there is one.
+    /// The letter at place `index` of the alphabet, counted from 0; `None` if `index` is above 25.
     pub const fn new(index: u8) -> Option<Self>
         ensures exists { IsSome result ↔ (index < 26) }
         ensures value { IfSome result (λ letter. letter ≡ index) }
@@ -91,7 +91,7 @@ impl Letter {
         }
     }
 
-    /// The letter `by` places on, where A is no place and B is one; A comes after Z.
+    /// The letter `by.index()` places further on in the alphabet, with A after Z.
     pub const fn forward(self, by: Letter) -> Letter
         ensures value { result ≡ (self + by) % 26 }
         ensures within { result < 26 }
@@ -101,7 +101,7 @@ impl Letter {
         }
     }
 
-    /// The letter `by` places back, where A is no place and B is one; Z comes before A.
+    /// The letter `by.index()` places further back in the alphabet, with Z before A.
     pub const fn back(self, by: Letter) -> Letter
         ensures value { result ≡ (self + (26 - by)) % 26 }
         ensures within { result < 26 }

@@ -1,4 +1,4 @@
-//! What a bar reads as.
+//! Readings: what the bars of the Converter M-209 read as.
 ghost use Rattle.std.specs.Prelude.{codes, ◌≡◌, ◌≢◌, ◌↔◌, [], ◌∷◌, ◌++◌, MatchOption, IsSome, IfSome};
 ghost use Rattle.kd_tables.specs.Places.{IsReading, in_order, reading_text};
 

@@ -37,7 +37,7 @@ macro_rules! names {
 }
 
 impl Reflector {
-    /// The reflector's name; that of a thin one is a small letter.
+    /// The reflector's name: a capital letter, or a small letter for a thin reflector.
     pub fn text(self) -> ArrayString<8>
         ensures { result.bytes ≡ reflector_text self }
     {
@@ -56,9 +56,9 @@ impl Reflector {
     }
 }
 
-/// The published wiring: for each letter, the one to which the reflector takes it.
+/// The published wiring: for each letter, the letter that the reflector turns it into.
 ///
-/// From Tony Sale's tables and those of the Crypto Museum.
+/// From the tables of Tony Sale and of the Crypto Museum.
 #[tactic(auto, unfolding(crate::specs::Tables::reflector_of))]
 pub fn reflecting(reflector: Reflector) -> [Letter; 26]
     ensures table { result ≡ reflector_of reflector }

@@ -26,7 +26,7 @@ pub enum Refusal {
     Device,
     /// The first line of a card isn't its head.
     BadHead,
-    /// A line doesn't have the form that its place wants.
+    /// A line doesn't have the form that its place requires.
     BadLine,
     /// A card has more than 192 settings.
     TooMany,
@@ -36,7 +36,7 @@ pub enum Refusal {
     CardCountWrong,
     /// Bytes follow the last line of a card.
     Trailing,
-    /// A machine refuses a line after it took the lines before it, for the given reason.
+    /// A machine refuses a line after it carried out the lines before it, for the given reason.
     IllegalAt,
     /// A card doesn't reach the day.
     NotTheSheet,
@@ -44,7 +44,7 @@ pub enum Refusal {
     PriceTooHigh,
     /// The sum of a card's prices isn't the number of its lines for cables or bars.
     SumDiffers,
-    /// A line of a card puts no loose thing right.
+    /// A line of a card isn't needed: after it, no fewer things differ from the day.
     NeedlessLine,
     /// A file isn't a TOML document.
     NotToml,
@@ -78,7 +78,7 @@ pub enum Refusal {
     WrongGroup,
     /// The internal key of a part needs more letters than its indicator has.
     IndicatorSpent,
-    /// A part has no heading.
+    /// A part doesn't begin with a heading of the day's model.
     BadHeading,
     /// The number of letters of a part isn't the one in its heading.
     PartCountWrong,

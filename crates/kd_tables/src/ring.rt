@@ -1,4 +1,4 @@
-//! The letters of the pin wheels.
+//! The letters of the Converter's six pin wheels.
 ghost use Rattle.std.specs.Prelude.{◌≡◌, ◌↔◌, ◌<◌, ◌≤◌, length, slice_index, Contains, Some, IsSome, IfSome};
 ghost use Rattle.kd_tables.specs.Rings.{ring_of, place_on, IsRing};
 

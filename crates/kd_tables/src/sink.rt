@@ -1,4 +1,4 @@
-//! What bytes are written to.
+//! The trait of sinks, to which bytes are written.
 ghost use Rattle.std.specs.Prelude.{◌≡◌, ℕ, ◌≤◌, ◌||◌, Bool, List, [], take, Option, Some, None, is_err, length};
 ghost use Rattle.kd_tables.specs.Ports.{Puts};
 

@@ -1,4 +1,4 @@
-//! What bytes are read from.
+//! The trait of sources, from which bytes are read.
 ghost use Rattle.std.specs.Prelude.{◌≡◌, ℕ, ◌≤◌, ◌||◌, Bool, List, [], drop, Option, Some, None, is_err, length};
 ghost use Rattle.kd_tables.specs.Ports.{Gets};
 
@@ -14,9 +14,9 @@ pub trait Source {
 
     /// Puts the next bytes into a prefix of `buffer`, and returns the length of this prefix.
     ///
-    /// The length is 0 only at the end, or if `buffer` is empty. A get that returns `Failed` has given no byte,
-    /// so each of them is still to come. The rest of the buffer may change, and so may all of it if the get
-    /// fails: callers can't rely on it.
+    /// The length is 0 only at the end of the source, or if `buffer` is empty. A get that returns `Failed`
+    /// has given no byte, and loses none. The buffer's bytes after the prefix may change; if the get fails,
+    /// any of its bytes may.
     fn get(&mut self, buffer: &mut [u8]) -> Result<usize, Failed>
         ensures bytes { Gets (remaining self.old) (remaining self.new) buffer.new result }
         ensures failed { has_failed self.new ≡ (has_failed self.old || is_err result) };

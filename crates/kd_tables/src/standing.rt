@@ -1,4 +1,4 @@
-//! How a bar stands.
+//! Standings: the places of a bar's two lugs.
 ghost use Rattle.std.specs.Prelude.{◌≡◌, ◌≢◌, ◌↔◌, ◌==◌, MatchOption, IsSome, IfSome};
 ghost use Rattle.std.specs.List.{position};
 ghost use Rattle.kd_tables.specs.Places.{IsBefore, reading_of, standing_text, AreNames};
@@ -78,7 +78,7 @@ impl Standing {
         Reading::new(self.left.number(), self.right.number()).unwrap()
     }
 
-    /// The place of the left lug and that of the right lug, with `-` between them.
+    /// The names of the left lug's place and of the right lug's place, with `-` between them.
     pub fn text(self) -> ArrayString<8>
         ensures { result.bytes ≡ standing_text self }
     {
@@ -89,7 +89,7 @@ impl Standing {
         text
     }
 
-    /// Parses a standing.
+    /// Parses a standing: the names of two places, with `-` between them.
     pub fn from_text(text: &[u8]) -> Option<Self>
         ensures value { MatchOption result
             ((places : _) → IsBefore places.0 places.1 → standing_text places ≢ text.now)

@@ -7,10 +7,10 @@ ghost use Rattle.kd_tables.specs.WiringText.{are_capitals, is_permutation, is_ri
 
 use super::letter::Letter;
 
-/// Makes the table of a part from its published text, whose first letter is what A becomes.
+/// Makes the table of `$part` from its published text. The text's first letter is what A becomes.
 ///
-/// `letters` makes the table of the text, `letters_back` its inverse, and `reflection` the table of a
-/// reflector. What each of them requires of the text is proved when the program is checked.
+/// `$make` is `letters` for the table, `letters_back` for its inverse, or `reflection` for a reflector's
+/// table. What these functions require of the text is proved when the program is checked.
 macro_rules! wiring {
     ($make:ident, $part:expr, { $($variant:path => $text:literal,)* }) => {
         match $part {

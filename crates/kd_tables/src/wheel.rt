@@ -33,7 +33,7 @@ pub enum Wheel {
     Gamma,
 }
 
-/// Makes a table of the published wirings of wheels.
+/// Makes a table from the published wiring of `$wheel`, by the function `$make`.
 macro_rules! wirings {
     ($make:ident, $wheel:expr) => {
         wiring!($make, $wheel, {
@@ -89,9 +89,10 @@ impl Wheel {
     }
 }
 
-/// The published wiring: what each letter becomes on the way in, from right to left, with ring A and window A.
+/// The published wiring: what each letter becomes on the way in, from right to left, with ring A and window
+/// A.
 ///
-/// From Tony Sale's tables and those of the Crypto Museum, for the wheels of the Wehrmacht and the
+/// From the tables of Tony Sale and of the Crypto Museum, for the wheels of the Wehrmacht and the
 /// Kriegsmarine.
 #[tactic(auto, unfolding(crate::specs::Tables::wiring_of))]
 pub fn wiring(wheel: Wheel) -> [Letter; 26]
@@ -110,8 +111,8 @@ pub fn unwiring(wheel: Wheel) -> [Letter; 26]
 
 /// Whether the wheel is at a published notch while `window` shows. The ring makes no difference.
 ///
-/// At its next step, a wheel at a notch takes the wheel to its left along, if that one can turn. Some wheels
-/// have two notches, and Beta and Gamma have none.
+/// At its next step, a wheel at a notch moves the wheel to its left too, if the left wheel can turn. Some
+/// wheels have two notches, and Beta and Gamma have none.
 pub fn notched(wheel: Wheel, window: Letter) -> bool
     ensures { result ≡ is_notch wheel window }
 {
