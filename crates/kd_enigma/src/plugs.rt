@@ -24,7 +24,7 @@ impl LetterTwice {
     }
 }
 
-/// A plugboard: for each letter, the one that it is exchanged for, or the letter itself.
+/// A plugboard: for each letter, the letter that it is exchanged for, or itself.
 #[derive(Clone, Copy)]
 pub struct Plugs {
     table: [Letter; 26],
@@ -44,9 +44,10 @@ impl Model for Plugs {
 }
 
 impl Plugs {
-    /// Makes the plugboard that exchanges the two letters of each pair. The order makes no difference.
+    /// Makes the plugboard that exchanges the two letters of each pair.
     ///
-    /// Refused with `LetterTwice` if a letter occurs in two pairs, or twice in one.
+    /// The order of the pairs makes no difference. The fault is `LetterTwice` if a letter occurs in two
+    /// pairs, or twice in one pair.
     pub fn from_pairs(pairs: &[(Letter, Letter)]) -> Result<Plugs, LetterTwice>
         ensures ok { IsOk result ↔ NoLetterTwice pairs.now }
         ensures value { IfOk result (λ plugs. plugs ≡ exchange pairs.now) }
@@ -61,7 +62,7 @@ impl Plugs {
         Ok(Plugs { table })
     }
 
-    /// The letter for which `letter` is exchanged.
+    /// The letter that `letter` is exchanged for.
     pub fn swap(self, letter: Letter) -> Letter
         ensures value { result ≡ slice_index self letter }
         ensures within { result < 26 }
@@ -78,7 +79,7 @@ impl Plugs {
     }
 }
 
-/// Exchanges two letters, if they differ and are free, and returns whether it did.
+/// Exchanges `one` and `other`, if they differ and are not exchanged yet; returns whether it did.
 fn plug(table: &mut [Letter; 26], one: Letter, other: Letter) -> bool
     ensures can { IsTrue result ↔ (one ≢ other) × IsLeft table.old one × IsLeft table.old other }
     ensures after { IsTrue result → table.new ≡ slice_set (slice_set table.old one other) other one }

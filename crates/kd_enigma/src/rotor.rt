@@ -62,7 +62,7 @@ impl Rotor {
     }
 }
 
-/// Turns `map` as the wheel turns that has this ring and shows the letter at place `window`.
+/// The permutation of a wheel with the wiring `map` and the ring `ring`, while letter `window` shows.
 #[tactic(auto, unfolding(crate::specs::Rotor::turned))]
 fn turned(map: Map, ring: Letter, window: usize) -> Map
     requires { window < 26 }
