@@ -1,4 +1,4 @@
-//! The pins of all six wheels.
+//! PinSet: the pins of all six wheels.
 ghost use Rattle.std.specs.Prelude.{◌≡◌, ◌↔◌, IsTrue};
 
 /// Which pins of the Converter's six wheels are effective: one entry for each letter of a wheel, from A on.

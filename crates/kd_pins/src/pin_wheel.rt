@@ -24,8 +24,8 @@ impl NotOnWheel {
 
 /// A pin wheel: letters in the wheel's own order, which may lack some of the alphabet, and a pin beside each.
 ///
-/// The place of the acting pin is kept instead of that of the letter shown, because each key press needs the
-/// pin.
+/// The place of the acting pin is kept, and not the place of the letter shown, because each key press needs
+/// the pin.
 #[derive(Clone, Copy)]
 pub struct PinWheel<const N: usize> {
     ring: Ring<N>,
@@ -161,7 +161,7 @@ impl<const N: usize> PinWheel<N> {
 
 /// The place after `place`, with 0 after the last one.
 ///
-/// A comparison is faster than a division, and each key press waits for it.
+/// A comparison is faster than a division, and each key press waits for the result.
 fn next_place(place: usize, size: usize) -> usize
     requires { place < size }
     ensures { result ≡ place_past size place 1 }
