@@ -40,7 +40,7 @@ impl Model for Converter {
 impl Converter {
     /// Sets up the machine with these pins, shown letters and readings of its bars.
     ///
-    /// Refused with `NotOnWheel` if one of `letters` isn't on its wheel.
+    /// Returns `NotOnWheel` if one of `letters` isn't on its wheel.
     pub fn new(
         pins: PinSet,
         letters: [Letter; 6],
@@ -66,7 +66,7 @@ impl Converter {
 
     /// Turns the wheels so that they show `letters`, from wheel 1 to wheel 6.
     ///
-    /// Refused if one of them isn't on its wheel; then no wheel is turned.
+    /// If one of `letters` isn't on its wheel, returns `NotOnWheel` and turns no wheel.
     pub fn turn_to(&mut self, letters: [Letter; 6]) -> Result<(), NotOnWheel>
         ensures ok { IsOk result ↔ OnWheels letters }
         ensures turned { OnOk result (self.new ≡ pin_key_turned self.old letters) }
@@ -144,8 +144,8 @@ impl Converter {
         ]
     }
 
-    /// The set of wheels with an effective acting pin: wheel 1 counts 1, wheel 2 counts 2, up to 32 for wheel
-    /// 6.
+    /// The set of wheels with an effective acting pin, as a sum: 1 for wheel 1, 2 for wheel 2, up to 32 for
+    /// wheel 6.
     fn acting(&self) -> usize
         ensures set { result < 64 }
         ensures each { (wheel : _) → is_in result wheel ≡ acts_after self.now 0 wheel }

@@ -6,7 +6,7 @@ use kd_tables::Reading;
 
 /// Counts the bars that are met, for each set of wheels with an effective acting pin.
 ///
-/// In the number of a set, wheel 1 counts 1, wheel 2 counts 2, and so on up to 32 for wheel 6.
+/// A set is a sum: 1 for wheel 1, 2 for wheel 2, and so on up to 32 for wheel 6.
 pub(crate) fn counts(rows: &[Reading; 27]) -> [u8; 64]
     ensures { AreCounts rows.now result }
 {
@@ -17,7 +17,7 @@ pub(crate) fn counts(rows: &[Reading; 27]) -> [u8; 64]
     counts
 }
 
-/// Counts the bars that are met while the acting pins of these wheels are effective.
+/// Counts the bars that are met while the acting pins of the set `wheels` are effective.
 fn met_by(rows: &[Reading; 27], wheels: usize) -> u8
     ensures { result ≡ met_by rows.now wheels }
 {
@@ -30,7 +30,7 @@ fn met_by(rows: &[Reading; 27], wheels: usize) -> u8
     met
 }
 
-/// Whether a lug of a bar with this reading is at the number of a wheel in the set.
+/// Whether a bar that reads as `row` has a lug at a wheel of the set `wheels`.
 fn is_met(row: Reading, wheels: usize) -> bool
     ensures { result ≡ (is_in wheels row.0 || is_in wheels row.1) }
 {
@@ -38,7 +38,7 @@ fn is_met(row: Reading, wheels: usize) -> bool
     is_in(wheels, smaller) || is_in(wheels, larger)
 }
 
-/// Whether there is a wheel with this number, and it is in the set.
+/// Whether `wheel` is from 1 to 6 and in the set `wheels`.
 fn is_in(wheels: usize, wheel: u8) -> bool
     ensures { result ≡ is_in wheels wheel }
 {
