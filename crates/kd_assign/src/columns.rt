@@ -1,4 +1,4 @@
-//! What follows from a finished assignment: each row's column, its price, and the cost.
+//! What follows from a finished assignment: each row's column, each row's price, and the cost.
 ghost use Rattle.std.specs.Prelude.{◌≡◌, ℕ, ◌<◌, ◌≤◌, length, slice_index, pos, neg_ℤ, ◌-ℤ◌, ◌≤ℤ◌};
 ghost use Rattle.kd_assign.specs.Assignment.{IsOneToOne, assignment_cost};
 ghost use Rattle.kd_assign.specs.Prices.{CostsAtMost, cost_at, price_at};

@@ -1,4 +1,4 @@
-//! Growing a tree that gives one more row a column.
+//! Gives one more row a column, by growing a tree of rows and columns.
 ghost use Rattle.std.specs.Prelude.{◌≡◌, ℕ, ◌+◌, ◌^◌, ◌<◌, ◌≤◌, length, ℤ, pos, neg_ℤ, ◌+ℤ◌, ◌-ℤ◌, ◌≤ℤ◌};
 ghost use Rattle.std.specs.Int.{int_min};
 ghost use Rattle.kd_assign.specs.Prices.{CostsAtMost, price_at};
@@ -10,9 +10,9 @@ use crate::scans::Scans;
 
 /// Gives the row `root` a column, and moves other rows where this costs the least.
 ///
-/// A tree of rows and columns grows from `root`. In each round the nearest column joins, and the row that holds
-/// this column. A free column ends the growth. For each row of the tree, `plans` keeps an assignment that
-/// leaves only this row without a column.
+/// A tree of rows and columns grows from `root`. In each round the nearest column joins the tree, and then
+/// the row that holds this column. A free column ends the growth. For each row of the tree, `plans` keeps an
+/// assignment that leaves only this row without a column.
 pub fn assign_row<const N: usize>(
     cost: &[[u8; N]; N],
     prices: &mut [i16; N],
@@ -56,7 +56,7 @@ pub fn assign_row<const N: usize>(
     }
 }
 
-/// Lowers the price of each column to its ceiling less `by`, if the price is above that.
+/// Lowers each column's price to its ceiling less `by`, if the price is higher.
 fn lower<const N: usize>(prices: &mut [i16; N], ceilings: &[i16; N], by: i16)
     requires low { (j : ℕ) → j < N → neg_ℤ (pos 128) ≤ℤ price_at ceilings.now j }
     requires by { pos 0 ≤ℤ by }

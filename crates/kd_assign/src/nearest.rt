@@ -11,10 +11,10 @@ use crate::scans::Scans;
 #[derive(Drop)]
 pub struct Nearest<const N: usize> {
     pub row: [usize; N],
-    /// The price at which this row would take each column.
+    /// The ceiling of each column: the price at which its nearest row would take it.
     ///
-    /// A column is nearest if its price lies least below its ceiling. All ceilings are too high by one amount,
-    /// which is known once the tree reaches a free column.
+    /// The nearest column is the one whose price is least below its ceiling. All ceilings are too high by one
+    /// amount, which is known once the tree reaches a free column.
     pub ceiling: [i16; N],
 }
 
@@ -85,9 +85,9 @@ impl<const N: usize> Nearest<N> {
         self.ceiling[column] - prices[column]
     }
 
-    /// What `row` adds to each of its costs as it joins the tree by its own `column`.
+    /// The number that `row` adds to each of its costs when it joins the tree with its `column`.
     ///
-    /// The cost of `row` at `column`, plus this level, is the ceiling of `column`.
+    /// The cost of `row` at `column`, plus this number, is the ceiling of `column`.
     pub fn level(&self, cost: &[[u8; N]; N], row: usize, column: usize) -> i16
         requires row { row < N }
         requires column { column < N }
@@ -119,10 +119,10 @@ impl<const N: usize> Nearest<N> {
         least.unwrap()
     }
 
-    /// The nearer one of `first` and `second` if `second` is outside the tree, otherwise `first`.
+    /// The nearer of `first` and `second` if `second` is outside the tree, otherwise `first`.
     ///
-    /// The contract doesn't say which one if both are equally near. A free column serves better, since the tree
-    /// ends there.
+    /// If both are equally near, a free `second` is taken, since the tree ends at a free column. The contract
+    /// leaves this choice open.
     fn nearer(
         &self,
         reached: &[bool; N],

@@ -1,9 +1,9 @@
-//! A counter of comparisons, which only a comparison raises.
+//! Scans: a counter of comparisons, which only a comparison raises.
 ghost use Rattle.std.specs.Prelude.{◌≡◌, ℕ, ◌+◌, ◌<◌, ◌↔◌, IsTrue, ◌<ℤ◌};
 
 use std::marker::Model;
 
-/// How many slacks have been compared.
+/// How many comparisons have been made.
 ///
 /// The field is private to this module, so that no other module can set the count by a formula.
 #[derive(Clone, Copy)]
