@@ -45,13 +45,13 @@ pub fn months_are_fewest()
 
 /// The owner of ten cables, or of any other number, never needs one more.
 ///
-/// If a machine uses only its first ten cables, and no day has more than ten pairs, no card of the month
-/// names another cable, and the machine never uses one.
+/// Say that a machine uses only its first ten cables, and no day has more than ten pairs. Then no card of the
+/// month names another cable, and the machine never uses one.
 pub fn few_cables_serve_a_month()
     ensures { FewCablesServeAMonth }
 {}
 
-/// Every month can be written: each of the sheet's days of the machine's model has a card and a machine file.
+/// Each of the sheet's days of the machine's model has a card and a machine file.
 pub fn months_can_be_written(machine: &Machine, sheet: &Sheet, numbers: &[u8])
     requires { All (HasDayOf (model_of machine.now) sheet.now) numbers.now }
     ensures { HasPapersInTurn machine.now sheet.now numbers.now }

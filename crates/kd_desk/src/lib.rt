@@ -1,4 +1,4 @@
-//! The calls of the key desk: type a text, print and check cards, carry settings out, send and receive messages.
+//! Calls of the key desk: type a text, print and check cards, apply settings, send and receive messages.
 //!
 //! `run_desk` is the whole program, from its command line to its output.
 #![tactic(auto)]

@@ -19,8 +19,8 @@ use std::alloc::Global;
 /// Checks that `card` is shortest from the machine in `machine` to day `number` of `sheet`.
 ///
 /// If the card's prices prove it shortest, writes SHORTEST and its number of settings, whoever made the card.
-/// The machine file's faults come first, then the sheet's, then `NoSuchDay`, then the card's, then
-/// `OtherDay`, then the first reason why the card doesn't prove itself. After each of these, nothing is
+/// The machine file's faults come first, then the sheet's, then `NoSuchDay`, the card's faults and
+/// `OtherDay`. The first reason why the card doesn't prove itself comes last. After each of these, nothing is
 /// written. After `Device`, a prefix of the line is written.
 pub fn run_check<W: Sink>(
     alloc: Global,

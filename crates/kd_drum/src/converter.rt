@@ -144,8 +144,9 @@ impl Converter {
         ]
     }
 
-    /// The set of wheels with an effective acting pin, as a sum: 1 for wheel 1, 2 for wheel 2, up to 32 for
-    /// wheel 6.
+    /// The set of wheels with an effective acting pin.
+    ///
+    /// The set is a sum: 1 for wheel 1, 2 for wheel 2, and so on up to 32 for wheel 6.
     fn acting(&self) -> usize
         ensures set { result < 64 }
         ensures each { (wheel : _) → is_in result wheel ≡ acts_after self.now 0 wheel }

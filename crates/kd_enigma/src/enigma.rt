@@ -121,8 +121,8 @@ impl<const S: usize> Enigma<S> {
 
     /// Steps the wheels, and updates the permutations that depend on them.
     ///
-    /// The permutation of the slow wheels changes only if the second wheel from the right has moved, because this
-    /// wheel moves whenever one to its left does.
+    /// The permutation of the slow wheels changes only if the second wheel from the right has moved. This
+    /// wheel moves whenever a wheel to its left does.
     fn step(&mut self)
         ensures { self.new ≡ key_after self.old 1 }
     {

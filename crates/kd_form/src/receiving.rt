@@ -37,10 +37,11 @@ pub fn receive(
 
 /// Reads a form from `source`, and writes its text to `sink`, part by part.
 ///
-/// It holds at most one part, and takes no memory. `NotReady` and `NotOnKey` come before anything is read. A
-/// fault that further bytes can't change comes before `ReadTooLong`, and before `Device` if the source fails;
-/// the other faults come at the end of the form. The texts of the parts before the fault are written by then.
-/// `ReadTooLong` means that the source has more than `READ_LIMIT` bytes, `Device` that a get or a put failed.
+/// It holds at most one part, and allocates nothing. `NotReady` and `NotOnKey` come before anything is read.
+/// A fault that further bytes can't change comes before `ReadTooLong`, and before `Device` if the source
+/// fails; the other faults come at the end of the form. The texts of the parts before the fault are written
+/// by then. `ReadTooLong` means that the source has more than `READ_LIMIT` bytes, `Device` that a get or a
+/// put failed.
 #[tactic(auto, using(crate::proofs::OneText::off_key, crate::proofs::OneText::form_told))]
 pub fn receive_stream<R: Source, W: Sink>(
     machine: &Machine,

@@ -22,10 +22,10 @@ impl NotOnWheel {
     }
 }
 
-/// A pin wheel: letters in the wheel's own order, which may lack some of the alphabet, and a pin beside each.
+/// A pin wheel: its letters, in the wheel's own order, with a pin beside each letter.
 ///
-/// The place of the acting pin is kept, and not the place of the letter shown, because each key press needs
-/// the pin.
+/// The wheel may lack some letters of the alphabet. The place of the acting pin is kept, and not the place of
+/// the letter shown, because each key press needs the pin.
 #[derive(Clone, Copy)]
 pub struct PinWheel<const N: usize> {
     ring: Ring<N>,

@@ -80,9 +80,9 @@ impl SheetDay {
 
     /// Creates a day of the Converter M-209.
     ///
-    /// `rows` are the readings asked of the bars, `pins` the effective pins, `window` the letter of each wheel,
-    /// and `list` the two letters of the key list. `None` if the day isn't from 1 to 31, or a letter isn't on
-    /// its wheel.
+    /// `rows` are the readings asked of the bars, and `pins` the effective pins. `window` has the letter of
+    /// each wheel, and `list` the two letters of the key list. `None` if the day isn't from 1 to 31, or a
+    /// letter isn't on its wheel.
     pub fn pin(
         day: u8,
         rows: [Reading; 27],

@@ -28,8 +28,9 @@ impl Model for Reading {
 }
 
 impl Reading {
-    /// Makes a reading of two numbers in either order; `None` if one is above 6, or if they are equal and above
-    /// 0.
+    /// Makes a reading of two numbers, in either order.
+    ///
+    /// `None` if one is above 6, or if they are equal and above 0.
     pub fn new(a: u8, b: u8) -> Option<Self>
         ensures exists { IsSome result ↔ IsReading (in_order a b) }
         ensures value { IfSome result (λ reading. reading ≡ in_order a b) }

@@ -8,7 +8,7 @@ use super::reading::Reading;
 use arrayvec::ArrayString;
 use std::marker::Model;
 
-/// How a bar of the Converter M-209 stands: the places of its two lugs, the left lug's before the right lug's.
+/// How a bar of the Converter M-209 stands: the places of its left lug and its right lug, in this order.
 #[derive(Clone, Copy, PartialEq, Eq)]
 pub struct Standing {
     left: Place,

@@ -89,11 +89,10 @@ impl Wheel {
     }
 }
 
-/// The published wiring: what each letter becomes on the way in, from right to left, with ring A and window
-/// A.
+/// The published wiring: what each letter becomes on the way in, with ring A and window A.
 ///
-/// From the tables of Tony Sale and of the Crypto Museum, for the wheels of the Wehrmacht and the
-/// Kriegsmarine.
+/// The way in leads from right to left. From the tables of Tony Sale and of the Crypto Museum, for the wheels
+/// of the Wehrmacht and the Kriegsmarine.
 #[tactic(auto, unfolding(crate::specs::Tables::wiring_of))]
 pub fn wiring(wheel: Wheel) -> [Letter; 26]
     ensures { result ≡ wiring_of wheel }

@@ -22,7 +22,9 @@ impl Device {
     }
 }
 
-/// Puts all `bytes` into `sink`, with as many puts as it needs. A sink that fails has taken a prefix of them.
+/// Puts all `bytes` into `sink`, with as many puts as it needs.
+///
+/// A sink that fails has taken a prefix of `bytes`.
 #[tactic(auto, using(crate::proofs::Taken::takes_more, crate::proofs::Taken::still_failed))]
 pub fn put_all<W: Sink>(sink: &mut W, bytes: &[u8]) -> Result<(), Device>
     ensures text { Writes (W.taken sink.old) (W.taken sink.new) bytes.now result }
