@@ -23,7 +23,7 @@ use Rattle.kd_form.specs.declared.form_reader.Stage.TheVariants as stages
 
 -- -------- the body of a part, byte by byte
 
--- keeping up to a length before more is appended makes no difference
+-- cutting a list to `n` items before appending more doesn't change the first `n` items of the result
 pub take_kept : (n : ℕ) (xs ys : List ℕ) → take n (take n xs ++ ys) ≡ take n (xs ++ ys)
 take_kept n xs ys =
     grind (arith, cases_lt, take-append-le {A = ℕ}, length-take {A = ℕ}, take-take {A = ℕ}, take_all {A = ℕ})
@@ -48,7 +48,7 @@ first_longer part line body byte first =
       without = first.without;
     }
 
--- the last line with one more byte
+-- one more byte makes the last line longer; an LF begins an empty one
 tail_more : (line body first now : List ℕ) (byte : ℕ) → HasTail line body first → (byte ≡ 10 → now ≡ [])
     → (byte ≢ 10 → now ≡ take 6 (first ++ byte ∷ [])) → HasTail line (body ++ byte ∷ []) now
 tail_more line body first now byte was ends longer = elim (cases_eq byte 10) [
@@ -97,7 +97,7 @@ body_more s b new part body byte letter same told more ends longer allowed holds
 
 -- ---- the letters of a whole body
 
--- without the `others` last ones, the kept letters are the body's, or both are more than a body may have
+-- the kept letters without the last `others` are the body's letters, or both have more than 520
 are_shown : (others : ℕ) (kept shown letters more : List ℕ) → others ≤ 4 → length more ≡ others
     → kept ≡ take 525 (letters ++ more)
     → shown ≡ take (length kept - others) kept → (shown ≡ letters) ⊎ ((521 ≤ length shown) × (521 ≤ length letters))
@@ -118,12 +118,12 @@ body_heading : (s : Day) (b : PartBody) (part body : List ℕ) → HoldsBody s b
 body_heading s b part body holds =
     record { is_heading = holds.is_heading; first = inl (holds.line, holds.first, holds.text) }
 
--- `P` holds of the body's letters, if `others` letters more are kept
+-- `P` holds of the body's letters if the last `others` letters read belong to the next heading
 abbrev pub IsSaid : PartBody → ℕ → (List ℕ → Type 0) → Type 0
 IsSaid b others P =
     (letters more : List ℕ) → length more ≡ others → b.letters.items ≡ take 525 (letters ++ more) → P letters
 
--- the body of a whole part, which is the next one; the letters `more` are kept after its own
+-- the part with this number is complete; the letters `more` of the next heading are kept after its body
 pub record IsNext (s : Day) (b : PartBody) (number : ℕ) (expected : Option ℕ) (part body more : List ℕ) : Type 0 where
   pub has : HasHeading s part b.heading body
   pub numbered : b.heading.part ≡ number
@@ -142,7 +142,7 @@ module _ (s : Day) (b : PartBody) (number : ℕ) (expected : Option ℕ) (part b
       → (start : ℕ) → IsPartFault s number expected start part fault
   next_refused fault told start = grind (arith, told (letters_from None body) more refl next.kept)
 
--- the fault of a heading line, where the form ends in it or an LF has come
+-- a missing or wrong heading is an early fault of its part
 pub off : (s : Day) (number : ℕ) (expected : Option ℕ) (start : ℕ) (part : List ℕ) (found : Option Heading)
     (fault : FormFault)
     → MatchOption found ((h : Heading) (body : List ℕ) → ¬ (HasHeading s part h body)) (λ h. HasHeading s part h [])
@@ -180,7 +180,7 @@ module _ (s : Day) (r : FormReader) (form text : List ℕ) (h : HoldsForm s r fo
   abbrev pub here : Place
   here = place_of r h.front
 
-  -- what holds of the last part with more bytes holds of the form with them
+  -- if the last part with more bytes is read up to `B`, so is the whole form with these bytes
   pub reaches : (B : OfRest) (more made letters : List ℕ) (parts : List (List ℕ)) → parts_of (h.last ++ more) ≡ parts
       → ReadsTo s B here parts letters → made ≡ given_letters s letters → IsReadTo s B (form ++ more) (text ++ made)
   reaches B more made letters parts are reads given = (
@@ -197,7 +197,7 @@ module _ (s : Day) (r : FormReader) (form text : List ℕ) (h : HoldsForm s r fo
   abbrev IsHere : OfRest
   IsHere p parts = (p ≡ here) × (parts ≡ h.last ∷ [])
 
-  -- the part that is held isn't refused, and parts that are read don't go past it
+  -- no fault stands at the part that is held, and parts that are read end before it
   never_refused : (fault : FormFault) (p : Place) (parts : List (List ℕ)) → IsHere p parts
       → ¬ (StandsAt s fault p parts)
   never_refused fault p parts (there, alone) stands =
@@ -243,7 +243,7 @@ refused s form text fault found = record {
 abbrev pub IsDigitDue : PartBody → ℕ → Type 0
 IsDigitDue b byte = (b.line.items ≡ codes "PART ") × (48 ≤ byte) × (byte ≤ 57)
 
--- the part, divided before its last line
+-- the part, divided at the LF before its last line
 by_lines : (s : Day) (b : PartBody) (part body : List ℕ) (holds : HoldsBody s b part body)
     → part ≡ holds.last.front ++ 10 ∷ holds.last.tail
 by_lines s b part body holds =
@@ -256,13 +256,13 @@ by_lines s b part body holds =
       append_assoc tail.front (10 ∷ []) tail.tail,
     )
 
--- if the byte isn't such a digit, the part goes on
+-- a byte that isn't the digit of the next heading belongs to the part
 pub goes_on : (s : Day) (b : PartBody) (part body : List ℕ) (byte : ℕ) → HoldsBody s b part body → (cut part).1 ≡ []
     → ¬ (IsDigitDue b byte) → cut (part ++ byte ∷ []) ≡ (part ++ byte ∷ [], [])
 goes_on s b part body byte holds none not =
     grind (arith, by_lines s b part body holds, append_assoc, first_more holds.last.front holds.last.tail byte)
 
--- the body without the five bytes `PART `, and the letters that these give
+-- the part without its last five bytes `PART ` is complete, and the letters PART are kept
 record Settled (s : Day) (b : PartBody) (number : ℕ) (expected : Option ℕ) (part : List ℕ)
     (mine : HoldsPart s b number expected part) : Type 0 where
   split : part ≡ mine.holds.last.front ++ 10 ∷ codes "PART "
@@ -296,7 +296,7 @@ settled s b number expected part mine begun =
 
 -- ---- one more byte of a form that is held
 
--- the reader after one more byte
+-- the reader at `stage`, after one more byte
 abbrev pub behind : FormReader → Stage → FormReader
 behind r stage = record r { position = r.position + 1; stage = stage }
 
@@ -304,14 +304,14 @@ module _ (s : Day) (r : FormReader) (form text : List ℕ) (h : HoldsForm s r fo
   pub in_stage : (stage : Stage) → r.stage ≡ stage → HoldsStage s stage r.number r.expected h.last
   in_stage stage is = subst (λ st. HoldsStage s st r.number r.expected h.last) is h.stage
 
-  -- one more byte of the same part
+  -- after one more byte of the current part, the reader holds the form with this byte
   pub grows : (stage : Stage) (made : List ℕ) (byte : ℕ) → made ≡ []
       → cut (h.last ++ byte ∷ []) ≡ (h.last ++ byte ∷ [], [])
       → HoldsStage s stage r.number r.expected (h.last ++ byte ∷ [])
       → HoldsForm s (behind r stage) (form ++ byte ∷ []) (text ++ made)
   grows stage made byte none one there = grind (arith, append_assoc, append-nil, length-append)
 
-  -- with more bytes, a part is refused
+  -- if a fault stands at the last part with more bytes, the form with these bytes is refused
   pub refused_at : (fault : FormFault) (more part : List ℕ) (others : List (List ℕ))
       → cut (h.last ++ more) ≡ (part, others)
       → StandsAt s fault (here s r form text h) (part ∷ others) → IsRefused (form_message s) (form ++ more) text fault
@@ -393,7 +393,7 @@ module _ (s : Day) (r : FormReader) (form text : List ℕ) (h : HoldsForm s r fo
     next_last = grind (arith, body_heading, append-nil, letters_from)
 
     module _ (given : List ℕ) (told : IsSaid b 0 (λ letters. IsBodyGiven s b.heading letters given)) where
-      -- the last part is read, and `B` holds of the rest
+      -- at the end of the form, the last part is read, and the form is read up to `B`
       ends_read : (B : OfRest) → B (place_behind (here s r form text h) b.heading.parts h.last) []
           → IsReadTo s B form (text ++ given)
       ends_read B so =

@@ -22,8 +22,8 @@ use Rattle.kd_form.proofs.{Lines.AreAllowed, Lines.without, OneOrder.all_of_the_
 abbrev pub AreOfTheAlphabet : List ℕ → Type 0
 AreOfTheAlphabet letters = All (λ letter. letter < 26) letters
 
--- induction by pieces: `P` holds of all letters if it holds of none, and of letters if it holds of those after
--- their first piece
+-- induction by pieces: `P` holds of all letters if it holds of none, and holds of letters whenever it holds
+-- of the letters after their first piece
 by_length : (size : ℕ) (P : List ℕ → Type 0) → 0 < size → P []
     → ((letters : List ℕ) → 0 < length letters → P (drop size letters) → P letters)
     → (most : ℕ) (letters : List ℕ) → length letters ≤ most → P letters
@@ -59,7 +59,7 @@ gives_word (l ∷ letters) are =
       gives = ap (λ found. cons_option found []) told.1;
     }) (gives_word letters (All-tail (λ x. x < 26) l letters are))
 
--- a byte between words or after them
+-- a word, a byte that gives no letter, and a rest give the letters of the word and of the rest
 gives_after : (byte : ℕ) (word letters rest more : List ℕ) → IsTrue (is_text_byte byte)
     → letters_from None (byte ∷ []) ≡ [] → Gives word letters
     → Gives rest more → Gives (word ++ byte ∷ rest) (letters ++ more)
@@ -73,7 +73,7 @@ gives_words word letters [] more a b =
 gives_words word letters (next ∷ words) more a b =
     gives_after 32 word letters (line_of (next ∷ words)) more refl refl a b
 
--- if a piece before others gives its own letters and theirs, all pieces together give all letters
+-- if writing a piece before others adds just the letters of the piece, the pieces together give all letters
 gives_pieces : (size : ℕ) (whole : List (List ℕ) → List ℕ) → 0 < size → whole [] ≡ []
     → ((piece : List ℕ) (others : List (List ℕ)) (more : List ℕ) → AreOfTheAlphabet piece → Gives (whole others) more
     → Gives (whole (piece ∷ others)) (piece ++ more))
@@ -97,7 +97,7 @@ gives_body = gives_pieces 50 (flat_map (λ line. with_line (groups_of line) []))
 
 -- ---- the lines of a body
 
--- after an LF, the lines end in LF
+-- an LF and the lines of a body end in LF
 lines_end : (items : List (List ℕ))
     → (front : List ℕ) × (10 ∷ flat_map (λ line. with_line (groups_of line) []) items ≡ front ++ 10 ∷ [])
 lines_end [] = ([], refl)
@@ -107,7 +107,7 @@ lines_end (item ∷ items) =
 
 -- -------- a part as it is written: its heading, and where it ends in what it begins
 
--- a written part has its heading, and its body follows
+-- a written part has its heading and its body
 pub part_has_heading : (s : Day) (made : Part) → IsHeading s made.heading
     → HasHeading s (part_text made) made.heading (body_text made.body)
 part_has_heading s made is =
@@ -117,12 +117,12 @@ part_has_heading s made is =
     (WithoutReturn refl (λ front same. has_byte 13 front []
     (subst (IsWithout 13) same (without 13 line (omega arith) plain))))
 
--- a written part begins a heading line
+-- a written part begins with a heading
 pub part_begins_heading : (s : Day) (made : Part) (more : List ℕ) → IsHeading s made.heading
     → BeginsHeading (part_text made ++ more)
 part_begins_heading s made more is = grind (arith, append_assoc, words_begin)
 
--- a written part after an LF is the first part of what it begins, if another one may follow
+-- a written part after an LF is one part of the form, if another part or nothing follows
 pub part_is_first : (s : Day) (made : Part) (rest : List ℕ) (others : List (List ℕ)) → IsHeading s made.heading
     → All (λ letter. letter < 26) made.body
     → cut (10 ∷ rest) ≡ (10 ∷ [], others) → cut (10 ∷ (part_text made ++ rest)) ≡ (10 ∷ [], part_text made ∷ others)
@@ -150,7 +150,7 @@ letters_within : (blank : Option ℕ) (text : List ℕ) → IfSome blank (λ let
 letters_within blank [] less = All-nil (λ letter. letter < 26)
 letters_within blank (byte ∷ text) less = grind (arith, All-cons {X = ℕ}, letters_from, letters_within blank text less)
 
--- after whole groups, filling the rest is filling the whole text
+-- after whole groups, filling the rest fills the whole text
 filled_behind : (front rest : List ℕ) → length front % 5 ≡ 0 → filled front ++ filled rest ≡ filled (front ++ rest)
 filled_behind front rest whole = grind (arith, length-append {A = ℕ}, append_assoc {A = ℕ}, append-nil {A = ℕ})
 
@@ -166,7 +166,7 @@ filled_pieces letters = elim (cases_lt (length letters) 500) [
       )
 ]
 
--- the letters sent of all pieces, one after another, are those sent of all letters
+-- the letters sent for the pieces, joined, are the letters sent for the whole text
 sent_pieces : (s : Day) (letters : List ℕ)
     → flat_map (sent_letters s) (pieces (part_size s) letters) ≡ sent_letters s letters
 sent_pieces s letters =
@@ -189,7 +189,7 @@ are_pieces s letters =
     (grind (arith, size_some s, length-take (part_size s) letters, All-take (λ l. l < 26) (part_size s) letters))
     (rest (All-drop (λ letter. letter < 26) (part_size s) letters within)))) (length letters) letters (omega arith)
 
--- after an LF, the form has only parts that are read as the letters of the pieces
+-- after an LF, the form is divided into parts that are read as the letters of the pieces
 record AreGivenBack (s : Day) (part parts count : ℕ) (pieces : List (List ℕ)) (form : List ℕ) : Type 0 where
   texts : List (List ℕ)
   counted : length texts ≡ count

@@ -54,7 +54,7 @@ heading_byte bytes place begun inside =
       plain_text (codes "PART ") refl,
     )
 
--- these six bytes have no LF
+-- the first six bytes of a heading have no LF
 pub before_break : (front rest : List ℕ) → BeginsHeading (front ++ 10 ∷ rest) → BeginsHeading front
 before_break front rest begun =
     grind (
@@ -85,12 +85,12 @@ may_begin bytes (inr begun) = ([], rw (append-nil bytes) begun)
 fits_there : (bytes : List ℕ) (place : ℕ) → BeginsHeading bytes → FitsAt place (get_or bytes place 0)
 fits_there bytes place begun = grind (arith, common_steps, told bytes begun, get_or-take 5 bytes place 0)
 
--- a byte that fits may follow such bytes
+-- bytes that may begin a heading still may after a byte that fits
 pub follows : (part line : List ℕ) (byte : ℕ) → line ≡ take 64 part → HasBegun part → FitsAt (length line) byte
     → HasBegun (part ++ byte ∷ [])
 follows part line byte e d g = grind (arith, common_steps, begins_more, length-take, take_more, begins)
 
--- with a byte that doesn't fit, no heading begins
+-- after a byte that doesn't fit, the bytes begin no heading
 pub not_begun : (part line : List ℕ) (byte : ℕ) → line ≡ take 64 part → ¬ (FitsAt (length line) byte)
     → (length part < 6) × ((more : List ℕ) → ¬ (BeginsHeading ((part ++ byte ∷ []) ++ more)))
 not_begun part line byte kept off =
@@ -109,7 +109,7 @@ pub no_cut : (byte : ℕ) (bytes : List ℕ) → ((byte ≡ 10) → ¬ (BeginsHe
     → cut (byte ∷ bytes) ≡ (byte ∷ (cut bytes).0, (cut bytes).1)
 no_cut byte bytes not = grind (arith, nat_tests, cases_eq byte 10, cases_Bool (begins_heading bytes))
 
--- if no other part follows, the byte ends no part, and no later byte does
+-- if the bytes are one part, the first byte ends no part, and the other bytes are one part too
 uncut : (byte : ℕ) (bytes : List ℕ) → (cut (byte ∷ bytes)).1 ≡ []
     → ((byte ≡ 10) → ¬ (BeginsHeading bytes)) × ((cut bytes).1 ≡ [])
 uncut byte bytes none = grind (arith, cut_or_not byte bytes, at_cut bytes, no_cut byte bytes)
@@ -144,7 +144,7 @@ first_done (byte ∷ bytes) some =
 
 -- ---- one more byte of the last part
 
--- cutting after bytes without LF
+-- bytes without LF before others belong to the first part
 pub cut_behind : (line bytes : List ℕ) → IsWithout 10 line
     → cut (line ++ bytes) ≡ (line ++ (cut bytes).0, (cut bytes).1)
 cut_behind [] bytes unbroken = refl
@@ -170,7 +170,7 @@ last_digit bytes byte few begun =
       take-append_seam bytes (byte ∷ []),
     )
 
--- no part begins in the last line, unless a digit comes after its five bytes `PART `
+-- a byte after the last line begins no part, unless the line is `PART ` and the byte is a digit
 pub first_more : (front tail : List ℕ) (byte : ℕ) → IsWithout 10 tail → (cut (front ++ 10 ∷ tail)).1 ≡ []
     → ((tail ≡ codes "PART ") → (48 ≤ byte) → (byte ≤ 57) → ⊥)
     → cut (front ++ 10 ∷ (tail ++ byte ∷ [])) ≡ (front ++ 10 ∷ (tail ++ byte ∷ []), [])
@@ -216,7 +216,7 @@ bad_stays body more place none bad =
     let (other, is) = stays bad.before bad.rest more bad.byte bad.allowed bad.bad (rw bad.joined at none) in
     rw (bad.joined, is, bad.size) (bad_behind bad.before other bad.byte bad.allowed bad.bad)
 
--- a line, and a body in which the same bytes aren't allowed
+-- `part` is `line`, an LF, and a rest in which the first bad byte is where `body` has it
 pub record IsAlike (part line body : List ℕ) : Type 0 where
   pub other : List ℕ
   pub is : part ≡ line ++ 10 ∷ other
@@ -328,7 +328,7 @@ pub same_count : (s : Day) (count found : ℕ) (word : List ℕ) → IsLetterCou
 same_count s count found word are small is read =
     decimal_injective count found (omega (arith, at_most s count are)) (omega arith) (is ∙ sym read)
 
--- the numbers of a heading are small
+-- the numbers of a heading are below 2^64
 record IsSmall (h : Heading) : Type 0 where
   part : h.part < 2 ^ 64
   parts : h.parts < 2 ^ 64
@@ -352,7 +352,7 @@ pub too_many_words : (s : Day) (found : Option ℕ) (h : Heading) (line : List �
     → IsHeading s h → 5 < length (words_of line) → line_of (heading_words h) ≢ line
 too_many_words s found h line has is many same = grind (arith, ap length (line_words s found h line has is same))
 
--- the answer is the heading of the line, or that the line is none
+-- the answer is the heading that the line has, or `None` if the line isn't a heading
 abbrev IsTold : Day → Option Heading → List ℕ → Type 0
 IsTold s answer line =
     MatchOption answer ((h : Heading) → IsHeading s h → line_of (heading_words h) ≢ line)
@@ -457,7 +457,7 @@ one_heading s part h other body rest a b =
     let same = one_first_line part _ _ body rest a.first b.first in
     (grind (arith, same, are_small, one_number, append_assoc, one_end), same.1)
 
--- the line begins with PART, a space and a digit
+-- the line of a heading begins with PART, a space and a digit
 pub words_begin : (s : Day) (h : Heading) (more : List ℕ) → IsHeading s h
     → BeginsHeading (line_of (heading_words h) ++ more)
 words_begin s h more is = grind (arith, are_small, decimal_nonempty, digits_decimal, figures, drop-cons, begins)

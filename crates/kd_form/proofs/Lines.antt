@@ -36,7 +36,7 @@ same_front P (x ∷ front) (y ∷ other) rest more all alls off none same =
 abbrev pub IsPlain : List ℕ → Type 0
 IsPlain text = All (λ byte. 32 ≤ byte) text
 
--- a literal text is plain if a test says so
+-- a literal text is plain if the computed test passes
 pub plain_text : (text : List ℕ) → list_all (λ b. nat_le 32 b) text ≡ true → IsPlain text
 plain_text text passes =
     All-weaker (λ b. IsTrue (nat_le 32 b)) (λ b. 32 ≤ b) (λ b told. grind (arith, nat_tests)) text
@@ -64,12 +64,12 @@ head_unbroken = without 10 (codes "PART ") (omega arith) (plain_text (codes "PAR
 pub whole_line : (n : ℕ) (part line : List ℕ) → line ≡ take n part → length line < n → line ≡ part
 whole_line n part line kept short = kept ∙ take_all n part (omega (arith, ap length kept, length-take n part))
 
--- the letters of a text with one byte before it
+-- the letters of a text are the letter of its first byte, if any, and the letters of the rest
 pub letters_first : (blank : Option ℕ) (byte : ℕ) (text : List ℕ)
     → letters_from blank (byte ∷ text) ≡ option_to_list (letter_of_byte blank byte) ++ letters_from blank text
 letters_first blank byte text = grind arith
 
--- bytes that are allowed in a text
+-- the bytes are allowed in a text
 abbrev pub AreAllowed : List ℕ → Type 0
 AreAllowed bytes = All (λ b. IsTrue (is_text_byte b)) bytes
 
@@ -95,7 +95,7 @@ line_less mark byte pattern letters bytes is =
 no_letters : AreLetters 0 []
 no_letters = record { count = refl; within = All-nil (λ l. l < 26) }
 
--- the bytes end: a line goes on with the letter A in each place left
+-- if the bytes have ended, they are a prefix of a line: the letter A fills each place left
 pub line_open : (pattern bytes : List ℕ) → length bytes ≡ 0 → BreaksOff (IsPatternLine pattern) bytes Open
 line_open pattern bytes none =
     let others : List ℕ = replicate (blanks pattern) 0 in
@@ -110,12 +110,12 @@ line_open pattern bytes none =
       (others, record { are_letters = are; ended = inl refl }),
     )
 
--- a byte doesn't fit its mark
+-- bytes with a byte that doesn't fit its mark begin no line
 pub line_off : (mark byte : ℕ) (marks rest pattern bytes : List ℕ) → pattern ≡ mark ∷ marks → bytes ≡ byte ∷ rest
     → fits mark byte ≡ false → BreaksOff (IsPatternLine pattern) bytes Off
 line_off mark byte marks rest pattern bytes first next unfit = grind (arith, false≢true, line_less)
 
--- a byte fits its mark, and the line goes on with the rest of the pattern
+-- if a byte fits its mark, the answer for the rest of the line is the answer for the whole line
 pub line_on : (mark byte : ℕ) (marks rest pattern bytes old now new : List ℕ) (answer : Result (Unit {0}) Unread)
     → pattern ≡ mark ∷ marks → bytes ≡ byte ∷ rest → fits mark byte ≡ true → now ≡ old ++ letters_at mark byte
     → MatchResult answer (λ _. AreAppended marks rest now new) (BreaksOff (IsPatternLine marks) rest)
@@ -138,7 +138,7 @@ line_on mark byte marks rest pattern bytes old now new (Err Open) first next fit
 line_on mark byte marks rest pattern bytes old now new (Err Off) first next fit put none =
     rw (first, next) (λ more line. none more (line_less mark byte marks line.0 (rest ++ more) line.1).1)
 
--- the pattern ends
+-- at the end of the pattern, the answer says whether the bytes are a line end
 pub line_ends : (pattern bytes letters : List ℕ) (answer : Result (Unit {0}) Unread) → length pattern ≡ 0
     → MatchResult answer (λ _. IsEnded [] bytes) (BreaksOff (IsEnded []) bytes)
     → MatchResult answer (λ _. AreAppended pattern bytes letters letters) (BreaksOff (IsPatternLine pattern) bytes)
@@ -149,7 +149,7 @@ line_ends [] bytes letters (Err Open) none (more, some, ended) =
 line_ends [] bytes letters (Err Off) none off = λ more line. off more line.1.ended
 line_ends (mark ∷ pattern) bytes letters answer none told = absurd (omega arith)
 
--- nothing of the line end is there, or only its CR
+-- no bytes, or CR alone, are a prefix of a line end
 pub end_open : (bytes : List ℕ) → length bytes < 2 → (1 ≤ length bytes → get_or bytes 0 0 ≡ 13)
     → BreaksOff (IsEnded []) bytes Open
 end_open [] few first = (10 ∷ [], (λ none. cc), inl refl)
@@ -241,7 +241,7 @@ unsuited s keys index k fault inside is before found =
 ended_tail : (text line : List ℕ) → IsEnded text line → (tail : List ℕ) × IsEnded [] tail × (line ≡ text ++ tail)
 ended_tail text line ended = grind arith
 
--- the bytes that a line begins determine the line, its text, and what follows it
+-- bytes determine the line that they begin with, the line's text, and the bytes after it
 pub same_line : (text other line end rest more : List ℕ) → IsPlain text → IsPlain other → IsEnded text line
     → IsEnded other end → line ++ rest ≡ end ++ more → (text ≡ other) × (line ≡ end) × (rest ≡ more)
 same_line text other line end rest more one two a b same =
@@ -256,7 +256,7 @@ pub text_front : (last text : List ℕ) → IsEnded (codes "TEXT") last → get_
 text_front last text ended = grind arith
 
 module _ {P : List ℕ → Type 0} (Q : List ℕ → Type 0) (s : Day) (more : List ℕ) where
-  -- with more bytes, other lines may follow
+  -- more lines of keys may follow lines of keys
   pub lines_more : (keys others : List Keys) (bytes : List ℕ)
       → ((rest : List ℕ) → P rest → BeginsWithKeys s others Q (rest ++ more))
       → BeginsWithKeys s keys P bytes → BeginsWithKeys s (keys ++ others) Q (bytes ++ more)

@@ -86,7 +86,7 @@ earlier letters wheel start other [] less picks = picks
 earlier letters wheel start other (place ∷ places) less (after, inside, on, more) = (omega arith, inside, on, more)
 
 module _ (letters : List ℕ) (wheel start : ℕ) (inside : start < length letters) where
-  -- the letter is on the wheel: a pick begins there or later, and goes on after it
+  -- if the letter at `start` is on the wheel, the first pick takes it
   first_on : (places : List ℕ) → wheel < 7 → Contains (ring_of wheel) (slice_index letters start)
       → IsFirstPick letters (wheel + 1) (start + 1) places → IsFirstPick letters wheel start (start ∷ places)
   first_on places less on first = record {
@@ -99,14 +99,14 @@ module _ (letters : List ℕ) (wheel start : ℕ) (inside : start < length lette
   none_on less none (other ∷ others) (after, within, on, more) =
       none others (earlier letters (wheel + 1) (other + 1) (start + 1) others (omega arith) more)
 
-  -- the letter isn't on the wheel: a pick begins later
+  -- if the letter at `start` isn't on the wheel, each pick begins later
   later : (places : List ℕ) → ¬ (Contains (ring_of wheel) (slice_index letters start))
       → Picks letters wheel start places → Picks letters wheel (start + 1) places
   later [] off picks = picks
   later (place ∷ places) off picks = grind (arith, cases_eq)
 
--- The letters `done` are picked, and the next place is `start` or later. The first pick for the wheels left
--- makes the first pick for all wheels; if there is none, there is none for all.
+-- The letters `done` are picked for the first wheels. The first pick for the other wheels, from `start` on,
+-- completes the first pick for all wheels. If the other wheels have no pick, all wheels together have none.
 pub record IsPicking (letters : List ℕ) (start : ℕ) (done : List ℕ) : Type 0 where
   pub places : List ℕ
   pub few : length done ≤ 6
@@ -244,13 +244,13 @@ list_told s found due told is = grind arith
 
 -- -------- a part as it is made, and what it gives back
 
--- a piece of a text: letters for one part
+-- the letters are a piece of a text: at least one, and at most as many as a part has
 pub record IsPiece (s : Day) (piece : List ℕ) : Type 0 where
   pub some : 0 < length piece
   pub few : length piece ≤ part_size s
   pub within : All (λ letter. letter < 26) piece
 
--- the part is part `part` of `parts`, and gives these letters
+-- the part is part `part` of `parts`, and is read as the letters `text`
 pub record GivesBack (s : Day) (part parts : ℕ) (text : List ℕ) (made : Part) : Type 0 where
   pub is_heading : IsHeading s made.heading
   pub numbered : made.heading.part ≡ part

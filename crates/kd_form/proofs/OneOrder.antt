@@ -11,7 +11,7 @@ pub use Rattle.kd_form.proofs.Prelude.{IsSendable, IsFormOf, Answer, IsCaught, I
 pub use Rattle.kd_form.proofs.Prelude.{BadByte, EmptyText, PartKeys, nil_from_length, length-append}
 use Rattle.kd_form.proofs.Lines.{same_front, plain_keys, key_first, text_front, same_line, plain_text}
 
--- at most one answer satisfies this
+-- at most one value satisfies `Answer`
 abbrev pub IsOnly : {V : Type 0} → (V → Type 0) → Type 0
 IsOnly {V} Answer = (v w : V) → Answer v → Answer w → v ≡ w
 
@@ -96,7 +96,7 @@ pub all_of_the_day : (P : List ℕ → Type 0) (s : Day) (keys : List Keys) (byt
 all_of_the_day P s [] bytes lines = All-nil (AreKeys s)
 all_of_the_day P s (k ∷ keys) bytes lines = grind (arith, All-cons, all_of_the_day P s keys)
 
--- after its lines of keys, a head goes on as the bytes do
+-- if bytes begin with lines of keys and with a head, these lines are the head's first lines
 pub behind : {P : List ℕ → Type 0} (s : Day) (keys others : List Keys) (bytes head text more : List ℕ)
     → BeginsWithKeys s keys P bytes → BeginsWithKeys s others (IsEnded (codes "TEXT")) head
     → bytes ++ text ≡ head ++ more → (after : List Keys) × (rest last : List ℕ) × (others ≡ keys ++ after) × P rest
@@ -154,7 +154,7 @@ no_head_fault s order keys head text position is fault =
           fault.stops byte (more ++ text) more rest (keys, subst (IsHead s keys) longer is.is_head)
     ]
 
--- no order goes on after the position of a fault
+-- of two faults in a head, neither is at a later position
 not_later : (s : Day) (order : List ℕ) (one other byte : ℕ) (more : List ℕ) (a : IsHeadFault s order one)
     (b : IsHeadFault s order other) → b.before ≡ a.before ++ byte ∷ more → ¬ (a.rest ≡ byte ∷ (more ++ b.rest))
 not_later s order one other byte more a b longer rest =
@@ -193,7 +193,7 @@ one_bad_byte text place other a b =
     let same = same_front (λ x. IsTrue (is_text_byte x)) a.before b.before (a.byte ∷ a.rest) (b.byte ∷ b.rest) in
     grind (arith, same, false≢true, a.bad, b.bad, a.joined, b.joined, a.size, b.size)
 
--- the first byte that isn't allowed, after bytes that are
+-- after allowed bytes, a byte that isn't allowed is the first bad byte
 pub bad_behind : (front rest : List ℕ) (byte : ℕ) → All (λ b. IsTrue (is_text_byte b)) front
     → IsFalse (is_text_byte byte) → IsBadAt (front ++ byte ∷ rest) (length front)
 bad_behind front rest byte allowed bad = grind arith
@@ -210,14 +210,14 @@ no_bad_byte text place all is =
 
 -- ---- one answer
 
--- the answer for an order with these keys and this text, by the number of letters
+-- the answer by the number of letters, once the keys suit and the bytes of the text are allowed
 abbrev pub IsSizeAnswer : Day → List Keys → List ℕ → Answer → Type 0
 IsSizeAnswer s keys letters =
     IsJudged (letters ≢ []) (Err EmptyText) (IsJudged (parts_needed s (length letters) ≡ length keys)
     (Err (PartKeys (parts_needed s (length letters)) (length keys)))
     (IsFound (AreMadeTexts s 1 (length keys) keys (pieces (part_size s) letters)) (λ form v. v ≡ Ok form)))
 
--- the answer by the keys and the bytes of the text, before the number of letters counts
+-- the answer once the head is read: by the keys, then by the bytes of the text, then by the number of letters
 abbrev pub IsLaterAnswer : Day → List Keys × List ℕ × List ℕ → Answer → Type 0
 IsLaterAnswer s (keys, head, text) =
     IsCaught (IsFirstKeysFault s keys) (λ fault. Err fault) (All (Suits s) keys)
@@ -225,7 +225,7 @@ IsLaterAnswer s (keys, head, text) =
     (All (λ b. IsTrue (is_text_byte b)) text)
     (IsSizeAnswer s keys (text_letters s text)))
 
--- the answer by the head, before keys and text count
+-- the answer for an order: by the head, and then by the keys and the text
 abbrev pub IsOrderAnswer : Day → List ℕ → Answer → Type 0
 IsOrderAnswer s order v =
     IsFound (IsHeadFault s order) (λ position w. w ≡ Err (BadByte position)) v

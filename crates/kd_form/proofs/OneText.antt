@@ -1,4 +1,4 @@
--- A form becomes one text or has one fault; a fault for good stays.
+-- A form becomes one text or has one fault; a fault that stands stays when more bytes follow.
 pub use Rattle.kd_form.proofs.Prelude.{err_is, append-nil, ◌≡◌, ℕ, ◌+◌, ◌-◌, inl, inr, List, [], ◌∷◌, ◌++◌, length}
 pub use Rattle.kd_form.proofs.Prelude.{Result, Ok, Err, refl, sym, ap, subst, ◌∙◌, append_assoc, arith, All, IsTrue}
 pub use Rattle.kd_form.proofs.Prelude.{Option, Some, None, is_text_byte, Day, FormFault, BadByte, BadHeading, PartOrder}
@@ -41,7 +41,7 @@ module _ (s : Day) where
   reads_as A B to p (part ∷ parts) letters (inr (count, one, more, is, due, rest, joined)) =
       inr (count, one, more, is, due, reads_as A B to (place_behind p count part) parts more rest, joined)
 
-  -- parts are read up to a place, and then on from there
+  -- parts read up to a place, and more parts read from there, are read together
   pub reads_then : (q : Place) (B : OfRest) (p : Place) (parts others : List (List ℕ)) (letters more : List ℕ)
       → ReadsTo s (IsAt q) p parts letters → ReadsTo s B q others more
       → ReadsTo s B p (parts ++ others) (letters ++ more)
@@ -51,7 +51,7 @@ module _ (s : Day) where
   reads_then q B p (part ∷ parts) others letters more (inr (count, one, left, is, due, reads, joined)) rest =
       grind (arith, reads_then q B (place_behind p count part) parts others left more reads rest, append_assoc)
 
-  -- if `A` holds of a rest, no part of this rest is read on the way to a rest of which `B` holds
+  -- no part can be read from a rest of which `A` holds, on the way to a rest of which `B` holds
   abbrev pub NeverPasses : OfRest → OfRest → Type 0
   NeverPasses A B =
       (p : Place) (part : List ℕ) (parts : List (List ℕ)) (count : ℕ) (one more : List ℕ) → A p (part ∷ parts)
@@ -218,7 +218,7 @@ received_forms_have_no_fault s form text fault a b =
 
 -- -------- answers whose reason is a device or the machine
 
--- a device failed exactly where the answer says so, and the machine isn't the reason
+-- a device failed exactly if the answer says so, and the machine isn't the reason for the answer
 abbrev pub IsToldOf : Port → Port → Result (Unit {0}) FormFault → Type 0
 IsToldOf source sink answer = Fail source sink (is_device answer) × (is_off_key answer ≡ false)
 

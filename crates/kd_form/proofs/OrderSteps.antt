@@ -27,7 +27,7 @@ use Rattle.kd_form.specs.SendStream as stream
 
 -- -------- the parts of an order, letter by letter
 
--- the pieces of letters that make `k` whole pieces and a last one
+-- the pieces of the letters are `k` whole pieces, and the rest as the last one
 pieces_more : (size k : ℕ) (letters : List ℕ) → 0 < size → size * k < length letters → length letters ≤ size * k + size
     → pieces size letters ≡ pieces size (take (size * k) letters) ++ drop (size * k) letters ∷ []
 pieces_more size zero letters large some few = grind (arith, pieces-next, take_all, drop_all, pieces-none)
@@ -95,14 +95,15 @@ module _ (s : Day) (count : ℕ) where
   next_plain line (inl key) = (line_of (key_words key.0.keys), plain_keys key.0.keys, key.0.keyed)
   next_plain line (inr text) = (codes "TEXT", plain_text (codes "TEXT") refl, text)
 
-  -- no line of a head begins another one
+  -- no line of a head is a proper prefix of another one
   next_whole : (line more : List ℕ) → IsHeadLine s count line → IsHeadLine s count (line ++ more) → more ≡ []
   next_whole line more one other =
       let (text, plain, ended) = next_plain line one in
       let (longer, also, end) = next_plain (line ++ more) other in
       (same_line text longer line (line ++ more) more [] plain also ended end (sym (append-nil (line ++ more)))).2
 
-  -- if a line goes on with these bytes, and none does with one more, no line is a prefix of what follows
+  -- if bytes begin a line of a head, but don't with one more byte, no such line is a prefix of what they
+  -- begin
   pub no_next : (line other one left : List ℕ) (byte : ℕ) → BreaksOff (IsHeadLine s count) line unread.Open
       → BreaksOff (IsHeadLine s count) (line ++ byte ∷ []) unread.Off → IsHeadLine s count one
       → ¬ (line ++ byte ∷ other ≡ one ++ left)
@@ -115,7 +116,7 @@ module _ (s : Day) (count : ℕ) where
         cc
   ]
 
--- the lines of keys and the line TEXT begin with the next line
+-- what is left of a head begins with a line of a head
 pub head_next : (s : Day) (count : ℕ) (keys : List Keys) (bytes : List ℕ) → count + length keys ≤ 99
     → BeginsWithKeys s keys (IsEnded (codes "TEXT")) bytes
     → (line rest : List ℕ) × IsHeadLine s count line × (bytes ≡ line ++ rest)
@@ -129,7 +130,7 @@ module _ (s : Day) (keys : List Keys) (line order : List ℕ) (is : IsHeadRead s
   pub text_head : (more : List ℕ) → IsEnded (codes "TEXT") (line ++ more) → IsHead s keys (order ++ more)
   text_head more ended = grind (arith, append-nil keys, lines_more)
 
-  -- after one more line of keys
+  -- the lines of keys so far and one more are lines of keys that the order begins with
   pub one_more : (Q : List ℕ → Type 0) (k : Keys) (more end : List ℕ) → AreKeys s k → IsKeyLine k (line ++ more) → Q end
       → BeginsWithKeys s (keys ++ k ∷ []) Q (order ++ (more ++ end))
   one_more Q k more end are keyed holds = grind (arith, lines_more, append_assoc)
@@ -147,7 +148,7 @@ module _ (s : Day) (keys : List Keys) (line order : List ℕ) (is : IsHeadRead s
   pub head_cut : IsHeadFault s order (length order + 1)
   head_cut = grind (arith, append-nil, goes_on)
 
-  -- the line goes on
+  -- a byte with which the line can go on leaves the head open
   pub head_open : (byte : ℕ) → BreaksOff (IsHeadLine s (length keys)) (line ++ byte ∷ []) unread.Open
       → IsHeadRead s keys (line ++ byte ∷ []) (order ++ byte ∷ [])
   head_open byte begins = grind (arith, append-nil keys, lines_more)
@@ -219,7 +220,7 @@ module _ (s : Day) where
 
   -- ---- in the text
 
-  -- the head of an order is complete, and its text may begin
+  -- after a complete head, the reader holds the order if the keys suit, and refuses it otherwise
   pub text_begins : (r : OrderReader) (order text sent : List ℕ) (answer : Result (Unit {0}) FormFault)
       → r.stage ≡ stages.Text → r.read ≡ length order → IsOrder s order r.head.keys.items order [] → IsFresh r.parts
       → text ≡ [] → sent ≡ []
@@ -250,7 +251,7 @@ module _ (s : Day) where
       no_keys_fault s r.head.keys.items fault (rw same.0 suited) found) none)
 
   module _ (keys : List Keys) (w : PartWriter) (order sent : List ℕ) (text : IsTextRead s keys w order sent) where
-    -- the end
+    -- at the end of the text, the reader makes the last part, or finds the fault
     pub text_ends : (made : List ℕ) (answer : Result (Unit {0}) FormFault)
         → IsLastTaken s keys (text_letters s text.text) sent made answer → Closes (orders s) order (sent ++ made) answer
     text_ends made (Ok done) (some, counted, is) = grind arith

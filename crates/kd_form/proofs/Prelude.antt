@@ -74,7 +74,7 @@ pub use Rattle.kd_state.specs.Words.{IsFirstPart, IsWithout, line_of, words_of}
 pub use Rattle.kd_tables.specs.{Ports.Ends, Ports.Fail, Ports.IsWell, Ports.Port, Ports.port, Ports.read_limit}
 pub use Rattle.kd_tables.specs.{Text.is_text_byte, Text.letters_text, Writing.TakesFront}
 
--- the error that `?` returns
+-- the answer is the error that `?` returns
 pub err_is : {T E : Type 0} (answer : Result T E) (fault : E) → IsErrAnd answer (λ made. made ≡ fault)
     → answer ≡ Err fault
 err_is answer fault e = grind arith

@@ -1,4 +1,4 @@
--- Feeding bytes one after another, reading piece after piece, and typing a text so.
+-- Feeding bytes to a reader one after another and piece after piece, and typing a text piece after piece.
 pub use Rattle.kd_form.proofs.Prelude.{err_is, append-nil, take-append-drop, AtSource, InFeeding, IsStopped, [], ◌≡◌, ℕ}
 pub use Rattle.kd_form.proofs.Prelude.{◌+◌, ◌-◌, ◌≤◌, ◌<◌, Bool, true, false, ◌||◌, List, ◌++◌, Option, Some, Result}
 pub use Rattle.kd_form.proofs.Prelude.{Ok, Err, length, take, drop, IsTrue, refl, sym, ap, subst, ◌∙◌, append_assoc}
@@ -39,14 +39,14 @@ starts_longer bytes more front starts =
     starts_with_of_append (bytes ++ more) front (drop (length front) bytes ++ more)
     (ap (λ l. l ++ more) rest ∙ append_assoc front (drop (length front) bytes) more)
 
--- if only a prefix of what was made was put, what was put falls short of what was due
+-- if the sink took only a proper prefix of `made`, the bytes put fall short of the bytes due
 pub short_of : (text made : List ℕ) (count : ℕ) → count < length made
     → FallsShort (text ++ made) (text ++ take count made)
 short_of text made count less = grind (arith, length-drop {A = ℕ}, take-append-drop {A = ℕ}, append_assoc {A = ℕ})
 
 -- ---- byte after byte
 
--- only a prefix of what a byte gave was put
+-- if the sink took only a prefix of what the bytes made, feeding stops at the device
 pub fed_in_part : (m : Message) (new : List ℕ → List ℕ → Type 0) (bytes text made : List ℕ)
     (took wrote : Option (List ℕ)) (d f : Bool)
     → Held m new bytes (text ++ made) → TakesFront took wrote made
@@ -57,7 +57,7 @@ pub fed_none : (m : Message) (old : List ℕ → List ℕ → Type 0) (took : Op
     → FeedsAll m old old [] (over took took d d) (Ok tt)
 fed_none m old took d bytes text held = grind (arith, Appends-nil, append-nil {A = ℕ})
 
--- bytes are fed, and then the next ones
+-- feeding bytes and then the next bytes is feeding all of them
 pub fed_next : (m : Message) (old now new : List ℕ → List ℕ → Type 0) (front next : List ℕ)
     (took taken wrote : Option (List ℕ)) (d e f : Bool)
     (answer : Result (Unit {0}) Stop) → FeedsAll m old now front (over took taken d e) (Ok tt)
@@ -73,30 +73,30 @@ pub room_for : (m : Message) (holds : List ℕ → List ℕ → Type 0) (room le
 room_for m holds room less few has =
     record { bytes = has.bytes; text = has.text; held = has.held; within = omega (arith, has.within, few) }
 
--- the room left after the bytes that were fed
+-- after `more` is fed, there is room for `less` bytes
 pub room_less : (m : Message) (old new : List ℕ → List ℕ → Type 0) (more : List ℕ) (sink : Port) (room less : ℕ)
     → length more + less ≤ room → HasRoom m old room → FeedsAll m old new more sink (Ok tt) → HasRoom m new less
 room_less m old new more sink room less few has fed = grind (arith, length-append {A = ℕ})
 
--- the bytes before a place, the byte there, and the bytes after it
+-- bytes are the bytes before a place, the byte there, and the bytes after it
 pub up_to : (bytes : List ℕ) (place : ℕ) → place < length bytes
     → take place bytes ++ get_or bytes place 0 ∷ [] ++ drop (suc place) bytes ≡ bytes
 up_to bytes place inside = grind (arith, append_assoc, drop-cons, take-append-drop)
 
--- feeding, with equal bytes in the place of the bytes fed
+-- feeding bytes is feeding equal bytes
 pub fed_whole : (m : Message) (old new : List ℕ → List ℕ → Type 0) (front whole : List ℕ) (sink : Port)
     (answer : Result (Unit {0}) Stop) → front ≡ whole
     → FeedsAll m old new front sink answer → FeedsAll m old new whole sink answer
 fed_whole m old new front whole sink answer same fed = subst (λ all. FeedsAll m old new all sink answer) same fed
 
--- a stop on some bytes is the stop on all bytes
+-- if feeding stops within a prefix of the bytes, it stops within all bytes
 pub fed_up_to : (m : Message) (old new : List ℕ → List ℕ → Type 0) (front more : List ℕ) (sink : Port) (stop : Stop)
     → FeedsAll m old new front sink (Err stop) → FeedsAll m old new (front ++ more) sink (Err stop)
 fed_up_to m old new front more sink stop fed bytes text held = grind (arith, append_assoc, starts_longer)
 
 -- ---- a read
 
--- the source failed
+-- what a read answers if the source failed
 pub read_failed : (m : Message) (new : List ℕ → List ℕ → Type 0) (bytes text : List ℕ) (room : ℕ)
     (had has took : Option (List ℕ)) (a c d : Bool)
     → Held m new bytes text → length bytes + room ≤ read_limit → Keeps had has → c ≡ (a || true)
@@ -112,7 +112,7 @@ read_failed m new bytes text room had has took a c d held few kept up =
       append-nil {A = ℕ},
     )
 
--- feeding the bytes of a read stopped
+-- what a read answers if feeding its bytes stopped
 pub read_stopped : (m : Message) (old new : List ℕ → List ℕ → Type 0) (bytes text more : List ℕ) (room : ℕ)
     (had has took wrote : Option (List ℕ)) (a c d f : Bool) (stop : Stop)
     → Held m old bytes text → length bytes + room ≤ read_limit → length more ≤ room → Consumes had has more
@@ -140,7 +140,7 @@ pub SoFar-room : (m : Message) (holds : List ℕ → List ℕ → Type 0) (sourc
     → room ≤ read_limit → HasRoom m holds room
 SoFar-room m holds source sink count room before few = grind arith
 
--- the answer when a read stops, if the ports didn't fail since an earlier time
+-- the answer when a read stops, if neither port had failed before this read
 stopped : (m : Message) (new : List ℕ → List ℕ → Type 0) (read text : List ℕ)
     (had has next took taken wrote : Option (List ℕ)) (a b c d e f : Bool) (stop : Stop)
     → b ≡ a → e ≡ d → length read ≤ read_limit
@@ -154,7 +154,7 @@ stopped m new read text had has next took taken wrote a b c d e f stops.Device p
     SinkFails is.due few (ByThen is.front is.of_bytes is.open_yet) is.of_due
     (record { failed = failed_now e f up; well = well ∙ p }) refl
 
--- One more read after those so far, by the ports at the start, in between, and after it.
+-- One more read: the ports at the start, before this read, and after it.
 module _ (m : Message) (old new : List ℕ → List ℕ → Type 0) (had has next took taken wrote : Option (List ℕ))
     (a b c d e f : Bool) (count room : ℕ)
     (before : SoFar m old (over had has a b) (over took taken d e) count) (space : room ≡ read_limit - count) where
@@ -179,7 +179,7 @@ module _ (m : Message) (old new : List ℕ → List ℕ → Type 0) (had has nex
 
 -- ---- the end
 
--- only a prefix of what was left of a message was put
+-- if the sink took only a prefix of the rest of a message, closing stops at the device
 pub closed_in_part : (m : Message) (old : List ℕ → List ℕ → Type 0) (made : List ℕ) (took wrote : Option (List ℕ))
     (d f : Bool) (answer : Result (Unit {0}) FormFault)
     → MessageEnds m old made answer → TakesFront took wrote made
