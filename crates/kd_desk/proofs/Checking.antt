@@ -4,7 +4,7 @@ use Rattle.kd_desk.specs.Ports.{WritesText}
 use Rattle.kd_desk.proofs.Prelude.{◌≡◌, ℕ, List, length, Result, Parts, Setting, IsMachine, Day, IsLegalDay, PriceParts}
 use Rattle.kd_desk.proofs.Prelude.{IsCard, DeskFault, Port, Checks, Shortest, verdict_text}
 
--- a card that proves itself
+-- for a card that proves itself, the answer is SHORTEST
 pub told : (m : Parts) (s : Day) (number : ℕ) (bytes : List ℕ)
     (sink : Port) (answer : Result (Unit {0}) DeskFault)
     → IsMachine m → IsLegalDay s → (day : ℕ) (settings : List Setting) (prices : PriceParts) (count : ℕ)

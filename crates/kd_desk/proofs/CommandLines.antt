@@ -13,7 +13,7 @@ use Rattle.{kd_desk.specs.{CommandLine.desk_grammar, declared.command.Command.Co
 abbrev Lent : Type 0
 Lent = Command (Bor (List ℕ)) (Bor (List ℕ))
 
--- what a getter of clap's matches reads, by the matches' rows
+-- clap's getters read the first value that a word has in the rows of the matches
 pub read_none : (found : Found) (id : List ℕ) (word : Option (Bor (List ℕ)))
     → option_map (λ s. s.now) word ≡ first_value found id → word ≡ None → first_of id (rows_of found) ≡ None
 read_none found id word reads none = sym (first_value-rows found id) ∙ sym reads ∙ ap (option_map (λ s. s.now)) none
@@ -24,7 +24,7 @@ pub read_some : (found : Found) (id : List ℕ) (word : Option (Bor (List ℕ)))
 read_some found id word read reads some =
     sym (first_value-rows found id) ∙ sym reads ∙ ap (option_map (λ s. s.now)) some
 
--- a word that is no day's number
+-- a word that isn't a day's number isn't the text of any day
 pub other_word : (found : Found) (id : List ℕ) (word : Option (Bor (List ℕ))) (read : Bor (List ℕ))
     → option_map (λ s. s.now) word ≡ first_value found id → word ≡ Some read
     → ((day : ℕ) → IsDayNumber day → read.now ≢ decimal day) → (day : ℕ) → IsDayNumber day
@@ -41,7 +41,7 @@ pub grammar_is_known : is_simple desk_grammar ≡ true
 unfolding clap_on_literals desk_grammar
 grammar_is_known = refl
 
--- the answer of a parse by the desk's grammar
+-- what clap's contract says of simple grammars holds for the desk's grammar
 pub parse_fails_by : (app : App) (words : List (List ℕ)) (result : Result ArgMatches Error) → app ≡ desk_grammar
     → (is_simple_and_free app ≡ true → FailsBy (fault_of app words) result)
     → FailsBy (fault_of desk_grammar words) result
@@ -68,14 +68,14 @@ pub said_subcommand : (words : List (List ℕ)) (said : List ℕ × List Row) �
     → subcommand_of desk_grammar words ≡ Some said → (command : Named) → IsOf said command → Says words command
 said_subcommand words said taken e command is = record { taken = taken; said = rw e is }
 
--- a command's name and rows, read one by one
+-- a command's name and its rows, known one by one, are known as a pair
 pub paired : {X : Type 0} (entered : Option X) (name : X → List ℕ) (rows : X → List Row) (n : List ℕ) (r : List Row)
     → Some n ≡ option_map name entered → Some r ≡ option_map (λ (p : List ℕ × List Row). p.1)
     (option_map {U = List ℕ × List Row} (λ x. (name x, rows x)) entered)
     → option_map {U = List ℕ × List Row} (λ x. (name x, rows x)) entered ≡ Some (n, r)
 paired entered name rows n r is is_rows = grind (arith)
 
--- the answer for a command that may be missing
+-- what holds of a command that was found holds of the value of an `Ok`
 pub ok_said : (said : Option Lent) (answer : Result Lent Stop) (P Q : Lent → Type 0) → answer ≡ ok_or said Usage
     → ((command : Lent) → P command → Q command) → IfSome said P → IfOk answer Q
 ok_said said answer P Q e d g = grind arith

@@ -43,7 +43,7 @@ pub a_day : (machine sheet : List ℕ) (number : ℕ) (found : Option Day) (m : 
 a_day machine sheet number found m days s read says told is =
     Found m days s (sym read) (sym says) (sym is ∙ grind arith) refl
 
--- the answer, with and without a machine and a day
+-- the answer if the machine and the day aren't found, and if they are
 module _ (machine sheet : List ℕ) (number : ℕ) (does : Parts → Day → Type 0)
     (answer : Result (Unit {0}) DeskFault) where
   pub not_found : (fault : DeskFault) → FindsDay machine sheet number (Err fault)

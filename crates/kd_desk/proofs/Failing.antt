@@ -15,7 +15,7 @@ failed_now before after e = grind (arith, e)
 pub well_now : (before after : Bool) → after ≡ (before || false) → after ≡ before
 well_now before after e = grind (arith, e)
 
--- the sink failed or didn't, and the source wasn't used
+-- if the source doesn't fail in a call, a port fails exactly if the sink does
 pub sink_fails : (source sink : Port) (failed : Bool) → IsWell source → sink.has_failed ≡ (sink.had_failed || failed)
     → Fail source sink failed
 sink_fails source sink false well is = (well, well_now sink.had_failed sink.has_failed is)
@@ -32,7 +32,7 @@ pub answered : {T F : Type 0} (answer : Result T F) (fault : F) (P : Result T F 
     → IsErrAnd answer (λ made. made ≡ fault) → P (Err fault) → P answer
 answered answer fault P made p = subst P (sym (err_is answer fault made)) p
 
--- a text that was written, whole or in part
+-- the sink took the whole text, or a prefix of it
 pub in_whole : (text : List ℕ) (sink : Port) → Appends sink.had sink.has text → WritesText text sink (Ok tt)
 in_whole text sink taken = record { written = record { whole = taken; front = tt }; device = tt }
 

@@ -32,7 +32,7 @@ pub one_word_more : {name : List ℕ} {words : List (Bor (List ℕ))} {old new :
     → IsMadeOf new name (words ++ more ∷ [])
 one_word_more word more has rule local adds = record { shape = grind (arith, map-append); local = grind arith }
 
--- one more command with these words
+-- adding a command with these words adds the command to the grammar
 pub one_command_more : {name : List ℕ} {words : List (Bor (List ℕ))} {app : App} {old sub new : Command}
     → app_of old ≡ app
     → IsMadeOf sub name words → AddsSubcommand old sub new → app_of new ≡ with_subcommand app (shape_with name words)

@@ -41,7 +41,7 @@ settings_of : (text : List ℕ) (day : ℕ) (settings : List Setting) (prices : 
     → IsCard text day settings prices → AreSettings text settings
 settings_of text day settings prices card = OfCard (begins text day settings prices card) day prices card
 
--- the machine and the day of the files
+-- the files have a machine and a day, and `does` holds of both
 record IsFound (file sheet : List ℕ) (number : ℕ) (does : Parts → Day → Type 0) : Type 0 where
   m : Parts
   of_file : machine_of file ≡ Ok m
@@ -128,7 +128,7 @@ months_are_fewest file sheet numbers papers m month days cards lists of_file of_
 
 -- ---- such cards and files exist
 
--- the card that was planned for a day, and the file of the machine to which it leads
+-- the planned card, and the file of the machine that it leads to, are the papers of the day
 pub papers_for : WrittenFilesAreReadBack → (m n : Parts) (s : Day) → IsMachine m → IsLegalDay s
     → (planned card : declared.Card) → Plans m s planned.settings.items planned.prices → IsByKind m s planned card
     → (text : List ℕ) (day : ℕ) → day ≡ day_number s → IsCard text day card.settings.items card.prices

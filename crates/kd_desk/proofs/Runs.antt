@@ -11,7 +11,7 @@ use Rattle.kd_desk.proofs.Prelude.{append_assoc, Row, subcommand_of, Stop, Unrea
 use Rattle.kd_desk.proofs.Prelude.{command_over, AskFor, AsksFor, Asking, MissesOne, had, missed, is_ok, CarriesOut}
 use Rattle.kd_desk.proofs.Prelude.{IsDone, Gives, Opened, Port, map, ◌≢◌, Usage}
 
--- what is known of files
+-- the bytes of each file by its name, or nothing if they aren't known
 abbrev Known : Type 0
 Known = Option (List ℕ → Option (List ℕ))
 
@@ -20,12 +20,12 @@ Known = Option (List ℕ → Option (List ℕ))
 joined : (one : Asking) (old new rest : List Asking) → new ≡ old ++ one ∷ [] → new ++ rest ≡ old ++ one ∷ rest
 joined one old new rest is = ap (λ l. l ++ rest) is ∙ append_assoc old (one ∷ []) rest
 
--- one file was read or opened, and then all others
+-- if one file was read or opened, and then all others, all of them were
 pub all_on : (name : List ℕ) (names : List (List ℕ)) (old new newer : List Asking)
     → new ≡ old ++ had name ∷ [] → newer ≡ new ++ map had names → newer ≡ old ++ map had (name ∷ names)
 all_on name names old new newer is more = more ∙ joined (had name) old new (map had names) is
 
--- one file was read or opened, and a later one wasn't
+-- if one file was read or opened, and a later one wasn't, one of them wasn't
 pub misses_on : (name : List ℕ) (names : List (List ℕ)) (old new newer : List Asking)
     → new ≡ old ++ had name ∷ [] → MissesOne names new newer → MissesOne (name ∷ names) old newer
 misses_on name names old new newer is more = record {
@@ -36,7 +36,7 @@ misses_on name names old new newer is more = record {
   asked = more.asked ∙ joined (had name) old new (map had more.before ++ missed more.name ∷ []) is;
 }
 
--- the first file couldn't be read or opened
+-- if the first file couldn't be read or opened, no other was asked for
 pub misses_first : (name : List ℕ) (names : List (List ℕ)) (old new : List Asking) → new ≡ old ++ missed name ∷ []
     → MissesOne (name ∷ names) old new
 misses_first name names old new is = record { before = []; name = name; after = names; names_are = refl; asked = is }
@@ -88,7 +88,7 @@ said_command words one other says same = said_by (subcommand_of desk_grammar wor
 
 -- ---- what is done
 
--- nothing is left of a file that wasn't opened
+-- nothing is known of a file that wasn't opened
 pub nothing_left : Opened
 nothing_left = record { bytes = None; failed = false }
 

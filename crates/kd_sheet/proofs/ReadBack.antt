@@ -403,7 +403,7 @@ ruleset are_plain = (
   recursion_from_All,
 )
 
--- a table's machine, by its version, its model and its parts
+-- a table whose version, model and parts are read is read as the machine of these parts
 machine_in-parts : (model : Model) (table : Members) (m : Parts) → version_in table ≡ Ok (version_of model)
     → model_in table ≡ Ok model → parts_in model table ≡ Ok m → machine_in table ≡ Ok m
 unfolding machine_in known_model_in

@@ -117,8 +117,8 @@ set_moves out into (first ∷ cables) (suc place) cable new here moves =
     (IsPermutation-trans _ _ _ (IsPermutation-append_right (cable_letters first) _ _ rest)
     (IsPermutation-append_swap (cable_letters first) into (plugged_letters (set cables place new))))
 
--- the letters in the cables from `place` on are all different exactly if those of `cable` are new before the
--- rest
+-- the letters in the cables from `place` on are all different exactly if the letters of `cable` are new and
+-- the letters in the cables after it are all different
 pub distinct_from : (cables : List (Option ℕ × Option ℕ)) (place : ℕ) (cable : Option ℕ × Option ℕ)
     → place < length cables → cable ≡ get_or cables place cable
     → IsDistinct nat_eq (plugged_letters (drop place cables))
@@ -144,7 +144,7 @@ no_letter_twice cables h whole = grind (arith, letters_of_pairs, recursion_from_
 pub of_one : (a x : ℕ) → Contains (a ∷ []) x → x ≡ a
 of_one a x e = grind arith
 
--- two letters that are the same letters as a pair's are the pair in one of the orders
+-- two letters that are the letters of a pair are the pair, in one order or the other
 pub same_two : (a b : ℕ) (pair : ℕ × ℕ) → SameLetters (a ∷ b ∷ []) (pair.0 ∷ pair.1 ∷ []) → AreTheLetters a b pair
 same_two a b pair same =
     let tests = (tests_tell_letters (a ∷ b ∷ []) (pair.0 ∷ pair.1 ∷ [])).0 same in

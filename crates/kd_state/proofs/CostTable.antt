@@ -165,7 +165,7 @@ least_at_most n (x ∷ xs) = omega (arith, least_at_most (min n x) xs)
 pub bar_cost_at_most : (bar : Place × Place) (row : ℕ × ℕ) → bar_cost bar row ≤ 2
 bar_cost_at_most bar row = omega (arith, least_at_most 2 (map (lugs_moved bar) (standings_as row)))
 
--- the standing is one of the row's
+-- the standing reads as the row
 abbrev pub IsOfRow : ℕ × ℕ → Place × Place → Type 0
 IsOfRow row x = IsBefore x.0 x.1 × (reads_as_row row x ≡ true)
 
@@ -178,7 +178,7 @@ of_row row k d lt =
       filter_passes (reads_as_row row) standings k d lt,
     )
 
--- the nearest of one or two standings is found, costs the least, and has what all have
+-- the nearest of one or two standings is found, costs the least, and satisfies what all of them satisfy
 nearest : (bar x : Place × Place) (more : Option (Place × Place)) (xs : List (Place × Place))
     (P : Place × Place → Type 0)
     → xs ≡ x ∷ option_to_list more → AllByRecursion P xs

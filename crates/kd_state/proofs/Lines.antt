@@ -125,7 +125,7 @@ pub no_text : {S E : Type 0} (bs : List ℕ) (r : Result S E) (P : S → Type 0)
     → decimal number ≢ bs
 no_text bs r P Q e d number g = grind (arith, IsUtf8-from_ascii, IsAscii-decimal)
 
--- the value of an `Ok` has what the contract says of it
+-- the value of an `Ok` satisfies what the contract says of it
 pub ok_part : {S E : Type 0} (r : Result S E) (s : S) (P : S → Type 0) (Q : E → Type 0) → MatchResult r P Q
     → Some s ≡ result_ok r → P s
 ok_part r s P Q e d = grind arith

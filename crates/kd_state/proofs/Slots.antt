@@ -24,7 +24,7 @@ stands xs number d some = grind (arith, is_numbered)
 pub numbered_at : {X : Type 0} (xs : List X) (place : ℕ) → numbered xs (place + 1) ≡ slice_get xs place
 numbered_at xs place = rw add-one refl
 
--- after a write: what is at the written place, and at other places or numbers
+-- after a write, the written place has the new value, and the other places keep their values
 pub set_here : {X : Type 0} (xs : List X) (place : ℕ) (x : X) → place < length xs
     → slice_get (set xs place x) place ≡ Some x
 set_here xs place x below = grind (arith, common_steps, gets)
@@ -48,7 +48,7 @@ seated_in_box model slots slot wheel allowed e =
     let at = is_numbered slots slot (Some wheel) e in
     (placed model (slot - 1 + 1) wheel (allowed (slot - 1) wheel at.here)).in_box
 
--- the letter is among these exactly if it has a place there
+-- `has_letter` decides whether a letter is among the letters
 pub has_letter-Decides : (letters : List ℕ) (letter : ℕ) → Decides (has_letter letters letter) (Contains letters letter)
 has_letter-Decides letters letter =
     is_member-Decides {eq = λ x y. nat_eq y x} (λ x y. Decides-like _ sym sym (Decides-eqb y x)) letters letter

@@ -5,11 +5,11 @@ use Rattle.kd_state.proofs.Prelude.{pointwise_decides, count_by, Bool, List, [],
 use Rattle.kd_state.proofs.Prelude.{suc, sym, true, ℕ, ◌+◌, ◌<◌, ◌↔◌, ◌∙◌, ◌∷◌, ◌≡◌, ◌≤◌, IsPermutation, pointwise}
 use Rattle.std.specs.Prelude.{if◌then◌else◌, slice_index_or, IsSortedBy}
 
--- 1 if it holds, else 0
+-- 1 for true, 0 for false
 abbrev pub once : Bool → ℕ
 once holds = if holds then 1 else 0
 
--- counting one more element
+-- one more element adds 1 to the count if it passes
 pub count_by-cons : {X : Type 0} (p : X → Bool) (x : X) (xs : List X) → count_by p (x ∷ xs) ≡ once (p x) + count_by p xs
 count_by-cons p x xs = sum_by-cons (λ y. once (p y)) x xs
 

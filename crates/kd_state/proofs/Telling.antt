@@ -114,7 +114,7 @@ same_sizes : {X : Type 0} (xs ys : List X) (place : ℕ) → length xs ≡ lengt
     → is_none (slice_get xs place) ≡ is_none (slice_get ys place)
 same_sizes xs ys place same = grind (arith, slice_get_cases xs place, slice_get_cases ys place)
 
--- the cable is in order, and its letters are new before others
+-- the letters in the cable are in order, and are new before the letters `rest`
 record IsInOrder (cable : Option ℕ × Option ℕ) : Type 0 where
   ordered : ordered cable.0 cable.1 ≡ cable
   rest : List ℕ

@@ -42,7 +42,7 @@ same_wheel_self wheel = grind (arith, same_wheel-Decides)
 pub same_wheel_differs : (wheel other : Wheel) → wheel ≢ other → same_wheel wheel other ≡ false
 same_wheel_differs wheel other h = grind (arith, false_from_ne_true, same_wheel-Decides)
 
--- `has_wheel` decides whether a wheel is one of these; so does `has_reflector` for reflectors
+-- `has_wheel` decides whether a wheel is in a list; so does `has_reflector` for reflectors
 pub has_wheel-Decides : (wheels : List Wheel) (wheel : Wheel) → Decides (has_wheel wheels wheel) (Contains wheels wheel)
 has_wheel-Decides wheels wheel = is_member-Decides same_wheel-Decides wheels wheel
 
@@ -134,7 +134,7 @@ pub seats_Decides : (slots others : List (Option Wheel))
     → Decides (pointwise (option_eq (sameb the_type)) slots others) (slots ≡ others)
 seats_Decides = grind (arith, pointwise_decides, seat_Decides)
 
--- a test that goes along an equal list decides the property of all elements
+-- a test that decides a property of all elements decides it for an equal list
 pub all_tested : {X : Type 0} (P : X → Type 0) (xs ys : List X) (b : Bool) → Decides b (AllByRecursion P xs) → xs ≡ ys
     → Decides b (All P ys)
 all_tested P xs ys b d e = grind (arith, All-from_recursion, recursion_from_All)

@@ -94,7 +94,7 @@ inverse_by_letter p x y h x_lt y_lt = (
   λ e. ap (slice_index p) (sym e ∙ inverse-at p y y_lt) ∙ at_place p y h y_lt,
 )
 
--- If `p` takes each letter back to the one from which `back` took it, `back` is the inverse of `p`.
+-- If `p` undoes `back` on each letter, `back` is the inverse of `p`.
 is_inverse : (p back : List ℕ) → IsPermutation26 p → IsPermutation26 back
     → ((y : ℕ) → y < 26 → slice_index p (slice_index back y) ≡ y) → inverse p ≡ back
 is_inverse p back h hb leads = fill_by_all (slice_index back) (inverse p) 26 0 (inverse_permutes p h).size

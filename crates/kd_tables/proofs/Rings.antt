@@ -21,7 +21,7 @@ pub place_leads_to_letter : (size : ℕ) (ring : List ℕ) → IsRing size ring 
     → place_on ring letter ≡ Some place → slice_index ring place ≡ letter
 place_leads_to_letter size ring h place letter e = grind (arith, eqb-true, position-Some)
 
--- No number but 1 to 6 has letters.
+-- A wheel with another number than 1 to 6 has no letters.
 pub no_ring : (wheel : ℕ) → wheel ≢ 1 → wheel ≢ 2 → wheel ≢ 3 → wheel ≢ 4 → wheel ≢ 5 → wheel ≢ 6 → ring_of wheel ≡ []
 unfolding ring_of
 no_ring wheel e d g h o q = grind arith

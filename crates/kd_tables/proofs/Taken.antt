@@ -1,4 +1,4 @@
--- A text of which a sink takes one part after another.
+-- A sink that takes a text in several puts.
 use Rattle.std.proofs.Common.{◌≡◌, ℕ, ◌+◌, ◌-◌, Bool, false, ◌||◌, List, length, take, drop, Option, arith}
 use Rattle.std.proofs.{KnownBytes.Appends-trans, Math.Seq.take-add, lemmas.List.take_rest}
 use Rattle.std.specs.Io.KnownBytes.{Appends}

@@ -232,8 +232,8 @@ pub number_at : (month : List (Option Day)) (number place : ℕ) (found : Option
 number_at month number place None is within same here = tt
 number_at month number place (Some day) is within same here = is.each number day (grind (arith, slice_get-get_or))
 
--- with one more day, of a new number, a search finds this day for its number and for others what it found
--- before
+-- after one more day with a new number, a search for this number finds the day; a search for another number
+-- finds what it found before
 found_more : (days : List Day) (new : Day) (number : ℕ) → list_any (has (day_number new)) days ≡ false
     → find (has number) (days ++ new ∷ []) ≡ cond (nat_eq (day_number new) number) (Some new) (find (has number) days)
 found_more days new number free = grind (arith, nat_tests, find-append, any_found days number)
@@ -328,7 +328,7 @@ days_are_the_entries members items month number day at e =
 
 -- ---- a sheet that is read
 
--- the sheet has the days that were read so far, and what is read of all items is read on behind them
+-- the sheet has the days read so far; reading all items is reading the rest after these days
 pub record IsMonthOf (items : List Data) (sheet : List (Option Day)) (rest : List Data) : Type 0 where
   pub days : List Day
   pub read : in_turn day_for items ≡ on day_for days rest

@@ -39,7 +39,7 @@ leads_join m between n [] rest first leads = subst (λ machine. Leads machine re
 leads_join m between n (x ∷ front) rest first leads =
     (first.0, first.1, leads_join first.0 between n front rest first.2 leads)
 
--- one more setting is carried out
+-- if the settings so far lead to a machine, and one more is carried out on it, they lead on together
 pub leads_next : (m n o : Parts) (xs : List Setting) (place : ℕ) (x : Setting) → place < length xs
     → get_or xs place x ≡ x
     → Leads m (take place xs) n → Carries n x o → Leads m (take (place + 1) xs) o
@@ -47,14 +47,14 @@ leads_next m n o xs place x within is leads carries =
     let joined = leads_join m n o (take place xs) (x ∷ []) leads (o, carries, refl) in
     grind (arith, take_more xs place x within, within, joined)
 
--- the next setting is refused
+-- if the next setting is refused, it is the first that is refused
 pub stops_at : (m n : Parts) (xs : List Setting) (place : ℕ) (x : Setting) (why : Why) → place < length xs
     → get_or xs place x ≡ x
     → Leads m (take place xs) n → why_refused n x ≡ Some why → IsFirstIllegal m xs (place + 1) why
 stops_at m n xs place x why within is leads refused =
     grind (arith, take-append-drop place xs, drop-cons xs place x within, within, length-take-le place xs (omega arith))
 
--- a refusal that depends on one test only
+-- a setting with one reason to refuse it isn't refused exactly if `P` holds, which the test decides
 pub by_one_test : {P : Type 0} (may : Bool) (why : Why) → Decides may P
     → (first_reason ((not may, why) ∷ []) ≡ None) ↔ P
 by_one_test may why tells = grind (arith, not-false, no_reason, tells.1)

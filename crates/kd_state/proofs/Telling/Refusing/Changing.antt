@@ -109,7 +109,7 @@ left_standing : (wheel other : Wheel) (held : Option (Option Wheel))
     → option_map (without wheel) held ≡ Some (Some other) → (held ≡ Some (Some other)) × (other ≢ wheel)
 left_standing wheel other held e = grind (arith, same_Some, cases_Bool, none-some, both_ways, same_wheel-Decides)
 
--- after a wheel was put into a slot, each wheel in a slot is this one, or was there before
+-- after a wheel was put into a slot, a wheel in any slot is this wheel, or was there before
 seat_cases : (slots : List (Option Wheel)) (at : ℕ) (wheel : Wheel) (place : ℕ) (other : Wheel)
     → StandsAt (set (map (without wheel) slots) at (Some wheel)) place other
     → ((place ≡ at) × (other ≡ wheel)) ⊎ (StandsAt slots place other × (other ≢ wheel))
