@@ -49,7 +49,7 @@ sum_of-columns : (col : List ℤ) (to : List ℕ) → length col ≡ length to �
     sum_of (map (price_at col) to) ≡ sum_of col
 sum_of-columns col to e once = grind (arith, sum_of-left, length, all_columns, get_or_past)
 
--- a relation between a row's two prices and its cost holds between their sums too
+-- a relation between each row's two prices and its cost also holds between their sums
 module _ (R : ℤ → ℤ → Type 0) (none : R (pos 0) (pos 0))
     (adds : (r s c t : ℤ) (k l : ℕ) → R (r +ℤ c) (pos k) → R (s +ℤ t) (pos l) → R ((r +ℤ s) +ℤ (c +ℤ t)) (pos (k + l)))
     (col : List ℤ) where
@@ -67,7 +67,7 @@ module _ (R : ℤ → ℤ → Type 0) (none : R (pos 0) (pos 0))
       adds r _ _ _ _ _ (each 0 (omega arith)) rest
   sums-by_rows _ _ _ e f each = absurd (omega arith)
 
-  -- for a one-to-one assignment, with the sum of all columns' prices
+  -- for a one-to-one assignment, the sum is over the prices of all columns
   pub sums-one_to_one : (cost : List (List ℕ)) (row : List ℤ) (to : List ℕ) → length row ≡ length to
       → length col ≡ length to →
       length cost ≡ length to → HoldsOfRows cost row to → IsOneToOne to →

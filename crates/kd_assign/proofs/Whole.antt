@@ -13,7 +13,7 @@ one_to_one holders to places has = record {
   distinct = λ i k d before h same. grind (arith, has i, has k, get_or_default to i d 0, get_or_default to k d 0);
 }
 
--- no cost is above 4, past the end of the table neither
+-- no cost is above 4, also past the end of the table
 pub cost_at_most : (cost : List (List ℕ)) → CostsAtMost 4 cost → (i j : ℕ) → cost_at cost i j ≤ 4
 cost_at_most cost costs i j = grind (arith, costs, get_or_past)
 

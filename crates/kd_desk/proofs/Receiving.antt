@@ -1,4 +1,4 @@
--- What forms say about orders.
+-- A received form gives back its order's text; a refused form is the form of no order.
 use Rattle.kd_desk.proofs.Prelude.{List, ℕ, ◌++◌, inl, Day, IsLegalDay, FormFault, TellOfOrders}
 use Rattle.kd_form.specs.{FormText.IsReceiveFault, Sending.IsFormOf}
 use Rattle.kd_form.proofs.OneText.{forms_become_one_text, received_forms_have_no_fault, stays_refused}

@@ -95,7 +95,7 @@ shows_after : (key : PinKey) (number size count place : ℕ) (wheel : TurnedWhee
     → (wheel.place + count) % size ≡ place → slice_index wheel.ring place ≡ letter_after key count number
 shows_after key number size count place wheel h shown e = grind (arith, size, size_is, start_place)
 
--- The acting pin of a wheel is the one that acts after no letters.
+-- The acting pin of a wheel is the pin that acts after no letters.
 pub acts_now : (key : PinKey) (number size : ℕ) (wheel : TurnedWheel) → StandsAs number size wheel
     → slice_index key.letters (number - 1) ≡ letter_shown wheel → pins_on key.pins number ≡ wheel.pins
     → pin_acting size wheel

@@ -223,7 +223,7 @@ plugged_push table after pairs pair h can one_lt other_lt e =
     }
 
 module _ (all : List (ℕ × ℕ)) (place : ℕ) (table : List ℕ) (h : IsPlugged table (take place all)) where
-  -- After all pairs are plugged, the table is that of the plugboard.
+  -- After all pairs are plugged, the table is the table of the plugboard.
   pub plugged_all : length all ≤ place → (table ≡ exchange all) × NoLetterTwice all × IsPlugboard table
   plugged_all past =
       let whole = subst (IsPlugged table) (take_all place all past) h in

@@ -34,7 +34,7 @@ pub product-at : (p q : List ℕ) (x : ℕ) → length p ≡ 26 → x < 26
 unfolding followed_by
 product-at p q x size lt = get_or-map (slice_index q) p x 0 0 (omega arith)
 
--- Two permutations are equal if they take each letter to the same one.
+-- Two permutations are equal if they take each letter to the same letter.
 same_maps : (p q : List ℕ) → length p ≡ 26 → length q ≡ 26 → ((x : ℕ) → x < 26 → slice_index p x ≡ slice_index q x)
     → p ≡ q
 same_maps p q long also each = ext_get_or 0 p q (omega arith) (λ x lt. each x (omega arith))

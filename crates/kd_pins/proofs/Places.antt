@@ -1,4 +1,4 @@
--- Places on a pin wheel, and the rest of the way round.
+-- Places on a pin wheel: turning on from a place, and turning all the way round.
 use Rattle.std.proofs.Common.{ℕ, ◌+◌, ◌-◌, ◌<◌, ◌≡◌, arith, sym, ap, ◌∙◌}
 use Rattle.std.proofs.Math.Nat.{add-mod_right, mod-add-mod, mod-eq_of_lt, mod-lt}
 use Rattle.kd_pins.specs.PinWheel.{ActsAt, place_past, place_shown}
