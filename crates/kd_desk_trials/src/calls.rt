@@ -78,7 +78,7 @@ pub type Streams = (Call, Text, &'static [Streamed]);
 
 /// Checks the answer to a text, in pieces of each size.
 ///
-/// After its end, the source isn't read again; that read would fail.
+/// A read after the end of the source would fail, so this also tests that there is none.
 fn is_streamed(rt: &impl Abort, alloc: Global, call: Call, machine: &str, streamed: &Streamed) {
     let (text, answer, written) = streamed;
     for piece in [1, 2, 7] {
@@ -211,7 +211,7 @@ static CALLS: [Call; 6] = [
     Call::Receive(5),
 ];
 
-/// A text that is no TOML document.
+/// A text that isn't a TOML document.
 static NO_TOML: Text = (Empty, "", "=");
 
 /// A machine file, and its fault.

@@ -37,7 +37,7 @@ static ON_A_DAY: [(&str, usize, &str); 4] = [
     ("receive", 6, "x.txt"),
 ];
 
-/// The word for a day, and the day's number, if it is one.
+/// A word for a day, and the day's number if the word is one.
 static DAYS: [(&str, Option<u8>); 14] = [
     ("1", Some(1)),
     ("9", Some(9)),
@@ -55,7 +55,7 @@ static DAYS: [(&str, Option<u8>); 14] = [
     ("-1", None),
 ];
 
-/// Command lines that are no command.
+/// Invalid command lines.
 static OTHERS: [&[&str]; 26] = [
     &["desk"],
     &["desk", ""],
@@ -120,7 +120,7 @@ fn finds_the_machine_and_the_list(rt: HostRuntime) {
 /// A parsed command with a day: machine, sheet, day, the command's name, and the third file.
 type Said<'a> = (&'a str, &'a str, u8, &'a str, &'a str);
 
-/// Parses a command with a day, if the words are one.
+/// Parses `words` as a command with a day.
 fn on_a_day<'a>(alloc: Global, words: &'a [&'a str]) -> Option<Said<'a>> {
     let Command { machine, action } = parse_words(alloc, words).ok()?;
     let Action::OnDay { sheet, day, task } = action else {

@@ -1,4 +1,4 @@
-//! Large files, full months and long lists, none of which is refused for want of memory.
+//! Large files, full months and long lists, none of which is refused for lack of memory.
 use crate::calls::{Call, run};
 use crate::samples::{DAYS, MACHINE};
 use kd_desk::DeskFault::{self, Doubtful, File, Illegal};
@@ -51,7 +51,7 @@ fn ends(
     ran.ended(rt, answer, written.as_bytes());
 }
 
-/// Checks that files after so many comments are read as without them, and have the same faults.
+/// Checks that `comments` comments before the files change neither what is read nor the faults.
 fn are_read(rt: &impl Abort, alloc: Global, comments: usize) -> Result<(), AllocError> {
     let machine = padded(alloc, comments, MACHINE)?;
     let sheet = padded(alloc, comments, DAYS)?;

@@ -22,7 +22,7 @@ impl Read for Interrupted {
     }
 }
 
-/// A reader whose reads fail for want of memory.
+/// A reader whose reads fail for lack of memory.
 #[derive(Drop)]
 struct OutOfMemory;
 
@@ -103,7 +103,7 @@ fn a_read_that_finds_no_memory_says_so(rt: HostRuntime) {
     assert!(rt; source.lacks_memory());
 }
 
-/// How many bytes are put into a writer with room for 1,103, how many it takes, and whether a put has failed.
+/// Puts into a writer with room for 1,103 bytes: the size, the answer, and whether a put has failed.
 static PUTS: [(usize, Result<usize, Failed>, bool); 7] = [
     (0, Ok(0), false),
     (1100, Ok(1100), false),

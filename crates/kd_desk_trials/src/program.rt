@@ -80,7 +80,7 @@ fn files() -> [Held<'static>; 10] {
     HELD.map(|(name, text)| (name, text.as_bytes()))
 }
 
-/// Some of these files, and a file with the bytes `long`.
+/// Three short files, and a file with the bytes `long`.
 fn with_long(long: &[u8]) -> [Held<'_>; 4] {
     [
         ("m", MACHINE.as_bytes()),
@@ -100,10 +100,10 @@ letters = \"BAAAA\"
 cables = [\"\", \"\", \"\", \"\", \"\", \"\", \"\", \"\", \"\", \"\", \"\", \"\", \"\"]
 ";
 
-/// The line for words that are no command.
+/// The line for an invalid command line.
 const USAGE: &str = "usage: desk COMMAND WORDS\n";
 
-/// The lines for a file that is missing, one that is too long, one that is no TOML document, and other faults.
+/// The lines for a missing file, for a file that is too long, and for other faults.
 const MISSING: &str = "refused 6 Device\n";
 
 const TOO_LONG: &str = "refused 38 ReadTooLong\n";
@@ -168,7 +168,9 @@ static STOPPED: [Stopped; 22] = [
     (&["desk", "receive", "m", "s", "17", "none"], MISSING),
 ];
 
-/// Command lines with a file that is one byte too long. An order is opened with the other files, and not read yet.
+/// Command lines with a file that is one byte too long.
+///
+/// An order is opened together with the other files, and isn't read yet.
 static LONG: [Stopped; 6] = [
     (&["desk", "type", "long"], TOO_LONG),
     (&["desk", "apply", "none", "long"], MISSING),
@@ -194,7 +196,9 @@ fn stops_before_it_writes(rt: HostRuntime) -> Result<(), AllocError> {
     Ok(())
 }
 
-/// The lines for an order or a form that can't be read: the faults of machine file, sheet, day and machine come first.
+/// The lines for an order or a form that can't be read.
+///
+/// The faults of machine file, sheet, day and machine come first.
 static CUT_OFF: [Stopped; 10] = [
     (&["desk", "send", "bad", "bad", "5", "f"], NO_TOML),
     (&["desk", "send", "empty", "bad", "5", "f"], NO_TOML),
@@ -208,7 +212,7 @@ static CUT_OFF: [Stopped; 10] = [
     (&["desk", "check", "m", "s", "5", "f"], NO_SUCH_DAY),
 ];
 
-/// Files that are read as in memory; those that are opened fail at the first read.
+/// Files in memory, where a file that is opened for streaming fails at the first read.
 #[derive(Drop)]
 struct CutOff<'n> {
     files: MemoryFiles<'n>,

@@ -12,7 +12,7 @@ use kd_trials::named::TextName::{
 };
 use std::alloc::AllocError;
 
-/// Lists and cards that are carried out; a card's day and prices don't count.
+/// Lists and cards that are carried out; a card's day and prices make no difference.
 ///
 /// In an empty list, the part that is replaced is empty, and the replacement is the whole list.
 static APPLIED: [Cards; 16] = [

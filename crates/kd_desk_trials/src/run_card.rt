@@ -8,7 +8,7 @@ use std::alloc::{AllocError, Global};
 use std::process::Abort;
 use std::test::Fail;
 
-/// Machines, and their cards, if no price is free.
+/// Machines whose cables or bars already are as the day has them, and their whole cards.
 static UNPRICED: [Streams; 6] = [
     (Call::Card(11), ENIGMA, &[("", Ok(()), EMPTY_KINDS)]),
     (
@@ -63,7 +63,9 @@ fn prints_cards_without_prices(rt: HostRuntime) -> Result<(), AllocError> {
     are_streamed(&rt, rt.alloc(), &UNPRICED)
 }
 
-/// A machine, a day, how its card begins and ends, and how often some texts are in it. The prices are free.
+/// A machine, a day, how its card begins and ends, and how often some texts are in it.
+///
+/// Prices that could be chosen otherwise aren't tested.
 type Priced = (
     Text,
     u8,
@@ -168,7 +170,7 @@ static PRICED: [Priced; 7] = [
     ),
 ];
 
-/// Checks a card with free prices.
+/// Checks how a card begins and ends, and how often some texts are in it.
 fn is_printed(
     rt: &impl Abort,
     alloc: Global,

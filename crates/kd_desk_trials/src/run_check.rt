@@ -13,7 +13,7 @@ use kd_trials::named::TextName::{
 };
 use std::alloc::AllocError;
 
-/// Changes of the card without settings that make it no card, line by line.
+/// Changes that make the card without settings invalid, line by line.
 pub const FAULTY_CABLES: &[Judged] = &[
     ("CARD 1", "CARD 3", Err(Card(BadHead))),
     ("DAY 11", "DAY 0", Err(Card(BadHead))),
@@ -37,7 +37,7 @@ pub const FAULTY_CABLES: &[Judged] = &[
     ("SUM 0\n", "SUM 0\n\n", Err(Card(Trailing))),
 ];
 
-/// Changes of the card that moves one lug that make it no card.
+/// Changes that make the card that moves one lug invalid.
 pub const FAULTY_BARS: &[Judged] = &[
     ("BARS 1", "BARS +1", Err(Card(BadLine(4)))),
     ("BARS 1", "BARS 01", Err(Card(BadLine(4)))),
@@ -50,7 +50,7 @@ pub const FAULTY_BARS: &[Judged] = &[
     ("SUM 1\n", "SUM", Err(Card(BadLine(6)))),
 ];
 
-/// Cards and their answers. A card's own fault comes before `OtherDay`, and this before the doubts.
+/// Cards and their answers. A card's own fault comes before `OtherDay`, and `OtherDay` before the doubts.
 static CHECKED: [Cards; 18] = [
     (
         Call::Check(8),

@@ -104,7 +104,7 @@ impl Source for Spaces {
     }
 }
 
-/// A number of spaces, in the last case without end, the answer, and what is written.
+/// How many spaces are typed, the answer, and what is written. The last source has no end.
 static SPACES: [(usize, Result<(), DeskFault>, &str); 3] = [
     (1_048_576, Ok(()), "\n"),
     (1_048_577, Err(ReadTooLong), ""),

@@ -5,7 +5,7 @@ ghost use Rattle.kd_assign.specs.Prices.{CostsAtMost};
 use kd_assign::assign;
 use std::process::Abort;
 
-/// Checks the assignment `to` for the table `cost`, its total cost, and the number of comparisons.
+/// Checks that `assign` answers with the assignment `to`, this total cost and this number of comparisons.
 fn is_answered<const N: usize>(
     rt: &impl Abort,
     cost: &[[u8; N]; N],

@@ -10,8 +10,7 @@ use std::process::Abort;
 /// A day of a Converter, how many bars the first letter meets, and the ciphertext of letters A.
 type Case = (File, u8, &'static [u8]);
 
-/// In the first case, two wheels meet one bar, which counts once. In the second, one pin meets all bars, and
-/// acts on the first letter alone.
+/// A bar that two wheels meet counts once. One pin meets all bars, for the first letter alone.
 static CASES: [Case; 2] = [
     (
         (

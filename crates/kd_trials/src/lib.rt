@@ -1,4 +1,4 @@
-//! Tests of the public calls of the crates below the desk: a module for each crate, and sample machines and days.
+//! Tests of the public calls of all crates but `kd_desk`: a module for each crate, and samples.
 //!
 //! The tests have a crate of their own, since a crate with tests is proved twice.
 #![tactic(auto)]

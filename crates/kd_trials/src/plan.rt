@@ -9,7 +9,7 @@ use kd_tables::MemorySink;
 use std::alloc::Global;
 use std::process::Abort;
 
-/// A machine and a day, and how their card begins and ends. The prices between are free.
+/// A machine and a day, and how their card begins and ends. The prices in between aren't tested.
 type Case = (Told, &'static str, &'static str);
 
 /// The prices if no cable has to be moved.

@@ -38,6 +38,8 @@ static OF_THREE: [(&[Wheel; 3], &[u8; 3], &[[u8; 3]]); 4] = [
     ),
 ];
 
+/// Compares the windows for three wheels, and for four.
+///
 /// The middle wheel steps twice in a row, but only once if the right wheel is at its notch too. A wheel can
 /// have two notches. Beta never steps.
 #[test]

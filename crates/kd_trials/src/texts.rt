@@ -75,7 +75,7 @@ rings = \"AAAAAAAAAA\"
 letters = \"AAAAAAAAAA\"
 ";
 
-/// A Converter M-209 all of whose bars are met by the first wheel.
+/// A Converter M-209 whose first wheel meets all bars.
 pub const ALL_MET: &str = "version = 1
 model = \"M-209\"
 letters = \"AAAAAA\"
@@ -86,7 +86,7 @@ bars = [\"1-0L\", \"1-0L\", \"1-0L\", \"1-0L\", \"1-0L\", \"1-0L\", \"1-0L\", \"
 ]
 ";
 
-/// A Converter M-209 without effective pins, all of whose lugs are idle.
+/// A Converter M-209 without effective pins, whose lugs are all at the zeros.
 pub const WITHOUT_PINS: &str = "version = 1
 model = \"M-209\"
 letters = \"AAAAAA\"
@@ -233,7 +233,7 @@ ROW 3-4 27 0
 SUM 54
 ";
 
-/// A card by kind: a cable with one letter comes before cables with two letters.
+/// A card with prices by kind; a cable with one letter comes before cables with two letters.
 pub const HALF_CABLES: &str = "CARD 2 DAY 31
 SETTINGS 0
 CABLE A 1 -9999

@@ -184,7 +184,7 @@ fn no_more_than_192_settings_are_read(rt: HostRuntime) -> Result<(), AllocError>
     Ok(())
 }
 
-/// The fault of a card that ends after `front`.
+/// The fault of a card's prefix `front`.
 fn fault_behind((_, _, lines): &Sample, front: &[u8]) -> CardFault {
     let (count, sum) = *lines;
     match front.split(|byte| *byte == b'\n').count() {

@@ -9,8 +9,8 @@ use std::test::Fail;
 
 /// A text of letters A that is sent and received back.
 ///
-/// `told` are the machine and its day, `keys` is the line of keys for each part. The other fields say how the
-/// form begins, how its last part begins, and how long this part and the form are.
+/// `told` names the machine and its day, and `keys` is the line of keys for each part. The other fields say
+/// how the form and its last part begin, and how long both are.
 struct Case {
     told: Told,
     keys: &'static str,
@@ -25,7 +25,8 @@ struct Case {
 }
 
 static CASES: [Case; 6] = [
-    // The body of 250 letters has five lines of 60 bytes; that of 520 has ten, and one of 24.
+    // The body of 250 letters has five lines of 60 bytes. The body of 520 letters has ten such lines, and one
+    // of 24 bytes.
     Case {
         told: PLAIN,
         keys: KEYS,

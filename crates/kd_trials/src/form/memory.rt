@@ -52,7 +52,7 @@ fn idle(rt: &impl Abort) -> Option<Keyed> {
     Some((Machine::pin(parts)?, day))
 }
 
-/// The direction of a message, the message, and what it becomes, or its fault.
+/// The direction of a message, the message, and its form, its text or its fault.
 type Case = (Way, &'static str, Result<&'static str, FormFault>);
 
 static OF_AN_ENIGMA: [Case; 7] = [

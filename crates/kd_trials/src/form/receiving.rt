@@ -280,12 +280,14 @@ fn a_message_of_1941(rt: HostRuntime) -> Result<(), Fail> {
     Ok(())
 }
 
-/// A length, and the text and the fault of each prefix of the form that is shorter than this length.
+/// A length, and the text and the fault of the form's prefixes that are shorter than this length.
 ///
-/// It holds from the length of the case before on.
+/// Prefixes that are shorter than the length in the case before belong to that case.
 type Cut = (usize, &'static [u8], Option<FormFault>);
 
-/// Prefixes of a form of two parts. A part is complete at the end of the form, or at the digit of the next heading.
+/// Prefixes of a form of two parts.
+///
+/// A part is complete at the end of the form, or at the digit of the next heading.
 static OF_TWO_PARTS: [Cut; 7] = [
     (19, b"", Some(BadHeading(1))),
     (31, b"", Some(CountWrong(1))),

@@ -128,8 +128,10 @@ fn orders_are_sent(rt: HostRuntime) {
     }
 }
 
-/// A machine and its day, a line of keys, how many of them and how many letters A an order has, its fault, and
-/// how many bytes the stream has written by then.
+/// A long order, its fault, and how many bytes the stream has written by then.
+///
+/// The order is given by a machine and its day, a line of keys, the number of these lines, and the number of
+/// its letters A.
 type LongCase = (Told, &'static str, usize, usize, FormFault, usize);
 
 /// With too many lines of keys the first part is written before the fault; with too few, nothing is.

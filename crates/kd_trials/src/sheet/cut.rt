@@ -1,4 +1,4 @@
-//! Files that are cut at each place, and files with a byte there that no text has.
+//! Files that are cut off at each place, and files with a byte FF at each place.
 use super::Kind::{self, MachineFile, Sheet};
 use super::fault;
 use crate::texts::M1_WRITTEN;
@@ -10,10 +10,10 @@ use std::process::Abort;
 /// A file, and the lengths of its prefixes that are valid files.
 type Case = (&'static str, &'static [usize]);
 
-/// The machine file may end before its line of cables, which may be missing, and at its end; there with or without LF.
+/// The machine file may lack its last line, for the cables, and the LF at its end.
 static MACHINE_FILES: [Case; 1] = [(M1_WRITTEN, &[107, 108, 169])];
 
-/// A sheet with one day for each model. Each ends in a key that may not be missing.
+/// A sheet with one day for each model. Each day ends in a required key.
 static SHEETS: [Case; 4] = [
     (
         "[[day]]\nday = 1\nmodel = \"Enigma I\"\nreflector = \"B\"\nwheels = [\"I\", \"II\", \"III\"]
@@ -49,7 +49,7 @@ fn are_read_whole(rt: &impl Abort, alloc: Global, kind: &Kind, (file, whole): &C
     }
 }
 
-/// `text` with a byte FF in the place of the byte at `place`, or after the last one.
+/// `text` with a byte FF in place of the byte at `place`, or after the last byte.
 fn with_other_byte(text: &[u8], place: usize) -> ArrayVec<u8, 1024> {
     let mut other = ArrayVec::new();
     let behind = text.get(place..).unwrap_or(&[]).get(1..).unwrap_or(&[]);

@@ -5,7 +5,7 @@ use crate::named::TextName::{DayOf1941, DayOfAllMet, DayWithoutPins, M1, PlainDa
 use kd_state::SheetDay;
 use kd_tables::{Letter, Model, Reading, Reflector, Wheel};
 
-/// A machine and a day, whether the machine is on the day's key, and whether it shows the day's letters too.
+/// A machine and a day, whether the machine is on the day's key, and whether it reads as the day.
 type Case = (Told, bool, bool);
 
 static CASES: [Case; 8] = [

@@ -16,7 +16,9 @@ fn tells_its_parts(machine: &Machine) -> bool {
         && machine.cable(13) == Some((None, None))
 }
 
-/// Whether the calls of `Machine` give the parts of a Converter with a bar at 1-2 and a pin at O of wheel 2.
+/// Whether the calls of `Machine` give the parts of a Converter.
+///
+/// Its bar 1 stands at 1-2, and a pin at O of wheel 2 is effective.
 fn tells_its_letters_and_bars(machine: &Machine) -> bool {
     machine.model() == Model::M209
         && machine.shown(6) == Some(Letter::A)
