@@ -1,4 +1,4 @@
-//! For each column, how near it is to a tree and to which row of the tree.
+//! For each column, the nearest row of a growing tree, and how near this row is.
 ghost use Rattle.std.specs.Prelude.{◌≡◌, ℕ, ◌+◌, ◌^◌, ◌<◌, ◌≢◌, ◌⊎◌, false, if◌then◌else◌, Some, IfSome, IsSomeAnd};
 ghost use Rattle.std.specs.Prelude.{All};
 ghost use Rattle.std.specs.Prelude.{length, count_by, slice_index, ℤ, pos, neg_ℤ, ◌+ℤ◌, ◌-ℤ◌, ◌≤ℤ◌};
@@ -85,9 +85,10 @@ impl<const N: usize> Nearest<N> {
         self.ceiling[column] - prices[column]
     }
 
-    /// The number that `row` adds to each of its costs when it joins the tree with its `column`.
+    /// The level of `row`, which joins the tree with its own `column`.
     ///
-    /// The cost of `row` at `column`, plus this number, is the ceiling of `column`.
+    /// Level plus cost gives the price at which `row` would take a column. For its own column this is the
+    /// ceiling.
     pub fn level(&self, cost: &[[u8; N]; N], row: usize, column: usize) -> i16
         requires row { row < N }
         requires column { column < N }

@@ -115,7 +115,7 @@ module _ (source sink : Port) (answer : Result (Unit {0}) Stop) where
   carried_out meant command (inl is) done = subst (λ r. CarriesOut r source sink answer) is (inl done)
   carried_out meant command (inr lacks) done = cc
 
-  -- each command that the words say is the one parsed, whatever is known of the files
+  -- each command that the words say is the parsed command, whatever is known of the files
   module _ (known : Known) (said command : Named) (same : said ≡ command) where
     abbrev Meant : (List ℕ → Option (List ℕ)) → Type 0
     Meant held = CarriesOut (command_over held command) source sink answer

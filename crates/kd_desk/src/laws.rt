@@ -1,4 +1,4 @@
-//! Laws: settings have exactly one answer, and each card of a month sets the machine to its day.
+//! Laws of settings and of months: how bytes are read, and how a month's cards set the machine to each day.
 ghost use Rattle.std.specs.Prelude.{◌≡◌, All};
 ghost use Rattle.kd_state.specs.Machine.{model_of};
 ghost use Rattle.kd_state.specs.SheetDay.{day_model};
@@ -43,7 +43,7 @@ pub fn months_are_fewest()
     ensures { MonthsAreFewest }
 {}
 
-/// The owner of ten cables, or of any other number, never needs one more.
+/// If no day has more pairs than the owner has cables, no card of the month needs another cable.
 ///
 /// Say that a machine uses only its first ten cables, and no day has more than ten pairs. Then no card of the
 /// month names another cable, and the machine never uses one.

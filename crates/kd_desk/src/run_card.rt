@@ -53,7 +53,7 @@ pub fn print_card<W: Sink>(machine: &Machine, day: &SheetDay, sink: &mut W) -> R
     Ok(())
 }
 
-/// Replaces the card's prices of single cables and bars by one price for each kind.
+/// Returns `card` with prices by kind: one price for all cables, bars, pairs or rows that are alike.
 pub(crate) fn in_kinds(machine: &Machine, day: &SheetDay, card: &Card) -> Card
     requires machine { IsMachine machine.now }
     requires day { IsLegalDay day.now }

@@ -15,9 +15,9 @@ use std::alloc::Global;
 ///
 /// The form is streamed: a part's text is written once the next part begins. The machine file's faults come
 /// first, then the sheet's, then `NoSuchDay`, `NotReady` and `NotOnKey`. After each of these, nothing is read
-/// or written. Then come the form's faults, `ReadTooLong` if it has more than 1,048,576 bytes, and `Device`
-/// if a read or a write fails. By then the texts of the parts before the fault are written, or a prefix of
-/// them if a write failed.
+/// or written. Then come the form's faults, `ReadTooLong` if the form has more than 1,048,576 bytes, and
+/// `Device` if a read or a write fails. By then the texts of the parts before the fault are written, or a
+/// prefix of them if a write failed.
 pub fn run_receive<R: Source, W: Sink>(
     alloc: Global,
     machine: &[u8],

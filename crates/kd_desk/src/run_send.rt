@@ -15,7 +15,7 @@ use std::alloc::Global;
 ///
 /// The order is streamed: a part is written once the first letter of the next part is read. The machine
 /// file's faults come first, then the sheet's, then `NoSuchDay`, `NotReady` and `NotOnKey`. After each of
-/// these, nothing is read or written. Then come the order's faults, `ReadTooLong` if it has more than
+/// these, nothing is read or written. Then come the order's faults, `ReadTooLong` if the order has more than
 /// 1,048,576 bytes, and `Device` if a read or a write fails. By then the parts made so far are written, or a
 /// prefix of them if a write failed.
 pub fn run_send<R: Source, W: Sink>(

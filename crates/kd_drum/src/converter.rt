@@ -122,7 +122,7 @@ impl Converter {
         }
     }
 
-    /// The number of bars that the next letter meets.
+    /// The number of bars that the wheels meet at the next letter.
     pub fn met(&self) -> u8
         ensures value { result ≡ bars_met self.now 0 }
         ensures most { result ≤ 27 }
@@ -173,7 +173,7 @@ impl Converter {
     }
 }
 
-/// The letter at the place of `letter` in the reversed alphabet, moved on by the number of bars met.
+/// The letter at the place of `letter` in the reversed alphabet, moved on by `met` places.
 fn reversed(met: u8, letter: Letter) -> Letter
     requires { met ≤ 27 }
     ensures { result ≡ (25 + met - letter) % 26 }

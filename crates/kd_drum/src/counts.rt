@@ -1,10 +1,10 @@
-//! How many bars are met, in a table with an entry for each set of wheels.
+//! How many bars the wheels meet: a table with an entry for each set of wheels.
 ghost use Rattle.std.specs.Prelude.{◌≡◌, ◌≤◌, ◌||◌};
 ghost use Rattle.kd_drum.specs.Counts.{AreCounts, is_in, met_by};
 
 use kd_tables::Reading;
 
-/// Counts the bars that are met, for each set of wheels with an effective acting pin.
+/// For each set of wheels with an effective acting pin, counts the bars that these wheels meet.
 ///
 /// A set is a sum: 1 for wheel 1, 2 for wheel 2, and so on up to 32 for wheel 6.
 pub(crate) fn counts(rows: &[Reading; 27]) -> [u8; 64]
@@ -17,7 +17,7 @@ pub(crate) fn counts(rows: &[Reading; 27]) -> [u8; 64]
     counts
 }
 
-/// Counts the bars that are met while the acting pins of the set `wheels` are effective.
+/// Counts the bars that the wheels of the set `wheels` meet.
 fn met_by(rows: &[Reading; 27], wheels: usize) -> u8
     ensures { result ≡ met_by rows.now wheels }
 {

@@ -15,13 +15,13 @@ pub fn pairs_make_a_plugboard()
     ensures same { SamePairsExchangeAlike }
 {}
 
-/// A plugboard without cables leaves each letter.
+/// A plugboard without cables leaves each letter unchanged.
 #[tactic(auto, using(crate::proofs::Cables::no_cables))]
 pub fn an_empty_board_is_a_plugboard()
     ensures { IsPlugboard (exchange []) }
 {}
 
-/// The path of the current takes each letter to another one, and that one back.
+/// The path of the current takes each letter to another letter, and the other letter back to it.
 #[tactic(auto, using(crate::proofs::Ways::paths_lead_back, crate::proofs::Ways::paths_move_each_letter))]
 pub fn path_is_its_own_inverse()
     ensures own_inverse { PathsLeadBack }

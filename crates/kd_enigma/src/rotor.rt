@@ -10,7 +10,7 @@ use std::marker::Model;
 
 /// A wheel with its ring, and with what lies to its right: the plugboard, or nothing.
 ///
-/// For each letter in the window it keeps two permutations: the one on the way in, and the one on the way back.
+/// For each window letter, it keeps the permutations on the way in and on the way back.
 #[derive(Drop)]
 pub(crate) struct Rotor {
     wheel: Wheel,

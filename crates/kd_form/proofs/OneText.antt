@@ -51,7 +51,7 @@ module _ (s : Day) where
   reads_then q B p (part ∷ parts) others letters more (inr (count, one, left, is, due, reads, joined)) rest =
       grind (arith, reads_then q B (place_behind p count part) parts others left more reads rest, append_assoc)
 
-  -- no part can be read from a rest of which `A` holds, on the way to a rest of which `B` holds
+  -- from a rest with `A`, no part can be read on the way to a rest with `B`
   abbrev pub NeverPasses : OfRest → OfRest → Type 0
   NeverPasses A B =
       (p : Place) (part : List ℕ) (parts : List (List ℕ)) (count : ℕ) (one more : List ℕ) → A p (part ∷ parts)

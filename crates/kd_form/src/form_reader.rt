@@ -105,7 +105,7 @@ impl MessageReader for FormReader {
 
 /// The fault of a form that ends within the heading line of part `number`.
 ///
-/// If the heading is valid, the fault is that its body has no letters.
+/// If the heading is valid, the fault is `CountWrong`, because the body is missing.
 fn fault_in_heading(
     day: &SheetDay,
     number: u8,
@@ -146,7 +146,7 @@ fn heading_from(digit: u8) -> ArrayVec<u8, LINE>
 
 /// Returns `heading` if its part is `number` and it has the expected number of parts.
 ///
-/// The fault is `BadHeading` if there is no heading, and `PartOrder` for another number.
+/// The fault is `BadHeading` if there is no heading, and `PartOrder` if one of the numbers differs.
 fn check_heading(
     number: u8,
     expected: Option<u8>,

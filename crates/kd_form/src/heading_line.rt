@@ -108,7 +108,7 @@ fn is_letter_count(day: &SheetDay, count: u16) -> bool
     }
 }
 
-/// Reads the words of a heading line, if they are a heading of the day's model.
+/// Reads `words` as a heading of the day's model.
 fn heading_of_words(day: &SheetDay, words: &[&[u8]]) -> Option<Heading>
     ensures { AreHeadingWords day.now (map (λ word. word.now) words.now) result }
 {

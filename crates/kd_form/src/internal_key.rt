@@ -24,7 +24,7 @@ pub(crate) fn internal_key_of(own: &mut OwnMachine, keys: &PinKeys) -> Option<Ar
 
 /// Picks a letter for each of the six wheels, in order; `None` if `letters` run out.
 ///
-/// A letter that isn't on the wheel in turn is skipped.
+/// A letter that isn't on the next wheel is skipped.
 #[tactic(auto, using(crate::proofs::MadeParts::picking_none, crate::proofs::MadeParts::picking_more))]
 fn internal_key(letters: &[Letter]) -> Option<ArrayVec<Letter, 6>>
     ensures { MatchOption result

@@ -16,7 +16,7 @@ pub(crate) struct RotorKeys {
     pub(crate) start: PerSlot<Letter>,
     /// The message key: the letters in the windows before the text is enciphered.
     pub(crate) key: PerSlot<Letter>,
-    /// The two letters before the group.
+    /// Two letters of the sender's choice, written before the group.
     pub(crate) fillers: [Letter; 2],
     /// The letters of one of the day's groups, in any order.
     pub(crate) group: [Letter; 3],

@@ -68,7 +68,7 @@ fn text_of(
     text
 }
 
-/// The ground, and the message key enciphered from the ground.
+/// The indicator: the ground, and the message key enciphered from the ground.
 #[tactic(auto, using(crate::proofs::MadeParts::enciphered_length))]
 fn indicator_of(own: &mut OwnMachine, keys: &RotorKeys) -> Indicator
     requires { AreKeys own.old (Keys.Rotor keys.now) }

@@ -1,4 +1,4 @@
-//! The day's own machine, with any letters in its windows; and `push_letters`.
+//! OwnMachine: a machine set as the day says, with any letters in its windows; and `push_letters`.
 ghost use Rattle.std.specs.Prelude.{◌≡◌, ◌↔◌, ◌≤◌, ◌+◌, ◌<◌, ◌++◌, length, All, IsTrue};
 ghost use Rattle.std.specs.Bool.{OnTrue};
 ghost use Rattle.kd_state.specs.TwoCiphers.{sheet_key, IsWindow};
@@ -9,7 +9,7 @@ use kd_state::{Engine, SheetDay, own_engine};
 use kd_tables::Letter;
 use std::marker::Model;
 
-/// The day's own machine, whose windows are set anew for each text.
+/// A machine set as the day says, whose windows are set anew for each text.
 #[derive(Drop)]
 pub(crate) struct OwnMachine<'day> {
     pub(crate) day: &'day SheetDay,
@@ -29,7 +29,7 @@ impl<'day> Model for OwnMachine<'day> {
 }
 
 impl<'day> OwnMachine<'day> {
-    /// Creates the machine as the day sets it.
+    /// Creates a machine that is set as `day` says.
     #[tactic(auto, using(crate::proofs::MadeParts::own_at_first))]
     pub(crate) fn new(day: &'day SheetDay) -> Self
         ensures { result ≡ day.now }

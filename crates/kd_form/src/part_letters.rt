@@ -42,7 +42,7 @@ fn read_rotor_letters(
     Ok(own.enciphered(key.as_slice(), &letters[5..]))
 }
 
-/// Whether the last ten letters are the first ten, and the first two are the same.
+/// Whether the last ten letters repeat the first ten, and the first two letters are equal.
 #[tactic(auto, using(crate::proofs::Lines::comparing))]
 fn has_indicators_around(letters: &[Letter]) -> bool
     requires { 20 ≤ length letters.now }

@@ -8,7 +8,7 @@ ghost use Rattle.kd_form.specs.Patterns.{blanks, fits, letters_at, IsFilledLine,
 use arrayvec::ArrayVec;
 use kd_tables::Letter;
 
-/// The most letters that a pattern has, as in a line of keys for four slots.
+/// The most letters that a pattern has: a line of keys for four slots has 13.
 const MOST: usize = 13;
 
 /// Why bytes can't be read as a line of a pattern.

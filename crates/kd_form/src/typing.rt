@@ -47,9 +47,11 @@ pub fn type_stream<R: Source, W: Sink>(
 #[derive(Drop)]
 pub(crate) struct Typist {
     engine: Engine,
-    /// How many bytes were typed.
+    /// How many bytes of the text were read.
     read: usize,
-    /// The letters of a piece. Both vectors are reused, so that their places are filled only once.
+    /// The letters of the current piece.
+    ///
+    /// `letters` and `lamps` are reused, so that their places are filled only once.
     letters: ArrayVec<Letter, PIECE>,
     /// The lamps that lit up, as capital letters.
     lamps: ArrayVec<u8, PIECE>,

@@ -69,7 +69,7 @@ impl FromItem<()> for Reading {
     }
 }
 
-/// Reads the 27 readings that a key sheet asks of the bars.
+/// Reads the 27 readings that a key sheet wants of the bars.
 #[tactic(auto, unfolding(crate::specs::Bars::rows_in))]
 pub fn rows_in(table: &Table) -> Result<[Reading; BARS], SheetFault>
     ensures { result ≡ rows_in (table_view table.now) }

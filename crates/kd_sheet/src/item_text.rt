@@ -1,4 +1,4 @@
-//! How seats, cables and standings are written as items of an array.
+//! How seats (a wheel or none), cables and standings are written as items of an array.
 ghost use Rattle.std.specs.Prelude.{◌≡◌, ℕ, List};
 ghost use Rattle.{kd_tables.specs.Places.{standing_text}, kd_sheet.specs.MachineText.{cable_text, seat_text}};
 

@@ -10,7 +10,7 @@ use super::key::Key;
 use arrayvec::ArrayVec;
 use toml::{Table, Value};
 
-/// A type that an item of an array can be read as. `Given` is what this needs besides the items.
+/// A type that an item of an array can be read as. `Given` is anything else that reading it takes.
 pub trait FromItem<Given> {
     /// What an item is read as, after the items `before`: a value or a fault.
     ghost reading: { Given → List Self → Data → Result Self SheetFault };

@@ -97,7 +97,7 @@ fn pin_parts_in(table: &Table) -> Result<PinParts, SheetFault>
     })
 }
 
-/// Reads the machine of `model`.
+/// Reads a machine of `model`.
 #[tactic(auto, using(crate::proofs::ReadBack::Described::rotor_parts_legal, crate::proofs::ReadBack::Described::pin_parts_legal), unfolding(crate::specs::MachineFile::parts_in))]
 fn parts_in(table: &Table, model: Model) -> Result<Machine, SheetFault>
     ensures { result ≡ parts_in model (table_view table.now) }
@@ -124,8 +124,8 @@ fn machine_in(table: &Table) -> Result<Machine, SheetFault>
 
 /// Reads a machine file of version 1 or 2, or returns its first fault. The M4 needs version 2.
 ///
-/// `NoMemory` may come instead of any other answer. Only parsing the document allocates memory, but no clause
-/// says that memory really ran out.
+/// `NoMemory` may come instead of any other answer. Only parsing the document allocates memory, but the
+/// contract doesn't say that memory really ran out.
 pub fn read_machine(alloc: Global, bytes: &[u8]) -> Result<Machine, SheetFault>
     ensures { Answers result (machine_of bytes.now) }
 {

@@ -1,4 +1,4 @@
-//! Reading which wheel stands in each slot, from the left.
+//! Reads which wheel is in each slot, from the left.
 ghost use Rattle.std.specs.Prelude.{◌≡◌, ◌<◌, length};
 ghost use Rattle.toml.specs.View.{table_view};
 ghost use Rattle.kd_tables.specs.Tables.{slots_of};

@@ -55,8 +55,8 @@ fn month_of_items(items: &[Value]) -> Result<Sheet, SheetFault>
 
 /// Reads a key sheet, or returns its first fault.
 ///
-/// `NoMemory` may come instead of any other answer. Only parsing the document allocates memory, but no clause
-/// says that memory really ran out.
+/// `NoMemory` may come instead of any other answer. Only parsing the document allocates memory, but the
+/// contract doesn't say that memory really ran out.
 #[tactic(auto, unfolding(crate::specs::SheetFile::sheet_in))]
 pub fn read_sheet(alloc: Global, bytes: &[u8]) -> Result<Sheet, SheetFault>
     ensures { Answers result (sheet_of bytes.now) }

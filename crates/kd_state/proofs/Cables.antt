@@ -81,7 +81,7 @@ pub without_moves : (letter : ℕ) (one other : Option ℕ) → has_letter (cabl
 without_moves letter one other h =
     grind (arith, true≢false, eq-eqb, Some, IsPermutation-append_comm (cable_letters (one, None)) (letter ∷ []))
 
--- a letter put into a loose end joins the cable's letters
+-- a letter put into a cable with one letter joins this letter
 after_end : (letter end : ℕ) → IsPermutation (letter ∷ end ∷ []) (cable_letters (ordered (Some end) (Some letter)))
 after_end letter end =
     IsPermutation-trans (letter ∷ end ∷ []) (end ∷ letter ∷ []) (cable_letters (ordered (Some end) (Some letter)))

@@ -14,7 +14,7 @@ ghost use Rattle.kd_state.specs.Laws.{EquallySetDecipher, TheDayDeciphersItself,
 ghost use Rattle.kd_state.specs.Laws.{TestsTellLetters, ThirteenColumns, ColumnsAreThePairs, CablesCostFour};
 ghost use Rattle.kd_state.specs.Laws.{CostTablesAreSquare};
 
-/// Joining words with single spaces and splitting the line are inverses. The line has no LF.
+/// Joining words with single spaces and splitting a line at its spaces undo each other. The line has no LF.
 #[tactic(auto, using(crate::proofs::Lines::lines_tell_words, crate::proofs::Lines::lines_split_into_words, crate::proofs::Lines::parts_make_lines, crate::proofs::Lines::words_make_one_line))]
 pub fn lines_tell_words()
     ensures told { LinesTellWords }

@@ -80,9 +80,9 @@ impl SheetDay {
 
     /// Creates a day of the Converter M-209.
     ///
-    /// `rows` are the readings asked of the bars, and `pins` the effective pins. `window` has the letter of
-    /// each wheel, and `list` the two letters of the key list. `None` if the day isn't from 1 to 31, or a
-    /// letter isn't on its wheel.
+    /// `rows` are the readings that the bars must have, and `pins` the effective pins. `window` has the
+    /// letter of each wheel, and `list` the two letters of the key list. `None` if the day isn't from 1 to
+    /// 31, or a letter isn't on its wheel.
     pub fn pin(
         day: u8,
         rows: [Reading; 27],
@@ -127,7 +127,7 @@ impl SheetDay {
         }
     }
 
-    /// The model.
+    /// The day's model.
     pub fn model(&self) -> Model
         ensures value { result ≡ day_model self.now }
         ensures legal { IsLegalDay self.now }
@@ -204,7 +204,7 @@ impl SheetDay {
         }
     }
 
-    /// The readings asked of the Converter's bars, in any order. `None` on rotor machines.
+    /// The readings that the Converter's bars must have, in any order. `None` on rotor machines.
     pub fn rows(&self) -> Option<[Reading; 27]>
         ensures { result ≡ option_map (λ s. s.rows) (pin_day self.now) }
     {

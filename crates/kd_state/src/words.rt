@@ -11,7 +11,7 @@ use itoa::Buffer;
 use kd_tables::Letter;
 use std::str;
 
-/// Splits `text` before and after the first `byte`. `None` if `text` doesn't have this byte.
+/// Splits `text` at the first `byte`, which is dropped. `None` if `text` doesn't have this byte.
 pub fn split_once(text: &[u8], byte: u8) -> Option<(&[u8], &[u8])>
     ensures { MatchOption result
         (IsWithout byte text.now)

@@ -13,7 +13,7 @@ ghost use Rattle.kd_tables.specs.Laws.{LettersLeadToPlaces, PlacesLeadToLetters}
 use super::letter::Letter;
 use super::reading::Reading;
 
-/// The published tables are permutations. A reflector takes each letter to another one, and that one back.
+/// The published tables are permutations. A reflector exchanges letters in pairs.
 #[tactic(auto, using(crate::proofs::Wirings::reflector_returns, crate::proofs::Wirings::reflector_moves))]
 pub fn tables_are_permutations()
     ensures wheels { WiringsArePermutations }

@@ -8,9 +8,7 @@ use arrayvec::ArrayString;
 /// One of the two lugs on a bar of the Converter M-209.
 #[derive(Clone, Copy, PartialEq, Eq)]
 pub enum Lug {
-    /// The left lug.
     Left,
-    /// The right lug.
     Right,
 }
 
@@ -34,7 +32,7 @@ impl Lug {
         text
     }
 
-    /// The lug with this name.
+    /// The lug with the name `text`.
     pub fn from_text(text: &[u8]) -> Option<Self>
         ensures { MatchOption result
             ((lug : _) → lug_text lug ≢ text.now)

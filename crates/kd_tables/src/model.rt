@@ -56,7 +56,7 @@ impl Model {
         text
     }
 
-    /// The model with this name.
+    /// The model with the name `text`.
     pub fn from_text(text: &[u8]) -> Option<Self>
         ensures { MatchOption result
             ((model : _) → model_text model ≢ text.now)
@@ -121,7 +121,7 @@ pub fn in_box(model: Model, wheel: Wheel) -> bool
     model.wheels().contains(&wheel)
 }
 
-/// Whether `wheel` may be in this slot of `model`. Slots are counted from 1, from left to right.
+/// Whether `wheel` may be in slot `slot` of `model`. Slots are counted from 1, from left to right.
 ///
 /// On the M4, only Beta and Gamma may be in slot 1, and only the other wheels in slots 2 to 4.
 pub fn allowed(model: Model, slot: u8, wheel: Wheel) -> bool

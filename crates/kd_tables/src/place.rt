@@ -78,7 +78,7 @@ impl Place {
         text
     }
 
-    /// The place with this name.
+    /// The place with the name `text`.
     pub fn from_text(text: &[u8]) -> Option<Self>
         ensures { MatchOption result
             ((place : _) → place_text place ≢ text.now)

@@ -11,11 +11,8 @@ use arrayvec::ArrayString;
 /// A reflector of the rotor machines: it sends the current back through the wheels.
 #[derive(Clone, Copy, PartialEq, Eq)]
 pub enum Reflector {
-    /// Reflector A.
     A,
-    /// Reflector B.
     B,
-    /// Reflector C.
     C,
     /// The thin B of the M4, written `b`.
     ThinB,
@@ -46,7 +43,7 @@ impl Reflector {
         text
     }
 
-    /// The reflector with this name.
+    /// The reflector with the name `text`.
     pub fn from_text(text: &[u8]) -> Option<Self>
         ensures { MatchOption result
             ((reflector : _) → reflector_text reflector ≢ text.now)

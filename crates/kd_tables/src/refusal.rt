@@ -9,7 +9,7 @@ use itoa::Buffer;
 /// The text of a refusal: its number and name, and then places, a key or a reason.
 pub type Text = ArrayString<64>;
 
-/// What the desk refuses, in the order of the refusals' numbers.
+/// The refusals, in the order of their numbers.
 #[derive(Clone, Copy)]
 pub enum Refusal {
     /// A letter is in two places.
@@ -30,7 +30,7 @@ pub enum Refusal {
     BadLine,
     /// A card has more than 192 settings.
     TooMany,
-    /// A card has no prices, too few or too many, or prices of other things.
+    /// A card's prices are missing, too few or too many, or aren't for this machine and day.
     PriceMissing,
     /// A card's number of settings, or its sum of prices, is wrong.
     CardCountWrong,
@@ -74,17 +74,17 @@ pub enum Refusal {
     PartKeys,
     /// An external letter isn't on its wheel.
     KeyNotOnWheel,
-    /// The group of a part isn't one of the day's.
+    /// The group of a part isn't one of the day's; on the Converter M-209, its list isn't the day's.
     WrongGroup,
-    /// The internal key of a part needs more letters than its indicator has.
+    /// The enciphered letters of a part run out before each wheel has a letter of the internal key.
     IndicatorSpent,
     /// A part doesn't begin with a heading of the day's model.
     BadHeading,
     /// The number of letters of a part isn't the one in its heading.
     PartCountWrong,
-    /// The two indicators of a part differ.
+    /// A part ends in other indicators than it begins with, or their first two letters differ.
     IndicatorsDiffer,
-    /// A part is missing, or not in order.
+    /// Parts aren't numbered in order, their headings differ in the number of parts, or one is missing.
     PartOrder,
     /// A source or a file has more bytes than the limit.
     ReadTooLong,

@@ -6,7 +6,7 @@ use super::failed::Failed;
 
 /// A device or a memory that takes bytes.
 pub trait Sink {
-    /// The bytes taken so far, if the sink tells them.
+    /// The bytes taken so far; `None` if nothing is known of them.
     ghost taken: { Self → Option (List ℕ) } = { λ _. None };
 
     /// Whether a put has failed.

@@ -6,7 +6,7 @@ use super::failed::Failed;
 
 /// A device or a memory that gives bytes.
 pub trait Source {
-    /// The bytes still to be given, if the source tells them.
+    /// The bytes still to come; `None` if nothing is known of them.
     ghost remaining: { Self → Option (List ℕ) } = { λ _. None };
 
     /// Whether a get has failed.

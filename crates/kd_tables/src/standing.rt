@@ -63,7 +63,7 @@ impl Standing {
         self.left
     }
 
-    /// The place of the right lug, which comes after the left lug's.
+    /// The place of the right lug, to the right of the left lug.
     pub fn right(self) -> Place
         ensures value { result ≡ self.1 }
         ensures after { IsBefore self.0 result }

@@ -11,21 +11,13 @@ use arrayvec::ArrayString;
 /// A wheel of the rotor machines. I to VIII turn; Beta and Gamma, for the M4's thin reflectors, don't.
 #[derive(Clone, Copy, PartialEq, Eq)]
 pub enum Wheel {
-    /// Wheel I.
     I,
-    /// Wheel II.
     II,
-    /// Wheel III.
     III,
-    /// Wheel IV.
     IV,
-    /// Wheel V.
     V,
-    /// Wheel VI.
     VI,
-    /// Wheel VII.
     VII,
-    /// Wheel VIII.
     VIII,
     /// The M4's Beta wheel, left of the three wheels that turn.
     Beta,
@@ -79,7 +71,7 @@ impl Wheel {
         text
     }
 
-    /// The wheel with this name.
+    /// The wheel with the name `text`.
     pub fn from_text(text: &[u8]) -> Option<Self>
         ensures { MatchOption result
             ((wheel : _) → wheel_text wheel ≢ text.now)

@@ -79,7 +79,7 @@ impl HeadReader {
 
 /// Reads the line after `count` lines of keys: its keys, or `None` for the line TEXT.
 ///
-/// The first byte tells which of the two it can be.
+/// The first byte decides between a line of keys and the line TEXT.
 #[tactic(auto, using(crate::proofs::OrderSteps::next_text))]
 fn read_line(day: &SheetDay, count: usize, line: &[u8]) -> Result<Option<Keys>, Unread>
     ensures { MatchResult result

@@ -23,7 +23,7 @@ pub(crate) trait PieceReader<On> {
     /// Relates the reader to the bytes that it has read and the text that it has made from them.
     ghost holds: { On → Self → List ℕ → List ℕ → Type 0 };
 
-    /// Reads the next bytes of the message, and writes to `sink` what they make.
+    /// Reads the next bytes of the message, and writes their result to `sink`.
     ///
     /// After an error, it must not be called again.
     fn read<W: Sink>(&mut self, on: &On, bytes: &[u8], sink: &mut W) -> Result<(), Stop>
@@ -41,7 +41,7 @@ pub(crate) trait PieceReader<On> {
         ensures failed { W.has_failed sink.new ≡ (W.has_failed sink.old || stops_at_device result) };
 }
 
-/// What one byte makes: usually nothing, at most one part.
+/// The result of one byte: usually nothing, at most one part.
 pub(crate) type Made = ArrayVec<u8, LONGEST>;
 
 /// A reader of one kind of message, byte by byte, which holds one part at a time.

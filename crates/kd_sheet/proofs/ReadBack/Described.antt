@@ -278,7 +278,7 @@ abbrev IsTold : List Data → ℕ → Day → Type 0
 IsTold items number day = (entry : Members) × Contains items (toml.table entry) × (day_in [] entry ≡ Ok day)
     × (day_number day ≡ number)
 
--- the element at `k` is the one that `find` finds, if it passes and none before it does
+-- `find` finds the element at `k` if this element passes and no element before it does
 first_found : {X : Type 0} (p : X → Bool) (xs : List X) (k : ℕ) (d : X) → k < length xs → p (get_or xs k d) ≡ true
     → list_any p (take k xs) ≡ false → find p xs ≡ Some (get_or xs k d)
 first_found p [] k d within here none = absurd (omega arith)

@@ -1,4 +1,4 @@
-//! The cost tables: each cable at each pair of the day or none, each bar at each row of the day.
+//! The cost tables: for each cable and each pair of the day (or none), and for each bar and each row.
 ghost use Rattle.std.specs.Prelude.{◌≡◌, ◌≤◌, None, length, map, slice_index_or};
 ghost use Rattle.kd_state.specs.Costs as costs;
 ghost use Rattle.kd_state.specs.Costs.{columns_of};

@@ -11,7 +11,7 @@ use kd_tables::Letter;
 /// A cable's letters: none, one or two.
 pub type Cable = (Option<Letter>, Option<Letter>);
 
-/// The cable with these letters in alphabetical order, a single letter first.
+/// The cable with the letters `one` and `other` in alphabetical order, a single letter first.
 pub(crate) fn ordered(one: Option<Letter>, other: Option<Letter>) -> Cable
     ensures { result ≡ ordered one other }
 {
@@ -40,7 +40,7 @@ pub fn lies_in(cable: &Cable, letter: Letter) -> bool
     is_letter(cable.0, letter) || is_letter(cable.1, letter)
 }
 
-/// Whether `end` has `letter`.
+/// Whether the end of a cable, `end`, has `letter`.
 fn is_letter(end: Option<Letter>, letter: Letter) -> bool
     ensures { result ≡ has_letter (option_to_list end) letter }
 {

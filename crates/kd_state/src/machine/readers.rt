@@ -15,7 +15,7 @@ use crate::machine::seats::place_in_box;
 use kd_tables::{Letter, Model, Reflector, Standing, Wheel};
 
 impl Machine {
-    /// The model.
+    /// The machine's model.
     pub fn model(&self) -> Model
         ensures { result ≡ model_of self.now }
     {
@@ -45,7 +45,7 @@ impl Machine {
         }
     }
 
-    /// The ring of a wheel of the box, in a slot or not. 01 is A.
+    /// The ring of a wheel of the box, in a slot or not: 01 is A. `None` if the box lacks the wheel.
     pub fn ring(&self, wheel: Wheel) -> Option<Letter>
         ensures { result ≡ ring_in self.now wheel }
     {
@@ -55,7 +55,7 @@ impl Machine {
         }
     }
 
-    /// The window letter of a wheel of the box, in a slot or not.
+    /// The window letter of a wheel of the box, in a slot or not. `None` if the box lacks the wheel.
     pub fn letter(&self, wheel: Wheel) -> Option<Letter>
         ensures { result ≡ letter_in self.now wheel }
     {
@@ -65,7 +65,9 @@ impl Machine {
         }
     }
 
-    /// The letters in cable `cable`, counted from 1: in alphabetical order, a single letter first.
+    /// The letters in cable `cable`, counted from 1. `None` if there is no such cable.
+    ///
+    /// They are in alphabetical order, a single letter first.
     pub fn cable(&self, cable: u8) -> Option<Cable>
         ensures { result ≡ cable_in self.now cable }
     {
@@ -75,7 +77,9 @@ impl Machine {
         }
     }
 
-    /// Whether the pin at `letter` of pin wheel `wheel`, counted from 1, is effective.
+    /// Whether the pin at `letter` of pin wheel `wheel` is effective. `None` if there is no such pin.
+    ///
+    /// Pin wheels are counted from 1.
     pub fn pin_at(&self, wheel: u8, letter: Letter) -> Option<bool>
         ensures { result ≡ pin_in self.now wheel letter }
     {
@@ -85,7 +89,7 @@ impl Machine {
         }
     }
 
-    /// The letter that pin wheel `wheel`, counted from 1, shows.
+    /// The letter that pin wheel `wheel`, counted from 1, shows. `None` if there is no such wheel.
     pub fn shown(&self, wheel: u8) -> Option<Letter>
         ensures { result ≡ shown_in self.now wheel }
     {
@@ -95,7 +99,7 @@ impl Machine {
         }
     }
 
-    /// Where the lugs of bar `bar`, counted from 1, stand.
+    /// The places of the lugs of bar `bar`, counted from 1. `None` if there is no such bar.
     pub fn standing(&self, bar: u8) -> Option<Standing>
         ensures { result ≡ standing_in self.now bar }
     {

@@ -1,4 +1,4 @@
-//! Which wheels may stand in which slots.
+//! Which wheels may be in which slots.
 ghost use Rattle.std.specs.Prelude.{◌≡◌, ◌↔◌, ℕ, ◌≤◌, IsTrue, IfSome, Some, Contains, length};
 ghost use Rattle.std.specs.Option.{SomeIff};
 ghost use Rattle.kd_tables.specs.Tables.{box_of, slots_of, IsAllowed};

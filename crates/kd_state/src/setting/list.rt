@@ -56,7 +56,7 @@ pub fn read_list(text: &[u8]) -> Result<Settings, ListFault>
     }
 }
 
-/// Reads setting lines up to the first line that is none; returns the settings and the rest of `text`.
+/// Reads setting lines up to the first line that isn't one; returns the settings and the rest of `text`.
 ///
 /// `None` if there are more than 192 settings.
 pub fn split_settings(text: &[u8]) -> Option<(Settings, &[u8])>

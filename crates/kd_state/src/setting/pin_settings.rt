@@ -93,7 +93,7 @@ fn is_at(place: Place, other: Place) -> bool
     place == other
 }
 
-/// `standing` with its lug `lug` at `place`; `None` if the left lug isn't before the right one then.
+/// `standing` with its lug `lug` at `place`; `None` if its left lug wouldn't be before its right lug.
 fn with_lug(standing: Standing, lug: Lug, place: Place) -> Option<Standing>
     ensures exists { IsSome result ↔ Stands (with_lug lug place standing) }
     ensures value { IfSome result (λ moved. moved ≡ with_lug lug place standing) }

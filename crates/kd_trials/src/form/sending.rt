@@ -130,8 +130,8 @@ fn orders_are_sent(rt: HostRuntime) {
 
 /// A long order, its fault, and how many bytes the stream has written by then.
 ///
-/// The order is given by a machine and its day, a line of keys, the number of these lines, and the number of
-/// its letters A.
+/// The order is given by a machine and its day, a line of keys, the number of such lines, and its number of
+/// letters A.
 type LongCase = (Told, &'static str, usize, usize, FormFault, usize);
 
 /// With too many lines of keys the first part is written before the fault; with too few, nothing is.

@@ -2,7 +2,7 @@ use Rattle.{kd_sheet.specs.Numbers.numbered_letter, std.proofs.Common.{drop, fil
 use Rattle.{std.{proofs.Common.◌≡◌, specs.List.list_all}, toml.specs.View.view}
 use Rattle.kd_sheet.proofs.letters.numbered_slots.Given as goal
 
--- `letters` has the letters of the items so far, and reading all adds those of the rest
+-- `letters` has the letters of the items so far, and reading all adds the letters of the rest
 abbrev pub invariant-loop-item : goal.invariant-loop-item
 invariant-loop-item l = record {
   count : length l.letters.items ≡ l.item-index;
