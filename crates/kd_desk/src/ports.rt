@@ -1,4 +1,4 @@
-//! A source that reads from a reader, and a sink that writes to a writer.
+//! Two ports: `ReaderSource` reads from a standard reader, and `WriterSink` writes to a standard writer.
 mod reader_source;
 mod writer_sink;
 

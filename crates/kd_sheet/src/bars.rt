@@ -69,7 +69,7 @@ impl FromItem<()> for Reading {
     }
 }
 
-/// Reads the 27 readings that a key sheet wants of the bars.
+/// Reads the readings that the 27 bars must have on a day of a key sheet.
 #[tactic(auto, unfolding(crate::specs::Bars::rows_in))]
 pub fn rows_in(table: &Table) -> Result<[Reading; BARS], SheetFault>
     ensures { result ≡ rows_in (table_view table.now) }

@@ -67,7 +67,7 @@ pub fn parts_are_told_apart()
     ensures letters { TestsTellLetters }
 {}
 
-/// A machine stays a machine when a setting, or a list of settings, is carried out.
+/// Carrying out a setting, or a list of settings, on a machine gives a machine with legal parts.
 pub fn settings_keep_machines()
     ensures one { SettingsKeepMachines }
     ensures lists { ListsKeepMachines }
