@@ -1,4 +1,4 @@
-//! The trait of the files that the command line names.
+//! `Files`: the trait that reads and opens the files that the command line names.
 ghost use Rattle.std.specs.Prelude.{◌≡◌, ◌<◌, [], ◌∷◌, ◌++◌, ℕ, false, List, Option, None, IfSome, IfOk, is_ok, length};
 ghost use Rattle.kd_desk.specs.Files.{content_of, opening_of, opened, Asking, Gives, IsOpening};
 

@@ -1,4 +1,4 @@
-//! The plugboard.
+//! The plugboard, made from pairs of letters.
 ghost use Rattle.std.specs.Prelude.{◌≡◌, ◌≢◌, ◌<◌, ◌↔◌, IsOk, IsTrue, IfOk, slice_index, slice_set};
 ghost use Rattle.kd_tables.specs.Permutation.{exchange};
 ghost use Rattle.kd_tables.specs.Refusals.{refusal_name};

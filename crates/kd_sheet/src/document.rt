@@ -1,4 +1,4 @@
-//! Parsing a TOML document, and finding values in its table.
+//! Parses a TOML document, and finds values, texts and arrays in its table.
 ghost use Rattle.std.specs.Prelude.{◌≡◌, map, option_map};
 ghost use Rattle.toml.specs.{Data.{get_member}, View.{view, table_view}};
 ghost use Rattle.kd_sheet.specs.Document.{Answers, result_map, document_of, value_at, text_at, items_in, items_at};

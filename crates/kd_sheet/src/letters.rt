@@ -1,4 +1,4 @@
-//! Reading letters: from texts of capital letters, and from numbers.
+//! Reads letters from texts of capital letters, and from numbers.
 ghost use Rattle.std.specs.{Prelude.{◌≡◌, ◌<◌, ◌≤◌, length, map, IfSome, option_map}, Option.{option_and_then}};
 ghost use Rattle.toml.specs.{Data.{as_str}, View.{view}};
 ghost use Rattle.kd_tables.specs.Tables.{slots_of};

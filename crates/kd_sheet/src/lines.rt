@@ -1,4 +1,4 @@
-//! Writing the lines of a machine file: a key, `=` and a value.
+//! Writes the lines of a machine file: a key, `=` and a value.
 ghost use Rattle.std.specs.{Prelude.{codes, ◌≡◌, ◌+◌, ◌*◌, ◌≤◌, ◌++◌, map, length}, List.{flat_map, join_by}};
 ghost use Rattle.arrayvec.specs.ArrayString.{array_string_len};
 ghost use Rattle.kd_sheet.specs.{Key.{key_name}, MachineText.{quoted, listed, key_line}};

@@ -1,4 +1,4 @@
-//! Reading the letters that the Converter's six wheels show, and their effective pins.
+//! Reads the letters that the Converter's six wheels show, and their effective pins.
 ghost use Rattle.std.specs.Prelude.{◌≡◌, ◌+◌, ◌<◌, [], ◌∷◌, length, map, ok_or, Ok};
 ghost use Rattle.std.specs.{List.{enumerate_from, list_all}, Option.{option_and_then}};
 ghost use Rattle.toml.specs.{Data.{as_str}, View.{view, table_view}};

@@ -1,4 +1,4 @@
-//! Writes machine files.
+//! Writes machine files, of rotor machines and of the Converter M-209.
 ghost use Rattle.std.specs.{Prelude.{◌≡◌, ◌+◌, ◌<◌, ◌≤◌, ◌||◌, ◌++◌, map, length, is_err, Ok}, List.{concat}};
 ghost use Rattle.arrayvec.specs.ArrayString.{array_string_len};
 ghost use Rattle.kd_tables.specs.{Places.{figure}, Writing.{Writes}, Text.{letters_text}};

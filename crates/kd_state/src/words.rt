@@ -1,4 +1,4 @@
-//! Splitting a line into words, and reading and writing numbers and letters.
+//! Splits lines into words, and reads and writes numbers and letters.
 ghost use Rattle.std.specs.Prelude.{◌≡◌, ◌≢◌, ◌↔◌, ℕ, ◌+◌, ◌^◌, ◌<◌, ◌≤◌, ◌++◌, length, map, decimal, IsTrue};
 ghost use Rattle.std.specs.Prelude.{MatchOption};
 ghost use Rattle.arrayvec.specs.ArrayString.{array_string_len};

@@ -1,4 +1,4 @@
-//! The end of a source.
+//! `is_at_end`, which tests whether a source is at its end.
 ghost use Rattle.std.specs.Prelude.{◌≡◌, ◌||◌, is_err};
 ghost use Rattle.kd_tables.specs.Ports.{Ends};
 

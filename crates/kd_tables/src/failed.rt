@@ -1,4 +1,4 @@
-//! Why a single put or get fails.
+//! `Failed`: the error of a single put or get.
 use thiserror::Error;
 
 /// The device refused a put or a get. No byte was taken or given.

@@ -1,4 +1,4 @@
-//! Writing to a sink until it has taken all bytes.
+//! `put_all`, which writes to a sink until it has taken all bytes, and its error `Device`.
 ghost use Rattle.std.specs.Prelude.{◌≡◌, ◌||◌, is_err};
 ghost use Rattle.kd_tables.specs.Refusals.{refusal_name};
 ghost use Rattle.kd_tables.specs.Writing.{Writes};

@@ -1,4 +1,4 @@
-//! Carrying out settings on a Converter M-209.
+//! Carries settings out on a Converter M-209.
 //!
 //! A setting that is refused changes nothing. The error is the first reason that holds.
 ghost use Rattle.kd_state.specs.Setting.{Answers, lug_place, other_lug, is_at, with_lug, Stands};

@@ -1,4 +1,4 @@
-//! Carrying out settings on a rotor machine.
+//! Carries settings out on a rotor machine.
 //!
 //! A setting that is refused changes nothing. The error is the first reason that holds.
 ghost use Rattle.kd_state.specs.Machine.{IsLegalRotor};

@@ -1,4 +1,4 @@
-//! Single settings, carried out and refused.
+//! Tests of single settings, carried out and refused.
 use crate::machines::{File, machine};
 use crate::named::TextName::{M1, M4, M209};
 use kd_state::Why::{

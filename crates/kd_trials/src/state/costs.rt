@@ -1,4 +1,4 @@
-//! The costs of changing a cable or a bar.
+//! Tests of the costs of changing a cable or a bar.
 use kd_state::{bar_cost, cable_cost};
 use kd_tables::{Letter, Reading, Standing};
 

@@ -1,4 +1,4 @@
-//! Machines that are on a day's key, and others; the parts of a day.
+//! Tests of machines on and off a day's key, and of the parts of a day.
 use crate::letters::letter;
 use crate::machines::{CABLES, IDLE, PLAIN, TWO_BARS, Told, day, keyed};
 use crate::named::TextName::{DayOf1941, DayOfAllMet, DayWithoutPins, M1, PlainDay, WithoutPins};

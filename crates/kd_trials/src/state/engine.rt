@@ -1,4 +1,4 @@
-//! The ciphertexts of machines.
+//! Tests of the ciphertexts of machines.
 use crate::letters::{letter, letters};
 use crate::machines::{File, machine};
 use crate::named::TextName::{AllMet, M1, M3, M4, M4AsEnigma, M209, TenCables};

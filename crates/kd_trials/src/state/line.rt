@@ -1,4 +1,4 @@
-//! Lines of settings.
+//! Tests of the lines of settings.
 use kd_state::Setting;
 
 /// Lines, and whether each is a setting's line.

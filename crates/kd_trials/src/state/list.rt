@@ -1,4 +1,4 @@
-//! Lists of settings.
+//! Tests of lists of settings.
 use kd_state::{ListFault, read_list};
 use std::alloc::AllocError;
 

@@ -1,4 +1,4 @@
-//! What the calls of `Machine` tell of a machine.
+//! Tests of what the calls of `Machine` tell of a machine.
 use crate::machines::machine;
 use crate::named::TextName::{M209, TenCables};
 use kd_state::Machine;
