@@ -1,4 +1,4 @@
--- Names of other crates and of this crate's definitions that its proofs use.
+-- Names from other crates, and of this crate's definitions, that the proofs of this crate use.
 pub use Rattle.kd_assign.specs.{Assignment.{IsOneToOne, assignment_cost}, Scans.{scans_of_tree, scans_of_trees}}
 pub use Rattle.kd_assign.specs.Prices.{CostsAtMost, Fits, cost_at, price_at, price_sum, sum_of}
 pub use Rattle.kd_assign.specs.Solved.{Has, IsCheapest, IsFree, IsSeated, IsSolvedTo}

@@ -1,4 +1,4 @@
--- How the program ends, by its answer.
+-- How the program ends: its exit status and its line on standard error, by its answer.
 use Rattle.kd_desk.proofs.Prelude.{◌≡◌, ℕ, Bool, true, false, ◌||◌, List, [], Option, None, Some, Result, Ok, Err}
 use Rattle.kd_desk.proofs.Prelude.{refl, sym, subst, Port, port, Stop}
 use Rattle.std.proofs.Common.{append-nil, is_err}

@@ -1,4 +1,4 @@
--- Words of other crates and of std that the proofs of this crate use.
+-- Names from std and from other crates that the proofs of this crate use.
 pub use Rattle.std.proofs.Common.{Bool, Bor, Err, IfOk, IfSome, IsErr, IsErrAnd, IsFalse, IsSomeAnd, IsTrue, List}
 pub use Rattle.std.proofs.Common.{MatchResult, None, Ok, Option, Result, Some, [], ap, append_assoc, ap₂, arith, codes}
 pub use Rattle.std.proofs.Common.{decimal, false, inl, inr, is_ok, length, map, option_map, refl, rules, subst, suc}

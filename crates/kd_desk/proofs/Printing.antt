@@ -1,4 +1,4 @@
--- What a planned and written card promises.
+-- What the contracts promise of a card that was planned and written.
 use Rattle.kd_desk.proofs.Prelude.{Day, DeskFault, IsCard, IsLegalDay, IsMachine, List, Parts, Port, PriceParts, Result}
 use Rattle.{kd_desk.proofs.Prelude.{arith, day_number, subst, sym, ℕ, ◌≡◌}, kd_prices.specs.KindCards.IsByKind}
 use Rattle.{kd_desk.specs.{Ports.WritesText, RunCard.{Card, Prints}}, kd_plan.specs.Planned.Plans}

@@ -1,4 +1,4 @@
--- The desk's answer from a message's answer.
+-- The desk's answer, made from the answer of typing, sending or receiving a message.
 use Rattle.kd_desk.proofs.Prelude.{arith, ◌≡◌, Result, Ok, Err, IsErrAnd, MatchResult, IsTrue, FormFault, Port, Fail}
 use Rattle.kd_desk.proofs.Prelude.{DeskFault, answer_to_message, is_refused_before, is_device}
 use Rattle.kd_desk.{proofs.Failing.err_is, specs.Messages.fault_of_message}

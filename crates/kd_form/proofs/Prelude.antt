@@ -1,4 +1,4 @@
--- Words of other crates and of std that the proofs of this crate use.
+-- Names from std and from other crates that the proofs of this crate use.
 pub use Rattle.std.proofs.Common.{All, Bool, Contains, Err, IfSome, IsErrAnd, IsFalse, IsTrue, List, MatchOption}
 pub use Rattle.std.proofs.Common.{MatchResult, None, Ok, Option, Result, Some, [], add-one, ap, append_assoc, arith}
 pub use Rattle.std.proofs.Common.{codes, decimal, drop, drop-cons, false, get_or, inl, inr, length, length-append}

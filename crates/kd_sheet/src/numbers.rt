@@ -1,4 +1,4 @@
-//! Reads whole numbers from 1 to a given one.
+//! Reads whole numbers, from 1 up to a given limit.
 ghost use Rattle.std.specs.Prelude.{◌≡◌, ◌≤◌, ok_or, IfOk, IfSome};
 ghost use Rattle.toml.specs.View.{view, table_view};
 ghost use Rattle.kd_sheet.specs.Document.{◌>>=◌ as ◌followed_by◌, value_at};

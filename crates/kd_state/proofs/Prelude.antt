@@ -1,4 +1,4 @@
--- Names of other crates and of this crate's definitions that its proofs use.
+-- Names from other crates, and of this crate's definitions, that the proofs of this crate use.
 pub use Rattle.kd_drum.specs.Converter.{OnWheels, PinKey, acts_after, bars_met, converter_cipher}
 pub use Rattle.kd_enigma.specs.Plugs.{NoLetterTwice, letters_plugged}
 pub use Rattle.kd_state.specs.ToldApart.{has_reflector, has_wheel, numbered, place_in_box, same_reflector, same_wheel}

@@ -1,4 +1,4 @@
--- The readers show all of a machine, so what they show of a change determines the machine after it.
+-- The readers show all of a machine, so what they show of a change determines the machine that it makes.
 pub mod Refusing
 unfoldable pub use Refusing.*
 use Rattle.kd_state.proofs.Prelude.{Seats, TheRing, TheShown, Turns, letters_in, TellingIsMaking, cable_in, letter_in}
