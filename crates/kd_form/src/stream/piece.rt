@@ -74,7 +74,7 @@ impl<M: MessageReader> PieceReader<SheetDay> for M {
     }
 }
 
-/// Ends the message: writes the rest of its result, or returns its fault.
+/// Ends the message: writes the rest of its result, and returns its fault, if it has one.
 pub(crate) fn close<On, M: PieceReader<On>, W: Sink>(
     reader: &mut M,
     on: &On,

@@ -213,7 +213,7 @@ empty_month = record { count = refl; each = λ number day e. grind (arith, withi
 pub blank_month : (month : List (Option Day)) → AllOfLen (λ day. day ≡ None) month 31 → month ≡ month_of []
 blank_month month blank = grind (arith, same_lists, blank.at, get_or-map-range_with_len)
 
--- a month stays one when a day is put at its own number
+-- a month in which a day is put at its own number is still a month
 pub put_day : (month : List (Option Day)) (place : ℕ) (new : Day) → IsMonth month → place + 1 ≡ day_number new
     → place < 31
     → IsMonth (set month place (Some new))

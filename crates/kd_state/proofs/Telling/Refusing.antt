@@ -39,7 +39,7 @@ leads_join m between n [] rest first leads = subst (λ machine. Leads machine re
 leads_join m between n (x ∷ front) rest first leads =
     (first.0, first.1, leads_join first.0 between n front rest first.2 leads)
 
--- if the settings so far lead to a machine, and one more is carried out on it, they lead on together
+-- settings that lead to a machine, and one that is carried out on this machine, together lead to the next one
 pub leads_next : (m n o : Parts) (xs : List Setting) (place : ℕ) (x : Setting) → place < length xs
     → get_or xs place x ≡ x
     → Leads m (take place xs) n → Carries n x o → Leads m (take (place + 1) xs) o

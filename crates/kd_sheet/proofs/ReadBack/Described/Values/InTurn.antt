@@ -184,7 +184,7 @@ module _ {A : Type 0} where
         ≡ on reading (values ++ value ∷ []) (drop (place + 1) (map view items))
     read_more value is = rw (next, append-nil, ← is) (simp append_assoc (grind arith))
 
-    -- an item that isn't read makes its fault the result
+    -- an item that can't be read makes its fault the result
     pub read_stops : (fault : SheetFault) → Err fault ≡ reading values (view item)
         → on reading values (drop place (map view items)) ≡ Err fault
     read_stops fault is = rw (next, append-nil, ← is) refl
