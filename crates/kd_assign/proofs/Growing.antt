@@ -180,7 +180,7 @@ module _ {n root : ℕ} {cost : List (List ℕ)} {prices ceilings : List ℤ} {h
       price_stays : (j : ℕ) → j < n → has_column reached j ≡ false → price_at prices' j ≡ price_at prices j
       price_stays j lt h = omega (arith, ints, clamps, nearest.least j lt h, lowered j lt)
 
-      -- one more row has a column
+      -- the new plan and the new prices solve one row more
       pub IsSolvedTo-with_root : IsSolvedTo n cost prices' plan' (root + 1)
       IsSolvedTo-with_root = record {
         places = length-set plan end (Some from) ∙ plan_is.places;

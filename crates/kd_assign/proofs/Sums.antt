@@ -8,7 +8,7 @@ use Rattle.std.specs.List.{list_any}
 use Rattle.kd_assign.proofs.Prelude.{cases_eq, eq-eqb, eqb-true, ints, get_or-set_other, get_or-set_same}
 use Rattle.kd_assign.proofs.Prelude.{get_or_past, length-set, cost_at, price_at, sum_of, IsOneToOne, assignment_cost}
 
--- the sum without price `j`
+-- a sum is price `j` plus the sum in which price `j` is 0
 sum_of-set : (xs : List ℤ) (j : ℕ) → j < length xs → (price_at xs j +ℤ sum_of (set xs j (pos 0))) ≡ sum_of xs
 sum_of-set [] j h = absurd (omega arith)
 sum_of-set (x ∷ xs) zero h = omega (arith, ints)
@@ -19,7 +19,8 @@ sum_of-zeros : (xs : List ℤ) → ((j : ℕ) → price_at xs j ≡ pos 0) → s
 sum_of-zeros [] none = refl
 sum_of-zeros (x ∷ xs) none = let rest = sum_of-zeros xs (λ j. none (suc j)) in omega (arith, ints, none 0)
 
--- the prices of the columns in `to` add up to those in `left`, if `left` has these prices and else zeros
+-- the prices of the columns in `to` add up to the sum of `left`, if `left` has these prices, and zeros
+-- elsewhere
 sum_of-left : (col left : List ℤ) (to : List ℕ) → All (λ j. j < length left) to → AllPairs (λ j k. j ≢ k) to →
     ((i : ℕ) → i < length to → price_at left (get_or to i 0) ≡ price_at col (get_or to i 0)) →
     ((j : ℕ) → list_any (eqb j) to ≡ false → price_at left j ≡ pos 0) →

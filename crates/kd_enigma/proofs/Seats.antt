@@ -40,7 +40,7 @@ are_seats plugs seated wheels rings long slots each = absurd (omega arith)
 
 -- ---- the path: only the right wheel lies beside the plugboard
 
--- Board and wheel enclose the core as the board encloses what the wheel encloses.
+-- Enclosing the core by wheel and board is enclosing it by the wheel, and then by the board.
 board_last : (board core : List ℕ) (wheel : Wheel) (ring letter : ℕ) → IsPermutation26 board → Exchanges core
     → boarded board core (rotor wheel ring letter)
     ≡ followed_by board (followed_by (enclosed core (rotor wheel ring letter)) board)

@@ -16,7 +16,7 @@ use Rattle.kd_enigma.specs.Cipher.{RotorKey, IsPlugboard, rotors, product, path}
 alphabet-at : (x : ℕ) → x < 26 → slice_index alphabet x ≡ x
 alphabet-at x lt = get_or-range_with_len 0 26 x 0 lt ∙ omega arith
 
--- a property of all letters, as std's `All` says it
+-- a property of each letter holds of the whole alphabet
 pub each_letter : (P : ℕ → Type 0) → ((x : ℕ) → x < 26 → P x) → All P alphabet
 each_letter P h k d lt = subst P (sym (get_or-range_with_len 0 26 k d lt ∙ omega arith)) (h k lt)
 

@@ -233,7 +233,7 @@ same_first x y xs ys rest more r s e =
     texts_tell_first_parts 10 (setting_line x) (setting_line y) (list_text xs ++ rest) (list_text ys ++ more) in
     grind (arith, parts, line_has_no_break x, line_has_no_break y, text_of_more, lines_tell_settings x y)
 
--- two lists are the same if their lines and what follows are the same text, and no setting's line follows
+-- two lists are equal if the same text begins with their lines, and no setting's line follows either of them
 same_lists : (xs ys : List Setting) (rest more : List ℕ) → AllByRecursion IsInRange xs → AllByRecursion IsInRange ys
     → list_text xs ++ rest ≡ list_text ys ++ more
     → BeginsWithNoLine rest → BeginsWithNoLine more → (xs ≡ ys) × (rest ≡ more)

@@ -29,7 +29,7 @@ module _ {X : Type 0} (lt : X → X → Bool) (order : IsStrictWeakOrder lt)
   abbrev IsRising : List X → Type 0
   IsRising xs = (i j : ℕ) (d : X) → i ≤ j → j < length xs → lt (slice_index_or xs j d) (slice_index_or xs i d) ≡ false
 
-  -- the first element of a list that counts alike isn't less than a sorted list's first
+  -- if a list counts like a sorted list, its first element isn't less than the sorted list's first element
   not_before : (x : X) (xs : List X) (y : X) (ys : List X) → IsRising (y ∷ ys)
       → ((p : X → Bool) → count_by p (x ∷ xs) ≡ count_by p (y ∷ ys)) → lt x y ≡ false
   not_before x xs y ys rising counts = false_from_ne_true (lt x y) (λ is.

@@ -102,7 +102,8 @@ cases_thing thing other = grind (arith, cases_eq, cases_wheel)
 kept_alike : (m n o : Parts) (thing : Thing) → IsKept m n thing → IsKept m o thing → IsKept o n thing
 kept_alike m n o thing = grind arith
 
--- two machines are alike in everything if both differ from a third only in one thing, and are alike in it
+-- two machines are alike in everything if both differ from a third machine in one thing only, and are alike
+-- in this thing
 alike_but : (thing : Thing) (m n o : Parts) → SetsOnly thing m n → SetsOnly thing m o → IsKept o n thing
     → (other : Thing) → IsKept o n other
 alike_but thing m n o one two here other =

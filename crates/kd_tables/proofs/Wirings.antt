@@ -107,7 +107,7 @@ text_makes_ring n text size h =
       differ = letters_differ (letters_of text) letters;
     }
 
--- A table that passes the test of a reflector takes each letter to another one, and that one back.
+-- A table that passes the test of a reflector exchanges letters in pairs.
 reflects : (p : List ℕ) → is_reflection p ≡ true
     → All (λ x. (not (slice_index p x == x) && (slice_index p (slice_index p x) == x)) ≡ true) alphabet
 reflects p h =

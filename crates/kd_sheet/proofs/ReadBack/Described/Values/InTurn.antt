@@ -240,7 +240,7 @@ module _ {A : Type 0} where
         → Gives (up_to key count reading value) (λ values. (length values ≤ count) × Holds values)
     some_read value values e = grind (arith, given, passed, leb-true, as_many, all)
 
-  -- things are read back from their texts, if each is
+  -- a list of things is read back from their texts if each thing is
   pub again : (reading : List A → Data → Result A SheetFault) (text_of : A → List ℕ) (all : List A)
       → ((k : ℕ) (x : A) → slice_get all k ≡ Some x → reading (take k all) (string (text_of x)) ≡ Ok x)
       → in_turn reading (map string (map text_of all)) ≡ Ok all
