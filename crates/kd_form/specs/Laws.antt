@@ -1,4 +1,4 @@
--- What the laws of orders and forms promise.
+-- The laws of orders and forms: each has one result or one fault, and a form becomes what its order gives.
 use Rattle.std.specs.Prelude.{◌≡◌, ◌⊎◌, ℕ, List, ◌++◌}
 use Rattle.kd_state.specs.SheetDay.{Day, IsLegalDay}
 use Rattle.kd_form.specs.declared.fault.FormFault.{FormFault}
@@ -25,7 +25,7 @@ OrdersHaveOneFault =
 abbrev pub OrderIsAnswered : Day → List ℕ → Type 0
 OrderIsAnswered s order = ((form : List ℕ) × IsFormOf s order form) ⊎ ((fault : FormFault) × IsSendFault s order fault)
 
--- a fault that stands in an order is its fault, whatever bytes follow
+-- A fault that stands in an order stays its fault, whatever bytes follow.
 abbrev pub OrdersStayRefused : Type 0
 OrdersStayRefused =
     (s : Day) (order more : List ℕ) (fault : FormFault) → StandsInOrder s order fault
@@ -47,7 +47,7 @@ FormsHaveOneFault =
     (s : Day) (form : List ℕ) (fault other : FormFault) → IsReceiveFault s form fault → IsReceiveFault s form other
     → fault ≡ other
 
--- a fault that a form has for good, it also has with more bytes
+-- A fault that a form has for good stays its fault, whatever bytes follow.
 abbrev pub FormsStayRefused : Type 0
 FormsStayRefused =
     (s : Day) (form more text : List ℕ) (fault : FormFault) → IsRefusedForGood s form text fault
@@ -57,11 +57,11 @@ FormsStayRefused =
 abbrev pub FormIsAnswered : Day → List ℕ → Type 0
 FormIsAnswered s form = ((text : List ℕ) × IsTextOf s form text) ⊎ ((fault : FormFault) × IsReceiveFault s form fault)
 
--- an order that becomes a form has a text to give back
+-- An order that becomes a form has a text to give back.
 abbrev pub OrdersGiveLetters : Type 0
 OrdersGiveLetters = (s : Day) (order form : List ℕ) → IsFormOf s order form → (given : List ℕ) × IsGivenOf s order given
 
--- the form of an order becomes the text that it has to give back
+-- The form of an order becomes the text that the order has to give back.
 abbrev pub FormsGiveTheirOrders : Type 0
 FormsGiveTheirOrders =
     (s : Day) (order form given : List ℕ) → IsLegalDay s → IsFormOf s order form → IsGivenOf s order given
