@@ -1,5 +1,4 @@
 -- What the desk does with a message: a text that is typed, an order that is sent, or a form that is received.
--- Code: calls of kd_form.
 -- Test: types_to_the_first_byte_that_is_not_allowed, sends_orders, receives_forms
 use Rattle.std.specs.Prelude.{◌≡◌, List, ℕ, ◌++◌, Result}
 use Rattle.std.specs.Result.{result_map_both}

@@ -1,5 +1,4 @@
 -- The machine of a machine file and a day of a key sheet, and what is done with them.
--- Code: early returns.
 -- Test: refuses_the_sheet_next
 use Rattle.std.specs.Prelude.{◌≡◌, ℕ, List, Option, Some, None, Result, Ok, Err, MatchResult}
 use Rattle.kd_state.specs.declared.machine.parts.Parts.{Parts}

@@ -1,5 +1,4 @@
 -- What a call writes to a port.
--- Code: `put_all`.
 -- Test: stops_where_the_sink_fails
 use Rattle.std.specs.Prelude.{◌≡◌, ℕ, List, Result, Err, OnErr}
 use Rattle.kd_tables.specs.Ports.{Port}

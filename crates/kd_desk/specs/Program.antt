@@ -67,7 +67,6 @@ command_over held command =
     (λ bytes. with_file (action_over held command.action) (λ a. Ok (record { machine = bytes; action = a })))
 
 -- ---- What a command does: what its own call promises.
--- Test: carries_each_command_out
 
 -- A text was typed on the machine of a machine file, or the machine file was refused.
 pub record TypesOn (machine : List ℕ) (source sink : Port) (answer : Result (Unit {0}) DeskFault) : Type 0 where
@@ -98,7 +97,6 @@ abbrev pub Does : Command (List ℕ) Port → Port → Port → Result (Unit {0}
 Does command source sink answer = DoesAction command.machine command.action source sink answer
 
 -- ---- How a command is carried out, and what is left of the file that it opened.
--- Test: carries_each_command_out
 
 -- the opened file as a port, from what was known of it before to what is known after
 abbrev pub read_to : Opened → Opened → Port
@@ -139,7 +137,6 @@ CarriesOut (Ok command) source sink answer = IsDone command source sink answer �
 CarriesOut (Err fault) source sink answer = (answer ≡ Err (Unread fault)) ⊎ StopsForMemory answer
 
 -- ---- What holds of the program's answer: the command's answer, the files asked for, and the ports.
--- Test: carries_each_command_out
 
 -- whether the program stopped before it read a text or wrote anything
 abbrev pub is_stopped_before : Result (Unit {0}) Stop → Bool

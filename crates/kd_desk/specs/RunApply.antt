@@ -1,5 +1,4 @@
 -- What the desk does with a machine and the bytes of a list or a card.
--- Code: early returns.
 -- Test: writes_the_machine_that_stands_then
 use Rattle.std.specs.Prelude.{◌≡◌, ℕ, List, Result, Ok, Err}
 use Rattle.kd_state.specs.declared.machine.parts.Parts.{Parts}

@@ -1,5 +1,4 @@
 -- What the desk says of a card.
--- Code: early returns.
 -- Test: tells_of_each_card
 use Rattle.std.specs.Prelude.{codes, decimal, ◌≡◌, ◌≢◌, ℕ, List, [], ◌∷◌, ◌++◌, length, Result, Err}
 use Rattle.kd_state.specs.declared.machine.parts.Parts.{Parts}

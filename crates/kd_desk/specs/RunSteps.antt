@@ -1,5 +1,4 @@
 -- Answers of a call: out of memory, a fault, refused before anything was written, a failed device.
--- Code: early returns.
 -- Test: refuses_the_machine_first
 use Rattle.std.specs.Prelude.{◌≡◌, ◌⊎◌, Bool, true, false, Result, Ok, Err}
 use Rattle.kd_sheet.specs.declared.fault.SheetFault.TheVariants.{NoMemory}

@@ -26,7 +26,6 @@ SamePairsExchangeAlike =
 
 -- ---- The laws of the path and of the cipher.
 -- Source: the published accounts of the current's path
--- Test: machines_encipher
 
 -- The path takes each letter to another letter, and back again.
 abbrev pub PathsLeadBack : Type 0

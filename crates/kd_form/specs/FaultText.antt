@@ -1,6 +1,4 @@
 -- The text of each fault of a text, an order or a form.
--- Source: the table of refusals in docs/FORMATS.md
--- Test: says_why_it_refuses
 use Rattle.std.specs.Prelude.{decimal, ℕ, List, ◌++◌}
 use Rattle.kd_tables.specs.declared.refusal.Refusal.TheVariants as refusals
 use Rattle.kd_tables.specs.Refusals.{refusal_name, spaced}

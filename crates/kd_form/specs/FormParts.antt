@@ -29,8 +29,6 @@ abbrev pub parts_of : List ℕ → List (List ℕ)
 parts_of form = (cut form).0 ∷ (cut form).1
 
 -- ---- Which headings a part of the day can have, and the first line of a part.
--- Code: word by word.
--- Test: forms_are_received
 
 -- how many letters a body may have: on a rotor machine, fillers, group and 1 to 245 letters of text; on the
 -- Converter M-209, the indicators twice and 1 to 100 groups of text

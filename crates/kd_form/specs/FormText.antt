@@ -43,7 +43,6 @@ ReadsTo s Holds p (part ∷ parts) letters =
     × ReadsTo s Holds (place_behind p count part) parts more × (letters ≡ one ++ more))
 
 -- ---- The text of a form.
--- Code: part by part.
 -- Test: forms_are_received
 
 -- the byte for a letter: a space for the letter `blank`, if there is one, otherwise a capital letter
@@ -76,7 +75,6 @@ pub record IsTextOf (s : Day) (form text : List ℕ) : Type 0 where
   pub is : text ≡ given_text s letters
 
 -- ---- Why a form has no text: its first fault, which stands or comes at its end, and the text before it.
--- Code: early returns.
 -- Test: forms_are_received, parts_are_missing_or_exchanged
 
 -- The part at `p` has this fault whatever follows: any fault once the next part has begun, and an early one
@@ -128,7 +126,6 @@ form_message s = record {
 }
 
 -- ---- The text that an order's form has to give back.
--- Test: long_texts_are_sent_and_received
 
 -- the letters that are sent; on the Converter M-209, X fills the last group of five
 abbrev pub sent_letters : Day → List ℕ → List ℕ

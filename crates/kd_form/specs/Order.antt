@@ -1,6 +1,5 @@
 -- Orders: a line of keys for each part, the line TEXT, and the text; and where an order breaks off. Bytes are
 -- counted from 1.
--- Code: byte by byte.
 -- Test: orders_are_sent
 use Rattle.std.specs.Prelude.{codes, ◌≡◌, ◌≢◌, ◌⊎◌, ℕ, ◌+◌, ◌≤◌, List, [], ◌∷◌, ◌++◌, length}
 use Rattle.kd_state.specs.Words.{line_of}

@@ -1,5 +1,4 @@
 -- A part of a form, as a heading and letters, and how it is written.
--- Code: piece by piece.
 -- Test: long_texts_are_sent_and_received
 use Rattle.std.specs.Prelude.{codes, decimal, ℕ, List, [], ◌∷◌, ◌++◌, length, map, Option, Some, None}
 use Rattle.std.specs.List.{flat_map}

@@ -16,7 +16,6 @@ use Rattle.kd_form.specs.Making.{Suits, IsMadeText, enciphered_choice, part_size
 use Rattle.kd_form.specs.Order.{IsOrder, IsHeadFault}
 
 -- ---- The letters that an order's text gives, and how many parts they need.
--- Code: byte by byte.
 -- Test: orders_are_sent
 
 -- the letter that a space stands for: Z on the Converter M-209, and none on a rotor machine
@@ -101,7 +100,6 @@ abbrev pub IsSendFault : Day → List ℕ → FormFault → Type 0
 IsSendFault s order fault = StandsInOrder s order fault ⊎ EndsOrder s order fault
 
 -- ---- The form that an order becomes.
--- Code: part by part.
 -- Test: long_texts_are_sent_and_received
 
 -- The bytes are the parts of a form from `part` to `parts`. Each is made from its piece of text with its keys.

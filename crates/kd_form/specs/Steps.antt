@@ -1,5 +1,4 @@
 -- Answers by steps: a step gives its refusal, or leaves the answer to the next step.
--- Code: early returns.
 use Rattle.std.specs.Prelude.{◌≡◌, ◌⊎◌, List, ℕ, Result}
 use Rattle.kd_form.specs.declared.fault.FormFault.{FormFault}
 

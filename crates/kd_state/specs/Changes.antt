@@ -47,7 +47,7 @@ pub record KeepsAllBut (IsTouched : Thing → Type 0) (m n : Parts) : Type 0 whe
 abbrev pub SetsOnly : Thing → Parts → Parts → Type 0
 SetsOnly thing m n = KeepsAllBut (λ other. other ≡ thing) m n
 
--- ---- What each setting changes, as the machine's readers show it. `changed` isn't used.
+-- ---- What each setting changes, as the readers of a machine show it, without `changed`.
 
 -- the letters in a cable
 abbrev pub letters_in : Parts → ℕ → List ℕ

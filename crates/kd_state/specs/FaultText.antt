@@ -1,6 +1,4 @@
 -- The name of each reason, and the text of each fault of a setting or a list.
--- Source: the table of refusals in docs/FORMATS.md
--- Test: says_why_it_refuses
 use Rattle.std.specs.Prelude.{codes, decimal, ℕ, List, ◌++◌}
 use Rattle.kd_tables.specs.declared.refusal.Refusal.TheVariants as refusals
 use Rattle.kd_tables.specs.Refusals.{refusal_name, spaced}

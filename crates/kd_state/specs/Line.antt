@@ -51,7 +51,6 @@ IsReadOff words result =
     (λ x. (setting_words x ≡ words) × IsInRange x)
 
 -- ---- The text of a list of settings, and its first fault.
--- Code: line by line.
 -- Test: kd_trials/src/state/list.rt
 
 -- the text of a list: the line of each setting, and LF after it

@@ -1,5 +1,4 @@
 -- Cables, slots, letters and pins, and when each is legal.
--- Code: tests item by item.
 -- Test: kd_trials/src/state/carrying.rt
 use Rattle.std.specs.Prelude.{◌≡◌, ℕ, ◌+◌, ◌<◌, nat_eq, nat_le, Bool, List, ◌++◌, length, map, All, Contains, slice_get}
 use Rattle.std.specs.Prelude.{Option, Some, None, if◌then◌else◌}
@@ -66,7 +65,6 @@ HasAllPins pins = (wheel : ℕ) → length (wheel_pins pins wheel) ≡ length (r
 -- Source: the published accounts of the models; War Department TM 11-380; how a bar may stand is this desk's
 -- own rule
 -- Code: an invariant of `Machine`.
--- Test: kd_trials/src/state/carrying.rt
 
 -- The parts make a rotor machine.
 pub record IsLegalRotor (m : RotorParts) : Type 0 where

@@ -1,5 +1,4 @@
 -- A machine and a day of one model, as one value.
--- Code: one match on both.
 -- Test: kd_trials/src/state/days.rt
 use Rattle.std.specs.Prelude.{◌≡◌}
 use Rattle.kd_state.specs.declared.machine.parts.Parts.{Parts}

@@ -1,5 +1,4 @@
 -- Why a machine refuses a setting: the reasons in the order of testing, and the first that holds.
--- Code: early returns.
 -- Test: kd_trials/src/state/carrying.rt
 use Rattle.std.specs.Prelude.{◌≡◌, ℕ, ◌-◌, nat_eq, nat_lt, ◌+◌, Bool, true, false, not, ◌&&◌, List, [], ◌∷◌, ◌++◌, map}
 use Rattle.std.specs.Prelude.{find, slice_set, length, Option, Some, None, is_none, unwrap_or, Result, MatchResult, ⊤}
@@ -111,7 +110,6 @@ why_refused m x = option_map (λ reason. reason.1) (find (λ reason. reason.0) (
 
 -- ---- What a setting makes of a machine.
 -- Code: the machine is changed in place.
--- Test: kd_trials/src/state/carrying.rt
 
 -- the cable without the letter, and the cable with the letter, in alphabetical order
 abbrev pub cable_without : ℕ → Option ℕ × Option ℕ → Option ℕ × Option ℕ

@@ -40,7 +40,6 @@ IsWindow (OfWheels key) window = AreLetters (length key.wheels) window
 IsWindow (OfDrum key) window = AreOnWheels window
 
 -- ---- When a machine is ready, and which wheels, letters and pairs it has.
--- Test: kd_trials/src/state/engine.rt
 
 -- No slot is empty, and no cable has exactly one letter.
 pub record IsRotorReady (m : RotorParts) : Type 0 where
@@ -71,7 +70,6 @@ plugged_pairs m = filter_map (λ cable. both_ends cable.0 cable.1) m.cables
 -- ---- The cipher of a machine as it stands, and the cipher that a day asks for. They are defined apart: the
 -- machine's by its slots, cables and lugs, the day's by the wheels, pairs and rows of its entry.
 -- Source: the published accounts of the current's path; War Department TM 11-380
--- Test: kd_trials/src/state/engine.rt
 
 -- The key of a machine as it stands: its wheels with their rings and letters, its reflector, and its cables of
 -- two letters; or its pins, its letters, and the readings of its bars.

@@ -39,7 +39,6 @@ pub record IsStep (wheels : List Wheel) (before after : List ℕ) : Type 0 where
 
 -- ---- Several steps: as a chain of steps, and as a function.
 -- Code: the window is moved in place.
--- Test: wheels_step
 
 -- A chain of `n` steps leads from the window `first` to the window `last`.
 abbrev pub LeadsInSteps : List Wheel → List ℕ → ℕ → List ℕ → Type 0

@@ -1,5 +1,4 @@
 -- How much of a text a sink takes.
--- Code: puts in a loop.
 -- Test: stops_where_the_sink_fails
 use Rattle.std.specs.Prelude.{ℕ, ◌<◌, List, length, take, Option, Result, OnOk, OnErr}
 use Rattle.std.specs.Io.KnownBytes.{Appends}
