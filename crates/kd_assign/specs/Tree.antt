@@ -19,7 +19,7 @@ pub record AreClose (n : ℕ) (prices ceilings : List ℤ) : Type 0 where
   pub between : (j : ℕ) → j < n → price_at prices j ≤ℤ price_at ceilings j
   pub high : (j : ℕ) → j < n → price_at ceilings j ≤ℤ pos 4
 
--- `end` is outside the tree, and no column outside has a price closer to its ceiling.
+-- `end` is a column outside the tree, and no price outside is closer to its ceiling.
 pub record IsNearest (n : ℕ) (prices : List ℤ) (reached : List Bool) (ceilings : List ℤ) (end : ℕ) : Type 0 where
   pub within : end < n
   pub outside : has_column reached end ≡ false
@@ -53,9 +53,9 @@ module _ (n : ℕ) (cost : List (List ℕ)) (prices : List ℤ) (holders : List 
     pub same : (j : ℕ) → has_column reached j ≡ false → slice_index_or plan j None ≡ slice_index_or holders j None
     pub taken : (j : ℕ) → is_some (slice_index_or plan j None) ≡ is_some (slice_index_or holders j None)
 
-  -- Each column of the tree is taken, and its price is no further from its ceiling than any outside. A column
-  -- outside is the cheapest one for its nearest row at the ceilings, and `plans` has a plan that leaves this
-  -- row without a column.
+  -- Each column of the tree is taken, and its price is no further below its ceiling than any price outside.
+  -- Each column outside is the cheapest one for its nearest row, at the ceilings. `plans` has a plan that
+  -- leaves this row without a column.
   pub record IsGrown (near : List ℕ) (plans : List (List (Option ℕ))) : Type 0 where
     pub places : length reached ≡ n
     pub plan_places : length plans ≡ n

@@ -36,8 +36,8 @@ status_of (Err (Unread fault)) = 1
 status_of (Err ReadFailed) = 1
 status_of (Err (Refused fault)) = 1
 
--- The program ends with the status of this answer. Its line was written to standard error. If standard error
--- failed, only a prefix of the line was.
+-- The program ends with the status of this answer. Its line was written to standard error, or only a prefix of
+-- it if standard error failed.
 pub record EndsAs (answer : Result (Unit {0}) Stop) (errors : Port) (status : ℕ) : Type 0 where
   pub ends : status ≡ status_of answer
   pub written : Result (Unit {0}) Device

@@ -15,7 +15,7 @@ use Rattle.kd_desk.specs.declared.fault.DeskFault.{DeskFault}
 use Rattle.kd_desk.specs.declared.fault.DeskFault.TheVariants as faults
 use Rattle.kd_tables.specs.Ports.{Port}
 
--- the desk's fault for a message's fault
+-- the desk's fault for a message's fault; a failed device and the limit are the desk's own faults
 abbrev pub fault_of_message : FormFault → DeskFault
 fault_of_message message.Device = faults.Device
 fault_of_message message.ReadTooLong = faults.ReadTooLong

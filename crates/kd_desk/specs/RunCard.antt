@@ -18,7 +18,7 @@ use Rattle.kd_desk.specs.Headline.{LeavesTheSheetsMachine, EquallySetDecipher}
 use Rattle.kd_tables.specs.Ports.{Port}
 use Rattle.kd_desk.specs.Ports.{WritesText}
 
--- The text of a card for day `number` was written. If the device failed, only a prefix of it was. The card has
+-- The text of a card for day `number` was written, or only a prefix of it if the device failed. The card has
 -- one price for each kind. These stand for prices by number, which prove the card and make it a planned one: no
 -- fewer settings reach the day, and spare cables stay free. Its settings lead to a machine that is ready and
 -- enciphers as the day's own. A machine on the day's key deciphers what an equally set one enciphers.

@@ -20,8 +20,8 @@ use Rattle.kd_desk.specs.Ports.{WritesText}
 abbrev pub verdict_text : ℕ → List ℕ
 verdict_text number = codes "SHORTEST " ++ decimal number ++ 10 ∷ []
 
--- The card proves itself, so no fewer settings reach the day. The line `verdict_text` was written. If the
--- device failed, only a prefix of it was.
+-- The card proves itself, so no fewer settings reach the day. The line `verdict_text` was written, or only a
+-- prefix of it if the device failed.
 pub record IsTold (m : Parts) (s : Day) (settings : List Setting) (prices : PriceParts) (sink : Port)
     (answer : Result (Unit {0}) DeskFault)
     : Type 0 where
@@ -30,7 +30,7 @@ pub record IsTold (m : Parts) (s : Day) (settings : List Setting) (prices : Pric
   pub written : WritesText (verdict_text (length settings)) sink answer
 
 -- The answer is the card's fault; or that the card is for another day; or the first reason why it doesn't prove
--- itself; or the card is told to be shortest.
+-- itself. Otherwise the desk says that the card is shortest.
 pub data Checks (m : Parts) (s : Day) (number : ℕ) (bytes : List ℕ) (sink : Port)
     (answer : Result (Unit {0}) DeskFault) : Type 0 where
   NoCard : (fault : CardFault) → IsCardFault bytes fault → answer ≡ Err (faults.Card fault)

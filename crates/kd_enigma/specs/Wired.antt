@@ -29,8 +29,8 @@ key_in stepper rings reflector plugs = record {
   plugs = plugs;
 }
 
--- What the code keeps for a key: its wheels in their slots, and the permutations of the reflector, of the path
--- through the slow wheels, and of the whole path at the letters that show.
+-- What the code keeps for a key: its wheels in their slots, and three permutations. These are the reflector's,
+-- that of the path through the slow wheels, and that of the whole path at the letters that show.
 pub record IsWired (key : RotorKey) (seated : List SeatedWheel) (reflecting inner whole : List ℕ) : Type 0 where
   pub seats : seated ≡ seats key.plugs key.wheels key.rings
   pub board : IsPlugboard key.plugs

@@ -30,8 +30,8 @@ parts_of form = (cut form).0 ∷ (cut form).1
 
 -- ---- Which headings a part of the day can have, and the first line of a part.
 
--- how many letters a body may have: on a rotor machine, fillers, group and 1 to 245 letters of text; on the
--- Converter M-209, the indicators twice and 1 to 100 groups of text
+-- How many letters a body may have: on a rotor machine, fillers, group and 1 to 245 letters of text; on the
+-- Converter M-209, the indicators twice and 1 to 100 groups of text.
 abbrev pub IsLetterCount : Day → ℕ → Type 0
 IsLetterCount (OfRotors s) count = (6 ≤ count) × (count ≤ 250)
 IsLetterCount (OfPins s) count = (25 ≤ count) × (count ≤ 520) × (count % 5 ≡ 0)

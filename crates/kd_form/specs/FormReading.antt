@@ -27,7 +27,7 @@ FitsAt place byte = (place < 5 → byte ≡ slice_index (codes "PART ") place) �
 abbrev pub HasBegun : List ℕ → Type 0
 HasBegun bytes = ((count : ℕ) × (count ≤ 5) × (bytes ≡ take count (codes "PART "))) ⊎ BeginsHeading bytes
 
--- `part` is a prefix of a heading line, without LF, and `held` has up to 64 bytes of it
+-- `part` is a prefix of a heading line, without LF, and `held` has up to 64 bytes of it.
 pub record HoldsLine (held part : List ℕ) : Type 0 where
   pub kept : held ≡ take 64 part
   pub unbroken : IsWithout 10 part

@@ -85,8 +85,8 @@ StandsAt s fault p (part ∷ []) =
     ((line body : List ℕ) × IsFirstPart 10 part line body) × IsEarlyFault s p.number p.expected p.start part fault
 StandsAt s fault p (part ∷ next ∷ others) = IsPartFault s p.number p.expected p.start part fault
 
--- The form has this fault whatever bytes follow, and `text` is the text of the parts before. Either no form
--- that begins so begins with a heading line, or a part has the fault.
+-- The form has this fault whatever bytes follow, and `text` is the text of the parts before. Either the bytes
+-- can't become a form that begins with a heading line, or a part has the fault.
 pub data IsRefusedForGood (s : Day) (form text : List ℕ) (fault : FormFault) : Type 0 where
   NoHeading : ((more : List ℕ) → ¬ (BeginsHeading (form ++ more))) → text ≡ [] → fault ≡ BadHeading 1
       → IsRefusedForGood s form text fault

@@ -18,7 +18,8 @@ ComesFirst [] others = Unit {0}
 ComesFirst (place ∷ places) [] = ⊥
 ComesFirst (place ∷ places) (other ∷ others) = (place < other) ⊎ ((place ≡ other) × ComesFirst places others)
 
--- `picked` are the letters at these rising places, each of them on the next wheel.
+-- `picked` are the letters at these rising places: six letters, the first on wheel 1, the second on wheel 2,
+-- and so on.
 pub record ArePicked (letters places picked : List ℕ) : Type 0 where
   pub rising : AreRising 0 (length letters) places
   pub taken : picked ≡ map (λ place. slice_index letters place) places
@@ -31,7 +32,7 @@ pub record IsInternalKey (letters key : List ℕ) : Type 0 where
   pub picked : ArePicked letters places key
   pub first : (others other : List ℕ) → ArePicked letters others other → ComesFirst places others
 
--- The letters run out: `ArePicked` allows no six places.
+-- The letters run out: there are no six places that `ArePicked` allows.
 abbrev pub HaveRunOut : List ℕ → Type 0
 HaveRunOut letters = (places picked : List ℕ) → ¬ (ArePicked letters places picked)
 

@@ -25,7 +25,7 @@ use Rattle.kd_form.specs.SendStream.{CanBeWritten}
 abbrev pub IsHeadLine : Day → ℕ → List ℕ → Type 0
 IsHeadLine s count line = (IsAnyKeyLine s line × (count < 99)) ⊎ IsEnded (codes "TEXT") line
 
--- The order has a line for each of these keys, and then `line`, which begins another line of the head.
+-- The order has a line for each of these keys, and then `line`, the incomplete next line of the head.
 pub record IsHeadRead (s : Day) (keys : List Keys) (line order : List ℕ) : Type 0 where
   pub lines : BeginsWithKeys s keys (λ rest. rest ≡ line) order
   pub few : length keys ≤ 99

@@ -1,5 +1,4 @@
 -- What is written of an order before its end. Parts are counted from 1.
--- Code: a part is written once a letter after it has come.
 -- Test: orders_are_sent
 use Rattle.std.specs.Prelude.{◌≡◌, ◌⊎◌, ℕ, ◌*◌, ◌<◌, ◌≤◌, List, [], ◌∷◌, ◌++◌, length, take, All, IsTrue, IsFalse}
 use Rattle.kd_tables.specs.Text.{is_text_byte}
@@ -24,8 +23,8 @@ pub record CanBeWritten (size parts letters written : ℕ) : Type 0 where
   pub due : (written ≡ 0) ⊎ ((written < parts) × (size * written < letters))
   pub most : (other : ℕ) → other < parts → size * other < letters → other ≤ written
 
--- What is written of an order before its end. Before its text begins, or if its keys don't suit the day,
--- nothing is. In the text, the parts are that can be written.
+-- What is written of an order before its end. If its text hasn't begun, or its keys don't suit the day, it is
+-- nothing. Otherwise it is the parts that can be written.
 pub data IsSentBefore (s : Day) (order sent : List ℕ) : Type 0 where
   NotYet : ((keys : List Keys) (head text : List ℕ) → IsOrder s order keys head text → ¬ (All (Suits s) keys))
       → sent ≡ [] → IsSentBefore s order sent

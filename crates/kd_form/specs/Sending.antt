@@ -102,7 +102,8 @@ IsSendFault s order fault = StandsInOrder s order fault ⊎ EndsOrder s order fa
 -- ---- The form that an order becomes.
 -- Test: long_texts_are_sent_and_received
 
--- The bytes are the parts of a form from `part` to `parts`. Each is made from its piece of text with its keys.
+-- The bytes are parts of a form, from `part` on, of `parts` parts in all. Each is made from its piece of text
+-- with its keys.
 abbrev pub AreMadeTexts : Day → ℕ → ℕ → List Keys → List (List ℕ) → List ℕ → Type 0
 AreMadeTexts s part parts [] [] bytes = bytes ≡ []
 AreMadeTexts s part parts (k ∷ keys) (piece ∷ pieces) bytes =

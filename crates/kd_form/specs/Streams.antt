@@ -1,4 +1,4 @@
--- A kind of message, and what stands, is refused and is written, by its bytes.
+-- A kind of message, by its bytes: its faults, what it becomes, and what is written.
 use Rattle.std.specs.Prelude.{◌≡◌, ◌≢◌, ℕ, ◌≤◌, Bool, true, false, List, [], ◌∷◌, ◌++◌, length, Option, None, Some}
 use Rattle.std.specs.Prelude.{Result, Ok, Err, MatchResult}
 use Rattle.std.specs.Io.{StartsWith}

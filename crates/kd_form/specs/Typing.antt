@@ -55,7 +55,8 @@ pub record IsAllowedTo (bytes : List ℕ) (front : ℕ) : Type 0 where
   pub allowed : All (λ b. IsTrue (is_text_byte b)) (take front bytes)
   pub next : front < length bytes → IsFalse (is_text_byte (slice_index bytes front))
 
--- All of `bytes` are allowed and were typed, and the engine is at the key after them.
+-- All of `bytes` are allowed and were typed. `text` is their ciphertext, and the engine enciphers the bytes
+-- after them.
 pub record IsTypedTo (m : Parts) (t : Typist) (bytes text : List ℕ) : Type 0 where
   pub counted : t.read ≡ length bytes
   pub allowed : All (λ b. IsTrue (is_text_byte b)) bytes

@@ -122,8 +122,8 @@ abbrev pub OneListFault : Type 0
 OneListFault =
     (bytes : List ℕ) (fault other : ListFault) → IsListFault bytes fault → IsListFault bytes other → fault ≡ other
 
--- ---- The laws of ciphers: a machine on the day's key enciphers as the day asks, and deciphers what another
--- one enciphers.
+-- ---- The laws of ciphers: a machine on the day's key enciphers as the day asks, and an equally set one
+-- deciphers it.
 
 -- An engine with a machine's key enciphers as the machine's own parts do. Turned to other letters, it enciphers
 -- as the machine that shows these letters.
@@ -194,7 +194,7 @@ KeyInTurn = (key : EngineKey) (m n : ℕ) → key_left (key_left key m) n ≡ ke
 
 -- ---- The laws of columns and costs.
 
--- Two lists have the same letters exactly if each letter is in both or in neither.
+-- Two lists have the same letters exactly if `has_letter` gives the same answer for both, whatever the letter.
 abbrev pub TestsTellLetters : Type 0
 TestsTellLetters = (xs ys : List ℕ) → SameLetters xs ys ↔ ((letter : ℕ) → has_letter xs letter ≡ has_letter ys letter)
 

@@ -143,8 +143,8 @@ abbrev pub cable_in : Parts → ℕ → Option (Option ℕ × Option ℕ)
 cable_in (Rotor m) cable = numbered m.cables cable
 cable_in (Pin m) cable = None
 
--- whether a pin is effective, which letter a pin wheel shows, and where a bar's lugs are, if the machine has
--- the pin, the wheel or the bar
+-- whether a pin is effective; which letter a pin wheel shows; where a bar's lugs are; `None` if the machine
+-- lacks the pin, the wheel or the bar
 abbrev pub pin_in : Parts → ℕ → ℕ → Option Bool
 pin_in (Rotor m) wheel letter = None
 pin_in (Pin m) wheel letter = pin_at m.pins wheel letter

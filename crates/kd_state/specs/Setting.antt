@@ -111,7 +111,7 @@ why_refused m x = option_map (λ reason. reason.1) (find (λ reason. reason.0) (
 -- ---- What a setting makes of a machine.
 -- Code: the machine is changed in place.
 
--- the cable without the letter, and the cable with the letter, in alphabetical order
+-- the cable without the letter; and the cable with the letter added, in alphabetical order
 abbrev pub cable_without : ℕ → Option ℕ × Option ℕ → Option ℕ × Option ℕ
 cable_without letter cable = if option_map_or (nat_eq letter) cable.0 false then (cable.1, None) else (cable.0, None)
 

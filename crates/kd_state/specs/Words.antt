@@ -38,8 +38,7 @@ LinesTellWords =
     (words others : List (List ℕ)) → All IsWord words → All IsWord others → line_of words ≡ line_of others
     → words ≡ others
 
--- A line that is made of words is split into these words, and a line that is split is made again from its
--- parts.
+-- Splitting the line of some words gives these words, and joining the parts of a line gives this line.
 abbrev pub LinesSplitIntoWords : Type 0
 LinesSplitIntoWords = (words : List (List ℕ)) → words ≢ [] → All IsWord words → words_of (line_of words) ≡ words
 

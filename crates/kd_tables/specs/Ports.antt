@@ -27,8 +27,8 @@ pub record Gets (old new : Option (List ℕ)) (buffer : List ℕ) (answer : Resu
   pub ended : answer ≡ Ok 0 → 0 < length buffer → IsAtEnd new
   pub refused : OnErr answer (Keeps old new)
 
--- A source in memory: the bytes to come, the most bytes for one get, the number of gets before one fails
--- (`None` if none fails), and whether one has failed.
+-- A source in memory: the bytes to come; the most bytes for one get; the number of gets before one fails, or
+-- `None` if none fails; and whether one has failed.
 pub record MemoryBytes : Type 0 where
   pub rest : List ℕ
   pub piece : ℕ
@@ -66,8 +66,8 @@ pub record FailsAlone (p other : Port) : Type 0 where
   pub failed : IsTrue p.has_failed
   pub well : IsWell other
 
--- Whether ports failed in a call, which returns `Device` if the last argument is `true`. With `Device`, one
--- port has failed, and the other didn't fail in the call. Otherwise neither failed in the call.
+-- What a call's answer tells of its two ports. The flag is `true` if the call returns `Device`. Then one port
+-- has failed, and the other didn't fail in the call. Otherwise neither port failed in the call.
 abbrev pub Fail : Port → Port → Bool → Type 0
 Fail source sink false = IsWell source × IsWell sink
 Fail source sink true = FailsAlone source sink ⊎ FailsAlone sink source
