@@ -67,8 +67,8 @@ both_ends _ _ = None
 abbrev pub plugged_pairs : RotorParts → List (ℕ × ℕ)
 plugged_pairs m = filter_map (λ cable. both_ends cable.0 cable.1) m.cables
 
--- ---- The cipher of a machine as it stands, and the cipher that a day asks for. They are defined apart: the
--- machine's by its slots, cables and lugs, the day's by the wheels, pairs and rows of its entry.
+-- ---- The cipher of a machine as it stands, and the cipher that a day asks for, defined apart: the machine's
+-- by its slots, cables and lugs, the day's by the wheels, pairs and rows of its entry.
 -- Source: the published accounts of the current's path; War Department TM 11-380
 
 -- The key of a machine as it stands: its wheels with their rings and letters, its reflector, and its cables of
