@@ -28,7 +28,7 @@ abbrev pub key_letters : Keys → List ℕ
 key_letters (Rotor k) = k.start ++ (k.key ++ (k.fillers ++ k.group))
 key_letters (Pin k) = k.chosen ∷ k.external
 
--- `bytes` are a line of keys of the day's model, with its end.
+-- `bytes` are a line of keys of the day's model, and its end.
 pub record IsAnyKeyLine (s : Day) (bytes : List ℕ) : Type 0 where
   pub keys : Keys
   pub of_the_day : AreKeys s keys

@@ -9,11 +9,11 @@ use Rattle.kd_form.specs.declared.pattern_line.Unread.{Unread}
 use Rattle.kd_form.specs.declared.pattern_line.Unread.TheVariants.{Open, Off}
 use Rattle.kd_form.specs.Keys.{key_words, AreKeys}
 
--- `bytes` are the line with its end: LF, or CR and LF.
+-- `bytes` are the line and its end: LF, or CR and LF.
 abbrev pub IsEnded : List ℕ → List ℕ → Type 0
 IsEnded line bytes = (bytes ≡ line ++ 10 ∷ []) ⊎ (bytes ≡ line ++ 13 ∷ 10 ∷ [])
 
--- `bytes` are the line of these keys, with its end.
+-- `bytes` are the line of these keys, and its end.
 abbrev pub IsKeyLine : Keys → List ℕ → Type 0
 IsKeyLine keys bytes = IsEnded (line_of (key_words keys)) bytes
 

@@ -16,12 +16,12 @@ abbrev pub blanks : List ℕ → ℕ
 blanks [] = 0
 blanks (mark ∷ pattern) = if mark == 95 then blanks pattern + 1 else blanks pattern
 
--- `bytes` are the line of the pattern with these letters, with its end.
+-- `bytes` are the line of the pattern with these letters, and its end.
 pub record IsFilledLine (pattern letters bytes : List ℕ) : Type 0 where
   pub are_letters : AreLetters (blanks pattern) letters
   pub ended : IsEnded (filled_in pattern letters) bytes
 
--- `bytes` are the line of the pattern with some letters, with its end.
+-- `bytes` are the line of the pattern with some letters, and its end.
 abbrev pub IsPatternLine : List ℕ → List ℕ → Type 0
 IsPatternLine pattern bytes = (letters : List ℕ) × IsFilledLine pattern letters bytes
 
