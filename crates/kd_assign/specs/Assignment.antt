@@ -1,7 +1,8 @@
--- An assignment of rows to columns: the list of each row's column.
+-- An assignment of rows to columns: a list with each row's column.
+-- Test: answers_three_rows, answers_small_tables, answers_the_largest_tables
 use Rattle.std.specs.Prelude.{ℕ, ◌+◌, ◌<◌, ◌≢◌, List, [], ◌∷◌, length, slice_index, All, AllPairs}
 
--- each row has a column, and no two rows have the same one
+-- Each row has a column, and no two rows have the same column.
 pub record IsOneToOne (to : List ℕ) : Type 0 where
   pub in_range : All (λ j. j < length to) to
   pub distinct : AllPairs (λ j k. j ≢ k) to

@@ -1,15 +1,18 @@
--- Why prices prove that an assignment has the least cost.
+-- Why prices that fit prove a least cost.
+-- Source: the assignment problem and its dual
+-- Code: no assignment is tried.
+-- Test: answers_small_tables, answers_three_rows
 use Rattle.std.specs.Prelude.{◌≡◌, ℕ, ◌≤◌, List, length, ℤ, pos, ◌≤ℤ◌}
 use Rattle.kd_assign.specs.Prices.{Fits, price_sum}
 use Rattle.kd_assign.specs.Assignment.{IsOneToOne, assignment_cost}
 
--- if prices fit, every one-to-one assignment costs at least their sum
+-- If prices fit, every one-to-one assignment costs at least their sum.
 abbrev pub FittingPricesBoundCosts : Type 0
 FittingPricesBoundCosts =
     (cost : List (List ℕ)) (row col : List ℤ) (to : List ℕ) →
     length row ≡ length to → length col ≡ length to → length cost ≡ length to →
     Fits cost row col → IsOneToOne to → price_sum row col ≤ℤ pos (assignment_cost cost to)
 
--- every one-to-one assignment costs at least `total`
+-- Every one-to-one assignment costs at least `total`.
 abbrev pub IsLeastCost : List (List ℕ) → ℕ → Type 0
 IsLeastCost cost total = (to : List ℕ) → length to ≡ length cost → IsOneToOne to → total ≤ assignment_cost cost to

@@ -1,11 +1,15 @@
--- Prices of the rows and columns of a cost table. Rows and columns are counted from 0.
+-- Prices of the rows and columns of a cost table, and when they fit: a row's price and a column's add up to at
+-- most the cost where the two meet. Rows and columns are counted from 0.
+-- Source: the assignment problem and its dual
+-- Code: the columns' prices fall once for each tree; the rows' prices are made last.
+-- Test: answers_three_rows
 use Rattle.std.specs.Prelude.{ℕ, ◌<◌, ◌≤◌, All, List, [], ◌∷◌, length, slice_index, slice_index_or, ℤ, pos, ◌+ℤ◌, ◌≤ℤ◌}
 
 -- the cost of row `i` at column `j`
 abbrev pub cost_at : List (List ℕ) → ℕ → ℕ → ℕ
 cost_at cost i j = slice_index (slice_index_or cost i []) j
 
--- no cost is above `greatest`
+-- No cost is above `greatest`.
 abbrev pub CostsAtMost : ℕ → List (List ℕ) → Type 0
 CostsAtMost greatest cost = All (λ line. All (λ c. c ≤ greatest) line) cost
 
@@ -13,8 +17,8 @@ CostsAtMost greatest cost = All (λ line. All (λ c. c ≤ greatest) line) cost
 abbrev pub price_at : List ℤ → ℕ → ℤ
 price_at prices i = slice_index_or prices i (pos 0)
 
--- for each row and column, the two prices add up to at most the row's cost at the column: the prices are a
--- feasible dual solution
+-- Each row's price and each column's price add up to at most the row's cost at the column: the prices are a
+-- feasible dual solution.
 abbrev pub Fits : List (List ℕ) → List ℤ → List ℤ → Type 0
 Fits cost row col =
     (i j : ℕ) → i < length row → j < length col → (price_at row i +ℤ price_at col j) ≤ℤ pos (cost_at cost i j)

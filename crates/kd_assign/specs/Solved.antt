@@ -1,26 +1,27 @@
--- A partial assignment, by columns: the list `holders` has the row of each column that is taken.
+-- A partial assignment, by columns: `holders` has the row of each column that is taken. No public contract
+-- cites this file.
 use Rattle.std.specs.Prelude.{◌≡◌, ℕ, ◌*◌, ◌<◌, List, length, Option, Some, None, is_some, slice_index_or, count_by, ℤ}
 use Rattle.std.specs.Prelude.{pos, ◌+ℤ◌, ◌≤ℤ◌}
 use Rattle.kd_assign.specs.Prices.{cost_at, price_at}
 
--- column `j` is taken by row `i`
+-- Row `i` has column `j`.
 abbrev pub Has : List (Option ℕ) → ℕ → ℕ → Type 0
 Has holders j i = slice_index_or holders j None ≡ Some i
 
--- column `j` is free
+-- Column `j` is free.
 abbrev pub IsFree : List (Option ℕ) → ℕ → Type 0
 IsFree holders j = slice_index_or holders j None ≡ None
 
--- row `i` has a column
+-- Row `i` has a column.
 abbrev pub IsSeated : List (Option ℕ) → ℕ → Type 0
 IsSeated holders i = (j : ℕ) × Has holders j i
 
--- at `prices`, none of the `n` columns is cheaper for row `i` than column `j`
+-- At `prices`, no column is cheaper for row `i` than column `j`.
 abbrev pub IsCheapest : ℕ → List (List ℕ) → List ℤ → ℕ → ℕ → Type 0
 IsCheapest n cost prices i j =
     (k : ℕ) → k < n → (pos (cost_at cost i j) +ℤ price_at prices k) ≤ℤ (pos (cost_at cost i k) +ℤ price_at prices j)
 
--- of `n` rows, those before `next` have columns, each the cheapest one for its row
+-- The rows before `next` have columns. Each has its cheapest column at these prices.
 pub record IsSolvedTo (n : ℕ) (cost : List (List ℕ)) (prices : List ℤ)
     (holders : List (Option ℕ)) (next : ℕ) : Type 0 where
   pub places : length holders ≡ n

@@ -1,11 +1,11 @@
--- A tree of rows and columns, as in the Hungarian method, grown from a row that has no column yet. Each column
--- has a ceiling: the price at which the row of the tree that is nearest to it would take it.
+-- A tree of rows and columns, as in the Hungarian method, grown from a row that has no column yet. A column's
+-- ceiling is the lowest price that a row of the tree offers for it. No public contract cites this file.
 use Rattle.std.specs.Prelude.{◌≡◌, ◌≢◌, ℕ, ◌<◌, ◌≤◌, Bool, false, true, List, [], length, slice_index, Option, None}
 use Rattle.std.specs.Prelude.{is_some, slice_index_or, ◌⊎◌, ℤ, pos, neg_ℤ, ◌+ℤ◌, ◌-ℤ◌, ◌≤ℤ◌}
 use Rattle.kd_assign.specs.Prices.{cost_at, price_at}
 use Rattle.kd_assign.specs.Solved.{Has, IsCheapest, IsSeated}
 
--- the tree has column `j`
+-- whether the tree has column `j`
 abbrev pub has_column : List Bool → ℕ → Bool
 has_column reached j = slice_index_or reached j false
 
@@ -13,27 +13,27 @@ has_column reached j = slice_index_or reached j false
 abbrev pub room_at : List ℤ → List ℤ → ℕ → ℤ
 room_at ceilings prices j = price_at ceilings j -ℤ price_at prices j
 
--- no ceiling is below its price, and all prices and ceilings lie between -128 and 4
+-- No ceiling is below its price, and all prices and ceilings are from -128 to 4.
 pub record AreClose (n : ℕ) (prices ceilings : List ℤ) : Type 0 where
   pub low : (j : ℕ) → j < n → neg_ℤ (pos 128) ≤ℤ price_at prices j
   pub between : (j : ℕ) → j < n → price_at prices j ≤ℤ price_at ceilings j
   pub high : (j : ℕ) → j < n → price_at ceilings j ≤ℤ pos 4
 
--- `end` is the column outside the tree whose price lies least below its ceiling
+-- `end` is a column outside the tree, and no price outside is closer to its ceiling.
 pub record IsNearest (n : ℕ) (prices : List ℤ) (reached : List Bool) (ceilings : List ℤ) (end : ℕ) : Type 0 where
   pub within : end < n
   pub outside : has_column reached end ≡ false
   pub least : (j : ℕ) → j < n → has_column reached j ≡ false → room_at ceilings prices end ≤ℤ room_at ceilings prices j
 
--- A column was compared with `row`, which would take it at the price `offer`. Outside the tree the column keeps
--- the lower one of `ceiling` and `offer`, and the row that it comes from; in the tree it keeps what it had.
+-- A column was compared with `row`, which offers the price `offer` for it. A column outside the tree keeps the
+-- lower of `ceiling` and `offer`, and the row that offers it. A column of the tree keeps what it had.
 pub record IsCompared (reached : Bool) (row : ℕ) (offer : ℤ) (near : ℕ) (ceiling : ℤ)
     (near' : ℕ) (ceiling' : ℤ) : Type 0 where
   pub one : ((near' ≡ near) × (ceiling' ≡ ceiling)) ⊎ ((reached ≡ false) × (near' ≡ row) × (ceiling' ≡ offer))
   pub least : ceiling' ≤ℤ ceiling
   pub here : reached ≡ false → ceiling' ≤ℤ offer
 
--- each column was compared with `row`; the offer is `level` plus the row's cost at the column
+-- Each column was compared with `row`. The offer is `level` plus the row's cost at the column.
 pub record AreCompared (n : ℕ) (cost : List (List ℕ)) (reached : List Bool) (row : ℕ) (level : ℤ) (near : List ℕ)
     (ceilings : List ℤ) (near' : List ℕ) (ceilings' : List ℤ) : Type 0 where
   pub at : (j : ℕ) → j < n
@@ -42,8 +42,8 @@ pub record AreCompared (n : ℕ) (cost : List (List ℕ)) (reached : List Bool) 
 
 module _ (n : ℕ) (cost : List (List ℕ)) (prices : List ℤ) (holders : List (Option ℕ)) (root : ℕ) (reached : List Bool)
     (ceilings : List ℤ) where
-  -- `plan` has a column for each row up to the root but `out`. In the tree's columns each row is in the
-  -- cheapest one at the ceilings; outside the tree `plan` agrees with `holders`.
+  -- `plan` has a column for each row up to the root, except `out`. A row in a column of the tree has its
+  -- cheapest column at the ceilings. Outside the tree, `plan` agrees with `holders`.
   pub record IsPlan (plan : List (Option ℕ)) (out : ℕ) : Type 0 where
     pub places : length plan ≡ n
     pub out_in_range : out < n
@@ -53,8 +53,9 @@ module _ (n : ℕ) (cost : List (List ℕ)) (prices : List ℤ) (holders : List 
     pub same : (j : ℕ) → has_column reached j ≡ false → slice_index_or plan j None ≡ slice_index_or holders j None
     pub taken : (j : ℕ) → is_some (slice_index_or plan j None) ≡ is_some (slice_index_or holders j None)
 
-  -- Each column of the tree is taken, and was nearer than those outside. Each column outside is the cheapest
-  -- one for its nearest row, and `plans` has a plan in which this row has no column.
+  -- Each column of the tree is taken, and its price is no further below its ceiling than any price outside.
+  -- Each column outside is the cheapest one for its nearest row, at the ceilings. `plans` has a plan that
+  -- leaves this row without a column.
   pub record IsGrown (near : List ℕ) (plans : List (List (Option ℕ))) : Type 0 where
     pub places : length reached ≡ n
     pub plan_places : length plans ≡ n

@@ -1,4 +1,6 @@
--- Which command a command line says, by clap's rules for the desk's grammar.
+-- The desk's grammar: its commands with their words, without options and help.
+-- Code: built by calls of `clap`.
+-- Test: refuses_other_words
 use Rattle.std.specs.Prelude.{codes, decimal, ◌≡◌, ℕ, true, false, List, [], ◌∷◌, ◌++◌, map, fold, Option, Some, None}
 use Rattle.std.specs.Prelude.{IsSomeAnd}
 use Rattle.std.specs.Borrow.{Bor}
@@ -14,14 +16,14 @@ use Rattle.kd_desk.specs.declared.command.Task.TheVariants as tasks
 use Rattle.kd_desk.specs.declared.command.Way.{Way}
 use Rattle.kd_desk.specs.declared.command.Way.TheVariants.{Send, Receive}
 
--- a command with its words, without options and without help
+-- a command with its words, without options and help
 abbrev pub command_shape : List ℕ → List (List ℕ) → Shape
 command_shape name words = record (new_shape name) {
   disable_help_flag = true;
   rules = map new_rule words;
 }
 
--- a command without subcommands
+-- a grammar that is one command without subcommands
 abbrev pub alone : Shape → App
 alone shape = record { top = shape; subs = [] }
 
@@ -33,7 +35,7 @@ shape_with name words = command_shape name (map (λ word. word.now) words)
 abbrev pub with_commands : App → List (Bor (List ℕ) × Bor (List (Bor (List ℕ)))) → App
 with_commands app commands = fold (λ a command. with_subcommand a (shape_with command.0.now command.1.now)) app commands
 
--- the grammar is the command `name` with these words, none of which is global
+-- The grammar is the command `name` with these words, none of which is global.
 pub record IsMadeOf (grammar : Grammar) (name : List ℕ) (words : List (Bor (List ℕ))) : Type 0 where
   pub shape : app_of grammar ≡ alone (shape_with name words)
   pub local : (out-Command grammar).has_globals ≡ false
@@ -51,6 +53,7 @@ abbrev pub way_word : Way → List ℕ
 way_word Send = codes "ORDER"
 way_word Receive = codes "FORM"
 
+-- the commands `type`, `apply` and `card`
 abbrev pub type_shape : Shape
 type_shape = command_shape (codes "type") (codes "MACHINE" ∷ [])
 
@@ -64,12 +67,14 @@ card_shape = command_shape (codes "card") day_words
 abbrev pub file_shape : List ℕ → List ℕ → Shape
 file_shape name word = command_shape name (day_words ++ word ∷ [])
 
+-- the commands `check`, `send` and `receive`
 abbrev pub check_shape : Shape
 check_shape = file_shape (codes "check") (codes "CARD")
 
 abbrev pub way_shape : Way → Shape
 way_shape way = file_shape (way_name way) (way_word way)
 
+-- the grammar of the desk: its six commands
 unfoldable pub desk_grammar : App
 desk_grammar = record {
   top = record (new_shape (codes "desk")) {
@@ -80,9 +85,11 @@ desk_grammar = record {
   subs = type_shape ∷ apply_shape ∷ card_shape ∷ check_shape ∷ way_shape Send ∷ way_shape Receive ∷ [];
 }
 
--- ---- the files of a command
+-- ---- A command with other files in place of its own.
+-- Code: a command over any two kinds of file.
+-- Test: stops_where_a_file_can_not_be_read_on
 
--- the task with `f` applied to the files that are read whole, and `g` to the one that is opened
+-- the task, with `f` applied to the files that are read whole, and `g` to the opened one
 abbrev pub with_task_files : {F G O P : Type 0} → (F → G) → (O → P) → Task F O → Task G P
 with_task_files f g tasks.Card = tasks.Card
 with_task_files f g (tasks.Check card) = tasks.Check (f card)
@@ -96,7 +103,7 @@ with_action_files f g (actions.OnDay sheet day task) = actions.OnDay (f sheet) d
 abbrev pub with_files : {F G O P : Type 0} → (F → G) → (O → P) → Command F O → Command G P
 with_files f g command = record { machine = f command.machine; action = with_action_files f g command.action }
 
--- the task with its file names as texts, no longer borrowed
+-- the task, with its file names as texts that aren't borrowed
 abbrev pub task_named : Task (Bor (List ℕ)) (Bor (List ℕ)) → Task (List ℕ) (List ℕ)
 task_named task = with_task_files (λ name. name.now) (λ name. name.now) task
 
@@ -106,7 +113,7 @@ action_named action = with_action_files (λ name. name.now) (λ name. name.now) 
 abbrev pub named : Command (Bor (List ℕ)) (Bor (List ℕ)) → Command (List ℕ) (List ℕ)
 named command = with_files (λ name. name.now) (λ name. name.now) command
 
--- the task with `g` applied to the opened file
+-- the task, with `g` applied to the opened file
 abbrev pub with_task_opened : {F O P : Type 0} → (O → P) → Task F O → Task F P
 with_task_opened g task = with_task_files (λ file. file) g task
 
@@ -130,9 +137,11 @@ action_opened (actions.OnDay sheet day task) = task_opened task
 abbrev pub opened_by : {F O : Type 0} → Command F O → Option O
 opened_by command = action_opened command.action
 
--- ---- what the words say
+-- ---- Which command the words say, and the names of its files.
+-- Code: the parser of `clap`.
+-- Test: finds_the_machine_file, finds_the_day, refuses_other_words, stops_before_it_writes
 
--- a command with file names
+-- A command with the names of its files.
 abbrev pub Named : Type 0
 Named = Command (List ℕ) (List ℕ)
 
@@ -142,7 +151,7 @@ NamedAction = Action (List ℕ) (List ℕ)
 abbrev pub NamedTask : Type 0
 NamedTask = Task (List ℕ) (List ℕ)
 
--- the name of the command for a task
+-- the name of a task's command
 abbrev pub task_name : NamedTask → List ℕ
 task_name tasks.Card = codes "card"
 task_name (tasks.Check card) = codes "check"
@@ -153,13 +162,13 @@ action_name actions.Type = codes "type"
 action_name (actions.Apply list) = codes "apply"
 action_name (actions.OnDay sheet day task) = task_name task
 
--- the words name this sheet and this day, whose number is in decimal
+-- The words name this sheet and this day. The day's number is in decimal.
 pub record HaveDay (rows : List Row) (sheet : List ℕ) (day : ℕ) : Type 0 where
   pub sheet_word : first_of (codes "SHEET") rows ≡ Some sheet
   pub day_word : first_of (codes "DAY") rows ≡ Some (decimal day)
   pub of_month : IsDayNumber day
 
--- the words name the files of the task
+-- The words name the files of the task.
 abbrev pub HasFile : List Row → NamedTask → Type 0
 HasFile rows tasks.Card = Unit {0}
 HasFile rows (tasks.Check card) = first_of (codes "CARD") rows ≡ Some card
@@ -170,12 +179,12 @@ HasWords rows actions.Type = Unit {0}
 HasWords rows (actions.Apply list) = first_of (codes "LIST") rows ≡ Some list
 HasWords rows (actions.OnDay sheet day task) = HaveDay rows sheet day × HasFile rows task
 
--- the command's name and the values of its words make this action
+-- The command's name and the values of its words say this action.
 pub record IsActionOf (said : List ℕ × List Row) (action : NamedAction) : Type 0 where
   pub name : said.0 ≡ action_name action
   pub words : HasWords said.1 action
 
--- the command's name and the values of its words make this command
+-- The command's name and the values of its words say this command.
 pub record IsOf (said : List ℕ × List Row) (command : Named) : Type 0 where
   pub machine : first_of (codes "MACHINE") said.1 ≡ Some command.machine
   pub action : IsActionOf said command.action
@@ -183,7 +192,7 @@ pub record IsOf (said : List ℕ × List Row) (command : Named) : Type 0 where
 abbrev pub IsOfNone : List ℕ × List Row → Type 0
 IsOfNone said = (command : Named) → ¬ (IsOf said command)
 
--- the command line, the program's own name first, satisfies the grammar and is this command
+-- The command line fits the grammar and says this command. Its first word is the program's own name.
 pub record Says (words : List (List ℕ)) (command : Named) : Type 0 where
   pub taken : fault_of desk_grammar words ≡ []
   pub said : IsSomeAnd (subcommand_of desk_grammar words) (λ said. IsOf said command)

@@ -1,4 +1,6 @@
 -- How the program ends: its line on standard error, and its exit status.
+-- Source: the table of the command line in docs/FORMATS.md
+-- Test: ends_with_a_status_and_a_line
 use Rattle.std.specs.Prelude.{codes, ◌≡◌, ℕ, ◌||◌, List, [], ◌∷◌, ◌++◌, Result, Ok, Err, is_err}
 use Rattle.kd_tables.specs.declared.writing.Device.{Device}
 use Rattle.kd_tables.specs.Ports.{Port}
@@ -10,6 +12,7 @@ use Rattle.kd_desk.specs.declared.stop.Stop.TheVariants.{Usage, Unread, ReadFail
 use Rattle.kd_desk.specs.FaultText.{desk_fault_text}
 use Rattle.kd_desk.specs.Stops.{fault_of_file}
 
+-- the line for a refusal
 abbrev pub refused_line : DeskFault → List ℕ
 refused_line fault = codes "refused " ++ desk_fault_text fault ++ 10 ∷ []
 
@@ -20,7 +23,7 @@ stop_line (Unread fault) = refused_line (fault_of_file fault)
 stop_line ReadFailed = refused_line faults.Device
 stop_line (Refused fault) = refused_line fault
 
--- what is written to standard error: nothing if all went well
+-- the text for standard error: nothing if all went well
 abbrev pub told_of : Result (Unit {0}) Stop → List ℕ
 told_of (Ok done) = []
 told_of (Err stop) = stop_line stop
@@ -33,8 +36,8 @@ status_of (Err (Unread fault)) = 1
 status_of (Err ReadFailed) = 1
 status_of (Err (Refused fault)) = 1
 
--- The program ends with the status of this answer. Its line was written to standard error, or a prefix of it if
--- that failed.
+-- The program ends with the status of this answer. Its line was written to standard error, or only a prefix of
+-- it if standard error failed.
 pub record EndsAs (answer : Result (Unit {0}) Stop) (errors : Port) (status : ℕ) : Type 0 where
   pub ends : status ≡ status_of answer
   pub written : Result (Unit {0}) Device

@@ -1,4 +1,5 @@
--- How each fault of a command is written.
+-- The text of each refusal of the desk, by the texts of the crates below.
+-- Test: says_why_it_refuses
 use Rattle.std.specs.Prelude.{ℕ, List}
 use Rattle.kd_tables.specs.declared.refusal.Refusal.TheVariants as refusals
 use Rattle.kd_tables.specs.Refusals.{refusal_name}

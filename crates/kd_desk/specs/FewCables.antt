@@ -1,5 +1,4 @@
--- The cables of a month: a machine that uses no cable above `number` never needs one above it, if no day has more than
--- `number` pairs.
+-- The cables of a month: a machine that uses none above a number needs none above it, if no day has more pairs.
 use Rattle.std.specs.Prelude.{◌≡◌, ℕ, List, Option, Some, Ok, All}
 use Rattle.kd_state.specs.declared.machine.parts.Parts.{Parts}
 use Rattle.kd_state.specs.declared.setting.Setting.{Setting}
@@ -11,27 +10,28 @@ use Rattle.kd_sheet.specs.SheetFile.{sheet_of}
 use Rattle.kd_desk.specs.Month.{Papers, AreWrittenInTurn}
 use Rattle.kd_desk.specs.Settings.{AreSettings}
 
--- the file's machine uses no cable above `number`
+-- The file's machine uses no cable above `number`.
 abbrev pub FileUsesNoneAbove : ℕ → List ℕ → Type 0
 FileUsesNoneAbove number file = (m : Parts) → machine_of file ≡ Ok m → UsesNoneAbove number m
 
--- the settings of the card name no cable above `number`
+-- The settings of the card name no cable above `number`.
 abbrev pub CardNamesNoneAbove : ℕ → List ℕ → Type 0
 CardNamesNoneAbove number card =
     (settings : List Setting) → AreSettings card settings → All (NamesNoneAbove number) settings
 
--- the sheet's day has at most `number` pairs
+-- The sheet's day has at most `number` pairs.
 abbrev pub DayHasPairsUpTo : ℕ → List ℕ → ℕ → Type 0
 DayHasPairsUpTo number sheet day =
     (month : List (Option Day)) (s : Day) → sheet_of sheet ≡ Ok month → day_of month day ≡ Some s
     → HasPairsUpTo number s
 
--- a day's card and the machine's file after it keep to the first `number` cables
+-- A day's card, and the machine's file after it, use only the first `number` cables.
 pub record KeepsToFirst (number : ℕ) (papers : Papers) : Type 0 where
   pub card : CardNamesNoneAbove number papers.card
   pub file : FileUsesNoneAbove number papers.file
 
--- whoever owns ten cables, numbered 1 to 10, never needs an eleventh: this is the law, with `number` 10
+-- If the first file and each day keep to `number` cables, so do all cards and files of the month. So whoever
+-- owns ten cables, numbered 1 to 10, never needs an eleventh.
 abbrev pub FewCablesServeAMonth : Type 0
 FewCablesServeAMonth =
     (number : ℕ) (file sheet days : List ℕ) (papers : List Papers) → AreWrittenInTurn file sheet days papers

@@ -1,4 +1,6 @@
--- Reading and opening files: what is known of their bytes, and which names were asked for.
+-- What is known of a file's bytes, as it is read whole or opened.
+-- Code: chunk by chunk, into a vector that grows.
+-- Test: reads_to_the_limit, a_file_that_is_not_there_is_a_failed_device, stops_where_an_order_is_too_long
 use Rattle.std.specs.Prelude.{◌≡◌, ◌⊎◌, ℕ, ◌+◌, ◌≤◌, nat_le, Bool, true, false, IsTrue, List, [], ◌∷◌, ◌++◌, map}
 use Rattle.std.specs.Prelude.{length, Option, Some, None, Result, Ok, Err, find, bytes_eq, option_map, if◌then◌else◌}
 use Rattle.std.specs.Result.{result_map_both}
@@ -8,12 +10,12 @@ use Rattle.kd_tables.specs.Ports.{read_limit, Port, IsWell}
 use Rattle.kd_desk.specs.declared.files.fault.FileFault.{FileFault}
 use Rattle.kd_desk.specs.declared.files.fault.FileFault.TheVariants.{NoMemory, Device, ReadTooLong}
 
--- the bytes of a file, or why it can't be read: there is none, or it is too long
+-- the bytes of a file, or why it can't be read: it isn't there, or it is too long
 abbrev pub content_of : Option (List ℕ) → Result (List ℕ) FileFault
 content_of None = Err Device
 content_of (Some bytes) = if nat_le (length bytes) read_limit then Ok bytes else Err ReadTooLong
 
--- what is known of an opened file: the bytes that are still to come, and whether a read of it has failed
+-- What is known of an opened file: the bytes that are still to come, and whether a read of it has failed.
 pub record Opened : Type 0 where
   pub bytes : Option (List ℕ)
   pub failed : Bool
@@ -21,7 +23,7 @@ pub record Opened : Type 0 where
 abbrev pub opened : {O : Type 0} → (O → Option (List ℕ)) → (O → Bool) → O → Opened
 opened bytes failed file = record { bytes = bytes file; failed = failed file }
 
--- the opened file, if there is one: all of its bytes are still to come
+-- an opened file, with all of its bytes still to come, or the fault that it isn't there
 abbrev pub opening_of : Option (List ℕ) → Result Opened FileFault
 opening_of None = Err Device
 opening_of (Some bytes) = Ok (record { bytes = Some bytes; failed = false })
@@ -30,11 +32,11 @@ opening_of (Some bytes) = Ok (record { bytes = Some bytes; failed = false })
 abbrev pub held_in : List (Bor (List ℕ) × Bor (List ℕ)) → List ℕ → Option (List ℕ)
 held_in files name = option_map (λ file. file.1.now) (find (λ file. bytes_eq file.0.now name) files)
 
--- the answer is the one expected, unless memory ran out
+-- The answer is `meant`, unless memory ran out.
 abbrev pub Gives : {X : Type 0} → Result X FileFault → Result X FileFault → Type 0
 Gives meant answer = (answer ≡ meant) ⊎ (answer ≡ Err NoMemory)
 
--- the answer, with the opened file replaced by what is known of it, is the one expected
+-- The answer is `meant`, with what is known of the opened file in place of the file.
 abbrev pub IsOpening : {O : Type 0} → Result Opened FileFault → (O → Opened) → Result O FileFault → Type 0
 IsOpening meant known answer = result_map_both known (λ fault. fault) answer ≡ meant
 
@@ -54,7 +56,11 @@ pub record IsReadWhole (source : Port) (answer : Result (List ℕ) FileFault) : 
   pub given : Consumes source.had source.has read
   pub is : IsReadAs source read answer
 
--- a name that was asked for, and whether its file could be read or opened
+-- ---- Which names of files were asked for.
+-- Code: `Files` keep them.
+-- Test: stops_before_it_writes
+
+-- A name that was asked for, and whether its file could be read or opened.
 abbrev pub Asking : Type 0
 Asking = List ℕ × Bool
 
@@ -71,7 +77,7 @@ pub record MissesOne (names : List (List ℕ)) (old new : List Asking) : Type 0 
   pub names_are : names ≡ before ++ name ∷ after
   pub asked : new ≡ old ++ (map had before ++ missed name ∷ [])
 
--- the names were asked for in order, all of them, or up to the first whose file couldn't be read or opened
+-- The names were asked for in order: all of them, or up to the first whose file couldn't be read or opened.
 abbrev pub AskFor : List (List ℕ) → List Asking → List Asking → Bool → Type 0
 AskFor names old new true = new ≡ old ++ map had names
 AskFor names old new false = MissesOne names old new

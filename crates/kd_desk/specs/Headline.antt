@@ -8,18 +8,19 @@ use Rattle.kd_state.specs.SheetDay.{Day}
 use Rattle.kd_state.specs.OnKey.{OnKey, ReadsAs}
 use Rattle.kd_state.specs.TwoCiphers.{IsReady, window_of, physical_cipher, sheet_cipher}
 
--- the machine reads as the day, is ready, and enciphers each text as the day's own machine
+-- The machine reads as the day, is ready, and enciphers each text as the day's own machine does.
 pub record IsSheetsMachine (n : Parts) (s : Day) : Type 0 where
   pub machine : IsMachine n
   pub reads : ReadsAs n s
   pub ready : IsReady n
   pub enciphers : (text : List ℕ) → physical_cipher n text ≡ sheet_cipher s text
 
--- each setting is legal after the ones before it, and together they lead to a machine that reads as the day
+-- Each setting is legal after the settings before it, and together they lead to a machine that reads as the
+-- day.
 abbrev pub LeavesTheSheetsMachine : Parts → Day → List Setting → Type 0
 LeavesTheSheetsMachine m s settings = (n : Parts) × Leads m settings n × IsSheetsMachine n s
 
--- two machines are on the day's key and show the same letters
+-- The two machines are on the day's key and show the same letters.
 pub record AreEquallySet (s : Day) (one other : Parts) : Type 0 where
   pub machine : IsMachine one
   pub other_machine : IsMachine other
@@ -27,7 +28,7 @@ pub record AreEquallySet (s : Day) (one other : Parts) : Type 0 where
   pub other_on_key : OnKey other s
   pub letters : window_of one ≡ window_of other
 
--- a machine deciphers what an equally set one enciphers
+-- A machine deciphers what an equally set machine enciphers.
 abbrev pub EquallySetDecipher : Day → Type 0
 EquallySetDecipher s =
     (one other : Parts) (text : List ℕ) → AreEquallySet s one other → All (λ letter. letter < 26) text

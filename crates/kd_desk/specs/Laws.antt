@@ -1,4 +1,4 @@
--- What the laws of settings, and of a month's cards and files, promise.
+-- The laws of settings as bytes: they say one list or have one fault.
 use Rattle.std.specs.Prelude.{◌≡◌, ◌≢◌, ◌≤◌, ℕ, List, Option, Ok}
 use Rattle.kd_tables.specs.declared.model.Model.TheVariants.{M209}
 use Rattle.kd_state.specs.declared.machine.parts.Parts.{Parts}
@@ -13,34 +13,37 @@ use Rattle.kd_desk.specs.declared.fault.DeskFault.{DeskFault}
 use Rattle.kd_desk.specs.Month.{Papers, AreWrittenInTurn, SetTheMachineInTurn, AreDaysOf, AreCardsOf}
 use Rattle.kd_desk.specs.Settings.{AreSettings, IsSettingsFault}
 
--- bytes are at most one list of settings
+-- Bytes say at most one list of settings.
 abbrev pub TextsTellSettings : Type 0
 TextsTellSettings = (bytes : List ℕ) (xs ys : List Setting) → AreSettings bytes xs → AreSettings bytes ys → xs ≡ ys
 
--- bytes that are a list of settings have no fault
+-- Bytes that say a list of settings have no fault.
 abbrev pub SettingsHaveNoFault : Type 0
 SettingsHaveNoFault =
     (bytes : List ℕ) (xs : List Setting) (fault : DeskFault) → AreSettings bytes xs → ¬ (IsSettingsFault bytes fault)
 
--- bytes have at most one fault
+-- Bytes have at most one fault.
 abbrev pub SettingsHaveOneFault : Type 0
 SettingsHaveOneFault =
     (bytes : List ℕ) (fault other : DeskFault) → IsSettingsFault bytes fault → IsSettingsFault bytes other
     → fault ≡ other
 
--- if settings lead a machine to another one, none of their lines is refused
+-- If settings lead a machine to another one, none of their lines is refused.
 abbrev pub LeadsOrRefuses : Type 0
 LeadsOrRefuses =
     (m n : Parts) (xs : List Setting) (line : ℕ) (why : Why) → Leads m xs n → ¬ (IsFirstIllegal m xs line why)
 
--- cards and files that are written for one day after another set the machine to each day
+-- ---- The laws of a month: its cards set the machine to each day, by the fewest settings in all on a rotor
+-- machine.
+
+-- Cards and files that are written for one day after another set the machine to each day.
 abbrev pub MonthsSetTheMachine : Type 0
 MonthsSetTheMachine =
     (file sheet numbers : List ℕ) (papers : List Papers) → AreWrittenInTurn file sheet numbers papers
     → SetTheMachineInTurn file sheet numbers papers
 
--- On a rotor machine, the cards written for days of a sheet, one after another, together have no more settings
--- than any other lists that reach these days one after another from the same machine.
+-- On a rotor machine, take the cards that are written for days of a sheet, one after another. No other lists
+-- that reach these days, in this order and from the same machine, have fewer settings in all.
 abbrev pub MonthsAreFewest : Type 0
 MonthsAreFewest =
     (file sheet numbers : List ℕ) (papers : List Papers) (m : Parts) (month : List (Option Day)) (days : List Day)

@@ -1,4 +1,5 @@
 -- What the desk does with a message: a text that is typed, an order that is sent, or a form that is received.
+-- Test: types_to_the_first_byte_that_is_not_allowed, sends_orders, receives_forms
 use Rattle.std.specs.Prelude.{◌≡◌, List, ℕ, ◌++◌, Result}
 use Rattle.std.specs.Result.{result_map_both}
 use Rattle.kd_state.specs.declared.machine.parts.Parts.{Parts}
@@ -14,7 +15,7 @@ use Rattle.kd_desk.specs.declared.fault.DeskFault.{DeskFault}
 use Rattle.kd_desk.specs.declared.fault.DeskFault.TheVariants as faults
 use Rattle.kd_tables.specs.Ports.{Port}
 
--- the desk's fault for a message's fault
+-- the desk's fault for a message's fault; a failed device and the limit are the desk's own faults
 abbrev pub fault_of_message : FormFault → DeskFault
 fault_of_message message.Device = faults.Device
 fault_of_message message.ReadTooLong = faults.ReadTooLong
@@ -24,27 +25,27 @@ fault_of_message fault = faults.Message fault
 abbrev pub answer_to_message : Result (Unit {0}) FormFault → Result (Unit {0}) DeskFault
 answer_to_message answer = result_map_both (λ done. done) fault_of_message answer
 
--- the desk passes on a message's answer, which satisfies `is_so`
+-- The desk passes on a message's answer, which satisfies `is_so`.
 pub record IsAnswered (is_so : Result (Unit {0}) FormFault → Type 0) (answer : Result (Unit {0}) DeskFault)
     : Type 0 where
   pub told : Result (Unit {0}) FormFault
   pub so : is_so told
   pub answers : answer ≡ answer_to_message told
 
--- the ciphertext of a typed text is written, or the text is refused
+-- The ciphertext of a typed text is written, or the text is refused.
 abbrev pub Types : Parts → Port → Port → Result (Unit {0}) DeskFault → Type 0
 Types m source sink answer = IsAnswered (TypesIfReady m source sink) answer
 
--- a message was read as it came, and its result written part by part
+-- A message was read as it came, and its result was written part by part.
 abbrev pub IsStreamedOn : Parts → Day → Message → Port → Port → Result (Unit {0}) DeskFault → Type 0
 IsStreamedOn m s message source sink answer = IsAnswered (StreamsOnKey m s message source sink) answer
 
--- the form of the order is written, or the order is refused
+-- The form of the order is written, or the order is refused.
 abbrev pub Sends : Parts → Day → Port → Port → Result (Unit {0}) DeskFault → Type 0
 Sends m s order sink answer = IsStreamedOn m s (orders s) order sink answer
 
--- What forms of the day say about orders. The text of a form is what its order gives. No order has a form with
--- a fault, and if this fault stands, none has a longer form that begins with it.
+-- What a form of the day tells of orders. Its text is what its order gives. A form with a fault is no order's
+-- form. If the fault stands, no longer form that begins with this one is an order's form either.
 pub record TellOfOrders (s : Day) : Type 0 where
   pub back : (form text order given : List ℕ) → IsTextOf s form text → IsFormOf s order form
       → IsGivenOf s order given → text ≡ given
@@ -52,7 +53,7 @@ pub record TellOfOrders (s : Day) : Type 0 where
   pub of_no_front : (form more order : List ℕ) (fault : FormFault) → (form_message s).stands form fault
       → ¬ (IsFormOf s order (form ++ more))
 
--- the text of the form is written, or the form is refused
+-- The text of the form is written, or the form is refused.
 pub record Receives (m : Parts) (s : Day) (form sink : Port) (answer : Result (Unit {0}) DeskFault) : Type 0 where
   pub streamed : IsStreamedOn m s (form_message s) form sink answer
   pub orders : TellOfOrders s

@@ -1,4 +1,5 @@
--- A month on one machine: a card for each day, and the machine's file after it.
+-- A month on one machine: a card for each day, the machine's file after it, and what they promise.
+-- Test: tests/guide
 use Rattle.std.specs.Prelude.{◌≡◌, ◌⊎◌, ℕ, List, [], ◌∷◌, false, Option, Some, Result, Ok, IfOk}
 use Rattle.std.specs.List.{AllZip}
 use Rattle.kd_tables.specs.declared.model.Model.{Model}
@@ -20,7 +21,7 @@ use Rattle.kd_desk.specs.RunCard.{Prints}
 use Rattle.kd_desk.specs.RunSteps.{LacksMemory}
 use Rattle.kd_desk.specs.Settings.{AreSettings}
 
--- what is written for a day: a card, and the machine's file after it
+-- What is written for a day: a card, and the machine's file after it.
 pub record Papers : Type 0 where
   pub card : List ℕ
   pub file : List ℕ
@@ -32,13 +33,13 @@ taken text = record { had = Some []; has = Some text; had_failed = false; has_fa
 abbrev pub well : Result (Unit {0}) DeskFault
 well = Ok tt
 
--- the card is what `run_card` writes for the machine's file and day `number`, and the next file is what
--- `run_apply` writes for the file and that card
+-- The card is what `run_card` writes for the machine's file and day `number`. The next file is what `run_apply`
+-- writes for this file and this card.
 pub record AreWritten (file sheet : List ℕ) (number : ℕ) (papers : Papers) : Type 0 where
   pub printed : OnDay file sheet number (λ m s. Prints m s number (taken papers.card) well) well
   pub applied : IfOk (machine_of file) (λ m. Applies m papers.card (taken papers.file) well ⊎ LacksMemory well)
 
--- cards and files are written for one day after another, each card from the file before it
+-- Cards and files are written for one day after another, each card from the file before it.
 abbrev pub AreWrittenInTurn : List ℕ → List ℕ → List ℕ → List Papers → Type 0
 AreWrittenInTurn file sheet [] [] = Unit {0}
 AreWrittenInTurn file sheet (number ∷ numbers) (papers ∷ more) =
@@ -63,35 +64,35 @@ pub record SetTheMachine (file sheet : List ℕ) (number : ℕ) (papers : Papers
   pub of_next : machine_of papers.file ≡ Ok n
   pub sheets : IsSheetsMachine n s
 
--- the card and the file of each day set the machine to that day
+-- The card and the file of each day set the machine to this day.
 abbrev pub SetTheMachineInTurn : List ℕ → List ℕ → List ℕ → List Papers → Type 0
 SetTheMachineInTurn file sheet [] [] = Unit {0}
 SetTheMachineInTurn file sheet (number ∷ numbers) (papers ∷ more) =
     SetTheMachine file sheet number papers × SetTheMachineInTurn papers.file sheet numbers more
 SetTheMachineInTurn file sheet numbers papers = ⊥
 
--- the days of the month with these numbers
+-- `days` are the days of the month with these numbers.
 abbrev pub AreDaysOf : List (Option Day) → List ℕ → List Day → Type 0
 AreDaysOf month numbers days = AllZip (λ number s. day_of month number ≡ Some s) numbers days
 
--- the settings of the cards, card by card
+-- `cards` are the settings of the cards, card by card.
 abbrev pub AreCardsOf : List Papers → List (List Setting) → Type 0
 AreCardsOf papers cards = AllZip (λ paper settings. AreSettings paper.card settings) papers cards
 
--- the month has a day with this number, and it is of this model
+-- The month has a day with this number, and the day is of this model.
 pub record HasDayOf (model : Model) (month : List (Option Day)) (number : ℕ) : Type 0 where
   pub s : Day
   pub of_month : day_of month number ≡ Some s
   pub of_model : day_model s ≡ model
 
--- from each file of machine `m`, a card for the day and a next file can be written, and the next file is one of
--- machine `n`
+-- From each file of machine `m`, a card for the day and a next file can be written, and the next file's machine
+-- is `n`.
 abbrev pub HasPapers : Parts → Day → Parts → Type 0
 HasPapers m s n = (file sheet : List ℕ) (month : List (Option Day)) → machine_of file ≡ Ok m → sheet_of sheet ≡ Ok month
     → day_of month (day_number s) ≡ Some s
     → (papers : Papers) × AreWritten file sheet (day_number s) papers × (machine_of papers.file ≡ Ok n)
 
--- cards and files for these days can be written, one after another
+-- Cards and files for these days can be written, one after another.
 abbrev pub HasPapersInTurn : Parts → List (Option Day) → List ℕ → Type 0
 HasPapersInTurn m month numbers = (file sheet : List ℕ) → machine_of file ≡ Ok m → sheet_of sheet ≡ Ok month
     → (papers : List Papers) × AreWrittenInTurn file sheet numbers papers

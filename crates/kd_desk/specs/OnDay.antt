@@ -1,4 +1,5 @@
--- What is done with the machine of a machine file and a day of a key sheet.
+-- The machine of a machine file and a day of a key sheet, and what is done with them.
+-- Test: refuses_the_sheet_next
 use Rattle.std.specs.Prelude.{◌≡◌, ℕ, List, Option, Some, None, Result, Ok, Err, MatchResult}
 use Rattle.kd_state.specs.declared.machine.parts.Parts.{Parts}
 use Rattle.kd_state.specs.SheetDay.{Day}
@@ -10,8 +11,8 @@ use Rattle.kd_sheet.specs.SheetFile.{sheet_of}
 use Rattle.kd_desk.specs.declared.fault.DeskFault.{DeskFault}
 use Rattle.kd_desk.specs.declared.fault.DeskFault.TheVariants.{File, NoSuchDay}
 
--- The files describe a machine and a day with this number, or give the first fault: of the machine file, of the
--- sheet, or that there is no such day. Or memory ran out over the files.
+-- The files describe a machine and a day with this number. Or they give the first fault: of the machine file,
+-- of the sheet, or that there is no such day. Or memory ran out while they were read.
 pub data FindsDay (machine sheet : List ℕ) (number : ℕ) (found : Result (Parts × Day) DeskFault) : Type 0 where
   LackedMemory : found ≡ Err (File NoMemory) → FindsDay machine sheet number found
   NoMachine : (fault : SheetFault) → machine_of machine ≡ Err fault → found ≡ Err (File fault)
@@ -23,7 +24,7 @@ pub data FindsDay (machine sheet : List ℕ) (number : ℕ) (found : Result (Par
   Found : (m : Parts) (days : List (Option Day)) (s : Day) → machine_of machine ≡ Ok m → sheet_of sheet ≡ Ok days
       → day_of days number ≡ Some s → found ≡ Ok (m, s) → FindsDay machine sheet number found
 
--- the machine and the day satisfy `does`, or the answer is the first fault
+-- The machine and the day satisfy `does`, or the answer is the first fault of the files.
 pub record OnDay (machine sheet : List ℕ) (number : ℕ) (does : Parts → Day → Type 0)
     (answer : Result (Unit {0}) DeskFault) : Type 0 where
   pub found : Result (Parts × Day) DeskFault

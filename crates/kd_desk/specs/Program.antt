@@ -1,4 +1,6 @@
--- What the program does: the command of its command line, on the files that the command line names.
+-- A command with what is known of its files, or the fault of the first file that can't be read or opened.
+-- Code: each file is read or opened in its turn.
+-- Test: carries_each_command_out
 use Rattle.std.specs.Prelude.{◌≡◌, ◌⊎◌, ℕ, Bool, true, false, List, [], Option, None, Some, IfSome}
 use Rattle.std.specs.Prelude.{Result, Ok, Err, IfOk, IfErr, IsTrue}
 use Rattle.kd_sheet.specs.declared.fault.SheetFault.TheVariants.{NoMemory}
@@ -32,7 +34,7 @@ use Rattle.kd_desk.specs.RunCard.{Prints}
 use Rattle.kd_desk.specs.RunCheck.{Checks}
 use Rattle.kd_desk.specs.RunSteps.{LacksMemory, AnswersFault, is_refused_before, is_device}
 
--- a command with what is known of its files: the bytes of those read whole, and the opened one
+-- A command with what is known of its files: the bytes of those that are read whole, and the opened one.
 abbrev pub KnownTask : Type 0
 KnownTask = Task (List ℕ) Opened
 
@@ -47,7 +49,7 @@ abbrev pub with_file : {F X : Type 0} → Result F FileFault → (F → Result X
 with_file (Ok file) made = made file
 with_file (Err fault) made = Err fault
 
--- a task with the contents of its files, or the fault of the first file that can't be read or opened
+-- a task with what is known of its files, or the fault of the first file that can't be read or opened
 abbrev pub task_over : (List ℕ → Option (List ℕ)) → NamedTask → Result KnownTask FileFault
 task_over held tasks.Card = Ok tasks.Card
 task_over held (tasks.Check card) = with_file (content_of (held card)) (λ bytes. Ok (tasks.Check bytes))
@@ -64,60 +66,64 @@ command_over held command =
     with_file (content_of (held command.machine))
     (λ bytes. with_file (action_over held command.action) (λ a. Ok (record { machine = bytes; action = a })))
 
--- a text was typed on the machine of a machine file, or the machine file was refused
+-- ---- What a command does: what its own call promises.
+
+-- A text was typed on the machine of a machine file, or the machine file was refused.
 pub record TypesOn (machine : List ℕ) (source sink : Port) (answer : Result (Unit {0}) DeskFault) : Type 0 where
   pub refused : IfErr (machine_of machine) (λ fault. AnswersFault answer (File fault))
   pub typed : IfOk (machine_of machine) (λ m. Types m source sink answer ⊎ LacksMemory answer)
 
--- settings were carried out on the machine of a machine file, or the machine file was refused
+-- Settings were carried out on the machine of a machine file, or the machine file was refused.
 pub record AppliesTo (machine list : List ℕ) (sink : Port) (answer : Result (Unit {0}) DeskFault) : Type 0 where
   pub refused : IfErr (machine_of machine) (λ fault. AnswersFault answer (File fault))
   pub applied : IfOk (machine_of machine) (λ m. Applies m list sink answer ⊎ LacksMemory answer)
 
--- what a task does with a machine and a day; a message's file is read like a source
+-- What a task does with a machine and a day. The file of a message is read like a source.
 abbrev pub DoesTask : Task (List ℕ) Port → ℕ → Port → Result (Unit {0}) DeskFault → Parts → Day → Type 0
 DoesTask tasks.Card number sink answer m s = Prints m s number sink answer
 DoesTask (tasks.Check card) number sink answer m s = Checks m s number card sink answer
 DoesTask (tasks.Message Send order) number sink answer m s = Sends m s order sink answer
 DoesTask (tasks.Message Receive form) number sink answer m s = Receives m s form sink answer
 
--- what an action does with the machine of a machine file; only typing reads the source
+-- What an action does with the machine of a machine file. Only typing reads the source.
 abbrev pub DoesAction : List ℕ → Action (List ℕ) Port → Port → Port → Result (Unit {0}) DeskFault → Type 0
 DoesAction machine actions.Type source sink answer = TypesOn machine source sink answer
 DoesAction machine (actions.Apply list) source sink answer = AppliesTo machine list sink answer × IsLeft source
 DoesAction machine (actions.OnDay sheet day task) source sink answer =
     OnDay machine sheet day (DoesTask task day sink answer) answer × IsLeft source
 
--- what a command does with the bytes of its files
+-- What a command does with the bytes of its files.
 abbrev pub Does : Command (List ℕ) Port → Port → Port → Result (Unit {0}) DeskFault → Type 0
 Does command source sink answer = DoesAction command.machine command.action source sink answer
+
+-- ---- How a command is carried out, and what is left of the file that it opened.
 
 -- the opened file as a port, from what was known of it before to what is known after
 abbrev pub read_to : Opened → Opened → Port
 read_to left file = record { had = file.bytes; has = left.bytes; had_failed = file.failed; has_failed = left.failed }
 
--- whether a read of the opened file failed, if there is one
+-- whether there is an opened file, and a read of it failed
 abbrev pub has_file_failed : Option Opened → Opened → Bool
 has_file_failed None left = false
 has_file_failed (Some file) left = left.failed
 
--- no read of the opened file has failed yet, if there is one
+-- There is no opened file, or no read of it has failed yet.
 abbrev pub IsUnfailed : {O : Type 0} → (O → Bool) → Option O → Type 0
 IsUnfailed failed file = IfSome file (λ f. failed f ≡ false)
 
--- memory ran out, over the command line or over a file
+-- Memory ran out, over the command line or over a file.
 abbrev pub StopsForMemory : Result (Unit {0}) Stop → Type 0
 StopsForMemory answer = (answer ≡ Err (Refused (File NoMemory))) ⊎ (answer ≡ Err (Unread files.NoMemory))
 
 -- A command was carried out, and its answer stops the program or ends it well. `left` is what is left of the
--- file that it opened.
+-- file that the command opened.
 pub record IsDone (command : KnownCommand) (source sink : Port) (answer : Result (Unit {0}) Stop) : Type 0 where
   pub left : Opened
   pub told : Result (Unit {0}) DeskFault
   pub does : Does (with_opened (read_to left) command) source sink told
   pub answers : answer ≡ stop_after (has_file_failed (opened_by command) left) told
 
--- `IsDone` for a task, with a machine file and a day of a sheet
+-- `IsDone` for a task, with a machine file and a day of a sheet.
 pub record IsTaskDone (machine sheet : List ℕ) (number : ℕ) (task : KnownTask) (sink : Port)
     (answer : Result (Unit {0}) Stop) : Type 0 where
   pub left : Opened
@@ -125,10 +131,12 @@ pub record IsTaskDone (machine sheet : List ℕ) (number : ℕ) (task : KnownTas
   pub does : OnDay machine sheet number (DoesTask (with_task_opened (read_to left) task) number sink told) told
   pub answers : answer ≡ stop_after (has_file_failed (task_opened task) left) told
 
--- A command was carried out, or was refused for a file that can't be read or opened; or memory ran out.
+-- A command was carried out, or was refused for a file that can't be read or opened, or memory ran out.
 abbrev pub CarriesOut : Result KnownCommand FileFault → Port → Port → Result (Unit {0}) Stop → Type 0
 CarriesOut (Ok command) source sink answer = IsDone command source sink answer ⊎ StopsForMemory answer
 CarriesOut (Err fault) source sink answer = (answer ≡ Err (Unread fault)) ⊎ StopsForMemory answer
+
+-- ---- What holds of the program's answer: the command's answer, the files asked for, and the ports.
 
 -- whether the program stopped before it read a text or wrote anything
 abbrev pub is_stopped_before : Result (Unit {0}) Stop → Bool
@@ -143,15 +151,15 @@ abbrev pub is_stopped_by_port : Result (Unit {0}) Stop → Bool
 is_stopped_by_port (Err (Refused fault)) = is_device (Err fault)
 is_stopped_by_port _ = false
 
--- Which files were asked for, by the answer: none, if memory ran out over the command line; each up to the
--- first that couldn't be read or opened; otherwise all of them.
+-- Which files were asked for, by the answer: none, if memory ran out over the command line; those up to the
+-- first that couldn't be read or opened; otherwise all.
 abbrev pub AsksFor : List (List ℕ) → List Asking → Result (Unit {0}) Stop → Type 0
 AsksFor names asked (Err Usage) = asked ≡ []
 AsksFor names asked (Err (Unread fault)) = AskFor names [] asked false
 AsksFor names asked (Err (Refused fault)) = AskFor names [] asked true ⊎ ((asked ≡ []) × (fault ≡ File NoMemory))
 AsksFor names asked answer = AskFor names [] asked true
 
--- The program's answer to a command line, with what is known of the files, and the names that it asked for.
+-- The program's answer to a command line, by what is known of the files, and the names that it asked for.
 pub record IsRun (words : List (List ℕ)) (known : Option (List ℕ → Option (List ℕ))) (asked : List Asking)
     (source sink : Port) (Untouched : Type 0) (answer : Result (Unit {0}) Stop) : Type 0 where
   pub carried : (command : Named) → Says words command
@@ -163,7 +171,7 @@ pub record IsRun (words : List (List ℕ)) (known : Option (List ℕ → Option 
   pub untouched : IsTrue (is_stopped_before answer) → Untouched
   pub failed : Fail source sink (is_stopped_by_port answer)
 
--- The program's answer satisfies `IsSo`, and it ended as that answer says.
+-- The program's answer satisfies `IsSo`, and the program ended as this answer says.
 pub record HasEnded (IsSo : Result (Unit {0}) Stop → Type 0) (errors : Port) (status : ℕ) : Type 0 where
   pub answer : Result (Unit {0}) Stop
   pub is_so : IsSo answer

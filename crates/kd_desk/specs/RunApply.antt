@@ -1,4 +1,5 @@
 -- What the desk does with a machine and the bytes of a list or a card.
+-- Test: writes_the_machine_that_stands_then
 use Rattle.std.specs.Prelude.{◌≡◌, ℕ, List, Result, Ok, Err}
 use Rattle.kd_state.specs.declared.machine.parts.Parts.{Parts}
 use Rattle.kd_state.specs.declared.setting.Setting.{Setting}
@@ -12,9 +13,9 @@ use Rattle.kd_tables.specs.Ports.{Port}
 use Rattle.kd_desk.specs.Ports.{WritesText}
 use Rattle.kd_desk.specs.Settings.{AreSettings, IsSettingsFault}
 
--- The bytes are no settings, and their fault is answered; or the first line that the machine refuses is
--- answered; or the settings lead to another machine, and its file is written. Whoever reads that file gets just
--- this machine.
+-- The bytes aren't settings, and their fault is the answer. Or the machine refuses a line, and the first one is
+-- the answer. Or the settings lead to another machine, and its file is written. Whoever reads this file gets
+-- just this machine.
 pub data Applies (m : Parts) (bytes : List ℕ) (sink : Port) (answer : Result (Unit {0}) DeskFault) : Type 0 where
   NoSettings : (fault : DeskFault) → IsSettingsFault bytes fault → answer ≡ Err fault → Applies m bytes sink answer
   RefusedLine : (settings : List Setting) (fault : IllegalAt) → AreSettings bytes settings

@@ -1,4 +1,6 @@
--- What the desk writes as a card.
+-- What the desk writes as a card, and what this card promises.
+-- Code: `plan`, `by_kind` and `write_card`, one after another.
+-- Test: prints_cards_without_prices, prints_cards_with_prices
 use Rattle.std.specs.Prelude.{◌≡◌, ◌≢◌, ℕ, List, Result, Err}
 use Rattle.kd_state.specs.declared.machine.parts.Parts.{Parts}
 use Rattle.kd_state.specs.declared.setting.Setting.{Setting}
@@ -16,8 +18,8 @@ use Rattle.kd_desk.specs.Headline.{LeavesTheSheetsMachine, EquallySetDecipher}
 use Rattle.kd_tables.specs.Ports.{Port}
 use Rattle.kd_desk.specs.Ports.{WritesText}
 
--- The text of a card for day `number` was written, or a prefix of it if the device failed. The card has one
--- price for each kind. They stand for prices by number, which prove the card and make it a planned one: no
+-- The text of a card for day `number` was written, or only a prefix of it if the device failed. The card has
+-- one price for each kind. These stand for prices by number, which prove the card and make it a planned one: no
 -- fewer settings reach the day, and spare cables stay free. Its settings lead to a machine that is ready and
 -- enciphers as the day's own. A machine on the day's key deciphers what an equally set one enciphers.
 pub record WritesCard (m : Parts) (s : Day) (number : ℕ) (sink : Port)
@@ -33,7 +35,7 @@ pub record WritesCard (m : Parts) (s : Day) (number : ℕ) (sink : Port)
   pub card : IsCard text number settings prices
   pub written : WritesText text sink answer
 
--- machine and day are of different models, or a card was written
+-- Machine and day are of different models, or a card was written.
 pub data Prints (m : Parts) (s : Day) (number : ℕ) (sink : Port) (answer : Result (Unit {0}) DeskFault) : Type 0 where
   Different : model_of m ≢ day_model s → answer ≡ Err OtherModel → Prints m s number sink answer
   Card : WritesCard m s number sink answer → Prints m s number sink answer

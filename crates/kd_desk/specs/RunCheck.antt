@@ -1,4 +1,5 @@
 -- What the desk says of a card.
+-- Test: tells_of_each_card
 use Rattle.std.specs.Prelude.{codes, decimal, ◌≡◌, ◌≢◌, ℕ, List, [], ◌∷◌, ◌++◌, length, Result, Err}
 use Rattle.kd_state.specs.declared.machine.parts.Parts.{Parts}
 use Rattle.kd_state.specs.declared.setting.Setting.{Setting}
@@ -19,8 +20,8 @@ use Rattle.kd_desk.specs.Ports.{WritesText}
 abbrev pub verdict_text : ℕ → List ℕ
 verdict_text number = codes "SHORTEST " ++ decimal number ++ 10 ∷ []
 
--- The card proves itself, so no fewer settings reach the day. Its line was written, or a prefix of it if the
--- device failed.
+-- The card proves itself, so no fewer settings reach the day. The line `verdict_text` was written, or only a
+-- prefix of it if the device failed.
 pub record IsTold (m : Parts) (s : Day) (settings : List Setting) (prices : PriceParts) (sink : Port)
     (answer : Result (Unit {0}) DeskFault)
     : Type 0 where
@@ -28,8 +29,8 @@ pub record IsTold (m : Parts) (s : Day) (settings : List Setting) (prices : Pric
   pub shortest : IsShortest m s settings
   pub written : WritesText (verdict_text (length settings)) sink answer
 
--- what is answered: the card's fault, that it is for another day, the first reason why it doesn't prove itself,
--- or that it is shortest
+-- The answer is the card's fault; or that the card is for another day; or the first reason why it doesn't prove
+-- itself. Otherwise the desk says that the card is shortest.
 pub data Checks (m : Parts) (s : Day) (number : ℕ) (bytes : List ℕ) (sink : Port)
     (answer : Result (Unit {0}) DeskFault) : Type 0 where
   NoCard : (fault : CardFault) → IsCardFault bytes fault → answer ≡ Err (faults.Card fault)

@@ -1,15 +1,16 @@
 -- Answers of a call: out of memory, a fault, refused before anything was written, a failed device.
+-- Test: refuses_the_machine_first
 use Rattle.std.specs.Prelude.{◌≡◌, ◌⊎◌, Bool, true, false, Result, Ok, Err}
 use Rattle.kd_sheet.specs.declared.fault.SheetFault.TheVariants.{NoMemory}
 use Rattle.kd_desk.specs.declared.fault.DeskFault.{DeskFault}
 use Rattle.kd_desk.specs.declared.fault.DeskFault.TheVariants.{File, Device, ReadTooLong, Message}
 use Rattle.kd_form.specs.Streams.{is_off_key}
 
--- the call ran out of memory while it read a file
+-- The call ran out of memory while it read a file.
 abbrev pub LacksMemory : Result (Unit {0}) DeskFault → Type 0
 LacksMemory answer = answer ≡ Err (File NoMemory)
 
--- the call answers this fault, unless it ran out of memory
+-- The call answers this fault, unless it ran out of memory.
 abbrev pub AnswersFault : Result (Unit {0}) DeskFault → DeskFault → Type 0
 AnswersFault answer fault = (answer ≡ Err fault) ⊎ LacksMemory answer
 
@@ -21,7 +22,7 @@ is_refused_before (Err ReadTooLong) = false
 is_refused_before (Err (Message fault)) = is_off_key (Err fault)
 is_refused_before (Err _) = true
 
--- whether a call failed by a device
+-- whether the answer is that a device failed
 abbrev pub is_device : Result (Unit {0}) DeskFault → Bool
 is_device (Err Device) = true
 is_device _ = false

@@ -1,4 +1,6 @@
--- Settings as bytes: a card if they begin as one, otherwise a list.
+-- Settings as bytes: a card if they begin as a card, otherwise a list.
+-- Code: one test, and then one of two readers.
+-- Test: writes_the_machine_that_stands_then
 use Rattle.std.specs.Prelude.{codes, ◌≡◌, ℕ, nat_eq, Bool, List, IsTrue, IsFalse}
 use Rattle.std.specs.List.{starts_with}
 use Rattle.kd_state.specs.declared.setting.Setting.{Setting}
@@ -11,17 +13,18 @@ use Rattle.kd_card.specs.CardFault.{IsCardFault}
 use Rattle.kd_desk.specs.declared.fault.DeskFault.{DeskFault}
 use Rattle.kd_desk.specs.declared.fault.DeskFault.TheVariants as faults
 
--- the bytes begin as a card does
+-- whether the bytes begin as a card does
 abbrev pub begins_as_card : List ℕ → Bool
 begins_as_card bytes = starts_with nat_eq bytes (codes "CARD ")
 
--- the bytes are a card with these settings, for any day and with any prices, or a list of them
+-- The bytes are a card with these settings, for any day and with any prices; or they are a list of these
+-- settings.
 pub data AreSettings (bytes : List ℕ) (settings : List Setting) : Type 0 where
   OfCard : IsTrue (begins_as_card bytes) → (day : ℕ) (prices : PriceParts) → IsCard bytes day settings prices
       → AreSettings bytes settings
   OfList : IsFalse (begins_as_card bytes) → IsList bytes settings → AreSettings bytes settings
 
--- the bytes begin as a card and have this fault of a card, or they don't and have this fault of a list
+-- The bytes begin as a card and have this fault of a card; or they don't, and have this fault of a list.
 pub data IsSettingsFault (bytes : List ℕ) (fault : DeskFault) : Type 0 where
   InCard : IsTrue (begins_as_card bytes) → (card : CardFault) → IsCardFault bytes card → fault ≡ faults.Card card
       → IsSettingsFault bytes fault

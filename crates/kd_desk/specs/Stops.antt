@@ -1,4 +1,5 @@
 -- Why the program stops.
+-- Test: stops_where_a_file_can_not_be_read_on, stops_half_way, ends_with_a_status_and_a_line
 use Rattle.std.specs.Prelude.{Bool, true, Result, Ok, Err}
 use Rattle.std.specs.declared.io.ErrorKind.{ErrorKind}
 use Rattle.std.specs.declared.io.ErrorKind.TheVariants.{OutOfMemory}
@@ -26,7 +27,7 @@ abbrev pub stop_of_kind : ErrorKind → Stop
 stop_of_kind OutOfMemory = Refused (File NoMemory)
 stop_of_kind _ = Usage
 
--- the `Stop` for a command's answer; a failed device is the opened file's, if a read of that file failed
+-- the `Stop` for a command's answer; a failed device is the opened file's, if a read of this file failed
 abbrev pub stop_after : Bool → Result (Unit {0}) DeskFault → Result (Unit {0}) Stop
 stop_after file_failed (Ok done) = Ok done
 stop_after true (Err Device) = Err ReadFailed

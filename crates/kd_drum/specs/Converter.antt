@@ -1,5 +1,8 @@
--- The cipher of the Converter M-209 by the number of bars met (War Department TM 11-380). Wheels have numbers
--- from 1 to 6; letters of a text and places of a wheel are counted from 0.
+-- The cipher of the Converter M-209, by the number of bars met. Wheels are numbered from 1 to 6. Letters of a
+-- text and places of a wheel are counted from 0.
+-- Source: War Department TM 11-380
+-- Code: the wheels are advanced, and a table has the number of bars for each set of wheels.
+-- Test: bars_are_met, files_are_refused
 use Rattle.std.specs.Prelude.{ℕ, ◌+◌, ◌-◌, ◌%◌, ◌≤◌, nat_le, Bool, ◌&&◌, ◌||◌, List, map, slice_index, unwrap_or}
 use Rattle.std.specs.Prelude.{Contains}
 use Rattle.std.specs.List.{count_by, enumerate_from}
@@ -7,14 +10,14 @@ use Rattle.kd_tables.specs.Rings.{ring_of, place_on}
 use Rattle.kd_pins.specs.PinWheel.{is_effective}
 use Rattle.kd_pins.specs.PinWheels.{pin_wheels, pins_on, offset_of, size_of}
 
--- A key of the Converter: which pins of its six wheels are effective, the letters that the wheels show, and the
--- readings of the bars.
+-- A key of the Converter: the effective pins of its six wheels, the letters that they show, and the readings of
+-- the bars.
 pub record PinKey : Type 0 where
   pub pins : List (List Bool)
   pub letters : List ℕ
   pub rows : List (ℕ × ℕ)
 
--- the key with other letters shown on the wheels
+-- `key` with other letters shown on the wheels
 abbrev pub pin_key_turned : PinKey → List ℕ → PinKey
 pin_key_turned key letters = record key { letters = letters }
 
@@ -22,27 +25,27 @@ pin_key_turned key letters = record key { letters = letters }
 abbrev pub OnWheels : List ℕ → Type 0
 OnWheels letters = (wheel : ℕ) → 1 ≤ wheel → wheel ≤ 6 → Contains (ring_of wheel) (slice_index letters (wheel - 1))
 
--- the place of the letter that a wheel shows
+-- the place of the letter that a wheel shows at the start
 abbrev pub start_on : PinKey → ℕ → ℕ
 start_on key wheel = unwrap_or (place_on (ring_of wheel) (slice_index key.letters (wheel - 1))) 0
 
--- whether there is a wheel with this number, and its acting pin is effective after `count` letters
+-- whether `wheel` is a wheel's number, and the acting pin of this wheel is effective after `count` letters
 abbrev pub acts_after : PinKey → ℕ → ℕ → Bool
 acts_after key count wheel =
     (nat_le 1 wheel && nat_le wheel 6)
     && is_effective (pins_on key.pins wheel) ((start_on key wheel + count + offset_of wheel) % size_of wheel)
 
--- the number of bars met after `count` letters: those with a lug at the number of a wheel whose acting pin is
--- effective
+-- how many bars are met after `count` letters: those that read a wheel whose acting pin is effective
 abbrev pub bars_met : PinKey → ℕ → ℕ
 bars_met key count = count_by (λ row. acts_after key count row.0 || acts_after key count row.1) key.rows
 
--- Each letter is replaced by the one at its place in the reversed alphabet, moved on by the number of bars met.
+-- The ciphertext of `text`: each letter at its place in the reversed alphabet, moved on by the number of bars
+-- met.
 abbrev pub converter_cipher : PinKey → List ℕ → List ℕ
 converter_cipher key text =
     map (λ numbered. (25 + bars_met key numbered.0 - numbered.1) % 26) (enumerate_from 0 text)
 
--- the letter that a wheel shows after `count` letters: it turns by one place for each, in its own order
+-- the letter that a wheel shows after `count` letters; it turns by one place for each
 abbrev pub letter_after : PinKey → ℕ → ℕ → ℕ
 letter_after key count wheel = slice_index (ring_of wheel) ((start_on key wheel + count) % size_of wheel)
 

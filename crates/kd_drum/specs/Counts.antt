@@ -1,18 +1,18 @@
 -- How many bars are met, for each set of wheels. A set is a number below 64: wheel 1 is in the set if its
--- lowest bit is 1, wheel 2 if the second bit is 1, and so on.
+-- lowest bit is 1, wheel 2 if the second bit is 1, and so on. No public contract cites this file.
 use Rattle.std.specs.Prelude.{◌≡◌, ℕ, ◌-◌, ◌/◌, ◌%◌, ◌^◌, ◌<◌, nat_le, nat_eq, Bool, ◌&&◌, ◌||◌, List, length}
 use Rattle.std.specs.Prelude.{slice_index}
 use Rattle.std.specs.List.{count_by}
 
--- whether there is a wheel with this number, and it is in the set
+-- whether `wheel` is a wheel's number, and this wheel is in the set
 abbrev pub is_in : ℕ → ℕ → Bool
 is_in wheels wheel = (nat_le 1 wheel && nat_le wheel 6) && nat_eq (wheels / 2 ^ (wheel - 1) % 2) 1
 
--- the number of bars met while the acting pins of the wheels in the set are effective
+-- how many bars are met if just the wheels in the set have an effective acting pin
 abbrev pub met_by : List (ℕ × ℕ) → ℕ → ℕ
 met_by rows wheels = count_by (λ row. is_in wheels row.0 || is_in wheels row.1) rows
 
--- The counts of all 64 sets, for the readings of 27 bars.
+-- There are 27 bars, and `counts` has the number of bars met for each of the 64 sets.
 pub record AreCounts (rows : List (ℕ × ℕ)) (counts : List ℕ) : Type 0 where
   pub bars : length rows ≡ 27
   pub size : length counts ≡ 64

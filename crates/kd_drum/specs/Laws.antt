@@ -1,4 +1,4 @@
--- What the laws on the Converter's cipher promise.
+-- The laws of the Converter's cipher.
 use Rattle.std.specs.Prelude.{◌≡◌, ◌+◌, ◌<◌, ◌++◌, List, ℕ, length, All}
 use Rattle.kd_drum.specs.Converter.{PinKey, pin_key_after, converter_cipher}
 
@@ -8,7 +8,7 @@ TwiceGivesBack =
     (key : PinKey) (text : List ℕ) → All (λ letter. letter < 26) text
     → converter_cipher key (converter_cipher key text) ≡ text
 
--- A text can be enciphered piece by piece, each with the key that the piece before it leaves.
+-- A text can be enciphered in pieces: each piece with the key that the piece before it leaves.
 abbrev pub CipherInTurn : Type 0
 CipherInTurn =
     (key : PinKey) (first rest : List ℕ)

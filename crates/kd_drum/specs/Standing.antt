@@ -1,4 +1,4 @@
--- The six wheels in the Converter, and the key to which they and the bars are set.
+-- The six wheels as the code keeps them, and the key that they make. No public contract cites this file.
 use Rattle.std.specs.Prelude.{◌≡◌, ℕ, List, [], ◌∷◌}
 use Rattle.kd_tables.specs.Rings.{ring_of}
 use Rattle.kd_pins.specs.PinWheel.{TurnedWheel, IsWheel, letter_shown}
@@ -20,7 +20,7 @@ pub record AllStand (w1 w2 w3 w4 w5 w6 : TurnedWheel) : Type 0 where
   pub fifth : StandsAs 5 19 w5
   pub sixth : StandsAs 6 17 w6
 
--- the key that six wheels and the readings of the bars make
+-- the key that the six wheels and the bars' readings make
 abbrev pub key_of : TurnedWheel → TurnedWheel → TurnedWheel → TurnedWheel → TurnedWheel → TurnedWheel → List (ℕ × ℕ)
     → PinKey
 key_of w1 w2 w3 w4 w5 w6 rows = record {

@@ -1,4 +1,6 @@
--- The cipher of a rotor machine, as products of permutations.
+-- The key of a rotor machine, at its start and after key presses.
+-- Code: the machine's own fields.
+-- Test: the_rings_do_not_turn_the_notches
 use Rattle.std.specs.Prelude.{ℕ, List, [], ◌∷◌, ◌++◌, map, reverse, slice_index}
 use Rattle.std.specs.List.{enumerate_from}
 use Rattle.kd_tables.specs.Permutation.{alphabet, followed_by, inverse, IsPermutation26, IsOwnInverse}
@@ -8,8 +10,8 @@ use Rattle.kd_tables.specs.declared.reflector.Reflector.{Reflector}
 use Rattle.kd_step.specs.Stepper.{window_after}
 use Rattle.kd_enigma.specs.Rotor.{rotor}
 
--- The key of a rotor machine: wheels, ring letters and window letters from left to right, the reflector, and
--- the permutation of the plugboard.
+-- The key of a rotor machine: its wheels, ring letters and window letters from the left, its reflector, and the
+-- permutation of its plugboard.
 pub record RotorKey : Type 0 where
   pub wheels : List Wheel
   pub rings : List ℕ
@@ -17,20 +19,26 @@ pub record RotorKey : Type 0 where
   pub reflector : Reflector
   pub plugs : List ℕ
 
--- The plugboard exchanges letters.
+-- The plugboard exchanges letters: it is a permutation, and applied twice changes nothing.
 pub record IsPlugboard (plugs : List ℕ) : Type 0 where
   pub permutation : IsPermutation26 plugs
   pub own_inverse : IsOwnInverse plugs
 
--- the key with other letters in the windows
+-- `key` with other letters in the windows
 abbrev pub key_turned : RotorKey → List ℕ → RotorKey
 key_turned key window = record key { window = window }
 
--- the key after `n` key presses, each of which steps the wheels once
+-- `key` after `n` key presses, each of which steps the wheels once
 abbrev pub key_after : RotorKey → ℕ → RotorKey
 key_after key n = key_turned key (window_after key.wheels key.window n)
 
--- the permutations of the wheels at these rings and window letters, from left to right
+-- ---- The path of the current as a product of permutations, and the cipher that steps the wheels before each
+-- letter.
+-- Source: the published accounts of the current's path
+-- Code: one table for the window that shows, made anew after each step.
+-- Test: machines_encipher
+
+-- the permutations of the wheels at these ring and window letters, from the left
 unfoldable pub rotors : List Wheel → List ℕ → List ℕ → List (List ℕ)
 rotors (wheel ∷ wheels) (ring ∷ rings) (letter ∷ window) = rotor wheel ring letter ∷ rotors wheels rings window
 rotors _ _ _ = []
@@ -40,14 +48,14 @@ unfoldable pub product : List (List ℕ) → List ℕ
 product [] = alphabet
 product (p ∷ ps) = followed_by p (product ps)
 
--- The path of the current while these letters show: plugboard, wheels from right to left, reflector, wheels
--- from left to right, plugboard.
+-- The path of the current while the window shows these letters: plugboard, wheels from right to left,
+-- reflector, wheels from left to right, plugboard.
 unfoldable pub path : RotorKey → List ℕ → List ℕ
 path key window =
     let wheels = rotors key.wheels key.rings window in
     product (key.plugs ∷ reverse wheels ++ reflector_of key.reflector ∷ map inverse wheels ++ key.plugs ∷ [])
 
--- Each letter takes the path of the window after its key press. So the first letter takes the path after one
+-- The ciphertext of `text`. The wheels step before each letter, so the first letter takes the path after one
 -- step.
 abbrev pub enigma_cipher : RotorKey → List ℕ → List ℕ
 enigma_cipher key text =

@@ -1,4 +1,6 @@
--- What the laws on the cipher promise.
+-- The laws of plugboards.
+-- Source: the published accounts of the plugboard
+-- Test: machines_encipher
 use Rattle.std.specs.Prelude.{◌≡◌, ◌↔◌, ◌⊎◌, ◌+◌, ◌<◌, ◌++◌, List, ℕ, length, All, Contains}
 use Rattle.kd_tables.specs.Permutation.{exchanged, exchange, IsOwnInverse, MovesEachLetter}
 use Rattle.kd_enigma.specs.Cipher.{RotorKey, IsPlugboard, key_after, path, enigma_cipher}
@@ -10,19 +12,22 @@ PairsMakeAPlugboard =
     (pairs : List (ℕ × ℕ)) → NoLetterTwice pairs → All (λ letter. letter < 26) (letters_plugged pairs)
     → IsPlugboard (exchange pairs)
 
--- Each letter becomes the other letter of its pair, or stays if it is in no pair.
+-- Each letter becomes the other letter of its pair. A letter without a pair stays as it is.
 abbrev pub PairsExchange : Type 0
 PairsExchange =
     (pairs : List (ℕ × ℕ)) (x y : ℕ) → NoLetterTwice pairs
     → (exchanged pairs x ≡ y) ↔ (Joins pairs x y ⊎ ((x ≡ y) × ¬ Contains (letters_plugged pairs) x))
 
--- The order of the pairs, and of the two letters of a pair, makes no difference.
+-- Neither the order of the pairs nor the order of a pair's letters makes a difference.
 abbrev pub SamePairsExchangeAlike : Type 0
 SamePairsExchangeAlike =
     (ps qs : List (ℕ × ℕ)) → NoLetterTwice ps → NoLetterTwice qs → ((x y : ℕ) → Joins ps x y ↔ Joins qs x y)
     → exchange ps ≡ exchange qs
 
--- The path of the current takes each letter to another one, and that one back.
+-- ---- The laws of the path and of the cipher.
+-- Source: the published accounts of the current's path
+
+-- The path takes each letter to another letter, and back again.
 abbrev pub PathsLeadBack : Type 0
 PathsLeadBack = (key : RotorKey) (window : List ℕ) → IsPlugboard key.plugs → IsOwnInverse (path key window)
 
@@ -35,7 +40,7 @@ TwiceGivesBack =
     (key : RotorKey) (text : List ℕ) → IsPlugboard key.plugs → All (λ letter. letter < 26) text
     → enigma_cipher key (enigma_cipher key text) ≡ text
 
--- A text can be enciphered piece by piece, each with the key that the piece before it leaves.
+-- A text can be enciphered in pieces: each piece with the key that the piece before it leaves.
 abbrev pub CipherInTurn : Type 0
 CipherInTurn =
     (key : RotorKey) (first rest : List ℕ)

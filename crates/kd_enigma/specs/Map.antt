@@ -1,12 +1,12 @@
--- A permutation of the alphabet as the code keeps it, in 32 lanes.
+-- A permutation of the alphabet as the code keeps it, in 32 lanes. No public contract cites this file.
 use Rattle.std.specs.Prelude.{◌≡◌, ℕ, ◌<◌, List, ◌++◌, length, take, slice_index}
 use Rattle.std.specs.List.{range_with_len}
 
--- the six lanes after the 26 letters, which map to themselves
+-- the six lanes after the 26 letters; each has its own number
 abbrev pub spare : List ℕ
 spare = range_with_len 26 6
 
--- Letters in the first 26 lanes, and the spare lanes after them.
+-- The first 26 lanes have letters, and the spare lanes follow.
 pub record AreLanes (lanes : List ℕ) : Type 0 where
   pub size : length lanes ≡ 32
   pub letters : (place : ℕ) → place < 26 → slice_index lanes place < 26

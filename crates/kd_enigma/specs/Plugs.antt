@@ -1,4 +1,7 @@
 -- The cables of a plugboard: each exchanges the two letters of a pair.
+-- Source: the published accounts of the plugboard
+-- Code: a table; a letter that the table already exchanges is refused.
+-- Test: no_letter_is_plugged_twice
 use Rattle.std.specs.Prelude.{◌≡◌, ◌⊎◌, ℕ, nat_eq, List, [], ◌∷◌, slice_index, Contains}
 use Rattle.std.specs.List.{flat_map, IsDistinct}
 
@@ -6,11 +9,11 @@ use Rattle.std.specs.List.{flat_map, IsDistinct}
 abbrev pub letters_plugged : List (ℕ × ℕ) → List ℕ
 letters_plugged pairs = flat_map (λ pair. pair.0 ∷ pair.1 ∷ []) pairs
 
--- No letter occurs in two pairs, or twice in one.
+-- No letter is in two pairs, or twice in one.
 abbrev pub NoLetterTwice : List (ℕ × ℕ) → Type 0
 NoLetterTwice pairs = IsDistinct nat_eq (letters_plugged pairs)
 
--- One of the pairs has these two letters, in either order.
+-- One of the pairs has the letters `x` and `y`, in either order.
 abbrev pub Joins : List (ℕ × ℕ) → ℕ → ℕ → Type 0
 Joins pairs x y = Contains pairs (x, y) ⊎ Contains pairs (y, x)
 

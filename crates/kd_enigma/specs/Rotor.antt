@@ -1,11 +1,13 @@
 -- The permutation of one wheel in the machine.
+-- Source: the published accounts of rings and windows
+-- Code: a wheel's permutations for all window letters are made once.
+-- Test: machines_encipher
 use Rattle.std.specs.Prelude.{ℕ, ◌+◌, ◌-◌, ◌%◌, List}
 use Rattle.kd_tables.specs.Permutation.{followed_by, shift}
 use Rattle.kd_tables.specs.Tables.{wiring_of}
 use Rattle.kd_tables.specs.declared.wheel.Wheel.{Wheel}
 
--- how many places the wheel is turned from the position of its published wiring: window letter minus ring
--- letter
+-- how many places a wheel is turned from the position of its published wiring: window letter minus ring letter
 abbrev pub offset : ℕ → ℕ → ℕ
 offset ring window = (window + (26 - ring)) % 26
 

@@ -1,4 +1,4 @@
--- What the code keeps of a machine besides its key. No contract of a public function cites these definitions.
+-- What the code keeps of a machine besides its key. No public contract cites this file.
 use Rattle.std.specs.Prelude.{◌≡◌, ℕ, ◌-◌, List, [], ◌∷◌, length, take}
 use Rattle.kd_tables.specs.Permutation.{alphabet}
 use Rattle.kd_tables.specs.Tables.{reflector_of}
@@ -8,19 +8,18 @@ use Rattle.kd_step.specs.Stepper.{Stepping}
 use Rattle.kd_enigma.specs.Around.{SeatedWheel, around}
 use Rattle.kd_enigma.specs.Cipher.{RotorKey, IsPlugboard, path}
 
--- all items but the last one: those of the slow wheels, left of the right wheel
+-- all items but the last: those of the slow wheels, left of the right wheel
 abbrev pub slow : {X : Type 0} → List X → List X
 slow slots = take (length slots - 1) slots
 
--- The wheels in their slots: the right one lies beside the plugboard, and nothing lies to the right of the
--- others.
+-- The wheels in their slots. The plugboard is to the right of the last wheel, and no board is between wheels.
 abbrev pub seats : List ℕ → List Wheel → List ℕ → List SeatedWheel
 seats plugs (wheel ∷ []) (ring ∷ rings) = record { wheel = wheel; ring = ring; board = plugs } ∷ []
 seats plugs (wheel ∷ wheels) (ring ∷ rings) =
     record { wheel = wheel; ring = ring; board = alphabet } ∷ seats plugs wheels rings
 seats plugs _ _ = []
 
--- the key to which these parts are set
+-- the key that these parts make
 abbrev pub key_in : Stepping → List ℕ → Reflector → List ℕ → RotorKey
 key_in stepper rings reflector plugs = record {
   wheels = stepper.wheels;
@@ -30,8 +29,8 @@ key_in stepper rings reflector plugs = record {
   plugs = plugs;
 }
 
--- The wheels of the key are in their slots. The code also keeps the permutations of the reflector, of the way
--- around through the slow wheels, and of the path for the letters that show.
+-- What the code keeps for a key: its wheels in their slots, and three permutations. These are the reflector's,
+-- that of the path through the slow wheels, and that of the whole path at the letters that show.
 pub record IsWired (key : RotorKey) (seated : List SeatedWheel) (reflecting inner whole : List ℕ) : Type 0 where
   pub seats : seated ≡ seats key.plugs key.wheels key.rings
   pub board : IsPlugboard key.plugs

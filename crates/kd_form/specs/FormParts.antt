@@ -1,4 +1,6 @@
 -- The parts of a form: a heading line, and all lines before the next heading line. Places are counted from 0.
+-- Code: byte by byte; holds a line's first six bytes until it is known what they begin.
+-- Test: forms_are_received
 use Rattle.std.specs.Prelude.{codes, ◌≡◌, ◌≢◌, ◌⊎◌, ℕ, ◌%◌, ◌<◌, ◌≤◌, ◌==◌, ◌&&◌, nat_le, Bool, IsTrue, if◌then◌else◌}
 use Rattle.std.specs.Prelude.{List, [], ◌∷◌, ◌++◌, length, take, slice_index, All, Option, MatchOption}
 use Rattle.std.specs.Str.{bytes_eq}
@@ -8,7 +10,7 @@ use Rattle.kd_form.specs.declared.heading.Heading.{Heading}
 use Rattle.kd_form.specs.Part.{heading_words}
 use Rattle.kd_form.specs.Reading.{HasIndicator}
 
--- whether a heading line begins here: `PART `, then a digit
+-- whether the bytes begin a heading line: `PART `, then a digit
 unfoldable pub begins_heading : List ℕ → Bool
 begins_heading bytes =
     bytes_eq (take 5 bytes) (codes "PART ") && (nat_le 48 (slice_index bytes 5) && nat_le (slice_index bytes 5) 57)
@@ -16,7 +18,7 @@ begins_heading bytes =
 abbrev pub BeginsHeading : List ℕ → Type 0
 BeginsHeading bytes = IsTrue (begins_heading bytes)
 
--- The first part of a form, and the other parts. After an LF, a new part begins if a heading line follows.
+-- The first part of a form, and its other parts. After an LF that a heading line follows, a new part begins.
 abbrev pub cut : List ℕ → List ℕ × List (List ℕ)
 cut [] = ([], [])
 cut (byte ∷ bytes) =
@@ -26,43 +28,44 @@ cut (byte ∷ bytes) =
 abbrev pub parts_of : List ℕ → List (List ℕ)
 parts_of form = (cut form).0 ∷ (cut form).1
 
--- ---- headings
+-- ---- Which headings a part of the day can have, and the first line of a part.
 
--- how many letters a body may have: on a rotor machine, fillers, group and 1 to 245 letters of text; on the
--- Converter M-209, the indicators twice and 1 to 100 groups of text
+-- How many letters a body may have: on a rotor machine, fillers, group and 1 to 245 letters of text; on the
+-- Converter M-209, the indicators twice and 1 to 100 groups of text.
 abbrev pub IsLetterCount : Day → ℕ → Type 0
 IsLetterCount (OfRotors s) count = (6 ≤ count) × (count ≤ 250)
 IsLetterCount (OfPins s) count = (25 ≤ count) × (count ≤ 520) × (count % 5 ≡ 0)
 
--- part `part` of `parts`, at most 99
+-- The number of a part is from 1 to `parts`, and `parts` is at most 99.
 pub record IsFraction (part parts : ℕ) : Type 0 where
   pub first : 1 ≤ part
   pub in_order : part ≤ parts
   pub few : parts ≤ 99
 
--- a heading of the day's model
+-- The heading is one of the day's model.
 pub record IsHeading (s : Day) (h : Heading) : Type 0 where
   pub number : IsFraction h.part h.parts
   pub letters : IsLetterCount s h.letters
   pub indicator : HasIndicator s h.indicator
 
--- the words of the heading found are `words`; if none is found, no heading of the day's model has these words
+-- `found` is the heading with these words, or `None` if no heading of the day's model has them.
 abbrev pub AreHeadingWords : Day → List (List ℕ) → Option Heading → Type 0
 AreHeadingWords s words found =
     MatchOption found ((h : Heading) → IsHeading s h → heading_words h ≢ words)
     (λ h. IsHeading s h × (heading_words h ≡ words))
 
--- at most four letters
+-- There are at most four letters.
 pub record AreFewLetters (letters : List ℕ) : Type 0 where
   pub few : length letters ≤ 4
   pub within : All (λ letter. letter < 26) letters
 
--- `text` is the line without the CR at its end, if it has one
+-- `text` is the line without the CR at its end, if it has one.
 pub data IsLineText (line text : List ℕ) : Type 0 where
   WithReturn : line ≡ text ++ 13 ∷ [] → IsLineText line text
   WithoutReturn : text ≡ line → ((front : List ℕ) → line ≢ front ++ 13 ∷ []) → IsLineText line text
 
--- `line` is the first line of `text`, without its line end, and `rest` follows it; the last line may lack its end
+-- `line` is the first line of `text` without its line end, and `rest` follows it. The last line may lack its
+-- end.
 abbrev pub HasFirstLine : List ℕ → List ℕ → List ℕ → Type 0
 HasFirstLine text line rest =
     ((shown : List ℕ) × IsFirstPart 10 text shown rest × IsLineText shown line)

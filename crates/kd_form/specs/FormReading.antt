@@ -19,21 +19,22 @@ use Rattle.kd_form.specs.FormText.{Place, OfRest, ReadsTo, at_first, given_lette
 
 -- ---- the last part
 
--- the byte may be at this place of a heading line: `PART ` comes first, then a digit
+-- The byte may be at this place of a heading line, which begins with `PART ` and a digit.
 abbrev pub FitsAt : ℕ → ℕ → Type 0
 FitsAt place byte = (place < 5 → byte ≡ slice_index (codes "PART ") place) × (place ≡ 5 → (48 ≤ byte) × (byte ≤ 57))
 
--- the bytes begin a heading line, or are a prefix of `PART `
+-- The bytes begin a heading line, or are a prefix of `PART `.
 abbrev pub HasBegun : List ℕ → Type 0
 HasBegun bytes = ((count : ℕ) × (count ≤ 5) × (bytes ≡ take count (codes "PART "))) ⊎ BeginsHeading bytes
 
--- `part` is a prefix of a heading line, without LF, and `held` has up to 64 bytes of it
+-- `part` is a prefix of a heading line, without LF, and `held` has up to 64 bytes of it.
 pub record HoldsLine (held part : List ℕ) : Type 0 where
   pub kept : held ≡ take 64 part
   pub unbroken : IsWithout 10 part
   pub begins : HasBegun part
 
--- `first` has up to 6 bytes of the last line of `body`, which may be incomplete; `line` is the line before `body`
+-- `first` has up to 6 bytes of the last line of `body`, which may be incomplete. `line` is the line before
+-- `body`.
 pub record HasTail (line body first : List ℕ) : Type 0 where
   pub settled : List ℕ
   pub tail : List ℕ
@@ -43,7 +44,7 @@ pub record HasTail (line body first : List ℕ) : Type 0 where
   pub unbroken : IsWithout 10 tail
   pub kept : first ≡ take 6 tail
 
--- `part` has the heading held and this body, of which up to 525 letters are held
+-- `part` has the heading that the reader holds, and then `body`, of which the reader holds up to 525 letters.
 pub record HoldsBody (s : Day) (b : PartBody) (part body : List ℕ) : Type 0 where
   pub line : List ℕ
   pub first : IsFirstPart 10 part line body
@@ -53,7 +54,7 @@ pub record HoldsBody (s : Day) (b : PartBody) (part body : List ℕ) : Type 0 wh
   pub allowed : All (λ b. IsTrue (is_text_byte b)) body
   pub kept : b.letters.items ≡ take 525 (letters_from None body)
 
--- `part` is part `number`, has the expected number of parts, and its body is held
+-- `part` is part `number`, its heading has the expected number of parts, and the reader holds its body.
 pub record HoldsPart (s : Day) (b : PartBody) (number : ℕ) (expected : Option ℕ) (part : List ℕ) : Type 0 where
   pub body : List ℕ
   pub holds : HoldsBody s b part body
@@ -64,17 +65,17 @@ abbrev pub HoldsStage : Day → Stage → ℕ → Option ℕ → List ℕ → Ty
 HoldsStage s (stages.Heading line) number expected part = HoldsLine line.items part × (length part < 6 → number ≡ 1)
 HoldsStage s (stages.Body b) number expected part = HoldsPart s b number expected part
 
--- `letters` are the body after this heading, and `made` is its text
+-- `letters` are the body after this heading, and `made` is their text.
 abbrev pub IsBodyGiven : Day → Heading → List ℕ → List ℕ → Type 0
 IsBodyGiven s h letters made = (text : List ℕ) × SaysBody s h.part h letters (Ok text) × (made ≡ given_letters s text)
 
--- `h` was found; it is the heading of part `number`, with the expected number of parts
+-- `h` was found. It is the heading of part `number`, with the expected number of parts.
 pub record IsHeadingDue (number : ℕ) (expected : Option ℕ) (found : Option Heading) (h : Heading) : Type 0 where
   pub is : found ≡ Some h
   pub numbered : h.part ≡ number
   pub due : IsExpected expected h.parts
 
--- no heading was found, or one of another part or with another number of parts
+-- No heading was found, or the heading of another part, or one with another number of parts.
 pub data IsHeadingOff (number : ℕ) (expected : Option ℕ) (found : Option Heading) (fault : FormFault) : Type 0 where
   Missing : found ≡ None → fault ≡ BadHeading number → IsHeadingOff number expected found fault
   Other : (h : Heading) → found ≡ Some h → (h.part ≢ number) ⊎ (¬ (IsExpected expected h.parts)) → fault ≡ PartOrder
@@ -82,15 +83,15 @@ pub data IsHeadingOff (number : ℕ) (expected : Option ℕ) (found : Option Hea
 
 -- ---- the form
 
--- the place of the part that the reader reads, after the bytes `front`
+-- the place of the part that the reader is in, after the bytes `front`
 abbrev pub place_of : FormReader → List ℕ → Place
 place_of r front = record { number = r.number; expected = r.expected; start = length front }
 
 abbrev pub IsAt : Place → OfRest
 IsAt q p parts = (p ≡ q) × (parts ≡ [])
 
--- The reader has read `form` and made `text`: the parts before the last one are deciphered, and the last one is
--- held. Further bytes don't change the parts before it.
+-- The reader has read `form` and made `text`. It has deciphered the parts before the last one, and holds the
+-- last one. Further bytes don't change the parts before it.
 pub record HoldsForm (s : Day) (r : FormReader) (form text : List ℕ) : Type 0 where
   pub front : List ℕ
   pub last : List ℕ

@@ -1,37 +1,42 @@
--- The internal key of the Converter M-209: a letter for each of its six wheels, picked from twelve enciphered letters.
+-- The internal key of the Converter M-209: a letter for each of its six wheels, picked from twelve enciphered
+-- letters.
+-- Source: War Department TM 11-380
+-- Code: strikes letters out in one pass.
+-- Test: orders_are_sent
 use Rattle.std.specs.Prelude.{◌≡◌, ◌++◌, Contains, ◌⊎◌, ℕ, ◌+◌, ◌<◌, ◌≤◌, List, [], ◌∷◌, length, map, slice_index}
 use Rattle.kd_tables.specs.Rings.{ring_of}
 use Rattle.kd_state.specs.Machine.{AreOnWheels}
 
--- places in rising order, from `first` on and below `end`
+-- The places rise, from `first` on and below `end`.
 abbrev pub AreRising : ℕ → ℕ → List ℕ → Type 0
 AreRising first end [] = Unit {0}
 AreRising first end (place ∷ places) = (first ≤ place) × (place < end) × AreRising (place + 1) end places
 
--- the first list comes before the second in lexicographic order, or is the same
+-- The first list comes before the second in lexicographic order, or is equal to it.
 abbrev pub ComesFirst : List ℕ → List ℕ → Type 0
 ComesFirst [] others = Unit {0}
 ComesFirst (place ∷ places) [] = ⊥
 ComesFirst (place ∷ places) (other ∷ others) = (place < other) ⊎ ((place ≡ other) × ComesFirst places others)
 
--- `picked` are the letters at these rising places, each of them on the wheel in turn
+-- `picked` are the letters at these rising places: six letters, the first on wheel 1, the second on wheel 2,
+-- and so on.
 pub record ArePicked (letters places picked : List ℕ) : Type 0 where
   pub rising : AreRising 0 (length letters) places
   pub taken : picked ≡ map (λ place. slice_index letters place) places
   pub on_wheels : AreOnWheels picked
 
--- The key has the letters at the lexicographically first `places` that `ArePicked` allows. So each wheel in turn takes
--- the next letter that is on it.
+-- The key has the letters at the lexicographically first `places` that `ArePicked` allows. So each wheel in
+-- turn takes the next letter that is on it.
 pub record IsInternalKey (letters key : List ℕ) : Type 0 where
   pub places : List ℕ
   pub picked : ArePicked letters places key
   pub first : (others other : List ℕ) → ArePicked letters others other → ComesFirst places others
 
--- there are no six such places: the letters run out
+-- The letters run out: there are no six places that `ArePicked` allows.
 abbrev pub HaveRunOut : List ℕ → Type 0
 HaveRunOut letters = (places picked : List ℕ) → ¬ (ArePicked letters places picked)
 
--- `next` is `key` with the letter appended, if it is on the wheel in turn
+-- `next` is `key` with the letter appended if the letter is on the next wheel, and otherwise `key`.
 pub data IsTakenInTurn (key : List ℕ) (letter : ℕ) (next : List ℕ) : Type 0 where
   OnWheel : Contains (ring_of (length key + 1)) letter → next ≡ key ++ letter ∷ [] → IsTakenInTurn key letter next
   OffWheel : ¬ (Contains (ring_of (length key + 1)) letter) → next ≡ key → IsTakenInTurn key letter next

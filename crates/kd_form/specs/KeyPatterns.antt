@@ -1,4 +1,4 @@
--- The pattern of a line of keys, and the letters that fill it.
+-- The pattern of a line of keys, and the letters that fill it. No public contract cites this file.
 use Rattle.std.specs.Prelude.{codes, ◌≡◌, ◌⊎◌, ℕ, List, [], ◌∷◌, ◌++◌, length, replicate}
 use Rattle.kd_state.specs.Words.{line_of}
 use Rattle.kd_state.specs.SheetDay.{Day, RotorDay, PinDay, OfRotors, OfPins}
@@ -11,7 +11,8 @@ use Rattle.kd_form.specs.Order.{IsKeyLine}
 abbrev pub places_for : ℕ → List ℕ
 places_for number = replicate number 95
 
--- the pattern of a line of keys, for a rotor machine with `slots` slots and for the Converter M-209
+-- the pattern of a line of keys: for a rotor machine with `slots` slots, for the Converter M-209, and for the
+-- day's model
 abbrev pub rotor_pattern : ℕ → List ℕ
 rotor_pattern slots = line_of (codes "PART" ∷ places_for slots ∷ places_for slots ∷ places_for 2 ∷ places_for 3 ∷ [])
 
@@ -27,20 +28,20 @@ abbrev pub key_letters : Keys → List ℕ
 key_letters (Rotor k) = k.start ++ (k.key ++ (k.fillers ++ k.group))
 key_letters (Pin k) = k.chosen ∷ k.external
 
--- `bytes` are a line of keys of the day's model, with its end
+-- `bytes` are a line of keys of the day's model, and its end.
 pub record IsAnyKeyLine (s : Day) (bytes : List ℕ) : Type 0 where
   pub keys : Keys
   pub of_the_day : AreKeys s keys
   pub keyed : IsKeyLine keys bytes
 
--- the day of a rotor machine with `slots` slots, three or four
+-- The day is a rotor machine's, with `slots` slots, three or four.
 pub record HasSlots (s : Day) (slots : ℕ) : Type 0 where
   pub day : RotorDay
   pub is : s ≡ OfRotors day
   pub count : slots ≡ length day.wheels
   pub either : (slots ≡ 3) ⊎ (slots ≡ 4)
 
--- the day of a Converter M-209
+-- The day is a Converter M-209's.
 pub record HasPins (s : Day) : Type 0 where
   pub day : PinDay
   pub is : s ≡ OfPins day

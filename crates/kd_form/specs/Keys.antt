@@ -1,4 +1,5 @@
--- The keys that an order gives for a part, and the words of the line that gives them.
+-- The keys that an order gives for a part, and the words of their line.
+-- Test: orders_are_sent
 use Rattle.std.specs.Prelude.{codes, ℕ, ◌<◌, List, [], ◌∷◌, length}
 use Rattle.kd_tables.specs.Text.{letters_text}
 use Rattle.kd_state.specs.Machine.{AreLetters}
@@ -14,19 +15,20 @@ key_words (Rotor k) =
     codes "PART" ∷ letters_text k.start ∷ letters_text k.key ∷ letters_text k.fillers ∷ letters_text k.group ∷ []
 key_words (Pin k) = codes "PART" ∷ letters_text (k.chosen ∷ []) ∷ letters_text k.external ∷ []
 
--- a letter for each slot in the ground and in the message key, two fillers, and a group of three letters
+-- There is a letter for each slot in the ground and in the message key, two fillers, and a group of three
+-- letters.
 pub record AreRotorKeys (slots : ℕ) (k : RotorKeys) : Type 0 where
   pub start : AreLetters slots k.start
   pub key : AreLetters slots k.key
   pub fillers : AreLetters 2 k.fillers
   pub group : AreLetters 3 k.group
 
--- a chosen letter and six external ones
+-- There are a chosen letter and six external ones.
 pub record ArePinKeys (k : PinKeys) : Type 0 where
   pub chosen : k.chosen < 26
   pub external : AreLetters 6 k.external
 
--- keys of the day's model
+-- The keys are of the day's model.
 abbrev pub AreKeys : Day → Keys → Type 0
 AreKeys (OfRotors s) (Rotor k) = AreRotorKeys (length s.wheels) k
 AreKeys (OfPins s) (Pin k) = ArePinKeys k

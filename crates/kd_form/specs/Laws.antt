@@ -1,67 +1,67 @@
--- What the laws of orders and forms promise.
+-- The laws of orders and forms: each has one result or one fault, and a form becomes what its order gives.
 use Rattle.std.specs.Prelude.{◌≡◌, ◌⊎◌, ℕ, List, ◌++◌}
 use Rattle.kd_state.specs.SheetDay.{Day, IsLegalDay}
 use Rattle.kd_form.specs.declared.fault.FormFault.{FormFault}
 use Rattle.kd_form.specs.Sending.{IsFormOf, StandsInOrder, IsSendFault}
 use Rattle.kd_form.specs.FormText.{IsTextOf, IsRefusedForGood, IsReceiveFault, IsGivenOf}
 
--- an order becomes at most one form
+-- An order becomes at most one form.
 abbrev pub OrdersBecomeOneForm : Type 0
 OrdersBecomeOneForm =
     (s : Day) (order form other : List ℕ) → IsFormOf s order form → IsFormOf s order other → form ≡ other
 
--- an order that becomes a form has no fault
+-- An order that becomes a form has no fault.
 abbrev pub SentOrdersHaveNoFault : Type 0
 SentOrdersHaveNoFault =
     (s : Day) (order form : List ℕ) (fault : FormFault) → IsFormOf s order form → ¬ (IsSendFault s order fault)
 
--- an order has at most one fault
+-- An order has at most one fault.
 abbrev pub OrdersHaveOneFault : Type 0
 OrdersHaveOneFault =
     (s : Day) (order : List ℕ) (fault other : FormFault) → IsSendFault s order fault → IsSendFault s order other
     → fault ≡ other
 
--- an order becomes a form or has a fault
+-- An order becomes a form or has a fault.
 abbrev pub OrderIsAnswered : Day → List ℕ → Type 0
 OrderIsAnswered s order = ((form : List ℕ) × IsFormOf s order form) ⊎ ((fault : FormFault) × IsSendFault s order fault)
 
--- a fault that stands in an order is its fault, whatever bytes follow
+-- A fault that stands in an order stays its fault, whatever bytes follow.
 abbrev pub OrdersStayRefused : Type 0
 OrdersStayRefused =
     (s : Day) (order more : List ℕ) (fault : FormFault) → StandsInOrder s order fault
     → IsSendFault s (order ++ more) fault
 
--- a form becomes at most one text
+-- A form becomes at most one text.
 abbrev pub FormsBecomeOneText : Type 0
 FormsBecomeOneText =
     (s : Day) (form text other : List ℕ) → IsTextOf s form text → IsTextOf s form other → text ≡ other
 
--- a form that becomes a text has no fault
+-- A form that becomes a text has no fault.
 abbrev pub ReceivedFormsHaveNoFault : Type 0
 ReceivedFormsHaveNoFault =
     (s : Day) (form text : List ℕ) (fault : FormFault) → IsTextOf s form text → ¬ (IsReceiveFault s form fault)
 
--- a form has at most one fault
+-- A form has at most one fault.
 abbrev pub FormsHaveOneFault : Type 0
 FormsHaveOneFault =
     (s : Day) (form : List ℕ) (fault other : FormFault) → IsReceiveFault s form fault → IsReceiveFault s form other
     → fault ≡ other
 
--- a fault that a form has for good, it also has with more bytes
+-- A fault that a form has for good stays its fault, whatever bytes follow.
 abbrev pub FormsStayRefused : Type 0
 FormsStayRefused =
     (s : Day) (form more text : List ℕ) (fault : FormFault) → IsRefusedForGood s form text fault
     → IsRefusedForGood s (form ++ more) text fault
 
--- a form becomes a text or has a fault
+-- A form becomes a text or has a fault.
 abbrev pub FormIsAnswered : Day → List ℕ → Type 0
 FormIsAnswered s form = ((text : List ℕ) × IsTextOf s form text) ⊎ ((fault : FormFault) × IsReceiveFault s form fault)
 
--- an order that becomes a form has a text to give back
+-- An order that becomes a form has a text to give back.
 abbrev pub OrdersGiveLetters : Type 0
 OrdersGiveLetters = (s : Day) (order form : List ℕ) → IsFormOf s order form → (given : List ℕ) × IsGivenOf s order given
 
--- the form of an order becomes the text that it has to give back
+-- The form of an order becomes the text that the order has to give back.
 abbrev pub FormsGiveTheirOrders : Type 0
 FormsGiveTheirOrders =
     (s : Day) (order form given : List ℕ) → IsLegalDay s → IsFormOf s order form → IsGivenOf s order given

@@ -1,4 +1,5 @@
--- The part of a form that some text becomes with its keys.
+-- The cipher of the day's own machine, and the size of a part.
+-- Code: one engine.
 use Rattle.std.specs.Prelude.{◌≡◌, ℕ, ◌-◌, ◌%◌, List, [], ◌∷◌, ◌++◌, length, Option, Some, None, replicate}
 use Rattle.kd_state.specs.Machine.{AreOnWheels}
 use Rattle.kd_state.specs.SheetDay.{Day, OfRotors, OfPins, AreOfAGroup}
@@ -11,11 +12,11 @@ use Rattle.kd_form.specs.declared.heading.Indicator.{Indicator}
 use Rattle.kd_form.specs.InternalKey.{IsInternalKey}
 use Rattle.kd_form.specs.Part.{Part, part_text}
 
--- what the day's own machine makes of `text`, with the letters of `window` showing first
+-- the ciphertext of `text` by the day's own machine, which first shows the letters of `window`
 abbrev pub cipher_from : Day → List ℕ → List ℕ → List ℕ
 cipher_from s window text = cipher (key_with_window (sheet_key s) window) text
 
--- the key of the day's own machine, with any letters in its windows
+-- The key is the one of the day's own machine, with any letters in its windows.
 abbrev pub IsTurnedFrom : Day → EngineKey → Type 0
 IsTurnedFrom s key = (window : List ℕ) × (key ≡ key_with_window (sheet_key s) window)
 
@@ -24,7 +25,7 @@ abbrev pub list_letters : Day → List ℕ
 list_letters (OfRotors s) = []
 list_letters (OfPins s) = s.list
 
--- how many letters of text a part has at most
+-- the most letters of text that a part has
 abbrev pub part_size : Day → ℕ
 part_size (OfRotors s) = 245
 part_size (OfPins s) = 500
@@ -36,17 +37,21 @@ part_of part parts indicator letters = record {
   body = letters;
 }
 
--- ---- rotor machines
+-- ---- A part's letters on a rotor machine: fillers, group and enciphered text.
+-- Source: the singly enciphered message key of the Wehrmacht
+-- Test: orders_are_sent
 
--- the ground, and the message key enciphered from the ground
+-- the ground, and the message key, enciphered from the ground
 abbrev pub indicator_of : Day → RotorKeys → Indicator
 indicator_of s k = record { start = k.start; key = cipher_from s k.start k.key }
 
--- the fillers, the group, and the text enciphered from the message key
+-- the fillers, the group, and the text, enciphered from the message key
 abbrev pub rotor_letters : Day → RotorKeys → List ℕ → List ℕ
 rotor_letters s k text = k.fillers ++ k.group ++ cipher_from s k.key text
 
--- ---- the Converter M-209
+-- ---- A part's letters on the Converter M-209: indicators, enciphered text, and the indicators again.
+-- Source: War Department TM 11-380
+-- Test: orders_are_sent
 
 -- the chosen letter, enciphered twelve times from the external letters
 abbrev pub enciphered_choice : Day → PinKeys → List ℕ
@@ -64,10 +69,11 @@ filled text = text ++ replicate ((5 - length text % 5) % 5) 23
 abbrev pub pin_letters : Day → PinKeys → List ℕ → List ℕ → List ℕ
 pin_letters s k internal text = pin_indicators s k ++ cipher_from s internal (filled text) ++ pin_indicators s k
 
--- ---- every model
+-- ---- Which keys suit a day, and the part of a form that a text becomes with them.
+-- Test: orders_are_sent
 
--- the keys suit the day: their group is one of the day's; or the external letters are on their wheels, and give
--- an internal key
+-- The keys suit the day. On a rotor machine, their group is one of the day's. On the Converter M-209, the
+-- external letters are on their wheels, and there is an internal key.
 abbrev pub Suits : Day → Keys → Type 0
 Suits (OfRotors s) (Rotor k) = AreOfAGroup s.groups k.group
 Suits (OfPins s) (Pin k) =
@@ -75,13 +81,13 @@ Suits (OfPins s) (Pin k) =
 Suits (OfRotors s) (Pin k) = ⊥
 Suits (OfPins s) (Rotor k) = ⊥
 
--- part `part` of `parts`: `text` enciphered with these keys
+-- `made` is part `part` of `parts`: `text`, enciphered with these keys.
 abbrev pub IsMade : Day → ℕ → ℕ → Keys → List ℕ → Part → Type 0
 IsMade s part parts (Rotor k) text made = made ≡ part_of part parts (Some (indicator_of s k)) (rotor_letters s k text)
 IsMade s part parts (Pin k) text made =
     (internal : List ℕ) × IsInternalKey (enciphered_choice s k) internal
     × (made ≡ part_of part parts None (pin_letters s k internal text))
 
--- `bytes` are part `part` of `parts`, as it is written
+-- `bytes` are part `part` of `parts` as it is written.
 abbrev pub IsMadeText : Day → ℕ → ℕ → Keys → List ℕ → List ℕ → Type 0
 IsMadeText s part parts keys text bytes = (made : Part) × IsMade s part parts keys text made × (bytes ≡ part_text made)

@@ -1,4 +1,5 @@
--- A machine that is ready and on the day's key, and the answer of a call with any machine.
+-- Whether a machine is ready and on the day's key, and how a call answers one that isn't.
+-- Test: orders_are_sent
 use Rattle.std.specs.Prelude.{◌≡◌, ◌⊎◌, Result, Err, MatchResult}
 use Rattle.kd_state.specs.declared.machine.parts.Parts.{Parts}
 use Rattle.kd_state.specs.SheetDay.{Day}
@@ -7,19 +8,21 @@ use Rattle.kd_state.specs.TwoCiphers.{IsReady}
 use Rattle.kd_form.specs.declared.fault.FormFault.{FormFault}
 use Rattle.kd_form.specs.declared.fault.FormFault.TheVariants.{NotReady, NoMemory, NotOnKey}
 
+-- The machine is ready and on the day's key.
 pub record IsOnKey (m : Parts) (s : Day) : Type 0 where
   pub ready : IsReady m
   pub on_key : OnKey m s
 
--- the machine isn't ready, or it is ready and not on the day's key
+-- The machine isn't ready; or it is ready, but not on the day's key.
 abbrev pub IsKeyFault : Parts → Day → FormFault → Type 0
 IsKeyFault m s fault = (¬ (IsReady m) × (fault ≡ NotReady)) ⊎ (IsReady m × ¬ (OnKey m s) × (fault ≡ NotOnKey))
 
--- a fault that satisfies `is_fault`, or `NoMemory` if memory is taken
+-- The fault satisfies `is_fault`; or it is `NoMemory`, and the call takes memory.
 abbrev pub IsRefusal : (FormFault → Type 0) → Type 0 → FormFault → Type 0
 IsRefusal is_fault takes_memory fault = (takes_memory × (fault ≡ NoMemory)) ⊎ is_fault fault
 
--- A machine that isn't ready or isn't on the key is refused. Otherwise the answer is what is due, or a refusal.
+-- A machine that isn't ready or isn't on the key is refused. Otherwise the answer satisfies `is_due`, or is a
+-- fault by `IsRefusal`.
 pub data AnswersOnKey {X : Type 0} (m : Parts) (s : Day) (is_due : X → Type 0) (is_fault : FormFault → Type 0)
     (takes_memory : Type 0) (answer : Result X FormFault) : Type 0 where
   OffKey : (fault : FormFault) → IsKeyFault m s fault → answer ≡ Err fault

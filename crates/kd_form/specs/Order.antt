@@ -1,4 +1,6 @@
--- Orders: a line of keys for each part, the line TEXT, and the text. Bytes are counted from 1.
+-- Orders: a line of keys for each part, the line TEXT, and the text; and where an order breaks off. Bytes are
+-- counted from 1.
+-- Test: orders_are_sent
 use Rattle.std.specs.Prelude.{codes, ◌≡◌, ◌≢◌, ◌⊎◌, ℕ, ◌+◌, ◌≤◌, List, [], ◌∷◌, ◌++◌, length}
 use Rattle.kd_state.specs.Words.{line_of}
 use Rattle.kd_state.specs.SheetDay.{Day}
@@ -7,43 +9,43 @@ use Rattle.kd_form.specs.declared.pattern_line.Unread.{Unread}
 use Rattle.kd_form.specs.declared.pattern_line.Unread.TheVariants.{Open, Off}
 use Rattle.kd_form.specs.Keys.{key_words, AreKeys}
 
--- `bytes` are the line with its end: LF, or CR and LF
+-- `bytes` are the line and its end: LF, or CR and LF.
 abbrev pub IsEnded : List ℕ → List ℕ → Type 0
 IsEnded line bytes = (bytes ≡ line ++ 10 ∷ []) ⊎ (bytes ≡ line ++ 13 ∷ 10 ∷ [])
 
--- `bytes` are the line of these keys, with its end
+-- `bytes` are the line of these keys, and its end.
 abbrev pub IsKeyLine : Keys → List ℕ → Type 0
 IsKeyLine keys bytes = IsEnded (line_of (key_words keys)) bytes
 
--- The bytes begin with the lines of these keys, which are of the day's model. What follows satisfies `Holds`.
+-- The bytes begin with the lines of these keys, which are of the day's model. The rest satisfies `Holds`.
 abbrev pub BeginsWithKeys : Day → List Keys → (List ℕ → Type 0) → List ℕ → Type 0
 BeginsWithKeys s [] Holds bytes = Holds bytes
 BeginsWithKeys s (keys ∷ more) Holds bytes =
     (line rest : List ℕ) × AreKeys s keys × IsKeyLine keys line × BeginsWithKeys s more Holds rest
     × (bytes ≡ line ++ rest)
 
--- the head of an order: at most 99 lines of keys, and the line TEXT
+-- `bytes` are the head of an order: at most 99 lines of keys, and the line TEXT.
 pub record IsHead (s : Day) (keys : List Keys) (bytes : List ℕ) : Type 0 where
   pub lines : BeginsWithKeys s keys (IsEnded (codes "TEXT")) bytes
   pub few : length keys ≤ 99
 
--- the head of an order, with any keys
+-- `bytes` are the head of an order, with some keys.
 abbrev pub IsAnyHead : Day → List ℕ → Type 0
 IsAnyHead s bytes = (keys : List Keys) × IsHead s keys bytes
 
--- the order has this head with these keys, and then this text
+-- The order has this head with these keys, and then this text.
 pub record IsOrder (s : Day) (order : List ℕ) (keys : List Keys) (head text : List ℕ) : Type 0 where
   pub joined : order ≡ head ++ text
   pub is_head : IsHead s keys head
 
 -- `Open`: the bytes begin something that satisfies `Is`, and more has to follow. `Off`: nothing that satisfies
--- `Is` begins with them.
+-- `Is` begins with these bytes.
 abbrev pub BreaksOff : (List ℕ → Type 0) → List ℕ → Unread → Type 0
 BreaksOff Is bytes Open = (more : List ℕ) × (more ≢ []) × Is (bytes ++ more)
 BreaksOff Is bytes Off = (more : List ℕ) → ¬ (Is (bytes ++ more))
 
--- The position of the first byte with which no head goes on, or one after the last byte if the order ends in
--- its head. The bytes before that position begin a head, and aren't a whole one.
+-- The position of the byte that breaks the head. The bytes before it begin a head but aren't a whole one, and
+-- with this byte no head begins. If the order ends in its head, the position is one past its last byte.
 pub record IsHeadFault (s : Day) (order : List ℕ) (position : ℕ) : Type 0 where
   pub before : List ℕ
   pub rest : List ℕ

@@ -1,4 +1,5 @@
 -- A part of a form, as a heading and letters, and how it is written.
+-- Test: long_texts_are_sent_and_received
 use Rattle.std.specs.Prelude.{codes, decimal, ℕ, List, [], ◌∷◌, ◌++◌, length, map, Option, Some, None}
 use Rattle.std.specs.List.{flat_map}
 use Rattle.std.specs.Int.{div_ceil}
@@ -8,15 +9,15 @@ use Rattle.kd_state.specs.Words.{line_of}
 use Rattle.kd_form.specs.declared.heading.Heading.{Heading}
 use Rattle.kd_form.specs.declared.heading.Indicator.{Indicator}
 
--- the letters in pieces of `size`, of which the last may be shorter
+-- the letters in pieces of `size`; the last one may be shorter
 abbrev pub pieces : ℕ → List ℕ → List (List ℕ)
 pieces size letters = first_chunks size (div_ceil (length letters) size) letters
 
--- which part of how many, as in `2/5`
+-- the number of a part and the number of all parts, as in `2/5`
 abbrev pub fraction : ℕ → ℕ → List ℕ
 fraction part parts = decimal part ++ codes "/" ++ decimal parts
 
--- the words of the ground and of the enciphered message key
+-- the ground and the enciphered message key, as words
 abbrev pub indicator_words : Option Indicator → List (List ℕ)
 indicator_words (Some indicator) = letters_text indicator.start ∷ letters_text indicator.key ∷ []
 indicator_words None = []
@@ -29,19 +30,19 @@ heading_words h = codes "PART" ∷ fraction h.part h.parts ∷ decimal h.letters
 abbrev pub behind_spaces : List (List ℕ) → List ℕ
 behind_spaces words = flat_map (λ word. 32 ∷ word) words
 
--- the line of these words with LF at its end, then `rest`
+-- the line of these words, with LF at its end, and then `rest`
 abbrev pub with_line : List (List ℕ) → List ℕ → List ℕ
 with_line words rest = line_of words ++ 10 ∷ rest
 
--- the words of a line of the body: groups of five letters
+-- the words of a body's line: groups of five letters
 abbrev pub groups_of : List ℕ → List (List ℕ)
 groups_of letters = map letters_text (pieces 5 letters)
 
--- the lines of a body, ten groups each
+-- the lines of a body, with ten groups each
 abbrev pub body_text : List ℕ → List ℕ
 body_text letters = flat_map (λ line. with_line (groups_of line) []) (pieces 50 letters)
 
--- a part: its heading and the letters of its body
+-- A part: its heading and the letters of its body.
 pub record Part : Type 0 where
   pub heading : Heading
   pub body : List ℕ

@@ -1,10 +1,10 @@
--- Patterns of lines: `_` stands for a letter, and each other byte for itself.
+-- Patterns of lines: `_` stands for a letter, each other byte for itself. No public contract cites this file.
 use Rattle.std.specs.Prelude.{◌≡◌, ℕ, ◌+◌, ◌-◌, ◌==◌, ◌++◌, ◌&&◌, nat_le, Bool, List, [], ◌∷◌, drop, slice_index}
 use Rattle.std.specs.Prelude.{if◌then◌else◌}
 use Rattle.kd_state.specs.Machine.{AreLetters}
 use Rattle.kd_form.specs.Order.{IsEnded}
 
--- the pattern with `letters` in the places of its `_`, in order
+-- the pattern, with `letters` in place of its `_`, in order
 abbrev pub filled_in : List ℕ → List ℕ → List ℕ
 filled_in [] letters = []
 filled_in (mark ∷ pattern) letters =
@@ -16,18 +16,18 @@ abbrev pub blanks : List ℕ → ℕ
 blanks [] = 0
 blanks (mark ∷ pattern) = if mark == 95 then blanks pattern + 1 else blanks pattern
 
--- `bytes` are the line of the pattern with these letters, with its end
+-- `bytes` are the line of the pattern with these letters, and its end.
 pub record IsFilledLine (pattern letters bytes : List ℕ) : Type 0 where
   pub are_letters : AreLetters (blanks pattern) letters
   pub ended : IsEnded (filled_in pattern letters) bytes
 
--- `bytes` are a line of the pattern with any letters, with its end
+-- `bytes` are the line of the pattern with some letters, and its end.
 abbrev pub IsPatternLine : List ℕ → List ℕ → Type 0
 IsPatternLine pattern bytes = (letters : List ℕ) × IsFilledLine pattern letters bytes
 
 -- ---- one byte
 
--- the byte fits the mark
+-- whether the byte fits the mark
 abbrev pub fits : ℕ → ℕ → Bool
 fits mark byte = if mark == 95 then nat_le 65 byte && nat_le byte 90 else byte == mark
 
@@ -35,6 +35,6 @@ fits mark byte = if mark == 95 then nat_le 65 byte && nat_le byte 90 else byte =
 abbrev pub letters_at : ℕ → ℕ → List ℕ
 letters_at mark byte = if mark == 95 then (byte - 65) ∷ [] else []
 
--- `bytes` are a line of the pattern, and `new` is `old` with its letters appended
+-- `bytes` are a line of the pattern, and `new` is `old` with the line's letters appended.
 abbrev pub AreAppended : List ℕ → List ℕ → List ℕ → List ℕ → Type 0
 AreAppended pattern bytes old new = (more : List ℕ) × IsFilledLine pattern more bytes × (new ≡ old ++ more)

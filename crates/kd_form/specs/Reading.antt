@@ -12,9 +12,12 @@ use Rattle.kd_form.specs.Steps.{Answer, IsJudged, IsSought}
 use Rattle.kd_form.specs.InternalKey.{IsInternalKey, HaveRunOut}
 use Rattle.kd_form.specs.Making.{cipher_from, list_letters, enciphered_choice}
 
--- ---- rotor machines
+-- ---- The letters of a body on a rotor machine: two fillers, the group, and the text, deciphered from the
+-- message key.
+-- Source: the singly enciphered message key of the Wehrmacht
+-- Test: a_message_of_1941
 
--- the group, which two fillers precede
+-- the group, after two fillers
 abbrev pub group_in : List ℕ → List ℕ
 group_in letters = slice_range letters 2 5
 
@@ -22,21 +25,24 @@ group_in letters = slice_range letters 2 5
 abbrev pub message_key : Day → Indicator → List ℕ
 message_key s indicator = cipher_from s indicator.start indicator.key
 
--- the group is none of the day's, or the text is deciphered from the message key
+-- The answer is `WrongGroup` if the group is none of the day's. Otherwise it is the text, deciphered from the
+-- message key.
 abbrev pub SaysRotor : Day → ℕ → Indicator → List ℕ → Answer → Type 0
 SaysRotor s part indicator letters =
     IsJudged (AreOfADaysGroup s (group_in letters)) (Err (WrongGroup part))
     (λ v. v ≡ Ok (cipher_from s (message_key s indicator) (drop 5 letters)))
 
--- ---- the Converter M-209
+-- ---- The letters of a body on the Converter M-209: the indicators, the text, and the indicators again.
+-- Source: War Department TM 11-380
+-- Test: forms_are_received
 
--- the last ten letters are the first ten, of which the first two are the same
+-- The last ten letters repeat the first ten, and the first two letters are equal.
 pub record HasIndicatorsAround (letters : List ℕ) : Type 0 where
   pub again : take 10 letters ≡ drop (length letters - 10) letters
   pub twice : slice_index letters 0 ≡ slice_index letters 1
 
--- what the indicators have, and what is between them: the chosen letter twice, the external letters, the
--- letters of the list; then the enciphered text
+-- What the letters have: the keys (the chosen letter twice, then the external letters), the two letters of the
+-- list, and the enciphered text between the indicators.
 abbrev pub keys_in : List ℕ → PinKeys
 keys_in letters = record { chosen = slice_index letters 1; external = slice_range letters 2 8 }
 
@@ -46,9 +52,9 @@ list_in letters = slice_range letters 8 10
 abbrev pub text_in : List ℕ → List ℕ
 text_in letters = slice_range letters 10 (length letters - 10)
 
--- The tests in their order: the indicators are around the text; each external letter is on its wheel; the list
--- is the day's; there is an internal key. The first one that fails gives the fault. Otherwise the text is
--- deciphered from the internal key.
+-- The tests, in order: the indicators are around the text; each external letter is on its wheel; the list is
+-- the day's; there is an internal key. The first test that fails gives the fault. Otherwise the answer is the
+-- text, deciphered from the internal key.
 abbrev pub SaysPin : Day → ℕ → List ℕ → Answer → Type 0
 SaysPin s part letters =
     IsJudged (HasIndicatorsAround letters) (Err (IndicatorsDiffer part))
@@ -58,15 +64,18 @@ SaysPin s part letters =
     (HaveRunOut (enciphered_choice s (keys_in letters)))
     (Err (IndicatorSpent part)) (λ internal v. v ≡ Ok (cipher_from s internal (text_in letters))))))
 
--- ---- every model
+-- ---- The letters of a body for either kind of machine.
+-- Test: forms_are_received
 
--- the indicator of a heading: on a rotor machine, a letter for each slot in the ground and in the message key
+-- The heading has the indicator of the day's model. On a rotor machine it has a letter for each slot in the
+-- ground and in the message key; on the Converter M-209 there is none.
 abbrev pub HasIndicator : Day → Option Indicator → Type 0
 HasIndicator (OfRotors s) (Some i) = AreLetters (length s.wheels) i.start × AreLetters (length s.wheels) i.key
 HasIndicator (OfPins s) None = Unit {0}
 HasIndicator (OfRotors s) None = ⊥
 HasIndicator (OfPins s) (Some i) = ⊥
 
+-- The answer to the letters of a body, by the indicator of its heading.
 abbrev pub SaysLetters : Day → ℕ → Option Indicator → List ℕ → Answer → Type 0
 SaysLetters s part (Some i) letters v = SaysRotor s part i letters v
 SaysLetters s part None letters v = SaysPin s part letters v

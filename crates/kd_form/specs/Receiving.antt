@@ -1,4 +1,6 @@
--- What one part of a form becomes: the letters of its text, or a fault. Parts and bytes are counted from 1.
+-- What one part of a form becomes: the letters of its text, or its first fault. Parts and bytes are counted
+-- from 1.
+-- Test: forms_are_received
 use Rattle.std.specs.Prelude.{◌≡◌, ◌≢◌, ◌⊎◌, ℕ, ◌+◌, ◌-◌, List, length, All, IsTrue, Option, Some, None, Ok, Err}
 use Rattle.kd_tables.specs.Text.{is_text_byte}
 use Rattle.kd_state.specs.SheetDay.{Day}
@@ -12,17 +14,18 @@ use Rattle.kd_form.specs.Steps.{Answer, IsJudged}
 use Rattle.kd_form.specs.Reading.{SaysLetters}
 use Rattle.kd_form.specs.FormParts.{IsHeading, HasFirstLine}
 
--- `h` is the heading in the part's first line, and `body` follows it
+-- `h` is the heading in the part's first line, and `body` follows this line.
 pub record HasHeading (s : Day) (part : List ℕ) (h : Heading) (body : List ℕ) : Type 0 where
   pub is_heading : IsHeading s h
   pub first : HasFirstLine part (line_of (heading_words h)) body
 
--- the body has more or fewer letters than its heading says, or is deciphered
+-- The answer is `CountWrong` if the body hasn't as many letters as its heading says. Otherwise its letters are
+-- read.
 abbrev pub SaysBody : Day → ℕ → Heading → List ℕ → Answer → Type 0
 SaysBody s number h letters =
     IsJudged (length letters ≡ h.letters) (Err (CountWrong number)) (SaysLetters s number h.indicator letters)
 
--- the part is part `number` of `parts`, and its body becomes `text`
+-- The part is part `number` of `parts`, and its body becomes `text`.
 pub record IsPartRead (s : Day) (number parts : ℕ) (part text : List ℕ) : Type 0 where
   pub heading : Heading
   pub body : List ℕ
@@ -32,13 +35,13 @@ pub record IsPartRead (s : Day) (number parts : ℕ) (part text : List ℕ) : Ty
   pub allowed : All (λ b. IsTrue (is_text_byte b)) body
   pub read : SaysBody s number heading (letters_from None body) (Ok text)
 
--- `parts` is the expected number of parts, if one is expected
+-- `parts` is the expected number of parts, if one is expected.
 abbrev pub IsExpected : Option ℕ → ℕ → Type 0
 IsExpected None parts = Unit {0}
 IsExpected (Some first) parts = first ≡ parts
 
--- The first fault that shows before the part ends: it has no heading; it is another part, or has another number
--- of parts; or a byte of its body isn't allowed. Before the part, the form has `start` bytes.
+-- The first fault that shows before the part ends. It has no heading; or it is another part, or has another
+-- number of parts; or a byte of its body isn't allowed. The form has `start` bytes before the part.
 pub data IsEarlyFault (s : Day) (number : ℕ) (expected : Option ℕ) (start : ℕ) (part : List ℕ)
     (fault : FormFault) : Type 0 where
   InHeading : ((h : Heading) (body : List ℕ) → ¬ (HasHeading s part h body)) → fault ≡ BadHeading number
@@ -51,7 +54,7 @@ pub data IsEarlyFault (s : Day) (number : ℕ) (expected : Option ℕ) (start : 
       → fault ≡ BadByte (start + (length part - length body) + place + 1)
       → IsEarlyFault s number expected start part fault
 
--- a fault that only the whole part shows: its letters are refused
+-- A fault that only the whole part shows: its letters are refused.
 pub record IsLateFault (s : Day) (number : ℕ) (expected : Option ℕ) (part : List ℕ) (fault : FormFault) : Type 0 where
   pub heading : Heading
   pub body : List ℕ
@@ -61,7 +64,7 @@ pub record IsLateFault (s : Day) (number : ℕ) (expected : Option ℕ) (part : 
   pub allowed : All (λ b. IsTrue (is_text_byte b)) body
   pub found : SaysBody s number heading (letters_from None body) (Err fault)
 
--- the first fault of the part
+-- The part has this fault, and it is its first one.
 abbrev pub IsPartFault : Day → ℕ → Option ℕ → ℕ → List ℕ → FormFault → Type 0
 IsPartFault s number expected start part fault =
     IsEarlyFault s number expected start part fault ⊎ IsLateFault s number expected part fault

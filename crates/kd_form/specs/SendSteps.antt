@@ -1,4 +1,4 @@
--- What the reader of an order holds. No public contract cites this file.
+-- What the reader of an order holds after some of its bytes. No public contract cites this file.
 use Rattle.std.specs.Prelude.{codes, ◌≡◌, ◌≢◌, ◌⊎◌, Result, Ok, Err, ℕ, ◌*◌, ◌<◌, ◌≤◌, List, [], ◌++◌, length, take}
 use Rattle.std.specs.Prelude.{drop, All}
 use Rattle.kd_state.specs.SheetDay.{Day}
@@ -21,11 +21,11 @@ use Rattle.kd_form.specs.KeyPatterns.{IsAnyKeyLine}
 use Rattle.kd_form.specs.Sending.{text_letters, parts_needed, AreMadeTexts, IsSendable}
 use Rattle.kd_form.specs.SendStream.{CanBeWritten}
 
--- a line after `count` lines of keys: another one, or the line TEXT
+-- After `count` lines of keys, the line is another line of keys, or the line TEXT.
 abbrev pub IsHeadLine : Day → ℕ → List ℕ → Type 0
 IsHeadLine s count line = (IsAnyKeyLine s line × (count < 99)) ⊎ IsEnded (codes "TEXT") line
 
--- the order has a line for each of these keys, and then `line`, which may become the next one
+-- The order has a line for each of these keys, and then `line`, the incomplete next line of the head.
 pub record IsHeadRead (s : Day) (keys : List Keys) (line order : List ℕ) : Type 0 where
   pub lines : BeginsWithKeys s keys (λ rest. rest ≡ line) order
   pub few : length keys ≤ 99
@@ -36,14 +36,14 @@ HeadIsRead s keys line order Open = IsHeadRead s keys line order
 HeadIsRead s keys line order Text = IsOrder s order keys order []
 HeadIsRead s keys line order Bad = IsHeadFault s order (length order)
 
--- at most 99 keys of the day's model, which all suit the day
+-- There are at most 99 keys of the day's model, and all suit the day.
 pub record AreSuitedKeys (s : Day) (keys : List Keys) : Type 0 where
   pub of_the_day : All (AreKeys s) keys
   pub suited : All (Suits s) keys
   pub few : length keys ≤ 99
 
--- Of these letters, all parts that can be written were made, with keys that suit the day. The next letters are
--- kept, at most as many as a part has.
+-- All parts of these letters that can be written were made, with keys that suit the day. The writer keeps the
+-- next letters, at most as many as a part has.
 pub record AreTaken (s : Day) (keys : List Keys) (w : PartWriter) (letters sent : List ℕ) : Type 0 where
   pub suited : AreSuitedKeys s keys
   pub counted : w.count ≡ length letters
@@ -52,27 +52,28 @@ pub record AreTaken (s : Day) (keys : List Keys) (w : PartWriter) (letters sent 
   pub made : AreMadeTexts s 1 (length keys) (take w.written keys)
       (pieces (part_size s) (take (part_size s * w.written) letters)) sent
 
--- why a text with these letters can't be sent: there are none, or they need more or fewer parts than there are keys
+-- Why a text with these letters can't be sent: there are none; or they need more or fewer parts than there are
+-- keys.
 abbrev pub IsEndRefusal : Day → List Keys → List ℕ → FormFault → Type 0
 IsEndRefusal s keys letters fault =
     ((letters ≡ []) × (fault ≡ EmptyText))
     ⊎ ((letters ≢ []) × (parts_needed s (length letters) ≢ length keys)
     × (fault ≡ PartKeys (parts_needed s (length letters)) (length keys)))
 
--- at the end of the text, the last part was made, or the text is refused
+-- At the end of the text, the last part was made, or the text is refused.
 abbrev pub IsLastTaken : Day → List Keys → List ℕ → List ℕ → List ℕ → Result (Unit {0}) FormFault → Type 0
 IsLastTaken s keys letters sent made (Ok _) =
     (letters ≢ []) × (parts_needed s (length letters) ≡ length keys)
     × AreMadeTexts s 1 (length keys) keys (pieces (part_size s) letters) (sent ++ made)
 IsLastTaken s keys letters sent made (Err fault) = (made ≡ []) × IsEndRefusal s keys letters fault
 
--- no letter was taken yet
+-- The writer has taken no letter yet.
 pub record IsFresh (w : PartWriter) : Type 0 where
   pub none : w.count ≡ 0
   pub unwritten : w.written ≡ 0
   pub empty : w.letters.items ≡ []
 
--- the order is read to some place in its text
+-- The order is read to some place in its text.
 pub record IsTextRead (s : Day) (keys : List Keys) (w : PartWriter) (order sent : List ℕ) : Type 0 where
   pub head : List ℕ
   pub text : List ℕ

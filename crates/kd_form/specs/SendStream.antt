@@ -1,4 +1,5 @@
 -- What is written of an order before its end. Parts are counted from 1.
+-- Test: orders_are_sent
 use Rattle.std.specs.Prelude.{◌≡◌, ◌⊎◌, ℕ, ◌*◌, ◌<◌, ◌≤◌, List, [], ◌∷◌, ◌++◌, length, take, All, IsTrue, IsFalse}
 use Rattle.kd_tables.specs.Text.{is_text_byte}
 use Rattle.kd_state.specs.SheetDay.{Day}
@@ -9,21 +10,21 @@ use Rattle.kd_form.specs.Order.{IsOrder}
 use Rattle.kd_form.specs.Sending.{text_letters, StandsInOrder, IsSendFault, AreMadeTexts, IsFormOf}
 use Rattle.kd_form.specs.Streams.{Message}
 
--- the prefix of the text before the first byte that isn't allowed
+-- `front` is the prefix of the text before the first byte that isn't allowed.
 pub record IsAllowedFront (text front : List ℕ) : Type 0 where
   pub rest : List ℕ
   pub joined : text ≡ front ++ rest
   pub allowed : All (λ b. IsTrue (is_text_byte b)) front
   pub ends : (byte : ℕ) (more : List ℕ) → rest ≡ byte ∷ more → IsFalse (is_text_byte byte)
 
--- `written` is how many of `parts` parts can be written after `letters` letters. A part has at most `size` letters, and
--- can be written once a letter of the next part has come.
+-- Of `parts` parts, `written` can be written once `letters` letters have come. A part has at most `size`
+-- letters, and can be written once a letter of the next part has come.
 pub record CanBeWritten (size parts letters written : ℕ) : Type 0 where
   pub due : (written ≡ 0) ⊎ ((written < parts) × (size * written < letters))
   pub most : (other : ℕ) → other < parts → size * other < letters → other ≤ written
 
--- What is written of an order before its end: nothing before its text begins, or if its keys don't suit the
--- day; then the parts that can be written.
+-- What is written of an order before its end. If its text hasn't begun, or its keys don't suit the day, it is
+-- nothing. Otherwise it is the parts that can be written.
 pub data IsSentBefore (s : Day) (order sent : List ℕ) : Type 0 where
   NotYet : ((keys : List Keys) (head text : List ℕ) → IsOrder s order keys head text → ¬ (All (Suits s) keys))
       → sent ≡ [] → IsSentBefore s order sent

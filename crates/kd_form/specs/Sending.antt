@@ -1,4 +1,4 @@
--- What an order becomes: its form, or the first fault. Parts and bytes are counted from 1.
+-- What an order becomes: its form, or its first fault. Parts and bytes are counted from 1.
 use Rattle.std.specs.Prelude.{◌≡◌, ◌≢◌, ℕ, ◌+◌, ◌-◌, ◌≤◌, ◌⊎◌, ◌==◌, List, [], ◌∷◌, ◌++◌, length, filter_map, All}
 use Rattle.std.specs.Prelude.{IsTrue, IsFalse, Option, Some, None, if◌then◌else◌}
 use Rattle.std.specs.Int.{div_ceil}
@@ -15,7 +15,8 @@ use Rattle.kd_form.specs.Part.{pieces}
 use Rattle.kd_form.specs.Making.{Suits, IsMadeText, enciphered_choice, part_size}
 use Rattle.kd_form.specs.Order.{IsOrder, IsHeadFault}
 
--- ---- the text of an order
+-- ---- The letters that an order's text gives, and how many parts they need.
+-- Test: orders_are_sent
 
 -- the letter that a space stands for: Z on the Converter M-209, and none on a rotor machine
 abbrev pub blank_of : Day → Option ℕ
@@ -26,6 +27,7 @@ blank_of (OfPins s) = Some 25
 abbrev pub letter_of_byte : Option ℕ → ℕ → Option ℕ
 letter_of_byte blank byte = if is_capital byte then Some (byte - 65) else if byte == 32 then blank else None
 
+-- the letters that the bytes of a text give
 abbrev pub letters_from : Option ℕ → List ℕ → List ℕ
 letters_from blank text = filter_map (letter_of_byte blank) text
 
@@ -33,7 +35,7 @@ letters_from blank text = filter_map (letter_of_byte blank) text
 abbrev pub text_letters : Day → List ℕ → List ℕ
 text_letters s text = letters_from (blank_of s) text
 
--- `place` is the index of the first byte that isn't allowed in a text
+-- `place` is the index of the first byte of the text that isn't allowed.
 pub record IsBadAt (text : List ℕ) (place : ℕ) : Type 0 where
   pub before : List ℕ
   pub byte : ℕ
@@ -47,9 +49,10 @@ pub record IsBadAt (text : List ℕ) (place : ℕ) : Type 0 where
 abbrev pub parts_needed : Day → ℕ → ℕ
 parts_needed s letters = div_ceil letters (part_size s)
 
--- ---- why there is no form
+-- ---- Why an order becomes no form: its first fault, which stands or comes at its end.
+-- Test: orders_are_sent
 
--- why the keys of part `part` don't suit the day
+-- Why the keys of part `part` don't suit the day.
 abbrev pub IsKeysFault : Day → ℕ → Keys → FormFault → Type 0
 IsKeysFault (OfRotors s) part (Rotor k) fault = ¬ (AreOfAGroup s.groups k.group) × (fault ≡ WrongGroup part)
 IsKeysFault (OfPins s) part (Pin k) fault =
@@ -58,7 +61,7 @@ IsKeysFault (OfPins s) part (Pin k) fault =
 IsKeysFault (OfRotors s) part (Pin k) fault = ⊥
 IsKeysFault (OfPins s) part (Rotor k) fault = ⊥
 
--- the fault of the first keys that don't suit the day
+-- The fault of the first keys that don't suit the day.
 pub record IsFirstKeysFault (s : Day) (keys : List Keys) (fault : FormFault) : Type 0 where
   pub before : List Keys
   pub unsuited : Keys
@@ -67,13 +70,13 @@ pub record IsFirstKeysFault (s : Day) (keys : List Keys) (fault : FormFault) : T
   pub suited : All (Suits s) before
   pub is : IsKeysFault s (length before + 1) unsuited fault
 
--- The order has no fault so far: its keys suit the day, and each byte of its text is allowed.
+-- The order has no fault that stands: its keys suit the day, and each byte of its text is allowed.
 pub record IsSendable (s : Day) (order : List ℕ) (keys : List Keys) (head text : List ℕ) : Type 0 where
   pub is_order : IsOrder s order keys head text
   pub suited : All (Suits s) keys
   pub allowed : All (λ b. IsTrue (is_text_byte b)) text
 
--- The fault that an order has whatever follows: in its head, in its keys, or in a byte of its text.
+-- The fault that an order has whatever bytes follow: in its head, in its keys, or in a byte of its text.
 pub data StandsInOrder (s : Day) (order : List ℕ) (fault : FormFault) : Type 0 where
   InHead : (position : ℕ) → IsHeadFault s order position → position ≤ length order → fault ≡ BadByte position
       → StandsInOrder s order fault
@@ -92,13 +95,15 @@ pub data EndsOrder (s : Day) (order : List ℕ) (fault : FormFault) : Type 0 whe
       → parts_needed s (length (text_letters s text)) ≢ length keys
       → fault ≡ PartKeys (parts_needed s (length (text_letters s text))) (length keys) → EndsOrder s order fault
 
--- the first fault of the order
+-- The order has this fault, and it is its first one.
 abbrev pub IsSendFault : Day → List ℕ → FormFault → Type 0
 IsSendFault s order fault = StandsInOrder s order fault ⊎ EndsOrder s order fault
 
--- ---- the form
+-- ---- The form that an order becomes.
+-- Test: long_texts_are_sent_and_received
 
--- the bytes are the parts from `part` on, of `parts`, made from these pieces with these keys, one after another
+-- The bytes are parts of a form, from `part` on, of `parts` parts in all. Each is made from its piece of text
+-- with its keys.
 abbrev pub AreMadeTexts : Day → ℕ → ℕ → List Keys → List (List ℕ) → List ℕ → Type 0
 AreMadeTexts s part parts [] [] bytes = bytes ≡ []
 AreMadeTexts s part parts (k ∷ keys) (piece ∷ pieces) bytes =
@@ -107,7 +112,7 @@ AreMadeTexts s part parts (k ∷ keys) (piece ∷ pieces) bytes =
 AreMadeTexts s part parts [] (piece ∷ pieces) bytes = ⊥
 AreMadeTexts s part parts (k ∷ keys) [] bytes = ⊥
 
--- the form of an order without a fault: all of its parts but the last are full
+-- The order has no fault, and `form` is its form, in which all parts but the last are full.
 pub record IsFormOf (s : Day) (order form : List ℕ) : Type 0 where
   pub keys : List Keys
   pub head : List ℕ

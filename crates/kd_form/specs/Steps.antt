@@ -1,23 +1,25 @@
--- Answers by steps: each step gives its refusal, or leaves the answer to the next step.
+-- Answers by steps: a step gives its refusal, or leaves the answer to the next step.
 use Rattle.std.specs.Prelude.{◌≡◌, ◌⊎◌, List, ℕ, Result}
 use Rattle.kd_form.specs.declared.fault.FormFault.{FormFault}
 
--- letters, or a fault
+-- The answer of a reader: letters, or a fault.
 abbrev pub Answer : Type 0
 Answer = Result (List ℕ) FormFault
 
--- some `x` satisfies `Has`, and the answer satisfies `Later x`
+-- Some `x` satisfies `Has`, and the answer satisfies `Later x`.
 abbrev pub IsFound : {X V : Type 0} → (X → Type 0) → (X → V → Type 0) → V → Type 0
 IsFound {X} Has Later v = (x : X) × Has x × Later x v
 
--- the answer is `refusal` where `none` holds; else some `x` satisfies `Has`, and the answer satisfies `Later x`
+-- If `none` holds, the answer is `refusal`. Otherwise some `x` satisfies `Has`, and the answer satisfies `Later
+-- x`.
 abbrev pub IsSought : {X V : Type 0} → (X → Type 0) → Type 0 → V → (X → V → Type 0) → V → Type 0
 IsSought Has none refusal Later v = (none × (v ≡ refusal)) ⊎ IsFound Has Later v
 
--- the answer is `refusal` unless `Holds`; else it satisfies `Later`
+-- The answer is `refusal` unless `Holds`. Otherwise it satisfies `Later`.
 abbrev pub IsJudged : {V : Type 0} → Type 0 → V → (V → Type 0) → V → Type 0
 IsJudged Holds refusal Later v = (¬ Holds × (v ≡ refusal)) ⊎ (Holds × Later v)
 
--- the answer is the refusal of some `x` that satisfies `Has`; else `Holds`, and the answer satisfies `Later`
+-- Some `x` satisfies `Has`, and the answer is its refusal. Or `Holds` is true, and the answer satisfies
+-- `Later`.
 abbrev pub IsCaught : {X V : Type 0} → (X → Type 0) → (X → V) → Type 0 → (V → Type 0) → V → Type 0
 IsCaught Has refusal Holds Later v = IsFound Has (λ x w. w ≡ refusal x) v ⊎ (Holds × Later v)

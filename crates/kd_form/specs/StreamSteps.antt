@@ -1,4 +1,4 @@
--- What each step of reading a message does. No public contract cites this file.
+-- What a step of reading a message does. No public contract cites this file.
 use Rattle.std.specs.Prelude.{◌≡◌, ℕ, ◌+◌, ◌^◌, ◌<◌, ◌≤◌, Bool, true, false, ◌||◌, List, [], ◌∷◌, ◌++◌, length, Result}
 use Rattle.std.specs.Prelude.{Ok, Err, MatchResult}
 use Rattle.std.specs.Io.{StartsWith}
@@ -10,26 +10,26 @@ use Rattle.kd_form.specs.declared.stream.stop.Stop.{Stop}
 use Rattle.kd_form.specs.declared.stream.stop.Stop.TheVariants.{Device, Refused}
 use Rattle.kd_form.specs.Streams.{Message, IsOpen, IsRefused, Closes, FallsShort}
 
--- the reader has read `bytes` and made `text`, and no fault stands in `bytes`
+-- The reader has read `bytes` and made `text`, and no fault stands in `bytes`.
 pub record Held (m : Message) (holds : List ℕ → List ℕ → Type 0) (bytes text : List ℕ) : Type 0 where
   pub is : holds bytes text
   pub open_yet : IsOpen m bytes text
 
--- the reader has read some bytes, and `room` more may follow
+-- The reader has read some bytes, and `room` more may follow.
 pub record HasRoom (m : Message) (holds : List ℕ → List ℕ → Type 0) (room : ℕ) : Type 0 where
   pub bytes : List ℕ
   pub text : List ℕ
   pub held : Held m holds bytes text
   pub within : length bytes + room < 2 ^ 63
 
--- The reader reads one more byte, and makes `made`; or the bytes with this one have a fault.
+-- The reader reads `byte` too, and makes `made`. Or a fault stands in the bytes with this one.
 abbrev pub Feeds : Message → (List ℕ → List ℕ → Type 0) → (List ℕ → List ℕ → Type 0) → ℕ → List ℕ
     → Result (Unit {0}) FormFault → Type 0
 Feeds m old new byte made answer =
     (bytes text : List ℕ) → Held m old bytes text
     → MatchResult answer (λ _. Held m new (bytes ++ byte ∷ []) (text ++ made)) (IsRefused m (bytes ++ byte ∷ []) text)
 
--- at the end of the message, the reader makes `made`
+-- At the end of the message, the reader makes `made`.
 abbrev pub Ends : Message → (List ℕ → List ℕ → Type 0) → List ℕ → Result (Unit {0}) FormFault → Type 0
 Ends m old made answer = (bytes text : List ℕ) → Held m old bytes text → Closes m bytes (text ++ made) answer
 
@@ -45,7 +45,7 @@ stops_at_device _ = false
 
 -- ---- bytes, one after another
 
--- `text` is a proper prefix of what was due after some prefix of `bytes`
+-- `text` is a proper prefix of what was due after some prefix of `bytes`.
 pub record IsFrontOf (m : Message) (bytes text : List ℕ) : Type 0 where
   pub front : List ℕ
   pub due : List ℕ
@@ -53,13 +53,13 @@ pub record IsFrontOf (m : Message) (bytes text : List ℕ) : Type 0 where
   pub open_yet : IsOpen m front due
   pub of_due : FallsShort due text
 
--- the reader has read `bytes`, or they have a fault, or the sink failed
+-- The reader has read `bytes`, or a fault stands in them, or the sink failed.
 abbrev pub FedTo : Message → (List ℕ → List ℕ → Type 0) → List ℕ → List ℕ → Result (Unit {0}) Stop → Type 0
 FedTo m new bytes text (Ok _) = Held m new bytes text
 FedTo m new bytes text (Err (Refused fault)) = IsRefused m bytes text fault
 FedTo m new bytes text (Err Device) = IsFrontOf m bytes text
 
--- the reader was fed more bytes, and what it made of them was written
+-- The reader read more bytes, and what it made of them was written.
 pub record IsFed (m : Message) (new : List ℕ → List ℕ → Type 0) (bytes text : List ℕ) (sink : Port)
     (answer : Result (Unit {0}) Stop) : Type 0 where
   pub made : List ℕ
@@ -73,7 +73,7 @@ FeedsAll m old new more sink answer =
 
 -- ---- the end
 
--- all of the text was written, or only a prefix of it if the sink failed
+-- The whole text was written. If the sink failed, only a prefix of it was.
 abbrev pub EndsIn : Message → List ℕ → List ℕ → Result (Unit {0}) Stop → Type 0
 EndsIn m bytes text (Ok _) = Closes m bytes text (Ok tt)
 EndsIn m bytes text (Err (Refused fault)) = Closes m bytes text (Err fault)
@@ -102,7 +102,7 @@ pub record ClosesAs (m : Message) (old : List ℕ → List ℕ → Type 0) (sink
 
 -- ---- a read
 
--- why a read stops: the source failed, or the feeding of its bytes stopped
+-- Why a read stops: the source failed, or reading its bytes stopped.
 pub data IsStopped (m : Message) (new : List ℕ → List ℕ → Type 0) (source sink : Port) (read text : List ℕ)
     (stop : Stop) : Type 0 where
   AtSource : IsOpen m read text → FailsAlone source sink → stop ≡ Device → IsStopped m new source sink read text stop
@@ -110,7 +110,8 @@ pub data IsStopped (m : Message) (new : List ℕ → List ℕ → Type 0) (sourc
       → sink.has_failed ≡ (sink.had_failed || stops_at_device {T = Unit {0}} (Err stop))
       → IsStopped m new source sink read text stop
 
--- `count` bytes were read and fed, and `count` is 0 only at the source's end; or the read stopped
+-- `count` bytes were taken from the source and read, and `count` is 0 only at the source's end. Or the read
+-- stopped.
 abbrev pub ReadTo : Message → (List ℕ → List ℕ → Type 0) → Port → Port → List ℕ → List ℕ → List ℕ → Result ℕ Stop
     → Type 0
 ReadTo m new source sink bytes more text (Ok count) =
@@ -135,12 +136,12 @@ ReadsNext m old new room source sink answer =
 
 -- ---- a whole message
 
--- what the message becomes was written, or the message has a fault, or the sink failed
+-- The text that the message becomes was written, or the message has a fault, or the sink failed.
 abbrev pub WritesWhole : Message → List ℕ → Port → Result (Unit {0}) Stop → Type 0
 WritesWhole m bytes sink (Ok _) = (text : List ℕ) × m.becomes bytes text × Appends sink.had sink.has text
 WritesWhole m bytes sink (Err (Refused fault)) = m.refused bytes fault
 WritesWhole m bytes sink (Err Device) = Unit {0}
 
--- the message becomes a text
+-- The message becomes a text.
 abbrev pub HasText : Message → List ℕ → Type 0
 HasText m bytes = (text : List ℕ) × m.becomes bytes text

@@ -1,4 +1,4 @@
--- Messages that are read as they come: the answer, and what was written by then.
+-- A kind of message, by its bytes: its faults, what it becomes, and what is written.
 use Rattle.std.specs.Prelude.{◌≡◌, ◌≢◌, ℕ, ◌≤◌, Bool, true, false, List, [], ◌∷◌, ◌++◌, length, Option, None, Some}
 use Rattle.std.specs.Prelude.{Result, Ok, Err, MatchResult}
 use Rattle.std.specs.Io.{StartsWith}
@@ -10,50 +10,52 @@ use Rattle.kd_form.specs.declared.fault.FormFault.{FormFault}
 use Rattle.kd_form.specs.declared.fault.FormFault.TheVariants.{NotReady, Device, NotOnKey, ReadTooLong}
 use Rattle.kd_form.specs.OnTheKey.{IsOnKey, IsKeyFault}
 
--- A kind of message, by its bytes: the fault that stands whatever follows; the fault of the whole message; what
--- the message becomes; and what is written before this fault, or, without one, before more bytes are read.
+-- A kind of message, by its bytes: which fault stands; which fault the whole message has; what the message
+-- becomes; and what is written before a fault, or, without one, before more bytes are read.
 pub record Message : Type 1 where
   pub stands : List ℕ → FormFault → Type 0
   pub refused : List ℕ → FormFault → Type 0
   pub becomes : List ℕ → List ℕ → Type 0
   pub before : Option FormFault → List ℕ → List ℕ → Type 0
 
--- no fault stands in the bytes, and `text` is written by then
+-- No fault stands in the bytes, and `text` is written by then.
 pub record IsOpen (m : Message) (bytes text : List ℕ) : Type 0 where
   pub unrefused : (fault : FormFault) → ¬ (m.stands bytes fault)
   pub written : m.before None bytes text
 
--- the bytes have this fault whatever follows, and `text` is written before it
+-- The bytes have this fault whatever bytes follow, and `text` is written before it.
 pub record IsRefused (m : Message) (bytes text : List ℕ) (fault : FormFault) : Type 0 where
   pub stands : (more : List ℕ) → m.stands (bytes ++ more) fault
   pub refused : (more : List ℕ) → m.refused (bytes ++ more) fault
   pub written : (more : List ℕ) → m.before (Some fault) (bytes ++ more) text
 
--- the bytes are the whole message: it becomes `text`, or has a fault before which `text` is written
+-- The bytes are the whole message. It becomes `text`, or it has a fault, before which `text` is written.
 abbrev pub Closes : Message → List ℕ → List ℕ → Result (Unit {0}) FormFault → Type 0
 Closes m bytes text answer =
     MatchResult answer (λ _. m.becomes bytes text) (λ fault. m.refused bytes fault × m.before (Some fault) bytes text)
 
--- ---- the answer
+-- ---- What a call answers, reads and writes for a message.
+-- Code: chunk by chunk; orders and forms byte by byte.
+-- Test: orders_are_sent, forms_are_received
 
--- What has to be written: once a prefix of `read` has come, or at the end of the source.
+-- `text` has to be written: once a prefix of `read` has come, or at the end of the source.
 pub data IsDue (m : Message) (source : Port) (read text : List ℕ) : Type 0 where
   ByThen : (front : List ℕ) → StartsWith read front → IsOpen m front text → IsDue m source read text
   ByTheEnd : (answer : Result (Unit {0}) FormFault) → IsAtEnd source.has → Closes m read text answer
       → IsDue m source read text
 
--- neither port failed in the call
+-- Neither port failed in the call.
 abbrev pub AreWell : Port → Port → Type 0
 AreWell source sink = IsWell source × IsWell sink
 
--- `text` is a proper prefix of `due`
+-- `text` is a proper prefix of `due`.
 pub record FallsShort (due text : List ℕ) : Type 0 where
   pub missing : List ℕ
   pub some : missing ≢ []
   pub joined : due ≡ text ++ missing
 
 -- What was read, up to the limit, and what was written, by the answer. `Whole`: the message is complete.
--- `Stands`: a fault stands, whatever follows. `AtEnd`: no fault stands, but the whole message has one.
+-- `Stands`: a fault stands, whatever bytes follow. `AtEnd`: no fault stands, but the whole message has one.
 -- `TooLong`: one byte more than the limit came. `SourceFails`: all that was due by then is written.
 -- `SinkFails`: less than what was due is written.
 pub data Answers (m : Message) (source sink : Port) (read text : List ℕ)
@@ -74,7 +76,7 @@ pub data Answers (m : Message) (source sink : Port) (read text : List ℕ)
       → FailsAlone sink source
       → answer ≡ Err Device → Answers m source sink read text answer
 
--- `Answers`, of the bytes that the call took from the source and put into the sink.
+-- The call took `read` from the source and put `text` into the sink, and they satisfy `Answers`.
 pub record IsStreamed (m : Message) (source sink : Port) (answer : Result (Unit {0}) FormFault) : Type 0 where
   pub read : List ℕ
   pub text : List ℕ
@@ -87,7 +89,8 @@ abbrev pub is_device : Result (Unit {0}) FormFault → Bool
 is_device (Err Device) = true
 is_device _ = false
 
--- ---- on the key
+-- ---- What a call does only for a machine on the day's key.
+-- Test: orders_are_sent, forms_are_received
 
 -- whether the answer is that the machine isn't ready, or isn't on the key
 abbrev pub is_off_key : Result (Unit {0}) FormFault → Bool
@@ -95,7 +98,7 @@ is_off_key (Err NotReady) = true
 is_off_key (Err NotOnKey) = true
 is_off_key _ = false
 
--- the port is as it was, and didn't fail
+-- The port is as it was, and didn't fail.
 pub record IsLeft (p : Port) : Type 0 where
   pub has : p.has ≡ p.had
   pub well : IsWell p
@@ -108,6 +111,6 @@ pub data StreamsUnless (is_fault : FormFault → Type 0) (may : Type 0) (message
       → StreamsUnless is_fault may message source sink answer
   On : may → IsStreamed message source sink answer → StreamsUnless is_fault may message source sink answer
 
--- `StreamsUnless`, where the fault is that the machine isn't ready or isn't on the key
+-- `StreamsUnless`, for the fault that the machine isn't ready or isn't on the key.
 abbrev pub StreamsOnKey : Parts → Day → Message → Port → Port → Result (Unit {0}) FormFault → Type 0
 StreamsOnKey m s message source sink answer = StreamsUnless (IsKeyFault m s) (IsOnKey m s) message source sink answer

@@ -1,4 +1,7 @@
--- A text that is typed, as a kind of message: it becomes the ciphertext of its letters, then LF.
+-- A text that is typed, as a kind of message: it becomes the ciphertext of its letters, and LF.
+-- Code: a key press for each letter, in chunks of at most 4,096 bytes.
+-- Test: types_to_the_first_byte_that_is_not_allowed, stops_at_a_failed_read, stops_where_the_sink_fails,
+-- reads_to_the_limit
 use Rattle.std.specs.Prelude.{◌≡◌, ℕ, ◌+◌, ◌<◌, ◌≤◌, List, [], ◌∷◌, ◌++◌, length, take, slice_index, All, IsTrue}
 use Rattle.std.specs.Prelude.{IsFalse, None, Result}
 use Rattle.kd_tables.specs.Text.{is_text_byte, letters_text}
@@ -16,11 +19,11 @@ use Rattle.kd_form.specs.Streams.{Message, StreamsUnless}
 abbrev pub typed_letters : List ℕ → List ℕ
 typed_letters bytes = letters_from None bytes
 
--- the ciphertext of these letters, in capital letters
+-- the ciphertext of the letters in the bytes, in capital letters
 abbrev pub cipher_text : (List ℕ → List ℕ) → List ℕ → List ℕ
 cipher_text enciphers bytes = letters_text (enciphers (typed_letters bytes))
 
--- `BadByte` with the position of the first byte that isn't allowed, counted from 1
+-- The fault is `BadByte`, with the position of the first byte that isn't allowed, counted from 1.
 abbrev pub IsTextFault : List ℕ → FormFault → Type 0
 IsTextFault bytes fault = (place : ℕ) × IsBadAt bytes place × (fault ≡ BadByte (place + 1))
 
@@ -33,26 +36,27 @@ texts enciphers = record {
   before = λ reason bytes text. (front : List ℕ) × IsAllowedFront bytes front × (text ≡ cipher_text enciphers front);
 }
 
--- a machine that isn't ready is refused; on one that is, the text is typed
+-- A machine that isn't ready is refused. On a ready machine, the text is typed.
 abbrev pub TypesIfReady : Parts → Port → Port → Result (Unit {0}) FormFault → Type 0
 TypesIfReady m source sink answer =
     StreamsUnless (λ fault. ¬ (IsReady m) × (fault ≡ NotReady)) (IsReady m)
     (texts (physical_cipher m)) source sink answer
 
--- ---- what the code holds; no public contract cites it
+-- ---- What the code holds. No public contract cites these definitions.
 
 -- `lamps` is the ciphertext of the letters in `bytes`, and `left` is the key after as many steps.
 pub record Lights (key left : EngineKey) (bytes lamps : List ℕ) : Type 0 where
   pub cipher : lamps ≡ cipher_text (cipher key) bytes
   pub after : left ≡ key_left key (length (typed_letters bytes))
 
--- the first `front` bytes are allowed, and the next one, if there is one, isn't
+-- The first `front` bytes are allowed, and the next one, if there is one, isn't.
 pub record IsAllowedTo (bytes : List ℕ) (front : ℕ) : Type 0 where
   pub within : front ≤ length bytes
   pub allowed : All (λ b. IsTrue (is_text_byte b)) (take front bytes)
   pub next : front < length bytes → IsFalse (is_text_byte (slice_index bytes front))
 
--- all of `bytes` are allowed and were typed, and what follows is enciphered from there on
+-- All of `bytes` are allowed and were typed. `text` is their ciphertext, and the engine enciphers the bytes
+-- after them.
 pub record IsTypedTo (m : Parts) (t : Typist) (bytes text : List ℕ) : Type 0 where
   pub counted : t.read ≡ length bytes
   pub allowed : All (λ b. IsTrue (is_text_byte b)) bytes

@@ -1,27 +1,30 @@
 -- One pin wheel: the letter that it shows, and the pin that acts. Places are counted from 0, in the wheel's own
 -- order.
+-- Source: War Department TM 11-380
+-- Code: keeps the place of the acting pin; the shown letter is counted from it.
+-- Test: the_acting_pin_is_counted_in_the_wheels_own_order
 use Rattle.std.specs.Prelude.{◌≡◌, ℕ, ◌+◌, ◌-◌, ◌%◌, ◌<◌, Bool, false, List, slice_index, slice_index_or, unwrap_or}
 use Rattle.kd_tables.specs.Rings.{IsRing, place_on}
 
--- A wheel as contracts see it: its letters in order, how many places past the letter shown the acting pin is,
--- which pins are effective, and the place of the letter shown.
+-- A wheel as contracts see it: its letters in order; how many places the acting pin is past the shown letter;
+-- which pins are effective; and the place of the shown letter.
 pub record TurnedWheel : Type 0 where
   pub ring : List ℕ
   pub offset : ℕ
   pub pins : List Bool
   pub place : ℕ
 
--- A wheel with `size` places.
+-- The wheel has `size` places.
 pub record IsWheel (size : ℕ) (wheel : TurnedWheel) : Type 0 where
   pub ring : IsRing size wheel.ring
   pub offset : wheel.offset < size
   pub place : wheel.place < size
 
--- the place `by` places after `place`, with 0 after the last one
+-- the place `by` places after `place`, counted around the wheel
 abbrev pub place_past : ℕ → ℕ → ℕ → ℕ
 place_past size place by = (place + by) % size
 
--- whether the pin at the place is effective
+-- whether the pin at `place` is effective
 abbrev pub is_effective : List Bool → ℕ → Bool
 is_effective pins place = slice_index_or pins place false
 
@@ -37,17 +40,17 @@ pin_acting size wheel = is_effective wheel.pins (place_past size wheel.place whe
 abbrev pub turned_to : TurnedWheel → ℕ → TurnedWheel
 turned_to wheel place = record wheel { place = place }
 
--- the wheel turned so that it shows `letter`; unchanged if the letter isn't on it
+-- the wheel turned so that it shows `letter`; unchanged if the wheel lacks the letter
 abbrev pub with_shown : TurnedWheel → ℕ → TurnedWheel
 with_shown wheel letter = turned_to wheel (unwrap_or (place_on wheel.ring letter) wheel.place)
 
--- ---- what the code keeps; no contract of a public function cites these definitions
+-- ---- What the code keeps. No public contract cites these definitions.
 
--- the place of the letter shown while the pin at `acting` acts: the rest of the way round past it
+-- the place of the shown letter, `offset` places before the acting pin at `acting`
 abbrev pub place_shown : ℕ → ℕ → ℕ → ℕ
 place_shown size acting offset = place_past size acting (size - offset)
 
--- The pin at `acting` acts, which is `offset` places past the letter shown.
+-- The acting pin is at `acting`, `offset` places past the shown letter.
 pub record ActsAt (size acting offset : ℕ) : Type 0 where
   pub inside : offset < size
   pub there : acting < size

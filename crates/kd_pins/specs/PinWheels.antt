@@ -1,4 +1,6 @@
--- The six pin wheels of the Converter M-209, with numbers from 1 to 6 (War Department TM 11-380).
+-- The six pin wheels of the Converter M-209, numbered from 1 to 6.
+-- Source: War Department TM 11-380
+-- Test: bars_are_met
 use Rattle.std.specs.Prelude.{ℕ, ◌-◌, Bool, List, [], ◌∷◌, length, slice_index, slice_index_or}
 use Rattle.std.specs.List.{range_with_len}
 use Rattle.kd_tables.specs.Rings.{ring_of}
@@ -8,11 +10,11 @@ use Rattle.kd_pins.specs.declared.pin_set.PinSet.{PinSet}
 abbrev pub pin_wheels : List ℕ
 pin_wheels = range_with_len 1 6
 
--- how many places past the letter shown the acting pin of a wheel is
+-- how many places a wheel's acting pin is past the shown letter
 abbrev pub offset_of : ℕ → ℕ
 offset_of wheel = slice_index (15 ∷ 14 ∷ 13 ∷ 12 ∷ 11 ∷ 10 ∷ []) (wheel - 1)
 
--- the number of letters of a wheel, which is also its number of pins
+-- how many letters a wheel has, and as many pins
 abbrev pub size_of : ℕ → ℕ
 size_of wheel = length (ring_of wheel)
 

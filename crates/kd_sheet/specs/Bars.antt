@@ -1,4 +1,5 @@
--- The standings of the drum's bars in a machine file, and the readings that a key sheet asks for.
+-- The standings of bars in a machine file, and the readings of bars in a key sheet.
+-- Test: kd_trials/src/sheet/files.rt
 use Rattle.std.specs.Prelude.{ℕ, ◌+◌, ◌-◌, ◌==◌, ◌&&◌, ◌||◌, nat_le, Bool, not, List, [], ◌∷◌, length, Option, Some}
 use Rattle.std.specs.Prelude.{None, Result, ok_or, if◌then◌else◌}
 use Rattle.std.specs.Option.{option_and_then}
@@ -11,33 +12,35 @@ use Rattle.kd_sheet.specs.declared.key.Key.TheVariants as keys
 use Rattle.kd_sheet.specs.declared.fault.SheetFault.{SheetFault}
 use Rattle.kd_sheet.specs.declared.fault.SheetFault.TheVariants.{BadRow}
 
--- the standing that an item names, for the bar after the bars `earlier`; a fault counts the bars from 1
+-- The standing that an item names, for the bar after the bars of `earlier`. A fault has the bar's number,
+-- counted from 1.
 abbrev pub standing_for : List (Place × Place) → Data → Result (Place × Place) SheetFault
 standing_for earlier item = ok_or (option_and_then standing_by_text (as_str item)) (BadRow (length earlier + 1))
 
--- the standings of the 27 bars, an item for each
+-- the standings of the 27 bars, from an item for each
 unfoldable pub bars_in : Members → Result (List (Place × Place)) SheetFault
 bars_in table = each_at keys.Bars 27 standing_for table
 
--- the byte is a digit from 0 to 6
+-- whether the byte is a digit from 0 to 6
 abbrev pub is_figure : ℕ → Bool
 is_figure byte = nat_le 48 byte && nat_le byte 54
 
--- a bar can read as these two digits: they differ, or both are 0
+-- whether a bar can read as these two digits: they differ, or both are 0
 abbrev pub may_read : ℕ → ℕ → Bool
 may_read one other = not (one == other) || one == 48
 
--- the numbers of a text of two digits with `-` between them, in either order
+-- the reading that a text gives: two digits with `-` between them, in either order
 unfoldable pub row_of_text : List ℕ → Option (ℕ × ℕ)
 row_of_text (one ∷ dash ∷ other ∷ []) =
     if ((is_figure one && dash == 45) && is_figure other) && may_read one other
     then Some (in_order (one - 48) (other - 48)) else None
 row_of_text _ = None
 
--- the reading that an item says, for the row after the rows `earlier`; a fault counts the rows from 1
+-- The reading that an item gives, for the row after the rows of `earlier`. A fault has the row's number,
+-- counted from 1.
 abbrev pub row_for : List (ℕ × ℕ) → Data → Result (ℕ × ℕ) SheetFault
 row_for earlier item = ok_or (option_and_then row_of_text (as_str item)) (BadRow (length earlier + 1))
 
--- the readings of the 27 rows, an item for each
+-- the readings of the 27 rows, from an item for each
 unfoldable pub rows_in : Members → Result (List (ℕ × ℕ)) SheetFault
 rows_in table = each_at keys.Rows 27 row_for table

@@ -1,4 +1,5 @@
 -- The cables of a machine file, and the pairs of a key sheet, item by item.
+-- Test: kd_trials/src/sheet/files.rt
 use Rattle.std.specs.Prelude.{ℕ, ◌-◌, ◌&&◌, nat_le, List, [], ◌∷◌, ◌++◌, length, replicate, slice_get, slice_index}
 use Rattle.std.specs.Prelude.{Option, Some, None, Result, Ok, ok_or, if◌then◌else◌}
 use Rattle.std.specs.List.{list_all, flat_map}
@@ -15,7 +16,7 @@ use Rattle.kd_sheet.specs.declared.key.Key.TheVariants as keys
 use Rattle.kd_sheet.specs.declared.fault.SheetFault.{SheetFault}
 use Rattle.kd_sheet.specs.declared.fault.SheetFault.TheVariants.{BadValue, LetterTwice}
 
--- the letters of a text of at most two capital letters
+-- the letters of a text, if it has at most two bytes and all are capital letters
 unfoldable pub letters_in_cable : List ℕ → Option (List ℕ)
 letters_in_cable text = if nat_le (length text) 2 && list_all is_capital text then Some (letters_of text) else None
 
@@ -23,18 +24,18 @@ letters_in_cable text = if nat_le (length text) 2 && list_all is_capital text th
 abbrev pub cable_of : List ℕ → Option ℕ × Option ℕ
 cable_of letters = (slice_get letters 0, slice_get letters 1)
 
--- the cable that an item describes: its letters differ, and lie in no cable before it
+-- The cable that an item describes, or a fault: its letters have to differ, and none may be in `cables`.
 unfoldable pub cable_for : List (Option ℕ × Option ℕ) → Data → Result (Option ℕ × Option ℕ) SheetFault
 cable_for cables item = do
   letters ← ok_or (option_and_then letters_in_cable (as_str item)) (BadValue keys.Cables)
   demand (are_new letters (plugged_letters cables)) LetterTwice
   Ok (cable_of letters)
 
--- `cables`, filled up with empty ones to 13
+-- `cables`, and then empty cables up to 13
 abbrev pub thirteen : List (Option ℕ × Option ℕ) → List (Option ℕ × Option ℕ)
 thirteen cables = cables ++ replicate (13 - length cables) (None, None)
 
--- the machine's cables; without the key, all are empty
+-- the cables of a machine file; all are empty if the key is missing
 unfoldable pub cables_in : Members → Result (List (Option ℕ × Option ℕ)) SheetFault
 cables_in table = do
   cables ← option_map_or (up_to keys.Cables 13 cable_for) (get_member (key_name keys.Cables) table) (Ok [])
@@ -44,13 +45,13 @@ cables_in table = do
 abbrev pub pair_letters : ℕ × ℕ → List ℕ
 pair_letters pair = pair.0 ∷ pair.1 ∷ []
 
--- the pair that an item describes: its letters differ, and lie in no pair before it
+-- The pair that an item describes, or a fault: its letters have to differ, and none may be in `pairs`.
 unfoldable pub pair_for : List (ℕ × ℕ) → Data → Result (ℕ × ℕ) SheetFault
 pair_for pairs item = do
   letters ← ok_or (option_and_then (capital_letters 2) (as_str item)) (BadValue keys.Plugs)
   demand (are_new letters (flat_map pair_letters pairs)) LetterTwice
   Ok (slice_index letters 0, slice_index letters 1)
 
--- the day's pairs
+-- the pairs of a day
 unfoldable pub pairs_in : Members → Result (List (ℕ × ℕ)) SheetFault
 pairs_in table = value_at keys.Plugs table >>= up_to keys.Plugs 13 pair_for

@@ -1,4 +1,7 @@
--- The table of a document, and the values in it. A reading is either `Ok` and a value, or the first fault.
+-- How a document is read: its table, and the values in it. A reading gives a value or the first fault.
+-- Source: TOML 1.1, toml.io
+-- Code: the reader of the library `toml`, and `?`.
+-- Test: kd_trials/src/sheet/files.rt, kd_trials/src/sheet/faults.rt
 use Rattle.std.specs.Prelude.{◌≡◌, ◌==◌, ℕ, nat_le, Bool, List, [], ◌∷◌, length, Result, Ok, Err, ok_or, option_map, ⊤}
 use Rattle.std.specs.Prelude.{if◌then◌else◌}
 use Rattle.std.specs.Result.{result_map_both}
@@ -21,7 +24,7 @@ infixl 10 ◌>>◌
 abbrev pub ◌>>◌ : {B : Type 0} → Result (Unit {0}) SheetFault → Result B SheetFault → Result B SheetFault
 test >> reading = test >>= (λ _. reading)
 
--- the values of the items in order, each read after the values before it, or the first fault
+-- The values of the items, in order, or the first fault. Each item is read with the values before it.
 abbrev pub in_turn : {A : Type 0} → (List A → Data → Result A SheetFault) → List Data → Result (List A) SheetFault
 in_turn reading [] = Ok []
 in_turn reading (first ∷ rest) = do
@@ -34,11 +37,11 @@ abbrev pub Answers : {A : Type 0} → Result A SheetFault → Result A SheetFaul
 Answers (Err NoMemory) meant = ⊤
 Answers answer meant = answer ≡ meant
 
--- the answer with `view` of its value
+-- `answer`, with `view` applied to its value
 abbrev pub result_map : {A B : Type 0} → (A → B) → Result A SheetFault → Result B SheetFault
 result_map view answer = result_map_both view (λ fault. fault) answer
 
--- Ok if the test passes, else the fault
+-- `Ok` if the test passes, else the fault
 abbrev pub demand : Bool → SheetFault → Result (Unit {0}) SheetFault
 demand test fault = if test then Ok tt else Err fault
 
@@ -50,7 +53,7 @@ document_of bytes = if is_utf8 bytes then ok_or (parse_document bytes) NotToml e
 abbrev pub value_at : Key → Members → Result Data SheetFault
 value_at key table = ok_or (get_member (key_name key) table) (Missing key)
 
--- the text at `key`
+-- the text at `key`, or its fault
 abbrev pub text_at : Key → Members → Result (List ℕ) SheetFault
 text_at key table = value_at key table >>= (λ value. ok_or (as_str value) (BadValue key))
 
@@ -59,7 +62,7 @@ abbrev pub list_of : Items → List Data
 list_of no_items = []
 list_of (item first rest) = first ∷ list_of rest
 
--- the items of `value`, which has to be an array
+-- the items of `value`, or `BadValue` if it isn't an array
 abbrev pub items_in : Key → Data → Result (List Data) SheetFault
 items_in key value = ok_or (option_map list_of (as_array value)) (BadValue key)
 
@@ -67,7 +70,7 @@ items_in key value = ok_or (option_map list_of (as_array value)) (BadValue key)
 abbrev pub items_at : Key → Members → Result (List Data) SheetFault
 items_at key table = value_at key table >>= items_in key
 
--- the values of the items at `key`, where there have to be exactly `count` of them
+-- the values of the array at `key`, which has to have exactly `count` items
 abbrev pub each_at : {A : Type 0} → Key → ℕ → (List A → Data → Result A SheetFault) → Members
     → Result (List A) SheetFault
 each_at key count reading table = do
@@ -75,7 +78,7 @@ each_at key count reading table = do
   demand (length items == count) (BadValue key)
   in_turn reading items
 
--- the values of the items of an array, where there may be at most `count` of them
+-- the values of an array, which may have at most `count` items
 abbrev pub up_to : {A : Type 0} → Key → ℕ → (List A → Data → Result A SheetFault) → Data → Result (List A) SheetFault
 up_to key count reading value = do
   items ← items_in key value

@@ -1,4 +1,4 @@
--- What the laws say of machine files, key sheets and their days.
+-- The laws of machine files and key sheets: what is written is read back, and each legal day has an entry.
 use Rattle.std.specs.Prelude.{◌≡◌, ◌↔◌, ℕ, List, [], Contains, Option, Some, Ok}
 use Rattle.toml.specs.Data as toml
 use Rattle.toml.specs.Data.{Data, Members}
@@ -12,19 +12,19 @@ use Rattle.kd_sheet.specs.Sheet.{day_of}
 use Rattle.kd_sheet.specs.SheetFile.{day_in, sheet_in}
 use Rattle.kd_sheet.specs.declared.key.Key.TheVariants as keys
 
--- the file of legal parts is read as the machine of these parts
+-- The file of legal parts is read back as their machine, with each cable's letters in order.
 abbrev pub LegalPartsAreReadBack : Type 0
 LegalPartsAreReadBack = (m : Parts) → IsLegal m → machine_of (machine_text m) ≡ Ok (cables_ordered m)
 
--- the file of a machine is read as the same machine
+-- The file of a machine is read back as this machine.
 abbrev pub WrittenFilesAreReadBack : Type 0
 WrittenFilesAreReadBack = (m : Parts) → IsMachine m → machine_of (machine_text m) ≡ Ok m
 
--- a day is legal exactly if some entry's table describes it
+-- A day is legal exactly if some entry's table describes it.
 abbrev pub LegalDaysAreDescribed : Type 0
 LegalDaysAreDescribed = (day : Day) → IsLegalDay day ↔ ((entry : Members) × (day_in [] entry ≡ Ok day))
 
--- day `number` of a sheet is the day that the entry with this number describes
+-- Day `number` of a sheet is the day that its entry with this number describes.
 abbrev pub DaysAreTheEntries : Type 0
 DaysAreTheEntries = (table : Members) (items : List Data) (month : List (Option Day)) (number : ℕ) (day : Day)
     → items_at keys.Day table ≡ Ok items → sheet_in table ≡ Ok month

@@ -1,4 +1,5 @@
--- What a machine file says, key by key, in the order in which a reader tests the keys.
+-- The machine that a machine file describes, key by key in the order of testing, or the file's first fault.
+-- Test: kd_trials/src/sheet/files.rt, kd_trials/src/sheet/faults.rt
 use Rattle.std.specs.Prelude.{ℕ, ◌==◌, Bool, true, List, length, Result, Ok, ok_or}
 use Rattle.toml.specs.Data.{Members}
 use Rattle.kd_tables.specs.Tables.{box_of}
@@ -22,19 +23,19 @@ use Rattle.kd_sheet.specs.declared.key.Key.TheVariants as keys
 use Rattle.kd_sheet.specs.declared.fault.SheetFault.{SheetFault}
 use Rattle.kd_sheet.specs.declared.fault.SheetFault.TheVariants.{UnknownModel, BadValue}
 
--- the version of the file, 1 or 2
+-- the version of a file, 1 or 2
 unfoldable pub version_in : Members → Result ℕ SheetFault
 version_in table = do
   value ← value_at keys.Version table
   ok_or (number_to 2 value) (BadValue keys.Version)
 
--- the model by its name
+-- the model with the name that a file gives
 unfoldable pub model_in : Members → Result Model SheetFault
 model_in table = do
   name ← text_at keys.Model table
   ok_or (model_by_name name) UnknownModel
 
--- a file of `version` may be of `model`: the M4 needs version 2
+-- whether a file of `version` may describe a `model`: an M4 needs version 2
 abbrev pub knows : ℕ → Model → Bool
 knows version M4 = version == 2
 knows version _ = true
@@ -46,13 +47,13 @@ known_model_in version table = do
   demand (knows version model) UnknownModel
   Ok model
 
--- the reflector by its name, if it is one of the model's
+-- the reflector with the name that a file gives, if it is one of the model's
 unfoldable pub reflector_in : Model → Members → Result Reflector SheetFault
 reflector_in model table = do
   name ← text_at keys.Reflector table
   ok_or (reflector_by_name model name) (BadValue keys.Reflector)
 
--- the parts of a rotor machine; rings and letters are for each wheel of the box, in box order
+-- The parts of a rotor machine. It has a ring and a letter for each wheel of the box, in box order.
 unfoldable pub rotor_parts_in : Model → Members → Result RotorParts SheetFault
 rotor_parts_in model table = do
   reflector ← reflector_in model table

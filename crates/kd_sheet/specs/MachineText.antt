@@ -1,4 +1,5 @@
--- The text of a machine file.
+-- The text of a machine file, line by line.
+-- Test: kd_trials/src/sheet/files.rt
 use Rattle.std.specs.Prelude.{codes, ℕ, ◌+◌, Bool, List, [], ◌∷◌, ◌++◌, map, zip, Option, if◌then◌else◌}
 use Rattle.std.specs.List.{concat, flat_map, join_by}
 use Rattle.std.specs.Option.{option_map_or}
@@ -27,16 +28,16 @@ quoted text = codes "\"" ++ text ++ codes "\""
 abbrev pub listed : List (List ℕ) → List ℕ
 listed texts = codes "[" ++ join_by quoted (codes ", ") texts ++ codes "]"
 
--- a line: a key and its value
+-- the line of a key and its value
 abbrev pub key_line : Key → List ℕ → List ℕ
 key_line key value = key_name key ++ codes " = " ++ value ++ codes "\n"
 
--- the version in which a file of `model` is written
+-- the version of a file that is written for `model`
 abbrev pub version_of : Model → ℕ
 version_of M4 = 2
 version_of _ = 1
 
--- the name of the wheel in a slot; the empty text if the slot is empty
+-- the name of the wheel in a slot, or the empty text if the slot is empty
 abbrev pub seat_text : Option Wheel → List ℕ
 seat_text seat = option_map_or wheel_text seat []
 
@@ -44,7 +45,7 @@ seat_text seat = option_map_or wheel_text seat []
 abbrev pub cable_text : Option ℕ × Option ℕ → List ℕ
 cable_text cable = letters_text (cable_letters cable)
 
--- the letter of a pin if it is effective, else nothing
+-- the letter of an effective pin; nothing for another pin
 abbrev pub pin_text : ℕ → Bool → List ℕ
 pin_text letter effective = if effective then (letter + 65) ∷ [] else []
 
@@ -58,11 +59,12 @@ pin_texts pins =
     pins_text (ring_of 1) pins.w1 ∷ pins_text (ring_of 2) pins.w2 ∷ pins_text (ring_of 3) pins.w3
     ∷ pins_text (ring_of 4) pins.w4 ∷ pins_text (ring_of 5) pins.w5 ∷ pins_text (ring_of 6) pins.w6 ∷ []
 
--- the first two lines: the version and the model
+-- the first two lines of a file: the version and the model
 abbrev pub head_lines : Model → List (List ℕ)
 head_lines model =
     key_line keys.Version (figure (version_of model)) ∷ key_line keys.Model (quoted (model_text model)) ∷ []
 
+-- the other lines of a rotor machine's file
 abbrev pub rotor_lines : RotorParts → List (List ℕ)
 rotor_lines m =
     key_line keys.Reflector (quoted (reflector_text m.reflector))
@@ -72,6 +74,7 @@ rotor_lines m =
     ∷ key_line keys.Cables (listed (map cable_text m.cables))
     ∷ []
 
+-- the other lines of a Converter's file
 abbrev pub pin_lines : PinParts → List (List ℕ)
 pin_lines m =
     key_line keys.Letters (quoted (letters_text m.letters))
@@ -79,7 +82,7 @@ pin_lines m =
     ∷ key_line keys.Bars (listed (map standing_text m.bars))
     ∷ []
 
--- the file of a machine
+-- the text of a machine's file
 unfoldable pub machine_text : Parts → List ℕ
 machine_text (Rotor m) = concat (head_lines m.model ++ rotor_lines m)
 machine_text (Pin m) = concat (head_lines M209 ++ pin_lines m)

@@ -1,4 +1,5 @@
--- Finding models, reflectors, wheels and standings by their names.
+-- Models, reflectors, wheels and standings, found by their names.
+-- Test: kd_trials/src/sheet/files.rt
 use Rattle.std.specs.Prelude.{ℕ, List, [], ◌∷◌, find, bytes_eq, Option}
 use Rattle.kd_tables.specs.Tables.{model_text, reflector_text, wheel_text, reflectors_of}
 use Rattle.kd_tables.specs.Places.{standings, standing_text}

@@ -1,19 +1,21 @@
 -- Whole numbers in files.
+-- Source: ring settings 01 to 26
+-- Test: kd_trials/src/sheet/files.rt
 use Rattle.std.specs.Prelude.{ℕ, ◌&&◌, ◌-◌, ◌==◌, nat_le, pos, List, length, Option, Some, None, is_some, if◌then◌else◌}
 use Rattle.std.specs.List.{list_all, filter_map}
 use Rattle.std.specs.Option.{option_map}
 use Rattle.toml.specs.Data.{Data, integer}
 
--- the value as a whole number from 1 to `last`
+-- the value, if it is a whole number from 1 to `last`
 abbrev pub number_to : ℕ → Data → Option ℕ
 number_to last (integer (pos number)) = if nat_le 1 number && nat_le number last then Some number else None
 number_to last _ = None
 
--- the letter of a number from 1 to 26: 1 is A
+-- the letter with a number from 1 to 26, where 1 is A
 abbrev pub numbered_letter : Data → Option ℕ
 numbered_letter item = option_map (λ number. number - 1) (number_to 26 item)
 
--- the letters of exactly `count` numbers from 1 to 26
+-- the letters of the items, if these are exactly `count` numbers from 1 to 26
 abbrev pub numbered_letters : ℕ → List Data → Option (List ℕ)
 numbered_letters count items =
     if length items == count && list_all (λ item. is_some (numbered_letter item)) items

@@ -1,4 +1,5 @@
 -- The letters that the Converter's six wheels show, and their effective pins.
+-- Test: kd_trials/src/sheet/files.rt
 use Rattle.std.specs.Prelude.{ℕ, ◌+◌, ◌==◌, ◌&&◌, Bool, List, length, map, Option, Some, None, Result, Ok, ok_or}
 use Rattle.std.specs.Prelude.{if◌then◌else◌}
 use Rattle.std.specs.List.{list_all, list_any, enumerate_from, count_by}
@@ -15,11 +16,11 @@ use Rattle.kd_sheet.specs.declared.key.Key.TheVariants as keys
 use Rattle.kd_sheet.specs.declared.fault.SheetFault.{SheetFault}
 use Rattle.kd_sheet.specs.declared.fault.SheetFault.TheVariants.{BadValue}
 
--- each letter is on its wheel, wheel 1 first
+-- whether each letter is on its wheel: the first letter on wheel 1, and so on
 abbrev pub are_on_wheels : List ℕ → Bool
 are_on_wheels letters = list_all (λ numbered. has_letter (ring_of numbered.0) numbered.1) (enumerate_from 1 letters)
 
--- the letters of a text of six capital letters, each on its wheel
+-- the letters of a text, if it is six capital letters, each on its wheel
 unfoldable pub letters_on_wheels : List ℕ → Option (List ℕ)
 letters_on_wheels text =
     option_and_then (λ letters. if are_on_wheels letters then Some letters else None) (capital_letters 6 text)
@@ -30,23 +31,23 @@ shown_in key table = do
   text ← text_at key table
   ok_or (letters_on_wheels text) (BadValue key)
 
--- the byte is a capital letter of the wheel
+-- whether the byte is a capital letter of the wheel
 abbrev pub is_on : List ℕ → ℕ → Bool
 is_on ring byte = list_any (λ letter. letter + 65 == byte) ring
 
--- the byte stands exactly once in the text
+-- whether the text has the byte exactly once
 abbrev pub stands_once : List ℕ → ℕ → Bool
 stands_once text byte = count_by (λ other. other == byte) text == 1
 
--- the text has only letters of the wheel, and none of them twice
+-- whether the text has only letters of the wheel, none of them twice
 abbrev pub is_pin_text : List ℕ → List ℕ → Bool
 is_pin_text ring text = list_all (λ byte. is_on ring byte && stands_once text byte) text
 
--- the text has this letter
+-- whether the text has this letter
 abbrev pub has_capital : List ℕ → ℕ → Bool
 has_capital text letter = list_any (λ byte. byte == letter + 65) text
 
--- the pins of a wheel, in its own order: a pin is effective if the text has its letter
+-- The pins of a wheel, in its own order. A pin is effective if the text has its letter.
 unfoldable pub pins_of_text : List ℕ → List ℕ → Option (List Bool)
 pins_of_text ring text = if is_pin_text ring text then Some (map (has_capital text) ring) else None
 
@@ -54,10 +55,10 @@ pins_of_text ring text = if is_pin_text ring text then Some (map (has_capital te
 unfoldable pub pins_of_item : List ℕ → Data → Result (List Bool) SheetFault
 pins_of_item ring item = ok_or (option_and_then (pins_of_text ring) (as_str item)) (BadValue keys.Pins)
 
--- the pins of the wheel after the wheels `earlier`, from an item
+-- the pins of the wheel after the wheels of `earlier`, from an item
 abbrev pub pins_behind : List (List Bool) → Data → Result (List Bool) SheetFault
 pins_behind earlier item = pins_of_item (ring_of (length earlier + 1)) item
 
--- the pins of the six wheels, an item for each
+-- the pins of the six wheels, from an item for each
 unfoldable pub pins_in : Members → Result PinSet SheetFault
 pins_in table = each_at keys.Pins 6 pins_behind table >>= (λ pins. Ok (pin_set pins))

@@ -1,4 +1,5 @@
--- Which wheel stands in each slot, item by item from the left.
+-- The wheels in the slots of a machine file or a day, item by item from the left.
+-- Test: kd_trials/src/sheet/files.rt
 use Rattle.std.specs.Prelude.{ℕ, ◌+◌, ◌==◌, ◌&&◌, Bool, true, false, not, List, length, Option, Some, None, Result, Ok}
 use Rattle.std.specs.Prelude.{ok_or, if◌then◌else◌}
 use Rattle.std.specs.List.{list_any}
@@ -15,20 +16,21 @@ use Rattle.kd_sheet.specs.declared.key.Key.TheVariants as keys
 use Rattle.kd_sheet.specs.declared.fault.SheetFault.{SheetFault}
 use Rattle.kd_sheet.specs.declared.fault.SheetFault.TheVariants.{BadValue, WheelTwice, WheelNotAllowed}
 
--- a slot may be empty in a machine file, and in no key sheet
+-- whether the slots at this key may be empty: a machine file's may, a key sheet's may not
 abbrev pub may_be_empty : Key → Bool
 may_be_empty keys.Slots = true
 may_be_empty _ = false
 
--- this wheel stands in the slot
+-- whether the slot holds this wheel
 abbrev pub holds : Wheel → Option Wheel → Bool
 holds wheel seat = option_map_or (same_wheel wheel) seat false
 
--- the wheel stands in one of the slots
+-- whether one of the slots holds this wheel
 unfoldable pub is_seated : List (Option Wheel) → Wheel → Bool
 is_seated slots wheel = list_any (holds wheel) slots
 
--- the wheel with this name, if it may stand in the slot to the right of `slots`
+-- The wheel with this name, or a fault. It has to be allowed in the slot right of `slots`, and may be in none
+-- of these.
 unfoldable pub wheel_for : Key → Model → List (Option Wheel) → List ℕ → Result Wheel SheetFault
 wheel_for key model slots name = do
   wheel ← ok_or (wheel_by_name name) (BadValue key)
@@ -36,19 +38,19 @@ wheel_for key model slots name = do
   demand (not (is_seated slots wheel)) WheelTwice
   Ok wheel
 
--- the wheel in the slot to the right of `slots`, by its name; the empty text leaves the slot empty, if `key`
--- allows it
+-- The wheel with this name, for the slot right of `slots`. The empty text leaves the slot empty, if `key`
+-- allows it.
 unfoldable pub seat_for : Key → Model → List (Option Wheel) → List ℕ → Result (Option Wheel) SheetFault
 seat_for key model slots name =
     if may_be_empty key && length name == 0 then Ok None
     else wheel_for key model slots name >>= (λ wheel. Ok (Some wheel))
 
--- the wheel in the slot to the right of `slots`, from an item
+-- the wheel in the slot right of `slots`, from an item
 unfoldable pub seat_of_item : Key → Model → List (Option Wheel) → Data → Result (Option Wheel) SheetFault
 seat_of_item key model slots item = do
   name ← ok_or (as_str item) (BadValue key)
   seat_for key model slots name
 
--- the wheels in the model's slots, an item for each
+-- the wheels in the model's slots, from an item for each
 unfoldable pub seats_in : Key → Model → Members → Result (List (Option Wheel)) SheetFault
 seats_in key model table = each_at key (slots_of model) (seat_of_item key model) table

@@ -1,4 +1,6 @@
--- A key sheet: a month of which some days have an entry.
+-- A key sheet as a month, in which some days have an entry.
+-- Code: each day is put at its number as it is read.
+-- Test: kd_trials/src/sheet/files.rt
 use Rattle.std.specs.Prelude.{◌≡◌, ℕ, ◌==◌, List, length, map, find, Option, Some}
 use Rattle.std.specs.List.{range_with_len}
 use Rattle.std.specs.Option.{option_and_then}
@@ -9,11 +11,11 @@ use Rattle.kd_state.specs.SheetDay.{Day, day_number}
 abbrev pub month_of : List Day → List (Option Day)
 month_of days = map (λ number. find (λ day. day_number day == number) days) (range_with_len 1 31)
 
--- the month's day `number`, counted from 1
+-- day `number` of the month, counted from 1, if it has an entry
 abbrev pub day_of : List (Option Day) → ℕ → Option Day
 day_of month number = option_and_then (λ day. day) (numbered month number)
 
--- the month has 31 places, and each day stands at its own number
+-- The month has 31 places, and each day is at its own number.
 pub record IsMonth (month : List (Option Day)) : Type 0 where
   pub count : length month ≡ 31
   pub each : (number : ℕ) (day : Day) → day_of month number ≡ Some day → day_number day ≡ number

@@ -1,4 +1,5 @@
--- What a key sheet says, day by day and key by key, in the order in which a reader tests the keys.
+-- The days that a key sheet describes, key by key in the order of testing, or the sheet's first fault.
+-- Test: kd_trials/src/sheet/files.rt, kd_trials/src/sheet/faults.rt
 use Rattle.std.specs.Prelude.{ℕ, ◌==◌, not, List, [], ◌∷◌, Option, Some, None, Result, Ok, ok_or}
 use Rattle.std.specs.List.{list_any}
 use Rattle.std.specs.Option.{option_and_then, option_map_or}
@@ -23,26 +24,26 @@ use Rattle.kd_sheet.specs.declared.key.Key.TheVariants as keys
 use Rattle.kd_sheet.specs.declared.fault.SheetFault.{SheetFault}
 use Rattle.kd_sheet.specs.declared.fault.SheetFault.TheVariants.{BadValue, DayTwice}
 
--- the day's number, from 1 to 31
+-- the number of a day, from 1 to 31
 unfoldable pub number_in : Members → Result ℕ SheetFault
 number_in table = do
   value ← value_at keys.Day table
   ok_or (number_to 31 value) (BadValue keys.Day)
 
--- the day's number, which none of `days` has
+-- the number of a day, if none of `days` has it
 unfoldable pub new_number_in : List Day → Members → Result ℕ SheetFault
 new_number_in days table = do
   number ← number_in table
   demand (not (list_any (λ day. day_number day == number) days)) (DayTwice number)
   Ok number
 
--- exactly `count` rings: a text of capital letters, or an array of numbers, where 1 is A
+-- exactly `count` rings, from a text of capital letters, or from an array of numbers where 1 is A
 abbrev pub rings_of : ℕ → Data → Option (List ℕ)
 rings_of count (string text) = capital_letters count text
 rings_of count (array items) = numbered_letters count (list_of items)
 rings_of count _ = None
 
--- the rings of the model's slots
+-- the rings for the model's slots
 unfoldable pub rings_in : Model → Members → Result (List ℕ) SheetFault
 rings_in model table = do
   value ← value_at keys.Rings table
@@ -52,21 +53,21 @@ rings_in model table = do
 unfoldable pub group_of_item : Data → Option (List ℕ)
 group_of_item item = option_and_then (capital_letters 3) (as_str item)
 
--- the group of an item; it doesn't depend on the groups before
+-- the group of an item, whatever groups are before it
 abbrev pub group_for : List (List ℕ) → Data → Result (List ℕ) SheetFault
 group_for earlier item = ok_or (group_of_item item) (BadValue keys.Groups)
 
--- the groups, at most four; without the key, there are none
+-- the groups, at most four; there are none if the key is missing
 unfoldable pub groups_in : Members → Result (List (List ℕ)) SheetFault
 groups_in table = option_map_or (up_to keys.Groups 4 group_for) (get_member (key_name keys.Groups) table) (Ok [])
 
--- the slots' wheels, each with its ring and its window letter
+-- the wheels of the slots, each with its ring and its window letter
 abbrev pub sheet_wheels : List (Option Wheel) → List ℕ → List ℕ → List SheetWheel
 sheet_wheels (Some wheel ∷ seats) (ring ∷ rings) (letter ∷ letters) =
     record { wheel = wheel; ring = ring; letter = letter } ∷ sheet_wheels seats rings letters
 sheet_wheels _ _ _ = []
 
--- a day of a rotor machine
+-- the day of a rotor machine that a table describes
 unfoldable pub rotor_day_in : ℕ → Model → Members → Result Day SheetFault
 rotor_day_in number model table = do
   reflector ← reflector_in model table
@@ -84,7 +85,7 @@ rotor_day_in number model table = do
     groups = groups;
   }))
 
--- a day of a Converter M-209
+-- the day of a Converter M-209 that a table describes
 unfoldable pub pin_day_in : ℕ → Members → Result Day SheetFault
 pin_day_in number table = do
   rows ← rows_in table
@@ -93,19 +94,19 @@ pin_day_in number table = do
   list ← letters_at keys.List 2 table
   Ok (OfPins (record { day = number; rows = rows; pins = pins; window = window; list = list }))
 
--- a day of `model`
+-- the day of `model` that a table describes
 unfoldable pub model_day_in : ℕ → Model → Members → Result Day SheetFault
 model_day_in number M209 table = pin_day_in number table
 model_day_in number model table = rotor_day_in number model table
 
--- the day that a table describes after `days`, or its first fault
+-- The day that a table describes, or its first fault. None of `days` may have its number.
 unfoldable pub day_in : List Day → Members → Result Day SheetFault
 day_in days table = do
   number ← new_number_in days table
   model ← model_in table
   model_day_in number model table
 
--- the day that an item describes after `days`
+-- the day that an item describes, if none of `days` has its number
 unfoldable pub day_for : List Day → Data → Result Day SheetFault
 day_for days item = do
   table ← ok_or (as_table item) (BadValue keys.Day)

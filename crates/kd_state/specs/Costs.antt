@@ -1,4 +1,6 @@
--- How much of a machine differs from a day, and what it costs to change its cables and bars.
+-- How many settings it takes to give a cable a pair or a bar a row.
+-- Code: letters are compared; one or two standings are tried.
+-- Test: kd_trials/src/state/days.rt
 use Rattle.std.specs.Prelude.{ℕ, ◌+◌, ◌-◌, nat_eq, nat_lt, min, Bool, false, not, ◌&&◌, List, [], ◌∷◌, ◌++◌, length}
 use Rattle.std.specs.Prelude.{slice_index_or, map, filter, find, fold, zip, sum, count_by, replicate, Option, Some}
 use Rattle.std.specs.Prelude.{None, if◌then◌else◌}
@@ -17,33 +19,33 @@ use Rattle.kd_state.specs.Machine.{cable_letters, ring_at, letter_at}
 use Rattle.kd_state.specs.Setting.{has_letter, is_at}
 use Rattle.kd_state.specs.SheetDay.{RotorDay, PinDay, Day, OfRotors, OfPins}
 
--- exactly one of the two holds
+-- whether exactly one of the two holds
 abbrev pub differ : Bool → Bool → Bool
 differ a b = if a then not b else b
 
--- 1 if they differ, else 0
+-- 0 if the test holds, else 1
 abbrev pub unless_same : Bool → ℕ
 unless_same same = if same then 0 else 1
 
--- the letters of a pair; no pair has none
+-- the letters of a column's pair; none if the column has no pair
 abbrev pub column_letters : Option (ℕ × ℕ) → List ℕ
 column_letters None = []
 column_letters (Some pair) = pair.0 ∷ pair.1 ∷ []
 
--- the letter is in the cable or in the pair, and not in both
+-- whether the letter is in the cable or in the column's pair, but not in both
 abbrev pub lies_in_one : Option ℕ × Option ℕ → Option (ℕ × ℕ) → ℕ → Bool
 lies_in_one cable column letter =
     differ (has_letter (cable_letters cable) letter) (has_letter (column_letters column) letter)
 
--- the cost of making a cable this pair, or empty: how many letters are in only one of the two
+-- the cost of giving a cable the column's pair, or emptying it: how many letters only one of the two has
 abbrev pub cable_cost : Option ℕ × Option ℕ → Option (ℕ × ℕ) → ℕ
 cable_cost cable column = count_by (lies_in_one cable column) alphabet
 
--- how many of the two lugs stand at different places
+-- how many lugs move from one standing to the other
 abbrev pub lugs_moved : Place × Place → Place × Place → ℕ
 lugs_moved standing other = unless_same (is_at standing.0 other.0) + unless_same (is_at standing.1 other.1)
 
--- the standing reads as this row
+-- whether the standing reads as this row
 abbrev pub reads_as_row : ℕ × ℕ → Place × Place → Bool
 reads_as_row row standing =
     let reading = reading_of standing.0 standing.1 in nat_eq reading.0 row.0 && nat_eq reading.1 row.1
@@ -52,7 +54,7 @@ reads_as_row row standing =
 unfoldable pub standings_as : ℕ × ℕ → List (Place × Place)
 standings_as row = filter (reads_as_row row) standings
 
--- the place at which this pin wheel acts
+-- the place of this pin wheel; for 0, the left place that has no wheel
 abbrev pub place_at : ℕ → Place
 place_at wheel = slice_index_or (ZeroLeft ∷ One ∷ Two ∷ Three ∷ Four ∷ Five ∷ Six ∷ []) wheel Six
 
@@ -60,17 +62,19 @@ place_at wheel = slice_index_or (ZeroLeft ∷ One ∷ Two ∷ Three ∷ Four ∷
 abbrev pub across : Place → Place → Place × Place
 across one other = if nat_lt (place_rank one) (place_rank other) then (one, other) else (other, one)
 
--- the cost of making a bar read as this row: the least number of lugs to move. There are two lugs, so it is at
--- most 2.
+-- The cost of making a bar read as this row: the least number of lugs to move, at most 2.
 abbrev pub bar_cost : Place × Place → ℕ × ℕ → ℕ
 bar_cost standing row = fold min 2 (map (lugs_moved standing) (standings_as row))
 
--- the standing that reads as the row and costs the least, the first one of equals
+-- the first standing that reads as the row and moves the fewest lugs
 abbrev pub nearest_standing : Place × Place → ℕ × ℕ → Option (Place × Place)
 nearest_standing standing row =
     find (λ other. nat_eq (lugs_moved standing other) (bar_cost standing row)) (standings_as row)
 
--- the day's pairs, and then no pair, up to 13 columns
+-- ---- The cost tables: of cables and columns, and of bars and rows.
+-- Test: cards_are_planned
+
+-- the 13 columns of a day: its pairs, and then columns without a pair
 abbrev pub columns_of : List (ℕ × ℕ) → List (Option (ℕ × ℕ))
 columns_of pairs = map Some pairs ++ replicate (13 - length pairs) None
 
@@ -81,13 +85,15 @@ cable_costs cables pairs = map (λ cable. map (cable_cost cable) (columns_of pai
 abbrev pub bar_costs : List (Place × Place) → List (ℕ × ℕ) → List (List ℕ)
 bar_costs bars rows = map (λ bar. map (bar_cost bar) rows) bars
 
--- the cost table of a machine and a day: of its cables, or of its bars
+-- the cost table of a machine and a day of one model: of its cables, or of its bars
 abbrev pub cost_table : Parts → Day → List (List ℕ)
 cost_table (Rotor m) (OfRotors s) = cable_costs m.cables s.pairs
 cost_table (Pin m) (OfPins s) = bar_costs m.bars s.rows
 cost_table _ _ = []
 
--- how many slots hold no wheel, or another wheel than the day's
+-- ---- How many things differ from the day, without cables and bars.
+
+-- how many slots are empty or hold another wheel than the day's
 abbrev pub loose_slots : RotorParts → RotorDay → ℕ
 loose_slots m s = count_by (λ slot. not (option_map_or (same_wheel slot.1.wheel) slot.0 false)) (zip m.slots s.wheels)
 
@@ -95,14 +101,15 @@ loose_slots m s = count_by (λ slot. not (option_map_or (same_wheel slot.1.wheel
 abbrev pub loose_reflector : RotorParts → RotorDay → ℕ
 loose_reflector m s = unless_same (same_reflector m.reflector s.reflector)
 
--- how many of the day's wheels have another ring than the day's, and how many another letter, in a slot or not
+-- How many of the day's wheels have a ring that isn't the day's, and how many a letter that isn't. Wheels in
+-- the box count too.
 abbrev pub loose_rings : RotorParts → RotorDay → ℕ
 loose_rings m s = count_by (λ w. not (option_map_or (nat_eq w.ring) (ring_at m w.wheel) false)) s.wheels
 
 abbrev pub loose_letters : RotorParts → RotorDay → ℕ
 loose_letters m s = count_by (λ w. not (option_map_or (nat_eq w.letter) (letter_at m w.wheel) false)) s.wheels
 
--- how many pins differ, and how many of the letters that the pin wheels show
+-- how many pins differ from the day's, and how many shown letters
 abbrev pub loose_pins : PinParts → PinDay → ℕ
 loose_pins m s =
     sum (map (λ wheel. count_by (λ pin. differ pin.0 pin.1) (zip wheel.0 wheel.1))
@@ -111,7 +118,7 @@ loose_pins m s =
 abbrev pub loose_pin_letters : PinParts → PinDay → ℕ
 loose_pin_letters m s = count_by (λ letter. not (nat_eq letter.0 letter.1)) (zip m.letters s.window)
 
--- how many things differ, without cables and bars
+-- how many things differ from the day, without cables and bars
 abbrev pub loose_count : Parts → Day → ℕ
 loose_count (Rotor m) (OfRotors s) = loose_slots m s + loose_reflector m s + loose_rings m s + loose_letters m s
 loose_count (Pin m) (OfPins s) = loose_pins m s + loose_pin_letters m s

@@ -1,4 +1,4 @@
--- The parts of an engine.
+-- The key of an engine, by its mechanism. No public contract cites this file.
 use Rattle.std.specs.Prelude.{◌≡◌, length}
 use Rattle.kd_state.specs.declared.engine.Mechanism.{Mechanism}
 use Rattle.kd_state.specs.declared.engine.Mechanism.TheVariants.{ThreeWheels, FourWheels, Drum}
@@ -10,7 +10,7 @@ mechanism_key (ThreeWheels key) = OfWheels key
 mechanism_key (FourWheels key) = OfWheels key
 mechanism_key (Drum key) = OfDrum key
 
--- the key has as many wheels as the mechanism
+-- The key has as many wheels as the mechanism's variant says.
 abbrev pub HasItsWheels : Mechanism → Type 0
 HasItsWheels (ThreeWheels key) = length key.wheels ≡ 3
 HasItsWheels (FourWheels key) = length key.wheels ≡ 4

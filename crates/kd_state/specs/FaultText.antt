@@ -1,4 +1,4 @@
--- What is told of a setting that a machine refuses, and of bytes that are no list.
+-- The name of each reason, and the text of each fault of a setting or a list.
 use Rattle.std.specs.Prelude.{codes, decimal, ℕ, List, ◌++◌}
 use Rattle.kd_tables.specs.declared.refusal.Refusal.TheVariants as refusals
 use Rattle.kd_tables.specs.Refusals.{refusal_name, spaced}

@@ -1,4 +1,4 @@
--- What the laws say of machines, settings and days.
+-- The laws of names and of places in the box.
 use Rattle.std.specs.Prelude.{◌≡◌, ◌≢◌, ◌↔◌, ℕ, ◌+◌, ◌<◌, ◌≤◌, List, ◌++◌, length, slice_index_or, slice_get, All}
 use Rattle.std.specs.Prelude.{AllPairs, Option, None, MatchOption, Contains}
 use Rattle.std.specs.Bool.{Decides}
@@ -25,14 +25,14 @@ use Rattle.kd_state.specs.Costs.{columns_of, cable_cost, cost_table}
 use Rattle.kd_state.specs.TwoCiphers.{EngineKey, cipher, key_left, key_with_window, IsWindow, IsReady, window_of}
 use Rattle.kd_state.specs.TwoCiphers.{physical_key, physical_cipher, sheet_key, sheet_cipher, IsTurned}
 
--- different wheels have different names, and so have different reflectors
+-- Different wheels have different names, and so have different reflectors.
 abbrev pub NamesTellWheels : Type 0
 NamesTellWheels = (wheel other : Wheel) → Decides (same_wheel wheel other) (wheel ≡ other)
 
 abbrev pub NamesTellReflectors : Type 0
 NamesTellReflectors = (reflector other : Reflector) → Decides (same_reflector reflector other) (reflector ≡ other)
 
--- a wheel that is allowed in a slot is in the box; each wheel of the box has its own place there
+-- A wheel that a slot allows is in the box, and each wheel of the box has a place of its own there.
 abbrev pub AllowedWheelsLieInTheBox : Type 0
 AllowedWheelsLieInTheBox =
     (model : Model) (slot : ℕ) (wheel : Wheel) → IsAllowed model slot wheel → Contains (box_of model) wheel
@@ -45,19 +45,21 @@ abbrev pub PlacesTellWheels : Type 0
 PlacesTellWheels = (model : Model) (wheel other : Wheel) → Contains (box_of model) wheel → Contains (box_of model) other
     → place_in_box model wheel ≡ place_in_box model other → wheel ≡ other
 
--- two wheels of a day have different places in the box
+-- Two wheels of a day have different places in the box.
 abbrev pub DaysWheelsHaveTheirPlaces : Type 0
 DaysWheelsHaveTheirPlaces = (model : Model) (wheels : List SheetWheel) → AreSeated model (seats wheels)
     → AllPairs (λ (w other : SheetWheel). place_in_box model w.wheel ≢ place_in_box model other.wheel) wheels
 
--- a machine stays a machine when a setting, or a list of settings, is carried out
+-- ---- The laws of settings: each is refused or has one result, which is just the change that the readers show.
+
+-- A machine stays a machine when a setting or a list of settings is carried out.
 abbrev pub SettingsKeepMachines : Type 0
 SettingsKeepMachines = (m n : Parts) (x : Setting) → IsMachine m → IsInRange x → Carries m x n → IsMachine n
 
 abbrev pub ListsKeepMachines : Type 0
 ListsKeepMachines = (m n : Parts) (xs : List Setting) → IsMachine m → All IsInRange xs → Leads m xs n → IsMachine n
 
--- a machine either refuses a setting or carries it out, and with one result only; a list has one result too
+-- A machine refuses a setting or carries it out, and never both. A setting has one result, and so has a list.
 abbrev pub RefusesOrCarries : Type 0
 RefusesOrCarries =
     (m : Parts) (x : Setting)
@@ -69,20 +71,20 @@ CarriesToOne = (m n o : Parts) (x : Setting) → Carries m x n → Carries m x o
 abbrev pub LeadsToOne : Type 0
 LeadsToOne = (m n o : Parts) (xs : List Setting) → Leads m xs n → Leads m xs o → n ≡ o
 
--- a setting that is carried out changes what it names and nothing else, as the readers show it
+-- A setting that is carried out makes its change and no other, as the readers show it.
 abbrev pub SettingsAreTold : Type 0
 SettingsAreTold = (m n : Parts) (x : Setting) → IsMachine m → Carries m x n → Makes m x n
 
--- if the readers show just this change and the setting isn't refused, it was carried out
+-- If a setting is allowed, and the readers show its change and no other, then it was carried out.
 abbrev pub TellingIsMaking : Type 0
 TellingIsMaking =
     (m n : Parts) (x : Setting) → IsMachine m → IsMachine n → IsInRange x → Allows m x → Makes m x n → Carries m x n
 
--- a setting is refused exactly if the readers show that it isn't allowed
+-- A setting is refused exactly if it isn't allowed by what the readers show.
 abbrev pub RefusalsAreTold : Type 0
 RefusalsAreTold = (m : Parts) (x : Setting) → IsMachine m → (why_refused m x ≡ None) ↔ Allows m x
 
--- a machine refuses a seat, a reflector or a ring exactly if the tables don't allow it
+-- A machine refuses a wheel, a reflector or a ring exactly if the tables don't allow it.
 abbrev pub SeatsAreByTheTables : Type 0
 SeatsAreByTheTables =
     (m : RotorParts) (slot : ℕ) (wheel : Wheel)
@@ -98,15 +100,17 @@ RingsAreByTheTables =
     (m : RotorParts) (wheel : Wheel) (letter : ℕ)
     → (why_refused (Rotor m) (RingTo wheel letter) ≡ None) ↔ Contains (box_of m.model) wheel
 
--- the parts of a setting's line are words
+-- ---- The laws of lines and lists: each has one meaning, and a text has one fault at most.
+
+-- The parts of a setting's line are words.
 abbrev pub SettingsHaveWords : Type 0
 SettingsHaveWords = (x : Setting) → IsInRange x → All IsWord (setting_words x)
 
--- different settings have different lines
+-- Different settings have different lines.
 abbrev pub LinesTellSettings : Type 0
 LinesTellSettings = (x y : Setting) → IsInRange x → IsInRange y → setting_line x ≡ setting_line y → x ≡ y
 
--- bytes are the text of at most one list; the text of a list has no fault, and no text has two faults
+-- Bytes are the text of at most one list. A list's text has no fault, and no text has two faults.
 abbrev pub TextsTellLists : Type 0
 TextsTellLists = (bytes : List ℕ) (xs ys : List Setting) → IsList bytes xs → IsList bytes ys → xs ≡ ys
 
@@ -118,8 +122,11 @@ abbrev pub OneListFault : Type 0
 OneListFault =
     (bytes : List ℕ) (fault other : ListFault) → IsListFault bytes fault → IsListFault bytes other → fault ≡ other
 
--- an engine with the machine's key enciphers as the machine's own parts do; turned to other letters, as the
--- machine that shows these letters
+-- ---- The laws of ciphers: a machine on the day's key enciphers as the day asks, and an equally set one
+-- deciphers it.
+
+-- An engine with a machine's key enciphers as the machine's own parts do. Turned to other letters, it enciphers
+-- as the machine that shows these letters.
 abbrev pub EngineIsTheMachine : Type 0
 EngineIsTheMachine = (m : Parts) (text : List ℕ) → cipher (physical_key m) text ≡ physical_cipher m text
 
@@ -127,7 +134,7 @@ abbrev pub TurnedEngineIsTheTurnedMachine : Type 0
 TurnedEngineIsTheTurnedMachine = (m n : Parts) (window text : List ℕ) → IsTurned m window n
     → cipher (key_with_window (physical_key m) window) text ≡ physical_cipher n text
 
--- a machine that reads as the day is ready, and enciphers as the day asks
+-- A machine that reads as the day is ready, and enciphers as the day asks.
 abbrev pub ReadingIsReady : Type 0
 ReadingIsReady = (m : Parts) (s : Day) → IsMachine m → IsLegalDay s → ReadsAs m s → IsReady m
 
@@ -136,7 +143,7 @@ ReadingIsItsCipher =
     (m : Parts) (s : Day) (text : List ℕ) → IsMachine m → IsLegalDay s → ReadsAs m s
     → physical_cipher m text ≡ sheet_cipher s text
 
--- a machine on the day's key is ready, and enciphers as the day asks, from the letters that it shows
+-- A machine on the day's key is ready. It enciphers as the day asks, from the letters that it shows.
 abbrev pub OnKeyIsReady : Type 0
 OnKeyIsReady = (m : Parts) (s : Day) → IsMachine m → IsLegalDay s → OnKey m s → IsReady m
 
@@ -144,31 +151,31 @@ abbrev pub OnKeyIsItsCipher : Type 0
 OnKeyIsItsCipher = (m : Parts) (s : Day) (text : List ℕ) → IsMachine m → IsLegalDay s → OnKey m s
     → physical_cipher m text ≡ cipher (key_with_window (sheet_key s) (window_of m)) text
 
--- a machine on the day's key that is turned to other letters enciphers as the day asks, from these letters
+-- A machine on the day's key that is turned to other letters enciphers as the day asks, from these letters.
 abbrev pub TurnedHasTheDaysCipher : Type 0
 TurnedHasTheDaysCipher =
     (m n : Parts) (s : Day) (window text : List ℕ) → IsMachine m → IsLegalDay s → OnKey m s → IsTurned m window n
     → physical_cipher n text ≡ cipher (key_with_window (sheet_key s) window) text
 
--- a ready machine can be turned to each window
+-- A ready machine can be turned to each window.
 abbrev pub MachinesCanBeTurned : Type 0
 MachinesCanBeTurned =
     (m : Parts) (window : List ℕ) → IsMachine m → IsReady m → IsWindow (physical_key m) window
     → (n : Parts) × IsTurned m window n × IsMachine n
 
--- of two machines on the day's key that show the same letters, one deciphers what the other enciphers
+-- If two machines on the day's key show the same letters, each deciphers what the other enciphers.
 abbrev pub EquallySetDecipher : Type 0
 EquallySetDecipher =
     (m n : Parts) (s : Day) (text : List ℕ) → IsMachine m → IsMachine n → IsLegalDay s → OnKey m s → OnKey n s
     → window_of m ≡ window_of n → All (λ letter. letter < 26) text → physical_cipher n (physical_cipher m text) ≡ text
 
--- an engine set as the day says deciphers its own ciphertext, from the same letters
+-- An engine set as the day says deciphers its own ciphertext, from the same letters.
 abbrev pub TheDayDeciphersItself : Type 0
 TheDayDeciphersItself = (s : Day) (window text : List ℕ) → IsLegalDay s → All (λ letter. letter < 26) text
     → cipher (key_with_window (sheet_key s) window) (cipher (key_with_window (sheet_key s) window) text) ≡ text
 
--- a machine on the day's key stays on it when it is turned to other letters, and only the letters in its key
--- change
+-- A machine on the day's key stays on it when it is turned to other letters, and its key changes only in its
+-- letters.
 abbrev pub TurnedIsOnKey : Type 0
 TurnedIsOnKey = (m n : Parts) (s : Day) (window : List ℕ) → IsTurned m window n → OnKey m s → OnKey n s
 
@@ -176,7 +183,7 @@ abbrev pub TurnedHasItsKey : Type 0
 TurnedHasItsKey =
     (m n : Parts) (window : List ℕ) → IsTurned m window n → physical_key n ≡ key_with_window (physical_key m) window
 
--- a text can be enciphered in two pieces, the second with the key that the first leaves
+-- A text can be enciphered in two pieces, the second with the key that the first leaves.
 abbrev pub CipherInTurn : Type 0
 CipherInTurn =
     (key : EngineKey) (first rest : List ℕ)
@@ -185,11 +192,13 @@ CipherInTurn =
 abbrev pub KeyInTurn : Type 0
 KeyInTurn = (key : EngineKey) (m n : ℕ) → key_left (key_left key m) n ≡ key_left key (m + n)
 
--- two lists have the same letters exactly if each letter is in both or in neither
+-- ---- The laws of columns and costs.
+
+-- Two lists have the same letters exactly if `has_letter` gives the same answer for both, whatever the letter.
 abbrev pub TestsTellLetters : Type 0
 TestsTellLetters = (xs ys : List ℕ) → SameLetters xs ys ↔ ((letter : ℕ) → has_letter xs letter ≡ has_letter ys letter)
 
--- a day has 13 columns: its pairs in their order, and then no pair
+-- A day has 13 columns: its pairs in their order, and then columns without a pair.
 abbrev pub ThirteenColumns : Type 0
 ThirteenColumns = (pairs : List (ℕ × ℕ)) → length pairs ≤ 13 → length (columns_of pairs) ≡ 13
 
@@ -197,11 +206,11 @@ abbrev pub ColumnsAreThePairs : Type 0
 ColumnsAreThePairs =
     (pairs : List (ℕ × ℕ)) (place : ℕ) → slice_index_or (columns_of pairs) place None ≡ slice_get pairs place
 
--- a cable costs at most 4 at each column
+-- A cable costs at most 4 at each column.
 abbrev pub CablesCostFour : Type 0
 CablesCostFour = (cable : Option ℕ × Option ℕ) (column : Option (ℕ × ℕ)) → cable_cost cable column ≤ 4
 
--- the cost tables are square
+-- The cost tables are square.
 abbrev pub CostTablesAreSquare : Type 0
 CostTablesAreSquare =
     (m : Parts) (s : Day) → IsMachine m → IsLegalDay s

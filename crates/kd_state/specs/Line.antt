@@ -1,4 +1,5 @@
--- The text of a setting, and of a list of settings.
+-- The line of a setting, and its words.
+-- Test: kd_trials/src/state/line.rt
 use Rattle.std.specs.Prelude.{codes, decimal, ◌≡◌, ◌≢◌, ℕ, ◌+◌, ◌^◌, ◌<◌, ◌≤◌, Bool, true, false, List, [], ◌∷◌, ◌++◌}
 use Rattle.std.specs.Prelude.{length, All, Option, MatchOption}
 use Rattle.std.specs.List.{flat_map}
@@ -11,7 +12,7 @@ use Rattle.kd_state.specs.declared.setting.Setting.TheVariants.{LugTo}
 use Rattle.kd_state.specs.declared.setting.list.ListFault.{ListFault}
 use Rattle.kd_state.specs.declared.setting.list.ListFault.TheVariants.{BadLine, TooMany}
 
--- ON for an effective pin, OFF for another
+-- `ON` for an effective pin, `OFF` for another
 abbrev pub pin_text : Bool → List ℕ
 pin_text true = codes "ON"
 pin_text false = codes "OFF"
@@ -32,7 +33,7 @@ setting_words (LugTo bar lug place) = codes "LUG" ∷ decimal bar ∷ lug_text l
 abbrev pub setting_line : Setting → List ℕ
 setting_line x = line_of (setting_words x)
 
--- the setting's number is a byte, and its letter is below 26
+-- The setting's number is a byte, and its letter is below 26.
 abbrev pub IsInRange : Setting → Type 0
 IsInRange (Pull cable letter) = (cable < 2 ^ 8) × (letter < 26)
 IsInRange (Put cable letter) = (cable < 2 ^ 8) × (letter < 26)
@@ -43,38 +44,41 @@ IsInRange (Turn slot letter) = (slot < 2 ^ 8) × (letter < 26)
 IsInRange (PinTo wheel letter effective) = (wheel < 2 ^ 8) × (letter < 26)
 IsInRange (LugTo bar lug place) = bar < 2 ^ 8
 
--- `result` is the setting with these words, or `None` if no setting has them
+-- `result` is the setting with these words, or `None` if no setting has them.
 abbrev pub IsReadOff : List (List ℕ) → Option Setting → Type 0
 IsReadOff words result =
     MatchOption result ((x : Setting) → IsInRange x → setting_words x ≢ words)
     (λ x. (setting_words x ≡ words) × IsInRange x)
 
--- the text of a list: each setting's line with LF after it
+-- ---- The text of a list of settings, and its first fault.
+-- Test: kd_trials/src/state/list.rt
+
+-- the text of a list: the line of each setting, and LF after it
 abbrev pub list_text : List Setting → List ℕ
 list_text settings = flat_map (λ x. setting_line x ++ 10 ∷ []) settings
 
--- `bytes` are the lines of `settings` and then `rest`
+-- `bytes` are the lines of `settings`, and then `rest`.
 pub record BeginsWith (bytes : List ℕ) (settings : List Setting) (rest : List ℕ) : Type 0 where
   pub lines : bytes ≡ list_text settings ++ rest
   pub in_range : All IsInRange settings
 
--- `bytes` are the line of the setting `x`, LF, and then `rest`
+-- `bytes` are the line of setting `x`, LF, and then `rest`.
 pub record BeginsWithLine (bytes : List ℕ) (x : Setting) (rest : List ℕ) : Type 0 where
   pub line : bytes ≡ setting_line x ++ 10 ∷ rest
   pub in_range : IsInRange x
 
--- no prefix of the bytes is a setting's line with its LF
+-- The bytes don't begin with a setting's line and its LF.
 abbrev pub BeginsWithNoLine : List ℕ → Type 0
 BeginsWithNoLine bytes = (x : Setting) (rest : List ℕ) → IsInRange x → bytes ≢ setting_line x ++ 10 ∷ rest
 
--- `bytes` are the lines of at most 192 settings and then `rest`, which begins with no setting's line
+-- `bytes` are the lines of at most 192 settings, and then `rest`, which begins with no setting's line.
 pub record BeginsWithSettings (bytes : List ℕ) (settings : List Setting) (rest : List ℕ) : Type 0 where
   pub lines : BeginsWith bytes settings rest
   pub few : length settings ≤ 192
   pub none_more : BeginsWithNoLine rest
 
--- Why bytes are no list of at most 192 settings: a line that is no setting's, the first one counted from 1, or
--- a 193rd setting.
+-- The first fault of bytes that are no list: the first line that is no setting's, counted from 1; or a 193rd
+-- setting.
 abbrev pub IsListFault : List ℕ → ListFault → Type 0
 IsListFault bytes (BadLine line) =
     (settings : List Setting) × (rest : List ℕ)
@@ -83,7 +87,7 @@ IsListFault bytes (BadLine line) =
 IsListFault bytes TooMany =
     (settings : List Setting) × (rest : List ℕ) × BeginsWith bytes settings rest × (length settings ≡ 193)
 
--- `bytes` are the text of the list `settings`, which has at most 192
+-- `bytes` are the text of the list `settings`, which has at most 192.
 pub record IsList (bytes : List ℕ) (settings : List Setting) : Type 0 where
   pub text : bytes ≡ list_text settings
   pub in_range : All IsInRange settings

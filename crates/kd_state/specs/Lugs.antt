@@ -1,5 +1,8 @@
--- The bars that the wheels of a Converter M-209 move, by its pins, the letters that it shows, and its lugs (War
--- Department TM 11-380). Wheels are counted from 1; letters of a text, and letters of a wheel, from 0.
+-- The cipher of a Converter M-209 by its metal: its pins, the letters that it shows, and its lugs. Wheels are
+-- counted from 1; letters of a text and places of a wheel from 0.
+-- Source: War Department TM 11-380
+-- Code: counts the bars by their readings.
+-- Test: kd_trials/src/state/engine.rt
 use Rattle.std.specs.Prelude.{ℕ, ◌+◌, ◌-◌, ◌%◌, nat_lt, Bool, ◌&&◌, ◌||◌, List, map, slice_index, unwrap_or}
 use Rattle.std.specs.List.{count_by, enumerate_from}
 use Rattle.kd_tables.specs.declared.place.Place.{Place}
@@ -9,25 +12,26 @@ use Rattle.kd_pins.specs.PinWheel.{is_effective, place_past}
 use Rattle.kd_pins.specs.PinWheels.{pins_of, pins_on, offset_of, size_of}
 use Rattle.kd_state.specs.declared.machine.pin_parts.PinParts.{PinParts}
 
--- the place of the wheel's shown letter among its letters
+-- the place, on the wheel, of the letter that it shows at the start
 abbrev pub place_shown : PinParts → ℕ → ℕ
 place_shown m wheel = unwrap_or (place_on (ring_of wheel) (slice_index m.letters (wheel - 1))) 0
 
--- after `count` letters of the text, the wheel's acting pin is effective
+-- whether the wheel's acting pin is effective after `count` letters of the text
 abbrev pub pin_acts : PinParts → ℕ → ℕ → Bool
 pin_acts m count wheel =
     is_effective (pins_on (pins_of m.pins) wheel)
     (place_past (size_of wheel) (place_shown m wheel + count) (offset_of wheel))
 
--- after `count` letters, a wheel acts at this place and its acting pin is effective, so that a lug there moves
--- its bar
+-- Whether a lug at this place moves its bar after `count` letters: the place has a wheel, and this wheel's
+-- acting pin is effective.
 abbrev pub lug_is_met : PinParts → ℕ → Place → Bool
 lug_is_met m count place = nat_lt 0 (place_number place) && pin_acts m count (place_number place)
 
--- after `count` letters, how many bars move: those that one lug or both lugs move
+-- how many bars one of their lugs, or both, move after `count` letters
 abbrev pub bars_moved : PinParts → ℕ → ℕ
 bars_moved m count = count_by (λ bar. lug_is_met m count bar.0 || lug_is_met m count bar.1) m.bars
 
--- the ciphertext of `text`: each letter in the reversed alphabet, moved on by the number of bars that move
+-- The ciphertext of `text`: each letter at its place in the reversed alphabet, moved on by the number of bars
+-- that move.
 abbrev pub lugs_cipher : PinParts → List ℕ → List ℕ
 lugs_cipher m text = map (λ numbered. (25 + bars_moved m numbered.0 - numbered.1) % 26) (enumerate_from 0 text)

@@ -1,4 +1,5 @@
--- The machine on the desk: which parts make a machine, and what its readers show.
+-- Cables, slots, letters and pins, and when each is legal.
+-- Test: kd_trials/src/state/carrying.rt
 use Rattle.std.specs.Prelude.{◌≡◌, ℕ, ◌+◌, ◌<◌, nat_eq, nat_le, Bool, List, ◌++◌, length, map, All, Contains, slice_get}
 use Rattle.std.specs.Prelude.{Option, Some, None, if◌then◌else◌}
 use Rattle.std.specs.List.{flat_map, IsDistinct}
@@ -27,40 +28,45 @@ cable_letters cable = option_to_list cable.0 ++ option_to_list cable.1
 abbrev pub plugged_letters : List (Option ℕ × Option ℕ) → List ℕ
 plugged_letters cables = flat_map cable_letters cables
 
--- the wheel stands in the slot with this index, counted from the left from 0
+-- The slot at index `place`, counted from 0 from the left, holds the wheel.
 abbrev pub StandsAt : List (Option Wheel) → ℕ → Wheel → Type 0
 StandsAt slots place wheel = slice_get slots place ≡ Some (Some wheel)
 
--- each wheel is allowed in its slot
+-- Each wheel is allowed in its slot.
 abbrev pub AreAllowed : Model → List (Option Wheel) → Type 0
 AreAllowed model slots = (place : ℕ) (wheel : Wheel) → StandsAt slots place wheel → IsAllowed model (place + 1) wheel
 
--- no wheel stands in two slots
+-- No wheel is in two slots.
 abbrev pub AreApart : List (Option Wheel) → Type 0
 AreApart slots =
     (place other : ℕ) (wheel : Wheel) → StandsAt slots place wheel → StandsAt slots other wheel → place ≡ other
 
--- there are `number` letters, each below 26
+-- There are `number` letters, each below 26.
 pub record AreLetters (number : ℕ) (letters : List ℕ) : Type 0 where
   pub count : length letters ≡ number
   pub within : All (λ letter. letter < 26) letters
 
--- there are 13 cables; their letters are below 26, and none is in two places
+-- There are 13 cables. Their letters are below 26, and none is in two places.
 pub record AreCables (cables : List (Option ℕ × Option ℕ)) : Type 0 where
   pub count : length cables ≡ 13
   pub within : All (λ letter. letter < 26) (plugged_letters cables)
   pub apart : IsDistinct nat_eq (plugged_letters cables)
 
--- there are six letters, each on its wheel
+-- There are six letters, each on its wheel.
 pub record AreOnWheels (letters : List ℕ) : Type 0 where
   pub count : length letters ≡ 6
   pub each : (wheel letter : ℕ) → numbered letters wheel ≡ Some letter → Contains (ring_of wheel) letter
 
--- each wheel has a pin for each of its letters
+-- Each wheel has a pin for each of its letters.
 abbrev pub HasAllPins : PinSet → Type 0
 HasAllPins pins = (wheel : ℕ) → length (wheel_pins pins wheel) ≡ length (ring_of wheel)
 
--- the parts make a rotor machine
+-- ---- Which parts make a machine.
+-- Source: the published accounts of the models; War Department TM 11-380; how a bar may stand is this desk's
+-- own rule
+-- Code: an invariant of `Machine`.
+
+-- The parts make a rotor machine.
 pub record IsLegalRotor (m : RotorParts) : Type 0 where
   pub slots : length m.slots ≡ slots_of m.model
   pub allowed : AreAllowed m.model m.slots
@@ -70,7 +76,7 @@ pub record IsLegalRotor (m : RotorParts) : Type 0 where
   pub letters : AreLetters (length (box_of m.model)) m.letters
   pub cables : AreCables m.cables
 
--- the parts make a Converter M-209
+-- The parts make a Converter M-209.
 pub record IsLegalPin (m : PinParts) : Type 0 where
   pub pins : HasAllPins m.pins
   pub letters : AreOnWheels m.letters
@@ -81,36 +87,39 @@ abbrev pub IsLegal : Parts → Type 0
 IsLegal (Rotor m) = IsLegalRotor m
 IsLegal (Pin m) = IsLegalPin m
 
--- the cable with these letters in alphabetical order, a single letter first
+-- a cable with these letters in alphabetical order; a single letter is first
 abbrev pub ordered : Option ℕ → Option ℕ → Option ℕ × Option ℕ
 ordered None other = (other, None)
 ordered (Some letter) None = (Some letter, None)
 ordered (Some letter) (Some other) =
     if nat_le letter other then (Some letter, Some other) else (Some other, Some letter)
 
--- the same machine with the letters of each cable in order: a cable is a set of letters
+-- the machine with the letters of each cable in order, since a cable is a set of letters
 abbrev pub cables_ordered : Parts → Parts
 cables_ordered (Rotor m) = Rotor (record m { cables = map (λ cable. ordered cable.0 cable.1) m.cables })
 cables_ordered (Pin m) = Pin m
 
--- the parts are those of a machine: legal, with each cable's letters in order
+-- The parts are a machine's: legal, with the letters of each cable in order.
 pub record IsMachine (m : Parts) : Type 0 where
   pub legal : IsLegal m
   pub cables : cables_ordered m ≡ m
 
--- the model
+-- ---- What the readers of a machine show; `None` for a thing that the machine lacks.
+-- Test: kd_trials/src/state/reading.rt
+
+-- the model of a machine
 abbrev pub model_of : Parts → Model
 model_of (Rotor m) = m.model
 model_of (Pin m) = M209
 
--- the ring and the window letter of a wheel of the box, in a slot or not
+-- the ring and the window letter of a wheel of the box, whether it is in a slot or not
 abbrev pub ring_at : RotorParts → Wheel → Option ℕ
 ring_at m wheel = slice_get m.rings (place_in_box m.model wheel)
 
 abbrev pub letter_at : RotorParts → Wheel → Option ℕ
 letter_at m wheel = slice_get m.letters (place_in_box m.model wheel)
 
--- what is in this slot, if there is such a slot
+-- what the slot holds, if the machine has the slot
 abbrev pub slot_in : Parts → ℕ → Option (Option Wheel)
 slot_in (Rotor m) slot = numbered m.slots slot
 slot_in (Pin m) slot = None
@@ -129,13 +138,13 @@ abbrev pub letter_in : Parts → Wheel → Option ℕ
 letter_in (Rotor m) wheel = letter_at m wheel
 letter_in (Pin m) wheel = None
 
--- the letters in this cable, if there is such a cable
+-- the letters in the cable, if the machine has the cable
 abbrev pub cable_in : Parts → ℕ → Option (Option ℕ × Option ℕ)
 cable_in (Rotor m) cable = numbered m.cables cable
 cable_in (Pin m) cable = None
 
--- whether this pin is effective, which letter this pin wheel shows, and where this bar's lugs stand; `None` if
--- the machine has no such pin, wheel or bar
+-- whether a pin is effective; which letter a pin wheel shows; where a bar's lugs are; `None` if the machine
+-- lacks the pin, the wheel or the bar
 abbrev pub pin_in : Parts → ℕ → ℕ → Option Bool
 pin_in (Rotor m) wheel letter = None
 pin_in (Pin m) wheel letter = pin_at m.pins wheel letter

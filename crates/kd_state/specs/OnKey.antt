@@ -1,4 +1,6 @@
 -- When a machine is on a day's key, and when it reads as the day.
+-- Code: searches each way for cables; sorts and compares both sides for bars.
+-- Test: kd_trials/src/state/days.rt
 use Rattle.std.specs.Prelude.{◌≡◌, ◌≢◌, ◌⊎◌, ◌↔◌, ℕ, List, [], ◌∷◌, map, All, Any, Contains, IsPermutation, Option}
 use Rattle.std.specs.Prelude.{Some}
 use Rattle.kd_tables.specs.Places.{reading_of}
@@ -9,33 +11,32 @@ use Rattle.kd_state.specs.declared.machine.parts.Parts.TheVariants.{Rotor, Pin}
 use Rattle.kd_state.specs.Machine.{cable_letters, ring_at, letter_at}
 use Rattle.kd_state.specs.SheetDay.{RotorDay, PinDay, Day, OfRotors, OfPins, seats}
 
--- the two lists have the same letters
+-- The two lists have the same letters.
 abbrev pub SameLetters : List ℕ → List ℕ → Type 0
 SameLetters xs ys = (letter : ℕ) → Contains xs letter ↔ Contains ys letter
 
--- the two letters are the letters of the pair, in either order
+-- The two letters are the letters of the pair, in either order.
 abbrev pub AreTheLetters : ℕ → ℕ → ℕ × ℕ → Type 0
 AreTheLetters one other pair = ((one ≡ pair.0) × (other ≡ pair.1)) ⊎ ((other ≡ pair.0) × (one ≡ pair.1))
 
--- the cable's letters are the letters of the pair
+-- The cable's letters are the letters of the pair.
 pub record Joins (cable : Option ℕ × Option ℕ) (pair : ℕ × ℕ) : Type 0 where
   pub letters : SameLetters (cable_letters cable) (pair.0 ∷ pair.1 ∷ [])
 
--- the cable is empty, or joins one of the pairs
+-- The cable is empty, or joins one of the pairs.
 pub record IsPaired (pairs : List (ℕ × ℕ)) (cable : Option ℕ × Option ℕ) : Type 0 where
   pub joins : cable_letters cable ≢ [] → Any (Joins cable) pairs
 
--- one of the cables joins the pair
+-- One of the cables joins the pair.
 pub record IsJoined (cables : List (Option ℕ × Option ℕ)) (pair : ℕ × ℕ) : Type 0 where
   pub joins : Any (λ cable. Joins cable pair) cables
 
--- The cables that aren't empty are exactly the pairs: each joins a pair, and each pair is joined. No order
--- matters.
+-- Each cable is empty or joins a pair, and each pair is joined by a cable. No order matters.
 pub record AreThePairs (cables : List (Option ℕ × Option ℕ)) (pairs : List (ℕ × ℕ)) : Type 0 where
   pub pair : All (IsPaired pairs) cables
   pub cable : All (IsJoined cables) pairs
 
--- each slot has the day's wheel with the day's ring; reflector and cables are the day's
+-- Each slot has the day's wheel with the day's ring. Reflector and cables are the day's.
 pub record IsRotorOnKey (m : RotorParts) (s : RotorDay) : Type 0 where
   pub model : m.model ≡ s.model
   pub slots : m.slots ≡ seats s.wheels
@@ -43,24 +44,24 @@ pub record IsRotorOnKey (m : RotorParts) (s : RotorDay) : Type 0 where
   pub reflector : m.reflector ≡ s.reflector
   pub cables : AreThePairs m.cables s.pairs
 
--- the pins are the day's, and the bars read as the day's rows in any order
+-- The pins are the day's, and the bars read as the day's rows in any order.
 pub record IsPinOnKey (m : PinParts) (s : PinDay) : Type 0 where
   pub pins : m.pins ≡ s.pins
   pub rows : IsPermutation (map (λ bar. reading_of bar.0 bar.1) m.bars) s.rows
 
--- the machine is set as the day says, whichever letters it shows
+-- The machine is set as the day says, whatever letters it shows.
 abbrev pub OnKey : Parts → Day → Type 0
 OnKey (Rotor m) (OfRotors s) = IsRotorOnKey m s
 OnKey (Pin m) (OfPins s) = IsPinOnKey m s
 OnKey _ _ = ⊥
 
--- the machine shows the day's letters
+-- The machine shows the day's letters.
 abbrev pub ShowsWindow : Parts → Day → Type 0
 ShowsWindow (Rotor m) (OfRotors s) = All (λ w. letter_at m w.wheel ≡ Some w.letter) s.wheels
 ShowsWindow (Pin m) (OfPins s) = m.letters ≡ s.window
 ShowsWindow _ _ = ⊥
 
--- the machine is set as the day says and shows the day's letters
+-- The machine is set as the day says, and shows the day's letters.
 pub record ReadsAs (m : Parts) (s : Day) : Type 0 where
   pub key : OnKey m s
   pub window : ShowsWindow m s

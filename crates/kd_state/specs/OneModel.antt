@@ -1,4 +1,5 @@
--- A machine and a day of one model, taken apart.
+-- A machine and a day of one model, as one value.
+-- Test: kd_trials/src/state/days.rt
 use Rattle.std.specs.Prelude.{◌≡◌}
 use Rattle.kd_state.specs.declared.machine.parts.Parts.{Parts}
 use Rattle.kd_state.specs.declared.machine.parts.Parts.TheVariants as parts
@@ -7,7 +8,8 @@ use Rattle.kd_state.specs.declared.machine.one_model.OneModel.TheVariants.{Rotor
 use Rattle.kd_state.specs.SheetDay.{Day, OfRotors, OfPins}
 use Rattle.kd_state.specs.Entry.{rotor_values, pin_values}
 
--- they have these parts and this entry, both of one rotor model, or both of the Converter M-209
+-- The value has the machine's parts and the day's entry: both of one rotor model, or both of the Converter
+-- M-209.
 abbrev pub AreParted : Parts → Day → OneModel → Type 0
 AreParted m s (Rotor m_parts entry) =
     (m ≡ parts.Rotor m_parts.now) × (s ≡ OfRotors (rotor_values entry.now))

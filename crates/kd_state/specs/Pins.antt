@@ -6,15 +6,15 @@ use Rattle.kd_pins.specs.declared.pin_set.PinSet.{PinSet}
 use Rattle.kd_pins.specs.PinWheels.{pins_of}
 use Rattle.kd_state.specs.ToldApart.{numbered}
 
--- the pins of this wheel in its own order; none for other numbers
+-- the pins of a wheel, in its own order; none for a number that no wheel has
 abbrev pub wheel_pins : PinSet → ℕ → List Bool
 wheel_pins pins wheel = unwrap_or (numbered (pins_of pins) wheel) []
 
--- whether this pin is effective, if the wheel has the letter
+-- whether the pin at a letter of a wheel is effective, if the wheel has the letter
 abbrev pub pin_at : PinSet → ℕ → ℕ → Option Bool
 pin_at pins wheel letter = option_and_then (slice_get (wheel_pins pins wheel)) (place_on (ring_of wheel) letter)
 
--- the six lists as pins of the six wheels
+-- the pins of the six wheels, from six lists
 abbrev pub pin_set : List (List Bool) → PinSet
 pin_set lists = record {
   w1 = slice_index_or lists 0 [];
@@ -25,7 +25,7 @@ pin_set lists = record {
   w6 = slice_index_or lists 5 [];
 }
 
--- the pins with this one made effective or not
+-- the pins, with one of them made effective or not
 abbrev pub with_pin : PinSet → ℕ → ℕ → Bool → PinSet
 with_pin pins wheel letter effective =
     pin_set (slice_set (pins_of pins) (wheel - 1)

@@ -1,4 +1,4 @@
--- The wheels in a machine's slots, with their rings and window letters.
+-- The wheels in a machine's slots, with their rings and window letters. No public contract cites this file.
 use Rattle.std.specs.Prelude.{ℕ, List, map, Option, Some, None}
 use Rattle.kd_tables.specs.declared.wheel.Wheel.{Wheel}
 use Rattle.kd_tables.specs.declared.reflector.Reflector.{Reflector}
@@ -7,12 +7,12 @@ use Rattle.kd_state.specs.declared.machine.rotor_parts.RotorParts.{RotorParts}
 use Rattle.kd_state.specs.declared.sheet_day.rotor_entry.SheetWheel.{SheetWheel}
 use Rattle.kd_state.specs.Machine.{ring_at, letter_at}
 
--- the wheel with this ring and this letter, if it has both
+-- the wheel with its ring and its letter, if it has both
 abbrev pub wheel_with : Wheel → Option ℕ → Option ℕ → Option SheetWheel
 wheel_with wheel (Some ring) (Some letter) = Some (record { wheel = wheel; ring = ring; letter = letter })
 wheel_with wheel _ _ = None
 
--- the wheel in a slot with its ring and its window letter, if there is one
+-- the wheel in a slot with its ring and its window letter, if the slot holds one
 abbrev pub seated_wheel : RotorParts → Option Wheel → Option SheetWheel
 seated_wheel m None = None
 seated_wheel m (Some wheel) = wheel_with wheel (ring_at m wheel) (letter_at m wheel)

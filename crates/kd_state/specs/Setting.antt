@@ -1,4 +1,5 @@
--- A single setting: why a machine refuses it, and what it changes. Then lists of settings.
+-- Why a machine refuses a setting: the reasons in the order of testing, and the first that holds.
+-- Test: kd_trials/src/state/carrying.rt
 use Rattle.std.specs.Prelude.{◌≡◌, ℕ, ◌-◌, nat_eq, nat_lt, ◌+◌, Bool, true, false, not, ◌&&◌, List, [], ◌∷◌, ◌++◌, map}
 use Rattle.std.specs.Prelude.{find, slice_set, length, Option, Some, None, is_none, unwrap_or, Result, MatchResult, ⊤}
 use Rattle.std.specs.Prelude.{if◌then◌else◌}
@@ -26,28 +27,28 @@ use Rattle.kd_state.specs.declared.setting.why.Why.TheVariants.{NoSuchBar, Place
 use Rattle.kd_state.specs.ToldApart.{same_wheel, has_wheel, has_reflector, place_in_box, numbered}
 use Rattle.kd_state.specs.Machine.{cable_letters, plugged_letters, ordered}
 
--- the letter is one of these
+-- whether the letter is in the list
 abbrev pub has_letter : List ℕ → ℕ → Bool
 has_letter letters letter = list_any (λ other. nat_eq other letter) letters
 
--- the letters differ from each other and from the others
+-- whether the letters differ from each other and from all of `others`
 abbrev pub are_new : List ℕ → List ℕ → Bool
 are_new [] others = true
 are_new (letter ∷ letters) others = not (has_letter (letters ++ others) letter) && are_new letters others
 
--- cable `cable`, counted from 1; an empty one if there is no such cable
+-- cable `cable`, counted from 1; an empty one for a number that no cable has
 abbrev pub cable_at : RotorParts → ℕ → Option ℕ × Option ℕ
 cable_at m cable = unwrap_or (numbered m.cables cable) (None, None)
 
--- the wheel in the slot; none if the slot is empty or there is no such slot
+-- the wheel in the slot; `None` if the slot is empty, or the machine lacks it
 abbrev pub seated_in : RotorParts → ℕ → Option Wheel
 seated_in m slot = unwrap_or (numbered m.slots slot) None
 
--- both ends of the cable have letters
+-- whether both ends of the cable have letters
 abbrev pub is_plugged : Option ℕ × Option ℕ → Bool
 is_plugged cable = not (is_none cable.0) && not (is_none cable.1)
 
--- where this lug of the bar stands
+-- the place of this lug of the bar
 abbrev pub lug_place : Lug → Place × Place → Place
 lug_place Left bar = bar.0
 lug_place Right bar = bar.1
@@ -56,16 +57,16 @@ abbrev pub other_lug : Lug → Lug
 other_lug Left = Right
 other_lug Right = Left
 
--- the two places are the same
+-- whether the two places are equal
 abbrev pub is_at : Place → Place → Bool
 is_at place other = nat_eq (place_rank place) (place_rank other)
 
--- at `place` the lug would stand on the wrong side of the other lug, which is at `other`
+-- whether `place` is on the wrong side, for this lug, of the other lug at `other`
 abbrev pub lies_beyond : Lug → Place → Place → Bool
 lies_beyond Left place other = nat_lt (place_rank other) (place_rank place)
 lies_beyond Right place other = nat_lt (place_rank place) (place_rank other)
 
--- where the bar's other lug stands
+-- the place of the bar's other lug
 abbrev pub other_place : PinParts → ℕ → Lug → Option Place
 other_place m bar lug = option_map (lug_place (other_lug lug)) (numbered m.bars bar)
 
@@ -103,32 +104,35 @@ reasons (Pin m) (LugTo bar lug place) =
     ∷ (option_map_or (lies_beyond lug place) (other_place m bar lug) false, WouldPass)
     ∷ []
 
--- the first reason that holds; the machine refuses the setting for it
+-- the first reason that holds, for which the machine refuses the setting
 abbrev pub why_refused : Parts → Setting → Option Why
 why_refused m x = option_map (λ reason. reason.1) (find (λ reason. reason.0) (reasons m x))
 
--- the cable without the letter, and with it in alphabetical order
+-- ---- What a setting makes of a machine.
+-- Code: the machine is changed in place.
+
+-- the cable without the letter; and the cable with the letter added, in alphabetical order
 abbrev pub cable_without : ℕ → Option ℕ × Option ℕ → Option ℕ × Option ℕ
 cable_without letter cable = if option_map_or (nat_eq letter) cable.0 false then (cable.1, None) else (cable.0, None)
 
 abbrev pub cable_with : ℕ → Option ℕ × Option ℕ → Option ℕ × Option ℕ
 cable_with letter cable = ordered (option_or cable.0 cable.1) (Some letter)
 
--- what is in a slot once the wheel has been taken out, if it was there
+-- what a slot holds after `wheel` was taken out, if it was there
 abbrev pub without : Wheel → Option Wheel → Option Wheel
 without wheel seated = if option_map_or (same_wheel wheel) seated false then None else seated
 
--- the window letters with this one for the wheel, if there is a wheel
+-- the window letters, with `letter` for the wheel if there is one
 abbrev pub with_letter : RotorParts → Option Wheel → ℕ → List ℕ
 with_letter m None letter = m.letters
 with_letter m (Some wheel) letter = slice_set m.letters (place_in_box m.model wheel) letter
 
--- the standing with this lug at the place
+-- the standing, with this lug at the place
 abbrev pub with_lug : Lug → Place → Place × Place → Place × Place
 with_lug Left place bar = (place, bar.1)
 with_lug Right place bar = (bar.0, place)
 
--- the left lug stands before the right one
+-- The left lug is left of the right lug.
 abbrev pub Stands : Place × Place → Type 0
 Stands bar = IsBefore bar.0 bar.1
 
@@ -137,8 +141,8 @@ abbrev pub with_lug_at : PinParts → ℕ → Lug → Place → List (Place × P
 with_lug_at m bar lug place =
     option_map_or (λ standing. slice_set m.bars (bar - 1) (with_lug lug place standing)) (numbered m.bars bar) m.bars
 
--- What a setting makes of a machine that doesn't refuse it. A wheel that is put into a slot leaves its old
--- slot, and the wheel that was there goes to the box. Wheels keep their rings and window letters.
+-- The machine that a setting makes of a machine that doesn't refuse it. A wheel that is put into a slot leaves
+-- its old slot, and the wheel that was there goes to the box. Wheels keep their rings and window letters.
 abbrev pub changed : Parts → Setting → Parts
 changed (Rotor m) (Pull cable letter) =
     Rotor (record m { cables = slice_set m.cables (cable - 1) (cable_without letter (cable_at m cable)) })
@@ -161,23 +165,27 @@ changed (Pin m) (Seat slot wheel) = Pin m
 changed (Pin m) (SeatReflector reflector) = Pin m
 changed (Pin m) (RingTo wheel letter) = Pin m
 
--- the machine `m` doesn't refuse the setting, which makes the machine `n` of it
+-- ---- Settings carried out one after another, and the first that is refused.
+-- Code: a loop that stops there.
+-- Test: writes_the_machine_that_stands_then
+
+-- Machine `m` doesn't refuse setting `x`, which makes machine `n` of it.
 pub record Carries (m : Parts) (x : Setting) (n : Parts) : Type 0 where
   pub allowed : why_refused m x ≡ None
   pub made : n ≡ changed m x
 
--- the machine's answer to a setting: it carries it out; or it refuses it for the first reason that holds and
--- stays as it was
+-- The answer to a setting: the machine carries it out, or refuses it for the first reason that holds and stays
+-- as it was.
 abbrev pub Answers : Parts → Setting → Parts → Result ⊤ Why → Type 0
 Answers m x n answer = MatchResult answer (λ _. Carries m x n) (λ why. (why_refused m x ≡ Some why) × (n ≡ m))
 
--- the settings, carried out one after another, make the machine `n` of the machine `m`
+-- The settings, carried out in order, lead from machine `m` to machine `n`.
 abbrev pub Leads : Parts → List Setting → Parts → Type 0
 Leads m [] n = n ≡ m
 Leads m (x ∷ xs) n = (between : Parts) × Carries m x between × Leads between xs n
 
--- the setting on this line, counted from 1, is the first that the machine refuses when it comes to it, for this
--- reason
+-- Line `line`, counted from 1, has the first setting that is refused, for reason `why`. The settings before it
+-- are carried out.
 pub record IsFirstIllegal (m : Parts) (settings : List Setting) (line : ℕ) (why : Why) : Type 0 where
   pub front : List Setting
   pub setting : Setting

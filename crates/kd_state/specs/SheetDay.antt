@@ -1,4 +1,4 @@
--- A day of a key sheet: its values, and which values a key sheet can have.
+-- The values of a day of a key sheet.
 use Rattle.std.specs.Prelude.{◌≡◌, ℕ, ◌<◌, ◌≤◌, List, length, map, All, Any, Contains, IsPermutation, Option, Some}
 use Rattle.std.specs.Prelude.{None}
 use Rattle.std.specs.Option.{option_map}
@@ -14,8 +14,8 @@ use Rattle.kd_state.specs.declared.sheet_day.rotor_entry.SheetWheel.{SheetWheel}
 use Rattle.kd_state.specs.ToldApart.{numbered}
 use Rattle.kd_state.specs.Machine.{AreAllowed, AreApart, AreLetters, AreOnWheels, HasAllPins}
 
--- The values of a day of a rotor machine. There is a wheel for each slot, from the left, with its ring and its
--- window letter; `pairs` are the plugged pairs, and `groups` the groups of the day's messages.
+-- The values of a day of a rotor machine. From the left, each slot has a wheel with its ring and its window
+-- letter. `pairs` are the plugged pairs, and `groups` the groups for the day's messages.
 pub record RotorDay : Type 0 where
   pub day : ℕ
   pub model : Model
@@ -24,8 +24,8 @@ pub record RotorDay : Type 0 where
   pub pairs : List (ℕ × ℕ)
   pub groups : List (List ℕ)
 
--- The values of a day of the Converter M-209: the readings asked of the bars, the effective pins, the letters
--- that show, and the two letters of the key list.
+-- The values of a day of the Converter M-209: the readings for the bars, the effective pins, the letters that
+-- the wheels show, and the two letters of the key list.
 pub record PinDay : Type 0 where
   pub day : ℕ
   pub rows : List (ℕ × ℕ)
@@ -37,33 +37,37 @@ pub data Day : Type 0 where
   OfRotors : RotorDay → Day
   OfPins : PinDay → Day
 
--- the number is a day of a month
+-- ---- Which values a day can have.
+-- Code: lists of bounded length.
+-- Test: kd_trials/src/state/days.rt
+
+-- The number is from 1 to 31.
 pub record IsDayNumber (number : ℕ) : Type 0 where
   pub first : 1 ≤ number
   pub last : number ≤ 31
 
--- at most 13 pairs of letters below 26, with no letter in two places
+-- There are at most 13 pairs of letters below 26, and no letter is in two places.
 pub record ArePairs (pairs : List (ℕ × ℕ)) : Type 0 where
   pub few : length pairs ≤ 13
   pub within : All (λ letter. letter < 26) (letters_plugged pairs)
   pub apart : NoLetterTwice pairs
 
--- the wheel's ring and its window letter are below 26
+-- The wheel's ring and its window letter are below 26.
 pub record HasLetters (wheel : SheetWheel) : Type 0 where
   pub ring : wheel.ring < 26
   pub letter : wheel.letter < 26
 
--- the wheels alone, each in its slot
+-- the wheels without rings and letters, each in its slot
 abbrev pub seats : List SheetWheel → List (Option Wheel)
 seats wheels = map (λ w. Some w.wheel) wheels
 
--- the wheels fill the model's slots; each is allowed in its slot, and none is in two
+-- The wheels fill the model's slots. Each is allowed in its slot, and none is in two.
 pub record AreSeated (model : Model) (slots : List (Option Wheel)) : Type 0 where
   pub count : length slots ≡ slots_of model
   pub allowed : AreAllowed model slots
   pub apart : AreApart slots
 
--- a key sheet can have a day with these values
+-- A key sheet can have a day with these values.
 pub record IsLegalRotorDay (s : RotorDay) : Type 0 where
   pub day : IsDayNumber s.day
   pub reflector : Contains (reflectors_of s.model) s.reflector
@@ -85,7 +89,10 @@ abbrev pub IsLegalDay : Day → Type 0
 IsLegalDay (OfRotors s) = IsLegalRotorDay s
 IsLegalDay (OfPins s) = IsLegalPinDay s
 
--- the day's number and its model
+-- ---- What the readers of a day show.
+-- Test: kd_trials/src/state/days.rt
+
+-- the number and the model of a day
 abbrev pub day_number : Day → ℕ
 day_number (OfRotors s) = s.day
 day_number (OfPins s) = s.day
@@ -103,21 +110,21 @@ abbrev pub pin_day : Day → Option PinDay
 pin_day (OfRotors s) = None
 pin_day (OfPins s) = Some s
 
--- the wheel in this slot, with its ring and its window letter
+-- the wheel for a slot, with its ring and its window letter
 abbrev pub sheet_wheel : Day → ℕ → Option SheetWheel
 sheet_wheel (OfRotors s) slot = numbered s.wheels slot
 sheet_wheel (OfPins s) slot = None
 
--- the letter in the window of this slot, or on this pin wheel
+-- the day's letter for the window of a slot, or for a pin wheel
 abbrev pub shown_letter : Day → ℕ → Option ℕ
 shown_letter (OfRotors s) slot = option_map (λ w. w.letter) (numbered s.wheels slot)
 shown_letter (OfPins s) wheel = numbered s.window wheel
 
--- the letters are one of the groups, in any order
+-- The letters are one of the groups, in any order.
 abbrev pub AreOfAGroup : List (List ℕ) → List ℕ → Type 0
 AreOfAGroup groups letters = Any (λ group. IsPermutation group letters) groups
 
--- the letters are one of the day's groups, in any order; only rotor machines have groups
+-- The letters are one of the day's groups, in any order. A Converter's day has no groups.
 abbrev pub AreOfADaysGroup : Day → List ℕ → Type 0
 AreOfADaysGroup (OfRotors s) letters = AreOfAGroup s.groups letters
 AreOfADaysGroup (OfPins s) letters = ⊥

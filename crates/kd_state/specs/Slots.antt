@@ -1,4 +1,5 @@
 -- Three or four values, one for each slot.
+-- Code: arrays of each size.
 use Rattle.std.specs.Prelude.{◌≡◌, ◌==◌, List, length, if◌then◌else◌}
 use Rattle.kd_state.specs.declared.machine.per_slot.Slots.{Slots}
 use Rattle.kd_state.specs.declared.machine.per_slot.Slots.TheVariants.{Three, Four}
@@ -8,11 +9,11 @@ abbrev pub slot_values : {T : Type 0} → Slots T → List T
 slot_values (Three values) = values
 slot_values (Four values) = values
 
--- there are as many values as the variant says
+-- There are as many values as the variant says.
 abbrev pub HasSlots : {T : Type 0} → Slots T → Type 0
 HasSlots (Three values) = length values ≡ 3
 HasSlots (Four values) = length values ≡ 4
 
--- three values, or else four
+-- the values, as three if there are three, and otherwise as four
 abbrev pub slots_of_values : {T : Type 0} → List T → Slots T
 slots_of_values values = if length values == 3 then Three values else Four values

@@ -1,5 +1,6 @@
--- The cipher of a machine as it stands, and the cipher that a day asks for. They are defined apart: the
--- machine's by its slots, cables and lugs, the day's by the wheels, pairs and rows of its entry.
+-- The key of an engine for either kind of machine, and its cipher.
+-- Code: one engine for all models.
+-- Test: kd_trials/src/state/engine.rt
 use Rattle.std.specs.Prelude.{◌≡◌, ◌≢◌, ℕ, List, length, map, All, IsSome, Option, Some, None}
 use Rattle.std.specs.List.{filter_map}
 use Rattle.kd_tables.specs.declared.wheel.Wheel.{Wheel}
@@ -15,7 +16,7 @@ use Rattle.kd_state.specs.Machine.{cable_letters, ring_at, letter_at, AreLetters
 use Rattle.kd_state.specs.SheetDay.{Day, OfRotors, OfPins}
 use Rattle.kd_state.specs.Lugs.{lugs_cipher}
 
--- the key of an engine: of a rotor machine, or of a Converter M-209
+-- The key of an engine: a rotor machine's, or a Converter's.
 pub data EngineKey : Type 0 where
   OfWheels : RotorKey → EngineKey
   OfDrum : PinKey → EngineKey
@@ -33,12 +34,14 @@ abbrev pub key_with_window : EngineKey → List ℕ → EngineKey
 key_with_window (OfWheels key) window = OfWheels (key_turned key window)
 key_with_window (OfDrum key) window = OfDrum (pin_key_turned key window)
 
--- the letters are a window: one for each slot, or one for each pin wheel and on it
+-- The letters are a window: one for each slot; or one for each pin wheel, and on it.
 abbrev pub IsWindow : EngineKey → List ℕ → Type 0
 IsWindow (OfWheels key) window = AreLetters (length key.wheels) window
 IsWindow (OfDrum key) window = AreOnWheels window
 
--- no slot is empty, and no cable has exactly one letter
+-- ---- When a machine is ready, and which wheels, letters and pairs it has.
+
+-- No slot is empty, and no cable has exactly one letter.
 pub record IsRotorReady (m : RotorParts) : Type 0 where
   pub slots : All (λ seated. IsSome seated) m.slots
   pub cables : All (λ cable. length (cable_letters cable) ≢ 1) m.cables
@@ -51,7 +54,7 @@ IsReady (Pin m) = Unit {0}
 abbrev pub seated_wheels : RotorParts → List Wheel
 seated_wheels m = filter_map (λ seated. seated) m.slots
 
--- the letters in the windows of the slots, or on the pin wheels
+-- the letters in the windows of the slots, or those that the pin wheels show
 abbrev pub window_of : Parts → List ℕ
 window_of (Rotor m) = filter_map (letter_at m) (seated_wheels m)
 window_of (Pin m) = m.letters
@@ -63,6 +66,10 @@ both_ends _ _ = None
 
 abbrev pub plugged_pairs : RotorParts → List (ℕ × ℕ)
 plugged_pairs m = filter_map (λ cable. both_ends cable.0 cable.1) m.cables
+
+-- ---- The cipher of a machine as it stands, and the cipher that a day asks for, defined apart: the machine's
+-- by its slots, cables and lugs, the day's by the wheels, pairs and rows of its entry.
+-- Source: the published accounts of the current's path; War Department TM 11-380
 
 -- The key of a machine as it stands: its wheels with their rings and letters, its reflector, and its cables of
 -- two letters; or its pins, its letters, and the readings of its bars.
@@ -80,7 +87,7 @@ physical_key (Pin m) = OfDrum (record {
   rows = map (λ bar. reading_of bar.0 bar.1) m.bars;
 })
 
--- the key that the day asks for
+-- the key that a day asks for
 abbrev pub sheet_key : Day → EngineKey
 sheet_key (OfRotors s) = OfWheels (record {
   wheels = map (λ w. w.wheel) s.wheels;
@@ -97,11 +104,11 @@ abbrev pub physical_cipher : Parts → List ℕ → List ℕ
 physical_cipher (Rotor m) text = cipher (physical_key (Rotor m)) text
 physical_cipher (Pin m) text = lugs_cipher m text
 
--- the ciphertext that a machine set as the day says makes
+-- the ciphertext that the day asks for
 abbrev pub sheet_cipher : Day → List ℕ → List ℕ
 sheet_cipher s = cipher (sheet_key s)
 
--- `n` is the machine `m` turned to these letters; letters of wheels in the box are left open
+-- `n` is machine `m` turned to these letters; wheels in the box may have any letters.
 abbrev pub IsTurned : Parts → List ℕ → Parts → Type 0
 IsTurned (Rotor m) window (Rotor n) = (n ≡ record m { letters = n.letters }) × (window_of (Rotor n) ≡ window)
 IsTurned (Pin m) window (Pin n) = n ≡ record m { letters = window }

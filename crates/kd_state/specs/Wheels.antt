@@ -1,4 +1,5 @@
 -- Five, eight or ten values, one for each wheel of a box.
+-- Code: arrays of each size.
 use Rattle.std.specs.Prelude.{◌≡◌, ◌==◌, List, length, if◌then◌else◌}
 use Rattle.kd_state.specs.declared.machine.per_wheel.Wheels.{Wheels}
 use Rattle.kd_state.specs.declared.machine.per_wheel.Wheels.TheVariants.{Five, Eight, Ten}
@@ -9,13 +10,13 @@ wheel_values (Five values) = values
 wheel_values (Eight values) = values
 wheel_values (Ten values) = values
 
--- there are as many values as the variant says
+-- There are as many values as the variant says.
 abbrev pub HasWheels : {T : Type 0} → Wheels T → Type 0
 HasWheels (Five values) = length values ≡ 5
 HasWheels (Eight values) = length values ≡ 8
 HasWheels (Ten values) = length values ≡ 10
 
--- five values, or eight, or else ten
+-- the values, as five or eight if there are five or eight, and otherwise as ten
 abbrev pub wheels_of_values : {T : Type 0} → List T → Wheels T
 wheels_of_values values =
     if length values == 5 then Five values else (if length values == 8 then Eight values else Ten values)

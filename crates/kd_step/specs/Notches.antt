@@ -1,14 +1,14 @@
--- The table of a wheel's notches.
+-- Which letters are notches, as a table for one wheel. No public contract cites this file.
 use Rattle.std.specs.Prelude.{◌≡◌, ℕ, ◌+◌, ◌-◌, ◌<◌, Bool, false, List, length, slice_get, slice_index_or, IsSomeAnd}
 use Rattle.kd_tables.specs.Tables.{is_notch}
 use Rattle.kd_tables.specs.declared.wheel.Wheel.{Wheel}
 
--- `table` says for each letter whether `wheel` is at a notch with this letter in its window
+-- `table` says for each letter whether `wheel` is at a notch while the letter shows in its window.
 pub record IsNotchTable (wheel : Wheel) (table : List Bool) : Type 0 where
   pub size : length table ≡ 26
   pub each : (letter : ℕ) → letter < 26 → slice_index_or table letter false ≡ is_notch wheel letter
 
--- `table` is the notch table of the wheel at `place`, counted from the right from 0
+-- `table` is the notch table of the wheel at `place`, counted from the right from 0.
 abbrev pub TellsNotches : List Wheel → ℕ → List Bool → Type 0
 TellsNotches wheels place table =
     IsSomeAnd (slice_get wheels (length wheels - (place + 1))) (λ wheel. IsNotchTable wheel table)

@@ -1,12 +1,15 @@
--- How the wheels step, by the letters in their windows. The place of a wheel is counted from the right, from 0:
--- the right wheel, the middle wheel, the left wheel, and on the M4 the Greek wheel, which never moves.
+-- One step of the wheels, by the letters in their windows. Wheels are counted from the right, from 0: the right
+-- wheel, the middle wheel, the left wheel, and on the M4 the Greek wheel, which never moves.
+-- Source: the published accounts of the stepping, with its double step
+-- Code: a table says where a wheel is at a notch.
+-- Test: wheels_step
 use Rattle.std.specs.Prelude.{◌≡◌, ◌↔◌, ℕ, zero, suc, ◌+◌, ◌-◌, ◌%◌, ◌≤◌, List, ◌++◌, length, take, drop, map}
 use Rattle.std.specs.Prelude.{slice_get, slice_index, IsTrue, IsFalse, Bool, false, if◌then◌else◌}
 use Rattle.std.specs.Option.{option_map_or}
 use Rattle.kd_tables.specs.Tables.{is_notch}
 use Rattle.kd_tables.specs.declared.wheel.Wheel.{Wheel}
 
--- the value of a stepper in contracts: its wheels and the letters in their windows, from the left
+-- A stepper as contracts see it: its wheels and the letters in their windows, from the left.
 pub record Stepping : Type 0 where
   pub wheels : List Wheel
   pub window : List ℕ
@@ -15,7 +18,7 @@ pub record Stepping : Type 0 where
 abbrev pub next_letter : ℕ → ℕ
 next_letter letter = (letter + 1) % 26
 
--- the wheel at `place` stands at one of its notches
+-- whether the wheel at `place` is at one of its notches
 abbrev pub stands_at_notch : List Wheel → List ℕ → ℕ → Bool
 stands_at_notch wheels window place =
     let slot = length window - (place + 1) in
@@ -34,7 +37,10 @@ pub record IsStep (wheels : List Wheel) (before after : List ℕ) : Type 0 where
   pub from_no_notch : IsFalse (stands_at_notch wheels before 1) → IsFalse (stands_at_notch wheels before 0)
       → after ≡ moved 1 before
 
--- `n` steps lead from the window `first` to the window `last`
+-- ---- Several steps: as a chain of steps, and as a function.
+-- Code: the window is moved in place.
+
+-- A chain of `n` steps leads from the window `first` to the window `last`.
 abbrev pub LeadsInSteps : List Wheel → List ℕ → ℕ → List ℕ → Type 0
 LeadsInSteps wheels first zero last = last ≡ first
 LeadsInSteps wheels first (suc n) last =
@@ -51,13 +57,13 @@ abbrev pub window_after : List Wheel → List ℕ → ℕ → List ℕ
 window_after wheels window zero = window
 window_after wheels window (suc n) = next_window wheels (window_after wheels window n)
 
--- `n` steps lead to `window_after`, and to no other window
+-- A chain of `n` steps leads to `window_after`, and to no other window.
 abbrev pub ChainsEndInWindowAfter : Type 0
 ChainsEndInWindowAfter =
     (wheels : List Wheel) (first last : List ℕ) (n : ℕ)
     → LeadsInSteps wheels first n last ↔ (last ≡ window_after wheels first n)
 
--- if the middle wheel's letter stays in a step, all letters but the right wheel's stay
+-- If the middle wheel keeps its letter in a step, all wheels but the right one keep theirs.
 abbrev pub SlowWheelsMoveTogether : Type 0
 SlowWheelsMoveTogether =
     (wheels : List Wheel) (before after : List ℕ) → IsStep wheels before after → 3 ≤ length before

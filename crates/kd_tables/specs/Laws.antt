@@ -1,4 +1,4 @@
--- What the laws on tables and on permutations of the alphabet promise.
+-- The laws of permutations, published tables and pin wheels.
 use Rattle.std.specs.Prelude.{◌≡◌, ◌↔◌, ℕ, ◌+◌, ◌-◌, ◌%◌, ◌<◌, ◌≤◌, List, length, slice_index, Some}
 use Rattle.kd_tables.specs.declared.wheel.Wheel.{Wheel}
 use Rattle.kd_tables.specs.declared.reflector.Reflector.{Reflector}
@@ -14,15 +14,15 @@ WiringsArePermutations = (wheel : Wheel) → IsPermutation26 (wiring_of wheel)
 abbrev pub ReflectorsArePermutations : Type 0
 ReflectorsArePermutations = (reflector : Reflector) → IsPermutation26 (reflector_of reflector)
 
--- A reflector takes each letter to another one, and that one back.
+-- A reflector takes each letter to another letter, and back again.
 abbrev pub ReflectorsLeadBack : Type 0
 ReflectorsLeadBack = (reflector : Reflector) → IsOwnInverse (reflector_of reflector)
 
 abbrev pub ReflectorsMoveEachLetter : Type 0
 ReflectorsMoveEachLetter = (reflector : Reflector) → MovesEachLetter (reflector_of reflector)
 
--- How products, inverses and shifts act on one letter. In a product, the second permutation acts on what the
--- first one gives. The inverse takes `y` to `x` exactly if the permutation takes `x` to `y`.
+-- How products, inverses and shifts act on one letter. In a product, the second permutation acts on the first
+-- one's letter. The inverse takes `y` to `x` exactly if the permutation takes `x` to `y`.
 abbrev pub ProductsByLetter : Type 0
 ProductsByLetter =
     (p q : List ℕ) (x : ℕ) → x < length p → slice_index (followed_by p q) x ≡ slice_index q (slice_index p x)
@@ -45,14 +45,14 @@ InversesArePermutations = (p : List ℕ) → IsPermutation26 p → IsPermutation
 abbrev pub ShiftsArePermutations : Type 0
 ShiftsArePermutations = (k : ℕ) → IsPermutation26 (shift k)
 
--- A permutation and its inverse, in either order, leave each letter.
+-- A permutation and its inverse, in either order, change nothing.
 abbrev pub InverseUndoesAfter : Type 0
 InverseUndoesAfter = (p : List ℕ) → IsPermutation26 p → followed_by p (inverse p) ≡ alphabet
 
 abbrev pub InverseUndoesBefore : Type 0
 InverseUndoesBefore = (p : List ℕ) → IsPermutation26 p → followed_by (inverse p) p ≡ alphabet
 
--- the inverse of a product, and the inverse of a shift
+-- The inverse of a product, and the inverse of a shift.
 abbrev pub ProductsBackwards : Type 0
 ProductsBackwards =
     (p q : List ℕ) → IsPermutation26 p → IsPermutation26 q
@@ -61,8 +61,7 @@ ProductsBackwards =
 abbrev pub ShiftsBackwards : Type 0
 ShiftsBackwards = (k : ℕ) → k ≤ 26 → inverse (shift k) ≡ shift (26 - k)
 
--- On a pin wheel, `place_on` finds the place of the letter at a place, and the letter at the place found is the
--- one sought.
+-- On a pin wheel, `place_on` finds each letter's place, and the letter at the place found is the letter sought.
 abbrev pub LettersLeadToPlaces : Type 0
 LettersLeadToPlaces =
     (size : ℕ) (ring : List ℕ) → IsRing size ring → (place : ℕ) → place < size

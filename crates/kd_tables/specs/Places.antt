@@ -1,4 +1,5 @@
--- The places of the two lugs on a bar of the Converter M-209's drum, and how a bar stands and reads.
+-- A bar of the Converter M-209's drum: its eight places, and its two lugs.
+-- Test: bars_have_28_standings
 use Rattle.std.specs.Prelude.{codes, ◌≡◌, ℕ, ◌+◌, ◌<◌, ◌≤◌, nat_lt, min, max, List, [], ◌∷◌, ◌++◌, map, filter}
 use Rattle.std.specs.Prelude.{flat_map}
 use Rattle.kd_tables.specs.declared.place.Place.{Place}
@@ -6,7 +7,7 @@ use Rattle.kd_tables.specs.declared.place.Place.TheVariants.{One, ZeroLeft, Two,
 use Rattle.kd_tables.specs.declared.lug.Lug.{Lug}
 use Rattle.kd_tables.specs.declared.lug.Lug.TheVariants as lugs
 
--- the name of the place
+-- the name of a place
 abbrev pub place_text : Place → List ℕ
 place_text One = codes "1"
 place_text ZeroLeft = codes "0L"
@@ -17,7 +18,7 @@ place_text Five = codes "5"
 place_text ZeroRight = codes "0R"
 place_text Six = codes "6"
 
--- the number of the pin wheel that acts at the place, or 0 if none does
+-- the number of the pin wheel at a place, or 0 if there is none
 abbrev pub place_number : Place → ℕ
 place_number One = 1
 place_number ZeroLeft = 0
@@ -28,11 +29,11 @@ place_number Five = 5
 place_number ZeroRight = 0
 place_number Six = 6
 
--- all places of a bar, from left to right
+-- the places of a bar, from left to right
 abbrev pub places : List Place
 places = One ∷ ZeroLeft ∷ Two ∷ Three ∷ Four ∷ Five ∷ ZeroRight ∷ Six ∷ []
 
--- the number of places to the left of the place
+-- the number of places to the left of a place
 abbrev pub place_rank : Place → ℕ
 place_rank One = 0
 place_rank ZeroLeft = 1
@@ -43,30 +44,35 @@ place_rank Five = 5
 place_rank ZeroRight = 6
 place_rank Six = 7
 
--- `first` is to the left of `second`.
+-- `first` is left of `second`.
 abbrev pub IsBefore : Place → Place → Type 0
 IsBefore first second = place_rank first < place_rank second
 
--- the name of the lug
+-- the name of a lug
 abbrev pub lug_text : Lug → List ℕ
 lug_text lugs.Left = codes "L"
 lug_text lugs.Right = codes "R"
 
--- all standings of a bar, in which the left lug is before the right one; ordered by the left lug's place, then
--- by the right lug's
+-- ---- How a bar can stand: the places of its left and its right lug.
+-- Code: two places are compared; a text is split at its hyphen.
+
+-- All standings of a bar: the left lug is left of the right lug. They are in the order of the left lug's place,
+-- then of the right lug's.
 abbrev pub standings : List (Place × Place)
 standings =
     flat_map
     (λ left. map (λ right. (left, right)) (filter (λ right. nat_lt (place_rank left) (place_rank right)) places))
     places
 
--- the place of the left lug and that of the right lug, with `-` between them
+-- the left lug's place, `-`, and the right lug's place
 abbrev pub standing_text : Place × Place → List ℕ
 standing_text standing = place_text standing.0 ++ codes "-" ++ place_text standing.1
 
--- `left` and `right` are the names of the places of the two lugs.
+-- `left` and `right` name the places of the two lugs.
 abbrev pub AreNames : Place × Place → List ℕ → List ℕ → Type 0
 AreNames standing left right = (place_text standing.0 ≡ left) × (place_text standing.1 ≡ right)
+
+-- ---- How a bar reads: the numbers of the wheels at its lugs' places, the smaller one first.
 
 -- the two numbers, the smaller one first
 abbrev pub in_order : ℕ → ℕ → ℕ × ℕ
@@ -78,7 +84,7 @@ pub record IsReading (numbers : ℕ × ℕ) : Type 0 where
   pub within : numbers.1 ≤ 6
   pub equal : numbers.0 ≡ numbers.1 → numbers.0 ≡ 0
 
--- the numbers of the two lugs' places, the smaller one first
+-- the numbers at the two lugs' places, the smaller one first
 abbrev pub reading_of : Place → Place → ℕ × ℕ
 reading_of left right = in_order (place_number left) (place_number right)
 
@@ -86,6 +92,6 @@ reading_of left right = in_order (place_number left) (place_number right)
 abbrev pub figure : ℕ → List ℕ
 figure number = (number + 48) ∷ []
 
--- the smaller number and the larger one, with `-` between them
+-- the smaller number, `-`, and the larger one
 abbrev pub reading_text : ℕ × ℕ → List ℕ
 reading_text numbers = figure numbers.0 ++ codes "-" ++ figure numbers.1

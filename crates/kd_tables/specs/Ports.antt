@@ -1,31 +1,34 @@
--- What a put adds to the bytes that a sink has taken, what a get takes from those that a source has, and when a
--- call fails.
+-- Sources and sinks: which bytes a get or a put moves, and what a port in memory has.
+-- Code: a port is any type that keeps `Gets` or `Puts`.
+-- Test: tells_that_the_sink_failed, a_source_or_a_sink_of_an_order_fails
 use Rattle.std.specs.Prelude.{◌≡◌, ◌⊎◌, ℕ, ◌<◌, ◌≤◌, Bool, true, false, List, [], ◌∷◌, length, take, Option, Result}
 use Rattle.std.specs.Prelude.{IfOk, OnErr, Ok, Err, IsTrue}
 use Rattle.std.specs.Io.KnownBytes.{Appends, Consumes, Keeps, IsAtEnd}
 use Rattle.kd_tables.specs.declared.failed.Failed.{Failed}
 use Rattle.kd_tables.specs.declared.writing.Device.{Device}
 
--- the most bytes that are read from a source or a file
+-- the most bytes that are read from one source or file
 abbrev pub read_limit : ℕ
 read_limit = 1048576
 
--- A put takes a prefix, at least one byte if there is one, and returns its length. A refused put takes no byte.
+-- A put takes a prefix of `bytes`, with at least one byte if there is one, and returns the prefix's length. A
+-- refused put takes no byte.
 pub record Puts (old new : Option (List ℕ)) (bytes : List ℕ) (answer : Result ℕ Failed) : Type 0 where
   pub within : IfOk answer (λ count. count ≤ length bytes)
   pub some : IfOk answer (λ count. 0 < length bytes → 0 < count)
   pub taken : IfOk answer (λ count. Appends old new (take count bytes))
   pub refused : OnErr answer (Keeps old new)
 
--- A get gives a prefix of the buffer, and returns its length: 0 only at the end. A refused get gives no byte.
+-- A get fills a prefix of the buffer with the source's next bytes, and returns the prefix's length. It returns
+-- 0 only at the end, or for an empty buffer. A refused get takes no byte.
 pub record Gets (old new : Option (List ℕ)) (buffer : List ℕ) (answer : Result ℕ Failed) : Type 0 where
   pub within : IfOk answer (λ count. count ≤ length buffer)
   pub given : IfOk answer (λ count. Consumes old new (take count buffer))
   pub ended : answer ≡ Ok 0 → 0 < length buffer → IsAtEnd new
   pub refused : OnErr answer (Keeps old new)
 
--- A source in memory: the bytes to come, the most bytes for one get, the number of gets before one fails
--- (`None` if none fails), and whether one has failed.
+-- A source in memory: the bytes to come; the most bytes for one get; the number of gets before one fails, or
+-- `None` if none fails; and whether one has failed.
 pub record MemoryBytes : Type 0 where
   pub rest : List ℕ
   pub piece : ℕ
@@ -38,10 +41,12 @@ pub record MemoryTaken : Type 0 where
   pub limit : ℕ
   pub failed : Bool
 
--- ---- what a call does
+-- ---- A port before and after a call: its bytes, and whether it has failed.
+-- Code: a flag in each port.
+-- Test: stops_at_a_failed_read, stops_where_the_sink_fails
 
--- A port before and after a call: the bytes that a source still has, or that a sink has taken, if the port
--- tells them; and whether it has failed.
+-- A port before (`had`) and after (`has`) a call: the bytes that a source still has or a sink has taken, if the
+-- port tells them, and whether the port has failed.
 pub record Port : Type 0 where
   pub had : Option (List ℕ)
   pub has : Option (List ℕ)
@@ -52,7 +57,7 @@ abbrev pub port : {P : Type 0} → (P → Option (List ℕ)) → (P → Bool) �
 port bytes failed old new =
     record { had = bytes old; has = bytes new; had_failed = failed old; has_failed = failed new }
 
--- No get or put has failed during the call, unless one had failed before it.
+-- The port didn't fail in the call, unless it had failed before.
 abbrev pub IsWell : Port → Type 0
 IsWell p = p.has_failed ≡ p.had_failed
 
@@ -61,13 +66,13 @@ pub record FailsAlone (p other : Port) : Type 0 where
   pub failed : IsTrue p.has_failed
   pub well : IsWell other
 
--- For ports that hadn't failed before the call: exactly one failed if the call returns `Device`, none
--- otherwise.
+-- What a call's answer tells of its two ports. The flag is `true` if the call returns `Device`. Then one port
+-- has failed, and the other didn't fail in the call. Otherwise neither port failed in the call.
 abbrev pub Fail : Port → Port → Bool → Type 0
 Fail source sink false = IsWell source × IsWell sink
 Fail source sink true = FailsAlone source sink ⊎ FailsAlone sink source
 
--- A source is at its end, or gave one byte, or failed.
+-- The answers of a test for the end: the source is at its end, or gave one byte, or failed.
 abbrev pub Ends : Option (List ℕ) → Option (List ℕ) → Result Bool Device → Type 0
 Ends had has (Ok true) = Consumes had has [] × IsAtEnd has
 Ends had has (Ok false) = (byte : ℕ) × Consumes had has (byte ∷ [])

@@ -1,4 +1,6 @@
 -- The refusals: their numbers and names, and the words after them.
+-- Source: the table of refusals in docs/FORMATS.md
+-- Test: says_why_it_refuses
 use Rattle.std.specs.Prelude.{codes, ℕ, List, ◌∷◌}
 use Rattle.kd_tables.specs.declared.refusal.Refusal.{Refusal}
 use Rattle.kd_tables.specs.declared.refusal.Refusal.TheVariants as refusals

@@ -1,4 +1,7 @@
 -- The letters of the Converter M-209's six pin wheels.
+-- Source: War Department TM 11-380
+-- Code: a function for each wheel.
+-- Test: pin_wheels_have_their_own_letters
 use Rattle.std.specs.Prelude.{codes, ◌≡◌, ℕ, ◌<◌, ◌==◌, nat_eq, List, [], ◌∷◌, length, slice_index_or, All, Option}
 use Rattle.std.specs.List.{position, IsDistinct}
 use Rattle.kd_tables.specs.Tables.{letters_of}
@@ -13,12 +16,12 @@ ring_texts =
 unfoldable pub ring_of : ℕ → List ℕ
 ring_of number = letters_of (slice_index_or ring_texts number [])
 
--- `size` different letters.
+-- There are `size` letters, all different.
 pub record IsRing (size : ℕ) (letters : List ℕ) : Type 0 where
   pub full : length letters ≡ size
   pub within : All (λ letter. letter < 26) letters
   pub differ : IsDistinct nat_eq letters
 
--- the place of `letter` on a wheel, counted from 0, if it is on the wheel
+-- the place of `letter` on a wheel, counted from 0, if the wheel has the letter
 abbrev pub place_on : List ℕ → ℕ → Option ℕ
 place_on letters letter = position (λ other. other == letter) letters

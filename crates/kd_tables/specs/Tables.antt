@@ -1,4 +1,7 @@
--- The published tables of the Wehrmacht's and the Kriegsmarine's rotor machines, and the parts of each model.
+-- Wheels: their names, their wirings and their notches.
+-- Source: the published wirings and notches of the Wehrmacht's and the Kriegsmarine's machines
+-- Code: each call makes its table from the published text; notches are looked up in a short text.
+-- Test: wheels_are_as_published
 use Rattle.std.specs.Prelude.{codes, ℕ, ◌-◌, ◌==◌, nat_le, Bool, ◌&&◌, if◌then◌else◌, List, [], ◌∷◌, ◌++◌, map}
 use Rattle.std.specs.Prelude.{Contains}
 use Rattle.std.specs.List.{list_any}
@@ -9,11 +12,11 @@ use Rattle.kd_tables.specs.declared.reflector.Reflector.TheVariants as reflector
 use Rattle.kd_tables.specs.declared.model.Model.{Model}
 use Rattle.kd_tables.specs.declared.model.Model.TheVariants.{EnigmaI, M3, M4, M209}
 
--- the letters that a text of capital letters spells
+-- the letters of a text in capital letters
 abbrev pub letters_of : List ℕ → List ℕ
 letters_of text = map (λ byte. byte - 65) text
 
--- the name of the wheel
+-- the name of a wheel
 abbrev pub wheel_text : Wheel → List ℕ
 wheel_text I = codes "I"
 wheel_text II = codes "II"
@@ -26,7 +29,7 @@ wheel_text VIII = codes "VIII"
 wheel_text Beta = codes "Beta"
 wheel_text Gamma = codes "Gamma"
 
--- what A to Z become on the way in, in order
+-- the wiring of a wheel: the letters that A to Z become on the way in, from right to left
 unfoldable pub wiring_of : Wheel → List ℕ
 wiring_of I = letters_of (codes "EKMFLGDQVZNTOWYHXUSPAIBRCJ")
 wiring_of II = letters_of (codes "AJDKSIRUXBLHWTMCQGZNPYFVOE")
@@ -39,7 +42,7 @@ wiring_of VIII = letters_of (codes "FKQHTLXOCBJSPDZRAMEWNIUYGV")
 wiring_of Beta = letters_of (codes "LEYJVCNIXWPBQMDRTAKZGFUHOS")
 wiring_of Gamma = letters_of (codes "FSOKANUERHMBTIYCWLQPZXVGJD")
 
--- the window letters at which a wheel's next step takes the wheel to its left along
+-- the window letters at which a wheel's next step also moves the wheel to its left
 abbrev pub notches_of : Wheel → List ℕ
 notches_of I = letters_of (codes "Q")
 notches_of II = letters_of (codes "E")
@@ -52,11 +55,15 @@ notches_of VIII = letters_of (codes "MZ")
 notches_of Beta = []
 notches_of Gamma = []
 
--- whether the wheel is at one of its notches while the letter shows in its window
+-- whether a wheel is at a notch while this letter shows in its window
 abbrev pub is_notch : Wheel → ℕ → Bool
 is_notch wheel letter = list_any (λ notch. notch == letter) (notches_of wheel)
 
--- the name of the reflector
+-- ---- Reflectors: their names and their wirings.
+-- Source: the published wirings
+-- Test: reflectors_are_as_published
+
+-- the name of a reflector
 abbrev pub reflector_text : Reflector → List ℕ
 reflector_text reflectors.A = codes "A"
 reflector_text reflectors.B = codes "B"
@@ -64,7 +71,7 @@ reflector_text reflectors.C = codes "C"
 reflector_text reflectors.ThinB = codes "b"
 reflector_text reflectors.ThinC = codes "c"
 
--- what A to Z become by the reflector, in order
+-- the wiring of a reflector: the letters that A to Z become
 unfoldable pub reflector_of : Reflector → List ℕ
 reflector_of reflectors.A = letters_of (codes "EJMZALYXVBWFCRQUONTSPIKHGD")
 reflector_of reflectors.B = letters_of (codes "YRUHQSLDPXNGOKMIEBFZCWVJAT")
@@ -72,25 +79,31 @@ reflector_of reflectors.C = letters_of (codes "FVPJIAOYEDRZXWGCTKUQSBNMHL")
 reflector_of reflectors.ThinB = letters_of (codes "ENKQAUYWJICOPBLMDXZVFTHRGS")
 reflector_of reflectors.ThinC = letters_of (codes "RDOBJNTKVEHMLFCWZAXGYIPSUQ")
 
--- the name of the model
+-- ---- Models: their names, their slots, and the wheels and reflectors of their boxes.
+-- Source: the published accounts of the models
+-- Code: all boxes are prefixes of one array.
+-- Test: models_have_names_and_parts
+
+-- the name of a model
 abbrev pub model_text : Model → List ℕ
 model_text EnigmaI = codes "Enigma I"
 model_text M3 = codes "M3"
 model_text M4 = codes "M4"
 model_text M209 = codes "M-209"
 
--- the number of slots for wheels: none in a Converter M-209, whose six pin wheels stay in place
+-- the number of slots for wheels; a Converter M-209 has none, since its six pin wheels stay in place
 abbrev pub slots_of : Model → ℕ
 slots_of EnigmaI = 3
 slots_of M3 = 3
 slots_of M4 = 4
 slots_of M209 = 0
 
--- whether the number is from `first` to `last`
+-- whether `number` is from `first` to `last`
 abbrev pub lies_in : ℕ → ℕ → ℕ → Bool
 lies_in first last number = nat_le first number && nat_le number last
 
--- the wheels that may be in a slot, counted from 1 from left to right; none if the model has no such slot
+-- The wheels that a slot allows. Slots are counted from 1, from the left. A slot that the model lacks allows
+-- none.
 abbrev pub wheels_for : Model → ℕ → List Wheel
 wheels_for EnigmaI slot = if lies_in 1 3 slot then I ∷ II ∷ III ∷ IV ∷ V ∷ [] else []
 wheels_for M3 slot = if lies_in 1 3 slot then I ∷ II ∷ III ∷ IV ∷ V ∷ VI ∷ VII ∷ VIII ∷ [] else []
@@ -99,18 +112,18 @@ wheels_for M4 slot =
     else (if lies_in 2 4 slot then I ∷ II ∷ III ∷ IV ∷ V ∷ VI ∷ VII ∷ VIII ∷ [] else [])
 wheels_for M209 slot = []
 
--- the wheels of the model's box in its order: all that may be in one of the slots
+-- the wheels of a model's box, in box order: each wheel that one of its slots allows
 abbrev pub box_of : Model → List Wheel
 box_of EnigmaI = wheels_for EnigmaI 1
 box_of M3 = wheels_for M3 1
 box_of M4 = wheels_for M4 2 ++ wheels_for M4 1
 box_of M209 = []
 
--- The wheel may be in the slot, counted from 1 from left to right.
+-- The slot allows the wheel.
 abbrev pub IsAllowed : Model → ℕ → Wheel → Type 0
 IsAllowed model slot wheel = Contains (wheels_for model slot) wheel
 
--- the reflectors of the model
+-- the reflectors of a model
 abbrev pub reflectors_of : Model → List Reflector
 reflectors_of EnigmaI = reflectors.A ∷ reflectors.B ∷ reflectors.C ∷ []
 reflectors_of M3 = reflectors.B ∷ reflectors.C ∷ []

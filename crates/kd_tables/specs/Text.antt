@@ -1,7 +1,8 @@
--- Letters as they are written, and the bytes that a text of letters may have.
+-- Letters as bytes, and which bytes a text of letters may have.
+-- Test: types_to_the_first_byte_that_is_not_allowed
 use Rattle.std.specs.Prelude.{ℕ, ◌+◌, nat_le, ◌==◌, Bool, ◌&&◌, ◌||◌, List, map}
 
--- capital letters, as they are written
+-- letters as capital letters
 abbrev pub letters_text : List ℕ → List ℕ
 letters_text letters = map (λ letter. letter + 65) letters
 

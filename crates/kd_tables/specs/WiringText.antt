@@ -1,4 +1,4 @@
--- What the published text of a wiring or of a pin wheel has to be. These tests compute on a written text.
+-- Tests of the published text of a wiring or a pin wheel. They are computed as the program is checked.
 use Rattle.std.specs.Prelude.{ℕ, ◌==◌, nat_eq, nat_le, nat_lt, Bool, not, ◌&&◌, List, length, slice_index}
 use Rattle.std.specs.List.{list_all}
 use Rattle.std.specs.Set.{distinct_count}
@@ -13,7 +13,7 @@ are_capitals text = list_all (λ byte. nat_le 65 byte && nat_le byte 90) text
 abbrev pub are_distinct_letters : List ℕ → Bool
 are_distinct_letters p = list_all (λ x. nat_lt x 26) p && (distinct_count nat_eq p == length p)
 
--- whether the text is one of a pin wheel: capital letters, none of them twice
+-- whether the text is a pin wheel's: capital letters, none of them twice
 abbrev pub is_ring_text : List ℕ → Bool
 is_ring_text text = are_capitals text && are_distinct_letters (letters_of text)
 
@@ -21,6 +21,6 @@ is_ring_text text = are_capitals text && are_distinct_letters (letters_of text)
 abbrev pub is_permutation : List ℕ → Bool
 is_permutation p = (length p == 26) && are_distinct_letters p
 
--- whether each letter becomes another one, which becomes this letter again
+-- whether the permutation moves each letter, and applied twice changes nothing
 abbrev pub is_reflection : List ℕ → Bool
 is_reflection p = list_all (λ x. not (slice_index p x == x) && (slice_index p (slice_index p x) == x)) alphabet

@@ -1,4 +1,5 @@
 -- How much of a text a sink takes.
+-- Test: stops_where_the_sink_fails
 use Rattle.std.specs.Prelude.{ℕ, ◌<◌, List, length, take, Option, Result, OnOk, OnErr}
 use Rattle.std.specs.Io.KnownBytes.{Appends}
 
@@ -6,7 +7,7 @@ use Rattle.std.specs.Io.KnownBytes.{Appends}
 abbrev pub TakesFront : Option (List ℕ) → Option (List ℕ) → List ℕ → Type 0
 TakesFront old new text = (count : ℕ) × (count < length text) × Appends old new (take count text)
 
--- The whole text was taken, or a proper prefix of it if the answer is an error.
+-- Without an error the whole text was taken, with an error a proper prefix of it.
 pub record Writes {T E : Type 0} (old new : Option (List ℕ)) (text : List ℕ) (answer : Result T E) : Type 0 where
   pub whole : OnOk answer (Appends old new text)
   pub front : OnErr answer (TakesFront old new text)
