@@ -1,7 +1,7 @@
 //! The program `desk`: hands the host's command line, files and streams to `run_desk`.
 #![tactic(auto)]
 
-use kd_desk::{HostFiles, ReaderSource, Stop, WriterSink, end, run_desk};
+use kd_desk::{HostFiles, ReaderSource, Stop, WriterSink, end_program, run_desk};
 use std::process::ExitCode;
 
 fn main(rt: HostRuntime) -> ExitCode {
@@ -15,7 +15,7 @@ fn main(rt: HostRuntime) -> ExitCode {
             &mut WriterSink::new(rt.stdout()),
             &mut errors,
         ),
-        Err(stop) => end(Err(stop), &mut errors),
+        Err(stop) => end_program(Err(stop), &mut errors),
     })
 }
 

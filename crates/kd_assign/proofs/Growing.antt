@@ -3,17 +3,18 @@ use Rattle.std.proofs.Common.{◌≡◌, ◌≢◌, ℕ, ◌+◌, ◌<◌, ◌�
 use Rattle.std.proofs.Common.{Some, None, is_some, ◌⊎◌, inl, inr, ℤ, pos, ◌-ℤ◌, ◌≤ℤ◌, refl, sym, ◌∙◌, arith}
 use Rattle.{kd_assign.proofs.Whole.cost_at_most, std.specs.Int.int_min}
 use Rattle.kd_assign.proofs.Prelude.{cases_Bool, cases_eq, clamps, false≢true, get_or-set_other, get_or-set_same, ints}
-use Rattle.kd_assign.proofs.Prelude.{length-set, none-some, same_Some, CostsAtMost, Has, IsCheapest, IsFree, IsGrown}
-use Rattle.kd_assign.proofs.Prelude.{AreCompared, IsNearest, IsPlan, IsSeated, IsSolvedTo, cost_at, has_column}
-use Rattle.kd_assign.proofs.Prelude.{price_at, room_at}
-use Rattle.kd_assign.proofs.Places.{count-set, count_at_most, free_column, length-Has, get_or-set-cases}
+use Rattle.kd_assign.proofs.Prelude.{length-set, none-some, same_Some, AreCostsAtMost, IsColumnTakenBy}
+use Rattle.kd_assign.proofs.Prelude.{IsCheapestColumn, IsColumnFree, IsGrownTree, AreCompared, IsNearest}
+use Rattle.kd_assign.proofs.Prelude.{IsAssignmentWithout, IsRowAssigned, IsSolvedTo, cost_at, has_column, price_at}
+use Rattle.kd_assign.proofs.Prelude.{room_at}
+use Rattle.kd_assign.proofs.Places.{count-set, count_at_most, free_column, length-IsColumnTakenBy, get_or-set-cases}
 
 module _ {n root : ℕ} {cost : List (List ℕ)} {prices ceilings : List ℤ} {holders : List (Option ℕ)}
     {reached : List Bool} {near : List ℕ} {plans : List (List (Option ℕ))}
     (solved : IsSolvedTo n cost prices holders root)
-    (grown : IsGrown n cost prices holders root reached ceilings near plans) where
+    (grown : IsGrownTree n cost prices holders root reached ceilings near plans) where
   -- a free column is outside the tree
-  outside : (j : ℕ) → IsFree holders j → has_column reached j ≡ false
+  outside : (j : ℕ) → IsColumnFree holders j → has_column reached j ≡ false
   outside j free = grind (arith, cases_Bool, grown.taken j)
 
   -- some column is outside the tree
@@ -28,7 +29,7 @@ module _ {n root : ℕ} {cost : List (List ℕ)} {prices ceilings : List ℤ} {h
     abbrev plan : List (Option ℕ)
     plan = get_or plans from []
 
-    plan_is : IsPlan n cost prices holders root reached ceilings plan from
+    plan_is : IsAssignmentWithout n cost prices holders root reached ceilings plan from
     plan_is = grown.plan end nearest.within nearest.outside
 
     -- the columns of the tree once `end` has joined, and the plan in which `from` has `end`
@@ -45,11 +46,11 @@ module _ {n root : ℕ} {cost : List (List ℕ)} {prices ceilings : List ℤ} {h
         ((j ≡ end) × (Some from ≡ w)) ⊎ ((j ≢ end) × (get_or plan j None ≡ w))
     plan-cases j h = get_or-set-cases plan end (Some from) _ j has_end h
 
-    rows_still : (i j : ℕ) → Has plan' j i → i < n
+    rows_still : (i j : ℕ) → IsColumnTakenBy plan' j i → i < n
     rows_still i j h = grind (arith, plan-cases j h, plan_is.out_in_range, plan_is.rows, same_Some)
 
     -- each row up to the root has a column in `plan'` if it didn't have `end`
-    seated_still : (i : ℕ) → i ≤ root → (Has holders end i → ⊥) → IsSeated plan' i
+    seated_still : (i : ℕ) → i ≤ root → (IsColumnTakenBy holders end i → ⊥) → IsRowAssigned plan' i
     seated_still i few other = elim (cases_eq i from) [
       | inl same ↦ (end, rw same (get_or-set_same plan end (Some from) None has_end))
       | inr no_other ↦
@@ -59,7 +60,7 @@ module _ {n root : ℕ} {cost : List (List ℕ)} {prices ceilings : List ℤ} {h
     ]
 
     -- column `end` is taken by `holder`, which joins the tree
-    module _ {holder : ℕ} (held : Has holders end holder) {level : ℤ}
+    module _ {holder : ℕ} (held : IsColumnTakenBy holders end holder) {level : ℤ}
         (level_is : level ≡ (price_at ceilings end -ℤ pos (cost_at cost holder end)))
         {near' : List ℕ} {ceilings' : List ℤ}
         (compared : AreCompared n cost (set reached end true) holder level near ceilings near' ceilings') where
@@ -78,8 +79,8 @@ module _ {n root : ℕ} {cost : List (List ℕ)} {prices ceilings : List ℤ} {h
       ceiling_stays : (j : ℕ) → j < n → has_column reached' j ≡ true → price_at ceilings' j ≡ price_at ceilings j
       ceiling_stays j lt h = grind (arith, (compared.at j lt).one)
 
-      cheapest_still : (i j : ℕ) → price_at ceilings' j ≡ price_at ceilings j → IsCheapest n cost ceilings i j →
-          IsCheapest n cost ceilings' i j
+      cheapest_still : (i j : ℕ) → price_at ceilings' j ≡ price_at ceilings j → IsCheapestColumn n cost ceilings i j →
+          IsCheapestColumn n cost ceilings' i j
       cheapest_still i j e cheapest k lt = omega (arith, ints, cheapest k lt, (compared.at k lt).least)
 
       -- no column of the tree is further away than `end`
@@ -91,7 +92,7 @@ module _ {n root : ℕ} {cost : List (List ℕ)} {prices ceilings : List ℤ} {h
       ]
 
       -- `end` is the cheapest column for `holder` at the new ceilings
-      holder_stays : IsCheapest n cost ceilings' holder end
+      holder_stays : IsCheapestColumn n cost ceilings' holder end
       holder_stays k lt =
           let same = ceiling_stays end nearest.within end_joins in
           let before = solved.cheapest holder end held k lt in
@@ -102,8 +103,9 @@ module _ {n root : ℕ} {cost : List (List ℕ)} {prices ceilings : List ℤ} {h
           ]
 
       -- a plan for the old tree is a plan for the new one
-      plan_still : {old : List (Option ℕ)} {out : ℕ} → IsPlan n cost prices holders root reached ceilings old out →
-          IsPlan n cost prices holders root reached' ceilings' old out
+      plan_still : {old : List (Option ℕ)} {out : ℕ}
+          → IsAssignmentWithout n cost prices holders root reached ceilings old out →
+          IsAssignmentWithout n cost prices holders root reached' ceilings' old out
       plan_still plan = record {
         places = plan.places;
         out_in_range = plan.out_in_range;
@@ -120,7 +122,7 @@ module _ {n root : ℕ} {cost : List (List ℕ)} {prices ceilings : List ℤ} {h
       }
 
       -- `plan'` is a plan for the new tree in which `holder` has no column
-      plan_moved : IsPlan n cost prices holders root reached' ceilings' plan' holder
+      plan_moved : IsAssignmentWithout n cost prices holders root reached' ceilings' plan' holder
       plan_moved = record {
         places = length-set plan end (Some from) ∙ plan_is.places;
         out_in_range = solved.rows holder end held;
@@ -132,8 +134,9 @@ module _ {n root : ℕ} {cost : List (List ℕ)} {prices ceilings : List ℤ} {h
       }
 
       -- the new tree is well formed
-      pub IsGrown-with_end : IsGrown n cost prices holders root reached' ceilings' near' (set plans holder plan')
-      IsGrown-with_end = record {
+      pub IsGrownTree-with_end : IsGrownTree n cost prices holders root reached' ceilings' near'
+          (set plans holder plan')
+      IsGrownTree-with_end = record {
         places = length-set reached end true ∙ grown.places;
         plan_places = length-set plans holder plan' ∙ grown.plan_places;
         close = record {
@@ -174,7 +177,7 @@ module _ {n root : ℕ} {cost : List (List ℕ)} {prices ceilings : List ℤ} {h
       }
 
     -- column `end` is free, and prices fall to their ceilings less the room at `end`
-    module _ (free : IsFree holders end) {by : ℤ} (by_is : by ≡ room_at ceilings prices end) (prices' : List ℤ)
+    module _ (free : IsColumnFree holders end) {by : ℤ} (by_is : by ≡ room_at ceilings prices end) (prices' : List ℤ)
         (lowered : (j : ℕ) → j < n → price_at prices' j ≡ int_min (price_at prices j) (price_at ceilings j -ℤ by)) where
       -- outside the tree prices stay
       price_stays : (j : ℕ) → j < n → has_column reached j ≡ false → price_at prices' j ≡ price_at prices j
@@ -197,7 +200,7 @@ module _ {n root : ℕ} {cost : List (List ℕ)} {prices ceilings : List ℤ} {h
               let stays = price_stays end nearest.within nearest.outside in
               rw (here.0, ← same_Some from i here.1) (omega (arith, ints, clamps, lowered k lt))
           | inr there ↦
-              let lt' : j < n = omega (arith, length-Has plan j i there.1, plan_is.places) in
+              let lt' : j < n = omega (arith, length-IsColumnTakenBy plan j i there.1, plan_is.places) in
               elim (cases_Bool (has_column reached j)) [
                 | inl inside ↦
                     let least = plan_is.cheapest i j lt' inside there.1 k lt in
@@ -220,7 +223,7 @@ module _ {n root : ℕ} {cost : List (List ℕ)} {prices ceilings : List ℤ} {h
 
 -- the tree of the root alone, which has been compared with all columns
 module _ {n root : ℕ} {cost : List (List ℕ)} {prices ceilings ceilings' : List ℤ} {holders : List (Option ℕ)}
-    {reached : List Bool} {near near' : List ℕ} (few : n ≤ 32) (root_in : root < n) (costs : CostsAtMost 4 cost)
+    {reached : List Bool} {near near' : List ℕ} (few : n ≤ 32) (root_in : root < n) (costs : AreCostsAtMost 4 cost)
     (solved : IsSolvedTo n cost prices holders root) (places : length reached ≡ n)
     (none : (j : ℕ) → has_column reached j ≡ false) (long : length ceilings ≡ n)
     (far : All (λ s. s ≡ pos 32767) ceilings)
@@ -229,9 +232,9 @@ module _ {n root : ℕ} {cost : List (List ℕ)} {prices ceilings ceilings' : Li
   near-root : (j : ℕ) → j < n → (get_or near' j 0 ≡ root) × (price_at ceilings' j ≡ pos (cost_at cost root j))
   near-root j lt = grind (arith, ints, compared.at j lt, cost_at_most, far)
 
-  pub IsGrown-root_alone : {plans : List (List (Option ℕ))} → length plans ≡ n → get_or plans root [] ≡ holders →
-      IsGrown n cost prices holders root reached ceilings' near' plans
-  IsGrown-root_alone plan_places plan = record {
+  pub IsGrownTree-root_alone : {plans : List (List (Option ℕ))} → length plans ≡ n → get_or plans root [] ≡ holders →
+      IsGrownTree n cost prices holders root reached ceilings' near' plans
+  IsGrownTree-root_alone plan_places plan = record {
     places = places;
     plan_places = plan_places;
     close = record {

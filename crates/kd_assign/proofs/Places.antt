@@ -2,11 +2,11 @@
 use Rattle.std.proofs.Common.{◌≡◌, ◌≢◌, ℕ, suc, ◌+◌, ◌<◌, ◌≤◌, List, [], ◌∷◌, length, get_or, set, Bool, true, false}
 use Rattle.std.proofs.Common.{Option, Some, None, is_some, count_by, cond, ◌⊎◌, refl, arith}
 use Rattle.kd_assign.proofs.Prelude.{cases_eq, cases_lt, get_or_past, get_or-set_same, get_or-set_other, sum_by-set}
-use Rattle.kd_assign.proofs.Prelude.{none-some, sum_by-cons, Has, IsFree, has_column}
+use Rattle.kd_assign.proofs.Prelude.{none-some, sum_by-cons, IsColumnTakenBy, IsColumnFree, has_column}
 
 -- a taken column is a column of the list
-pub length-Has : (xs : List (Option ℕ)) (j i : ℕ) → Has xs j i → j < length xs
-length-Has xs j i h = grind (arith, cases_lt, get_or_past, none-some)
+pub length-IsColumnTakenBy : (xs : List (Option ℕ)) (j i : ℕ) → IsColumnTakenBy xs j i → j < length xs
+length-IsColumnTakenBy xs j i h = grind (arith, cases_lt, get_or_past, none-some)
 
 -- after a write to `k`, column `k` has what was written, and every other column what it had
 pub get_or-set-cases : (xs : List (Option ℕ)) (k : ℕ) (v w : Option ℕ) (j : ℕ) → k < length xs →
@@ -23,7 +23,8 @@ pub count-reached : (reached : List Bool) (k : ℕ) → k < length reached → h
 count-reached reached k h e = grind (arith, sum_by-set (λ (r : Bool). cond r 1 0) reached k true false h)
 
 -- if not all columns are taken, one is free
-pub free_column : (xs : List (Option ℕ)) → count_by is_some xs < length xs → (j : ℕ) × (j < length xs) × IsFree xs j
+pub free_column : (xs : List (Option ℕ)) → count_by is_some xs < length xs → (j : ℕ) × (j < length xs)
+    × IsColumnFree xs j
 free_column [] h = absurd (omega arith)
 free_column (None ∷ xs) h = (0, omega arith, refl)
 free_column (Some i ∷ xs) h =

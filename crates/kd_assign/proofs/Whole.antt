@@ -1,30 +1,37 @@
 -- The assignment of all rows: it is one-to-one, and its prices prove its cost least.
-use Rattle.kd_assign.proofs.Prelude.{CostsAtMost, Fits, Has, IsOneToOne, IsSolvedTo, assignment_cost, cost_at}
-use Rattle.kd_assign.proofs.{Places.length-Has, Prelude.{get_or_default, get_or_past, ints, price_at, price_sum}}
+use Rattle.kd_assign.proofs.Prelude.{AreCostsAtMost, FitCosts, IsColumnTakenBy, IsOneToOne, IsSolvedTo, assignment_cost}
+use Rattle.kd_assign.proofs.Prelude.{cost_at}
+use Rattle.kd_assign.proofs.{Places.length-IsColumnTakenBy}
+use Rattle.kd_assign.proofs.{Prelude.{get_or_default, get_or_past, ints, price_at, price_sum}}
 use Rattle.kd_assign.{proofs.Sums.{sums-one_to_one, fitting_prices_bound_costs}, specs.Cheapest.IsLeastCost}
 use Rattle.std.proofs.Common.{All, List, Option, arith, get_or, length, pos, refl, ℕ, ℤ, ◌*◌, ◌-ℤ◌, ◌<◌, ◌≡◌, ◌≤◌}
 use Rattle.std.{proofs.lemmas.List.Elements.All-from_get_or, specs.Int.RustNames.unsigned_abs}
 
 -- an assignment in which each row's column holds the row is one-to-one
 pub one_to_one : (holders : List (Option ℕ)) (to : List ℕ) → length to ≡ length holders →
-    ((i : ℕ) → i < length to → Has holders (get_or to i 0) i) → IsOneToOne to
+    ((i : ℕ) → i < length to → IsColumnTakenBy holders (get_or to i 0) i) → IsOneToOne to
 one_to_one holders to places has = record {
-  in_range = λ i d h. omega (arith, length-Has holders (get_or to i 0) i (has i h), get_or_default to i d 0 h);
+  in_range = λ i d h. omega (
+    arith,
+    length-IsColumnTakenBy holders (get_or to i 0) i (has i h),
+    get_or_default to i d
+        0 h,
+  );
   distinct = λ i k d before h same. grind (arith, has i, has k, get_or_default to i d 0, get_or_default to k d 0);
 }
 
 -- no cost is above 4, also past the end of the table
-pub cost_at_most : (cost : List (List ℕ)) → CostsAtMost 4 cost → (i j : ℕ) → cost_at cost i j ≤ 4
+pub cost_at_most : (cost : List (List ℕ)) → AreCostsAtMost 4 cost → (i j : ℕ) → cost_at cost i j ≤ 4
 cost_at_most cost costs i j = grind (arith, costs, get_or_past)
 
 -- the prices of a finished assignment fit, add up to its cost, and so prove it least
 module _ {n next : ℕ} {cost : List (List ℕ)} {prices : List ℤ} {holders : List (Option ℕ)} (row : List ℤ) (to : List ℕ)
     (few : next ≤ n) (solved : IsSolvedTo n cost prices holders next) (lines : length cost ≡ n)
     (columns : length prices ≡ n) (rows : length row ≡ n) (places : length to ≡ n)
-    (has : (i : ℕ) → i < n → Has holders (get_or to i 0) i)
+    (has : (i : ℕ) → i < n → IsColumnTakenBy holders (get_or to i 0) i)
     (row_is : (i : ℕ) → i < n →
     price_at row i ≡ (pos (cost_at cost i (get_or to i 0)) -ℤ price_at prices (get_or to i 0))) where
-  pub fits : Fits cost row prices
+  pub fits : FitCosts cost row prices
   fits i j h g =
       let least = solved.cheapest i (get_or to i 0) (has i (omega arith)) j (omega arith) in
       omega (arith, ints, row_is i (omega arith))
@@ -34,7 +41,7 @@ module _ {n next : ℕ} {cost : List (List ℕ)} {prices : List ℤ} {holders : 
       sums-one_to_one (λ x y. x ≡ y) refl (λ r s c t k l h g. omega (arith, ints)) prices cost row to
       (omega arith) (omega arith) (omega arith) (λ i h. omega (arith, ints, row_is i (omega arith))) once
 
-  pub rows_at_most : CostsAtMost 4 cost → IsOneToOne to → All (λ price. unsigned_abs price ≤ 4 * n) row
+  pub rows_at_most : AreCostsAtMost 4 cost → IsOneToOne to → All (λ price. unsigned_abs price ≤ 4 * n) row
   rows_at_most costs once = All-from_get_or (λ price. unsigned_abs price ≤ 4 * n) row (pos 0) (λ i h.
       let j = get_or to i 0 in
       let z = solved.zero.0 in

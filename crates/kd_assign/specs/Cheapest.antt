@@ -3,7 +3,7 @@
 -- Code: no assignment is tried.
 -- Test: answers_small_tables, answers_three_rows
 use Rattle.std.specs.Prelude.{◌≡◌, ℕ, ◌≤◌, List, length, ℤ, pos, ◌≤ℤ◌}
-use Rattle.kd_assign.specs.Prices.{Fits, price_sum}
+use Rattle.kd_assign.specs.Prices.{FitCosts, price_sum}
 use Rattle.kd_assign.specs.Assignment.{IsOneToOne, assignment_cost}
 
 -- If prices fit, every one-to-one assignment costs at least their sum.
@@ -11,7 +11,7 @@ abbrev pub FittingPricesBoundCosts : Type 0
 FittingPricesBoundCosts =
     (cost : List (List ℕ)) (row col : List ℤ) (to : List ℕ) →
     length row ≡ length to → length col ≡ length to → length cost ≡ length to →
-    Fits cost row col → IsOneToOne to → price_sum row col ≤ℤ pos (assignment_cost cost to)
+    FitCosts cost row col → IsOneToOne to → price_sum row col ≤ℤ pos (assignment_cost cost to)
 
 -- Every one-to-one assignment costs at least `total`.
 abbrev pub IsLeastCost : List (List ℕ) → ℕ → Type 0

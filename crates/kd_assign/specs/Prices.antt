@@ -10,8 +10,8 @@ abbrev pub cost_at : List (List ℕ) → ℕ → ℕ → ℕ
 cost_at cost i j = slice_index (slice_index_or cost i []) j
 
 -- No cost is above `greatest`.
-abbrev pub CostsAtMost : ℕ → List (List ℕ) → Type 0
-CostsAtMost greatest cost = All (λ line. All (λ c. c ≤ greatest) line) cost
+abbrev pub AreCostsAtMost : ℕ → List (List ℕ) → Type 0
+AreCostsAtMost greatest cost = All (λ line. All (λ c. c ≤ greatest) line) cost
 
 -- price `i`, or 0 past the end
 abbrev pub price_at : List ℤ → ℕ → ℤ
@@ -19,8 +19,8 @@ price_at prices i = slice_index_or prices i (pos 0)
 
 -- Each row's price and each column's price add up to at most the row's cost at the column: the prices are a
 -- feasible dual solution.
-abbrev pub Fits : List (List ℕ) → List ℤ → List ℤ → Type 0
-Fits cost row col =
+abbrev pub FitCosts : List (List ℕ) → List ℤ → List ℤ → Type 0
+FitCosts cost row col =
     (i j : ℕ) → i < length row → j < length col → (price_at row i +ℤ price_at col j) ≤ℤ pos (cost_at cost i j)
 
 -- the sum of a list of prices

@@ -5,32 +5,32 @@ use Rattle.std.specs.Prelude.{pos, ◌+ℤ◌, ◌≤ℤ◌}
 use Rattle.kd_assign.specs.Prices.{cost_at, price_at}
 
 -- Row `i` has column `j`.
-abbrev pub Has : List (Option ℕ) → ℕ → ℕ → Type 0
-Has holders j i = slice_index_or holders j None ≡ Some i
+abbrev pub IsColumnTakenBy : List (Option ℕ) → ℕ → ℕ → Type 0
+IsColumnTakenBy holders j i = slice_index_or holders j None ≡ Some i
 
 -- Column `j` is free.
-abbrev pub IsFree : List (Option ℕ) → ℕ → Type 0
-IsFree holders j = slice_index_or holders j None ≡ None
+abbrev pub IsColumnFree : List (Option ℕ) → ℕ → Type 0
+IsColumnFree holders j = slice_index_or holders j None ≡ None
 
 -- Row `i` has a column.
-abbrev pub IsSeated : List (Option ℕ) → ℕ → Type 0
-IsSeated holders i = (j : ℕ) × Has holders j i
+abbrev pub IsRowAssigned : List (Option ℕ) → ℕ → Type 0
+IsRowAssigned holders i = (j : ℕ) × IsColumnTakenBy holders j i
 
 -- At `prices`, no column is cheaper for row `i` than column `j`.
-abbrev pub IsCheapest : ℕ → List (List ℕ) → List ℤ → ℕ → ℕ → Type 0
-IsCheapest n cost prices i j =
+abbrev pub IsCheapestColumn : ℕ → List (List ℕ) → List ℤ → ℕ → ℕ → Type 0
+IsCheapestColumn n cost prices i j =
     (k : ℕ) → k < n → (pos (cost_at cost i j) +ℤ price_at prices k) ≤ℤ (pos (cost_at cost i k) +ℤ price_at prices j)
 
 -- The rows before `next` have columns. Each has its cheapest column at these prices.
 pub record IsSolvedTo (n : ℕ) (cost : List (List ℕ)) (prices : List ℤ)
     (holders : List (Option ℕ)) (next : ℕ) : Type 0 where
   pub places : length holders ≡ n
-  pub rows : (i j : ℕ) → Has holders j i → i < n
-  pub seated : (i : ℕ) → i < next → IsSeated holders i
+  pub rows : (i j : ℕ) → IsColumnTakenBy holders j i → i < n
+  pub seated : (i : ℕ) → i < next → IsRowAssigned holders i
   pub count : count_by is_some holders ≡ next
-  pub cheapest : (i j : ℕ) → Has holders j i → IsCheapest n cost prices i j
+  pub cheapest : (i j : ℕ) → IsColumnTakenBy holders j i → IsCheapestColumn n cost prices i j
   -- a free column has price 0, and some column has price 0
-  pub free : (j : ℕ) → j < n → IsFree holders j → price_at prices j ≡ pos 0
+  pub free : (j : ℕ) → j < n → IsColumnFree holders j → price_at prices j ≡ pos 0
   pub zero : (j : ℕ) × (j < n) × (price_at prices j ≡ pos 0)
   -- no price is above 0, and none is below -4 times the number of rows with columns
   pub high : (j : ℕ) → j < n → price_at prices j ≤ℤ pos 0

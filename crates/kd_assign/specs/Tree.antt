@@ -3,7 +3,7 @@
 use Rattle.std.specs.Prelude.{◌≡◌, ◌≢◌, ℕ, ◌<◌, ◌≤◌, Bool, false, true, List, [], length, slice_index, Option, None}
 use Rattle.std.specs.Prelude.{is_some, slice_index_or, ◌⊎◌, ℤ, pos, neg_ℤ, ◌+ℤ◌, ◌-ℤ◌, ◌≤ℤ◌}
 use Rattle.kd_assign.specs.Prices.{cost_at, price_at}
-use Rattle.kd_assign.specs.Solved.{Has, IsCheapest, IsSeated}
+use Rattle.kd_assign.specs.Solved.{IsColumnTakenBy, IsCheapestColumn, IsRowAssigned}
 
 -- whether the tree has column `j`
 abbrev pub has_column : List Bool → ℕ → Bool
@@ -44,25 +44,27 @@ module _ (n : ℕ) (cost : List (List ℕ)) (prices : List ℤ) (holders : List 
     (ceilings : List ℤ) where
   -- `plan` has a column for each row up to the root, except `out`. A row in a column of the tree has its
   -- cheapest column at the ceilings. Outside the tree, `plan` agrees with `holders`.
-  pub record IsPlan (plan : List (Option ℕ)) (out : ℕ) : Type 0 where
+  pub record IsAssignmentWithout (plan : List (Option ℕ)) (out : ℕ) : Type 0 where
     pub places : length plan ≡ n
     pub out_in_range : out < n
-    pub rows : (i j : ℕ) → Has plan j i → i < n
-    pub seated : (i : ℕ) → i ≤ root → i ≢ out → IsSeated plan i
-    pub cheapest : (i j : ℕ) → j < n → has_column reached j ≡ true → Has plan j i → IsCheapest n cost ceilings i j
+    pub rows : (i j : ℕ) → IsColumnTakenBy plan j i → i < n
+    pub seated : (i : ℕ) → i ≤ root → i ≢ out → IsRowAssigned plan i
+    pub cheapest : (i j : ℕ) → j < n → has_column reached j ≡ true → IsColumnTakenBy plan j i
+        → IsCheapestColumn n cost ceilings i j
     pub same : (j : ℕ) → has_column reached j ≡ false → slice_index_or plan j None ≡ slice_index_or holders j None
     pub taken : (j : ℕ) → is_some (slice_index_or plan j None) ≡ is_some (slice_index_or holders j None)
 
   -- Each column of the tree is taken, and its price is no further below its ceiling than any price outside.
   -- Each column outside is the cheapest one for its nearest row, at the ceilings. `plans` has a plan that
   -- leaves this row without a column.
-  pub record IsGrown (near : List ℕ) (plans : List (List (Option ℕ))) : Type 0 where
+  pub record IsGrownTree (near : List ℕ) (plans : List (List (Option ℕ))) : Type 0 where
     pub places : length reached ≡ n
     pub plan_places : length plans ≡ n
     pub close : AreClose n prices ceilings
     pub taken : (j : ℕ) → has_column reached j ≡ true → is_some (slice_index_or holders j None) ≡ true
     pub ordered : (j k : ℕ) → j < n → k < n → has_column reached j ≡ true → has_column reached k ≡ false
         → room_at ceilings prices j ≤ℤ room_at ceilings prices k
-    pub cheapest : (j : ℕ) → j < n → has_column reached j ≡ false → IsCheapest n cost ceilings (slice_index near j) j
+    pub cheapest : (j : ℕ) → j < n → has_column reached j ≡ false
+        → IsCheapestColumn n cost ceilings (slice_index near j) j
     pub plan : (j : ℕ) → j < n → has_column reached j ≡ false
-        → IsPlan (slice_index_or plans (slice_index near j) []) (slice_index near j)
+        → IsAssignmentWithout (slice_index_or plans (slice_index near j) []) (slice_index near j)

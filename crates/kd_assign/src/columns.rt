@@ -1,16 +1,16 @@
 //! What follows from a finished assignment: each row's column, each row's price, and the cost.
 ghost use Rattle.std.specs.Prelude.{◌≡◌, ℕ, ◌<◌, ◌≤◌, length, slice_index, pos, neg_ℤ, ◌-ℤ◌, ◌≤ℤ◌};
 ghost use Rattle.kd_assign.specs.Assignment.{IsOneToOne, assignment_cost};
-ghost use Rattle.kd_assign.specs.Prices.{CostsAtMost, cost_at, price_at};
-ghost use Rattle.kd_assign.specs.Solved.{Has, IsSeated};
+ghost use Rattle.kd_assign.specs.Prices.{AreCostsAtMost, cost_at, price_at};
+ghost use Rattle.kd_assign.specs.Solved.{IsColumnTakenBy, IsRowAssigned};
 
 /// Turns `holders`, the row of each column, into the column of each row.
-pub fn columns_of<const N: usize>(holders: &[Option<usize>; N]) -> [u8; N]
+pub fn columns_of_rows<const N: usize>(holders: &[Option<usize>; N]) -> [u8; N]
     requires few { N ≤ 32 }
-    requires rows { (i j : ℕ) → Has holders.now j i → i < N }
-    requires seated { (i : ℕ) → i < N → IsSeated holders.now i }
+    requires rows { (i j : ℕ) → IsColumnTakenBy holders.now j i → i < N }
+    requires seated { (i : ℕ) → i < N → IsRowAssigned holders.now i }
     ensures len { length result ≡ N }
-    ensures columns { (i : ℕ) → i < N → Has holders.now (slice_index result i) i }
+    ensures columns { (i : ℕ) → i < N → IsColumnTakenBy holders.now (slice_index result i) i }
     ensures one_to_one { IsOneToOne result }
 {
     let mut columns = [0; N];
@@ -25,7 +25,7 @@ pub fn columns_of<const N: usize>(holders: &[Option<usize>; N]) -> [u8; N]
 /// The price of each row: its cost at its column, less the price of the column.
 pub fn row_prices<const N: usize>(cost: &[[u8; N]; N], prices: &[i16; N], to: &[u8; N]) -> [i16; N]
     requires few { N ≤ 32 }
-    requires costs { CostsAtMost 4 cost.now }
+    requires costs { AreCostsAtMost 4 cost.now }
     requires one_to_one { IsOneToOne to.now }
     requires low { (j : ℕ) → j < N → neg_ℤ (pos 128) ≤ℤ price_at prices.now j }
     requires high { (j : ℕ) → j < N → price_at prices.now j ≤ℤ pos 0 }
@@ -42,9 +42,9 @@ pub fn row_prices<const N: usize>(cost: &[[u8; N]; N], prices: &[i16; N], to: &[
 }
 
 /// The cost of the assignment `to`.
-pub fn cost_of<const N: usize>(cost: &[[u8; N]; N], to: &[u8; N]) -> u16
+pub fn assignment_cost<const N: usize>(cost: &[[u8; N]; N], to: &[u8; N]) -> u16
     requires few { N ≤ 32 }
-    requires costs { CostsAtMost 4 cost.now }
+    requires costs { AreCostsAtMost 4 cost.now }
     requires one_to_one { IsOneToOne to.now }
     ensures { result ≡ assignment_cost cost.now to.now }
 {

@@ -1,7 +1,7 @@
 //! Gives one more row a column, by growing a tree of rows and columns.
 ghost use Rattle.std.specs.Prelude.{◌≡◌, ℕ, ◌+◌, ◌^◌, ◌<◌, ◌≤◌, length, ℤ, pos, neg_ℤ, ◌+ℤ◌, ◌-ℤ◌, ◌≤ℤ◌};
 ghost use Rattle.std.specs.Int.{int_min};
-ghost use Rattle.kd_assign.specs.Prices.{CostsAtMost, price_at};
+ghost use Rattle.kd_assign.specs.Prices.{AreCostsAtMost, price_at};
 ghost use Rattle.kd_assign.specs.Scans.{scans_of_tree};
 ghost use Rattle.kd_assign.specs.Solved.{IsSolvedTo};
 
@@ -22,7 +22,7 @@ pub fn assign_row<const N: usize>(
 )
     requires row { root < N }
     requires few { N ≤ 32 }
-    requires costs { CostsAtMost 4 cost.now }
+    requires costs { AreCostsAtMost 4 cost.now }
     requires solved { IsSolvedTo N cost.now prices.old holders.old root }
     requires room { scans.old ≤ 2 ^ 16 }
     ensures len { length prices.new ≡ N }
@@ -48,7 +48,7 @@ pub fn assign_row<const N: usize>(
             }
             None => {
                 let by = nearest.room(prices, column);
-                lower(prices, &nearest.ceiling, by);
+                lower_prices(prices, &nearest.ceiling, by);
                 *holders = plan;
                 return;
             }
@@ -57,7 +57,7 @@ pub fn assign_row<const N: usize>(
 }
 
 /// Lowers each column's price to its ceiling less `by`, if the price is higher.
-fn lower<const N: usize>(prices: &mut [i16; N], ceilings: &[i16; N], by: i16)
+fn lower_prices<const N: usize>(prices: &mut [i16; N], ceilings: &[i16; N], by: i16)
     requires low { (j : ℕ) → j < N → neg_ℤ (pos 128) ≤ℤ price_at ceilings.now j }
     requires by { pos 0 ≤ℤ by }
     requires little { by ≤ℤ pos 4 }

@@ -2,7 +2,7 @@
 ghost use Rattle.std.specs.Prelude.{◌≡◌, ℕ, ◌+◌, ◌^◌, ◌<◌, ◌≢◌, ◌⊎◌, false, if◌then◌else◌, Some, IfSome, IsSomeAnd};
 ghost use Rattle.std.specs.Prelude.{All};
 ghost use Rattle.std.specs.Prelude.{length, count_by, slice_index, ℤ, pos, neg_ℤ, ◌+ℤ◌, ◌-ℤ◌, ◌≤ℤ◌};
-ghost use Rattle.kd_assign.specs.Prices.{CostsAtMost, cost_at, price_at};
+ghost use Rattle.kd_assign.specs.Prices.{AreCostsAtMost, cost_at, price_at};
 ghost use Rattle.kd_assign.specs.Tree.{AreClose, AreCompared, IsCompared, IsNearest, has_column, room_at};
 
 use crate::scans::Scans;
@@ -39,7 +39,7 @@ impl<const N: usize> Nearest<N> {
         scans: &mut Scans,
     )
         requires row { row < N }
-        requires costs { CostsAtMost 4 cost.now }
+        requires costs { AreCostsAtMost 4 cost.now }
         requires low { neg_ℤ (pos 256) ≤ℤ level }
         requires high { level ≤ℤ pos 4 }
         requires room { scans.old + N < 2 ^ 32 }
@@ -92,7 +92,7 @@ impl<const N: usize> Nearest<N> {
     pub fn level(&self, cost: &[[u8; N]; N], row: usize, column: usize) -> i16
         requires row { row < N }
         requires column { column < N }
-        requires costs { CostsAtMost 4 cost.now }
+        requires costs { AreCostsAtMost 4 cost.now }
         requires low { neg_ℤ (pos 128) ≤ℤ price_at self.now.ceiling column }
         requires high { price_at self.now.ceiling column ≤ℤ pos 4 }
         ensures low { neg_ℤ (pos 256) ≤ℤ result }

@@ -2,9 +2,9 @@
 ghost use Rattle.std.specs.Prelude.{◌≡◌, ◌+◌, ◌*◌, ◌/◌, ◌≤◌, All, pos, unsigned_abs};
 ghost use Rattle.kd_assign.specs.Assignment.{IsOneToOne, assignment_cost};
 ghost use Rattle.kd_assign.specs.Cheapest.{IsLeastCost};
-ghost use Rattle.kd_assign.specs.Prices.{CostsAtMost, Fits, price_sum};
+ghost use Rattle.kd_assign.specs.Prices.{AreCostsAtMost, FitCosts, price_sum};
 
-use crate::columns::{columns_of, cost_of, row_prices};
+use crate::columns::{assignment_cost, columns_of_rows, row_prices};
 use crate::growth::assign_row;
 use crate::scans::Scans;
 
@@ -30,9 +30,9 @@ pub struct Solution<const N: usize> {
 pub fn assign<const N: usize>(cost: &[[u8; N]; N]) -> Solution<N>
     requires some { 1 ≤ N }
     requires few { N ≤ 32 }
-    requires costs { CostsAtMost 4 cost.now }
+    requires costs { AreCostsAtMost 4 cost.now }
     ensures one_to_one { IsOneToOne result.to }
-    ensures fits { Fits cost.now result.row result.col }
+    ensures fits { FitCosts cost.now result.row result.col }
     ensures row_prices { All (λ price. unsigned_abs price ≤ 4 * N) result.row }
     ensures col_prices { All (λ price. unsigned_abs price ≤ 4 * N) result.col }
     ensures price_sum { price_sum result.row result.col ≡ pos result.total }
@@ -47,9 +47,9 @@ pub fn assign<const N: usize>(cost: &[[u8; N]; N]) -> Solution<N>
     for row in 0..N {
         assign_row(cost, &mut col, &mut holders, row, &mut scans);
     }
-    let to = columns_of(&holders);
+    let to = columns_of_rows(&holders);
     let row = row_prices(cost, &col, &to);
-    let total = cost_of(cost, &to);
+    let total = assignment_cost(cost, &to);
     Solution {
         to,
         row,

@@ -3,16 +3,17 @@ use Rattle.kd_card.proofs.{Prelude.count_by-cons, Falling.HaveTheirPlaces}
 use Rattle.kd_card.proofs.Prelude.{AllByRecursion, Contains, All, Bool, Day, IsLegalDay, IsMachine, List, Model, OfPins}
 use Rattle.kd_card.proofs.Prelude.{OfRotors, Parts, Pin, PinDay, PinParts, Rotor, RotorDay, RotorParts, SeatReflector}
 use Rattle.kd_card.proofs.Prelude.{Setting, [], ap, arith, cond, count_by, day_model, days_wheels_have_their_places}
-use Rattle.kd_card.proofs.Prelude.{differ, is_priced, length, length-append, length-zip, loose_count, model_of, nat_eq}
-use Rattle.kd_card.proofs.Prelude.{not, option_map_or, place_in_box, priced_count, recursion_from_All, refl, ring_at}
-use Rattle.kd_card.proofs.Prelude.{same_reflector, same_wheel, seconds-zip, subst, suc, sum_by, sum_by-append}
-use Rattle.kd_card.proofs.Prelude.{sum_by-cons, sums_add, sym, true, zero, zip, ℕ, ◌++◌, ◌+◌, ◌∙◌, ◌∷◌, ◌≡◌, ◌≢◌, ◌≤◌}
-use Rattle.kd_card.specs.Loose.{lines_from, loose_lines, pin_lines, pin_of, pin_turn_of, ring_lines, ring_of_wheel}
-use Rattle.kd_card.specs.Loose.{seat_of, turn_of, unless_so, wheel_pin_lines}
+use Rattle.kd_card.proofs.Prelude.{exactly_one, is_priced_setting, length, length-append, length-zip, loose_count}
+use Rattle.kd_card.proofs.Prelude.{model_of, nat_eq, not, option_map_or, place_in_box, priced_count, recursion_from_All}
+use Rattle.kd_card.proofs.Prelude.{refl, ring_at, same_reflector, same_wheel, seconds-zip, subst, suc, sum_by}
+use Rattle.kd_card.proofs.Prelude.{sum_by-append, sum_by-cons, sums_add, sym, true, zero, zip, ℕ, ◌++◌, ◌+◌, ◌∙◌, ◌∷◌}
+use Rattle.kd_card.proofs.Prelude.{◌≡◌, ◌≢◌, ◌≤◌}
+use Rattle.kd_card.specs.Loose.{lines_from, loose_lines, pin_lines, wheel_pin_line, pin_wheel_turn_line, ring_lines}
+use Rattle.kd_card.specs.Loose.{wheel_ring_line, slot_seat_line, slot_turn_line, setting_unless, wheel_pin_lines}
 use Rattle.kd_card.specs.Laws.{LooseThingsAreCounted}
 use Rattle.kd_state.proofs.Wheels.{allowed_in_box, has_wheel-Decides, same_wheel-Decides, same_wheel_differs}
-use Rattle.kd_state.specs.{Machine.HasAllPins, Pins.wheel_pins, SheetDay.AreSeated, SheetDay.seats}
-use Rattle.kd_state.specs.{ToldApart.has_wheel, declared.sheet_day.rotor_entry.SheetWheel.SheetWheel}
+use Rattle.kd_state.specs.{Machine.HasAllPins, Pins.wheel_pins, SheetDay.AreLegalSeats, SheetDay.seats_of_wheels}
+use Rattle.kd_state.specs.{SameParts.has_wheel, declared.sheet_day.rotor_entry.SheetWheel.SheetWheel}
 use Rattle.kd_tables.specs.{Rings.ring_of, Tables.box_of, declared.wheel.Wheel.Wheel}
 use Rattle.std.proofs.Common.{◌&&◌, false, find, flat_map, option_to_list}
 use Rattle.std.proofs.lemmas.{List.Folds.fold-map, List.Sums.sum_by-le, Option.slice_get-get_or, Option.slice_get-map}
@@ -27,8 +28,8 @@ pub counted-append : {a b p q : ℕ} (xs ys : List Setting) → AreCounted xs a 
 counted-append xs ys h k = grind (arith, length-append, sum_by-append)
 
 -- the setting for a thing, if it is loose
-counted_loose : (so : Bool) (x : Setting) → is_priced x ≡ false
-    → AreCounted (option_to_list (unless_so so x)) (cond (not so) 1 0) 0
+counted_loose : (so : Bool) (x : Setting) → is_priced_setting x ≡ false
+    → AreCounted (option_to_list (setting_unless so x)) (cond (not so) 1 0) 0
 counted_loose so x e = grind arith
 
 -- the settings for the items of a numbered list
@@ -54,7 +55,7 @@ lines_of_each f [] number = refl
 lines_of_each f (x ∷ xs) number = ap (λ lines. f x ++ lines) (lines_of_each f xs (number + 1))
 
 -- ---- RING: each of the day's wheels is found in the box once, under its own name
-pub in_box : (model : Model) (wheels : List SheetWheel) → AreSeated model (seats wheels)
+pub in_box : (model : Model) (wheels : List SheetWheel) → AreLegalSeats model (seats_of_wheels wheels)
     → All (λ w. Contains (box_of model) w.wheel) wheels
 in_box model wheels h k d lt =
     allowed_in_box model (k + 1) _ (h.allowed k _ (grind (arith, slice_get-map, slice_get-get_or)))
@@ -64,24 +65,24 @@ once_in_box : (model : Model) (wheel : Wheel) (b : Bool) → has_wheel (box_of m
 once_in_box model wheel b e = grind arith
 
 -- whether there is a wheel with this name that passes the test
-abbrev finds : (SheetWheel → Bool) → List SheetWheel → Wheel → Bool
-finds test wheels wheel = option_map_or test (find (λ w. same_wheel wheel w.wheel) wheels) false
+abbrev finds_wheel : (SheetWheel → Bool) → List SheetWheel → Wheel → Bool
+finds_wheel test wheels wheel = option_map_or test (find (λ w. same_wheel wheel w.wheel) wheels) false
 
 none_found : (test : SheetWheel → Bool) (wheel : Wheel) (wheels : List SheetWheel)
-    → AllByRecursion (λ w. wheel ≢ w.wheel) wheels → finds test wheels wheel ≡ false
+    → AllByRecursion (λ w. wheel ≢ w.wheel) wheels → finds_wheel test wheels wheel ≡ false
 none_found test wheel [] h = refl
 none_found test wheel (w ∷ wheels) h =
     grind (arith, same_wheel_differs wheel w.wheel h.0, none_found test wheel wheels h.1)
 
 finds_first : (test : SheetWheel → Bool) (w : SheetWheel) (wheels : List SheetWheel) (b : Wheel)
-    → finds test wheels w.wheel ≡ false
-    → cond {A = ℕ} (same_wheel b w.wheel && test w) 1 0 + cond (finds test wheels b) 1 0
-    ≡ cond (finds test (w ∷ wheels) b) 1 0
+    → finds_wheel test wheels w.wheel ≡ false
+    → cond {A = ℕ} (same_wheel b w.wheel && test w) 1 0 + cond (finds_wheel test wheels b) 1 0
+    ≡ cond (finds_wheel test (w ∷ wheels) b) 1 0
 finds_first test w wheels b none = grind (arith, same_wheel-Decides b w.wheel)
 
 found_once : (test : SheetWheel → Bool) (model : Model) (wheels : List SheetWheel)
     → AllByRecursion (λ w. has_wheel (box_of model) w.wheel ≡ true) wheels → HaveTheirPlaces model wheels
-    → count_by (finds test wheels) (box_of model) ≡ count_by test wheels
+    → count_by (finds_wheel test wheels) (box_of model) ≡ count_by test wheels
 found_once test model [] there apart = sum_none (box_of model)
 found_once test model (w ∷ wheels) there apart =
     let others = recursion_from_All (λ (v : SheetWheel). w.wheel ≢ v.wheel) wheels
@@ -97,23 +98,23 @@ module _ (m : RotorParts) (s : RotorDay) where
   abbrev wrong : SheetWheel → Bool
   wrong w = not (option_map_or (nat_eq w.ring) (ring_at m w.wheel) false)
 
-  counted_rings : AreCounted (ring_lines m s.wheels) (count_by (finds wrong s.wheels) (box_of m.model)) 0
+  counted_rings : AreCounted (ring_lines m s.wheels) (count_by (finds_wheel wrong s.wheels) (box_of m.model)) 0
   counted_rings =
-      rw (lines_of_each (ring_of_wheel m s.wheels) (box_of m.model) 1) (rw sum_none at
-      (counted_each (λ n wheel. ring_of_wheel m s.wheels wheel)
-      (λ wheel. cond (finds wrong s.wheels wheel) 1 0) (λ z. 0)
+      rw (lines_of_each (wheel_ring_line m s.wheels) (box_of m.model) 1) (rw sum_none at
+      (counted_each (λ n wheel. wheel_ring_line m s.wheels wheel)
+      (λ wheel. cond (finds_wheel wrong s.wheels wheel) 1 0) (λ z. 0)
       (λ n wheel. grind (arith, counted_loose)) (box_of m.model) 1))
 
-  rotor_counted : AreSeated m.model (seats s.wheels)
+  rotor_counted : AreLegalSeats m.model (seats_of_wheels s.wheels)
       → AreCounted (loose_lines (Rotor m) (OfRotors s)) (loose_count (Rotor m) (OfRotors s)) 0
   rotor_counted seated =
       let there = in_box m.model s.wheels seated in
       let found = found_once wrong m.model s.wheels
       (recursion_from_All _ s.wheels (λ k d lt. (has_wheel-Decides (box_of m.model) _).1 (there k d lt)))
       (days_wheels_have_their_places m.model s.wheels seated) in
-      let seats = counted_each seat_of _ (λ z. 0) (λ n z. counted_loose _ _ refl) (zip m.slots s.wheels) 1 in
+      let seats = counted_each slot_seat_line _ (λ z. 0) (λ n z. counted_loose _ _ refl) (zip m.slots s.wheels) 1 in
       let reflector = counted_loose (same_reflector m.reflector s.reflector) (SeatReflector s.reflector) refl in
-      let turns = counted_each (turn_of m) _ (λ z. 0) (λ n w. counted_loose _ _ refl) s.wheels 1 in
+      let turns = counted_each (slot_turn_line m) _ (λ z. 0) (λ n w. counted_loose _ _ refl) s.wheels 1 in
       let all = simp sum_none at (counted-append _ _ (counted-append _ _ (counted-append _ _ seats reflector)
       counted_rings) turns) in
       record { count = grind (arith, all.count, found); priced = all.priced }
@@ -122,15 +123,15 @@ module _ (m : RotorParts) (s : RotorDay) where
 module _ (m : PinParts) (s : PinDay) (machine : HasAllPins m.pins) (legal : HasAllPins s.pins) where
   counted_wheel : (number : ℕ) → let present = wheel_pins m.pins number in let wanted = wheel_pins s.pins number in
       AreCounted (wheel_pin_lines number (ring_of number) present wanted)
-      (count_by (λ (pin : Bool × Bool). differ pin.0 pin.1) (zip present wanted)) 0
+      (count_by (λ (pin : Bool × Bool). exactly_one pin.0 pin.1) (zip present wanted)) 0
   counted_wheel number =
       let pins = zip (wheel_pins m.pins number) (wheel_pins s.pins number) in
-      let differs = λ (pin : Bool × Bool). cond {A = ℕ} (differ pin.0 pin.1) 1 0 in
-      let all = rw sum_none at (counted_each (λ n cell. pin_of number cell) (λ cell. differs cell.1) (λ z. 0)
+      let differs = λ (pin : Bool × Bool). cond {A = ℕ} (exactly_one pin.0 pin.1) 1 0 in
+      let all = rw sum_none at (counted_each (λ n cell. wheel_pin_line number cell) (λ cell. differs cell.1) (λ z. 0)
       (λ n cell. grind (arith, counted_loose)) (zip (ring_of number) pins) 1) in
       let size = length-zip (wheel_pins m.pins number) (wheel_pins s.pins number) in
       let each = beside_each differs (ring_of number) pins (omega (arith, size, machine number, legal number)) in
-      rw (lines_of_each (pin_of number) (zip (ring_of number) pins) 1, ← each) all
+      rw (lines_of_each (wheel_pin_line number) (zip (ring_of number) pins) 1, ← each) all
 
   pin_counted : AreCounted (loose_lines (Pin m) (OfPins s)) (loose_count (Pin m) (OfPins s)) 0
   pin_counted =
@@ -138,14 +139,15 @@ module _ (m : PinParts) (s : PinDay) (machine : HasAllPins m.pins) (legal : HasA
       let pins = counted-append _ _ (counted_wheel 1) (counted-append _ _ (counted_wheel 2) (counted-append _ _
       (counted_wheel 3) (counted-append _ _ (counted_wheel 4) (counted-append _ _ (counted_wheel 5)
       (counted-append _ _ (counted_wheel 6) none))))) in
-      let turns = counted_each pin_turn_of _ (λ z. 0) (λ n z. counted_loose _ _ refl) (zip m.letters s.window) 1 in
+      let turns = counted_each pin_wheel_turn_line _ (λ z. 0) (λ n z. counted_loose _ _ refl)
+      (zip m.letters s.window) 1 in
       let all = simp sum_none at (counted-append (pin_lines m.pins s.pins) _ pins turns) in
       record { count = omega (arith, all.count); priced = all.priced }
 
 pub all_counted : (m : Parts) (s : Day) → IsMachine m → IsLegalDay s → model_of m ≡ day_model s
     → AreCounted (loose_lines m s) (loose_count m s) 0
 all_counted (Rotor m) (OfRotors s) machine legal same =
-    rotor_counted m s (subst (λ model. AreSeated model (seats s.wheels)) (sym same) legal.wheels)
+    rotor_counted m s (subst (λ model. AreLegalSeats model (seats_of_wheels s.wheels)) (sym same) legal.wheels)
 all_counted (Pin m) (OfPins s) machine legal same = pin_counted m s machine.legal.pins legal.pins
 all_counted m s machine legal same = record { count = refl; priced = refl }
 

@@ -24,9 +24,9 @@ fold_of_both rows columns =
     let second = fold_from (fold (λ sum price. sum +ℤ price) (pos 0) rows) columns in
     omega (arith, ints)
 
-parts : (xs : List ℤ) → (sum_of xs +ℤ pos (lists.sum_by down xs)) ≡ pos (lists.sum_by up xs)
-parts [] = refl
-parts (x ∷ xs) = omega (arith, ints, parts xs, sum_by-cons up x xs, sum_by-cons down x xs)
+sum_of-parts : (xs : List ℤ) → (sum_of xs +ℤ pos (lists.sum_by down xs)) ≡ pos (lists.sum_by up xs)
+sum_of-parts [] = refl
+sum_of-parts (x ∷ xs) = omega (arith, ints, sum_of-parts xs, sum_by-cons up x xs, sum_by-cons down x xs)
 
 module _ {B : Type 0} where
   -- the sum of the prices that are paired with columns
@@ -42,7 +42,7 @@ module _ {B : Type 0} where
       let moved = IsPermutation-map (λ (w : B × ℤ). w.1) (zip columns prices) beside order in
       let ups = sum_by-IsPermutation up here there moved in
       let downs = sum_by-IsPermutation down here there moved in
-      let same : sum_of there ≡ sum_of here = omega (arith, ints, parts here, parts there) in
+      let same : sum_of there ≡ sum_of here = omega (arith, ints, sum_of-parts here, sum_of-parts there) in
       same ∙ ap sum_of (seconds-zip columns prices e)
 
 -- Two lists whose items are related place by place.

@@ -3,29 +3,30 @@
 use Rattle.kd_card.proofs.Prelude.{count_by-cons, six_lists, ◌≡◌, ℕ, suc, ◌+◌, ◌-◌, ◌≤◌, nat_eq, min, Bool, false, inl}
 use Rattle.kd_card.proofs.Prelude.{inr, List, [], ◌∷◌, get_or, set, map, fold, count_by, Option, None, unwrap_or, ℤ}
 use Rattle.kd_card.proofs.Prelude.{sym, ◌∙◌, subst, arith, length, Place, alphabet, RotorParts, Parts, Rotor, Pin}
-use Rattle.kd_card.proofs.Prelude.{Setting, Pull, Put, LugTo, cable_letters, plugged_letters, IsLegal, has_letter}
-use Rattle.kd_card.proofs.Prelude.{reasons, why_refused, cable_at, cable_without, cable_with, with_lug, changed, Leads}
-use Rattle.kd_card.proofs.Prelude.{differ, unless_same, column_letters, cable_cost, lugs_moved, bar_cost, All-set}
-use Rattle.kd_card.proofs.Prelude.{length-set, numbered, common_steps, All, no_reason, still_before, IsPermutation}
-use Rattle.kd_card.proofs.Prelude.{refl, true, ◌||◌, ◌⊎◌, not-false, Contains-permutation, IsPermutation-sym}
-use Rattle.kd_card.proofs.Prelude.{IsDistinct-IsPermutation, IsDistinct-cons, IsDistinct-tail, get_or_from_slice_get}
-use Rattle.kd_card.proofs.Prelude.{IsDistinct, eqb_flips, free_tells, set_moves, with_moves, without_moves}
-use Rattle.kd_card.proofs.Prelude.{tests_tell_letters, stands, PinParts, Stands, with_lug_at, ◌≢◌, zero, not, cond, zip}
-use Rattle.kd_card.proofs.Prelude.{sum, AllPairs, Some, slice_get, ap, AllByRecursion, sum_by, option_map_or, bytes_eq}
-use Rattle.kd_card.proofs.Prelude.{cases_eq, eq-eqb, recursion_from_All, map-id, sum-map, sum_by-cons}
+use Rattle.kd_card.proofs.Prelude.{Setting, Pull, Put, LugTo, cable_letters, letters_in_cables, IsLegal, has_letter}
+use Rattle.kd_card.proofs.Prelude.{refusal_reasons, why_refused, cable_at, cable_without, cable_with, with_lug}
+use Rattle.kd_card.proofs.Prelude.{machine_after, Leads, exactly_one, one_unless, column_letters, cable_cost}
+use Rattle.kd_card.proofs.Prelude.{lugs_moved, bar_cost, All-set, length-set, numbered_item, common_steps, All}
+use Rattle.kd_card.proofs.Prelude.{no_reason, still_before, IsPermutation, refl, true, ◌||◌, ◌⊎◌, not-false}
+use Rattle.kd_card.proofs.Prelude.{Contains-permutation, IsPermutation-sym, IsDistinct-IsPermutation, IsDistinct-cons}
+use Rattle.kd_card.proofs.Prelude.{IsDistinct-tail, get_or_from_slice_get, IsDistinct, eqb_flips}
+use Rattle.kd_card.proofs.Prelude.{has_letter-AllByRecursion, set_moves, with_moves, without_moves, tests_tell_letters}
+use Rattle.kd_card.proofs.Prelude.{IsNumbered-not_none, PinParts, HasLugsInOrder, bars_with_lug, ◌≢◌, zero, not, cond}
+use Rattle.kd_card.proofs.Prelude.{zip, sum, AllPairs, Some, slice_get, ap, AllByRecursion, sum_by, option_map_or}
+use Rattle.kd_card.proofs.Prelude.{bytes_eq, cases_eq, eq-eqb, recursion_from_All, map-id, sum-map, sum_by-cons}
 use Rattle.kd_card.proofs.Prelude.{unwrap_or-slice_get, bytes_eq-Decides, Model, wheel_text, reflector_text, Seat}
 use Rattle.kd_card.proofs.Prelude.{SeatReflector, RingTo, Turn, PinTo, same_wheel, same_reflector, place_in_box}
-use Rattle.kd_card.proofs.Prelude.{model_of, ring_at, letter_at, seated_in, without, with_letter, RotorDay, PinDay, Day}
-use Rattle.kd_card.proofs.Prelude.{OfRotors, OfPins, IsLegalDay, day_model, ReadsAs, loose_slots, loose_reflector}
-use Rattle.kd_card.proofs.Prelude.{loose_rings, loose_letters, loose_pins, loose_pin_letters, loose_count, is_priced}
-use Rattle.kd_card.proofs.Prelude.{set_other, days_wheels_have_their_places, is_none}
+use Rattle.kd_card.proofs.Prelude.{model_of, ring_at, letter_at, wheel_in_slot, seat_without, letters_with, RotorDay}
+use Rattle.kd_card.proofs.Prelude.{PinDay, Day, OfRotors, OfPins, IsLegalDay, day_model, ReadsAs, loose_slots}
+use Rattle.kd_card.proofs.Prelude.{loose_reflector, loose_rings, loose_letters, loose_pins, loose_pin_letters}
+use Rattle.kd_card.proofs.Prelude.{loose_count, is_priced_setting, set_other, days_wheels_have_their_places, is_none}
 use Rattle.kd_state.specs.{Costs.standings_as, declared.sheet_day.rotor_entry.SheetWheel.SheetWheel}
 use Rattle.kd_state.specs.{Pins.wheel_pins, Pins.with_pin}
 use Rattle.kd_tables.specs.{declared.lug.Lug.Lug, declared.wheel.Wheel.Wheel, Rings.ring_of, Rings.place_on}
 use Rattle.kd_card.proofs.{Counts.{zip_set, at_most_one, once_in_alphabet}, Duality.pairing_cost}
 use Rattle.kd_pins.specs.{PinWheels.pins_of}
 
-pub not_differing : (b : Bool) → differ b b ≡ false
+pub not_differing : (b : Bool) → exactly_one b b ≡ false
 not_differing b = grind arith
 
 pub one_less : (place : ℕ) → suc place - 1 ≡ place
@@ -34,11 +35,11 @@ one_less place = omega arith
 -- What holds for the cables or bars of a machine, and is kept by every setting.
 pub record HasCables (cables : List (Option ℕ × Option ℕ)) : Type 0 where
   pub count : length cables ≡ 13
-  pub apart : IsDistinct nat_eq (plugged_letters cables)
+  pub apart : IsDistinct nat_eq (letters_in_cables cables)
 
 pub record HasBars (bars : List (Place × Place)) : Type 0 where
   pub count : length bars ≡ 27
-  pub stand : All Stands bars
+  pub stand : All HasLugsInOrder bars
 
 -- ---- a letter is pulled out of a cable, or put into one
 
@@ -66,47 +67,48 @@ pub record ChangesCable (m : RotorParts) (cable letter : ℕ) (new : Option ℕ 
   pub same : SameBut letter (cable_letters (cable_at m cable)) (cable_letters new)
   pub keeps : HasCables m.cables → HasCables (set m.cables (cable - 1) new)
 
-changes : (m : RotorParts) (cable letter : ℕ) (new : Option ℕ × Option ℕ)
-    → is_none (numbered m.cables cable) ≡ false
+ChangesCable-letters : (m : RotorParts) (cable letter : ℕ) (new : Option ℕ × Option ℕ)
+    → is_none (numbered_item m.cables cable) ≡ false
     → SameBut letter (cable_letters (cable_at m cable)) (cable_letters new)
-    → (slice_get m.cables (cable - 1) ≡ Some (cable_at m cable) → IsDistinct nat_eq (plugged_letters m.cables)
-    → IsDistinct nat_eq (plugged_letters (set m.cables (cable - 1) new))) → ChangesCable m cable letter new
-changes m cable letter new some same keeps =
-    let there = (stands m.cables cable (None, None) some).here in
+    → (slice_get m.cables (cable - 1) ≡ Some (cable_at m cable) → IsDistinct nat_eq (letters_in_cables m.cables)
+    → IsDistinct nat_eq (letters_in_cables (set m.cables (cable - 1) new))) → ChangesCable m cable letter new
+ChangesCable-letters m cable letter new some same keeps =
+    let there = (IsNumbered-not_none m.cables cable (None, None) some).here in
     record {
       here = get_or_from_slice_get m.cables (cable - 1) (cable_at m cable) (cable_at m cable) there;
       same = same;
       keeps = λ h. record { count = length-set m.cables (cable - 1) new ∙ h.count; apart = keeps there h.apart };
     }
 
-pub pulls : (m : RotorParts) (cable letter : ℕ) → why_refused (Rotor m) (Pull cable letter) ≡ None
+pub ChangesCable-pull : (m : RotorParts) (cable letter : ℕ) → why_refused (Rotor m) (Pull cable letter) ≡ None
     → ChangesCable m cable letter (cable_without letter (cable_at m cable))
-pulls m cable letter e =
-    let allowed = no_reason (reasons (Rotor m) (Pull cable letter)) e in
+ChangesCable-pull m cable letter e =
+    let allowed = no_reason (refusal_reasons (Rotor m) (Pull cable letter)) e in
     let old = cable_at m cable in
     let new = cable_without letter old in
     let moved = without_moves letter old.0 old.1 (not-false _ allowed.1.0) in
     let one = one_apart letter (cable_letters new) (cable_letters old) moved in
-    changes m cable letter new allowed.0 one (λ there apart.
+    ChangesCable-letters m cable letter new allowed.0 one (λ there apart.
     let moves = set_moves [] (letter ∷ []) m.cables (cable - 1) old new there moved in
     IsDistinct-tail nat_eq letter _ (IsDistinct-IsPermutation nat_eq eqb_flips _ _ moves apart))
 
-pub puts : (m : RotorParts) (cable letter : ℕ) → why_refused (Rotor m) (Put cable letter) ≡ None
+pub ChangesCable-put : (m : RotorParts) (cable letter : ℕ) → why_refused (Rotor m) (Put cable letter) ≡ None
     → ChangesCable m cable letter (cable_with letter (cable_at m cable))
-puts m cable letter e =
-    let allowed = no_reason (reasons (Rotor m) (Put cable letter)) e in
+ChangesCable-put m cable letter e =
+    let allowed = no_reason (refusal_reasons (Rotor m) (Put cable letter)) e in
     let old = cable_at m cable in
     let new = cable_with letter old in
     let moved = with_moves letter old.0 old.1 allowed.1.0 in
     let one = one_apart letter (cable_letters old) (cable_letters new) (IsPermutation-sym _ _ moved) in
-    let free = (free_tells (plugged_letters m.cables) letter).0 allowed.1.1.0 in
-    changes m cable letter new allowed.0 (λ l. elim (one l) [ inl e ↦ inl (sym e) | inr e ↦ inr e ]) (λ there apart.
+    let free = (has_letter-AllByRecursion (letters_in_cables m.cables) letter).0 allowed.1.1.0 in
+    ChangesCable-letters m cable letter new allowed.0 (λ l. elim (one l) [ inl e ↦ inl (sym e) | inr e ↦ inr e ])
+    (λ there apart.
     let moves = set_moves (letter ∷ []) [] m.cables (cable - 1) old new there moved in
     IsDistinct-IsPermutation nat_eq eqb_flips _ _ moves (IsDistinct-cons nat_eq letter _ free apart))
 
 counted_apart : (letters others wanted : List ℕ) (x : ℕ) → SameBut x letters others → (alphabet : List ℕ)
-    → count_by (λ letter. differ (has_letter letters letter) (has_letter wanted letter)) alphabet
-    ≤ count_by (λ letter. differ (has_letter others letter) (has_letter wanted letter)) alphabet
+    → count_by (λ letter. exactly_one (has_letter letters letter) (has_letter wanted letter)) alphabet
+    ≤ count_by (λ letter. exactly_one (has_letter others letter) (has_letter wanted letter)) alphabet
     + count_by (nat_eq x) alphabet
 counted_apart letters others wanted x same [] = omega arith
 counted_apart letters others wanted x same (letter ∷ alphabet) =
@@ -123,7 +125,7 @@ cables_fall m cable letter new ws c =
 
 -- ---- one lug of a bar is moved
 
-pub unless_same_at_most : (b : Bool) → unless_same b ≤ 1
+pub unless_same_at_most : (b : Bool) → one_unless b ≤ 1
 unless_same_at_most b = grind arith
 
 lugs_moved_step : (lug : Lug) (place : Place) (standing other : Place × Place)
@@ -137,16 +139,16 @@ least_falls f g h (x ∷ xs) a b start = least_falls f g h xs (min a (f x)) (min
 
 pub lug_moves : (m : PinParts) (ws : List ((ℕ × ℕ) × ℤ)) (bar : ℕ) (lug : Lug) (place : Place)
     → why_refused (Pin m) (LugTo bar lug place) ≡ None
-    → (pairing_cost bar_cost m.bars ws ≤ pairing_cost bar_cost (with_lug_at m bar lug place) ws + 1)
-    × (HasBars m.bars → HasBars (with_lug_at m bar lug place))
+    → (pairing_cost bar_cost m.bars ws ≤ pairing_cost bar_cost (bars_with_lug m bar lug place) ws + 1)
+    × (HasBars m.bars → HasBars (bars_with_lug m bar lug place))
 lug_moves m ws bar lug place e =
-    let allowed = no_reason (reasons (Pin m) (LugTo bar lug place)) e in
-    let there = stands m.bars bar (place, place) allowed.0 in
-    let old = unwrap_or (numbered m.bars bar) (place, place) in
+    let allowed = no_reason (refusal_reasons (Pin m) (LugTo bar lug place)) e in
+    let there = IsNumbered-not_none m.bars bar (place, place) allowed.0 in
+    let old = unwrap_or (numbered_item m.bars bar) (place, place) in
     let new = with_lug lug place old in
     let here = get_or_from_slice_get m.bars (bar - 1) old old there.here in
     let before = still_before lug place old (rw there.is at allowed.1.0) (rw there.is at allowed.1.1.0) in
-    let all : with_lug_at m bar lug place ≡ set m.bars (bar - 1) new = rw there.is refl in
+    let all : bars_with_lug m bar lug place ≡ set m.bars (bar - 1) new = rw there.is refl in
     let cost = pairing_cost bar_cost m.bars ws in
     subst (λ bars. (cost ≤ pairing_cost bar_cost bars ws + 1) × (HasBars m.bars → HasBars bars)) (sym all) (
       zip_set (λ pair. bar_cost pair.0 pair.1.0) m.bars ws (bar - 1) new old (λ w.
@@ -155,30 +157,30 @@ lug_moves m ws bar lug place e =
           (least_falls (lugs_moved old) (lugs_moved new) step (standings_as w.0) 2 2 (omega arith))),
       λ h. record {
         count = length-set m.bars (bar - 1) new ∙ h.count;
-        stand = All-set Stands m.bars (bar - 1) new before h.stand;
+        stand = All-set HasLugsInOrder m.bars (bar - 1) new before h.stand;
       },
     )
 
 -- ---- what settings keep
 
-abbrev pub HasAll : Parts → Type 0
-HasAll (Rotor m) = HasCables m.cables
-HasAll (Pin m) = HasBars m.bars
+abbrev pub HasAllParts : Parts → Type 0
+HasAllParts (Rotor m) = HasCables m.cables
+HasAllParts (Pin m) = HasBars m.bars
 
-pub machines_have_all : (m : Parts) → IsLegal m → HasAll m
+pub machines_have_all : (m : Parts) → IsLegal m → HasAllParts m
 machines_have_all (Rotor m) h = record { count = h.cables.count; apart = h.cables.apart }
 machines_have_all (Pin m) h = record { count = h.bars; stand = h.apart }
 
-setting_keeps : (m : Parts) (x : Setting) → why_refused m x ≡ None → HasAll m → HasAll (changed m x)
-setting_keeps (Rotor m) (Pull cable letter) e h = (pulls m cable letter e).keeps h
-setting_keeps (Rotor m) (Put cable letter) e h = (puts m cable letter e).keeps h
+setting_keeps : (m : Parts) (x : Setting) → why_refused m x ≡ None → HasAllParts m → HasAllParts (machine_after m x)
+setting_keeps (Rotor m) (Pull cable letter) e h = (ChangesCable-pull m cable letter e).keeps h
+setting_keeps (Rotor m) (Put cable letter) e h = (ChangesCable-put m cable letter e).keeps h
 setting_keeps (Pin m) (LugTo bar lug place) e h = (lug_moves m [] bar lug place e).1 h
 setting_keeps m x e h = h
 
-pub list_keeps : (m n : Parts) (xs : List Setting) → Leads m xs n → HasAll m → HasAll n
-list_keeps m n [] leads h = subst HasAll (sym leads) h
+pub list_keeps : (m n : Parts) (xs : List Setting) → Leads m xs n → HasAllParts m → HasAllParts n
+list_keeps m n [] leads h = subst HasAllParts (sym leads) h
 list_keeps m n (x ∷ xs) leads h =
-    list_keeps leads.0 n xs leads.2 (subst HasAll (sym leads.1.made) (setting_keeps m x leads.1.allowed h))
+    list_keeps leads.0 n xs leads.2 (subst HasAllParts (sym leads.1.made) (setting_keeps m x leads.1.allowed h))
 
 -- ---- loose things
 
@@ -230,11 +232,11 @@ abbrev wrong_slot : Option Wheel × SheetWheel → Bool
 wrong_slot slot = not (option_map_or (same_wheel slot.1.wheel) slot.0 false)
 
 empty_wrong : (seated : Option Wheel) (wheel : Wheel) (wanted : SheetWheel)
-    → cond {A = ℕ} (wrong_slot (seated, wanted)) 1 0 ≤ cond {A = ℕ} (wrong_slot (without wheel seated, wanted)) 1 0
+    → cond {A = ℕ} (wrong_slot (seated, wanted)) 1 0 ≤ cond {A = ℕ} (wrong_slot (seat_without wheel seated, wanted)) 1 0
 empty_wrong seated wheel wanted = grind (arith, at_most_one)
 
 without_raises : (wheel : Wheel) (slots : List (Option Wheel)) (wheels : List SheetWheel)
-    → count_by wrong_slot (zip slots wheels) ≤ count_by wrong_slot (zip (map (without wheel) slots) wheels)
+    → count_by wrong_slot (zip slots wheels) ≤ count_by wrong_slot (zip (map (seat_without wheel) slots) wheels)
 without_raises wheel [] wheels = omega arith
 without_raises wheel (now ∷ slots) [] = omega arith
 without_raises wheel (now ∷ slots) (wanted ∷ wheels) =
@@ -247,10 +249,11 @@ HaveTheirPlaces model wheels =
 
 -- what is left to do: loose things, and the cost of turning the cables into these columns or the bars into
 -- these rows
-abbrev pub left : List (Option (ℕ × ℕ) × ℤ) → List ((ℕ × ℕ) × ℤ) → Parts → Day → ℕ
-left columns rows (Rotor m) (OfRotors s) = loose_count (Rotor m) (OfRotors s) + pairing_cost cable_cost m.cables columns
-left columns rows (Pin m) (OfPins s) = loose_count (Pin m) (OfPins s) + pairing_cost bar_cost m.bars rows
-left columns rows m s = 0
+abbrev pub left_to_do : List (Option (ℕ × ℕ) × ℤ) → List ((ℕ × ℕ) × ℤ) → Parts → Day → ℕ
+left_to_do columns rows (Rotor m) (OfRotors s) = loose_count (Rotor m) (OfRotors s)
+    + pairing_cost cable_cost m.cables columns
+left_to_do columns rows (Pin m) (OfPins s) = loose_count (Pin m) (OfPins s) + pairing_cost bar_cost m.bars rows
+left_to_do columns rows m s = 0
 
 -- Each setting leaves at most one less to do.
 module _ (columns : List (Option (ℕ × ℕ) × ℤ)) (rows : List ((ℕ × ℕ) × ℤ)) (m : RotorParts) (s : RotorDay)
@@ -260,7 +263,7 @@ module _ (columns : List (Option (ℕ × ℕ) × ℤ)) (rows : List ((ℕ × ℕ
 
   turned_lowers : (seated : Option Wheel) (letter : ℕ)
       → loose_count (Rotor m) (OfRotors s)
-      ≤ loose_count (Rotor (record m { letters = with_letter m seated letter })) (OfRotors s) + 1
+      ≤ loose_count (Rotor (record m { letters = letters_with m seated letter })) (OfRotors s) + 1
   turned_lowers None letter = omega arith
   turned_lowers (Some wheel) letter =
       omega (
@@ -269,14 +272,17 @@ module _ (columns : List (Option (ℕ × ℕ) × ℤ)) (rows : List ((ℕ × ℕ
       )
 
   rotor_lowers : (x : Setting) → why_refused (Rotor m) x ≡ None
-      → left columns rows (Rotor m) (OfRotors s) ≤ left columns rows (changed (Rotor m) x) (OfRotors s) + 1
-  rotor_lowers (Pull cable letter) e = omega (arith, cables_fall m cable letter _ columns (pulls m cable letter e))
-  rotor_lowers (Put cable letter) e = omega (arith, cables_fall m cable letter _ columns (puts m cable letter e))
+      → left_to_do columns rows (Rotor m) (OfRotors s)
+      ≤ left_to_do columns rows (machine_after (Rotor m) x) (OfRotors s) + 1
+  rotor_lowers (Pull cable letter) e = omega
+      (arith, cables_fall m cable letter _ columns (ChangesCable-pull m cable letter e))
+  rotor_lowers (Put cable letter) e = omega
+      (arith, cables_fall m cable letter _ columns (ChangesCable-put m cable letter e))
   rotor_lowers (Seat slot wheel) e =
       omega (
         arith,
         without_raises wheel m.slots s.wheels,
-        zip_set_lowers wrong_slot (map (without wheel) m.slots) s.wheels (slot - 1) (Some wheel),
+        zip_set_lowers wrong_slot (map (seat_without wheel) m.slots) s.wheels (slot - 1) (Some wheel),
       )
   rotor_lowers (SeatReflector reflector) e = omega (arith, unless_same_at_most (same_reflector m.reflector s.reflector))
   rotor_lowers (RingTo wheel letter) e =
@@ -284,21 +290,21 @@ module _ (columns : List (Option (ℕ × ℕ) × ℤ)) (rows : List ((ℕ × ℕ
         arith,
         set_lowers place (λ (w : SheetWheel). w.ring) m.rings (place_in_box m.model wheel) letter s.wheels apart,
       )
-  rotor_lowers (Turn slot letter) e = omega (arith, turned_lowers (seated_in m slot) letter)
+  rotor_lowers (Turn slot letter) e = omega (arith, turned_lowers (wheel_in_slot m slot) letter)
   rotor_lowers x e = omega arith
 
 -- PIN, which sets one pin.
-abbrev differing : List Bool × List Bool → ℕ
-differing wheel = count_by (λ (pin : Bool × Bool). differ pin.0 pin.1) (zip wheel.0 wheel.1)
+abbrev differing_pins : List Bool × List Bool → ℕ
+differing_pins wheel = count_by (λ (pin : Bool × Bool). exactly_one pin.0 pin.1) (zip wheel.0 wheel.1)
 
 wheel_set_lowers : (xss yss : List (List Bool)) (i p : ℕ) (effective : Bool)
-    → sum (map differing (zip xss yss))
-    ≤ sum (map differing (zip (set xss i (set (get_or xss i []) p effective)) yss)) + 1
+    → sum (map differing_pins (zip xss yss))
+    ≤ sum (map differing_pins (zip (set xss i (set (get_or xss i []) p effective)) yss)) + 1
 wheel_set_lowers xss yss i p effective =
     let was = get_or xss i [] in
-    let differs = λ (pin : Bool × Bool). differ pin.0 pin.1 in
+    let differs = λ (pin : Bool × Bool). exactly_one pin.0 pin.1 in
     simp sum-map
-    (zip_set differing xss yss i (set was p effective) [] (λ ys. zip_set_lowers differs was ys p effective))
+    (zip_set differing_pins xss yss i (set was p effective) [] (λ ys. zip_set_lowers differs was ys p effective))
 
 pin_lowers : (m : PinParts) (s : PinDay) (wheel letter : ℕ) (effective : Bool)
     → why_refused (Pin m) (PinTo wheel letter effective) ≡ None
@@ -313,35 +319,38 @@ pin_lowers m s (suc wheel) letter effective e =
     = six_lists m.pins (suc wheel - 1) new ∙ ap (λ i. set (pins_of m.pins) i new) (one_less wheel)
     ∙ ap (λ pins. set (pins_of m.pins) wheel (set pins place effective))
     (unwrap_or-slice_get (pins_of m.pins) wheel []) in
-    subst (λ pins. loose_pins m s ≤ sum (map differing (zip pins (pins_of s.pins))) + 1) (sym all)
+    subst (λ pins. loose_pins m s ≤ sum (map differing_pins (zip pins (pins_of s.pins))) + 1) (sym all)
     (wheel_set_lowers (pins_of m.pins) (pins_of s.pins) wheel place effective)
 
 pin_machine_lowers : (columns : List (Option (ℕ × ℕ) × ℤ)) (rows : List ((ℕ × ℕ) × ℤ)) (m : PinParts) (s : PinDay)
     (x : Setting) → why_refused (Pin m) x ≡ None
-    → left columns rows (Pin m) (OfPins s) ≤ left columns rows (changed (Pin m) x) (OfPins s) + 1
+    → left_to_do columns rows (Pin m) (OfPins s) ≤ left_to_do columns rows (machine_after (Pin m) x) (OfPins s) + 1
 pin_machine_lowers columns rows m s (LugTo bar lug place) e = omega (arith, (lug_moves m rows bar lug place e).0)
 pin_machine_lowers columns rows m s x e = grind (arith, zip_set_lowers, pin_lowers)
 
 -- The same for any machine and any setting.
-pub lowers : (columns : List (Option (ℕ × ℕ) × ℤ)) (rows : List ((ℕ × ℕ) × ℤ)) (m : Parts) (s : Day) (x : Setting)
+pub left_to_do-lowered : (columns : List (Option (ℕ × ℕ) × ℤ)) (rows : List ((ℕ × ℕ) × ℤ)) (m : Parts) (s : Day)
+    (x : Setting)
     → IsLegalDay s
-    → model_of m ≡ day_model s → why_refused m x ≡ None → left columns rows m s ≤ left columns rows (changed m x) s + 1
-lowers columns rows (Rotor m) (OfRotors s) x h same e =
+    → model_of m ≡ day_model s → why_refused m x ≡ None
+    → left_to_do columns rows m s ≤ left_to_do columns rows (machine_after m x) s + 1
+left_to_do-lowered columns rows (Rotor m) (OfRotors s) x h same e =
     rotor_lowers columns rows m s (subst (λ model. HaveTheirPlaces model s.wheels) (sym same)
     (days_wheels_have_their_places s.model s.wheels h.wheels)) x e
-lowers columns rows (Pin m) (OfPins s) x h same e = pin_machine_lowers columns rows m s x e
-lowers columns rows m s x h same e = omega arith
+left_to_do-lowered columns rows (Pin m) (OfPins s) x h same e = pin_machine_lowers columns rows m s x e
+left_to_do-lowered columns rows m s x h same e = omega arith
 
 -- No setting changes the model. A setting that changes a cable or a bar leaves the number of loose things.
-pub model_of-changed : (m : Parts) (x : Setting) → model_of (changed m x) ≡ model_of m
+pub model_of-changed : (m : Parts) (x : Setting) → model_of (machine_after m x) ≡ model_of m
 model_of-changed m x = grind arith
 
-pub leaves : (m : Parts) (s : Day) (x : Setting) → is_priced x ≡ true → loose_count (changed m x) s ≡ loose_count m s
-leaves m s x e = grind arith
+pub loose_count-priced : (m : Parts) (s : Day) (x : Setting) → is_priced_setting x ≡ true
+    → loose_count (machine_after m x) s ≡ loose_count m s
+loose_count-priced m s x e = grind arith
 
 -- A machine that reads as the day has no loose things.
-itself : (name : List ℕ) → bytes_eq name name ≡ true
-itself name = (bytes_eq-Decides name name).1 refl
+bytes_eq-self : (name : List ℕ) → bytes_eq name name ≡ true
+bytes_eq-self name = (bytes_eq-Decides name name).1 refl
 
 zip_none : {X Y : Type 0} (f : Y × X → ℕ) (seen : X → Y) → ((x : X) → f (seen x, x) ≡ 0) → (xs : List X)
     → sum_by f (zip (map seen xs) xs) ≡ 0
@@ -364,24 +373,27 @@ rotor_not_loose : (n : RotorParts) (s : RotorDay) → ReadsAs (Rotor n) (OfRotor
 rotor_not_loose n s h =
     let slots : loose_slots n s ≡ 0 = ap (λ slots. count_by wrong_slot (zip slots s.wheels)) h.key.slots
     ∙ zip_none (λ slot. cond (wrong_slot slot) 1 0) (λ w. Some w.wheel)
-    (λ w. ap (λ b. cond (not b) 1 0) (itself (wheel_text w.wheel))) s.wheels in
+    (λ w. ap (λ b. cond (not b) 1 0) (bytes_eq-self (wheel_text w.wheel))) s.wheels in
     let reflector : loose_reflector n s ≡ 0 =
-    ap (λ reflector. unless_same (same_reflector reflector s.reflector)) h.key.reflector
-    ∙ ap unless_same (itself (reflector_text s.reflector)) in
+    ap (λ reflector. one_unless (same_reflector reflector s.reflector)) h.key.reflector
+    ∙ ap one_unless (bytes_eq-self (reflector_text s.reflector)) in
     let rings : loose_rings n s ≡ 0 = none_wrong (λ w. ring_at n w.wheel) (λ w. w.ring) s.wheels
     (recursion_from_All (λ (w : SheetWheel). ring_at n w.wheel ≡ Some w.ring) s.wheels h.key.rings) in
     let letters : loose_letters n s ≡ 0 = none_wrong (λ w. letter_at n w.wheel) (λ w. w.letter) s.wheels
     (recursion_from_All (λ (w : SheetWheel). letter_at n w.wheel ≡ Some w.letter) s.wheels h.window) in
     omega (arith, slots, reflector, rings, letters)
 
-no_pin_wrong : (pins : List Bool) → differing (pins, pins) ≡ 0
+no_pin_wrong : (pins : List Bool) → differing_pins (pins, pins) ≡ 0
 no_pin_wrong pins =
-    self_none (λ (pin : Bool × Bool). cond (differ pin.0 pin.1) 1 0) (λ b. ap (λ d. cond d 1 0) (not_differing b)) pins
+    self_none (λ (pin : Bool × Bool). cond (exactly_one pin.0 pin.1) 1 0)
+    (λ b. ap (λ d. cond d 1 0) (not_differing b)) pins
 
 pin_not_loose : (n : PinParts) (s : PinDay) → ReadsAs (Pin n) (OfPins s) → loose_count (Pin n) (OfPins s) ≡ 0
 pin_not_loose n s h =
-    let pins : loose_pins n s ≡ 0 = ap (λ pins. sum (map differing (zip (pins_of pins) (pins_of s.pins)))) h.key.pins
-    ∙ sum-map differing (zip (pins_of s.pins) (pins_of s.pins)) ∙ self_none differing no_pin_wrong (pins_of s.pins) in
+    let pins : loose_pins n s ≡ 0 = ap (λ pins. sum (map differing_pins (zip (pins_of pins) (pins_of s.pins))))
+    h.key.pins
+    ∙ sum-map differing_pins (zip (pins_of s.pins) (pins_of s.pins))
+    ∙ self_none differing_pins no_pin_wrong (pins_of s.pins) in
     let letters : loose_pin_letters n s ≡ 0 =
     ap (λ letters. count_by (λ (letter : ℕ × ℕ). not (nat_eq letter.0 letter.1)) (zip letters s.window)) h.window
     ∙ self_none (λ (letter : ℕ × ℕ). cond (not (nat_eq letter.0 letter.1)) 1 0)

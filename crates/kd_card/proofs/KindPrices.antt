@@ -4,10 +4,10 @@ use Rattle.kd_card.proofs.Prelude.{length-append, arith, unsigned_abs, ◌++◌,
 use Rattle.kd_card.proofs.Prelude.{All-append, All-nil, All-replicate, PricedKind, PriceParts, CableKinds, BarKinds}
 use Rattle.kd_card.proofs.Prelude.{ByKind, look_rank, counted, prices_of_kinds, AreKinds, look_name, kind_words}
 use Rattle.kd_card.proofs.Prelude.{kinds_text, cable_kind, pair_kind, bar_kind, row_kind, AreCalled, version_of}
-use Rattle.kd_card.proofs.Prelude.{how_many, row_kinds, column_kinds, row_prices, column_prices, AreWithinReach}
+use Rattle.kd_card.proofs.Prelude.{table_rows, row_kinds, column_kinds, row_prices, column_prices, ArePricesInRange}
 use Rattle.kd_card.proofs.Prelude.{ArePrices, flat_map-append, flat_map-map, Place, One, line_of, Look, Cable, Pair}
 use Rattle.kd_card.proofs.Prelude.{Bar, Row, Name, Group, group_of, row_name, column_name, price_count, lines_text}
-use Rattle.kd_card.proofs.Prelude.{price_lines, IsGroup, HaveKinds, with_line, rules, common_steps, map-id, ◌<◌, zero}
+use Rattle.kd_card.proofs.Prelude.{price_lines, IsGroup, HaveKinds, line_then, rules, common_steps, map-id, ◌<◌, zero}
 use Rattle.kd_card.proofs.Prelude.{suc, ◌*◌, take, get_or, subst, append_assoc, All, All-cons, IsPricedKind, IsNextKind}
 use Rattle.kd_card.proofs.Prelude.{BeginsWithKinds, append-nil, HasNoNext}
 use Rattle.{std.proofs.lemmas.Simd.map-map, arrayvec.specs.ArrayVec.ArrayVec}
@@ -22,7 +22,7 @@ length_of_kinds (kind ∷ kinds) =
     omega (arith, length-append (replicate kind.count kind.price) (prices_of_kinds kinds))
 
 pub reach_of_kinds : (floor : ℕ) (kinds : List PricedKind) → AreKinds floor kinds
-    → AreWithinReach (prices_of_kinds kinds)
+    → ArePricesInRange (prices_of_kinds kinds)
 reach_of_kinds floor [] are = All-nil (λ price. unsigned_abs price ≤ 9999)
 reach_of_kinds floor (kind ∷ kinds) are =
     grind (arith, common_steps, All-append, All-replicate, reach_of_kinds (look_rank kind.look + 1) kinds are.2)
@@ -40,8 +40,8 @@ prices_of parts e = grind arith
 
 pub are_prices : (parts : PriceParts) → version_of parts ≡ ByKind
     → ArePrices parts
-    ↔ (AreKinds 0 (row_kinds parts) × (counted (row_kinds parts) ≡ how_many parts)
-    × AreKinds 0 (column_kinds parts) × (counted (column_kinds parts) ≡ how_many parts))
+    ↔ (AreKinds 0 (row_kinds parts) × (counted (row_kinds parts) ≡ table_rows parts)
+    × AreKinds 0 (column_kinds parts) × (counted (column_kinds parts) ≡ table_rows parts))
 are_prices (CableKinds row col) by = grind (arith, length_of_kinds, reach_of_kinds)
 are_prices (BarKinds row col) by = grind (arith, length_of_kinds, reach_of_kinds)
 are_prices parts by = cc
@@ -61,7 +61,7 @@ bars_are_prices rows columns = are_prices _ refl
 -- ---- kinds and their lines
 
 pub text_of_more_kinds : (kind : PricedKind) (kinds : List PricedKind) (rest : List ℕ)
-    → kinds_text (kind ∷ kinds) ++ rest ≡ with_line (kind_words kind) (kinds_text kinds ++ rest)
+    → kinds_text (kind ∷ kinds) ++ rest ≡ line_then (kind_words kind) (kinds_text kinds ++ rest)
 text_of_more_kinds kind kinds rest = line_and_more (line_of (kind_words kind)) (kinds_text kinds) rest
 
 pub text_by_kind : (prices : PriceParts) → version_of prices ≡ ByKind
@@ -128,13 +128,13 @@ pub group_fits : {name : Name} {number : ℕ} {kinds : List PricedKind} → IsGr
 group_fits {kinds} group = let count = group.count in (group.called, omega (arith, few_kinds 0 kinds group.in_order))
 
 pub of_two_groups : (group : Group) {rows columns : List PricedKind} (prices : PriceParts) → version_of prices ≡ ByKind
-    → price_count group ≡ how_many prices
+    → price_count group ≡ table_rows prices
     → row_kinds prices ≡ rows → column_kinds prices ≡ columns → IsGroup (row_name group) (price_count group) rows
     → IsGroup (column_name group) (price_count group) columns → ArePrices prices
 of_two_groups group prices by many r c x y =
     (are_prices prices by).1 (rw (r, c, ← many) (x.in_order, x.count, y.in_order, y.count))
 
-pub size_of : (prices : PriceParts) → price_count (group_of prices) ≡ how_many prices
+pub size_of : (prices : PriceParts) → price_count (group_of prices) ≡ table_rows prices
 size_of prices = grind arith
 
 pub some_and_few : (group : Group) → (0 < price_count group) × (price_count group ≤ 27)
@@ -144,7 +144,7 @@ pub first_kind : {name : Name} {floor : ℕ} {bytes after rest : List ℕ} {kind
     → IsNextKind name floor bytes kind after → BeginsWithKinds name (look_rank kind.look + 1) after kinds rest
     → BeginsWithKinds name floor bytes (kind ∷ kinds) rest
 first_kind {rest} {kind} {kinds} next behind = record {
-  lines = is_line next.line ∙ ap (with_line (kind_words kind)) behind.lines ∙ sym (text_of_more_kinds kind kinds rest);
+  lines = is_line next.line ∙ ap (line_then (kind_words kind)) behind.lines ∙ sym (text_of_more_kinds kind kinds rest);
   called = (next.called, behind.called);
   in_order = (next.good, next.above, behind.in_order);
   none_more = behind.none_more;

@@ -6,10 +6,10 @@ use Rattle.kd_card.proofs.Prelude.{All-from_recursion, Place, One, place_text, p
 use Rattle.kd_card.proofs.Prelude.{IsWord, IsWithout, Look, Cable, Pair, Bar, Name, PricedKind, look_name, name_text}
 use Rattle.kd_card.proofs.Prelude.{look_text, look_rank, ends_rank, pair_rank, kind_words, AreEnds, IsPairInOrder}
 use Rattle.kd_card.proofs.Prelude.{IsInForm, IsPricedKind, kinds_text, HasKindWords, RanksTellLooks, signed_decimal}
-use Rattle.kd_card.proofs.Prelude.{append-nil, HasWords, BeginsWithWord, EndsGroup, AtNothing, AtOther, IsNextKind}
+use Rattle.kd_card.proofs.Prelude.{append-nil, HasLineWords, BeginsWithWord, EndsGroup, AtNothing, AtOther, IsNextKind}
 use Rattle.kd_card.proofs.Prelude.{HasNoNext, common_steps, numbers_are_words, texts_tell_first_parts, word_by_bytes}
-use Rattle.kd_card.proofs.Prelude.{word_by_test, EndsAt, IsBadAt}
-use Rattle.kd_card.proofs.Lines.{bytes_above, same_words, some_bytes, bytes_are_word, signed_word, small}
+use Rattle.kd_card.proofs.Prelude.{word_by_test, EndsKindsAt, IsBadKindAt}
+use Rattle.kd_card.proofs.Lines.{bytes_above, same_words, some_bytes, bytes_are_word, signed_word, mag-small}
 
 -- ---- texts of names and places
 
@@ -85,7 +85,7 @@ same_kind kind other a b e =
     let counts : kind.count ≡ other.count =
     decimal_injective kind.count other.count (omega arith) (omega arith) (ap (λ w. get_or w 2 []) e) in
     let prices : kind.price ≡ other.price =
-    signed_decimal_injective kind.price other.price (small kind.price a.reach) (small other.price b.reach)
+    signed_decimal_injective kind.price other.price (mag-small kind.price a.reach) (mag-small other.price b.reach)
     (ap (λ w. get_or w 3 []) e) in
     let make : Look → ℕ → ℤ → PricedKind = λ look count price. record { look = look; count = count; price = price } in
     ap (λ look. make look kind.count kind.price) looks ∙ ap (λ count. make other.look count kind.price) counts
@@ -121,19 +121,19 @@ pub kind_begins : {name : Name} {floor : ℕ} {bytes : List ℕ} {kind : PricedK
 kind_begins {bytes} {kind} {rest} next = record {
   behind = drop 1 (kind_words kind);
   rest = rest;
-  has = subst (λ n. HasWords bytes (name_text n ∷ drop 1 (kind_words kind)) rest) next.called next.line;
+  has = subst (λ n. HasLineWords bytes (name_text n ∷ drop 1 (kind_words kind)) rest) next.called next.line;
 }
 
 pub end_has_no_next : {name : Name} {bytes : List ℕ} (floor : ℕ) → EndsGroup name bytes → HasNoNext name floor bytes
 end_has_no_next floor (AtNothing none) kind rest next = some_bytes next.line none
 end_has_no_next floor (AtOther word begins differs) kind rest next = differs (one_word begins (kind_begins next))
 
-pub ends_at : {name : Name} {bytes : List ℕ} (floor : ℕ) → EndsGroup name bytes → EndsAt name floor bytes
+pub ends_at : {name : Name} {bytes : List ℕ} (floor : ℕ) → EndsGroup name bytes → EndsKindsAt name floor bytes
 ends_at floor ends = record { ends = ends; none_more = end_has_no_next floor ends }
 
 -- The group doesn't end, but no kind follows: there are bytes without a whole line.
 pub unended : {name : Name} {bytes : List ℕ} (floor : ℕ) → bytes ≢ []
-    → ((found : List (List ℕ) × List ℕ) → ¬ (HasWords bytes found.0 found.1)) → IsBadAt name floor bytes
+    → ((found : List (List ℕ) × List ℕ) → ¬ (HasLineWords bytes found.0 found.1)) → IsBadKindAt name floor bytes
 unended floor some none = record {
   goes_on = λ ends. elim ends [
     | AtNothing empty ↦ some empty
@@ -145,7 +145,7 @@ unended floor some none = record {
 -- The group doesn't end, but no kind follows: the line with the name isn't that of a kind.
 pub no_kind : {name : Name} {bytes : List ℕ} (floor : ℕ) → BeginsWithWord (name_text name) bytes
     → HasNoNext name floor bytes
-    → IsBadAt name floor bytes
+    → IsBadKindAt name floor bytes
 no_kind floor begins none = record {
   goes_on = λ ends. elim ends [
     | AtNothing empty ↦ some_bytes begins.has empty
@@ -154,17 +154,18 @@ no_kind floor begins none = record {
   none_more = none;
 }
 
-module _ {name : Name} {text : List ℕ} {words : List (List ℕ)} {rest : List ℕ} (has : HasWords text words rest) where
-  pub words_are : {floor : ℕ} {kind : PricedKind} {more : List ℕ} → IsNextKind name floor text kind more
-      → HasKindWords name words kind
-  words_are next = record { called = next.called; good = next.good; written = (same_words next.line has).0 }
+module _ {name : Name} {text : List ℕ} {words : List (List ℕ)} {rest : List ℕ} (has : HasLineWords text words rest)
+  where
+    pub words_are : {floor : ℕ} {kind : PricedKind} {more : List ℕ} → IsNextKind name floor text kind more
+        → HasKindWords name words kind
+    words_are next = record { called = next.called; good = next.good; written = (same_words next.line has).0 }
 
-  pub low_next : {floor rank : ℕ} {kind : PricedKind} → HasKindWords name words kind → rank ≡ look_rank kind.look
-      → rank < floor
-      → (other : PricedKind) (more : List ℕ) → ¬ (IsNextKind name floor text other more)
-  low_next {kind} is ranked low other more next =
-      let same : kind ≡ other = same_kind kind other is.good next.good (is.written ∙ sym (words_are next).written) in
-      omega (arith, ap (λ (k : PricedKind). look_rank k.look) same)
+    pub low_next : {floor rank : ℕ} {kind : PricedKind} → HasKindWords name words kind → rank ≡ look_rank kind.look
+        → rank < floor
+        → (other : PricedKind) (more : List ℕ) → ¬ (IsNextKind name floor text other more)
+    low_next {kind} is ranked low other more next =
+        let same : kind ≡ other = same_kind kind other is.good next.good (is.written ∙ sym (words_are next).written) in
+        omega (arith, ap (λ (k : PricedKind). look_rank k.look) same)
 
 -- ---- writing a line
 

@@ -1,24 +1,26 @@
 -- Settings carried out in turn: those for loose things lead to a machine that has these things as the day does.
 use Rattle.kd_card.proofs.Prelude.{All, AllByRecursion, AllPairs, Bool, Contains, IsMachine, Leads, List, Model, None}
 use Rattle.kd_card.proofs.Prelude.{OfPins, OfRotors, Option, Parts, Pin, PinDay, PinParts, Rotor, RotorDay, RotorParts}
-use Rattle.kd_card.proofs.Prelude.{Setting, Some, [], ap, append-nil, append_assoc, arith, changed, common_steps, cond}
-use Rattle.kd_card.proofs.Prelude.{days_wheels_have_their_places, eqb-true, false, fold, get_or, get_or-map, get_or_at}
-use Rattle.kd_card.proofs.Prelude.{get_or_from_slice_get, has_letter, is_some, length, length-append, length-map}
-use Rattle.kd_card.proofs.Prelude.{length-set, length-zip, map, option_map_or, place_in_box, recursion_from_All, refl}
-use Rattle.kd_card.proofs.Prelude.{reflectors_of, ring_at, same_wheel}
-use Rattle.kd_card.proofs.Prelude.{seconds-zip, set, set_other, slice_get, subst, suc, sym, true, unwrap_or}
-use Rattle.kd_card.proofs.Prelude.{why_refused, without, zero, zip, ℕ, ◌++◌, ◌+◌, ◌<◌, ◌∙◌, ◌∷◌, ◌≡◌, ◌≢◌}
-use Rattle.kd_card.specs.Loose.{lines_from, loose_lines, pin_lines, pin_of, pin_turn_lines, pin_turn_of}
-use Rattle.kd_card.specs.Loose.{reflector_lines, ring_lines, ring_of_wheel, seat_lines, seat_of, turn_lines, turn_of}
+use Rattle.kd_card.proofs.Prelude.{Setting, Some, [], ap, append-nil, append_assoc, arith, machine_after, common_steps}
+use Rattle.kd_card.proofs.Prelude.{cond, days_wheels_have_their_places, eqb-true, false, fold, get_or, get_or-map}
+use Rattle.kd_card.proofs.Prelude.{get_or_at, get_or_from_slice_get, has_letter, is_some, length, length-append}
+use Rattle.kd_card.proofs.Prelude.{length-map, length-set, length-zip, map, option_map_or, place_in_box}
+use Rattle.kd_card.proofs.Prelude.{recursion_from_All, refl, reflectors_of, ring_at, same_wheel, seconds-zip, set}
+use Rattle.kd_card.proofs.Prelude.{set_other, slice_get, subst, suc, sym, true, unwrap_or, why_refused, seat_without}
+use Rattle.kd_card.proofs.Prelude.{zero, zip, ℕ, ◌++◌, ◌+◌, ◌<◌, ◌∙◌, ◌∷◌, ◌≡◌, ◌≢◌}
+use Rattle.kd_card.specs.Loose.{lines_from, loose_lines, pin_lines, wheel_pin_line, pin_turn_lines, pin_wheel_turn_line}
+use Rattle.kd_card.specs.Loose.{reflector_lines, ring_lines, wheel_ring_line, seat_lines, slot_seat_line, turn_lines}
+use Rattle.kd_card.specs.Loose.{slot_turn_line}
 use Rattle.kd_state.proofs.Wheels.{has_reflector-Decides, has_wheel-Decides, place_within, same_reflector-Decides}
-use Rattle.kd_card.{proofs.Counting.{in_box, lines_of_each}, specs.Loose.{unless_so, wheel_pin_lines}}
+use Rattle.kd_card.{proofs.Counting.{in_box, lines_of_each}, specs.Loose.{setting_unless, wheel_pin_lines}}
 use Rattle.kd_pins.specs.{PinWheels.pins_of, declared.pin_set.PinSet.PinSet}
 use Rattle.{kd_state.proofs.Slots.{has_letter-Decides, is_some-place_on, set_here}, kd_tables.specs.Rings.place_on}
 use Rattle.{kd_state.proofs.Telling.{Refusing.leads_join, letters_have_places}, std.specs.List.range_with_len}
 use Rattle.kd_state.proofs.Wheels.{same_wheel-Decides, same_wheel_differs, same_wheel_self}
-use Rattle.kd_state.specs.Machine.{AreOnWheels, HasAllPins, StandsAt}
-use Rattle.kd_state.specs.{Pins.{pin_set, with_pin}, SheetDay.{AreSeated, IsLegalPinDay, IsLegalRotorDay, seats}}
-use Rattle.kd_state.specs.{ToldApart.has_wheel, declared.sheet_day.rotor_entry.SheetWheel.SheetWheel}
+use Rattle.kd_state.specs.Machine.{AreOnWheels, HasAllPins, IsSeatedAt}
+use Rattle.kd_state.specs.{Pins.{pin_set, with_pin}}
+use Rattle.kd_state.specs.{SheetDay.{AreLegalSeats, IsLegalPinDay, IsLegalRotorDay, seats_of_wheels}}
+use Rattle.kd_state.specs.{SameParts.has_wheel, declared.sheet_day.rotor_entry.SheetWheel.SheetWheel}
 use Rattle.kd_tables.specs.{Tables.{IsAllowed, box_of}, declared.{reflector.Reflector.Reflector, wheel.Wheel.Wheel}}
 use Rattle.std.proofs.{Common.{find, option_to_list}, lemmas.{Bool.cond_both, Simd.map-map}}
 use Rattle.std.proofs.lemmas.List.{Quantifiers.all_pairs_remove, Recursion.found_at, map-append, set-get_or, set_at}
@@ -39,13 +41,13 @@ module _ {X : Type 0} where
   all_parts P (y ∷ front) x back h = let rest = all_parts P front x back h.1 in ((h.0, rest.0), rest.1, rest.2)
 
 -- If no two items are equal in `f`, an item differs from those before it.
-apart_before : {X Y : Type 0} (f : X → Y) (front : List X) (x : X) (back : List X)
+AllPairs-before : {X Y : Type 0} (f : X → Y) (front : List X) (x : X) (back : List X)
     → AllPairs (λ w v. f w ≢ f v) (front ++ x ∷ back) → AllByRecursion (λ v. f x ≢ f v) front
-apart_before f [] x back apart = tt
-apart_before f (y ∷ front) x back apart =
+AllPairs-before f [] x back apart = tt
+AllPairs-before f (y ∷ front) x back apart =
     let differ = apart zero (suc (length front)) x (omega arith) (omega (arith, length-append front (x ∷ back))) in (
       (λ same. rw (get_or_at front x back x (length front) refl) at differ (sym same)),
-      apart_before f front x back (all_pairs_remove (λ w v. f w ≢ f v) (y ∷ front ++ x ∷ back) zero
+      AllPairs-before f front x back (all_pairs_remove (λ w v. f w ≢ f v) (y ∷ front ++ x ∷ back) zero
           (omega arith) apart),
     )
 
@@ -60,7 +62,8 @@ pub record Led (m : Parts) (xs : List Setting) (n : Parts) : Type 0 where
 pub led_none : {m n : Parts} → n ≡ m → Led m [] n
 led_none e = record { leads = e }
 
-pub led_cons : {m k n : Parts} {x : Setting} {xs : List Setting} → why_refused m x ≡ None → changed m x ≡ k → Led k xs n
+pub led_cons : {m k n : Parts} {x : Setting} {xs : List Setting} → why_refused m x ≡ None → machine_after m x ≡ k
+    → Led k xs n
     → Led m (x ∷ xs) n
 led_cons {k = k} allowed made rest = record { leads = (k, record { allowed = allowed; made = sym made }, rest.leads) }
 
@@ -68,9 +71,9 @@ pub led_append : (xs ys : List Setting) {m k n : Parts} → Led m xs k → Led k
 led_append xs ys first second = record { leads = leads_join _ _ _ xs ys first.leads second.leads }
 
 -- The setting for a thing, which is left out if the thing is right already.
-pub led_unless : (so : Bool) (m n : Parts) (x : Setting) → (so ≡ true → n ≡ m) → (so ≡ false → changed m x ≡ n)
+pub led_unless : (so : Bool) (m n : Parts) (x : Setting) → (so ≡ true → n ≡ m) → (so ≡ false → machine_after m x ≡ n)
     → (so ≡ false → why_refused m x ≡ None)
-    → Led m (option_to_list (unless_so so x)) n
+    → Led m (option_to_list (setting_unless so x)) n
 led_unless true m n x same made allowed = led_none (same refl)
 led_unless false m n x same made allowed = led_cons (allowed refl) (made refl) (led_none refl)
 
@@ -120,13 +123,13 @@ place_is model k d lt = grind (arith, get_or-map, places_in_box, get_or-range_wi
 
 -- SEAT: because the day's wheels differ, a slot that is right already is never emptied.
 kept_seat : (wheel other : Wheel) (seated : Option Wheel) → wheel ≢ other
-    → option_map_or (same_wheel other) (without wheel seated) false ≡ option_map_or (same_wheel other) seated false
+    → option_map_or (same_wheel other) (seat_without wheel seated) false ≡ option_map_or (same_wheel other) seated false
 kept_seat wheel other seated e = grind (arith, cond_both, same_wheel-Decides)
 
 kept_seats : (so : Bool) (wheel : Wheel) (slots : List (Option Wheel)) (wheels : List SheetWheel) (number : ℕ)
     → AllByRecursion (λ w. wheel ≢ w.wheel) wheels
-    → lines_from seat_of number (zip (cond so slots (map (without wheel) slots)) wheels)
-    ≡ lines_from seat_of number (zip slots wheels)
+    → lines_from slot_seat_line number (zip (cond so slots (map (seat_without wheel) slots)) wheels)
+    ≡ lines_from slot_seat_line number (zip slots wheels)
 kept_seats true wheel slots wheels number h = refl
 kept_seats false wheel [] wheels number h = refl
 kept_seats false wheel slots [] number h = grind arith
@@ -139,24 +142,25 @@ module _ (m : RotorParts) where
 
   -- The wheel is in none of the slots.
   abbrev IsAbsent : List (Option Wheel) → SheetWheel → Type 0
-  IsAbsent slots w = map (without w.wheel) slots ≡ slots
+  IsAbsent slots w = map (seat_without w.wheel) slots ≡ slots
 
   -- the slots after the one in which the wheel is seated
   abbrev behind : Option Wheel → SheetWheel → List (Option Wheel) → List (Option Wheel)
-  behind now w slots = cond (option_map_or (same_wheel w.wheel) now false) slots (map (without w.wheel) slots)
+  behind now w slots = cond (option_map_or (same_wheel w.wheel) now false) slots (map (seat_without w.wheel) slots)
 
   seat_led : (front slots : List (Option Wheel)) (now : Option Wheel) (w : SheetWheel) (number : ℕ)
       → number ≡ suc (length front) → IsAllowed m.model number w.wheel → IsAbsent front w
-      → Led (with_slots (front ++ now ∷ slots)) (seat_of number (now, w))
+      → Led (with_slots (front ++ now ∷ slots)) (slot_seat_line number (now, w))
       (with_slots (front ++ Some w.wheel ∷ behind now w slots))
   seat_led front slots now w number e allowed absent = grind (arith, common_steps, false, led_unless, set_at, allowed)
 
   seats_led : (front slots : List (Option Wheel)) (wheels : List SheetWheel) (number : ℕ) → number ≡ suc (length front)
       → length slots ≡ length wheels
-      → ((k n : ℕ) (wheel : Wheel) → n ≡ k + number → StandsAt (seats wheels) k wheel → IsAllowed m.model n wheel)
+      → ((k n : ℕ) (wheel : Wheel) → n ≡ k + number → IsSeatedAt (seats_of_wheels wheels) k wheel
+      → IsAllowed m.model n wheel)
       → All (IsAbsent front) wheels → AllPairs (λ (w v : SheetWheel). w.wheel ≢ v.wheel) wheels
-      → Led (with_slots (front ++ slots)) (lines_from seat_of number (zip slots wheels))
-      (with_slots (front ++ seats wheels))
+      → Led (with_slots (front ++ slots)) (lines_from slot_seat_line number (zip slots wheels))
+      (with_slots (front ++ seats_of_wheels wheels))
   seats_led front [] [] number e size allowed absent apart = led_none refl
   seats_led front (now ∷ slots) (w ∷ wheels) number e size allowed absent apart =
       let others = recursion_from_All (λ (v : SheetWheel). w.wheel ≢ v.wheel) wheels
@@ -174,7 +178,7 @@ module _ (m : RotorParts) where
       (all_pairs_remove (λ (w v : SheetWheel). w.wheel ≢ v.wheel) (w ∷ wheels) zero (omega arith) apart) in
       let here = seat_led front slots now w number e (allowed zero number w.wheel (omega arith) refl)
       (absent zero w (omega arith)) in
-      led_append (seat_of number (now, w)) (lines_from seat_of (number + 1) (zip slots wheels)) here
+      led_append (slot_seat_line number (now, w)) (lines_from slot_seat_line (number + 1) (zip slots wheels)) here
       (rw (kept_seats (option_map_or (same_wheel w.wheel) now false) w.wheel slots wheels (number + 1) others)
       at (simp append_assoc at rest))
   seats_led front _ _ number e size allowed absent apart = absurd (omega arith)
@@ -196,8 +200,8 @@ is_the_one wheel (v ∷ wheels) w e = grind (arith, same_wheel-Decides, is_the_o
 -- all settings of a rotor machine
 module _ (m : RotorParts) (s : RotorDay) (machine : IsMachine (Rotor m)) (legal : IsLegalRotorDay s)
     (same : m.model ≡ s.model) where
-  are_seated : AreSeated m.model (seats s.wheels)
-  are_seated = subst (λ model. AreSeated model (seats s.wheels)) (sym same) legal.wheels
+  are_seated : AreLegalSeats m.model (seats_of_wheels s.wheels)
+  are_seated = subst (λ model. AreLegalSeats model (seats_of_wheels s.wheels)) (sym same) legal.wheels
 
   abbrev place : SheetWheel → ℕ
   place w = place_in_box m.model w.wheel
@@ -205,7 +209,7 @@ module _ (m : RotorParts) (s : RotorDay) (machine : IsMachine (Rotor m)) (legal 
   places_differ : AllPairs (λ (w v : SheetWheel). place w ≢ place v) s.wheels
   places_differ = days_wheels_have_their_places m.model s.wheels are_seated
 
-  seats_lead : Led (Rotor m) (seat_lines m s.wheels) (with_slots m (seats s.wheels))
+  seats_lead : Led (Rotor m) (seat_lines m s.wheels) (with_slots m (seats_of_wheels s.wheels))
   seats_lead =
       seats_led m [] m.slots s.wheels 1 refl (grind (arith, length-map))
       (λ k n wheel e at. rw e (are_seated.allowed k wheel at))
@@ -238,11 +242,11 @@ module _ (m : RotorParts) (s : RotorDay) (machine : IsMachine (Rotor m)) (legal 
       (λ k lt. refl))
 
   abbrev with_rings : List ℕ → Parts
-  with_rings rings = Rotor (record m { slots = seats s.wheels; reflector = s.reflector; rings = rings })
+  with_rings rings = Rotor (record m { slots = seats_of_wheels s.wheels; reflector = s.reflector; rings = rings })
 
   ring_led : (front back : List ℕ) (wheel : Wheel) (one : Option SheetWheel) → the_one wheel ≡ one
       → slice_get (box_of m.model) (length front) ≡ Some wheel
-      → Led (with_rings (front ++ ring_now wheel ∷ back)) (ring_of_wheel m s.wheels wheel)
+      → Led (with_rings (front ++ ring_now wheel ∷ back)) (wheel_ring_line m s.wheels wheel)
       (with_rings (front ++ ring_then wheel ∷ back))
   ring_led front back wheel None e here = rw e (led_none refl)
   ring_led front back wheel (Some w) e here =
@@ -257,8 +261,8 @@ module _ (m : RotorParts) (s : RotorDay) (machine : IsMachine (Rotor m)) (legal 
 
   rings_lead : Led (with_rings m.rings) (ring_lines m s.wheels) (with_rings (map ring_then (box_of m.model)))
   rings_lead =
-      rw (lines_of_each (ring_of_wheel m s.wheels) (box_of m.model) 1)
-      (cells_led with_rings ring_now ring_then (λ n wheel. ring_of_wheel m s.wheels wheel)
+      rw (lines_of_each (wheel_ring_line m s.wheels) (box_of m.model) 1)
+      (cells_led with_rings ring_now ring_then (λ n wheel. wheel_ring_line m s.wheels wheel)
       (box_of m.model) rings_now refl
       (λ fs bs wheel e. ring_led _ _ wheel (the_one wheel) refl (rw (length-map, e) (seam_get fs wheel bs))))
 
@@ -266,7 +270,7 @@ module _ (m : RotorParts) (s : RotorDay) (machine : IsMachine (Rotor m)) (legal 
   abbrev turned : List ℕ → RotorParts
   turned letters =
       record m {
-        slots = seats s.wheels;
+        slots = seats_of_wheels s.wheels;
         reflector = s.reflector;
         rings = map ring_then (box_of m.model);
         letters = letters;
@@ -297,15 +301,16 @@ module _ (m : RotorParts) (s : RotorDay) (machine : IsMachine (Rotor m)) (legal 
 
   turns_lead : Led (Rotor (turned m.letters)) (turn_lines m s.wheels) (Rotor turned_all)
   turns_lead =
-      things_led (λ front back. Rotor (turned (fold turn m.letters front))) (turn_of m) s.wheels (λ front back w e.
+      things_led (λ front back. Rotor (turned (fold turn m.letters front))) (slot_turn_line m) s.wheels
+      (λ front back w e.
       let here = seam_map (λ (v : SheetWheel). Some v.wheel) s.wheels front back w e in
       let apart = subst (AllPairs (λ w v. place w ≢ place v)) e places_differ in
-      let left = kept m.letters front (place w) (apart_before place front w back apart) in
+      let left = kept m.letters front (place w) (AllPairs-before place front w back apart) in
       rw fold_push (grind (arith, led_unless, here, left, set_same, eqb-true)))
 
   pub rotors_led : Led (Rotor m) (loose_lines (Rotor m) (OfRotors s)) (Rotor turned_all)
   rotors_led =
-      let reflector = reflector_led m (seats s.wheels) s.reflector
+      let reflector = reflector_led m (seats_of_wheels s.wheels) s.reflector
       (subst (λ model. Contains (reflectors_of model) s.reflector) (sym same) legal.reflector) in
       led_append _ _ (led_append _ _ (led_append _ _ seats_lead reflector) rings_lead) turns_lead
 
@@ -370,7 +375,7 @@ module _ (m : PinParts) where
         (ap pin_set (set_at front pins back (done ++ effective ∷ rest) _ (omega arith)))
 
     one_pin : (done rest : List Bool) (w : Cell) → place_on (ring_of number) w.0 ≡ Some (length done)
-        → Led (with_wheel (done ++ w.1.0 ∷ rest)) (pin_of number w) (with_wheel (done ++ w.1.1 ∷ rest))
+        → Led (with_wheel (done ++ w.1.0 ∷ rest)) (wheel_pin_line number w) (with_wheel (done ++ w.1.1 ∷ rest))
     one_pin done rest w placed =
         let has : has_letter (ring_of number) w.0 ≡ true =
         sym (is_some-place_on (ring_of number) w.0) ∙ ap is_some placed in
@@ -386,8 +391,8 @@ module _ (m : PinParts) where
         second_map (λ (pin : Bool × Bool). pin.0) ring (zip now day) size ∙ firsts-zip now day (d ∙ sym e) in
         let after =
         second_map (λ (pin : Bool × Bool). pin.1) ring (zip now day) size ∙ seconds-zip now day (d ∙ sym e) in
-        rw (lines_of_each (pin_of number) cells 1)
-        (cells_led with_wheel (λ (w : Cell). w.1.0) (λ w. w.1.1) (λ n w. pin_of number w) cells before after
+        rw (lines_of_each (wheel_pin_line number) cells 1)
+        (cells_led with_wheel (λ (w : Cell). w.1.0) (λ w. w.1.1) (λ n w. wheel_pin_line number w) cells before after
         (λ fs bs w is.
         let at = rw (firsts-zip ring (zip now day) size) at (seam_map (λ (w : Cell). w.0) cells fs bs w is) in
         one_pin _ _ w (rw length-map (has_place number (length fs) w.0 at))))
@@ -409,7 +414,8 @@ module _ (m : PinParts) where
   with_shown letters = Pin (record m { letters = letters })
 
   turn_led : (front back : List ℕ) (z : ℕ × ℕ) → Contains (ring_of (suc (length front))) z.1
-      → Led (with_shown (front ++ z.0 ∷ back)) (pin_turn_of (suc (length front)) z) (with_shown (front ++ z.1 ∷ back))
+      → Led (with_shown (front ++ z.0 ∷ back)) (pin_wheel_turn_line (suc (length front)) z)
+      (with_shown (front ++ z.1 ∷ back))
   turn_led front back z on = grind (arith, eqb-true, has_letter-Decides, led_unless, seam_get, set_at)
 
   pin_turns_lead : (window : List ℕ) → length m.letters ≡ 6 → AreOnWheels window
@@ -418,7 +424,7 @@ module _ (m : PinParts) where
       let zs = zip m.letters window in
       let due = seconds-zip m.letters window (on.count ∙ sym size) in
       let now = firsts-zip m.letters window (on.count ∙ sym size) in
-      cells_led with_shown (λ (z : ℕ × ℕ). z.0) (λ z. z.1) pin_turn_of zs now due (λ fs bs z e.
+      cells_led with_shown (λ (z : ℕ × ℕ). z.0) (λ z. z.1) pin_wheel_turn_line zs now due (λ fs bs z e.
       let at = rw due at (seam_map (λ (z : ℕ × ℕ). z.1) zs fs bs z e) in
       turn_led _ _ z (rw length-map (on.each (suc (length fs)) z.1 at)))
 

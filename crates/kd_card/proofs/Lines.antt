@@ -1,28 +1,29 @@
 -- Lines of words as they are written and split, texts of prices, and what the lines of a card have.
-use Rattle.kd_card.proofs.Prelude.{figures, ◌≡◌, ◌≢◌, ℕ, ◌<◌, true, false, eqb, ltb, List, [], ◌∷◌, ◌++◌, length, refl}
-use Rattle.kd_card.proofs.Prelude.{sym, ap, ◌∙◌, append_assoc, length-append, append_cancel_left, arith, ℤ, All}
-use Rattle.kd_card.proofs.Prelude.{list_all, flat_map, signed_decimal, ne_eqb, ltb-true, append-nil, get_or_at}
+use Rattle.kd_card.proofs.Prelude.{IsNumeralModel-digits, ◌≡◌, ◌≢◌, ℕ, ◌<◌, true, false, eqb, ltb, List, [], ◌∷◌, ◌++◌}
+use Rattle.kd_card.proofs.Prelude.{length, refl, sym, ap, ◌∙◌, append_assoc, length-append, append_cancel_left, arith}
+use Rattle.kd_card.proofs.Prelude.{ℤ, All, list_all, flat_map, signed_decimal, ne_eqb, ltb-true, append-nil, get_or_at}
 use Rattle.kd_card.proofs.Prelude.{take_all, flat_map-append, AllPass-from_list_all, All-weaker, All-from_recursion}
 use Rattle.kd_card.proofs.Prelude.{flat_map-map, Setting, words_of, line_of, IsWord, IsWithout, IsFirstPart}
 use Rattle.kd_card.proofs.Prelude.{setting_line, list_text, PriceParts, Version, version_of, price_sum, head_words}
 use Rattle.kd_card.proofs.Prelude.{settings_words, price_words, sum_words, lines_text, price_lines, card_text}
-use Rattle.kd_card.proofs.Prelude.{with_line, HasWords, common_steps, lines_split_into_words, texts_tell_first_parts}
-use Rattle.kd_card.proofs.Prelude.{words_make_one_line, map, setting_words, suc, ◌^◌, ◌≤◌, Bool, get_or, Option, Some}
-use Rattle.kd_card.proofs.Prelude.{None, MatchOption, Result, Ok, Err, MatchResult, Decides, Bor, ◌↔◌, IsTrue, is_some}
-use Rattle.kd_card.proofs.Prelude.{subst, pos, negsuc, unsigned_abs, FitsSigned, w16, to_z, of_z, then_some, IsUtf8}
-use Rattle.kd_card.proofs.Prelude.{ParsesSigned, AllByRecursion, false≢true, fits_signed_from_abs, to_z-of_z}
-use Rattle.kd_card.proofs.Prelude.{get_or-map, length-map, recursion_from_All, All-map, IsPriceText, SaysPrices}
-use Rattle.kd_card.proofs.Prelude.{BadLine, PriceMissing, Refused, Found, parse-signed_decimal, IsAscii-signed}
-use Rattle.kd_card.proofs.Prelude.{AreWithinReach, codes, zero, ◌+◌, ◌*◌, inl, inr, fold, decimal, not, pointwise}
-use Rattle.kd_card.proofs.Prelude.{not-false, Decides-eqb, slice_eq-Decides, err_from_is_err_and, ◌+ℤ◌, digits_value}
-use Rattle.kd_card.proofs.Prelude.{decimal_nonempty, digits_decimal, decimal_digit, first_decimal, All-cons, All-append}
-use Rattle.kd_card.proofs.Prelude.{All-from_get_or, how_many, ArePrices, Group, Name, PricedKind, CountWrong}
-use Rattle.kd_card.proofs.Prelude.{BeginsWithHead, kinds_text, row_word, column_word, version_text, IsGroup, IsDigit}
-use Rattle.kd_card.proofs.Prelude.{IsNumberText, IsNumeral, SaysValue, SaysLine, SaysFirst, SaysPriceLine, SaysGroup}
-use Rattle.kd_card.proofs.Prelude.{nil_from_length, numbers_are_words, word_by_bytes, word_by_test, passed, CardFault}
+use Rattle.kd_card.proofs.Prelude.{line_then, HasLineWords, common_steps, lines_split_into_words}
+use Rattle.kd_card.proofs.Prelude.{texts_tell_first_parts, words_make_one_line, map, setting_words, suc, ◌^◌, ◌≤◌, Bool}
+use Rattle.kd_card.proofs.Prelude.{get_or, Option, Some, None, MatchOption, Result, Ok, Err, MatchResult, Decides, Bor}
+use Rattle.kd_card.proofs.Prelude.{◌↔◌, IsTrue, is_some, subst, pos, negsuc, unsigned_abs, FitsSigned, w16, to_z, of_z}
+use Rattle.kd_card.proofs.Prelude.{then_some, IsUtf8, ParsesSigned, AllByRecursion, false≢true, fits_signed_from_abs}
+use Rattle.kd_card.proofs.Prelude.{to_z-of_z, get_or-map, length-map, recursion_from_All, All-map, IsPriceText}
+use Rattle.kd_card.proofs.Prelude.{IsPricesAnswer, BadLine, PriceMissing, HasFault, GoesOn, parse-signed_decimal}
+use Rattle.kd_card.proofs.Prelude.{IsAscii-signed, ArePricesInRange, codes, zero, ◌+◌, ◌*◌, inl, inr, fold, decimal}
+use Rattle.kd_card.proofs.Prelude.{not, pointwise, not-false, Decides-eqb, slice_eq-Decides, err_from_is_err_and, ◌+ℤ◌}
+use Rattle.kd_card.proofs.Prelude.{digits_value, decimal_nonempty, digits_decimal, decimal_digit, first_decimal}
+use Rattle.kd_card.proofs.Prelude.{All-cons, All-append, All-from_get_or, table_rows, ArePrices, Group, Name}
+use Rattle.kd_card.proofs.Prelude.{PricedKind, CountWrong, BeginsWithHead, kinds_text, row_word, column_word}
+use Rattle.kd_card.proofs.Prelude.{version_text, IsGroup, IsDigit, IsNumberText, IsNumeral, IsValueAnswer, IsLineAnswer}
+use Rattle.kd_card.proofs.Prelude.{IsFirstWordAnswer, IsPriceLineAnswer, IsGroupAnswer, nil_from_length}
+use Rattle.kd_card.proofs.Prelude.{numbers_are_words, word_by_bytes, word_by_test, ThenNext-Ok, CardFault}
 use Rattle.std.proofs.lemmas.List.Splits.{slice_split_none, slice_split_at, join_with_byte-slice_split}
 use Rattle.std.{proofs.lemmas.Str.IsUtf8-from_ascii, specs.{Result.{result_ok, IsErrAnd}, Int.Signed.mag}}
-use Rattle.kd_card.specs.Reading.{head_front}
+use Rattle.kd_card.specs.Reading.{head_prefix}
 use Rattle.kd_state.specs.SheetDay.{IsDayNumber}
 
 -- ---- writing
@@ -35,7 +36,7 @@ line_of_prices word [] = sym (append-nil word)
 line_of_prices word (price ∷ prices) = ap (λ text. word ++ 32 ∷ text) (line_of_prices (signed_decimal price) prices)
 
 pub all_prices : (front word : List ℕ) (prices : List ℤ)
-    → (front ++ (word ++ behind_spaces prices)) ++ 10 ∷ [] ≡ front ++ with_line (price_words word prices) []
+    → (front ++ (word ++ behind_spaces prices)) ++ 10 ∷ [] ≡ front ++ line_then (price_words word prices) []
 all_prices front word prices = simp (append_assoc, line_of_prices word prices)
 
 pub ruleset prices_written = (all_prices, take_all)
@@ -47,36 +48,38 @@ line_and_more line text rest = simp append_assoc
 
 all_lines : (head count sum : List (List ℕ)) (settings lines : List (List (List ℕ))) (rest : List ℕ)
     → lines_text (head ∷ settings ++ count ∷ lines ++ sum ∷ []) ++ rest
-    ≡ with_line head (lines_text settings ++ with_line count (lines_text lines ++ with_line sum rest))
+    ≡ line_then head (lines_text settings ++ line_then count (lines_text lines ++ line_then sum rest))
 all_lines head count sum settings lines rest = simp (flat_map-append, append_assoc)
 
 pub card_and_more : (day : ℕ) (xs : List Setting) (prices : PriceParts) (rest : List ℕ)
     → card_text day xs prices ++ rest
-    ≡ with_line (head_words (version_of prices) day) (list_text xs ++ with_line (settings_words (length xs))
-    (lines_text (price_lines prices) ++ with_line (sum_words (price_sum prices)) rest))
+    ≡ line_then (head_words (version_of prices) day) (list_text xs ++ line_then (settings_words (length xs))
+    (lines_text (price_lines prices) ++ line_then (sum_words (price_sum prices)) rest))
 card_and_more day xs prices rest = grind (arith, common_steps, all_lines, flat_map-map)
 
-in_turn : (head count sum : List (List ℕ)) (settings lines : List (List (List ℕ)))
-    → (((([] ++ with_line head []) ++ lines_text settings) ++ with_line count []) ++ lines_text lines)
-    ++ with_line sum []
+lines_text-card : (head count sum : List (List ℕ)) (settings lines : List (List (List ℕ)))
+    → (((([] ++ line_then head []) ++ lines_text settings) ++ line_then count []) ++ lines_text lines)
+    ++ line_then sum []
     ≡ lines_text (head ∷ settings ++ count ∷ lines ++ sum ∷ [])
-in_turn head count sum settings lines = simp (flat_map-append, append_assoc)
+lines_text-card head count sum settings lines = simp (flat_map-append, append_assoc)
 
-pub written : (version : Version) (day count : ℕ) (xs ys : List Setting) (prices : PriceParts) (sum : ℤ)
+pub card_text-joined : (version : Version) (day count : ℕ) (xs ys : List Setting) (prices : PriceParts) (sum : ℤ)
     (empty head list number lines whole : List ℕ)
-    → empty ≡ [] → head ≡ empty ++ with_line (head_words version day) [] → list ≡ head ++ list_text ys
-    → number ≡ list ++ with_line (settings_words count) [] → lines ≡ number ++ lines_text (price_lines prices)
-    → whole ≡ lines ++ with_line (sum_words sum) [] → version ≡ version_of prices → ys ≡ xs → count ≡ length xs
+    → empty ≡ [] → head ≡ empty ++ line_then (head_words version day) [] → list ≡ head ++ list_text ys
+    → number ≡ list ++ line_then (settings_words count) [] → lines ≡ number ++ lines_text (price_lines prices)
+    → whole ≡ lines ++ line_then (sum_words sum) [] → version ≡ version_of prices → ys ≡ xs → count ≡ length xs
     → sum ≡ price_sum prices
     → whole ≡ card_text day xs prices
-written version day count xs ys prices sum empty head list number lines whole a b c d e f by same counted summed =
+card_text-joined version day count xs ys prices sum empty head list number lines whole a b c d e f by same counted
+    summed =
     let lines_of = map setting_words xs in
-    let card = in_turn (head_words version day) (settings_words count) (sum_words sum) lines_of (price_lines prices) in
+    let card = lines_text-card (head_words version day) (settings_words count) (sum_words sum) lines_of
+    (price_lines prices) in
     let all : lines_text lines_of ≡ list_text xs = flat_map-map (λ words. line_of words ++ 10 ∷ []) setting_words xs in
     cc
 
 -- Two lines, and the bytes after them.
-pub two_lines : (a b : List (List ℕ)) (rest : List ℕ) → lines_text (a ∷ b ∷ []) ++ rest ≡ with_line a (with_line b rest)
+pub two_lines : (a b : List (List ℕ)) (rest : List ℕ) → lines_text (a ∷ b ∷ []) ++ rest ≡ line_then a (line_then b rest)
 two_lines a b rest = simp (append_assoc, append-nil)
 
 -- ---- the part before a byte
@@ -106,37 +109,37 @@ bytes_above low text e =
 
 -- ---- the words of a line
 
-spaceless : (word : List ℕ) → IsWithout 32 word → All (λ b. eqb b 32 ≡ false) word
-spaceless word a = All-weaker (λ b. b ≢ 32) (λ b. eqb b 32 ≡ false) (λ b. ne_eqb b 32) word a
+IsWithout-unequal : (word : List ℕ) → IsWithout 32 word → All (λ b. eqb b 32 ≡ false) word
+IsWithout-unequal word a = All-weaker (λ b. b ≢ 32) (λ b. eqb b 32 ≡ false) (λ b. ne_eqb b 32) word a
 
 pub words_of_last : (rest : List ℕ) → IsWithout 32 rest → words_of rest ≡ rest ∷ []
-words_of_last rest without = slice_split_none (λ b. eqb b 32) rest (spaceless rest without)
+words_of_last rest without = slice_split_none (λ b. eqb b 32) rest (IsWithout-unequal rest without)
 
 pub words_of_first : {text word rest : List ℕ} → IsFirstPart 32 text word rest → words_of text ≡ word ∷ words_of rest
-words_of_first {text} {word} {rest} first = grind (arith, slice_split_at, spaceless)
+words_of_first {text} {word} {rest} first = grind (arith, slice_split_at, IsWithout-unequal)
 
-pub is_line : {bytes : List ℕ} {words : List (List ℕ)} {rest : List ℕ} → HasWords bytes words rest
-    → bytes ≡ with_line words rest
+pub is_line : {bytes : List ℕ} {words : List (List ℕ)} {rest : List ℕ} → HasLineWords bytes words rest
+    → bytes ≡ line_then words rest
 is_line {rest} has =
     has.first.joined
     ∙ ap (λ line. line ++ 10 ∷ rest) (sym (join_with_byte-slice_split 32 has.line) ∙ ap line_of has.parts)
 
-pub some_bytes : {bytes rest : List ℕ} {words : List (List ℕ)} → HasWords bytes words rest → bytes ≢ []
+pub some_bytes : {bytes rest : List ℕ} {words : List (List ℕ)} → HasLineWords bytes words rest → bytes ≢ []
 some_bytes {rest} has none = omega (arith, ap length (sym has.first.joined ∙ none), length-append has.line (10 ∷ rest))
 
-pub same_words : {bytes rest more : List ℕ} {words others : List (List ℕ)} → HasWords bytes words rest
-    → HasWords bytes others more → (words ≡ others) × (rest ≡ more)
+pub same_words : {bytes rest more : List ℕ} {words others : List (List ℕ)} → HasLineWords bytes words rest
+    → HasLineWords bytes others more → (words ≡ others) × (rest ≡ more)
 same_words a b =
     let joined = sym a.first.joined ∙ b.first.joined in
     let parts = texts_tell_first_parts 10 a.line b.line _ _ a.first.without b.first.without joined in
     (sym a.parts ∙ ap words_of parts.0 ∙ b.parts, parts.1)
 
 pub line_has_words : {bytes : List ℕ} (words : List (List ℕ)) (rest : List ℕ) → words ≢ [] → All IsWord words
-    → bytes ≡ with_line words rest → HasWords bytes words rest
+    → bytes ≡ line_then words rest → HasLineWords bytes words rest
 line_has_words words rest some are e = grind (arith, lines_split_into_words, words_make_one_line)
 
 pub value_line : {bytes : List ℕ} (name value rest : List ℕ) → IsWord name → IsWord value
-    → bytes ≡ with_line (name ∷ value ∷ []) rest → HasWords bytes (name ∷ value ∷ []) rest
+    → bytes ≡ line_then (name ∷ value ∷ []) rest → HasLineWords bytes (name ∷ value ∷ []) rest
 value_line name value rest named valued e = grind (arith, line_has_words, All-from_recursion)
 
 -- A line with three words.
@@ -147,29 +150,30 @@ words_in_place words items a b d e h = grind (arith, common_steps)
 
 -- ---- texts of prices
 
-pub fits : (p : ℤ) → unsigned_abs p ≤ 9999 → FitsSigned w16 p
-fits p within = fits_signed_from_abs w16 p (omega (arith, within))
+pub FitsSigned-price : (p : ℤ) → unsigned_abs p ≤ 9999 → FitsSigned w16 p
+FitsSigned-price p within = fits_signed_from_abs w16 p (omega (arith, within))
 
 -- A price as it is written from its 16 bits.
 pub written_price : (text : List ℕ) (p : ℤ) → text ≡ signed_decimal (to_z w16 (of_z w16 p)) → unsigned_abs p ≤ 9999
     → text ≡ signed_decimal p
-written_price text p e within = e ∙ ap signed_decimal (to_z-of_z w16 p (fits p within))
+written_price text p e within = e ∙ ap signed_decimal (to_z-of_z w16 p (FitsSigned-price p within))
 
-pub small : (p : ℤ) → unsigned_abs p ≤ 9999 → mag p < 2 ^ 63
-small p e = grind arith
+pub mag-small : (p : ℤ) → unsigned_abs p ≤ 9999 → mag p < 2 ^ 63
+mag-small p e = grind arith
 
-pub no_text : {S E : Type 0} (bs : List ℕ) (r : Result S E) (P : S → Type 0) (Q : E → Type 0)
+pub signed_decimal-not_text : {S E : Type 0} (bs : List ℕ) (r : Result S E) (P : S → Type 0) (Q : E → Type 0)
     → MatchResult r P (λ e. ¬ (IsUtf8 bs) × Q e) → result_ok r ≡ None → (price : ℤ) → unsigned_abs price ≤ 9999
     → signed_decimal price ≢ bs
-no_text bs (Ok s) P Q h none price within e = cc
-no_text bs (Err f) P Q h none price within e =
-    h.0 (subst IsUtf8 e (IsUtf8-from_ascii (signed_decimal price) (IsAscii-signed price (small price within))))
+signed_decimal-not_text bs (Ok s) P Q h none price within e = cc
+signed_decimal-not_text bs (Err f) P Q h none price within e =
+    h.0 (subst IsUtf8 e (IsUtf8-from_ascii (signed_decimal price) (IsAscii-signed price (mag-small price within))))
 
 pub read_price : {E : Type 0} (bs : List ℕ) (r : Result ℤ E) → ParsesSigned w16 10 bs r → (price : ℤ)
     → unsigned_abs price ≤ 9999 → signed_decimal price ≡ bs
     → result_ok r ≡ Some price
 read_price bs r h price within e =
-    ap result_ok (parse-signed_decimal w16 price bs r (fits price within) (small price within) (sym e) h)
+    ap result_ok (parse-signed_decimal w16 price bs r (FitsSigned-price price within) (mag-small price within)
+    (sym e) h)
 
 pub only_price : {E : Type 0} (bs : List ℕ) (r : Result ℤ E) (q : ℤ) (test : Bool) → ParsesSigned w16 10 bs r
     → result_ok r ≡ Some q
@@ -201,59 +205,59 @@ not_at words i d inside none all =
     (subst IsPriceText (get_or-map (λ (word : Bor (List ℕ)). word.now) words i d d.now inside)
     (all i d.now (omega (arith, inside, length-map words (λ (word : Bor (List ℕ)). word.now)))))
 
-pub all_price_texts : (prices : List ℤ) → AreWithinReach prices → All IsPriceText (map signed_decimal prices)
+pub all_price_texts : (prices : List ℤ) → ArePricesInRange prices → All IsPriceText (map signed_decimal prices)
 all_price_texts prices reach =
     All-map IsPriceText signed_decimal prices
     (All-weaker (λ price. unsigned_abs price ≤ 9999) (λ price. IsPriceText (signed_decimal price))
     (λ price within. (price, within, refl)) prices reach)
 
-priced : (words : List (List ℕ)) → AllByRecursion IsPriceText words
+AllByRecursion-prices : (words : List (List ℕ)) → AllByRecursion IsPriceText words
     → (prices : List ℤ) × (words ≡ map signed_decimal prices)
     × AllByRecursion (λ price. unsigned_abs price ≤ 9999) prices
-priced [] all = ([], refl, tt)
-priced (word ∷ words) (is, all) =
-    let rest = priced words all in
+AllByRecursion-prices [] all = ([], refl, tt)
+AllByRecursion-prices (word ∷ words) (is, all) =
+    let rest = AllByRecursion-prices words all in
     (is.0 ∷ rest.0, cc, (is.1, rest.2))
 
 -- ---- prices in a line
 
 module _ (number line : ℕ) {words : List (List ℕ)} where
-  pub other_count : (prices : List ℤ) → words ≡ map signed_decimal prices → AreWithinReach prices
+  pub other_count : (prices : List ℤ) → words ≡ map signed_decimal prices → ArePricesInRange prices
       → length prices ≢ number
-      → SaysPrices number line words (Err PriceMissing)
+      → IsPricesAnswer number line words (Err PriceMissing)
   other_count prices are reach differs =
-      Found prices (are, reach) (Refused PriceMissing ((λ same count. differs count), refl) refl)
+      GoesOn prices (are, reach) (HasFault PriceMissing ((λ same count. differs count), refl) refl)
 
-  pub too_many : All IsPriceText words → number < length words → SaysPrices number line words (Err PriceMissing)
+  pub too_many : All IsPriceText words → number < length words → IsPricesAnswer number line words (Err PriceMissing)
   too_many all many =
-      let are = priced words (recursion_from_All IsPriceText words all) in
+      let are = AllByRecursion-prices words (recursion_from_All IsPriceText words all) in
       other_count are.0 are.1 (All-from_recursion _ are.0 are.2)
       (λ count. omega (arith, many, count, ap length are.1, length-map are.0 signed_decimal))
 
-  pub no_prices : ¬ (All IsPriceText words) → SaysPrices number line words (Err (BadLine line))
+  pub no_prices : ¬ (All IsPriceText words) → IsPricesAnswer number line words (Err (BadLine line))
   no_prices none =
-      Refused (BadLine line)
+      HasFault (BadLine line)
       ((λ prices are. none (subst (All IsPriceText) (sym are.0) (all_price_texts prices are.1))), refl) refl
 
 -- ---- results of steps
 
 -- A caller passes the fault of a step on.
-pub stops : {F Y : Type 0} (answer : Result Y F) (fault : F) (Good : Y → Type 0) (Bad : F → Type 0)
+pub MatchResult-err : {F Y : Type 0} (answer : Result Y F) (fault : F) (Good : Y → Type 0) (Bad : F → Type 0)
     → IsErrAnd answer (λ made. made ≡ fault) → Bad fault → MatchResult answer Good Bad
-stops answer fault Good Bad made bad = let is = err_from_is_err_and answer made in rw (is.1, is.2) bad
+MatchResult-err answer fault Good Bad made bad = let is = err_from_is_err_and answer made in rw (is.1, is.2) bad
 
 -- A test that is false refutes what it decides.
-pub untrue : {P : Type 0} {test : Bool} → Decides test P → test ≡ false → ¬ P
-untrue decides e is = false≢true (sym e ∙ decides.1 is)
+pub not_from_false : {P : Type 0} {test : Bool} → Decides test P → test ≡ false → ¬ P
+not_from_false decides e is = false≢true (sym e ∙ decides.1 is)
 
-pub filled : {text : List ℕ} {test : Bool} → test ≡ eqb (length text) 0 → test ≡ false → text ≢ []
-filled is e none = false≢true (sym e ∙ is ∙ ap (λ t. eqb (length t) 0) none)
+pub nonempty-by_length : {text : List ℕ} {test : Bool} → test ≡ eqb (length text) 0 → test ≡ false → text ≢ []
+nonempty-by_length is e none = false≢true (sym e ∙ is ∙ ap (λ t. eqb (length t) 0) none)
 
 -- If there are bytes but no line, the line is bad.
-pub no_line : {line : ℕ} {bytes : List ℕ} {fault : CardFault} → bytes ≢ [] → SaysLine line bytes (Err fault)
-    → ((found : List (List ℕ) × List ℕ) → ¬ (HasWords bytes found.0 found.1)) × (fault ≡ BadLine line)
-no_line some (Refused f none e) = absurd (none.0 tt some)
-no_line some (Found x is next) = next
+pub no_line : {line : ℕ} {bytes : List ℕ} {fault : CardFault} → bytes ≢ [] → IsLineAnswer line bytes (Err fault)
+    → ((found : List (List ℕ) × List ℕ) → ¬ (HasLineWords bytes found.0 found.1)) × (fault ≡ BadLine line)
+no_line some (HasFault f none e) = absurd (none.0 tt some)
+no_line some (GoesOn x is next) = next
 
 -- ---- words
 
@@ -278,8 +282,8 @@ signed_word (pos n) small = numbers_are_words n small
 signed_word (negsuc n) small = below_zero (decimal (suc n)) (numbers_are_words (suc n) small)
 
 -- A head consists of the bytes before the day, and the day.
-pub head_text : {front : List ℕ} (version : Version) (day : ℕ) (rest : List ℕ) → front ≡ head_front version
-    → front ++ decimal day ++ 10 ∷ rest ≡ with_line (head_words version day) rest
+pub head_text : {front : List ℕ} (version : Version) (day : ℕ) (rest : List ℕ) → front ≡ head_prefix version
+    → front ++ decimal day ++ 10 ∷ rest ≡ line_then (head_words version day) rest
 head_text version day rest e = rw e (grind arith)
 
 pub day_unbroken : (day : ℕ) → IsDayNumber day → IsWithout 10 (decimal day)
@@ -288,7 +292,7 @@ day_unbroken day month = let last = month.last in (numbers_are_words day (omega 
 pub first_is_word : (kind : Group) → IsWord (row_word kind) × IsWord (column_word kind)
 first_is_word kind = grind (arith, word_by_test)
 
-pub prices_are_words : (word : List ℕ) (prices : List ℤ) → IsWord word → AreWithinReach prices
+pub prices_are_words : (word : List ℕ) (prices : List ℤ) → IsWord word → ArePricesInRange prices
     → All IsWord (price_words word prices)
 prices_are_words word prices w reach =
     All-cons IsWord word (map signed_decimal prices) w (All-map IsWord signed_decimal prices
@@ -313,7 +317,7 @@ no_leading_zero (suc n) small e = absurd (omega (arith, first_decimal (suc n) (o
 
 pub number_text : (number : ℕ) → number < 2 ^ 64 → IsNumberText (decimal number)
 number_text number small =
-    grind (arith, number_by_parts, decimal_nonempty, small, digits_decimal, figures, no_leading_zero)
+    grind (arith, number_by_parts, decimal_nonempty, small, digits_decimal, IsNumeralModel-digits, no_leading_zero)
 
 not_zero : (n : ℕ) → suc n < 2 ^ 64 → decimal (suc n) ≢ codes "0"
 not_zero n small e = omega (arith, first_decimal (suc n) (omega arith) small, ap (λ t. get_or t 0 0) e)
@@ -329,7 +333,7 @@ sum_bound : (a : ℤ) (prices : List ℤ) → AllByRecursion (λ price. unsigned
 sum_bound a [] reach = omega arith
 sum_bound a (price ∷ prices) reach = grind (arith, sum_bound (a +ℤ price) prices reach.1)
 
-pub few_prices : (prices : PriceParts) → how_many prices ≤ 27
+pub few_prices : (prices : PriceParts) → table_rows prices ≤ 27
 few_prices prices = grind arith
 
 pub price_sum_is_small : (prices : PriceParts) → ArePrices prices → unsigned_abs (price_sum prices) < 2 ^ 64
@@ -340,12 +344,12 @@ price_sum_is_small prices p =
 
 module _ (signed : Bool) (front due : List ℕ) (line : ℕ) where
   pub value_says : {bytes rest : List ℕ} → IsNumeral signed due → bytes ≡ front ++ due ++ 10 ∷ rest
-      → SaysValue signed front due line bytes (Ok rest)
-  value_says {rest} form e = Found (due, rest) (form, e) (Found tt refl refl)
+      → IsValueAnswer signed front due line bytes (Ok rest)
+  value_says {rest} form e = GoesOn (due, rest) (form, e) (GoesOn tt refl refl)
 
-  pub value_said : {bytes rest : List ℕ} → SaysValue signed front due line bytes (Ok rest)
+  pub value_said : {bytes rest : List ℕ} → IsValueAnswer signed front due line bytes (Ok rest)
       → bytes ≡ front ++ due ++ 10 ∷ rest
-  value_said says = grind (arith, passed)
+  value_said says = grind (arith, ThenNext-Ok)
 
 -- The value after `front` and the bytes after its line are determined by the text.
 pub same_values : {bytes : List ℕ} (front : List ℕ) {value other rest more : List ℕ} → IsWithout 10 value
@@ -360,46 +364,47 @@ same_values front {value} {other} {rest} {more} free clear e d =
 
 module _ {K : Type 0} (word : K → List ℕ) {line : ℕ} {bytes : List ℕ} where
   pub first_found : {first : List ℕ} {words : List (List ℕ)} {rest : List ℕ} (key : K)
-      → SaysLine line bytes (Ok (first ∷ words, rest)) → first ≡ word key
-      → SaysFirst word line bytes (Ok (key, words, rest))
+      → IsLineAnswer line bytes (Ok (first ∷ words, rest)) → first ≡ word key
+      → IsFirstWordAnswer word line bytes (Ok (key, words, rest))
   first_found {first} {words} {rest} key says is =
-      Found (first ∷ words, rest) says (Found (key, words) (ap (λ w. w ∷ words) is) refl)
+      GoesOn (first ∷ words, rest) says (GoesOn (key, words) (ap (λ w. w ∷ words) is) refl)
 
   pub other_first : {first : List ℕ} {words : List (List ℕ)} {rest : List ℕ}
-      → SaysLine line bytes (Ok (first ∷ words, rest))
-      → ((key : K) → first ≢ word key) → SaysFirst word line bytes (Err PriceMissing)
+      → IsLineAnswer line bytes (Ok (first ∷ words, rest))
+      → ((key : K) → first ≢ word key) → IsFirstWordAnswer word line bytes (Err PriceMissing)
   other_first {first} {words} {rest} says none =
-      Found (first ∷ words, rest) says
-      (Refused PriceMissing ((λ key is. none key.0 (ap (λ ws. get_or ws 0 []) is)), refl) refl)
+      GoesOn (first ∷ words, rest) says
+      (HasFault PriceMissing ((λ key is. none key.0 (ap (λ ws. get_or ws 0 []) is)), refl) refl)
 
-  pub first_says : (key : K) (words : List (List ℕ)) (rest : List ℕ) → HasWords bytes (word key ∷ words) rest
-      → SaysFirst word line bytes (Ok (key, words, rest))
-  first_says key words rest has = first_found key (Found tt (some_bytes has) has) refl
+  pub first_says : (key : K) (words : List (List ℕ)) (rest : List ℕ) → HasLineWords bytes (word key ∷ words) rest
+      → IsFirstWordAnswer word line bytes (Ok (key, words, rest))
+  first_says key words rest has = first_found key (GoesOn tt (some_bytes has) has) refl
 
 -- A line has a first word and `number` prices after it.
 pub record HasPrices (bytes word : List ℕ) (number : ℕ) (prices : List ℤ) (rest : List ℕ) : Type 0 where
-  pub text : bytes ≡ with_line (price_words word prices) rest
-  pub reach : AreWithinReach prices
+  pub text : bytes ≡ line_then (price_words word prices) rest
+  pub reach : ArePricesInRange prices
   pub count : length prices ≡ number
 
-pub prices_said : {number line : ℕ} {words : List (List ℕ)} {prices : List ℤ} → SaysPrices number line words (Ok prices)
-    → (words ≡ map signed_decimal prices) × AreWithinReach prices × (length prices ≡ number)
-prices_said {number} {words} {prices} says = grind (arith, passed)
+pub prices_said : {number line : ℕ} {words : List (List ℕ)} {prices : List ℤ}
+    → IsPricesAnswer number line words (Ok prices)
+    → (words ≡ map signed_decimal prices) × ArePricesInRange prices × (length prices ≡ number)
+prices_said {number} {words} {prices} says = grind (arith, ThenNext-Ok)
 
 pub line_said : {K : Type 0} (word : K → List ℕ) (number : K → ℕ) {line : ℕ} {bytes : List ℕ} (x : K × List ℤ × List ℕ)
-    → SaysPriceLine word number line bytes (Ok x) → HasPrices bytes (word x.0) (number x.0) x.1 x.2
+    → IsPriceLineAnswer word number line bytes (Ok x) → HasPrices bytes (word x.0) (number x.0) x.1 x.2
 line_said {K} word number {bytes} x says =
-    let first = passed says in
-    let found = passed first.says in
-    let split = passed found.says in
-    let key = passed found.next in
-    let prices = passed first.next in
+    let first = ThenNext-Ok says in
+    let found = ThenNext-Ok first.says in
+    let split = ThenNext-Ok found.says in
+    let key = ThenNext-Ok found.next in
+    let prices = ThenNext-Ok first.next in
     let are = prices_said prices.says in
     let is : x ≡ (key.found.0, prices.found, found.found.1) = cc in
     let words : found.found.0 ≡ price_words (word key.found.0) prices.found =
     key.says ∙ ap (λ w. word key.found.0 ∷ w) (cc) in
     subst (λ (y : K × List ℤ × List ℕ). HasPrices bytes (word y.0) (number y.0) y.1 y.2) (sym is) (record {
-      text = is_line split.next ∙ ap (λ w. with_line w found.found.1) words;
+      text = is_line split.next ∙ ap (λ w. line_then w found.found.1) words;
       reach = are.1;
       count = are.2 ∙ ap number (cc);
     })
@@ -411,5 +416,5 @@ pub record HasGroup (name : Name) (number : ℕ) (bytes : List ℕ) (kinds : Lis
   pub group : IsGroup name number kinds
 
 pub group_said : {name : Name} {number : ℕ} (line : ℕ) {bytes : List ℕ} (x : List PricedKind × List ℕ)
-    → SaysGroup name number line bytes (Ok x) → HasGroup name number bytes x.0 x.1
-group_said {name} {number} line {bytes} x says = grind (arith, passed)
+    → IsGroupAnswer name number line bytes (Ok x) → HasGroup name number bytes x.0 x.1
+group_said {name} {number} line {bytes} x says = grind (arith, ThenNext-Ok)

@@ -7,14 +7,15 @@ use Rattle.kd_card.proofs.Prelude.{AllZip, IsPermutation, Option, Some, None, �
 use Rattle.kd_card.proofs.Prelude.{option_map_or, count_by-cons, sum_by-cons, sum-map, length-map, length-set}
 use Rattle.kd_card.proofs.Prelude.{seconds-zip, AllZip-long, All-head, All-tail, IsPermutation-map, IsPermutation-refl}
 use Rattle.kd_card.proofs.Prelude.{alphabet, IsPermutation-sym, IsPermutation-trans, sum_by-IsPermutation}
-use Rattle.kd_card.proofs.Prelude.{thirteen_columns, differ, has_letter, Parts, Rotor, Pin, RotorParts, RotorDay, Model}
-use Rattle.kd_card.proofs.Prelude.{Day, OfRotors, OfPins, IsLegalDay, ReadsAs, Setting, RingTo, Turn, Leads, changed}
-use Rattle.kd_card.proofs.Prelude.{why_refused, with_letter, seated_in, place_in_box, model_of, cable_cost}
-use Rattle.kd_card.proofs.Prelude.{cable_letters, column_letters, columns_of, letters_plugged, loose_reflector}
-use Rattle.kd_card.proofs.Prelude.{loose_slots, loose_letters, PriceParts, Cables, ArePrices, AreNeeded, IsNeeded}
-use Rattle.kd_card.proofs.Prelude.{is_priced, priced_count}
+use Rattle.kd_card.proofs.Prelude.{thirteen_columns, exactly_one, has_letter, Parts, Rotor, Pin, RotorParts, RotorDay}
+use Rattle.kd_card.proofs.Prelude.{Model, Day, OfRotors, OfPins, IsLegalDay, ReadsAs, Setting, RingTo, Turn, Leads}
+use Rattle.kd_card.proofs.Prelude.{machine_after, why_refused, letters_with, wheel_in_slot, place_in_box, model_of}
+use Rattle.kd_card.proofs.Prelude.{cable_cost, cable_letters, column_letters, columns_of, letters_in_pairs}
+use Rattle.kd_card.proofs.Prelude.{loose_reflector, loose_slots, loose_letters, PriceParts, Cables, ArePrices}
+use Rattle.kd_card.proofs.Prelude.{AreSettingsNeeded, IsSettingNeeded, is_priced_setting, priced_count}
 use Rattle.kd_card.proofs.{Counts.once_of_distinct, Duality.pairing_cost, Duality.reordered}
-use Rattle.kd_card.proofs.Falling.{HasCables, list_keeps, lowers, machines_have_all, model_of-changed, nothing_loose}
+use Rattle.kd_card.proofs.Falling.{HasCables, list_keeps, left_to_do-lowered, machines_have_all, model_of-changed}
+use Rattle.kd_card.proofs.Falling.{nothing_loose}
 use Rattle.kd_card.proofs.Shortest.{each_itself, bounded, cables_paired, model_of-list, with_prices}
 use Rattle.kd_card.specs.Months.{CardsAreFewestInAll, DayAfterDay, IsProvedCard, ReachesDay}
 use Rattle.{kd_card.specs.Proving.ProvesByNumber, kd_state.specs.SheetDay.IsLegalRotorDay}
@@ -24,27 +25,27 @@ use Rattle.std.proofs.lemmas.Bool.Decides.{nat_tests}
 
 -- ---- the number of places where two lists differ
 
-abbrev gaps : List ℕ → List ℕ → ℕ
-gaps (x ∷ xs) (y ∷ ys) = cond (nat_eq x y) 0 1 + gaps xs ys
-gaps [] ys = length ys
-gaps xs [] = length xs
+abbrev gap_count : List ℕ → List ℕ → ℕ
+gap_count (x ∷ xs) (y ∷ ys) = cond (nat_eq x y) 0 1 + gap_count xs ys
+gap_count [] ys = length ys
+gap_count xs [] = length xs
 
-gaps-self : (xs : List ℕ) → gaps xs xs ≡ 0
+gaps-self : (xs : List ℕ) → gap_count xs xs ≡ 0
 gaps-self [] = refl
 gaps-self (x ∷ xs) = grind (arith, nat_tests, gaps-self xs)
 
-gaps-nil : (xs : List ℕ) → gaps xs [] ≡ length xs
+gaps-nil : (xs : List ℕ) → gap_count xs [] ≡ length xs
 gaps-nil [] = refl
 gaps-nil (x ∷ xs) = refl
 
-gaps-triangle : (xs ys zs : List ℕ) → gaps xs zs ≤ gaps xs ys + gaps ys zs
+gaps-triangle : (xs ys zs : List ℕ) → gap_count xs zs ≤ gap_count xs ys + gap_count ys zs
 gaps-triangle (x ∷ xs) (y ∷ ys) (z ∷ zs) = grind (arith, nat_tests, gaps-triangle xs ys zs)
 gaps-triangle (x ∷ xs) [] (z ∷ zs) = grind (arith, nat_tests, gaps-nil, gaps-triangle xs [] zs)
 gaps-triangle [] (y ∷ ys) (z ∷ zs) = omega (arith, gaps-triangle [] ys zs)
 gaps-triangle (x ∷ xs) (y ∷ ys) [] = grind (arith, gaps-nil, gaps-triangle xs ys [])
 gaps-triangle xs ys zs = omega arith
 
-gaps-set : (xs ys : List ℕ) (p l : ℕ) → gaps xs ys ≤ gaps (set xs p l) ys + 1
+gaps-set : (xs ys : List ℕ) (p l : ℕ) → gap_count xs ys ≤ gap_count (set xs p l) ys + 1
 gaps-set (x ∷ xs) (y ∷ ys) zero l = grind (arith, nat_tests)
 gaps-set (x ∷ xs) (y ∷ ys) (suc p) l = omega (arith, gaps-set xs ys p l)
 gaps-set xs ys p l = grind (arith, gaps-nil, length-set)
@@ -55,7 +56,8 @@ is_wrong xs q t = not (option_map_or (nat_eq t) (slice_get xs q) false)
 
 -- If `ys` has letter `t` at place `q`, setting this letter in `xs` closes a gap.
 gaps-right : (xs ys : List ℕ) (p l q t : ℕ) → slice_get ys q ≡ Some t
-    → cond {A = ℕ} (is_wrong (set xs p l) q t) 1 0 < cond (is_wrong xs q t) 1 0 → gaps (set xs p l) ys + 1 ≤ gaps xs ys
+    → cond {A = ℕ} (is_wrong (set xs p l) q t) 1 0 < cond (is_wrong xs q t) 1 0
+    → gap_count (set xs p l) ys + 1 ≤ gap_count xs ys
 gaps-right (x ∷ xs) (y ∷ ys) zero l zero t e fewer = grind (arith, nat_tests)
 gaps-right (x ∷ xs) (y ∷ ys) (suc p) l (suc q) t e fewer = omega (arith, gaps-right xs ys p l q t e fewer)
 gaps-right xs ys p l q t e fewer = grind arith
@@ -69,7 +71,7 @@ module _ (place target : SheetWheel → ℕ) (ys : List ℕ) where
   wrong_count xs ws = count_by (λ w. is_wrong xs (place w) (target w)) ws
 
   gaps-fewer : (xs : List ℕ) (p l : ℕ) (ws : List SheetWheel) → All IsRight ws
-      → wrong_count (set xs p l) ws < wrong_count xs ws → gaps (set xs p l) ys + 1 ≤ gaps xs ys
+      → wrong_count (set xs p l) ws < wrong_count xs ws → gap_count (set xs p l) ys + 1 ≤ gap_count xs ys
   gaps-fewer xs p l [] h fewer = absurd (omega arith)
   gaps-fewer xs p l (w ∷ ws) h fewer =
       let before = count_by-cons (λ w. is_wrong xs (place w) (target w)) w ws in
@@ -79,12 +81,12 @@ module _ (place target : SheetWheel → ℕ) (ys : List ℕ) where
 
 -- ---- the cost of cables doesn't depend on their numbers
 
-abbrev differing : List ℕ → (ℕ → Bool) → (ℕ → Bool) → ℕ
-differing letters p q = count_by (λ letter. differ (p letter) (q letter)) letters
+abbrev count_differing : List ℕ → (ℕ → Bool) → (ℕ → Bool) → ℕ
+count_differing letters p q = count_by (λ letter. exactly_one (p letter) (q letter)) letters
 
 differing-triangle : (p q r : ℕ → Bool) (letters : List ℕ)
-    → (differing letters p r ≤ differing letters p q + differing letters q r)
-    × (differing letters q r ≤ differing letters p q + differing letters p r)
+    → (count_differing letters p r ≤ count_differing letters p q + count_differing letters q r)
+    × (count_differing letters q r ≤ count_differing letters p q + count_differing letters p r)
 differing-triangle p q r [] = (omega arith, omega arith)
 differing-triangle p q r (letter ∷ letters) =
     let rest = differing-triangle p q r letters in
@@ -93,10 +95,10 @@ differing-triangle p q r (letter ∷ letters) =
 -- cables `xs` with columns `us`, each with its letters
 module _ {A W : Type 0} (letters : List ℕ) (f : A → ℕ → Bool) (g : W → ℕ → Bool) where
   abbrev costs : List A → List W → ℕ
-  costs xs us = sum_by (λ z. differing letters (f z.0) (g z.1)) (zip xs us)
+  costs xs us = sum_by (λ z. count_differing letters (f z.0) (g z.1)) (zip xs us)
 
   abbrev changes : List (W × W) → ℕ
-  changes zs = sum_by (λ z. differing letters (g z.0) (g z.1)) zs
+  changes zs = sum_by (λ z. count_differing letters (g z.0) (g z.1)) zs
 
   costs-triangle : (xs : List A) (us vs : List W) → length us ≡ length xs → length vs ≡ length xs
       → (costs xs vs ≤ costs xs us + changes (zip us vs)) × (changes (zip us vs) ≤ costs xs us + costs xs vs)
@@ -126,7 +128,7 @@ reading_alike_costs_no_more : (g n : RotorParts) (s : RotorDay) → IsLegalRotor
     → HasCables n.cables → ReadsAs (Rotor g) (OfRotors s) → ReadsAs (Rotor n) (OfRotors s)
     → CostNoMore g.cables n.cables
 reading_alike_costs_no_more g n s legal has too reads also ws size =
-    let once = once_of_distinct (letters_plugged s.pairs) legal.pairs.apart in
+    let once = once_of_distinct (letters_in_pairs s.pairs) legal.pairs.apart in
     let free = replicate 13 (pos 0) in
     let us = cables_paired g.cables s.pairs free has once legal.pairs.few refl reads.key.cables in
     let qs = cables_paired n.cables s.pairs free too once legal.pairs.few refl also.key.cables in
@@ -142,7 +144,7 @@ reading_alike_costs_no_more g n s legal has too reads also ws size =
     let cheap = costs-triangle alphabet of_cable of_column n.cables qs.beside ws qs.count size in
     let change = changes {A = Option ℕ × Option ℕ} alphabet of_cable of_column in
     let back = ap change (zip-seconds us.beside there.0 there.2) in
-    let sums = sum_by-IsPermutation (λ z. differing alphabet (of_column z.0) (of_column z.1)) _ _ there.1 in
+    let sums = sum_by-IsPermutation (λ z. count_differing alphabet (of_column z.0) (of_column z.1)) _ _ there.1 in
     let moved = IsPermutation-map second _ _ there.1 in (
       vs,
       subst (λ ws. IsPermutation ws vs) (seconds-zip qs.beside ws (size ∙ sym qs.count)) moved,
@@ -151,14 +153,14 @@ reading_alike_costs_no_more g n s legal has too reads also ws size =
 
 -- ---- how far a machine is from another one that reads as the day
 
-abbrev gap : RotorParts → RotorParts → ℕ
-gap m n = gaps m.rings n.rings + gaps m.letters n.letters
+abbrev machine_gap : RotorParts → RotorParts → ℕ
+machine_gap m n = gap_count m.rings n.rings + gap_count m.letters n.letters
 
 module _ (s : RotorDay) (legal : IsLegalRotorDay s) (o : RotorParts) (reads : ReadsAs (Rotor o) (OfRotors s)) where
   -- what is loose, cables apart, if each ring and each letter is to be the other machine's; and the same with
   -- cables that are to become columns
   abbrev loose_for : Parts → ℕ
-  loose_for (Rotor m) = loose_slots m s + loose_reflector m s + gap m o
+  loose_for (Rotor m) = loose_slots m s + loose_reflector m s + machine_gap m o
   loose_for (Pin m) = 0
 
   abbrev left_for : List Priced → Parts → ℕ
@@ -166,19 +168,19 @@ module _ (s : RotorDay) (legal : IsLegalRotorDay s) (o : RotorParts) (reads : Re
   left_for ws (Pin m) = 0
 
   turned : (m : RotorParts) (seated : Option Wheel) (letter : ℕ) → m.model ≡ s.model
-      → loose_letters (record m { letters = with_letter m seated letter }) s < loose_letters m s
-      → gaps (with_letter m seated letter) o.letters + 1 ≤ gaps m.letters o.letters
+      → loose_letters (record m { letters = letters_with m seated letter }) s < loose_letters m s
+      → gap_count (letters_with m seated letter) o.letters + 1 ≤ gap_count m.letters o.letters
   turned m None letter same = λ fewer. omega arith
   turned m (Some wheel) letter same =
       gaps-fewer (λ w. place_in_box m.model w.wheel) (λ w. w.letter) o.letters m.letters
       (place_in_box m.model wheel) letter s.wheels (rw (reads.key.model ∙ sym same) at reads.window)
 
   left_for-changed : (ws : List Priced) (m : Parts) (x : Setting) → model_of m ≡ s.model → why_refused m x ≡ None
-      → left_for ws m ≤ left_for ws (changed m x) + 1
+      → left_for ws m ≤ left_for ws (machine_after m x) + 1
   left_for-changed ws (Rotor m) (RingTo wheel letter) same e =
       omega (arith, gaps-set m.rings o.rings (place_in_box m.model wheel) letter)
   left_for-changed ws (Rotor m) (Turn slot letter) same e = grind (arith, gaps-set)
-  left_for-changed ws (Rotor m) x same e = omega (arith, lowers ws [] (Rotor m) (OfRotors s) x legal same e)
+  left_for-changed ws (Rotor m) x same e = omega (arith, left_to_do-lowered ws [] (Rotor m) (OfRotors s) x legal same e)
   left_for-changed ws (Pin m) x same e = omega arith
 
   left_for-list : (ws : List Priced) (m n : Parts) (xs : List Setting) → model_of m ≡ s.model → Leads m xs n
@@ -189,38 +191,40 @@ module _ (s : RotorDay) (legal : IsLegalRotorDay s) (o : RotorParts) (reads : Re
       omega (arith, rest, ap (left_for ws) leads.1.made, left_for-changed ws m x same leads.1.allowed)
 
   -- A needed setting makes one thing less loose.
-  loose_for-needed : (m : Parts) (x : Setting) → model_of m ≡ s.model → IsNeeded m (OfRotors s) x
-      → loose_for (changed m x) + 1 ≤ loose_for m + cond (is_priced x) 1 0
+  loose_for-needed : (m : Parts) (x : Setting) → model_of m ≡ s.model → IsSettingNeeded m (OfRotors s) x
+      → loose_for (machine_after m x) + 1 ≤ loose_for m + cond (is_priced_setting x) 1 0
   loose_for-needed (Rotor m) (RingTo wheel letter) same needed =
       let fewer = gaps-fewer (λ w. place_in_box m.model w.wheel) (λ w. w.ring) o.rings m.rings
       (place_in_box m.model wheel) letter s.wheels (rw (reads.key.model ∙ sym same) at reads.key.rings) in
       omega (arith, needed refl, fewer)
   loose_for-needed (Rotor m) (Turn slot letter) same needed =
-      omega (arith, needed refl, turned m (seated_in m slot) letter same)
+      omega (arith, needed refl, turned m (wheel_in_slot m slot) letter same)
   loose_for-needed m x same needed = grind arith
 
-  loose_for-list : (m n : Parts) (xs : List Setting) → model_of m ≡ s.model → Leads m xs n → AreNeeded m (OfRotors s) xs
+  loose_for-list : (m n : Parts) (xs : List Setting) → model_of m ≡ s.model → Leads m xs n
+      → AreSettingsNeeded m (OfRotors s) xs
       → loose_for n + length xs ≤ loose_for m + priced_count xs
   loose_for-list m n [] same leads needed = subst (λ n. loose_for n + 0 ≤ loose_for m + 0) (sym leads) (omega arith)
   loose_for-list m n (x ∷ xs) same leads needed =
       let after = subst (λ between. Leads between xs n) leads.1.made leads.2 in
-      let rest = loose_for-list (changed m x) n xs (model_of-changed m x ∙ same) after needed.1 in
-      omega (arith, rest, loose_for-needed m x same needed.0, count_by-cons is_priced x xs)
+      let rest = loose_for-list (machine_after m x) n xs (model_of-changed m x ∙ same) after needed.1 in
+      omega (arith, rest, loose_for-needed m x same needed.0, count_by-cons is_priced_setting x xs)
 
 -- ---- one day, and day after day
 
-abbrev frame : RotorParts → Model × List (Option Wheel) × Reflector
-frame m = (m.model, m.slots, m.reflector)
+abbrev fixed_parts : RotorParts → Model × List (Option Wheel) × Reflector
+fixed_parts m = (m.model, m.slots, m.reflector)
 
 -- The machines reached by cards and by other lists differ only in rings, window letters and the numbers of
 -- cables.
-record Agree (g n : RotorParts) : Type 0 where
+record AgreeButForCables (g n : RotorParts) : Type 0 where
   first : HasCables g.cables
   second : HasCables n.cables
-  same : frame g ≡ frame n
+  same : fixed_parts g ≡ fixed_parts n
   cables : CostNoMore g.cables n.cables
 
-module _ (g n h o : RotorParts) (s : RotorDay) (card list : List Setting) (legal : IsLegalRotorDay s) (near : Agree g n)
+module _ (g n h o : RotorParts) (s : RotorDay) (card list : List Setting) (legal : IsLegalRotorDay s)
+    (near : AgreeButForCables g n)
     (by_card : ReachesDay (Rotor g) (OfRotors s) card (Rotor h))
     (by_list : ReachesDay (Rotor n) (OfRotors s) list (Rotor o)) where
   last : HasCables o.cables
@@ -228,9 +232,9 @@ module _ (g n h o : RotorParts) (s : RotorDay) (card list : List Setting) (legal
 
   -- A card is longer than the other list by at most what it comes nearer.
   card-at_most : (prices : PriceParts) → ArePrices prices → ProvesByNumber (Rotor g) (OfRotors s) card prices
-      → length card + gap h o ≤ length list + gap g n
+      → length card + machine_gap h o ≤ length list + machine_gap g n
   card-at_most (Cables row column) are proves =
-      let once = once_of_distinct (letters_plugged s.pairs) legal.pairs.apart in
+      let once = once_of_distinct (letters_in_pairs s.pairs) legal.pairs.apart in
       let due = cables_paired o.cables s.pairs column last once legal.pairs.few are.columns by_list.reads.key.cables in
       let model = ap (λ z. z.0) (sym near.same) ∙ proves.model in
       let falls = left_for-list s legal o by_list.reads due.beside (Rotor n) (Rotor o) list model by_list.leads in
@@ -252,36 +256,45 @@ module _ (g n h o : RotorParts) (s : RotorDay) (card list : List Setting) (legal
       omega (arith, ints, bound.bound)
   card-at_most prices are proves = absurd proves.kind
 
-  agree-next : Agree h o
+  agree-next : AgreeButForCables h o
   agree-next =
       let first = list_keeps (Rotor g) (Rotor h) card by_card.leads near.first in
-      let same : frame h ≡ frame o = cc in
+      let same : fixed_parts h ≡ fixed_parts o = cc in
       let cables = reading_alike_costs_no_more h o s legal first last by_card.reads by_list.reads in
       record { first = first; second = last; same = same; cables = cables }
 
-fewest : (days : List Day) (g n : RotorParts) (cards lists : List (List Setting)) → g.model ≢ M209 → All IsLegalDay days
-    → Agree g n → DayAfterDay IsProvedCard (Rotor g) days cards → DayAfterDay ReachesDay (Rotor n) days lists
-    → sum_by length cards ≤ sum_by length lists + gap g n
-fewest [] g n [] [] rotor legal near are lead = omega arith
-fewest (OfRotors s ∷ days) g n (card ∷ cards) (list ∷ lists) rotor legal near (Rotor h, to, rest) (Rotor o, by, more) =
+sum_by-fewest : (days : List Day) (g n : RotorParts) (cards lists : List (List Setting)) → g.model ≢ M209
+    → All IsLegalDay days
+    → AgreeButForCables g n → DayAfterDay IsProvedCard (Rotor g) days cards
+    → DayAfterDay ReachesDay (Rotor n) days lists
+    → sum_by length cards ≤ sum_by length lists + machine_gap g n
+sum_by-fewest [] g n [] [] rotor legal near are lead = omega arith
+sum_by-fewest (OfRotors s ∷ days) g n (card ∷ cards) (list ∷ lists) rotor legal near (Rotor h, to, rest)
+    (Rotor o, by, more) =
     let here = All-head IsLegalDay (OfRotors s) days legal in
     let are : ArePrices to.proves.numbered = grind arith in
     let one = card-at_most g n h o s card list here near to.reaches by to.proves.numbered are to.proves.proves in
     let same = model_of-list (Rotor g) (Rotor h) card to.reaches.leads in
     let now = agree-next g n h o s card list here near to.reaches by in
     let lawful = All-tail IsLegalDay (OfRotors s) days legal in
-    let later = fewest days h o cards lists (λ e. rotor (sym same ∙ e)) lawful now rest more in
+    let later = sum_by-fewest days h o cards lists (λ e. rotor (sym same ∙ e)) lawful now rest more in
     simp sum_by-cons (omega (arith, one, later))
-fewest (OfPins s ∷ days) g n (card ∷ cards) (list ∷ lists) rotor legal near (Pin h, to, rest) lead =
+sum_by-fewest (OfPins s ∷ days) g n (card ∷ cards) (list ∷ lists) rotor legal near (Pin h, to, rest) lead =
     absurd (rotor (sym (model_of-list (Rotor g) (Pin h) card to.reaches.leads)))
-fewest days g n cards lists rotor legal near are lead = grind arith
+sum_by-fewest days g n cards lists rotor legal near are lead = grind arith
 
 pub cards_are_fewest_in_all : CardsAreFewestInAll
 cards_are_fewest_in_all (Rotor m) days cards lists machine rotor legal are lead =
     let has = machines_have_all (Rotor m) machine.legal in
     let cables : CostNoMore m.cables m.cables = λ ws size. (ws, IsPermutation-refl ws, omega arith) in
-    let near : Agree m m = record { first = has; second = has; same = refl; cables = cables } in
+    let near : AgreeButForCables m m = record { first = has; second = has; same = refl; cables = cables } in
     let none = gaps-self m.rings in
     let nor = gaps-self m.letters in
-    omega (arith, fewest days m m cards lists rotor legal near are lead, sum-map length cards, sum-map length lists)
+    omega (
+      arith,
+      sum_by-fewest days m m cards lists rotor legal near are lead,
+      sum-map length cards,
+      sum-map length
+          lists,
+    )
 cards_are_fewest_in_all (Pin m) days cards lists machine rotor legal are lead = absurd (rotor refl)

@@ -3,24 +3,26 @@ use Rattle.kd_card.proofs.Prelude.{not_longer, same_end, Bool, true, false, code
 use Rattle.kd_card.proofs.Prelude.{List, [], ◌∷◌, ◌++◌, length, map, get_or, Result, Ok, Err, refl, sym, ap, subst, ◌∙◌}
 use Rattle.kd_card.proofs.Prelude.{arith, ℤ, unsigned_abs, append_assoc, AllByRecursion, signed_decimal}
 use Rattle.kd_card.proofs.Prelude.{decimal_injective, signed_decimal_injective, append-nil, recursion_from_All, Setting}
-use Rattle.kd_card.proofs.Prelude.{IsWord, setting_line, list_text, BeginsWith, BeginsWithNoLine, PriceParts, Cables}
-use Rattle.kd_card.proofs.Prelude.{Bars, CableKinds, BarKinds, Version, ByNumber, ByKind, Group, OfCables, OfBars, Name}
-use Rattle.kd_card.proofs.Prelude.{PricedKind, Trailing, Then, Refused, Found, Only, Demands, look_rank, name_text}
-use Rattle.kd_card.proofs.Prelude.{kinds_text, AreKinds, AreCalled, version_of, row_kinds, column_kinds, price_sum}
-use Rattle.kd_card.proofs.Prelude.{AreWithinReach, ArePrices, group_of, row_word, column_word, row_name, column_name}
-use Rattle.kd_card.proofs.Prelude.{price_count, settings_words, price_words, sum_words, lines_text, price_lines}
-use Rattle.kd_card.proofs.Prelude.{card_text, IsGroup, IsCard, with_line, SaysValue, SaysFirst, BeginsWithHead}
-use Rattle.kd_card.proofs.Prelude.{BeginsWithSettings, SaysSettings, SaysPriceLine, SaysNumbered, BeginsWithWord}
-use Rattle.kd_card.proofs.Prelude.{EndsGroup, AtOther, IsNextKind, floor_behind, SaysGroup, SaysKinded, SaysAllPrices}
-use Rattle.kd_card.proofs.Prelude.{SaysBehind, SaysCard, TextsTellCards, NoCardBeginsAnother, CardsHaveNoFault}
-use Rattle.kd_card.proofs.Prelude.{OneCardFault, common_steps, word_by_test, BeginsWithKinds, CardsAreSaid, IsOnly}
-use Rattle.kd_card.proofs.Prelude.{only_demands, only_finds, only_only, only_takes, only_then, passed, same_ok}
-use Rattle.kd_card.proofs.Prelude.{CardFault, head_words, kind_words}
-use Rattle.kd_card.specs.{CardFault.numbered, Reading.head_front}
-use Rattle.kd_card.proofs.Lines.{line_has_words, value_line, same_words, two_lines, card_and_more, small, numeral_word}
-use Rattle.kd_card.proofs.Lines.{signed_word, head_text, day_unbroken, first_is_word, prices_are_words, number_text}
-use Rattle.kd_card.proofs.Lines.{signed_text, price_sum_is_small, value_says, value_said, same_values, first_says}
-use Rattle.kd_card.proofs.Lines.{HasPrices, line_said, group_said}
+use Rattle.kd_card.proofs.Prelude.{IsWord, setting_line, list_text, BeginsWithSettingLines, BeginsWithNoSetting}
+use Rattle.kd_card.proofs.Prelude.{PriceParts, Cables, Bars, CableKinds, BarKinds, Version, ByNumber, ByKind, Group}
+use Rattle.kd_card.proofs.Prelude.{OfCables, OfBars, Name, PricedKind, Trailing, ThenNext, HasFault, GoesOn, Yields}
+use Rattle.kd_card.proofs.Prelude.{Demands, look_rank, name_text, kinds_text, AreKinds, AreCalled, version_of}
+use Rattle.kd_card.proofs.Prelude.{row_kinds, column_kinds, price_sum, ArePricesInRange, ArePrices, group_of, row_word}
+use Rattle.kd_card.proofs.Prelude.{column_word, row_name, column_name, price_count, settings_words, price_words}
+use Rattle.kd_card.proofs.Prelude.{sum_words, lines_text, price_lines, card_text, IsGroup, IsCard, line_then}
+use Rattle.kd_card.proofs.Prelude.{IsValueAnswer, IsFirstWordAnswer, BeginsWithHead, BeginsWithAllSettings}
+use Rattle.kd_card.proofs.Prelude.{IsSettingsAnswer, IsPriceLineAnswer, IsByNumberPricesAnswer, BeginsWithWord}
+use Rattle.kd_card.proofs.Prelude.{EndsGroup, AtOther, IsNextKind, floor_behind, IsGroupAnswer, IsByKindPricesAnswer}
+use Rattle.kd_card.proofs.Prelude.{IsAllPricesAnswer, IsRestAnswer, IsCardAnswer, TextsTellCards, NoCardBeginsAnother}
+use Rattle.kd_card.proofs.Prelude.{CardsHaveNoFault, OneCardFault, common_steps, word_by_test, BeginsWithKinds}
+use Rattle.kd_card.proofs.Prelude.{CardsAreSaid, HasOneAnswer, HasOneAnswer-Demands, HasOneAnswer-Finds}
+use Rattle.kd_card.proofs.Prelude.{HasOneAnswer-Yields, HasOneAnswer-FindsAlways, HasOneAnswer-ThenNext, ThenNext-Ok}
+use Rattle.kd_card.proofs.Prelude.{Yields-Ok, CardFault, head_words, kind_words}
+use Rattle.kd_card.specs.{CardFault.parts_by_number, Reading.head_prefix}
+use Rattle.kd_card.proofs.Lines.{line_has_words, value_line, same_words, two_lines, card_and_more, mag-small}
+use Rattle.kd_card.proofs.Lines.{numeral_word, signed_word, head_text, day_unbroken, first_is_word, prices_are_words}
+use Rattle.kd_card.proofs.Lines.{number_text, signed_text, price_sum_is_small, value_says, value_said, same_values}
+use Rattle.kd_card.proofs.Lines.{first_says, HasPrices, line_said, group_said}
 use Rattle.kd_card.proofs.KindWords.{kind_is_words, kind_begins, end_has_no_next, same_kind}
 use Rattle.kd_card.proofs.KindPrices.{text_of_more_kinds, text_by_kind, both_groups, size_of, of_two_groups}
 use Rattle.kd_card.proofs.KindPrices.{same_kind_parts, some_and_few}
@@ -34,7 +36,7 @@ same_prices : (ps qs : List ℤ) → AllByRecursion (λ p. unsigned_abs p ≤ 99
     → AllByRecursion (λ p. unsigned_abs p ≤ 9999) qs → map signed_decimal ps ≡ map signed_decimal qs → ps ≡ qs
 same_prices [] [] a b e = refl
 same_prices (p ∷ ps) (q ∷ qs) a b e =
-    let first : p ≡ q = signed_decimal_injective p q (small p a.0) (small q b.0) (cc) in
+    let first : p ≡ q = signed_decimal_injective p q (mag-small p a.0) (mag-small q b.0) (cc) in
     let tails : map signed_decimal ps ≡ map signed_decimal qs = cc in
     let others : ps ≡ qs = same_prices ps qs a.1 b.1 tails in
     cc
@@ -50,7 +52,7 @@ no_setting x rest = grind arith
 -- ---- what the steps of reading say about the bytes if all succeed
 
 -- `bytes` are the lines of these prices, and then `rest`.
-record AreAll (by : Version) (bytes : List ℕ) (prices : PriceParts) (rest : List ℕ) : Type 0 where
+record AreAllPriceLines (by : Version) (bytes : List ℕ) (prices : PriceParts) (rest : List ℕ) : Type 0 where
   version : version_of prices ≡ by
   text : bytes ≡ lines_text (price_lines prices) ++ rest
   are : ArePrices prices
@@ -58,31 +60,31 @@ record AreAll (by : Version) (bytes : List ℕ) (prices : PriceParts) (rest : Li
 by_number : (group : Group) (rows columns : List ℤ) {bytes middle rest : List ℕ}
     → HasPrices bytes (row_word group) (price_count group) rows middle
     → HasPrices middle (column_word group) (price_count group) columns rest
-    → AreAll ByNumber bytes (numbered group rows columns) rest
+    → AreAllPriceLines ByNumber bytes (parts_by_number group rows columns) rest
 by_number group rows columns a b = grind (arith, common_steps, two_lines)
 
 all_said : (version : Version) (line : ℕ) {bytes : List ℕ} (x : PriceParts × List ℕ)
-    → SaysAllPrices version line bytes (Ok x)
-    → AreAll version bytes x.0 x.1
+    → IsAllPricesAnswer version line bytes (Ok x)
+    → AreAllPriceLines version bytes x.0 x.1
 all_said ByNumber line {bytes} x says =
-    let rows = passed says in
-    let columns = passed rows.next in
+    let rows = ThenNext-Ok says in
+    let columns = ThenNext-Ok rows.next in
     let a = line_said _ _ rows.found rows.says in
     let b = line_said _ _ columns.found columns.says in
-    subst (λ (y : PriceParts × List ℕ). AreAll ByNumber bytes y.0 y.1) (sym (same_ok columns.next))
+    subst (λ (y : PriceParts × List ℕ). AreAllPriceLines ByNumber bytes y.0 y.1) (sym (Yields-Ok columns.next))
     (by_number rows.found.0 rows.found.1 columns.found.1 a b)
 all_said ByKind line {bytes} x says =
-    let first = passed says in
-    let rows = passed first.next in
-    let columns = passed rows.next in
-    let both = passed columns.next in
+    let first = ThenNext-Ok says in
+    let rows = ThenNext-Ok first.next in
+    let columns = ThenNext-Ok rows.next in
+    let both = ThenNext-Ok columns.next in
     let have = both.says in
     let group = first.found.0 in
     let a = group_said _ rows.found rows.says in
     let b = group_said _ columns.found columns.says in
     let parts = append_assoc (kinds_text rows.found.0) (kinds_text columns.found.0) columns.found.1 in
     let lines = text_by_kind both.found have.version in
-    subst (λ (y : PriceParts × List ℕ). AreAll ByKind bytes y.0 y.1) (sym (same_ok both.next)) (record {
+    subst (λ (y : PriceParts × List ℕ). AreAllPriceLines ByKind bytes y.0 y.1) (sym (Yields-Ok both.next)) (record {
       version = have.version;
       text = cc;
       are =
@@ -93,32 +95,33 @@ all_said ByKind line {bytes} x says =
 pub up_to_settings : {bytes : List ℕ} {version : Version} {day : ℕ} {body : List ℕ} {xs : List Setting} {rest : List ℕ}
     {number : ℕ}
     {answer : Result (ℕ × List Setting × PriceParts) CardFault} → BeginsWithHead bytes version day body
-    → BeginsWithSettings body xs rest
-    → number ≡ length xs → SaysBehind version day xs number rest answer → SaysCard bytes answer
+    → BeginsWithAllSettings body xs rest
+    → number ≡ length xs → IsRestAnswer version day xs number rest answer → IsCardAnswer bytes answer
 up_to_settings {version} {day} {body} {xs} {rest} {answer} head list count says =
-    Found (version, day, body) head (Found (xs, rest) list
-    (subst (λ n. SaysBehind version day xs n rest answer) count says))
+    GoesOn (version, day, body) head (GoesOn (xs, rest) list
+    (subst (λ n. IsRestAnswer version day xs n rest answer) count says))
 
-pub card_said : {bytes : List ℕ} (x : ℕ × List Setting × PriceParts) → SaysCard bytes (Ok x) → IsCard bytes x.0 x.1 x.2
+pub card_said : {bytes : List ℕ} (x : ℕ × List Setting × PriceParts) → IsCardAnswer bytes (Ok x)
+    → IsCard bytes x.0 x.1 x.2
 card_said {bytes} x says =
-    let head = passed says in
-    let list = passed head.next in
-    let number = passed list.next in
-    let all = passed number.next in
-    let sum = passed all.next in
-    let end = passed sum.next in
+    let head = ThenNext-Ok says in
+    let list = ThenNext-Ok head.next in
+    let number = ThenNext-Ok list.next in
+    let all = ThenNext-Ok number.next in
+    let sum = ThenNext-Ok all.next in
+    let end = ThenNext-Ok sum.next in
     let are = all_said head.found.0 _ all.found all.says in
     let xs = list.found.0 in
     let prices = all.found.0 in
-    let last = value_said true (codes "SUM ") _ _ sum.says ∙ ap (with_line (sum_words (price_sum prices))) end.says in
+    let last = value_said true (codes "SUM ") _ _ sum.says ∙ ap (line_then (sum_words (price_sum prices))) end.says in
     let behind = are.text ∙ ap (λ t. lines_text (price_lines prices) ++ t) last in
     let counted =
-    value_said false (codes "SETTINGS ") _ _ number.says ∙ ap (with_line (settings_words (length xs))) behind in
+    value_said false (codes "SETTINGS ") _ _ number.says ∙ ap (line_then (settings_words (length xs))) behind in
     let body = list.says.lines.lines ∙ ap (λ t. list_text xs ++ t) counted in
-    subst (λ (y : ℕ × List Setting × PriceParts). IsCard bytes y.0 y.1 y.2) (sym (same_ok end.next)) (record {
+    subst (λ (y : ℕ × List Setting × PriceParts). IsCard bytes y.0 y.1 y.2) (sym (Yields-Ok end.next)) (record {
       text =
-          head.says.text ∙ ap (λ v. with_line (head_words v head.found.1) head.found.2) (sym are.version)
-          ∙ ap (with_line (head_words (version_of prices) head.found.1)) body
+          head.says.text ∙ ap (λ v. line_then (head_words v head.found.1) head.found.2) (sym are.version)
+          ∙ ap (line_then (head_words (version_of prices) head.found.1)) body
           ∙ sym (card_and_more head.found.1 xs prices []) ∙ append-nil (card_text head.found.1 xs prices);
       of_month = head.says.of_month;
       in_range = list.says.lines.in_range;
@@ -129,35 +132,37 @@ card_said {bytes} x says =
 -- ---- lines of prices
 
 only_first : {K : Type 0} (word : K → List ℕ) → ((key other : K) → word key ≡ word other → key ≡ other)
-    → (line : ℕ) (bytes : List ℕ) → IsOnly (SaysFirst word line bytes)
+    → (line : ℕ) (bytes : List ℕ) → HasOneAnswer (IsFirstWordAnswer word line bytes)
 only_first word one line bytes =
-    only_then
-    (only_then (only_demands _ _)
-    (λ some filled. only_finds _ (λ x y a b. let same = same_words a b in same_pair x y same.0 same.1)))
-    (λ found has. only_then (only_finds _ (λ x y a b. same_pair x y (one x.0 y.0 (cc)) (cc))) (λ first is. only_only _))
+    HasOneAnswer-ThenNext
+    (HasOneAnswer-ThenNext (HasOneAnswer-Demands _ _)
+    (λ some filled. HasOneAnswer-Finds _ (λ x y a b. let same = same_words a b in same_pair x y same.0 same.1)))
+    (λ found has. HasOneAnswer-ThenNext (HasOneAnswer-Finds _ (λ x y a b. same_pair x y (one x.0 y.0 (cc)) (cc)))
+    (λ first is. HasOneAnswer-Yields _))
 
 only_price_line : {K : Type 0} (word : K → List ℕ) (number : K → ℕ)
     → ((key other : K) → word key ≡ word other → key ≡ other)
-    → (line : ℕ) (bytes : List ℕ) → IsOnly (SaysPriceLine word number line bytes)
+    → (line : ℕ) (bytes : List ℕ) → HasOneAnswer (IsPriceLineAnswer word number line bytes)
 only_price_line word number one line bytes =
-    only_then (only_first word one line bytes)
-    (λ first says. only_then
-    (only_then
-    (only_finds _ (λ ps qs a b.
+    HasOneAnswer-ThenNext (only_first word one line bytes)
+    (λ first says. HasOneAnswer-ThenNext
+    (HasOneAnswer-ThenNext
+    (HasOneAnswer-Finds _ (λ ps qs a b.
     same_prices ps qs (recursion_from_All _ ps a.1) (recursion_from_All _ qs b.1) (sym a.0 ∙ b.0)))
-    (λ prices are. only_then (only_demands _ _) (λ all count. only_only prices))) (λ prices are. only_only _))
+    (λ prices are. HasOneAnswer-ThenNext (HasOneAnswer-Demands _ _) (λ all count. HasOneAnswer-Yields prices)))
+    (λ prices are. HasOneAnswer-Yields _))
 
 price_line_says : {K : Type 0} (word : K → List ℕ) (number : K → ℕ) {line : ℕ} {bytes : List ℕ} (key : K)
     (prices : List ℤ)
-    (rest : List ℕ) → IsWord (word key) → AreWithinReach prices → length prices ≡ number key
-    → bytes ≡ with_line (price_words (word key) prices) rest
-    → SaysPriceLine word number line bytes (Ok (key, prices, rest))
+    (rest : List ℕ) → IsWord (word key) → ArePricesInRange prices → length prices ≡ number key
+    → bytes ≡ line_then (price_words (word key) prices) rest
+    → IsPriceLineAnswer word number line bytes (Ok (key, prices, rest))
 price_line_says word number key prices rest is_word reach count e =
     let words = prices_are_words (word key) prices is_word reach in
-    Found (key, map signed_decimal prices, rest)
+    GoesOn (key, map signed_decimal prices, rest)
     (first_says _ key (map signed_decimal prices) rest
     (line_has_words (price_words (word key) prices) rest (λ none. cc) words e))
-    (Found prices (Found prices (refl, reach) (Found tt count refl)) refl)
+    (GoesOn prices (GoesOn prices (refl, reach) (GoesOn tt count refl)) refl)
 
 -- ---- groups of kinds
 
@@ -194,25 +199,26 @@ kinds_end name floor (x ∷ xs) (y ∷ ys) rest more a b =
     let tails = kinds_end name next xs ys rest more (behind a) other in
     (cc, tails.1)
 
-only_group : (name : Name) (number line : ℕ) (bytes : List ℕ) → IsOnly (SaysGroup name number line bytes)
+only_group : (name : Name) (number line : ℕ) (bytes : List ℕ) → HasOneAnswer (IsGroupAnswer name number line bytes)
 only_group name number line bytes =
-    only_then
-    (only_takes (λ x y a b. let same = kinds_end name 0 x.0 y.0 x.1 y.1 a b in same_pair x y same.0 same.1))
-    (λ group takes. only_then (only_demands _ _)
-    (λ end ends. only_then (only_demands _ _) (λ all count. only_only group)))
+    HasOneAnswer-ThenNext
+    (HasOneAnswer-FindsAlways (λ x y a b. let same = kinds_end name 0 x.0 y.0 x.1 y.1 a b in same_pair x y same.0
+    same.1))
+    (λ group takes. HasOneAnswer-ThenNext (HasOneAnswer-Demands _ _)
+    (λ end ends. HasOneAnswer-ThenNext (HasOneAnswer-Demands _ _) (λ all count. HasOneAnswer-Yields group)))
 
 group_says : {name : Name} {number : ℕ} (line : ℕ) {bytes : List ℕ} (kinds : List PricedKind) (rest : List ℕ)
     → IsGroup name number kinds → bytes ≡ kinds_text kinds ++ rest → EndsGroup name rest
-    → SaysGroup name number line bytes (Ok (kinds, rest))
+    → IsGroupAnswer name number line bytes (Ok (kinds, rest))
 group_says line kinds rest group e ends =
-    Found (kinds, rest)
+    GoesOn (kinds, rest)
     (record {
       lines = e;
       called = group.called;
       in_order = group.in_order;
       none_more = end_has_no_next (floor_behind 0 kinds) ends;
     })
-    (Found tt ends (Found tt group.count refl))
+    (GoesOn tt ends (GoesOn tt group.count refl))
 
 -- A group of kinds begins with their name.
 group_begins : {name : Name} {number : ℕ} {bytes : List ℕ} (kinds : List PricedKind) (rest : List ℕ) → 0 < number
@@ -223,30 +229,33 @@ group_begins (kind ∷ kinds) rest some group e =
 
 -- ---- the prices
 
-only_all_prices : (version : Version) (line : ℕ) (bytes : List ℕ) → IsOnly (SaysAllPrices version line bytes)
+only_all_prices : (version : Version) (line : ℕ) (bytes : List ℕ) → HasOneAnswer (IsAllPricesAnswer version line bytes)
 only_all_prices ByNumber line bytes =
-    only_then (only_price_line _ _ (λ group other e. grind arith) line bytes)
-    (λ rows says. only_then (only_price_line _ _ (λ only other e. refl) (line + 1) rows.2) (λ columns say. only_only _))
+    HasOneAnswer-ThenNext (only_price_line _ _ (λ group other e. grind arith) line bytes)
+    (λ rows says. HasOneAnswer-ThenNext (only_price_line _ _ (λ only other e. refl) (line + 1) rows.2)
+    (λ columns say. HasOneAnswer-Yields _))
 only_all_prices ByKind line bytes =
-    only_then (only_first _ (λ group other e. grind arith) line bytes)
-    (λ first says. only_then (only_group (row_name first.0) (price_count first.0) line bytes)
-    (λ rows say. only_then (only_group (column_name first.0) (price_count first.0) (line + length rows.0) rows.1)
-    (λ columns all. only_then (only_takes same_kind_parts) (λ prices have. only_only _))))
+    HasOneAnswer-ThenNext (only_first _ (λ group other e. grind arith) line bytes)
+    (λ first says. HasOneAnswer-ThenNext (only_group (row_name first.0) (price_count first.0) line bytes)
+    (λ rows say. HasOneAnswer-ThenNext (only_group (column_name first.0) (price_count first.0) (line + length rows.0)
+    rows.1)
+    (λ columns all. HasOneAnswer-ThenNext (HasOneAnswer-FindsAlways same_kind_parts)
+    (λ prices have. HasOneAnswer-Yields _))))
 
 by_number_says : (group : Group) (line : ℕ) {bytes : List ℕ} (rows columns : List ℤ) (rest : List ℕ)
-    → AreWithinReach rows
-    → AreWithinReach columns → length rows ≡ price_count group → length columns ≡ price_count group
-    → bytes ≡ with_line (price_words (row_word group) rows) (with_line (price_words (column_word group) columns) rest)
-    → SaysNumbered line bytes (Ok (numbered group rows columns, rest))
+    → ArePricesInRange rows
+    → ArePricesInRange columns → length rows ≡ price_count group → length columns ≡ price_count group
+    → bytes ≡ line_then (price_words (row_word group) rows) (line_then (price_words (column_word group) columns) rest)
+    → IsByNumberPricesAnswer line bytes (Ok (parts_by_number group rows columns, rest))
 by_number_says group line rows columns rest a b many also e =
-    let second = with_line (price_words (column_word group) columns) rest in
-    Found (group, rows, second) (price_line_says _ _ group rows second (first_is_word group).0 a many e)
-    (Found (tt, columns, rest) (price_line_says _ _ tt columns rest (first_is_word group).1 b also refl) refl)
+    let second = line_then (price_words (column_word group) columns) rest in
+    GoesOn (group, rows, second) (price_line_says _ _ group rows second (first_is_word group).0 a many e)
+    (GoesOn (tt, columns, rest) (price_line_says _ _ tt columns rest (first_is_word group).1 b also refl) refl)
 
 by_kind_says : (line : ℕ) {bytes : List ℕ} (prices : PriceParts) (rest : List ℕ) → version_of prices ≡ ByKind
     → ArePrices prices → EndsGroup (column_name (group_of prices)) rest
     → bytes ≡ lines_text (price_lines prices) ++ rest
-    → SaysKinded line bytes (Ok (prices, rest))
+    → IsByKindPricesAnswer line bytes (Ok (prices, rest))
 by_kind_says line prices rest by are ends e =
     let group = group_of prices in
     let rows = row_kinds prices in
@@ -256,16 +265,16 @@ by_kind_says line prices rest by are ends e =
     e ∙ ap (λ t. t ++ rest) (text_by_kind prices by) ∙ append_assoc (kinds_text rows) (kinds_text columns) rest in
     let first = group_begins rows (kinds_text columns ++ rest) (some_and_few group).0 groups.0 lines in
     let second = group_begins columns rest (some_and_few group).0 groups.1 refl in
-    Found (group, first.behind, first.rest) (first_says _ group first.behind first.rest first.has)
-    (Found (rows, kinds_text columns ++ rest)
+    GoesOn (group, first.behind, first.rest) (first_says _ group first.behind first.rest first.has)
+    (GoesOn (rows, kinds_text columns ++ rest)
     (group_says _ rows (kinds_text columns ++ rest) groups.0 lines
     (AtOther (name_text (column_name group)) second (grind arith)))
-    (Found (columns, rest) (group_says _ columns rest groups.1 refl ends)
-    (Found prices (record { of_group = refl; version = by; row_kinds = refl; column_kinds = refl }) refl)))
+    (GoesOn (columns, rest) (group_says _ columns rest groups.1 refl ends)
+    (GoesOn prices (record { of_group = refl; version = by; row_kinds = refl; column_kinds = refl }) refl)))
 
 all_say : (prices : PriceParts) (line : ℕ) {bytes : List ℕ} (rest : List ℕ) → ArePrices prices
     → ((name : Name) → EndsGroup name rest) → bytes ≡ lines_text (price_lines prices) ++ rest
-    → SaysAllPrices (version_of prices) line bytes (Ok (prices, rest))
+    → IsAllPricesAnswer (version_of prices) line bytes (Ok (prices, rest))
 all_say (Cables row col) line rest are ends e =
     by_number_says OfCables line row col rest are.row_reach are.column_reach are.rows are.columns
     (e ∙ two_lines (price_words (row_word OfCables) row) (price_words (column_word OfCables) col) rest)
@@ -281,7 +290,7 @@ same_day : {bytes : List ℕ} {version : Version} {day other : ℕ} {rest more :
     → BeginsWithHead bytes version day rest
     → BeginsWithHead bytes version other more → (day ≡ other) × (rest ≡ more)
 same_day {version} {day} {other} {rest} {more} a b =
-    let same = same_values (head_front version) (day_unbroken day a.of_month) (day_unbroken other b.of_month)
+    let same = same_values (head_prefix version) (day_unbroken day a.of_month) (day_unbroken other b.of_month)
     (a.text ∙ sym (head_text version day rest refl)) (b.text ∙ sym (head_text version other more refl)) in
     grind (arith, decimal_injective)
 
@@ -292,86 +301,87 @@ one_head bytes (ByKind, day, rest) (ByKind, other, more) a b = cc ((same_day a b
 one_head bytes (_, _, _) (_, _, _) a b = absurd (omega (arith, ap (λ text. get_or text 5 0) (sym a.text ∙ b.text)))
 
 only_value : (signed : Bool) (front due : List ℕ) (line : ℕ) (bytes : List ℕ)
-    → IsOnly (SaysValue signed front due line bytes)
+    → HasOneAnswer (IsValueAnswer signed front due line bytes)
 only_value signed front due line bytes =
-    only_then
-    (only_finds _ (λ x y a b.
+    HasOneAnswer-ThenNext
+    (HasOneAnswer-Finds _ (λ x y a b.
     let same =
     same_values front (numeral_word signed x.0 a.0).unbroken (numeral_word signed y.0 b.0).unbroken a.1 b.1 in
     same_pair x y same.0 same.1))
-    (λ found says. only_then (only_demands _ _) (λ due is. only_only _))
+    (λ found says. HasOneAnswer-ThenNext (HasOneAnswer-Demands _ _) (λ due is. HasOneAnswer-Yields _))
 
 -- The line of the sum ends a group of kinds.
 sum_ends : (sum : ℤ) (rest : List ℕ) → unsigned_abs sum < 2 ^ 64 → (name : Name)
-    → EndsGroup name (with_line (sum_words sum) rest)
+    → EndsGroup name (line_then (sum_words sum) rest)
 sum_ends sum rest near name =
     let has = value_line (codes "SUM") (signed_decimal sum) rest (word_by_test _ _ refl) (signed_word sum near) refl in
     AtOther (codes "SUM") (record { behind = signed_decimal sum ∷ []; rest = rest; has = has }) (grind arith)
 
 -- ---- the card
 
-abbrev EndSays : List ℕ → ℕ × List Setting × PriceParts → Result (ℕ × List Setting × PriceParts) CardFault → Type 0
-EndSays rest card = Then (Demands (rest ≡ []) Trailing) (λ (end : Unit {0}). Only card)
+abbrev IsEndAnswer : List ℕ → ℕ × List Setting × PriceParts → Result (ℕ × List Setting × PriceParts) CardFault → Type 0
+IsEndAnswer rest card = ThenNext (Demands (rest ≡ []) Trailing) (λ (end : Unit {0}). Yields card)
 
 card_says : {text : List ℕ} {day : ℕ} {xs : List Setting} {prices : PriceParts}
     {answer : Result (ℕ × List Setting × PriceParts) CardFault}
     (rest : List ℕ)
     → IsCard text day xs prices
-    → EndSays rest (day, xs, prices) answer → SaysCard (text ++ rest) answer
+    → IsEndAnswer rest (day, xs, prices) answer → IsCardAnswer (text ++ rest) answer
 card_says {day} {xs} {prices} rest card end =
     let few = card.few in
     let near = price_sum_is_small prices card.are_prices in
-    let sum = with_line (sum_words (price_sum prices)) rest in
+    let sum = line_then (sum_words (price_sum prices)) rest in
     let behind = lines_text (price_lines prices) ++ sum in
-    let number = with_line (settings_words (length xs)) behind in
-    Found (version_of prices, day, list_text xs ++ number)
+    let number = line_then (settings_words (length xs)) behind in
+    GoesOn (version_of prices, day, list_text xs ++ number)
     (record { text = ap (λ t. t ++ rest) card.text ∙ card_and_more day xs prices rest; of_month = card.of_month })
-    (Found (xs, number)
+    (GoesOn (xs, number)
     (record {
       lines = record { lines = refl; in_range = card.in_range };
       few = few;
       none_more = λ x more r e. no_setting x more (sym (ap first_and_third e));
     })
-    (Found behind (value_says false (codes "SETTINGS ") _ _ (number_text (length xs) (omega arith)) refl)
-    (Found (prices, sum) (all_say prices _ sum card.are_prices (sum_ends (price_sum prices) rest near) refl)
-    (Found rest (value_says true (codes "SUM ") _ _ (signed_text (price_sum prices) near) refl) end))))
+    (GoesOn behind (value_says false (codes "SETTINGS ") _ _ (number_text (length xs) (omega arith)) refl)
+    (GoesOn (prices, sum) (all_say prices _ sum card.are_prices (sum_ends (price_sum prices) rest near) refl)
+    (GoesOn rest (value_says true (codes "SUM ") _ _ (signed_text (price_sum prices) near) refl) end))))
 
 -- If no line of a setting follows the settings, a second list of settings that begins the bytes is the same.
-lists_meet : {body : List ℕ} {xs ys : List Setting} {rest more : List ℕ} → BeginsWithSettings body xs rest
-    → BeginsWith body ys more → (length ys ≤ length xs) × (BeginsWithNoLine more → (xs ≡ ys) × (rest ≡ more))
+lists_meet : {body : List ℕ} {xs ys : List Setting} {rest more : List ℕ} → BeginsWithAllSettings body xs rest
+    → BeginsWithSettingLines body ys more → (length ys ≤ length xs)
+    × (BeginsWithNoSetting more → (xs ≡ ys) × (rest ≡ more))
 lists_meet {body} {xs} {ys} {rest} {more} a b =
     (not_longer body xs ys rest more a.lines b a.none_more, same_end body xs ys rest more a.lines b a.none_more)
 
-not_too_many : {body : List ℕ} {xs ys : List Setting} {rest more : List ℕ} → BeginsWithSettings body xs rest
-    → BeginsWith body ys more → length ys ≡ 193 → ⊥
+not_too_many : {body : List ℕ} {xs ys : List Setting} {rest more : List ℕ} → BeginsWithAllSettings body xs rest
+    → BeginsWithSettingLines body ys more → length ys ≡ 193 → ⊥
 not_too_many a b many = let few = a.few in let most = (lists_meet a b).0 in omega arith
 
-only_settings : (bytes : List ℕ) → IsOnly (SaysSettings bytes)
+only_settings : (bytes : List ℕ) → HasOneAnswer (IsSettingsAnswer bytes)
 only_settings bytes (Ok x) (Ok y) a b = grind (arith, lists_meet a b.lines)
 only_settings bytes (Ok x) (Err g) a b = absurd (not_too_many a b.0.2 b.0.3)
 only_settings bytes (Err f) (Ok y) a b = absurd (not_too_many b a.0.2 a.0.3)
 only_settings bytes (Err f) (Err g) a b = ap Err (a.1 ∙ sym b.1)
 
-only_card : (bytes : List ℕ) → IsOnly (SaysCard bytes)
+only_card : (bytes : List ℕ) → HasOneAnswer (IsCardAnswer bytes)
 only_card bytes =
-    only_then (only_finds _ (one_head bytes))
-    (λ head found. only_then (only_settings head.2)
-    (λ list begins. only_then (only_value false (codes "SETTINGS ") _ _ _)
-    (λ rest number. only_then (only_all_prices head.0 (length list.0 + 3) rest)
-    (λ prices all. only_then (only_value true (codes "SUM ") _ _ _)
-    (λ end sum. only_then (only_demands _ _) (λ none is. only_only _))))))
+    HasOneAnswer-ThenNext (HasOneAnswer-Finds _ (one_head bytes))
+    (λ head found. HasOneAnswer-ThenNext (only_settings head.2)
+    (λ list begins. HasOneAnswer-ThenNext (only_value false (codes "SETTINGS ") _ _ _)
+    (λ rest number. HasOneAnswer-ThenNext (only_all_prices head.0 (length list.0 + 3) rest)
+    (λ prices all. HasOneAnswer-ThenNext (only_value true (codes "SUM ") _ _ _)
+    (λ end sum. HasOneAnswer-ThenNext (HasOneAnswer-Demands _ _) (λ none is. HasOneAnswer-Yields _))))))
 
 says_itself : {bytes : List ℕ} {day : ℕ} {xs : List Setting} {prices : PriceParts} → IsCard bytes day xs prices
-    → SaysCard bytes (Ok (day, xs, prices))
+    → IsCardAnswer bytes (Ok (day, xs, prices))
 says_itself {bytes} {day} {xs} {prices} card =
     let answer : Result (ℕ × List Setting × PriceParts) CardFault = Ok (day, xs, prices) in
-    subst (λ t. SaysCard t answer) (append-nil bytes) (card_says [] card (Found tt refl refl))
+    subst (λ t. IsCardAnswer t answer) (append-nil bytes) (card_says [] card (GoesOn tt refl refl))
 
 -- ---- laws
 
 pub texts_tell_cards : TextsTellCards
 texts_tell_cards bytes day other xs ys prices others a b =
-    let same = same_ok (only_card bytes _ _ (says_itself a) (says_itself b)) in
+    let same = Yields-Ok (only_card bytes _ _ (says_itself a) (says_itself b)) in
     (ap (λ x. x.0) same, ap (λ x. x.1) same, ap (λ x. x.2) same)
 
 pub cards_are_said : CardsAreSaid
@@ -384,7 +394,7 @@ pub no_card_begins_another : NoCardBeginsAnother
 no_card_begins_another text [] day other xs ys prices others a b = refl
 no_card_begins_another text (byte ∷ rest) day other xs ys prices others a b =
     absurd (cards_have_no_fault (text ++ byte ∷ rest) other ys others Trailing b
-    (card_says (byte ∷ rest) a (Refused Trailing ((λ none e. cc), refl) refl)))
+    (card_says (byte ∷ rest) a (HasFault Trailing ((λ none e. cc), refl) refl)))
 
 pub one_card_fault : OneCardFault
 one_card_fault bytes fault other a b = let same = only_card bytes _ _ a b in cc

@@ -35,10 +35,10 @@ pub use Rattle.std.specs.List.{All, AllByRecursion, AllZip, IsDistinct, flat_map
 pub use Rattle.std.specs.{Option.option_map_or, Option.option_copied, Str.Parse.ParsesSigned, Str.Parse.digits_value}
 pub use Rattle.arrayvec.specs.ArrayString.{array_string_len}
 pub use Rattle.kd_card.specs.CardFault.{AtNothing, AtOther, BeginsWithHead, BeginsWithKinds, BeginsWithWord, EndsGroup}
-pub use Rattle.kd_card.specs.CardFault.{HasNoNext, HasWords, IsDigit, IsNextKind, IsNumberText, IsNumeral}
-pub use Rattle.kd_card.specs.CardFault.{SaysAllPrices, SaysBehind, SaysCard, SaysFirst, SaysGroup, SaysKinded, SaysLine}
-pub use Rattle.kd_card.specs.CardFault.{SaysNumbered, SaysPriceLine, SaysPrices, SaysSettings, SaysValue, floor_behind}
-pub use Rattle.kd_card.specs.CardFault.{with_line}
+pub use Rattle.kd_card.specs.CardFault.{HasNoNext, HasLineWords, IsDigit, IsNextKind, IsNumberText, IsNumeral}
+pub use Rattle.kd_card.specs.CardFault.{IsAllPricesAnswer, IsRestAnswer, IsCardAnswer, IsFirstWordAnswer, IsGroupAnswer}
+pub use Rattle.kd_card.specs.CardFault.{IsByKindPricesAnswer, IsLineAnswer, IsByNumberPricesAnswer, IsPriceLineAnswer}
+pub use Rattle.kd_card.specs.CardFault.{IsPricesAnswer, IsSettingsAnswer, IsValueAnswer, floor_behind, line_then}
 pub use Rattle.kd_card.specs.CardText.{HaveKinds, IsCard, IsGroup, card_text, column_name, column_word, group_of}
 pub use Rattle.kd_card.specs.CardText.{head_words, lines_text, price_count, price_lines, price_words, row_name}
 pub use Rattle.kd_card.specs.CardText.{row_word, settings_words, sum_words, version_text}
@@ -48,11 +48,14 @@ pub use Rattle.kd_card.specs.Kinds.{look_rank, look_text, name_text, pair_kind, 
 pub use Rattle.kd_card.specs.Laws.{CardsHaveNoFault, AsFewAreNeeded, FittingPricesBoundLists, NoCardBeginsAnother}
 pub use Rattle.kd_card.specs.Laws.{OneCardFault, ProvingCardsAreAsLong, ProvingCardsAreShortest, ProvingPricesAreTight}
 pub use Rattle.kd_card.specs.Laws.{RanksTellLooks, TextsTellCards, CardsAreSaid}
-pub use Rattle.kd_card.specs.Prices.{ArePrices, AreTight, AreWithinReach, Fits, IsTightAt, column_kinds, column_prices}
-pub use Rattle.kd_card.specs.Prices.{cost_at, how_many, price_at, price_sum, row_kinds, row_prices, version_of}
-pub use Rattle.kd_card.specs.Proving.{AreNeeded, AreOfKind, Expanded, IsNeeded, Same, is_priced, priced_count}
-pub use Rattle.kd_card.specs.Steps.{Demands, Found, Only, Refused, Then, IsOnly, only_demands, only_finds, only_only}
-pub use Rattle.kd_card.specs.Steps.{only_takes, only_then, passed, same_ok}
+pub use Rattle.kd_card.specs.Prices.{ArePrices, ArePricesTight, ArePricesInRange, PricesFit, IsPriceTightAt}
+pub use Rattle.kd_card.specs.Prices.{column_kinds, column_prices, cost_at, table_rows, price_at, price_sum, row_kinds}
+pub use Rattle.kd_card.specs.Prices.{row_prices, version_of}
+pub use Rattle.kd_card.specs.Proving.{AreSettingsNeeded, AreModelPrices, Expanded, IsSettingNeeded, Same}
+pub use Rattle.kd_card.specs.Proving.{is_priced_setting, priced_count}
+pub use Rattle.kd_card.specs.FirstFaults.{Demands, GoesOn, Yields, HasFault, ThenNext, HasOneAnswer}
+pub use Rattle.kd_card.specs.FirstFaults.{HasOneAnswer-Demands, HasOneAnswer-Finds, HasOneAnswer-Yields}
+pub use Rattle.kd_card.specs.FirstFaults.{HasOneAnswer-FindsAlways, HasOneAnswer-ThenNext, ThenNext-Ok, Yields-Ok}
 pub use Rattle.kd_card.specs.declared.fault.CardFault.TheVariants.{BadHead, BadLine, CountWrong, PriceMissing, TooMany}
 pub use Rattle.kd_card.specs.declared.fault.CardFault.TheVariants.{Trailing}
 pub use Rattle.kd_card.specs.declared.{group.Group.Group, kinds.PricedKind.PricedKind, look.Look.Look, look.Name.Name}
@@ -61,27 +64,28 @@ pub use Rattle.kd_card.specs.declared.look.Look.TheVariants.{Bar, Cable, Pair, R
 pub use Rattle.kd_card.specs.declared.prices.{PriceParts.PriceParts, Version.Version}
 pub use Rattle.kd_card.specs.declared.prices.PriceParts.TheVariants.{BarKinds, Bars, CableKinds, Cables}
 pub use Rattle.kd_card.specs.declared.prices.Version.TheVariants.{ByKind, ByNumber}
-pub use Rattle.kd_enigma.specs.Plugs.{letters_plugged}
-pub use Rattle.kd_state.proofs.Cables.{eqb_flips, free_tells, set_moves, with_moves, without_moves}
+pub use Rattle.kd_enigma.specs.Plugs.{letters_in_pairs}
+pub use Rattle.kd_state.proofs.Cables.{eqb_flips, has_letter-AllByRecursion, set_moves, with_moves, without_moves}
 pub use Rattle.kd_state.proofs.{Telling.Refusing.Changing.{no_reason, six_lists, still_before}, Slots.set_other}
-pub use Rattle.kd_state.proofs.Slots.{stands}
+pub use Rattle.kd_state.proofs.Slots.{IsNumbered-not_none}
 pub use Rattle.kd_state.proofs.{Cables.tests_tell_letters, CostTable.{sums_add, thirteen_columns}}
 pub use Rattle.kd_state.proofs.SortedAlike.{count_by-cons}
-pub use Rattle.kd_state.proofs.Lines.{figures, lines_split_into_words, not_longer, numbers_are_words, ok_part, same_end}
-pub use Rattle.kd_state.proofs.Lines.{same_place, text_of_more, parts_make_lines, texts_tell_first_parts, word_by_bytes}
-pub use Rattle.kd_state.proofs.Lines.{word_by_test, words_make_one_line}
-pub use Rattle.kd_state.proofs.Wheels.{days_wheels_have_their_places, named, told}
-pub use Rattle.kd_state.specs.ToldApart.{numbered, place_in_box, same_reflector, same_wheel}
-pub use Rattle.kd_state.specs.Costs.{bar_cost, cable_cost, column_letters, columns_of, cost_table, differ, loose_count}
-pub use Rattle.kd_state.specs.Costs.{loose_letters, loose_pin_letters, loose_pins, loose_reflector, loose_rings}
-pub use Rattle.kd_state.specs.Costs.{loose_slots, lugs_moved, unless_same}
-pub use Rattle.kd_state.specs.Line.{BeginsWith, BeginsWithNoLine, BeginsWithSettings, IsInRange, list_text}
-pub use Rattle.kd_state.specs.Line.{setting_line, setting_words}
-pub use Rattle.kd_state.specs.Machine.{IsLegal, IsMachine, cable_letters, letter_at, model_of, plugged_letters, ring_at}
-pub use Rattle.kd_state.specs.OnKey.{AreThePairs, IsJoined, IsPaired, ReadsAs, SameLetters}
-pub use Rattle.kd_state.specs.Setting.{Carries, Leads, cable_at, cable_with, cable_without, changed, has_letter}
-pub use Rattle.kd_state.specs.Setting.{reasons, seated_in, why_refused, with_letter, with_lug, without, Stands}
-pub use Rattle.kd_state.specs.Setting.{with_lug_at}
+pub use Rattle.kd_state.proofs.Lines.{IsNumeralModel-digits, lines_split_into_words, not_longer, numbers_are_words}
+pub use Rattle.kd_state.proofs.Lines.{ok_part, same_end, same_place, text_of_more, parts_make_lines}
+pub use Rattle.kd_state.proofs.Lines.{texts_tell_first_parts, word_by_bytes, word_by_test, words_make_one_line}
+pub use Rattle.kd_state.proofs.Wheels.{days_wheels_have_their_places, named_or, name-injective}
+pub use Rattle.kd_state.specs.SameParts.{numbered_item, place_in_box, same_reflector, same_wheel}
+pub use Rattle.kd_state.specs.Costs.{bar_cost, cable_cost, column_letters, columns_of, cost_table, exactly_one}
+pub use Rattle.kd_state.specs.Costs.{loose_count, loose_letters, loose_pin_letters, loose_pins, loose_reflector}
+pub use Rattle.kd_state.specs.Costs.{loose_rings, loose_slots, lugs_moved, one_unless}
+pub use Rattle.kd_state.specs.Line.{BeginsWithSettingLines, BeginsWithNoSetting, BeginsWithAllSettings}
+pub use Rattle.kd_state.specs.Line.{IsSettingInRange, list_text, setting_line, setting_words}
+pub use Rattle.kd_state.specs.Machine.{IsLegal, IsMachine, cable_letters, letter_at, model_of, letters_in_cables}
+pub use Rattle.kd_state.specs.Machine.{ring_at}
+pub use Rattle.kd_state.specs.OnKey.{AreThePairs, IsPairJoined, IsCablePaired, ReadsAs, HaveSameLetters}
+pub use Rattle.kd_state.specs.Setting.{Carries, Leads, cable_at, cable_with, cable_without, machine_after, has_letter}
+pub use Rattle.kd_state.specs.Setting.{refusal_reasons, wheel_in_slot, why_refused, letters_with, with_lug}
+pub use Rattle.kd_state.specs.Setting.{seat_without, HasLugsInOrder, bars_with_lug}
 pub use Rattle.kd_state.specs.SheetDay.{Day, IsLegalDay, OfPins, OfRotors, PinDay, RotorDay, day_model}
 pub use Rattle.kd_state.specs.Words.{IsFirstPart, IsWithout, IsWord, line_of, words_of}
 pub use Rattle.kd_state.specs.declared.{machine.parts.Parts.Parts, setting.Setting.Setting, setting.why.Why.Why}
@@ -94,5 +98,5 @@ pub use Rattle.kd_tables.specs.Places.{IsBefore, place_rank, place_text, places,
 pub use Rattle.kd_tables.specs.Tables.{reflector_text, reflectors_of, wheel_text}
 pub use Rattle.kd_tables.specs.declared.place.Place.TheVariants.{One}
 pub use lib.Pointwise.{pointwise}
-pub use Rattle.kd_card.specs.{Reading.EndsAt, Reading.IsBadAt, Reading.IsPriceText, Reading.words_behind}
+pub use Rattle.kd_card.specs.{Reading.EndsKindsAt, Reading.IsBadKindAt, Reading.IsPriceText, Reading.words_after_first}
 pub use Rattle.kd_card.specs.declared.fault.CardFault.{CardFault}

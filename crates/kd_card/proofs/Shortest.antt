@@ -7,41 +7,41 @@ use Rattle.kd_card.proofs.Prelude.{Option, Some, None, ℤ, refl, sym, ap, ◌�
 use Rattle.kd_card.proofs.Prelude.{flat_map, eq-eqb, All-contains, recursion_from_All, sum_by-cons, get_or-le-sum_by}
 use Rattle.kd_card.proofs.Prelude.{sum_by-IsPermutation, Contains-permutation, IsPermutation-refl, IsPermutation-sym}
 use Rattle.kd_card.proofs.Prelude.{IsPermutation-cons, IsPermutation-trans, IsPermutation-remove, Place, One, alphabet}
-use Rattle.kd_card.proofs.Prelude.{reading_of, IsBefore, letters_plugged, cable_letters, plugged_letters, has_letter}
-use Rattle.kd_card.proofs.Prelude.{SameLetters, IsPaired, IsJoined, AreThePairs, differ, cable_cost, bar_cost}
-use Rattle.kd_card.proofs.Prelude.{columns_of, tests_tell_letters, thirteen_columns, rules, Contains-append_right}
-use Rattle.kd_card.proofs.Prelude.{sum_by, Stands, Contains-tail, ◌<◌, Bool, pos, ◌+ℤ◌, ◌≤ℤ◌, ints, length_permutation}
-use Rattle.kd_card.proofs.Prelude.{All-permutation, Model, reflectors_of, Parts, Rotor, Pin, Setting, model_of}
-use Rattle.kd_card.proofs.Prelude.{IsMachine, Leads, changed, Day, OfRotors, OfPins, day_model, IsLegalDay, ReadsAs}
-use Rattle.kd_card.proofs.Prelude.{cost_table, loose_count, PriceParts, Cables, Bars, ArePrices, Fits, AreTight}
-use Rattle.kd_card.proofs.Prelude.{price_sum, is_priced, priced_count, AreOfKind, IsNeeded, AreNeeded, Same, Expanded}
+use Rattle.kd_card.proofs.Prelude.{reading_of, IsBefore, letters_in_pairs, cable_letters, letters_in_cables, has_letter}
+use Rattle.kd_card.proofs.Prelude.{HaveSameLetters, IsCablePaired, IsPairJoined, AreThePairs, exactly_one, cable_cost}
+use Rattle.kd_card.proofs.Prelude.{bar_cost, columns_of, tests_tell_letters, thirteen_columns, rules}
+use Rattle.kd_card.proofs.Prelude.{Contains-append_right, sum_by, HasLugsInOrder, Contains-tail, ◌<◌, Bool, pos, ◌+ℤ◌}
+use Rattle.kd_card.proofs.Prelude.{◌≤ℤ◌, ints, length_permutation, All-permutation, Model, reflectors_of, Parts, Rotor}
+use Rattle.kd_card.proofs.Prelude.{Pin, Setting, model_of, IsMachine, Leads, machine_after, Day, OfRotors, OfPins}
+use Rattle.kd_card.proofs.Prelude.{day_model, IsLegalDay, ReadsAs, cost_table, loose_count, PriceParts, Cables, Bars}
+use Rattle.kd_card.proofs.Prelude.{ArePrices, PricesFit, ArePricesTight, price_sum, is_priced_setting, priced_count}
+use Rattle.kd_card.proofs.Prelude.{AreModelPrices, IsSettingNeeded, AreSettingsNeeded, Same, Expanded}
 use Rattle.kd_card.proofs.Prelude.{FittingPricesBoundLists, ProvingCardsAreAsLong, ProvingCardsAreShortest}
 use Rattle.kd_card.proofs.Prelude.{ProvingPricesAreTight, get_or_default, get_or-map, length-zip, get_or-zip}
-use Rattle.kd_card.proofs.Prelude.{AsFewAreNeeded, why_refused, IsTightAt, column_prices, cost_at, how_many, price_at}
-use Rattle.kd_card.proofs.Prelude.{row_prices, All-from_get_or, Contains-get_or}
-use Rattle.kd_card.proofs.Prelude.{AllZip-long, length-map}
+use Rattle.kd_card.proofs.Prelude.{AsFewAreNeeded, why_refused, IsPriceTightAt, column_prices, cost_at, table_rows}
+use Rattle.kd_card.proofs.Prelude.{price_at, row_prices, All-from_get_or, Contains-get_or, AllZip-long, length-map}
 use Rattle.{kd_state.specs.Costs.standings_as, std.proofs.lemmas.List.Edits.length-remove}
 use Rattle.kd_card.proofs.Duality.{pairing_cost, reordered, fold_of_both, prices_moved, fitting_prices, tight_at}
 use Rattle.kd_card.proofs.Duality.{sum_of, prices_with, FitTogether, FitAll}
 use Rattle.kd_card.proofs.Counts.{times, times-append, AreOnce, once_of_distinct}
-use Rattle.kd_card.proofs.Falling.{HasCables, HasBars, not_differing, machines_have_all, list_keeps, left, lowers}
-use Rattle.kd_card.proofs.Falling.{leaves, model_of-changed, nothing_loose}
+use Rattle.kd_card.proofs.Falling.{HasCables, HasBars, not_differing, machines_have_all, list_keeps, left_to_do}
+use Rattle.kd_card.proofs.Falling.{left_to_do-lowered, loose_count-priced, model_of-changed, nothing_loose}
 use Rattle.kd_tables.specs.declared.{model.Model.TheVariants.M209, reflector.Reflector.Reflector}
 
 -- A cable with the letters of its column costs nothing.
 none_differ : (xs ys : List ℕ) → ((letter : ℕ) → has_letter xs letter ≡ has_letter ys letter) → (letters : List ℕ)
-    → count_by (λ letter. differ (has_letter xs letter) (has_letter ys letter)) letters ≡ 0
+    → count_by (λ letter. exactly_one (has_letter xs letter) (has_letter ys letter)) letters ≡ 0
 none_differ xs ys same [] = refl
 none_differ xs ys same (letter ∷ letters) =
-    count_by-cons (λ letter. differ (has_letter xs letter) (has_letter ys letter)) letter letters
+    count_by-cons (λ letter. exactly_one (has_letter xs letter) (has_letter ys letter)) letter letters
     ∙ rw (same letter, not_differing (has_letter ys letter), none_differ xs ys same letters) refl
 
 abbrev CostsNothing : Option ℕ × Option ℕ → Option (ℕ × ℕ) → Type 0
 CostsNothing cable column = cable_cost cable column ≡ 0
 
 -- A letter of a list is counted at least once.
-counted : (letters : List ℕ) (letter : ℕ) → Contains letters letter → 1 ≤ times letter letters
-counted letters letter there =
+times-positive : (letters : List ℕ) (letter : ℕ) → Contains letters letter → 1 ≤ times letter letters
+times-positive letters letter there =
     let here = ap (λ b. cond {A = ℕ} b 1 0) (eq-eqb letter (get_or letters there.0 letter) (sym there.2)) in
     omega (arith, get_or-le-sum_by (λ other. cond (nat_eq letter other) 1 0) letters there.0 letter there.1)
 
@@ -70,20 +70,20 @@ module _ {X : Type 0} (letters_of : X → List ℕ) where
   in_one x xs other letter once here among there =
       let same = ap (λ y. times letter (letters_of y)) among.2 in
       let later = get_or-le-sum_by (λ y. times letter (letters_of y)) xs among.0 other among.1 in
-      let first = counted (letters_of x) letter here in
-      let second = counted (letters_of other) letter there in
+      let first = times-positive (letters_of x) letter here in
+      let second = times-positive (letters_of other) letter there in
       omega (arith, once letter, times-append letter (letters_of x) (flat_map letters_of xs), times-flat_map letter xs)
 
 abbrev pair_letters : ℕ × ℕ → List ℕ
 pair_letters pair = pair.0 ∷ pair.1 ∷ []
 
 abbrev HasPair : Option ℕ × Option ℕ → ℕ × ℕ → Type 0
-HasPair cable pair = SameLetters (cable_letters cable) (pair_letters pair)
+HasPair cable pair = HaveSameLetters (cable_letters cable) (pair_letters pair)
 
 -- Each cable that isn't empty has the letters of a pair, and each pair has a cable with its letters.
 pub record AreMatched (cables : List (Option ℕ × Option ℕ)) (pairs : List (ℕ × ℕ)) : Type 0 where
-  pub cables_once : AreOnce (plugged_letters cables)
-  pub pairs_once : AreOnce (letters_plugged pairs)
+  pub cables_once : AreOnce (letters_in_cables cables)
+  pub pairs_once : AreOnce (letters_in_pairs pairs)
   pub pair : (cable : Option ℕ × Option ℕ) → Contains cables cable → cable_letters cable ≢ []
       → (pair : ℕ × ℕ) × Contains pairs pair × HasPair cable pair
   pub cable : (pair : ℕ × ℕ) → Contains pairs pair
@@ -93,7 +93,7 @@ pub record AreMatched (cables : List (Option ℕ × Option ℕ)) (pairs : List (
 module _ (cables rest : List (Option ℕ × Option ℕ)) (cable : Option ℕ × Option ℕ) (pair : ℕ × ℕ) (pairs : List (ℕ × ℕ))
     (order : IsPermutation cables (cable ∷ rest)) (h : AreMatched cables (pair ∷ pairs))
     (here : HasPair cable pair) where
-  once_in_order : AreOnce (plugged_letters (cable ∷ rest))
+  once_in_order : AreOnce (letters_in_cables (cable ∷ rest))
   once_in_order = once_moved cable_letters cables (cable ∷ rest) order h.cables_once
 
   pair_of_rest : (other : Option ℕ × Option ℕ) → Contains rest other → cable_letters other ≢ []
@@ -123,9 +123,14 @@ module _ (cables rest : List (Option ℕ × Option ℕ)) (cable : Option ℕ × 
   rest_matched : AreMatched rest pairs
   rest_matched = record {
     cables_once =
-        λ letter. omega (arith, once_in_order letter, times-append letter (cable_letters cable) (plugged_letters rest));
+        λ letter. omega (
+          arith,
+          once_in_order letter,
+          times-append letter (cable_letters cable)
+              (letters_in_cables rest),
+        );
     pairs_once =
-        λ letter. omega (arith, h.pairs_once letter, times-append letter (pair_letters pair) (letters_plugged pairs));
+        λ letter. omega (arith, h.pairs_once letter, times-append letter (pair_letters pair) (letters_in_pairs pairs));
     pair = pair_of_rest;
     cable = cable_of_rest;
   }
@@ -146,23 +151,23 @@ all_empty (cable ∷ cables) (suc number) e h =
 all_empty cables number e h = absurd (omega arith)
 
 -- The cables have an order in which each costs nothing at its column.
-pub matched : (cables : List (Option ℕ × Option ℕ)) (pairs : List (ℕ × ℕ)) (nothings : ℕ)
+pub cables-matched : (cables : List (Option ℕ × Option ℕ)) (pairs : List (ℕ × ℕ)) (nothings : ℕ)
     → length cables ≡ length pairs + nothings → AreMatched cables pairs
     → (others : List (Option ℕ × Option ℕ)) × IsPermutation cables others
     × AllZip CostsNothing others (map Some pairs ++ replicate nothings None)
-matched cables [] nothings e h = (
+cables-matched cables [] nothings e h = (
   cables,
   IsPermutation-refl cables,
   all_empty cables nothings (omega arith)
       (λ cable among some. let found = h.pair cable among some in omega (arith, found.1.1)),
 )
-matched cables (pair ∷ pairs) nothings e h =
+cables-matched cables (pair ∷ pairs) nothings e h =
     let found = h.cable pair (zero, omega arith, refl) in
     let rest = remove cables found.1.0 in
     let order = IsPermutation-remove cables found.1.0 found.0 found.1.1 (sym found.1.2) in
     let fewer = length-remove cables found.1.0 found.1.1 in
     let further =
-    matched rest pairs nothings (omega arith) (rest_matched cables rest found.0 pair pairs order h found.2) in (
+    cables-matched rest pairs nothings (omega arith) (rest_matched cables rest found.0 pair pairs order h found.2) in (
       found.0 ∷ further.0,
       IsPermutation-trans cables (found.0 ∷ rest) (found.0 ∷ further.0) order
           (IsPermutation-cons found.0 rest further.0 further.1),
@@ -203,19 +208,19 @@ with_prices R (x ∷ xs) (column ∷ columns) [] e h = absurd (omega arith)
 with_prices R xs columns prices e h = absurd h
 
 pub cables_paired : (cables : List (Option ℕ × Option ℕ)) (pairs : List (ℕ × ℕ)) (prices : List ℤ) → HasCables cables
-    → AreOnce (letters_plugged pairs) → length pairs ≤ 13 → length prices ≡ 13
+    → AreOnce (letters_in_pairs pairs) → length pairs ≤ 13 → length prices ≡ 13
     → AreThePairs cables pairs → FreePairing cable_cost cables (columns_of pairs) prices
 cables_paired cables pairs prices has once few count h =
     let matching : AreMatched cables pairs = record {
-      cables_once = once_of_distinct (plugged_letters cables) has.apart;
+      cables_once = once_of_distinct (letters_in_cables cables) has.apart;
       pairs_once = once;
-      pair = λ cable among some. let any = (All-contains (IsPaired pairs) cables cable h.pair among).joins some in
+      pair = λ cable among some. let any = (All-contains (IsCablePaired pairs) cables cable h.pair among).joins some in
           (any.1, (any.0, any.2, any.3), any.4.letters);
-      cable = λ pair among. let any = (All-contains (IsJoined cables) pairs pair h.cable among).joins in
+      cable = λ pair among. let any = (All-contains (IsPairJoined cables) pairs pair h.cable among).joins in
           (any.1, (any.0, any.2, any.3), any.4.letters);
     }
     in
-    let there = matched cables pairs (13 - length pairs) (omega (arith, has.count)) matching in
+    let there = cables-matched cables pairs (13 - length pairs) (omega (arith, has.count)) matching in
     let beside = reordered (λ cable (w : Option (ℕ × ℕ) × ℤ). CostsNothing cable w.0) there.0 cables
     (zip (columns_of pairs) prices) (IsPermutation-sym cables there.0 there.1)
     (with_prices CostsNothing there.0 (columns_of pairs) prices (omega (arith, thirteen_columns pairs few)) there.2) in
@@ -229,15 +234,15 @@ own_row One One before = absurd (omega arith)
 own_row left One before = absurd (omega arith)
 own_row left right before = first_of (search rules, omega arith)
 
-abbrev reading : Place × Place → ℕ × ℕ
-reading bar = reading_of bar.0 bar.1
+abbrev reading_of_standing : Place × Place → ℕ × ℕ
+reading_of_standing bar = reading_of bar.0 bar.1
 
 pub each_itself : {X : Type 0} (xs : List X) → AllZip (λ x (other : X). x ≡ other) xs xs
 each_itself [] = tt
 each_itself (x ∷ xs) = (refl, each_itself xs)
 
-free_rows : (bars : List (Place × Place)) (ws : List ((ℕ × ℕ) × ℤ)) → AllByRecursion Stands bars
-    → AllZip (λ row (w : (ℕ × ℕ) × ℤ). row ≡ w.0) (map reading bars) ws
+free_rows : (bars : List (Place × Place)) (ws : List ((ℕ × ℕ) × ℤ)) → AllByRecursion HasLugsInOrder bars
+    → AllZip (λ row (w : (ℕ × ℕ) × ℤ). row ≡ w.0) (map reading_of_standing bars) ws
     → AllZip (λ bar (w : (ℕ × ℕ) × ℤ). bar_cost bar w.0 ≡ 0) bars ws
 free_rows [] [] stand h = tt
 free_rows (bar ∷ bars) (w ∷ ws) stand h =
@@ -248,11 +253,11 @@ pub bars_paired : (bars : List (Place × Place)) (rows : List (ℕ × ℕ)) (pri
     → length rows ≡ length prices → IsPermutation (map (λ bar. reading_of bar.0 bar.1) bars) rows
     → FreePairing bar_cost bars rows prices
 bars_paired bars rows prices has count h =
-    let beside = reordered (λ row (w : (ℕ × ℕ) × ℤ). row ≡ w.0) rows (map reading bars) (zip rows prices)
-    (IsPermutation-sym (map reading bars) rows h)
+    let beside = reordered (λ row (w : (ℕ × ℕ) × ℤ). row ≡ w.0) rows (map reading_of_standing bars) (zip rows prices)
+    (IsPermutation-sym (map reading_of_standing bars) rows h)
     (with_prices (λ row (other : ℕ × ℕ). row ≡ other) rows rows prices count (each_itself rows)) in
-    let many = AllZip-long _ (map reading bars) beside.0 beside.2 ∙ length-map bars reading in
-    let rows_free = free_rows bars beside.0 (recursion_from_All Stands bars has.stand) beside.2 in
+    let many = AllZip-long _ (map reading_of_standing bars) beside.0 beside.2 ∙ length-map bars reading_of_standing in
+    let rows_free = free_rows bars beside.0 (recursion_from_All HasLugsInOrder bars has.stand) beside.2 in
     record { beside = beside.0; order = beside.1; count = many; free = free_of_all bar_cost bars beside.0 rows_free }
 
 -- ---- each setting does one thing at most
@@ -263,19 +268,20 @@ model_of-list m n (x ∷ xs) h = model_of-list h.0 n xs h.2 ∙ ap model_of h.1.
 
 module _ (columns : List (Option (ℕ × ℕ) × ℤ)) (rows : List ((ℕ × ℕ) × ℤ)) (s : Day) (legal : IsLegalDay s) where
   list_lowers : (m n : Parts) (xs : List Setting) → model_of m ≡ day_model s → Leads m xs n
-      → left columns rows m s ≤ left columns rows n s + length xs
-  list_lowers m n [] same h = subst (λ n. left columns rows m s ≤ left columns rows n s + 0) (sym h) (omega arith)
+      → left_to_do columns rows m s ≤ left_to_do columns rows n s + length xs
+  list_lowers m n [] same h = subst (λ n. left_to_do columns rows m s ≤ left_to_do columns rows n s + 0) (sym h)
+      (omega arith)
   list_lowers m n (x ∷ xs) same h =
       let rest = list_lowers h.0 n xs (ap model_of h.1.made ∙ model_of-changed m x ∙ same) h.2 in
-      let made = ap (λ between. left columns rows between s) h.1.made in
-      omega (arith, rest, lowers columns rows m s x legal same h.1.allowed)
+      let made = ap (λ between. left_to_do columns rows between s) h.1.made in
+      omega (arith, rest, left_to_do-lowered columns rows m s x legal same h.1.allowed)
 
 -- ---- fitting prices, and an assignment that the settings pay for
 
 -- An item of a list is also in each other order of the list.
-placed : {X : Type 0} (xs ys : List X) (i : ℕ) (d : X) → IsPermutation xs ys → i < length ys
+IsPermutation-place : {X : Type 0} (xs ys : List X) (i : ℕ) (d : X) → IsPermutation xs ys → i < length ys
     → (j : ℕ) × (j < length xs) × (get_or ys i d ≡ get_or xs j d)
-placed xs ys i d order lt =
+IsPermutation-place xs ys i d order lt =
     let there =
     Contains-permutation ys xs (get_or ys i d) (IsPermutation-sym xs ys order) (Contains-get_or ys i d lt) in
     (there.0, there.1, sym there.2 ∙ get_or_default xs there.0 (get_or ys i d) d there.1)
@@ -284,11 +290,13 @@ placed xs ys i d order lt =
 -- somewhere.
 pub record AreBounds (costs : List (List ℕ)) (prices : PriceParts) (loose lines : ℕ) : Type 0 where
   pub bound : (pos loose +ℤ price_sum prices) ≤ℤ pos lines
-  pub tight : pos lines ≡ (pos loose +ℤ price_sum prices) → AreTight costs prices
+  pub tight : pos lines ≡ (pos loose +ℤ price_sum prices) → ArePricesTight costs prices
 
 module _ {A B : Type 0} (a : A) (b : B) (cost : A → B → ℕ) (rows : List A) (columns : List B) (prices : PriceParts)
-    (loose lines : ℕ) (rows_count : length rows ≡ how_many prices) (columns_count : length columns ≡ how_many prices)
-    (are : ArePrices prices) (fits : Fits (map (λ row. map (cost row) columns) rows) prices) (beside : List (B × ℤ))
+    (loose lines : ℕ) (rows_count : length rows ≡ table_rows prices)
+    (columns_count : length columns ≡ table_rows prices)
+    (are : ArePrices prices) (fits : PricesFit (map (λ row. map (cost row) columns) rows) prices)
+    (beside : List (B × ℤ))
     (order : IsPermutation (zip columns (column_prices prices)) beside)
     (enough : loose + pairing_cost cost rows beside ≤ lines) where
   abbrev costs : List (List ℕ)
@@ -297,26 +305,26 @@ module _ {A B : Type 0} (a : A) (b : B) (cost : A → B → ℕ) (rows : List A)
   abbrev priced : List (B × ℤ)
   priced = zip columns (column_prices prices)
 
-  zipped : length priced ≡ how_many prices
+  zipped : length priced ≡ table_rows prices
   zipped = omega (arith, length-zip columns (column_prices prices), are.columns)
 
-  size : length beside ≡ how_many prices
+  size : length beside ≡ table_rows prices
   size = length_permutation priced beside order ∙ zipped
 
-  column : (j : ℕ) → j < how_many prices
+  column : (j : ℕ) → j < table_rows prices
       → get_or priced j (b, pos 0) ≡ (get_or columns j b, price_at (column_prices prices) j)
   column j lt = get_or-zip columns (column_prices prices) j (b, pos 0) (omega arith) (omega (arith, are.columns))
 
-  at : (i j : ℕ) → i < how_many prices → j < how_many prices
+  at : (i j : ℕ) → i < table_rows prices → j < table_rows prices
       → cost_at costs i j ≡ cost (get_or rows i a) (get_or columns j b)
   at i j lt lt' = grind (arith, get_or-map)
 
   fit : FitAll cost a rows (row_prices prices) beside
   fit i lt =
       let fits_here = FitTogether cost (get_or rows i a) (get_or (row_prices prices) i (pos 0)) in
-      let inside : i < how_many prices = omega arith in
+      let inside : i < table_rows prices = omega arith in
       All-permutation fits_here priced beside order (All-from_get_or fits_here priced (b, pos 0) (λ j lt'.
-      let within : j < how_many prices = omega (arith, zipped) in
+      let within : j < table_rows prices = omega (arith, zipped) in
       rw (column j within, ← at i j inside within) (fits i j inside within)))
 
   sums : price_sum prices ≡ (sum_of (row_prices prices) +ℤ prices_with beside)
@@ -333,8 +341,8 @@ module _ {A B : Type 0} (a : A) (b : B) (cost : A → B → ℕ) (rows : List A)
 
   module _ (exact : pos lines ≡ (pos loose +ℤ price_sum prices)) where
     -- The column at place `j` is beside the row at place `i`.
-    tight_where : (i j : ℕ) → i < how_many prices → j < how_many prices
-        → get_or beside i (b, pos 0) ≡ get_or priced j (b, pos 0) → IsTightAt costs prices i j
+    tight_where : (i j : ℕ) → i < table_rows prices → j < table_rows prices
+        → get_or beside i (b, pos 0) ≡ get_or priced j (b, pos 0) → IsPriceTightAt costs prices i j
     tight_where i j lt lt' e =
         let all = sum_of (row_prices prices) +ℤ prices_with beside in
         let due : pos (pairing_cost cost rows beside) ≤ℤ all = omega (arith, ints, sums) in
@@ -343,16 +351,17 @@ module _ {A B : Type 0} (a : A) (b : B) (cost : A → B → ℕ) (rows : List A)
         fit due (omega arith) in
         rw (at i j lt lt') (rw (e ∙ column j lt') at tight)
 
-    column_for : (i : ℕ) → i < how_many prices → (j : ℕ) × (j < how_many prices) × IsTightAt costs prices i j
+    column_for : (i : ℕ) → i < table_rows prices → (j : ℕ) × (j < table_rows prices) × IsPriceTightAt costs prices i j
     column_for i lt =
-        let there = placed priced beside i (b, pos 0) order (omega (arith, size)) in
-        let inside : there.0 < how_many prices = omega (arith, there.1, zipped) in
+        let there = IsPermutation-place priced beside i (b, pos 0) order (omega (arith, size)) in
+        let inside : there.0 < table_rows prices = omega (arith, there.1, zipped) in
         (there.0, inside, tight_where i there.0 lt inside there.2)
 
-    row_for : (j : ℕ) → j < how_many prices → (i : ℕ) × (i < how_many prices) × IsTightAt costs prices i j
+    row_for : (j : ℕ) → j < table_rows prices → (i : ℕ) × (i < table_rows prices) × IsPriceTightAt costs prices i j
     row_for j lt =
-        let there = placed beside priced j (b, pos 0) (IsPermutation-sym priced beside order) (omega (arith, zipped)) in
-        let inside : there.0 < how_many prices = omega (arith, there.1, size) in
+        let there = IsPermutation-place beside priced j (b, pos 0) (IsPermutation-sym priced beside order)
+        (omega (arith, zipped)) in
+        let inside : there.0 < table_rows prices = omega (arith, there.1, size) in
         (there.0, inside, tight_where there.0 j inside lt (sym there.2))
 
   pub bounded : AreBounds costs prices loose lines
@@ -364,21 +373,21 @@ pub no_rotors : (model : Model) (reflector : Reflector) → model ≡ M209 → C
 no_rotors model reflector e h =
     let none = subst (λ model. Contains (reflectors_of model) reflector) e h in omega (arith, none.1)
 
-bounds : (m n : Parts) (s : Day) (prices : PriceParts) (settings : List Setting) → IsMachine m → IsLegalDay s
+AreBounds-prices : (m n : Parts) (s : Day) (prices : PriceParts) (settings : List Setting) → IsMachine m → IsLegalDay s
     → ArePrices prices
-    → AreOfKind m prices → Fits (cost_table m s) prices → Leads m settings n → ReadsAs n s
+    → AreModelPrices m prices → PricesFit (cost_table m s) prices → Leads m settings n → ReadsAs n s
     → AreBounds (cost_table m s) prices (loose_count m s) (length settings)
-bounds (Rotor m) (Rotor n) (OfRotors s) (Cables row column) settings machine legal are kind fits leads reads =
+AreBounds-prices (Rotor m) (Rotor n) (OfRotors s) (Cables row column) settings machine legal are kind fits leads reads =
     let at_first = machines_have_all (Rotor m) machine.legal in
     let at_last = list_keeps (Rotor m) (Rotor n) settings leads at_first in
-    let once = once_of_distinct (letters_plugged s.pairs) legal.pairs.apart in
+    let once = once_of_distinct (letters_in_pairs s.pairs) legal.pairs.apart in
     let pairing = cables_paired n.cables s.pairs column at_last once legal.pairs.few are.columns reads.key.cables in
     let same = sym (model_of-list (Rotor m) (Rotor n) settings leads) ∙ reads.key.model in
     let falling = list_lowers pairing.beside [] (OfRotors s) legal (Rotor m) (Rotor n) settings same leads in
     bounded (None, None) None cable_cost m.cables (columns_of s.pairs) (Cables row column)
     (loose_count (Rotor m) (OfRotors s)) (length settings) at_first.count (thirteen_columns s.pairs legal.pairs.few) are
     fits pairing.beside pairing.order (omega (arith, falling, pairing.free, nothing_loose (Rotor n) (OfRotors s) reads))
-bounds (Pin m) (Pin n) (OfPins s) (Bars row column) settings machine legal are kind fits leads reads =
+AreBounds-prices (Pin m) (Pin n) (OfPins s) (Bars row column) settings machine legal are kind fits leads reads =
     let at_first = machines_have_all (Pin m) machine.legal in
     let at_last = list_keeps (Pin m) (Pin n) settings leads at_first in
     let pairing = bars_paired n.bars s.rows column at_last (legal.count ∙ sym are.columns) reads.key.rows in
@@ -386,64 +395,72 @@ bounds (Pin m) (Pin n) (OfPins s) (Bars row column) settings machine legal are k
     bounded (One, One) (0, 0) bar_cost m.bars s.rows (Bars row column) (loose_count (Pin m) (OfPins s))
     (length settings) at_first.count legal.count are fits pairing.beside pairing.order
     (omega (arith, falling, pairing.free, nothing_loose (Pin n) (OfPins s) reads))
-bounds (Rotor m) (Pin n) (OfPins s) prices settings machine legal are kind fits leads reads =
+AreBounds-prices (Rotor m) (Pin n) (OfPins s) prices settings machine legal are kind fits leads reads =
     absurd (no_rotors m.model m.reflector (sym (model_of-list (Rotor m) (Pin n) settings leads))
     machine.legal.reflector)
-bounds (Pin m) (Rotor n) (OfRotors s) prices settings machine legal are kind fits leads reads =
+AreBounds-prices (Pin m) (Rotor n) (OfRotors s) prices settings machine legal are kind fits leads reads =
     absurd (no_rotors s.model s.reflector (sym reads.key.model ∙ model_of-list (Pin m) (Rotor n) settings leads)
     legal.reflector)
-bounds m (Pin n) (OfRotors s) prices settings machine legal are kind fits leads reads = absurd reads.key
-bounds m (Rotor n) (OfPins s) prices settings machine legal are kind fits leads reads = absurd reads.key
-bounds m n s prices settings machine legal are kind fits leads reads = absurd kind
+AreBounds-prices m (Pin n) (OfRotors s) prices settings machine legal are kind fits leads reads = absurd reads.key
+AreBounds-prices m (Rotor n) (OfPins s) prices settings machine legal are kind fits leads reads = absurd reads.key
+AreBounds-prices m n s prices settings machine legal are kind fits leads reads = absurd kind
 
 pub fitting_prices_bound_lists : FittingPricesBoundLists
 fitting_prices_bound_lists m s prices settings machine legal are kind fits reached =
-    (bounds m reached.0 s prices settings machine legal are kind fits reached.1 reached.2).bound
+    (AreBounds-prices m reached.0 s prices settings machine legal are kind fits reached.1 reached.2).bound
 
 -- If each setting is needed, the settings are as many as the loose things and the priced settings.
-needed_one : (m : Parts) (s : Day) (x : Setting) (b : Bool) → is_priced x ≡ b → IsNeeded m s x
-    → loose_count m s + cond b 1 0 ≡ loose_count (changed m x) s + 1
-needed_one m s x b e d = grind (arith, leaves)
+needed_one : (m : Parts) (s : Day) (x : Setting) (b : Bool) → is_priced_setting x ≡ b → IsSettingNeeded m s x
+    → loose_count m s + cond b 1 0 ≡ loose_count (machine_after m x) s + 1
+needed_one m s x b e d = grind (arith, loose_count-priced)
 
-needed_all : (m n : Parts) (s : Day) (xs : List Setting) → Leads m xs n → AreNeeded m s xs
+needed_all : (m n : Parts) (s : Day) (xs : List Setting) → Leads m xs n → AreSettingsNeeded m s xs
     → loose_count m s + priced_count xs ≡ loose_count n s + length xs
 needed_all m n s [] leads needed = subst (λ n. loose_count m s + 0 ≡ loose_count n s + 0) (sym leads) refl
 needed_all m n s (x ∷ xs) leads needed =
-    let rest = needed_all (changed m x) n s xs (subst (λ between. Leads between xs n) leads.1.made leads.2) needed.1 in
-    omega (arith, needed_one m s x (is_priced x) refl needed.0, count_by-cons is_priced x xs, rest)
+    let rest = needed_all (machine_after m x) n s xs (subst (λ between. Leads between xs n) leads.1.made leads.2)
+    needed.1 in
+    omega (arith, needed_one m s x (is_priced_setting x) refl needed.0, count_by-cons is_priced_setting x xs, rest)
 
 -- A setting that changes no cable and no bar makes at most one thing less loose.
-either : (b : Bool) → cond {A = ℕ} b 1 0 + cond {A = ℕ} b 0 1 ≡ 1
-either b = grind arith
+cond-one_or_other : (b : Bool) → cond {A = ℕ} b 1 0 + cond {A = ℕ} b 0 1 ≡ 1
+cond-one_or_other b = grind arith
 
-unpriced : {X Y : Type 0} (f : X × Y → ℕ) (xs : List X) → sum_by f (zip xs []) ≡ 0
-unpriced f [] = refl
-unpriced f (x ∷ xs) = refl
+sum_by-zip_nil : {X Y : Type 0} (f : X × Y → ℕ) (xs : List X) → sum_by f (zip xs []) ≡ 0
+sum_by-zip_nil f [] = refl
+sum_by-zip_nil f (x ∷ xs) = refl
 
 module _ (s : Day) (legal : IsLegalDay s) where
   loose_falls : (m : Parts) (x : Setting) → model_of m ≡ day_model s → why_refused m x ≡ None
-      → loose_count m s ≤ loose_count (changed m x) s + cond (is_priced x) 0 1
-  loose_falls m x same allowed = grind (arith, lowers [] [] m s x legal same allowed, leaves m s x, unpriced)
+      → loose_count m s ≤ loose_count (machine_after m x) s + cond (is_priced_setting x) 0 1
+  loose_falls m x same allowed = grind
+      (arith, left_to_do-lowered [] [] m s x legal same allowed, loose_count-priced m s x, sum_by-zip_nil)
 
   no_fewer : (m n : Parts) (xs : List Setting) → model_of m ≡ day_model s → Leads m xs n
       → loose_count m s + priced_count xs ≤ loose_count n s + length xs
   no_fewer m n [] same leads = subst (λ n. loose_count m s + 0 ≤ loose_count n s + 0) (sym leads) (omega arith)
   no_fewer m n (x ∷ xs) same leads =
-      let rest = no_fewer (changed m x) n xs (model_of-changed m x ∙ same)
+      let rest = no_fewer (machine_after m x) n xs (model_of-changed m x ∙ same)
       (subst (λ between. Leads between xs n) leads.1.made leads.2) in
-      omega (arith, rest, loose_falls m x same leads.1.allowed, count_by-cons is_priced x xs, either (is_priced x))
+      omega (
+        arith,
+        rest,
+        loose_falls m x same leads.1.allowed,
+        count_by-cons is_priced_setting x xs,
+        cond-one_or_other (is_priced_setting x),
+      )
 
   needed_in_turn : (m n : Parts) (xs : List Setting) → model_of m ≡ day_model s → Leads m xs n → loose_count n s ≡ 0
-      → length xs ≤ loose_count m s + priced_count xs → AreNeeded m s xs
+      → length xs ≤ loose_count m s + priced_count xs → AreSettingsNeeded m s xs
   needed_in_turn m n [] same leads none few = tt
   needed_in_turn m n (x ∷ xs) same leads none few =
       let then_same = model_of-changed m x ∙ same in
       let after = subst (λ between. Leads between xs n) leads.1.made leads.2 in
-      let rest = no_fewer (changed m x) n xs then_same after in
+      let rest = no_fewer (machine_after m x) n xs then_same after in
       let one = loose_falls m x same leads.1.allowed in
-      let head = count_by-cons is_priced x xs in (
-        λ unpriced. grind (arith, either),
-        needed_in_turn (changed m x) n xs then_same after none (grind (arith, leaves m s x)),
+      let head = count_by-cons is_priced_setting x xs in (
+        λ unpriced. grind (arith, cond-one_or_other),
+        needed_in_turn (machine_after m x) n xs then_same after none (grind (arith, loose_count-priced m s x)),
       )
 
 pub as_few_are_needed : AsFewAreNeeded
@@ -471,5 +488,5 @@ proving_cards_are_shortest m s settings prices machine legal are_prices h others
 
 pub proving_prices_are_tight : ProvingPricesAreTight
 proving_prices_are_tight m s settings prices machine legal are h =
-    (bounds m h.leads.0 s prices settings machine legal are h.kind h.fits h.leads.1 h.leads.2).tight
+    (AreBounds-prices m h.leads.0 s prices settings machine legal are h.kind h.fits h.leads.1 h.leads.2).tight
     (proving_cards_are_as_long m s settings prices h)

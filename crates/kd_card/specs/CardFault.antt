@@ -4,7 +4,7 @@ use Rattle.std.specs.Prelude.{Bool, true, false, Ok, Err}
 use Rattle.std.specs.Fmt.{signed_decimal}
 use Rattle.kd_state.specs.declared.setting.Setting.{Setting}
 use Rattle.kd_state.specs.Words.{words_of, line_of, IsFirstPart}
-use Rattle.kd_state.specs.Line.{BeginsWith, BeginsWithSettings}
+use Rattle.kd_state.specs.Line.{BeginsWithSettingLines, BeginsWithAllSettings}
 use Rattle.kd_state.specs.SheetDay.{IsDayNumber}
 use Rattle.kd_card.specs.declared.prices.PriceParts.{PriceParts}
 use Rattle.kd_card.specs.declared.prices.PriceParts.TheVariants.{Cables, Bars}
@@ -17,10 +17,10 @@ use Rattle.kd_card.specs.declared.kinds.PricedKind.{PricedKind}
 use Rattle.kd_card.specs.declared.fault.CardFault.{CardFault}
 use Rattle.kd_card.specs.declared.fault.CardFault.TheVariants.{BadHead, BadLine, TooMany, PriceMissing, CountWrong}
 use Rattle.kd_card.specs.declared.fault.CardFault.TheVariants.{Trailing}
-use Rattle.kd_card.specs.Steps.{Says, ◌>>=◌, Only, Finds, Demands, Takes}
+use Rattle.kd_card.specs.FirstFaults.{AnswerRule, ◌>>=◌, Yields, Finds, Demands, FindsAlways}
 use Rattle.kd_card.specs.Kinds.{name_text, look_name, look_rank, kind_words, kinds_text, counted, IsPricedKind}
 use Rattle.kd_card.specs.Kinds.{AreKinds, AreCalled}
-use Rattle.kd_card.specs.Prices.{price_sum, AreWithinReach}
+use Rattle.kd_card.specs.Prices.{price_sum, ArePricesInRange}
 use Rattle.kd_card.specs.CardText.{row_word, column_word, row_name, column_name, price_count, head_words, price_lines}
 use Rattle.kd_card.specs.CardText.{HaveKinds}
 
@@ -43,56 +43,57 @@ IsNumeral true text =
 -- ---- lines
 
 -- the line of these words with its LF, and then `rest`
-abbrev pub with_line : List (List ℕ) → List ℕ → List ℕ
-with_line words rest = line_of words ++ 10 ∷ rest
+abbrev pub line_then : List (List ℕ) → List ℕ → List ℕ
+line_then words rest = line_of words ++ 10 ∷ rest
 
 -- The first line of `bytes` has these words between its spaces, and `rest` follows its LF.
-pub record HasWords (bytes : List ℕ) (words : List (List ℕ)) (rest : List ℕ) : Type 0 where
+pub record HasLineWords (bytes : List ℕ) (words : List (List ℕ)) (rest : List ℕ) : Type 0 where
   pub line : List ℕ
   pub first : IsFirstPart 10 bytes line rest
   pub parts : words_of line ≡ words
 
 -- A line of `front` and the number `due`: another form is a bad line, another number a wrong count.
-abbrev pub SaysValue : Bool → List ℕ → List ℕ → ℕ → List ℕ → Says CardFault (List ℕ)
-SaysValue signed front due line bytes = do
+abbrev pub IsValueAnswer : Bool → List ℕ → List ℕ → ℕ → List ℕ → AnswerRule CardFault (List ℕ)
+IsValueAnswer signed front due line bytes = do
   found ← Finds
       (λ (found : List ℕ × List ℕ). IsNumeral signed found.0 × (bytes ≡ front ++ found.0 ++ 10 ∷ found.1))
       (BadLine line)
   _ ← Demands (found.0 ≡ due) CountWrong
-  Only found.1
+  Yields found.1
 
 -- Any line: its words, and the bytes after it.
-abbrev pub SaysLine : ℕ → List ℕ → Says CardFault (List (List ℕ) × List ℕ)
-SaysLine line bytes = do
+abbrev pub IsLineAnswer : ℕ → List ℕ → AnswerRule CardFault (List (List ℕ) × List ℕ)
+IsLineAnswer line bytes = do
   _ ← Demands (bytes ≢ []) PriceMissing
-  Finds (λ (found : List (List ℕ) × List ℕ). HasWords bytes found.0 found.1) (BadLine line)
+  Finds (λ (found : List (List ℕ) × List ℕ). HasLineWords bytes found.0 found.1) (BadLine line)
 
 -- A line whose first word is one of `word`: which one it is, the other words, and the bytes after the line.
-abbrev pub SaysFirst : {K : Type 0} → (K → List ℕ) → ℕ → List ℕ → Says CardFault (K × List (List ℕ) × List ℕ)
-SaysFirst {K} word line bytes = do
-  found ← SaysLine line bytes
+abbrev pub IsFirstWordAnswer : {K : Type 0} → (K → List ℕ) → ℕ → List ℕ
+    → AnswerRule CardFault (K × List (List ℕ) × List ℕ)
+IsFirstWordAnswer {K} word line bytes = do
+  found ← IsLineAnswer line bytes
   first ← Finds (λ (first : K × List (List ℕ)). found.0 ≡ word first.0 ∷ first.1) PriceMissing
-  Only (first.0, first.1, found.1)
+  Yields (first.0, first.1, found.1)
 
 -- ---- the head and the settings
 
 -- `bytes` are a card's head, and then `rest`.
 pub record BeginsWithHead (bytes : List ℕ) (version : Version) (day : ℕ) (rest : List ℕ) : Type 0 where
-  pub text : bytes ≡ with_line (head_words version day) rest
+  pub text : bytes ≡ line_then (head_words version day) rest
   pub of_month : IsDayNumber day
 
-abbrev pub SaysHead : List ℕ → Says CardFault (Version × ℕ × List ℕ)
-SaysHead bytes = Finds (λ (head : Version × ℕ × List ℕ). BeginsWithHead bytes head.0 head.1 head.2) BadHead
+abbrev pub IsHeadAnswer : List ℕ → AnswerRule CardFault (Version × ℕ × List ℕ)
+IsHeadAnswer bytes = Finds (λ (head : Version × ℕ × List ℕ). BeginsWithHead bytes head.0 head.1 head.2) BadHead
 
 -- All settings up to the first line that isn't one; or the fault that there are 193.
-abbrev pub SaysSettings : List ℕ → Says CardFault (List Setting × List ℕ)
-SaysSettings bytes (Ok list) = BeginsWithSettings bytes list.0 list.1
-SaysSettings bytes (Err fault) =
-    ((settings : List Setting) × (rest : List ℕ) × BeginsWith bytes settings rest × (length settings ≡ 193))
+abbrev pub IsSettingsAnswer : List ℕ → AnswerRule CardFault (List Setting × List ℕ)
+IsSettingsAnswer bytes (Ok list) = BeginsWithAllSettings bytes list.0 list.1
+IsSettingsAnswer bytes (Err fault) =
+    ((settings : List Setting) × (rest : List ℕ) × BeginsWithSettingLines bytes settings rest × (length settings ≡ 193))
     × (fault ≡ TooMany)
 
-abbrev pub SaysNumber : ℕ → List ℕ → Says CardFault (List ℕ)
-SaysNumber number bytes = SaysValue false (codes "SETTINGS ") (decimal number) (number + 2) bytes
+abbrev pub IsCountAnswer : ℕ → List ℕ → AnswerRule CardFault (List ℕ)
+IsCountAnswer number bytes = IsValueAnswer false (codes "SETTINGS ") (decimal number) (number + 2) bytes
 
 -- ---- prices by number: two lines
 
@@ -102,27 +103,28 @@ first_text ByNumber group = row_word group
 first_text ByKind group = name_text (row_name group)
 
 -- The words are `number` prices.
-abbrev pub SaysPrices : ℕ → ℕ → List (List ℕ) → Says CardFault (List ℤ)
-SaysPrices number line words = do
-  prices ← Finds (λ prices. (words ≡ map signed_decimal prices) × AreWithinReach prices) (BadLine line)
+abbrev pub IsPricesAnswer : ℕ → ℕ → List (List ℕ) → AnswerRule CardFault (List ℤ)
+IsPricesAnswer number line words = do
+  prices ← Finds (λ prices. (words ≡ map signed_decimal prices) × ArePricesInRange prices) (BadLine line)
   _ ← Demands (length prices ≡ number) PriceMissing
-  Only prices
+  Yields prices
 
-abbrev pub SaysPriceLine : {K : Type 0} → (K → List ℕ) → (K → ℕ) → ℕ → List ℕ → Says CardFault (K × List ℤ × List ℕ)
-SaysPriceLine word number line bytes = do
-  first ← SaysFirst word line bytes
-  prices ← SaysPrices (number first.0) line first.1
-  Only (first.0, prices, first.2)
+abbrev pub IsPriceLineAnswer : {K : Type 0} → (K → List ℕ) → (K → ℕ) → ℕ → List ℕ
+    → AnswerRule CardFault (K × List ℤ × List ℕ)
+IsPriceLineAnswer word number line bytes = do
+  first ← IsFirstWordAnswer word line bytes
+  prices ← IsPricesAnswer (number first.0) line first.1
+  Yields (first.0, prices, first.2)
 
-abbrev pub numbered : Group → List ℤ → List ℤ → PriceParts
-numbered OfCables rows columns = Cables rows columns
-numbered OfBars rows columns = Bars rows columns
+abbrev pub parts_by_number : Group → List ℤ → List ℤ → PriceParts
+parts_by_number OfCables rows columns = Cables rows columns
+parts_by_number OfBars rows columns = Bars rows columns
 
-abbrev pub SaysNumbered : ℕ → List ℕ → Says CardFault (PriceParts × List ℕ)
-SaysNumbered line bytes = do
-  rows ← SaysPriceLine (first_text ByNumber) price_count line bytes
-  columns ← SaysPriceLine (λ (_ : Unit {0}). column_word rows.0) (λ _. price_count rows.0) (line + 1) rows.2
-  Only (numbered rows.0 rows.1 columns.1, columns.2)
+abbrev pub IsByNumberPricesAnswer : ℕ → List ℕ → AnswerRule CardFault (PriceParts × List ℕ)
+IsByNumberPricesAnswer line bytes = do
+  rows ← IsPriceLineAnswer (first_text ByNumber) price_count line bytes
+  columns ← IsPriceLineAnswer (λ (_ : Unit {0}). column_word rows.0) (λ _. price_count rows.0) (line + 1) rows.2
+  Yields (parts_by_number rows.0 rows.1 columns.1, columns.2)
 
 -- ---- prices by kind: two groups of lines
 
@@ -130,7 +132,7 @@ SaysNumbered line bytes = do
 pub record BeginsWithWord (word bytes : List ℕ) : Type 0 where
   pub behind : List (List ℕ)
   pub rest : List ℕ
-  pub has : HasWords bytes (word ∷ behind) rest
+  pub has : HasLineWords bytes (word ∷ behind) rest
 
 -- A group of kinds ends before `bytes`: they are empty, or their first word isn't `name`.
 pub data EndsGroup (name : Name) (bytes : List ℕ) : Type 0 where
@@ -142,7 +144,7 @@ pub record IsNextKind (name : Name) (floor : ℕ) (bytes : List ℕ) (kind : Pri
   pub called : look_name kind.look ≡ name
   pub good : IsPricedKind kind
   pub above : floor ≤ look_rank kind.look
-  pub line : HasWords bytes (kind_words kind) rest
+  pub line : HasLineWords bytes (kind_words kind) rest
 
 -- `bytes` don't begin with a kind called `name` of a rank from `floor` on.
 abbrev pub HasNoNext : Name → ℕ → List ℕ → Type 0
@@ -163,46 +165,46 @@ pub record BeginsWithKinds (name : Name) (floor : ℕ) (bytes : List ℕ) (kinds
   pub none_more : HasNoNext name (floor_behind floor kinds) rest
 
 -- A group of kinds: another word or the end follows it, and its kinds count `number` things.
-abbrev pub SaysGroup : Name → ℕ → ℕ → List ℕ → Says CardFault (List PricedKind × List ℕ)
-SaysGroup name number line bytes = do
-  group ← Takes (λ (group : List PricedKind × List ℕ). BeginsWithKinds name 0 bytes group.0 group.1)
+abbrev pub IsGroupAnswer : Name → ℕ → ℕ → List ℕ → AnswerRule CardFault (List PricedKind × List ℕ)
+IsGroupAnswer name number line bytes = do
+  group ← FindsAlways (λ (group : List PricedKind × List ℕ). BeginsWithKinds name 0 bytes group.0 group.1)
   _ ← Demands (EndsGroup name group.1) (BadLine (line + length group.0))
   _ ← Demands (counted group.0 ≡ number) PriceMissing
-  Only group
+  Yields group
 
-abbrev pub SaysKinded : ℕ → List ℕ → Says CardFault (PriceParts × List ℕ)
-SaysKinded line bytes = do
-  first ← SaysFirst (first_text ByKind) line bytes
-  rows ← SaysGroup (row_name first.0) (price_count first.0) line bytes
-  columns ← SaysGroup (column_name first.0) (price_count first.0) (line + length rows.0) rows.1
-  prices ← Takes (HaveKinds first.0 rows.0 columns.0)
-  Only (prices, columns.1)
+abbrev pub IsByKindPricesAnswer : ℕ → List ℕ → AnswerRule CardFault (PriceParts × List ℕ)
+IsByKindPricesAnswer line bytes = do
+  first ← IsFirstWordAnswer (first_text ByKind) line bytes
+  rows ← IsGroupAnswer (row_name first.0) (price_count first.0) line bytes
+  columns ← IsGroupAnswer (column_name first.0) (price_count first.0) (line + length rows.0) rows.1
+  prices ← FindsAlways (HaveKinds first.0 rows.0 columns.0)
+  Yields (prices, columns.1)
 
 -- ---- the card
 
-abbrev pub SaysAllPrices : Version → ℕ → List ℕ → Says CardFault (PriceParts × List ℕ)
-SaysAllPrices ByNumber line bytes = SaysNumbered line bytes
-SaysAllPrices ByKind line bytes = SaysKinded line bytes
+abbrev pub IsAllPricesAnswer : Version → ℕ → List ℕ → AnswerRule CardFault (PriceParts × List ℕ)
+IsAllPricesAnswer ByNumber line bytes = IsByNumberPricesAnswer line bytes
+IsAllPricesAnswer ByKind line bytes = IsByKindPricesAnswer line bytes
 
-abbrev pub SaysSum : ℤ → ℕ → List ℕ → Says CardFault (List ℕ)
-SaysSum sum line bytes = SaysValue true (codes "SUM ") (signed_decimal sum) line bytes
+abbrev pub IsSumAnswer : ℤ → ℕ → List ℕ → AnswerRule CardFault (List ℕ)
+IsSumAnswer sum line bytes = IsValueAnswer true (codes "SUM ") (signed_decimal sum) line bytes
 
 -- The bytes after the settings: their number, the prices and the sum of the prices.
-abbrev pub SaysBehind : Version → ℕ → List Setting → ℕ → List ℕ → Says CardFault (ℕ × List Setting × PriceParts)
-SaysBehind version day settings number bytes = do
-  rest ← SaysNumber number bytes
-  prices ← SaysAllPrices version (number + 3) rest
-  end ← SaysSum (price_sum prices.0) (number + 3 + length (price_lines prices.0)) prices.1
+abbrev pub IsRestAnswer : Version → ℕ → List Setting → ℕ → List ℕ → AnswerRule CardFault (ℕ × List Setting × PriceParts)
+IsRestAnswer version day settings number bytes = do
+  rest ← IsCountAnswer number bytes
+  prices ← IsAllPricesAnswer version (number + 3) rest
+  end ← IsSumAnswer (price_sum prices.0) (number + 3 + length (price_lines prices.0)) prices.1
   _ ← Demands (end ≡ []) Trailing
-  Only (day, settings, prices.0)
+  Yields (day, settings, prices.0)
 
 -- The card that `bytes` describe: its day, settings and prices; or the first fault.
-abbrev pub SaysCard : List ℕ → Says CardFault (ℕ × List Setting × PriceParts)
-SaysCard bytes = do
-  head ← SaysHead bytes
-  list ← SaysSettings head.2
-  SaysBehind head.0 head.1 list.0 (length list.0) list.1
+abbrev pub IsCardAnswer : List ℕ → AnswerRule CardFault (ℕ × List Setting × PriceParts)
+IsCardAnswer bytes = do
+  head ← IsHeadAnswer bytes
+  list ← IsSettingsAnswer head.2
+  IsRestAnswer head.0 head.1 list.0 (length list.0) list.1
 
 -- `fault` is the first fault of `bytes`, which aren't a card.
 abbrev pub IsCardFault : List ℕ → CardFault → Type 0
-IsCardFault bytes fault = SaysCard bytes (Err fault)
+IsCardFault bytes fault = IsCardAnswer bytes (Err fault)

@@ -4,7 +4,7 @@ use Rattle.std.specs.List.{flat_map}
 use Rattle.std.specs.Fmt.{signed_decimal}
 use Rattle.kd_state.specs.declared.setting.Setting.{Setting}
 use Rattle.kd_state.specs.Words.{line_of}
-use Rattle.kd_state.specs.Line.{setting_words, IsInRange}
+use Rattle.kd_state.specs.Line.{setting_words, IsSettingInRange}
 use Rattle.kd_state.specs.SheetDay.{IsDayNumber}
 use Rattle.kd_card.specs.declared.prices.PriceParts.{PriceParts}
 use Rattle.kd_card.specs.declared.prices.PriceParts.TheVariants.{Cables, Bars, CableKinds, BarKinds}
@@ -109,6 +109,6 @@ card_text day settings prices = lines_text (card_lines day settings prices)
 pub record IsCard (bytes : List ℕ) (day : ℕ) (settings : List Setting) (prices : PriceParts) : Type 0 where
   pub text : bytes ≡ card_text day settings prices
   pub of_month : IsDayNumber day
-  pub in_range : All IsInRange settings
+  pub in_range : All IsSettingInRange settings
   pub few : length settings ≤ 192
   pub are_prices : ArePrices prices

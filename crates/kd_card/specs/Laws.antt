@@ -9,11 +9,12 @@ use Rattle.kd_card.specs.declared.prices.PriceParts.{PriceParts}
 use Rattle.kd_card.specs.declared.fault.CardFault.{CardFault}
 use Rattle.kd_card.specs.declared.look.Look.{Look}
 use Rattle.kd_card.specs.Kinds.{look_name, look_rank, IsInForm}
-use Rattle.kd_card.specs.Prices.{Fits, price_sum, ArePrices, AreTight}
+use Rattle.kd_card.specs.Prices.{PricesFit, price_sum, ArePrices, ArePricesTight}
 use Rattle.kd_card.specs.CardText.{IsCard}
 use Rattle.kd_card.specs.Loose.{loose_lines}
-use Rattle.kd_card.specs.CardFault.{SaysCard, IsCardFault}
-use Rattle.kd_card.specs.Proving.{AreNeeded, AreOfKind, ProvesByNumber, Proves, IsShortest, LeadsToTheDay, priced_count}
+use Rattle.kd_card.specs.CardFault.{IsCardAnswer, IsCardFault}
+use Rattle.kd_card.specs.Proving.{AreSettingsNeeded, AreModelPrices, ProvesByNumber, Proves, IsShortest, LeadsToTheDay}
+use Rattle.kd_card.specs.Proving.{priced_count}
 
 -- The settings for loose things are as many as the loose things.
 abbrev pub LooseThingsAreCounted : Type 0
@@ -25,8 +26,8 @@ LooseThingsAreCounted =
 abbrev pub FittingPricesBoundLists : Type 0
 FittingPricesBoundLists =
     (m : Parts) (s : Day) (prices : PriceParts) (settings : List Setting) → IsMachine m → IsLegalDay s
-    → ArePrices prices → AreOfKind m prices
-    → Fits (cost_table m s) prices → LeadsToTheDay m s settings
+    → ArePrices prices → AreModelPrices m prices
+    → PricesFit (cost_table m s) prices → LeadsToTheDay m s settings
     → (pos (loose_count m s) +ℤ price_sum prices) ≤ℤ pos (length settings)
 
 -- If a list to the day has no more unpriced settings than loose things, it needs each of its settings. An
@@ -35,7 +36,7 @@ abbrev pub AsFewAreNeeded : Type 0
 AsFewAreNeeded =
     (m : Parts) (s : Day) (settings : List Setting) → IsLegalDay s → model_of m ≡ day_model s
     → LeadsToTheDay m s settings
-    → length settings ≤ loose_count m s + priced_count settings → AreNeeded m s settings
+    → length settings ≤ loose_count m s + priced_count settings → AreSettingsNeeded m s settings
 
 -- A card by number that proves itself has as many settings as loose things plus the sum of its prices.
 -- Whichever way a card has its prices, it is shortest if it proves itself.
@@ -56,7 +57,7 @@ abbrev pub ProvingPricesAreTight : Type 0
 ProvingPricesAreTight =
     (m : Parts) (s : Day) (settings : List Setting) (prices : PriceParts) → IsMachine m → IsLegalDay s
     → ArePrices prices → ProvesByNumber m s settings prices
-    → AreTight (cost_table m s) prices
+    → ArePricesTight (cost_table m s) prices
 
 -- Two valid looks with one name and one rank are equal.
 abbrev pub RanksTellLooks : Type 0
@@ -80,7 +81,7 @@ NoCardBeginsAnother =
 abbrev pub CardsAreSaid : Type 0
 CardsAreSaid =
     (bytes : List ℕ) (day : ℕ) (xs : List Setting) (prices : PriceParts)
-    → SaysCard bytes (Ok (day, xs, prices)) ↔ IsCard bytes day xs prices
+    → IsCardAnswer bytes (Ok (day, xs, prices)) ↔ IsCard bytes day xs prices
 
 -- The text of a card has no fault, and any bytes have at most one.
 abbrev pub CardsHaveNoFault : Type 0

@@ -14,14 +14,14 @@ use Rattle.kd_state.specs.declared.machine.parts.Parts.TheVariants.{Rotor, Pin}
 use Rattle.kd_state.specs.declared.sheet_day.rotor_entry.SheetWheel.{SheetWheel}
 use Rattle.kd_state.specs.declared.setting.Setting.{Setting}
 use Rattle.kd_state.specs.declared.setting.Setting.TheVariants.{Seat, SeatReflector, RingTo, Turn, PinTo}
-use Rattle.kd_state.specs.ToldApart.{same_wheel, same_reflector}
+use Rattle.kd_state.specs.SameParts.{same_wheel, same_reflector}
 use Rattle.kd_state.specs.Machine.{ring_at, letter_at}
 use Rattle.kd_state.specs.SheetDay.{Day, OfRotors, OfPins}
-use Rattle.kd_state.specs.Costs.{differ}
+use Rattle.kd_state.specs.Costs.{exactly_one}
 
 -- the setting, or none if the thing is `so` already
-abbrev pub unless_so : Bool → Setting → Option Setting
-unless_so so x = if so then None else Some x
+abbrev pub setting_unless : Bool → Setting → Option Setting
+setting_unless so x = if so then None else Some x
 
 -- the settings for each item of a list, numbered from `number` on
 abbrev pub lines_from : {Z : Type 0} → (ℕ → Z → List Setting) → ℕ → List Z → List Setting
@@ -29,51 +29,52 @@ lines_from lines number [] = []
 lines_from lines number (z ∷ zs) = lines number z ++ lines_from lines (number + 1) zs
 
 -- SEAT for a slot whose wheel isn't the day's, and for all slots
-abbrev pub seat_of : ℕ → Option Wheel × SheetWheel → List Setting
-seat_of slot z = option_to_list (unless_so (option_map_or (same_wheel z.1.wheel) z.0 false) (Seat slot z.1.wheel))
+abbrev pub slot_seat_line : ℕ → Option Wheel × SheetWheel → List Setting
+slot_seat_line slot z = option_to_list
+    (setting_unless (option_map_or (same_wheel z.1.wheel) z.0 false) (Seat slot z.1.wheel))
 
 abbrev pub seat_lines : RotorParts → List SheetWheel → List Setting
-seat_lines m wheels = lines_from seat_of 1 (zip m.slots wheels)
+seat_lines m wheels = lines_from slot_seat_line 1 (zip m.slots wheels)
 
 -- REFLECTOR, if the day has another one
 abbrev pub reflector_lines : Reflector → Reflector → List Setting
-reflector_lines present wanted = option_to_list (unless_so (same_reflector present wanted) (SeatReflector wanted))
+reflector_lines present wanted = option_to_list (setting_unless (same_reflector present wanted) (SeatReflector wanted))
 
 -- RING for a wheel of the day whose ring isn't the day's, and for all wheels in the order of the box
-abbrev pub ring_of_wheel : RotorParts → List SheetWheel → Wheel → List Setting
-ring_of_wheel m wheels wheel =
+abbrev pub wheel_ring_line : RotorParts → List SheetWheel → Wheel → List Setting
+wheel_ring_line m wheels wheel =
     option_to_list (option_and_then
-    (λ w. unless_so (option_map_or (nat_eq w.ring) (ring_at m w.wheel) false) (RingTo w.wheel w.ring))
+    (λ w. setting_unless (option_map_or (nat_eq w.ring) (ring_at m w.wheel) false) (RingTo w.wheel w.ring))
     (find (λ w. same_wheel wheel w.wheel) wheels))
 
 abbrev pub ring_lines : RotorParts → List SheetWheel → List Setting
-ring_lines m wheels = flat_map (ring_of_wheel m wheels) (box_of m.model)
+ring_lines m wheels = flat_map (wheel_ring_line m wheels) (box_of m.model)
 
 -- TURN for a slot whose wheel shows another letter than the day's, and for all slots
-abbrev pub turn_of : RotorParts → ℕ → SheetWheel → List Setting
-turn_of m slot w =
-    option_to_list (unless_so (option_map_or (nat_eq w.letter) (letter_at m w.wheel) false) (Turn slot w.letter))
+abbrev pub slot_turn_line : RotorParts → ℕ → SheetWheel → List Setting
+slot_turn_line m slot w =
+    option_to_list (setting_unless (option_map_or (nat_eq w.letter) (letter_at m w.wheel) false) (Turn slot w.letter))
 
 abbrev pub turn_lines : RotorParts → List SheetWheel → List Setting
-turn_lines m wheels = lines_from (turn_of m) 1 wheels
+turn_lines m wheels = lines_from (slot_turn_line m) 1 wheels
 
 -- PIN for a pin that isn't the day's, for all pins of a wheel in the wheel's order, and for all wheels
-abbrev pub pin_of : ℕ → ℕ × (Bool × Bool) → List Setting
-pin_of wheel z = option_to_list (unless_so (not (differ z.1.0 z.1.1)) (PinTo wheel z.0 z.1.1))
+abbrev pub wheel_pin_line : ℕ → ℕ × (Bool × Bool) → List Setting
+wheel_pin_line wheel z = option_to_list (setting_unless (not (exactly_one z.1.0 z.1.1)) (PinTo wheel z.0 z.1.1))
 
 abbrev pub wheel_pin_lines : ℕ → List ℕ → List Bool → List Bool → List Setting
-wheel_pin_lines wheel ring present wanted = flat_map (pin_of wheel) (zip ring (zip present wanted))
+wheel_pin_lines wheel ring present wanted = flat_map (wheel_pin_line wheel) (zip ring (zip present wanted))
 
 abbrev pub pin_lines : PinSet → PinSet → List Setting
 pin_lines present wanted =
     lines_from (λ wheel z. wheel_pin_lines wheel (ring_of wheel) z.0 z.1) 1 (zip (pins_of present) (pins_of wanted))
 
 -- TURN for a pin wheel that shows another letter than the day's, and for all pin wheels
-abbrev pub pin_turn_of : ℕ → ℕ × ℕ → List Setting
-pin_turn_of wheel z = option_to_list (unless_so (nat_eq z.0 z.1) (Turn wheel z.1))
+abbrev pub pin_wheel_turn_line : ℕ → ℕ × ℕ → List Setting
+pin_wheel_turn_line wheel z = option_to_list (setting_unless (nat_eq z.0 z.1) (Turn wheel z.1))
 
 abbrev pub pin_turn_lines : List ℕ → List ℕ → List Setting
-pin_turn_lines letters window = lines_from pin_turn_of 1 (zip letters window)
+pin_turn_lines letters window = lines_from pin_wheel_turn_line 1 (zip letters window)
 
 -- all these settings in their order
 abbrev pub loose_lines : Parts → Day → List Setting

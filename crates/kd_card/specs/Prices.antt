@@ -45,22 +45,22 @@ column_prices (CableKinds row col) = prices_of_kinds (map pair_kind col.items)
 column_prices (BarKinds row col) = prices_of_kinds (map row_kind col.items)
 
 -- the number of rows of the table of costs, which is also its number of columns
-abbrev pub how_many : PriceParts → ℕ
-how_many (Cables row col) = 13
-how_many (Bars row col) = 27
-how_many (CableKinds row col) = 13
-how_many (BarKinds row col) = 27
+abbrev pub table_rows : PriceParts → ℕ
+table_rows (Cables row col) = 13
+table_rows (Bars row col) = 27
+table_rows (CableKinds row col) = 13
+table_rows (BarKinds row col) = 27
 
 -- All prices are from -9999 to 9999.
-abbrev pub AreWithinReach : List ℤ → Type 0
-AreWithinReach prices = All (λ price. unsigned_abs price ≤ 9999) prices
+abbrev pub ArePricesInRange : List ℤ → Type 0
+ArePricesInRange prices = All (λ price. unsigned_abs price ≤ 9999) prices
 
 -- Valid prices of a card.
 pub record ArePrices (prices : PriceParts) : Type 0 where
-  pub rows : length (row_prices prices) ≡ how_many prices
-  pub columns : length (column_prices prices) ≡ how_many prices
-  pub row_reach : AreWithinReach (row_prices prices)
-  pub column_reach : AreWithinReach (column_prices prices)
+  pub rows : length (row_prices prices) ≡ table_rows prices
+  pub columns : length (column_prices prices) ≡ table_rows prices
+  pub row_reach : ArePricesInRange (row_prices prices)
+  pub column_reach : ArePricesInRange (column_prices prices)
   pub row_kinds : AreKinds 0 (row_kinds prices)
   pub column_kinds : AreKinds 0 (column_kinds prices)
 
@@ -73,23 +73,23 @@ abbrev pub price_at : List ℤ → ℕ → ℤ
 price_at prices i = slice_index_or prices i (pos 0)
 
 -- The prices of row `i` and column `j` are together at most the cost where they meet.
-abbrev pub FitsAt : List (List ℕ) → PriceParts → ℕ → ℕ → Type 0
-FitsAt costs prices i j =
+abbrev pub PricesFitAt : List (List ℕ) → PriceParts → ℕ → ℕ → Type 0
+PricesFitAt costs prices i j =
     (price_at (row_prices prices) i +ℤ price_at (column_prices prices) j) ≤ℤ pos (cost_at costs i j)
 
-abbrev pub Fits : List (List ℕ) → PriceParts → Type 0
-Fits costs prices = (i j : ℕ) → i < how_many prices → j < how_many prices → FitsAt costs prices i j
+abbrev pub PricesFit : List (List ℕ) → PriceParts → Type 0
+PricesFit costs prices = (i j : ℕ) → i < table_rows prices → j < table_rows prices → PricesFitAt costs prices i j
 
 -- the sum of the prices of all rows and columns
 abbrev pub price_sum : PriceParts → ℤ
 price_sum prices = fold (λ sum price. sum +ℤ price) (pos 0) (row_prices prices ++ column_prices prices)
 
 -- The prices of row `i` and column `j` are together exactly the cost where they meet.
-abbrev pub IsTightAt : List (List ℕ) → PriceParts → ℕ → ℕ → Type 0
-IsTightAt costs prices i j =
+abbrev pub IsPriceTightAt : List (List ℕ) → PriceParts → ℕ → ℕ → Type 0
+IsPriceTightAt costs prices i j =
     (price_at (row_prices prices) i +ℤ price_at (column_prices prices) j) ≡ pos (cost_at costs i j)
 
 -- Each row has a column where its price is tight, and each column a row.
-pub record AreTight (costs : List (List ℕ)) (prices : PriceParts) : Type 0 where
-  pub column_of : (i : ℕ) → i < how_many prices → (j : ℕ) × (j < how_many prices) × IsTightAt costs prices i j
-  pub row_of : (j : ℕ) → j < how_many prices → (i : ℕ) × (i < how_many prices) × IsTightAt costs prices i j
+pub record ArePricesTight (costs : List (List ℕ)) (prices : PriceParts) : Type 0 where
+  pub column_of : (i : ℕ) → i < table_rows prices → (j : ℕ) × (j < table_rows prices) × IsPriceTightAt costs prices i j
+  pub row_of : (j : ℕ) → j < table_rows prices → (i : ℕ) × (i < table_rows prices) × IsPriceTightAt costs prices i j

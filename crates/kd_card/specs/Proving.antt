@@ -2,14 +2,14 @@
 -- does.
 use Rattle.std.specs.Prelude.{◌≡◌, ℕ, ◌+◌, ◌<◌, ◌≤◌, nat_eq, Bool, true, false, List, [], ◌∷◌, length, map}
 use Rattle.std.specs.Prelude.{slice_index_or, count_by, All, ◌⊎◌, ℤ, pos, IsFalse, Option, Some, None}
-use Rattle.kd_tables.specs.Places.{in_order}
+use Rattle.kd_tables.specs.Places.{smaller_first}
 use Rattle.kd_state.specs.declared.machine.parts.Parts.{Parts}
 use Rattle.kd_state.specs.declared.machine.parts.Parts.TheVariants.{Rotor, Pin}
 use Rattle.kd_state.specs.declared.setting.Setting.{Setting}
 use Rattle.kd_state.specs.declared.setting.Setting.TheVariants.{Pull, Put, Seat, SeatReflector, RingTo, Turn, PinTo}
 use Rattle.kd_state.specs.declared.setting.Setting.TheVariants.{LugTo}
 use Rattle.kd_state.specs.Machine.{model_of}
-use Rattle.kd_state.specs.Setting.{Leads, changed}
+use Rattle.kd_state.specs.Setting.{Leads, machine_after}
 use Rattle.kd_state.specs.SheetDay.{Day, OfRotors, OfPins, day_model}
 use Rattle.kd_state.specs.OnKey.{ReadsAs}
 use Rattle.kd_state.specs.Costs.{columns_of, cost_table, loose_count}
@@ -23,39 +23,39 @@ use Rattle.kd_card.specs.declared.look.Look.TheVariants.{Cable, Pair, Bar, Row}
 use Rattle.kd_card.specs.declared.kinds.PricedKind.{PricedKind}
 use Rattle.kd_card.specs.Kinds.{look_rank}
 use Rattle.kd_card.specs.Prices.{version_of, row_kinds, column_kinds, row_prices, column_prices, price_at, price_sum}
-use Rattle.kd_card.specs.Prices.{Fits, ArePrices}
+use Rattle.kd_card.specs.Prices.{PricesFit, ArePrices}
 use Rattle.kd_card.specs.CardText.{group_of}
 
 -- The prices are by number, and belong to the machine's model: cables of a rotor machine, or bars of a
 -- Converter M-209.
-abbrev pub AreOfKind : Parts → PriceParts → Type 0
-AreOfKind (Rotor m) (Cables row col) = Unit {0}
-AreOfKind (Pin m) (Bars row col) = Unit {0}
-AreOfKind _ _ = ⊥
+abbrev pub AreModelPrices : Parts → PriceParts → Type 0
+AreModelPrices (Rotor m) (Cables row col) = Unit {0}
+AreModelPrices (Pin m) (Bars row col) = Unit {0}
+AreModelPrices _ _ = ⊥
 
 -- whether the setting changes a cable or a bar
-abbrev pub is_priced : Setting → Bool
-is_priced (Pull cable letter) = true
-is_priced (Put cable letter) = true
-is_priced (LugTo bar lug place) = true
-is_priced (Seat slot wheel) = false
-is_priced (SeatReflector reflector) = false
-is_priced (RingTo wheel letter) = false
-is_priced (Turn slot letter) = false
-is_priced (PinTo wheel letter effective) = false
+abbrev pub is_priced_setting : Setting → Bool
+is_priced_setting (Pull cable letter) = true
+is_priced_setting (Put cable letter) = true
+is_priced_setting (LugTo bar lug place) = true
+is_priced_setting (Seat slot wheel) = false
+is_priced_setting (SeatReflector reflector) = false
+is_priced_setting (RingTo wheel letter) = false
+is_priced_setting (Turn slot letter) = false
+is_priced_setting (PinTo wheel letter effective) = false
 
 -- the number of settings that change a cable or a bar
 abbrev pub priced_count : List Setting → ℕ
-priced_count settings = count_by is_priced settings
+priced_count settings = count_by is_priced_setting settings
 
 -- The setting changes a cable or a bar, or one thing less is loose after it.
-abbrev pub IsNeeded : Parts → Day → Setting → Type 0
-IsNeeded m s x = IsFalse (is_priced x) → loose_count m s ≡ loose_count (changed m x) s + 1
+abbrev pub IsSettingNeeded : Parts → Day → Setting → Type 0
+IsSettingNeeded m s x = IsFalse (is_priced_setting x) → loose_count m s ≡ loose_count (machine_after m x) s + 1
 
 -- Each setting is needed when it is carried out after the settings before it.
-abbrev pub AreNeeded : Parts → Day → List Setting → Type 0
-AreNeeded m s [] = Unit {0}
-AreNeeded m s (x ∷ xs) = IsNeeded m s x × AreNeeded (changed m x) s xs
+abbrev pub AreSettingsNeeded : Parts → Day → List Setting → Type 0
+AreSettingsNeeded m s [] = Unit {0}
+AreSettingsNeeded m s (x ∷ xs) = IsSettingNeeded m s x × AreSettingsNeeded (machine_after m x) s xs
 
 -- The settings lead the machine to one that reads as the day.
 abbrev pub LeadsToTheDay : Parts → Day → List Setting → Type 0
@@ -70,7 +70,7 @@ row_looks (Pin m) = map (λ standing. Bar standing) m.bars
 
 abbrev pub pair_in_order : Option (ℕ × ℕ) → Option (ℕ × ℕ)
 pair_in_order None = None
-pair_in_order (Some pair) = Some (in_order pair.0 pair.1)
+pair_in_order (Some pair) = Some (smaller_first pair.0 pair.1)
 
 abbrev pub column_looks : Day → List Look
 column_looks (OfRotors s) = map (λ column. Pair (pair_in_order column)) (columns_of s.pairs)
@@ -122,11 +122,11 @@ group_of_machine (Pin m) = OfBars
 -- The prices are by number, and prove the settings.
 pub record ProvesByNumber (m : Parts) (s : Day) (settings : List Setting) (prices : PriceParts) : Type 0 where
   pub model : model_of m ≡ day_model s
-  pub kind : AreOfKind m prices
+  pub kind : AreModelPrices m prices
   pub leads : LeadsToTheDay m s settings
-  pub fits : Fits (cost_table m s) prices
+  pub fits : PricesFit (cost_table m s) prices
   pub sum : price_sum prices ≡ pos (priced_count settings)
-  pub needed : AreNeeded m s settings
+  pub needed : AreSettingsNeeded m s settings
 
 -- The prices mean prices by number that prove the settings.
 pub record Proves (m : Parts) (s : Day) (settings : List Setting) (prices : PriceParts) : Type 0 where

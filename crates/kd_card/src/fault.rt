@@ -30,7 +30,7 @@ impl CardFault {
     {
         match *self {
             CardFault::BadHead => Refusal::BadHead.text(),
-            CardFault::BadLine(line) => Refusal::BadLine.at(line),
+            CardFault::BadLine(line) => Refusal::BadLine.text_at(line),
             CardFault::TooMany => Refusal::TooMany.text(),
             CardFault::PriceMissing => Refusal::PriceMissing.text(),
             CardFault::CountWrong => Refusal::CardCountWrong.text(),

@@ -4,8 +4,8 @@ ghost use Rattle.std.specs.Prelude.{MatchOption, MatchResult, Ok, Err};
 ghost use Rattle.arrayvec.specs.ArrayString.{array_string_len};
 ghost use Rattle.std.specs.Option.{option_copied};
 ghost use Rattle.kd_card.specs.Kinds.{name_text, kinds_text, HasKindWords, IsPricedKind};
-ghost use Rattle.kd_card.specs.CardFault.{IsNextKind, SaysGroup};
-ghost use Rattle.kd_card.specs.Reading.{words_behind, EndsAt, IsBadAt};
+ghost use Rattle.kd_card.specs.CardFault.{IsNextKind, IsGroupAnswer};
+ghost use Rattle.kd_card.specs.Reading.{words_after_first, EndsKindsAt, IsBadKindAt};
 
 use super::fault::CardFault;
 use super::kinds::PricedKind;
@@ -18,7 +18,7 @@ use kd_state::{number_of_text, push_number, split_words};
 /// Parses a kind's line: its first word is `name`, and `behind` is the text after this word's space.
 #[tactic(auto, using(crate::proofs::Lines::words_in_place))]
 fn kind_behind(name: Name, behind: Option<&[u8]>) -> Option<PricedKind>
-    ensures { let words = name_text name ∷ words_behind (option_copied behind.entry) in
+    ensures { let words = name_text name ∷ words_after_first (option_copied behind.entry) in
         MatchOption result
         ((kind : _) → ¬ (HasKindWords name words kind))
         (λ kind. HasKindWords name words kind) }
@@ -59,9 +59,9 @@ fn next_kind(
 ) -> Result<Option<(PricedKind, &[u8])>, CardFault>
     ensures { MatchResult result
         (λ next. MatchOption next
-        (EndsAt name floor text.now)
+        (EndsKindsAt name floor text.now)
         (λ found. IsNextKind name floor text.now found.0 found.1.now))
-        (λ fault. IsBadAt name floor text.now × (fault ≡ CardFault.BadLine line)) }
+        (λ fault. IsBadKindAt name floor text.now × (fault ≡ CardFault.BadLine line)) }
 {
     if text.is_empty() {
         return Ok(None);
@@ -90,8 +90,8 @@ pub(crate) fn read_kinds<'a>(
     requires few { number ≤ 27 }
     requires near { line < 300 }
     ensures { MatchResult result
-        (λ found. SaysGroup name number line text.now (Ok (found.0.items, found.1.now)))
-        (λ fault. SaysGroup name number line text.now (Err fault)) }
+        (λ found. IsGroupAnswer name number line text.now (Ok (found.0.items, found.1.now)))
+        (λ fault. IsGroupAnswer name number line text.now (Err fault)) }
 {
     let mut kinds = ArrayVec::new();
     let mut rest = text;

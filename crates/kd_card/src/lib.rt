@@ -22,7 +22,7 @@ pub use card::Card;
 pub use fault::CardFault;
 pub use group::Group;
 pub use kinds::{BarKind, CableKind, PairKind, PricedKind, RowKind};
-pub use line::push_line;
+pub use line::push_some_setting;
 pub use look::Look;
 pub use loose::loose_count;
 pub use pin_lines::pin_settings;

@@ -2,10 +2,10 @@
 ghost use Rattle.std.specs.Prelude.{◌≡◌, ◌≤◌, false, not, nat_eq, length, map, sum, count_by, zip};
 ghost use Rattle.std.specs.Option.{option_map_or};
 ghost use Rattle.kd_pins.specs.PinWheels.{pins_of};
-ghost use Rattle.kd_state.specs.ToldApart.{same_wheel, same_reflector};
-ghost use Rattle.kd_state.specs.Machine.{ring_in, letter_in};
+ghost use Rattle.kd_state.specs.SameParts.{same_wheel, same_reflector};
+ghost use Rattle.kd_state.specs.Machine.{machine_ring, machine_letter};
 ghost use Rattle.kd_state.specs.Costs as costs;
-ghost use Rattle.kd_state.specs.Costs.{differ, unless_same};
+ghost use Rattle.kd_state.specs.Costs.{exactly_one, one_unless};
 
 use kd_pins::PinSet;
 use kd_state::{Entry, Machine, Parts, SheetDay, SheetWheel};
@@ -49,7 +49,7 @@ fn loose_slots(slots: &[Option<Wheel>], wheels: &[SheetWheel]) -> usize
 
 /// Counts 1 if the machine has another reflector than the day.
 fn loose_reflector(present: Reflector, wanted: Reflector) -> usize
-    ensures value { result ≡ unless_same (same_reflector present wanted) }
+    ensures value { result ≡ one_unless (same_reflector present wanted) }
     ensures few { result ≤ 1 }
 {
     usize::from(present != wanted)
@@ -58,7 +58,7 @@ fn loose_reflector(present: Reflector, wanted: Reflector) -> usize
 /// Counts the wheels of the day whose rings stand at another letter.
 fn loose_rings(machine: &Machine, wheels: &[SheetWheel]) -> usize
     ensures value { result ≡ count_by
-        (λ w. not (option_map_or (nat_eq w.ring) (ring_in machine.now w.wheel) false)) wheels.now }
+        (λ w. not (option_map_or (nat_eq w.ring) (machine_ring machine.now w.wheel) false)) wheels.now }
     ensures few { result ≤ length wheels.now }
 {
     wheels
@@ -70,7 +70,7 @@ fn loose_rings(machine: &Machine, wheels: &[SheetWheel]) -> usize
 /// Counts the wheels of the day that show another letter.
 fn loose_letters(machine: &Machine, wheels: &[SheetWheel]) -> usize
     ensures value { result ≡ count_by
-        (λ w. not (option_map_or (nat_eq w.letter) (letter_in machine.now w.wheel) false)) wheels.now }
+        (λ w. not (option_map_or (nat_eq w.letter) (machine_letter machine.now w.wheel) false)) wheels.now }
     ensures few { result ≤ length wheels.now }
 {
     wheels
@@ -81,7 +81,7 @@ fn loose_letters(machine: &Machine, wheels: &[SheetWheel]) -> usize
 
 /// Counts the pins of all six wheels that differ from the day's.
 fn loose_pins(present: &PinSet, wanted: &PinSet) -> usize
-    ensures value { result ≡ sum (map (λ wheel. count_by (λ pin. differ pin.0 pin.1) (zip wheel.0 wheel.1))
+    ensures value { result ≡ sum (map (λ wheel. count_by (λ pin. exactly_one pin.0 pin.1) (zip wheel.0 wheel.1))
         (zip (pins_of present.now) (pins_of wanted.now))) }
     ensures few { result ≤ 131 }
 {
@@ -95,7 +95,7 @@ fn loose_pins(present: &PinSet, wanted: &PinSet) -> usize
 
 /// Counts the pins of one wheel that differ from the day's.
 fn loose_wheel_pins(present: &[bool], wanted: &[bool]) -> usize
-    ensures value { result ≡ count_by (λ pin. differ pin.0 pin.1) (zip present.now wanted.now) }
+    ensures value { result ≡ count_by (λ pin. exactly_one pin.0 pin.1) (zip present.now wanted.now) }
     ensures few { result ≤ length present.now }
 {
     present

@@ -1,13 +1,14 @@
 //! The settings for pins and for the letters that pin wheels show.
 ghost use Rattle.std.specs.Prelude.{◌≡◌, ◌+◌, ◌<◌, ◌≤◌, ◌++◌, not, nat_eq, length, zip};
 ghost use Rattle.arrayvec.specs.ArrayVec.{array_vec_len};
-ghost use Rattle.kd_state.specs.Costs.{differ};
+ghost use Rattle.kd_state.specs.Costs.{exactly_one};
 ghost use Rattle.kd_state.specs.declared.machine.parts.Parts.TheVariants.{Pin};
 ghost use Rattle.kd_state.specs.SheetDay.{OfPins};
 ghost use Rattle.kd_state.specs.Entry.{pin_values};
-ghost use Rattle.kd_card.specs.Loose.{unless_so, lines_from, wheel_pin_lines, pin_lines, pin_turn_of, loose_lines};
+ghost use Rattle.kd_card.specs.Loose.{setting_unless, lines_from, wheel_pin_lines, pin_lines, pin_wheel_turn_line};
+ghost use Rattle.kd_card.specs.Loose.{loose_lines};
 
-use super::line::push_line;
+use super::line::push_some_setting;
 use arrayvec::ArrayVec;
 use kd_pins::PinSet;
 use kd_state::{PinEntry, PinParts, Setting, Settings};
@@ -45,13 +46,13 @@ fn push_pin_turns(settings: &mut Settings, number: u8, letters: &[Letter], windo
     requires few { number + length letters.now < 256 }
     requires room { array_vec_len settings.old + length letters.now ≤ 192 }
     ensures items { settings.new.items ≡ settings.old.items
-        ++ lines_from pin_turn_of number (zip letters.now window.now) }
+        ++ lines_from pin_wheel_turn_line number (zip letters.now window.now) }
     ensures few { array_vec_len settings.new ≤ array_vec_len settings.old + length letters.now }
 {
     if let [present, letters @ ..] = letters
         && let [wanted, window @ ..] = window
     {
-        push_line(settings, pin_turn_line(number, *present, *wanted));
+        push_some_setting(settings, pin_turn_line(number, *present, *wanted));
         push_pin_turns(settings, number + 1, letters, window);
     }
 }
@@ -73,15 +74,15 @@ fn push_wheel_pins(
         && let [now, present @ ..] = present
         && let [due, wanted @ ..] = wanted
     {
-        push_line(settings, pin_line(wheel, *letter, *now, *due));
+        push_some_setting(settings, pin_line(wheel, *letter, *now, *due));
         push_wheel_pins(settings, wheel, ring, present, wanted);
     }
 }
 
 /// PIN, or `None` if the pin already is as wanted.
 fn pin_line(wheel: u8, letter: Letter, present: bool, effective: bool) -> Option<Setting>
-    ensures { let so = not (differ present effective) in
-        result ≡ unless_so so (Setting.PinTo wheel letter effective) }
+    ensures { let so = not (exactly_one present effective) in
+        result ≡ setting_unless so (Setting.PinTo wheel letter effective) }
 {
     (present != effective).then_some(Setting::PinTo {
         wheel,
@@ -92,7 +93,7 @@ fn pin_line(wheel: u8, letter: Letter, present: bool, effective: bool) -> Option
 
 /// TURN, or `None` if the wheel already shows `letter`.
 fn pin_turn_line(slot: u8, present: Letter, letter: Letter) -> Option<Setting>
-    ensures { result ≡ unless_so (nat_eq present letter) (Setting.Turn slot letter) }
+    ensures { result ≡ setting_unless (nat_eq present letter) (Setting.Turn slot letter) }
 {
     (present != letter).then_some(Setting::Turn { slot, letter })
 }

@@ -4,10 +4,10 @@ ghost use Rattle.std.specs.Prelude.{IsTrue, MatchOption, MatchResult, Ok, Err};
 ghost use Rattle.std.specs.Option.{option_copied};
 ghost use Rattle.std.specs.Fmt.{signed_decimal};
 ghost use Rattle.kd_state.specs.Words.{words_of};
-ghost use Rattle.kd_card.specs.Prices.{AreWithinReach};
-ghost use Rattle.kd_card.specs.CardFault.{IsNumberText, IsNumeral, SaysPrices};
-ghost use Rattle.kd_card.specs.CardFault.{SaysLine, SaysFirst, first_text};
-ghost use Rattle.kd_card.specs.Reading.{IsPriceText, words_behind};
+ghost use Rattle.kd_card.specs.Prices.{ArePricesInRange};
+ghost use Rattle.kd_card.specs.CardFault.{IsNumberText, IsNumeral, IsPricesAnswer};
+ghost use Rattle.kd_card.specs.CardFault.{IsLineAnswer, IsFirstWordAnswer, first_text};
+ghost use Rattle.kd_card.specs.Reading.{IsPriceText, words_after_first};
 
 use super::fault::CardFault;
 use super::group::Group;
@@ -68,9 +68,9 @@ pub(crate) fn split_first(
     line: usize,
 ) -> Result<(&[u8], Option<&[u8]>, &[u8]), CardFault>
     ensures { MatchResult result
-        (λ found. let words = found.0.now ∷ words_behind (option_copied found.1) in
-        SaysLine line text.now (Ok (words, found.2.now)))
-        (λ fault. SaysLine line text.now (Err fault)) }
+        (λ found. let words = found.0.now ∷ words_after_first (option_copied found.1) in
+        IsLineAnswer line text.now (Ok (words, found.2.now)))
+        (λ fault. IsLineAnswer line text.now (Err fault)) }
 {
     if text.is_empty() {
         return Err(CardFault::PriceMissing);
@@ -93,9 +93,9 @@ pub(crate) fn first_group(
     version: Version,
     line: usize,
 ) -> Result<(Group, Option<&[u8]>, &[u8]), CardFault>
-    ensures { let says = SaysFirst (first_text version) line text.now in
+    ensures { let says = IsFirstWordAnswer (first_text version) line text.now in
         MatchResult result
-        (λ found. says (Ok (found.0, words_behind (option_copied found.1), found.2.now)))
+        (λ found. says (Ok (found.0, words_after_first (option_copied found.1), found.2.now)))
         (λ fault. says (Err fault)) }
 {
     let (first, behind, rest) = split_first(text, line)?;
@@ -128,7 +128,7 @@ pub(crate) fn prices_behind(
 ) -> Result<ArrayVec<i16, 27>, CardFault>
     requires some { 0 < number }
     requires few { number ≤ 27 }
-    ensures { let says = SaysPrices number line (words_behind (option_copied behind.entry)) in
+    ensures { let says = IsPricesAnswer number line (words_after_first (option_copied behind.entry)) in
         MatchResult result (λ prices. says (Ok prices.items)) (λ fault. says (Err fault)) }
 {
     match behind {
@@ -141,8 +141,8 @@ pub(crate) fn prices_behind(
 fn prices_of_text(text: &[u8], number: usize, line: usize) -> Result<ArrayVec<i16, 27>, CardFault>
     requires { number ≤ 27 }
     ensures { MatchResult result
-        (λ prices. SaysPrices number line (words_of text.now) (Ok prices.items))
-        (λ fault. SaysPrices number line (words_of text.now) (Err fault)) }
+        (λ prices. IsPricesAnswer number line (words_of text.now) (Ok prices.items))
+        (λ fault. IsPricesAnswer number line (words_of text.now) (Err fault)) }
 {
     let Some(words) = split_words::<27>(text) else {
         if are_prices(text) {
@@ -174,7 +174,7 @@ fn prices_of_words(words: &[&[u8]]) -> Option<ArrayVec<i16, 27>>
     ensures { let texts = map (λ word. word.now) words.now in
         MatchOption result
         (¬ (All IsPriceText texts))
-        (λ prices. (texts ≡ map signed_decimal prices.items) × AreWithinReach prices.items) }
+        (λ prices. (texts ≡ map signed_decimal prices.items) × ArePricesInRange prices.items) }
 {
     let mut prices = ArrayVec::new();
     for word in words {

@@ -4,9 +4,9 @@ ghost use Rattle.std.specs.Prelude.{IsTrue, MatchOption};
 ghost use Rattle.kd_card.specs.Prices.{price_sum, version_of, row_kinds, column_kinds};
 ghost use Rattle.kd_card.specs.Prices.{row_prices, column_prices};
 ghost use Rattle.kd_card.specs.Kinds.{counted, AreKinds};
-ghost use Rattle.kd_card.specs.CardFault.{numbered};
-ghost use Rattle.kd_card.specs.Reading.{head_front};
-ghost use Rattle.kd_card.specs.Prices.{AreWithinReach, ArePrices};
+ghost use Rattle.kd_card.specs.CardFault.{parts_by_number};
+ghost use Rattle.kd_card.specs.Reading.{head_prefix};
+ghost use Rattle.kd_card.specs.Prices.{ArePricesInRange, ArePrices};
 ghost use Rattle.kd_card.specs.CardText.{row_name, column_name, price_count, price_lines, group_of, IsGroup, HaveKinds};
 
 use super::group::Group;
@@ -29,7 +29,7 @@ pub enum Version {
 impl Version {
     /// The head of a card up to its day.
     pub(crate) fn front(self) -> &'static str
-        ensures value { result.now ≡ head_front self }
+        ensures value { result.now ≡ head_prefix self }
         ensures few { length result.now ≡ 11 }
     {
         match self {
@@ -135,9 +135,9 @@ impl Prices {
     pub fn numbered(group: Group, rows: &[i16], columns: &[i16]) -> Self
         requires rows { length rows.now ≡ price_count group }
         requires columns { length columns.now ≡ price_count group }
-        requires row_reach { AreWithinReach rows.now }
-        requires column_reach { AreWithinReach columns.now }
-        ensures value { result ≡ numbered group rows.now columns.now }
+        requires row_reach { ArePricesInRange rows.now }
+        requires column_reach { ArePricesInRange columns.now }
+        ensures value { result ≡ parts_by_number group rows.now columns.now }
         ensures are_prices { ArePrices result }
     {
         match group {
@@ -215,10 +215,10 @@ impl Prices {
             PriceParts::Cables(cables, pairs) => PriceParts::Cables(*cables, *pairs),
             PriceParts::Bars(bars, rows) => PriceParts::Bars(*bars, *rows),
             PriceParts::CableKinds(cables, pairs) => {
-                PriceParts::CableKinds(copied(cables.as_slice()), copied(pairs.as_slice()))
+                PriceParts::CableKinds(copy_list(cables.as_slice()), copy_list(pairs.as_slice()))
             }
             PriceParts::BarKinds(bars, rows) => {
-                PriceParts::BarKinds(copied(bars.as_slice()), copied(rows.as_slice()))
+                PriceParts::BarKinds(copy_list(bars.as_slice()), copy_list(rows.as_slice()))
             }
         }
     }
@@ -252,8 +252,8 @@ impl Prices {
         ensures are_prices { ArePrices self.now }
     {
         match &self.parts {
-            PriceParts::Cables(cables, _) => copied(cables),
-            PriceParts::Bars(bars, _) => copied(bars),
+            PriceParts::Cables(cables, _) => copy_list(cables),
+            PriceParts::Bars(bars, _) => copy_list(bars),
             _ => prices_of_kinds(self.row_kinds().as_slice()),
         }
     }
@@ -266,8 +266,8 @@ impl Prices {
         ensures are_prices { ArePrices self.now }
     {
         match &self.parts {
-            PriceParts::Cables(_, pairs) => copied(pairs),
-            PriceParts::Bars(_, rows) => copied(rows),
+            PriceParts::Cables(_, pairs) => copy_list(pairs),
+            PriceParts::Bars(_, rows) => copy_list(rows),
             _ => prices_of_kinds(self.column_kinds().as_slice()),
         }
     }
@@ -284,14 +284,14 @@ impl Prices {
 
 /// Whether all of `prices` are from -9999 to 9999.
 fn are_within_reach(prices: &[i16]) -> bool
-    ensures { IsTrue result ↔ AreWithinReach prices.now }
+    ensures { IsTrue result ↔ ArePricesInRange prices.now }
 {
     prices.iter().all(|price| price.unsigned_abs() <= 9999)
 }
 
 /// Adds `prices` to `sum`.
 fn sum_onto(sum: i32, prices: &[i16]) -> i32
-    requires reach { AreWithinReach prices.now }
+    requires reach { ArePricesInRange prices.now }
     requires few { length prices.now ≤ 27 }
     requires small { unsigned_abs sum ≤ 27 * 9999 }
     ensures value { result ≡ fold (λ sum price. sum +ℤ price) sum prices.now }
@@ -320,14 +320,14 @@ fn in_order<K: AsKind, const N: usize>(kinds: &[K]) -> Option<ArrayVec<K, N>>
         (λ own. (own.items ≡ kinds.now) × AreKinds 0 all × (counted all ≡ N)) }
 {
     if are_kinds(kinds, 0, N) {
-        Some(copied(kinds))
+        Some(copy_list(kinds))
     } else {
         None
     }
 }
 
 /// Copies `elements` to a list.
-fn copied<K: Copy + Default, const N: usize>(elements: &[K]) -> ArrayVec<K, N>
+fn copy_list<K: Copy + Default, const N: usize>(elements: &[K]) -> ArrayVec<K, N>
     requires { length elements.now ≤ N }
     ensures { result.items ≡ elements.now }
 {

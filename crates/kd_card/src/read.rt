@@ -2,8 +2,9 @@
 ghost use Rattle.std.specs.Prelude.{◌≡◌, ◌≢◌, ℕ, ◌<◌, ◌≤◌, ◌∷◌, ◌++◌, List, MatchOption, MatchResult, Ok, Err};
 ghost use Rattle.kd_state.specs.Words.{IsWithout};
 ghost use Rattle.kd_card.specs.CardText.{IsCard};
-ghost use Rattle.kd_card.specs.CardFault.{BeginsWithHead, SaysValue, SaysNumber, SaysPriceLine};
-ghost use Rattle.kd_card.specs.CardFault.{SaysNumbered, SaysKinded, SaysAllPrices, SaysSum, IsCardFault};
+ghost use Rattle.kd_card.specs.CardFault.{BeginsWithHead, IsValueAnswer, IsCountAnswer, IsPriceLineAnswer};
+ghost use Rattle.kd_card.specs.CardFault.{IsByNumberPricesAnswer, IsByKindPricesAnswer, IsAllPricesAnswer, IsSumAnswer};
+ghost use Rattle.kd_card.specs.CardFault.{IsCardFault};
 
 use super::card::Card;
 use super::fault::CardFault;
@@ -74,8 +75,8 @@ fn read_day(text: &[u8], version: Version) -> Option<(u8, &[u8])>
 fn read_count(text: &[u8], count: usize) -> Result<&[u8], CardFault>
     requires { count ≤ 192 }
     ensures { MatchResult result
-        (λ rest. SaysNumber count text.now (Ok rest.now))
-        (λ fault. SaysNumber count text.now (Err fault)) }
+        (λ rest. IsCountAnswer count text.now (Ok rest.now))
+        (λ fault. IsCountAnswer count text.now (Err fault)) }
 {
     let mut buffer = Buffer::new();
     read_value(text, "SETTINGS ", buffer.format(count), false, count + 2)
@@ -84,8 +85,8 @@ fn read_count(text: &[u8], count: usize) -> Result<&[u8], CardFault>
 /// Checks that line `line` has the sum of prices, and returns the text after it.
 fn read_sum(text: &[u8], sum: i32, line: usize) -> Result<&[u8], CardFault>
     ensures { MatchResult result
-        (λ rest. SaysSum sum line text.now (Ok rest.now))
-        (λ fault. SaysSum sum line text.now (Err fault)) }
+        (λ rest. IsSumAnswer sum line text.now (Ok rest.now))
+        (λ fault. IsSumAnswer sum line text.now (Err fault)) }
 {
     let mut buffer = Buffer::new();
     read_value(text, "SUM ", buffer.format(sum), true, line)
@@ -99,7 +100,7 @@ fn read_value<'a>(
     signed: bool,
     line: usize,
 ) -> Result<&'a [u8], CardFault>
-    ensures { let says = SaysValue signed front.now due.now line text.now in
+    ensures { let says = IsValueAnswer signed front.now due.now line text.now in
         MatchResult result (λ rest. says (Ok rest.now)) (λ fault. says (Err fault)) }
 {
     let Some((number, rest)) = split_value(text, front) else {
@@ -118,8 +119,8 @@ fn read_value<'a>(
 fn read_prices(text: &[u8], version: Version, line: usize) -> Result<(Prices, &[u8]), CardFault>
     requires { line < 200 }
     ensures { MatchResult result
-        (λ found. SaysAllPrices version line text.now (Ok (found.0, found.1.now)))
-        (λ fault. SaysAllPrices version line text.now (Err fault)) }
+        (λ found. IsAllPricesAnswer version line text.now (Ok (found.0, found.1.now)))
+        (λ fault. IsAllPricesAnswer version line text.now (Err fault)) }
 {
     match version {
         Version::ByNumber => read_numbered(text, line),
@@ -131,8 +132,8 @@ fn read_prices(text: &[u8], version: Version, line: usize) -> Result<(Prices, &[
 fn read_numbered(text: &[u8], line: usize) -> Result<(Prices, &[u8]), CardFault>
     requires { line < 200 }
     ensures { MatchResult result
-        (λ found. SaysNumbered line text.now (Ok (found.0, found.1.now)))
-        (λ fault. SaysNumbered line text.now (Err fault)) }
+        (λ found. IsByNumberPricesAnswer line text.now (Ok (found.0, found.1.now)))
+        (λ fault. IsByNumberPricesAnswer line text.now (Err fault)) }
 {
     let (group, behind, rest) = first_group(text, Version::ByNumber, line)?;
     let number = group.number();
@@ -146,8 +147,8 @@ fn read_numbered(text: &[u8], line: usize) -> Result<(Prices, &[u8]), CardFault>
 fn read_kinded(text: &[u8], line: usize) -> Result<(Prices, &[u8]), CardFault>
     requires { line < 200 }
     ensures { MatchResult result
-        (λ found. SaysKinded line text.now (Ok (found.0, found.1.now)))
-        (λ fault. SaysKinded line text.now (Err fault)) }
+        (λ found. IsByKindPricesAnswer line text.now (Ok (found.0, found.1.now)))
+        (λ fault. IsByKindPricesAnswer line text.now (Err fault)) }
 {
     let group = first_group(text, Version::ByKind, line)?.0;
     let number = group.number();
@@ -168,7 +169,7 @@ fn read_price_line<'a>(
 ) -> Result<(ArrayVec<i16, 27>, &'a [u8]), CardFault>
     requires some { 0 < number }
     requires few { number ≤ 27 }
-    ensures { let says = SaysPriceLine (λ (_ : Unit {0}). word.now) (λ _. number) line text.now in
+    ensures { let says = IsPriceLineAnswer (λ (_ : Unit {0}). word.now) (λ _. number) line text.now in
         MatchResult result (λ found. says (Ok (tt, found.0.items, found.1.now)))
         (λ fault. says (Err fault)) }
 {

@@ -4,13 +4,14 @@ ghost use Rattle.std.specs.Prelude.{option_and_then, zip};
 ghost use Rattle.std.specs.Option.{option_map_or};
 ghost use Rattle.arrayvec.specs.ArrayVec.{array_vec_len};
 ghost use Rattle.kd_state.specs.declared.machine.parts.Parts.TheVariants.{Rotor};
-ghost use Rattle.kd_state.specs.ToldApart.{same_wheel, same_reflector};
-ghost use Rattle.kd_state.specs.Machine.{ring_in, letter_in};
+ghost use Rattle.kd_state.specs.SameParts.{same_wheel, same_reflector};
+ghost use Rattle.kd_state.specs.Machine.{machine_ring, machine_letter};
 ghost use Rattle.kd_state.specs.SheetDay.{OfRotors};
 ghost use Rattle.kd_state.specs.Entry.{rotor_values};
-ghost use Rattle.kd_card.specs.Loose.{unless_so, lines_from, seat_of, ring_of_wheel, turn_of, loose_lines};
+ghost use Rattle.kd_card.specs.Loose.{setting_unless, lines_from, slot_seat_line, wheel_ring_line, slot_turn_line};
+ghost use Rattle.kd_card.specs.Loose.{loose_lines};
 
-use super::line::push_line;
+use super::line::push_some_setting;
 use arrayvec::ArrayVec;
 use kd_state::{Machine, RotorEntry, RotorParts, Setting, Settings, SheetWheel};
 use kd_tables::{Reflector, Wheel};
@@ -29,7 +30,7 @@ pub fn rotor_settings(machine: &Machine, parts: &RotorParts, entry: &RotorEntry)
     let reflector = reflector_line(parts.reflector, entry.reflector);
     let mut settings = ArrayVec::new();
     push_seats(&mut settings, 1, parts.slots.as_slice(), wheels);
-    push_line(&mut settings, reflector);
+    push_some_setting(&mut settings, reflector);
     push_rings(&mut settings, machine, parts, parts.model.wheels(), wheels);
     push_turns(&mut settings, machine, parts, 1, wheels);
     settings
@@ -40,13 +41,13 @@ fn push_seats(settings: &mut Settings, number: u8, slots: &[Option<Wheel>], whee
     requires few { number + length slots.now < 256 }
     requires room { array_vec_len settings.old + length slots.now ≤ 192 }
     ensures items { settings.new.items ≡ settings.old.items
-        ++ lines_from seat_of number (zip slots.now wheels.now) }
+        ++ lines_from slot_seat_line number (zip slots.now wheels.now) }
     ensures few { array_vec_len settings.new ≤ array_vec_len settings.old + length slots.now }
 {
     if let [seated, slots @ ..] = slots
         && let [wanted, wheels @ ..] = wheels
     {
-        push_line(settings, seat_line(number, *seated, wanted.wheel));
+        push_some_setting(settings, seat_line(number, *seated, wanted.wheel));
         push_seats(settings, number + 1, slots, wheels);
     }
 }
@@ -62,11 +63,11 @@ fn push_rings(
     requires machine { machine.now ≡ Rotor parts.now }
     requires room { array_vec_len settings.old + length boxed.now ≤ 192 }
     ensures items { settings.new.items ≡ settings.old.items
-        ++ flat_map (ring_of_wheel parts.now wheels.now) boxed.now }
+        ++ flat_map (wheel_ring_line parts.now wheels.now) boxed.now }
     ensures few { array_vec_len settings.new ≤ array_vec_len settings.old + length boxed.now }
 {
     if let [wheel, rest @ ..] = boxed {
-        push_line(settings, ring_line(machine, wheel_of(wheels, *wheel)));
+        push_some_setting(settings, ring_line(machine, find_wheel(wheels, *wheel)));
         push_rings(settings, machine, parts, rest, wheels);
     }
 }
@@ -83,11 +84,11 @@ fn push_turns(
     requires few { number + length wheels.now < 256 }
     requires room { array_vec_len settings.old + length wheels.now ≤ 192 }
     ensures items { settings.new.items ≡ settings.old.items
-        ++ lines_from (turn_of parts.now) number wheels.now }
+        ++ lines_from (slot_turn_line parts.now) number wheels.now }
     ensures few { array_vec_len settings.new ≤ array_vec_len settings.old + length wheels.now }
 {
     if let [wheel, rest @ ..] = wheels {
-        push_line(settings, turn_line(machine, number, *wheel));
+        push_some_setting(settings, turn_line(machine, number, *wheel));
         push_turns(settings, machine, parts, number + 1, rest);
     }
 }
@@ -95,7 +96,7 @@ fn push_turns(
 /// SEAT, or `None` if `wheel` is in the slot already.
 fn seat_line(slot: u8, seated: Option<Wheel>, wheel: Wheel) -> Option<Setting>
     ensures { let so = option_map_or (same_wheel wheel) seated false in
-        result ≡ unless_so so (Setting.Seat slot wheel) }
+        result ≡ setting_unless so (Setting.Seat slot wheel) }
 {
     (seated != Some(wheel)).then_some(Setting::Seat { slot, wheel })
 }
@@ -103,13 +104,13 @@ fn seat_line(slot: u8, seated: Option<Wheel>, wheel: Wheel) -> Option<Setting>
 /// REFLECTOR, or `None` if the machine has it already.
 fn reflector_line(present: Reflector, reflector: Reflector) -> Option<Setting>
     ensures { let so = same_reflector present reflector in
-        result ≡ unless_so so (Setting.SeatReflector reflector) }
+        result ≡ setting_unless so (Setting.SeatReflector reflector) }
 {
     (present != reflector).then_some(Setting::SeatReflector { reflector })
 }
 
 /// Finds `wheel` among the day's wheels.
-fn wheel_of(wheels: &[SheetWheel], wheel: Wheel) -> Option<SheetWheel>
+fn find_wheel(wheels: &[SheetWheel], wheel: Wheel) -> Option<SheetWheel>
     ensures { result ≡ find (λ seated. same_wheel wheel seated.wheel) wheels.now }
 {
     wheels.iter().copied().find(|seated| wheel == seated.wheel)
@@ -118,8 +119,8 @@ fn wheel_of(wheels: &[SheetWheel], wheel: Wheel) -> Option<SheetWheel>
 /// RING, or `None` if the wheel isn't one of the day's or already has the day's ring.
 fn ring_line(machine: &Machine, wanted: Option<SheetWheel>) -> Option<Setting>
     ensures { result ≡ option_and_then (λ seated.
-        let so = option_map_or (nat_eq seated.ring) (ring_in machine.now seated.wheel) false in
-        unless_so so (Setting.RingTo seated.wheel seated.ring)) wanted }
+        let so = option_map_or (nat_eq seated.ring) (machine_ring machine.now seated.wheel) false in
+        setting_unless so (Setting.RingTo seated.wheel seated.ring)) wanted }
 {
     let seated = wanted?;
     let (wheel, letter) = (seated.wheel, seated.ring);
@@ -128,9 +129,9 @@ fn ring_line(machine: &Machine, wanted: Option<SheetWheel>) -> Option<Setting>
 
 /// TURN, or `None` if the wheel in the slot already shows the day's letter.
 fn turn_line(machine: &Machine, slot: u8, wanted: SheetWheel) -> Option<Setting>
-    ensures { let shown = letter_in machine.now wanted.wheel in
+    ensures { let shown = machine_letter machine.now wanted.wheel in
         let so = option_map_or (nat_eq wanted.letter) shown false in
-        result ≡ unless_so so (Setting.Turn slot wanted.letter) }
+        result ≡ setting_unless so (Setting.Turn slot wanted.letter) }
 {
     let SheetWheel { wheel, letter, .. } = wanted;
     (machine.letter(wheel) != Some(letter)).then_some(Setting::Turn { slot, letter })

@@ -3,12 +3,12 @@ ghost use Rattle.std.specs.Prelude.{◌≡◌, ◌+◌, ◌*◌, ◌≤◌, ◌|
 ghost use Rattle.std.specs.Fmt.{signed_decimal};
 ghost use Rattle.arrayvec.specs.ArrayString.{array_string_len};
 ghost use Rattle.kd_tables.specs.Writing.{Writes};
-ghost use Rattle.kd_state.specs.Line.{list_text, IsInRange};
+ghost use Rattle.kd_state.specs.Line.{list_text, IsSettingInRange};
 ghost use Rattle.kd_state.specs.SheetDay.{IsDayNumber};
-ghost use Rattle.kd_card.specs.Prices.{AreWithinReach, ArePrices};
+ghost use Rattle.kd_card.specs.Prices.{ArePricesInRange, ArePrices};
 ghost use Rattle.kd_card.specs.CardText.{card_text, head_words, settings_words, price_words};
 ghost use Rattle.kd_card.specs.CardText.{sum_words, lines_text, price_lines, IsCard};
-ghost use Rattle.kd_card.specs.CardFault.{with_line};
+ghost use Rattle.kd_card.specs.CardFault.{line_then};
 
 use super::card::Card;
 use super::kind_text::push_kinds;
@@ -30,13 +30,13 @@ pub fn write_card<W: Sink>(sink: &mut W, day: u8, card: &Card) -> Result<(), Dev
         IsCard text day card.now.settings.items card.now.prices }
     ensures failed { W.has_failed sink.new ≡ (W.has_failed sink.old || is_err result) }
 {
-    put_all(sink, text_of(day, card).as_str().as_bytes())
+    put_all(sink, card_text(day, card).as_str().as_bytes())
 }
 
 /// The text of `card` for day `day`.
-fn text_of(day: u8, card: &Card) -> ArrayString<LONGEST>
+fn card_text(day: u8, card: &Card) -> ArrayString<LONGEST>
     ensures bytes { result.bytes ≡ card_text day card.now.settings.items card.now.prices }
-    ensures in_range { All IsInRange card.now.settings.items }
+    ensures in_range { All IsSettingInRange card.now.settings.items }
     ensures few { length card.now.settings.items ≤ 192 }
     ensures are_prices { ArePrices card.now.prices }
 {
@@ -52,7 +52,7 @@ fn text_of(day: u8, card: &Card) -> ArrayString<LONGEST>
 /// Appends the head of a card for day `day`.
 fn push_head<const N: usize>(text: &mut ArrayString<N>, version: Version, day: u8)
     requires { array_string_len text.old + 15 ≤ N }
-    ensures bytes { text.new.bytes ≡ text.old.bytes ++ with_line (head_words version day) [] }
+    ensures bytes { text.new.bytes ≡ text.old.bytes ++ line_then (head_words version day) [] }
     ensures len { array_string_len text.new ≤ array_string_len text.old + 15 }
 {
     text.push_str(version.front());
@@ -65,7 +65,7 @@ fn push_settings<const N: usize>(text: &mut ArrayString<N>, settings: &[Setting]
     requires { array_string_len text.old + 24 * length settings.now ≤ N }
     ensures bytes { text.new.bytes ≡ text.old.bytes ++ list_text settings.now }
     ensures len { array_string_len text.new ≤ array_string_len text.old + 24 * length settings.now }
-    ensures in_range { All IsInRange settings.now }
+    ensures in_range { All IsSettingInRange settings.now }
 {
     if let [first, rest @ ..] = settings {
         push_setting(text, first);
@@ -78,7 +78,7 @@ fn push_setting<const N: usize>(text: &mut ArrayString<N>, setting: &Setting)
     requires { array_string_len text.old + 24 ≤ N }
     ensures bytes { text.new.bytes ≡ text.old.bytes ++ list_text (setting.now ∷ []) }
     ensures len { array_string_len text.new ≤ array_string_len text.old + 24 }
-    ensures in_range { IsInRange setting.now }
+    ensures in_range { IsSettingInRange setting.now }
 {
     text.push_str(setting.line().as_str());
     text.push_str("\n");
@@ -87,7 +87,7 @@ fn push_setting<const N: usize>(text: &mut ArrayString<N>, setting: &Setting)
 /// Appends the line with the number of settings.
 fn push_count<const N: usize>(text: &mut ArrayString<N>, count: usize)
     requires { array_string_len text.old + 30 ≤ N }
-    ensures bytes { text.new.bytes ≡ text.old.bytes ++ with_line (settings_words count) [] }
+    ensures bytes { text.new.bytes ≡ text.old.bytes ++ line_then (settings_words count) [] }
     ensures len { array_string_len text.new ≤ array_string_len text.old + 30 }
 {
     let mut buffer = Buffer::new();
@@ -121,9 +121,9 @@ fn push_prices<const N: usize>(text: &mut ArrayString<N>, prices: &Prices)
 /// Appends a line of `word` and `prices`.
 fn push_price_line<const N: usize>(text: &mut ArrayString<N>, word: &str, prices: &[i16])
     requires room { array_string_len text.old + length word.now + 7 * length prices.now + 1 ≤ N }
-    requires reach { AreWithinReach prices.now }
+    requires reach { ArePricesInRange prices.now }
     ensures bytes { text.new.bytes
-        ≡ text.old.bytes ++ with_line (price_words word.now prices.now) [] }
+        ≡ text.old.bytes ++ line_then (price_words word.now prices.now) [] }
     ensures len { array_string_len text.new
         ≤ array_string_len text.old + length word.now + 7 * length prices.now + 1 }
 {
@@ -149,7 +149,7 @@ fn push_price<const N: usize>(text: &mut ArrayString<N>, price: i16)
 /// Appends the line with the sum of prices.
 fn push_sum<const N: usize>(text: &mut ArrayString<N>, sum: i32)
     requires { array_string_len text.old + 16 ≤ N }
-    ensures bytes { text.new.bytes ≡ text.old.bytes ++ with_line (sum_words sum) [] }
+    ensures bytes { text.new.bytes ≡ text.old.bytes ++ line_then (sum_words sum) [] }
     ensures len { array_string_len text.new ≤ array_string_len text.old + 16 }
 {
     let mut buffer = Buffer::new();

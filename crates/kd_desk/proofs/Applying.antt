@@ -1,7 +1,7 @@
 -- The answer of `run_apply`, once the machine file and the settings are read.
 use Rattle.kd_desk.proofs.Prelude.{◌≡◌, ◌⊎◌, ℕ, List, Result, Ok, Err, IfOk, IsErrAnd, IsFalse, MatchResult, inl, subst}
 use Rattle.kd_desk.proofs.Prelude.{sym, Parts, Setting, DeskFault, begins_as_card, AreSettings, OfList, IsSettingsFault}
-use Rattle.{kd_desk.proofs.Prelude.InList, kd_state.specs.Line.IsList, kd_state.specs.Line.IsListFault}
+use Rattle.{kd_desk.proofs.Prelude.InList, kd_state.specs.Line.IsListText, kd_state.specs.Line.IsListFault}
 use Rattle.kd_state.specs.declared.setting.list.ListFault.{ListFault}
 use Rattle.kd_desk.specs.declared.fault.DeskFault.TheVariants as faults
 
@@ -13,7 +13,7 @@ of_read meant m P Q is p = subst (λ (r : Result _ _). IfOk r (λ n. P n ⊎ Q))
 -- bytes that don't begin as a card are read as a list
 pub list_read : {T : Type 0} (items : T → List Setting) (bytes : List ℕ) (read : Result T ListFault)
     (answer : Result T DeskFault) → IsFalse (begins_as_card bytes)
-    → MatchResult read (λ s. IsList bytes (items s)) (IsListFault bytes)
+    → MatchResult read (λ s. IsListText bytes (items s)) (IsListFault bytes)
     → MatchResult read (λ x. answer ≡ Ok x) (λ e. IsErrAnd answer (λ made. made ≡ faults.List e))
     → MatchResult answer (λ s. AreSettings bytes (items s)) (IsSettingsFault bytes)
 list_read items bytes (Ok x) answer other is same =

@@ -5,12 +5,13 @@ use Rattle.kd_desk.proofs.Prelude.{◌≡◌, ℕ, List, length, Result, Parts, 
 use Rattle.kd_desk.proofs.Prelude.{IsCard, DeskFault, Port, Checks, Shortest, verdict_text}
 
 -- for a card that proves itself, the answer is SHORTEST
-pub told : (m : Parts) (s : Day) (number : ℕ) (bytes : List ℕ)
+pub IsVerdictWritten-proved : (m : Parts) (s : Day) (number : ℕ) (bytes : List ℕ)
     (sink : Port) (answer : Result (Unit {0}) DeskFault)
     → IsMachine m → IsLegalDay s → (day : ℕ) (settings : List Setting) (prices : PriceParts) (count : ℕ)
     → IsCard bytes day settings prices → day ≡ number → Proves m s settings prices → count ≡ length settings
     → WritesText (verdict_text count) sink answer → Checks m s number bytes sink answer
-told m s number bytes sink answer machine legal day settings prices count card same proves counted writes =
+IsVerdictWritten-proved m s number bytes sink answer machine legal day settings prices count card same proves counted
+    writes =
     Shortest settings prices (rw same at card) (record {
       proves = proves;
       shortest = proving_cards_are_shortest m s settings prices machine legal card.are_prices proves;

@@ -3,15 +3,15 @@ use Rattle.kd_desk.proofs.Prelude.{◌≡◌, ◌≢◌, ℕ, List, Option, Some
 use Rattle.kd_desk.proofs.Prelude.{Result, Ok, IfSome, IfOk, true, [], refl, subst, App, FailsBy, HasKind, HasMatchesOf}
 use Rattle.kd_desk.proofs.Prelude.{Row, fault_of, first_of, first_value, is_simple, is_simple_and_free, kind_of}
 use Rattle.kd_desk.proofs.Prelude.{rows_of, subcommand_of, subcommand_rows_of, same_Some, IsDayNumber, Stop, Usage}
-use Rattle.kd_desk.proofs.Prelude.{Named, IsOf, Says, arith}
+use Rattle.kd_desk.proofs.Prelude.{NamedCommand, IsCommandOf, IsCommandLineOf, arith}
 use Rattle.clap.proofs.{OnLiterals.clap_on_literals, WalkLemmas.first_value-rows}
 use Rattle.clap.specs.declared.error.{Error.Error, kind.ErrorKind.TheVariants.OutOfMemory}
 use Rattle.clap.specs.declared.parser.matches.{ArgMatches.ArgMatches, Found.Found}
 use Rattle.{kd_desk.specs.{CommandLine.desk_grammar, declared.command.Command.Command}, std.proofs.Common.ok_or}
 
 -- a command with borrowed file names
-abbrev Lent : Type 0
-Lent = Command (Bor (List ℕ)) (Bor (List ℕ))
+abbrev LentCommand : Type 0
+LentCommand = Command (Bor (List ℕ)) (Bor (List ℕ))
 
 -- clap's getters read the first value that a word has in the rows of the matches
 pub read_none : (found : Found) (id : List ℕ) (word : Option (Bor (List ℕ)))
@@ -57,25 +57,28 @@ pub parse_enters : (app : App) (words : List (List ℕ)) (m : ArgMatches) → ap
 parse_enters app words m is has = (subst (λ a. HasMatchesOf a words m) is has grammar_is_known).1
 
 pub no_fault_said : (words : List (List ℕ)) (error : Error) → HasKind (fault_of desk_grammar words) error
-    → kind_of error ≢ OutOfMemory → (command : Named) → Says words command → ⊥
+    → kind_of error ≢ OutOfMemory → (command : NamedCommand) → IsCommandLineOf words command → ⊥
 no_fault_said words error has other command says = let kinds = rw says.taken at has in grind (arith, other)
 
-pub no_subcommand_said : (words : List (List ℕ)) → subcommand_of desk_grammar words ≡ None → (command : Named)
-    → Says words command → ⊥
+pub no_subcommand_said : (words : List (List ℕ)) → subcommand_of desk_grammar words ≡ None → (command : NamedCommand)
+    → IsCommandLineOf words command → ⊥
 no_subcommand_said words none command says = rw none at says.said
 
 pub said_subcommand : (words : List (List ℕ)) (said : List ℕ × List Row) → fault_of desk_grammar words ≡ []
-    → subcommand_of desk_grammar words ≡ Some said → (command : Named) → IsOf said command → Says words command
+    → subcommand_of desk_grammar words ≡ Some said → (command : NamedCommand) → IsCommandOf said command
+    → IsCommandLineOf words command
 said_subcommand words said taken e command is = record { taken = taken; said = rw e is }
 
 -- a command's name and its rows, known one by one, are known as a pair
-pub paired : {X : Type 0} (entered : Option X) (name : X → List ℕ) (rows : X → List Row) (n : List ℕ) (r : List Row)
+pub name_with_rows : {X : Type 0} (entered : Option X) (name : X → List ℕ) (rows : X → List Row) (n : List ℕ)
+    (r : List Row)
     → Some n ≡ option_map name entered → Some r ≡ option_map (λ (p : List ℕ × List Row). p.1)
     (option_map {U = List ℕ × List Row} (λ x. (name x, rows x)) entered)
     → option_map {U = List ℕ × List Row} (λ x. (name x, rows x)) entered ≡ Some (n, r)
-paired entered name rows n r is is_rows = grind (arith)
+name_with_rows entered name rows n r is is_rows = grind (arith)
 
 -- what holds of a command that was found holds of the value of an `Ok`
-pub ok_said : (said : Option Lent) (answer : Result Lent Stop) (P Q : Lent → Type 0) → answer ≡ ok_or said Usage
-    → ((command : Lent) → P command → Q command) → IfSome said P → IfOk answer Q
+pub ok_said : (said : Option LentCommand) (answer : Result LentCommand Stop) (P Q : LentCommand → Type 0)
+    → answer ≡ ok_or said Usage
+    → ((command : LentCommand) → P command → Q command) → IfSome said P → IfOk answer Q
 ok_said said answer P Q e d g = grind arith

@@ -8,21 +8,21 @@ use Rattle.kd_card.proofs.OneCard.{cards_have_no_fault, one_card_fault, texts_te
 use Rattle.kd_desk.specs.declared.fault.DeskFault.TheVariants as faults
 use Rattle.kd_desk.specs.Laws.{TextsTellSettings, SettingsHaveNoFault, SettingsHaveOneFault, LeadsOrRefuses}
 
-both : (b : Bool) → IsTrue b → IsFalse b → ⊥
-both b holds fails = cc
+true_and_false : (b : Bool) → IsTrue b → IsFalse b → ⊥
+true_and_false b holds fails = cc
 
 pub one_list : TextsTellSettings
 one_list bytes xs ys (OfCard begun day prices card) (OfCard also other others same) =
     (texts_tell_cards bytes day other xs ys prices others card same).1
-one_list bytes xs ys (OfCard begun day prices card) (OfList unbegun list) = absurd (both _ begun unbegun)
-one_list bytes xs ys (OfList unbegun list) (OfCard begun day prices card) = absurd (both _ begun unbegun)
+one_list bytes xs ys (OfCard begun day prices card) (OfList unbegun list) = absurd (true_and_false _ begun unbegun)
+one_list bytes xs ys (OfList unbegun list) (OfCard begun day prices card) = absurd (true_and_false _ begun unbegun)
 one_list bytes xs ys (OfList unbegun list) (OfList also same) = texts_tell_lists bytes xs ys list same
 
 pub no_fault : SettingsHaveNoFault
 no_fault bytes xs fault (OfCard begun day prices card) (InCard also of_card is told) =
     cards_have_no_fault bytes day xs prices of_card card is
-no_fault bytes xs fault (OfCard begun day prices card) (InList unbegun of_list is told) = both _ begun unbegun
-no_fault bytes xs fault (OfList unbegun list) (InCard begun of_card is told) = both _ begun unbegun
+no_fault bytes xs fault (OfCard begun day prices card) (InList unbegun of_list is told) = true_and_false _ begun unbegun
+no_fault bytes xs fault (OfList unbegun list) (InCard begun of_card is told) = true_and_false _ begun unbegun
 no_fault bytes xs fault (OfList unbegun list) (InList also of_list is told) =
     lists_have_no_fault bytes xs of_list list is
 
@@ -30,9 +30,9 @@ pub one_fault : SettingsHaveOneFault
 one_fault bytes fault other (InCard begun card is told) (InCard also same are as_told) =
     told ∙ ap (λ f. faults.Card f) (one_card_fault bytes card same is are) ∙ sym as_told
 one_fault bytes fault other (InCard begun card is told) (InList unbegun list are as_told) =
-    absurd (both _ begun unbegun)
+    absurd (true_and_false _ begun unbegun)
 one_fault bytes fault other (InList unbegun list is told) (InCard begun card are as_told) =
-    absurd (both _ begun unbegun)
+    absurd (true_and_false _ begun unbegun)
 one_fault bytes fault other (InList unbegun list is told) (InList also same are as_told) =
     told ∙ ap (λ f. faults.List f) (one_list_fault bytes list same is are) ∙ sym as_told
 

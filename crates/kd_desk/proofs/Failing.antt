@@ -1,11 +1,12 @@
 -- How a call leaves its ports when it fails.
 use Rattle.kd_desk.proofs.Prelude.{arith, ◌≡◌, ℕ, Bool, true, false, ◌||◌, List, Option, Result, Ok, Err, IsErrAnd}
-use Rattle.kd_desk.proofs.Prelude.{IsTrue, inr, sym, subst, Port, IsWell, Fail, Appends, TakesFront, DeskFault}
+use Rattle.kd_desk.proofs.Prelude.{IsTrue, inr, sym, subst, Port, HasNotFailed, FailureAgrees, Appends, TakesPrefix}
+use Rattle.kd_desk.proofs.Prelude.{DeskFault}
 use Rattle.kd_desk.specs.{Ports.WritesText, declared.fault.DeskFault.TheVariants.Device}
 
 -- a port, by its bytes and its failure before and after a call
-abbrev pub over : Option (List ℕ) → Option (List ℕ) → Bool → Bool → Port
-over had has before after = record { had = had; has = has; had_failed = before; has_failed = after }
+abbrev pub port_over : Option (List ℕ) → Option (List ℕ) → Bool → Bool → Port
+port_over had has before after = record { had = had; has = has; had_failed = before; has_failed = after }
 
 -- after a failed call, the port has failed
 pub failed_now : (before after : Bool) → after ≡ (before || true) → IsTrue after
@@ -16,8 +17,9 @@ pub well_now : (before after : Bool) → after ≡ (before || false) → after �
 well_now before after e = grind (arith, e)
 
 -- if the source doesn't fail in a call, a port fails exactly if the sink does
-pub sink_fails : (source sink : Port) (failed : Bool) → IsWell source → sink.has_failed ≡ (sink.had_failed || failed)
-    → Fail source sink failed
+pub sink_fails : (source sink : Port) (failed : Bool) → HasNotFailed source
+    → sink.has_failed ≡ (sink.had_failed || failed)
+    → FailureAgrees source sink failed
 sink_fails source sink false well is = (well, well_now sink.had_failed sink.has_failed is)
 sink_fails source sink true well is =
     inr (record { failed = failed_now sink.had_failed sink.has_failed is; well = well })
@@ -28,14 +30,14 @@ pub err_is : {T F : Type 0} (answer : Result T F) (fault : F)
 err_is answer fault e = grind arith
 
 -- what holds of the error that `?` returns holds of the answer
-pub answered : {T F : Type 0} (answer : Result T F) (fault : F) (P : Result T F → Type 0)
+pub err-holds : {T F : Type 0} (answer : Result T F) (fault : F) (P : Result T F → Type 0)
     → IsErrAnd answer (λ made. made ≡ fault) → P (Err fault) → P answer
-answered answer fault P made p = subst P (sym (err_is answer fault made)) p
+err-holds answer fault P made p = subst P (sym (err_is answer fault made)) p
 
 -- the sink took the whole text, or a prefix of it
 pub in_whole : (text : List ℕ) (sink : Port) → Appends sink.had sink.has text → WritesText text sink (Ok tt)
 in_whole text sink taken = record { written = record { whole = taken; front = tt }; device = tt }
 
-pub in_part : (text : List ℕ) (sink : Port) (answer : Result (Unit {0}) DeskFault) → TakesFront sink.had sink.has text
+pub in_part : (text : List ℕ) (sink : Port) (answer : Result (Unit {0}) DeskFault) → TakesPrefix sink.had sink.has text
     → IsErrAnd answer (λ made. made ≡ Device) → WritesText text sink answer
-in_part text sink answer taken made = grind (arith, answered)
+in_part text sink answer taken made = grind (arith, err-holds)

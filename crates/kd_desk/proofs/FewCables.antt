@@ -9,9 +9,9 @@ use Rattle.kd_plan.specs.FewCables.{NamesNoneAbove, UsesNoneAbove}
 use Rattle.std.proofs.Common.{All, arith}
 use Rattle.std.proofs.lemmas.List.Elements.{All-cons, All-head, All-nil, All-tail}
 
-uses_none : (number : ℕ) (file : List ℕ) (n m : Parts) → machine_of file ≡ Ok n → machine_of file ≡ Ok m
+UsesNoneAbove-same_file : (number : ℕ) (file : List ℕ) (n m : Parts) → machine_of file ≡ Ok n → machine_of file ≡ Ok m
     → UsesNoneAbove number n → UsesNoneAbove number m
-uses_none number file n m one other uses = let same : n ≡ m = cc in subst (UsesNoneAbove number) same uses
+UsesNoneAbove-same_file number file n m one other uses = let same : n ≡ m = cc in subst (UsesNoneAbove number) same uses
 
 keep_to_first : (number : ℕ) (file sheet days : List ℕ) (papers : List Papers)
     → SetTheMachineInTurn file sheet days papers → FileUsesNoneAbove number file
@@ -23,7 +23,7 @@ keep_to_first number file sheet (day ∷ days) (paper ∷ papers) sets uses few 
     let leads = on.proved.reaches.leads in
     let serve = few_cables_serve number on.m on.n on.s on.settings (uses on.m on.of_file) pairs on.spares leads in
     let next : FileUsesNoneAbove number paper.file = λ n of_file.
-    uses_none number paper.file on.n n on.of_next of_file serve.1 in
+    UsesNoneAbove-same_file number paper.file on.n n on.of_next of_file serve.1 in
     let here : KeepsToFirst number paper = record {
       card = λ settings says.
           subst (All (NamesNoneAbove number)) (one_list paper.card on.settings settings on.of_card says) serve.0;

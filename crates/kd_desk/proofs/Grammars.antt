@@ -3,7 +3,7 @@ use Rattle.kd_desk.proofs.Prelude.{arith, ◌≡◌, ◌∙◌, [], ◌∷◌, �
 use Rattle.kd_desk.proofs.Prelude.{app_of, rule_of, new_rule, app_of_fields, Arg, Bor}
 use Rattle.clap.specs.{Built.AddsArg, Built.AddsSubcommand, Simple.new_app, Simple.with_subcommand}
 use Rattle.clap.specs.declared.builder.command.Command.{Command, TheOpen.Command-F, TheViews.out-Command}
-use Rattle.{kd_desk.specs.CommandLine.{IsMadeOf, shape_with}, std.proofs.lemmas.List.map-append}
+use Rattle.{kd_desk.specs.CommandLine.{IsMadeOf, borrowed_shape}, std.proofs.lemmas.List.map-append}
 
 abbrev pub without_help : App → App
 without_help a = record a { top = record a.top { disable_help_flag = true } }
@@ -35,5 +35,6 @@ one_word_more word more has rule local adds = record { shape = grind (arith, map
 -- adding a command with these words adds the command to the grammar
 pub one_command_more : {name : List ℕ} {words : List (Bor (List ℕ))} {app : App} {old sub new : Command}
     → app_of old ≡ app
-    → IsMadeOf sub name words → AddsSubcommand old sub new → app_of new ≡ with_subcommand app (shape_with name words)
+    → IsMadeOf sub name words → AddsSubcommand old sub new
+    → app_of new ≡ with_subcommand app (borrowed_shape name words)
 one_command_more is has adds = adds.shape has.local ∙ ap₂ with_subcommand is (ap (λ (a : App). a.top) has.shape)

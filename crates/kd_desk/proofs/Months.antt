@@ -4,10 +4,11 @@ use Rattle.kd_desk.proofs.Prelude.{IsLegalDay, IsMachine, IsTrue, LacksMemory, L
 use Rattle.kd_desk.proofs.Prelude.{Option, Parts, Port, PriceParts, Result, Setting, Some, [], ap, arith}
 use Rattle.kd_desk.proofs.Prelude.{begins_as_card, day_number, inl, inr, machine_of, refl, subst, sym, ℕ, ◌∙◌, ◌∷◌, ◌≡◌}
 use Rattle.kd_desk.proofs.{Applying.of_read, Days.on_day, Exclusions.one_list, Failing.in_whole, Printing.printed}
-use Rattle.{kd_desk.proofs.Prelude.◌⊎◌, kd_plan.specs.Planned.Plans, kd_tables.specs.declared.model.Model.Model}
+use Rattle.{kd_desk.proofs.Prelude.◌⊎◌, kd_plan.specs.Planned.IsProvedPlannedCard}
+use Rattle.{kd_tables.specs.declared.model.Model.Model}
 use Rattle.kd_desk.specs.{Laws.{MonthsAreFewest, MonthsSetTheMachine}, Ports.WritesText, RunCard.{Prints, WritesCard}}
-use Rattle.kd_desk.specs.Month.{AreWritten, HasDayOf, HasPapers, HasPapersInTurn, Papers, SetTheMachine, taken, well}
-use Rattle.kd_desk.specs.Month.{AreCardsOf, AreDaysOf, SetTheMachineInTurn}
+use Rattle.kd_desk.specs.Month.{AreWritten, HasDayOf, HasPapers, HasPapersInTurn, Papers, SetTheMachine, sink_with}
+use Rattle.kd_desk.specs.Month.{success, AreCardsOf, AreDaysOf, SetTheMachineInTurn}
 use Rattle.kd_card.{proofs.Months.cards_are_fewest_in_all, specs.Months.{DayAfterDay, IsProvedCard}}
 use Rattle.kd_sheet.proofs.ReadBack.Described.{machine_of-IsMachine, sheet_of-legal}
 use Rattle.{kd_prices.specs.KindCards.IsByKind, kd_state.proofs.Telling.Refusing.{leads_to_one, lists_keep_machines}}
@@ -18,8 +19,8 @@ use Rattle.kd_card.specs.declared.card.Card as declared
 
 -- ---- cards and files that are written set the machine
 
-card_printed : (m : Parts) (s : Day) (number : ℕ) (sink : Port) → Prints m s number sink well
-    → WritesCard m s number sink well
+card_printed : (m : Parts) (s : Day) (number : ℕ) (sink : Port) → Prints m s number sink success
+    → WritesCard m s number sink success
 card_printed m s number sink prints = grind (arith)
 
 record IsCarried (m : Parts) (bytes : List ℕ) (sink : Port) : Type 0 where
@@ -28,21 +29,22 @@ record IsCarried (m : Parts) (bytes : List ℕ) (sink : Port) : Type 0 where
   of_card : AreSettings bytes settings
   leads : Leads m settings n
   back : machine_of (machine_text n) ≡ Ok n
-  written : WritesText (machine_text n) sink well
+  written : WritesText (machine_text n) sink success
 
-carried : (m : Parts) (bytes : List ℕ) (sink : Port) → Applies m bytes sink well → IsCarried m bytes sink
-carried m bytes sink applies = grind (arith)
+IsCarried-applied : (m : Parts) (bytes : List ℕ) (sink : Port) → Applies m bytes sink success → IsCarried m bytes sink
+IsCarried-applied m bytes sink applies = grind (arith)
 
-begins : (text : List ℕ) (day : ℕ) (settings : List Setting) (prices : PriceParts) → IsCard text day settings prices
+begins_as_card-card : (text : List ℕ) (day : ℕ) (settings : List Setting) (prices : PriceParts)
+    → IsCard text day settings prices
     → IsTrue (begins_as_card text)
-begins text day settings prices card = subst (λ bytes. IsTrue (begins_as_card bytes)) (sym card.text) refl
+begins_as_card-card text day settings prices card = subst (λ bytes. IsTrue (begins_as_card bytes)) (sym card.text) refl
 
 settings_of : (text : List ℕ) (day : ℕ) (settings : List Setting) (prices : PriceParts)
     → IsCard text day settings prices → AreSettings text settings
-settings_of text day settings prices card = OfCard (begins text day settings prices card) day prices card
+settings_of text day settings prices card = OfCard (begins_as_card-card text day settings prices card) day prices card
 
 -- the files have a machine and a day, and `does` holds of both
-record IsFound (file sheet : List ℕ) (number : ℕ) (does : Parts → Day → Type 0) : Type 0 where
+record IsMachineAndDay (file sheet : List ℕ) (number : ℕ) (does : Parts → Day → Type 0) : Type 0 where
   m : Parts
   of_file : machine_of file ≡ Ok m
   month : List (Option Day)
@@ -52,24 +54,25 @@ record IsFound (file sheet : List ℕ) (number : ℕ) (does : Parts → Day → 
   done : does m s
 
 found_on : (file sheet : List ℕ) (number : ℕ) (does : Parts → Day → Type 0) (found : Result (Parts × Day) DeskFault)
-    → FindsDay file sheet number found → MatchResult found (λ on. does on.0 on.1) (λ fault. well ≡ Err fault)
-    → IsFound file sheet number does
+    → FindsDay file sheet number found → MatchResult found (λ on. does on.0 on.1) (λ fault. success ≡ Err fault)
+    → IsMachineAndDay file sheet number does
 found_on file sheet number does found finds done = grind (arith)
 
-applied : (m : Parts) (bytes : List ℕ) (sink : Port) → Applies m bytes sink well ⊎ LacksMemory well
-    → Applies m bytes sink well
-applied m bytes sink (inl applies) = applies
-applied m bytes sink (inr lacks) = absurd (cc)
+Applies-no_memory : (m : Parts) (bytes : List ℕ) (sink : Port) → Applies m bytes sink success ⊎ LacksMemory success
+    → Applies m bytes sink success
+Applies-no_memory m bytes sink (inl applies) = applies
+Applies-no_memory m bytes sink (inr lacks) = absurd (cc)
 
-sets : (file sheet : List ℕ) (number : ℕ) (papers : Papers)
+SetTheMachine-written : (file sheet : List ℕ) (number : ℕ) (papers : Papers)
     → AreWritten file sheet number papers → SetTheMachine file sheet number papers
-sets file sheet number papers are =
+SetTheMachine-written file sheet number papers are =
     let on = found_on file sheet number _ are.printed.found are.printed.finds are.printed.done in
-    let card = card_printed on.m on.s number (taken papers.card) on.done in
-    let applies : Applies on.m papers.card (taken papers.file) well ⊎ LacksMemory well =
+    let card = card_printed on.m on.s number (sink_with papers.card) on.done in
+    let applies : Applies on.m papers.card (sink_with papers.file) success ⊎ LacksMemory success =
     subst (λ (r : Result Parts SheetFault).
-    IfOk r (λ m. Applies m papers.card (taken papers.file) well ⊎ LacksMemory well)) on.of_file are.applied in
-    let next = carried on.m papers.card (taken papers.file) (applied on.m papers.card (taken papers.file) applies) in
+    IfOk r (λ m. Applies m papers.card (sink_with papers.file) success ⊎ LacksMemory success)) on.of_file are.applied in
+    let next = IsCarried-applied on.m papers.card (sink_with papers.file)
+    (Applies-no_memory on.m papers.card (sink_with papers.file) applies) in
     let text : papers.card ≡ card.text = card.written.written.whole in
     let says = subst (λ bytes. AreSettings bytes card.settings) (sym text)
     (settings_of card.text number card.settings card.prices card.card) in
@@ -102,49 +105,54 @@ sets file sheet number papers are =
 pub months_set_the_machine : MonthsSetTheMachine
 months_set_the_machine file sheet [] [] are = tt
 months_set_the_machine file sheet (number ∷ numbers) (papers ∷ more) are =
-    grind (arith, sets, months_set_the_machine papers.file sheet numbers more are.1)
+    grind (arith, SetTheMachine-written, months_set_the_machine papers.file sheet numbers more are.1)
 months_set_the_machine file sheet numbers papers are = absurd are
 
-in_turn : (file sheet numbers : List ℕ) (papers : List Papers) (m : Parts) (month : List (Option Day))
+DayAfterDay-months : (file sheet numbers : List ℕ) (papers : List Papers) (m : Parts) (month : List (Option Day))
     (days : List Day) (cards : List (List Setting)) → machine_of file ≡ Ok m → sheet_of sheet ≡ Ok month
     → AreDaysOf month numbers days → SetTheMachineInTurn file sheet numbers papers → AreCardsOf papers cards
     → All IsLegalDay days × DayAfterDay IsProvedCard m days cards
-in_turn file sheet [] [] m month [] [] of_file of_sheet due are say = (All-nil IsLegalDay, tt)
-in_turn file sheet (number ∷ numbers) (paper ∷ papers) m month (s ∷ days) (card ∷ cards) of_file of_sheet due on say =
+DayAfterDay-months file sheet [] [] m month [] [] of_file of_sheet due are say = (All-nil IsLegalDay, tt)
+DayAfterDay-months file sheet (number ∷ numbers) (paper ∷ papers) m month (s ∷ days) (card ∷ cards) of_file of_sheet
+    due on say =
     let here = on.0 in
     let machine : here.m ≡ m = cc in
     let day : here.s ≡ s = cc in
     let proved = rw (machine, day, one_list paper.card here.settings card here.of_card say.0) at here.proved in
     let n = here.n in
-    let rest = in_turn paper.file sheet numbers papers n month days cards here.of_next of_sheet due.1 on.1 say.1 in
+    let rest = DayAfterDay-months paper.file sheet numbers papers n month days cards here.of_next of_sheet due.1 on.1
+    say.1 in
     (All-cons IsLegalDay s days (sheet_of-legal sheet month number s of_sheet due.0) rest.0, (n, proved, rest.1))
-in_turn file sheet numbers papers m month days cards of_file of_sheet due are say = grind arith
+DayAfterDay-months file sheet numbers papers m month days cards of_file of_sheet due are say = grind arith
 
 pub months_are_fewest : MonthsAreFewest
 months_are_fewest file sheet numbers papers m month days cards lists of_file of_sheet rotor due written say reach =
     let set = months_set_the_machine file sheet numbers papers written in
-    let are = in_turn file sheet numbers papers m month days cards of_file of_sheet due set say in
+    let are = DayAfterDay-months file sheet numbers papers m month days cards of_file of_sheet due set say in
     cards_are_fewest_in_all m days cards lists (machine_of-IsMachine file m of_file) rotor are.0 are.1 reach
 
 -- ---- such cards and files exist
 
 -- the planned card, and the file of the machine that it leads to, are the papers of the day
 pub papers_for : WrittenFilesAreReadBack → (m n : Parts) (s : Day) → IsMachine m → IsLegalDay s
-    → (planned card : declared.Card) → Plans m s planned.settings.items planned.prices → IsByKind m s planned card
+    → (planned card : declared.Card) → IsProvedPlannedCard m s planned.settings.items planned.prices
+    → IsByKind m s planned card
     → (text : List ℕ) (day : ℕ) → day ≡ day_number s → IsCard text day card.settings.items card.prices
     → Leads m card.settings.items n → HasPapers m s n
 papers_for read_back m n s machine legal planned card plans kinds text day number is_card leads
     file sheet month of_file of_sheet of_month =
     let back = read_back n (lists_keep_machines m n card.settings.items machine is_card.in_range leads) in
     let prints = printed m s machine legal planned card plans kinds
-    text day (taken text) well number is_card (in_whole text (taken text) refl) in
-    let applies : Applies m text (taken (machine_text n)) well =
+    text day (sink_with text) success number is_card (in_whole text (sink_with text) refl) in
+    let applies : Applies m text (sink_with (machine_text n)) success =
     Carried card.settings.items n (settings_of text day card.settings.items card.prices is_card) leads back
-    (in_whole (machine_text n) (taken (machine_text n)) refl) in (
+    (in_whole (machine_text n) (sink_with (machine_text n)) refl) in (
       record { card = text; file = machine_text n },
       record {
-        printed = on_day file sheet (day_number s) _ well m s (Found m month s of_file of_sheet of_month refl) prints;
-        applied = of_read (machine_of file) m (λ m. Applies m text (taken (machine_text n)) well) (LacksMemory well)
+        printed = on_day file sheet (day_number s) _ success m s (Found m month s of_file of_sheet of_month refl)
+            prints;
+        applied = of_read (machine_of file) m (λ m. Applies m text (sink_with (machine_text n)) success)
+            (LacksMemory success)
             (sym of_file) applies;
       },
       back,

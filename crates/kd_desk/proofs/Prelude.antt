@@ -11,13 +11,15 @@ pub use Rattle.clap.specs.Words.{found_of, is_simple, is_simple_and_free, kind_o
 pub use Rattle.clap.specs.Words.{subcommand_of, subcommand_rows_of}
 pub use Rattle.{clap.specs.declared.builder.arg.Arg.Arg, kd_card.specs.CardText.IsCard}
 pub use Rattle.kd_card.specs.declared.prices.PriceParts.{PriceParts}
-pub use Rattle.kd_desk.specs.CommandLine.{IsActionOf, IsOf, Named, NamedAction, Says, named}
-pub use Rattle.kd_desk.specs.Files.{AskFor, Asking, MissesOne, Gives, IsReadWhole, Opened, had, missed, opened}
-pub use Rattle.kd_desk.specs.Messages.{TellOfOrders, Types, answer_to_message}
-pub use Rattle.kd_desk.specs.OnDay.{FindsDay, Found, LackedMemory, NoDay, NoMachine, NoSheet, OnDay}
-pub use Rattle.kd_desk.specs.Program.{AsksFor, CarriesOut, IsDone, KnownCommand, command_over}
+pub use Rattle.kd_desk.specs.CommandLine.{IsActionOf, IsCommandOf, NamedCommand, NamedAction, IsCommandLineOf}
+pub use Rattle.kd_desk.specs.CommandLine.{unborrowed_command}
+pub use Rattle.kd_desk.specs.Files.{AreAskedFor, AskedName, MissesOne, AgreesOrNoMemory, IsReadWhole, KnownFile}
+pub use Rattle.kd_desk.specs.Files.{asked_and_had, asked_and_missed, known_file}
+pub use Rattle.kd_desk.specs.Messages.{TellOfOrders, TypesText, answer_to_message}
+pub use Rattle.kd_desk.specs.OnDay.{FindsDay, Found, LackedMemory, NoDay, NoMachine, NoSheet, IsAnswerOnDay}
+pub use Rattle.kd_desk.specs.Program.{AsksFor, CarriesOut, IsCommandDone, KnownCommand, known_command}
 pub use Rattle.kd_desk.specs.RunApply.{Applies, Carried, NoSettings, RefusedLine}
-pub use Rattle.kd_desk.specs.RunCheck.{Checks, Doubtful, NoCard, Other, Shortest, verdict_text}
+pub use Rattle.kd_desk.specs.RunCheck.{Checks, Doubtful, NoCard, ForOtherDay, Shortest, verdict_text}
 pub use Rattle.kd_desk.specs.RunSteps.{LacksMemory, is_device, is_refused_before}
 pub use Rattle.kd_desk.specs.Settings.{AreSettings, InCard, InList, IsSettingsFault, OfCard, OfList, begins_as_card}
 pub use Rattle.kd_desk.specs.declared.{fault.DeskFault.DeskFault, stop.Stop.Stop, stop.Stop.TheVariants.{Unread, Usage}}
@@ -25,4 +27,4 @@ pub use Rattle.{kd_form.specs.declared.fault.FormFault.FormFault, kd_sheet.specs
 pub use Rattle.kd_state.specs.{Machine.IsMachine, Setting.{Leads, why_refused}}
 pub use Rattle.kd_state.specs.{SheetDay.{Day, IsDayNumber, IsLegalDay, day_number}, declared.machine.parts.Parts.Parts}
 pub use Rattle.kd_state.specs.declared.setting.Setting.{Setting}
-pub use Rattle.kd_tables.specs.{Ports.{Fail, IsWell, Port, port, read_limit}, Writing.TakesFront}
+pub use Rattle.kd_tables.specs.{Ports.{FailureAgrees, HasNotFailed, Port, port, read_limit}, Writing.TakesPrefix}

@@ -1,25 +1,25 @@
 -- What the contracts promise of a card that was planned and written.
 use Rattle.kd_desk.proofs.Prelude.{Day, DeskFault, IsCard, IsLegalDay, IsMachine, List, Parts, Port, PriceParts, Result}
 use Rattle.{kd_desk.proofs.Prelude.{arith, day_number, subst, sym, ℕ, ◌≡◌}, kd_prices.specs.KindCards.IsByKind}
-use Rattle.{kd_desk.specs.{Ports.WritesText, RunCard.{Card, Prints}}, kd_plan.specs.Planned.Plans}
+use Rattle.{kd_desk.specs.{Ports.WritesText, RunCard.{Card, Prints}}, kd_plan.specs.Planned.IsProvedPlannedCard}
 use Rattle.kd_state.proofs.{Keys.{equally_set, reading_cipher, reading_ready}, Telling.Refusing.lists_keep_machines}
 use Rattle.kd_card.specs.declared.card.Card as declared
 use Rattle.kd_desk.specs.Headline as headline
 
 module _ (m : Parts) (s : Day) (is_machine : IsMachine m) (legal : IsLegalDay s) where
-  leaves : (text settings : List _) (numbered prices : PriceParts) → Plans m s settings numbered
+  leaves : (text settings : List _) (numbered prices : PriceParts) → IsProvedPlannedCard m s settings numbered
       → IsCard text (day_number s) settings prices → headline.LeavesTheSheetsMachine m s settings
   leaves text settings numbered prices plans card = grind (arith, lists_keep_machines, reading_ready, reading_cipher)
 
-  decipher : headline.EquallySetDecipher s
+  decipher : headline.EquallySetDecipherOn s
   decipher one other text set are =
       equally_set one other s text set.machine set.other_machine legal set.on_key set.other_on_key set.letters are
 
   -- the planned card, and the same card with prices by kind
-  module _ (planned card : declared.Card) (plans : Plans m s planned.settings.items planned.prices)
+  module _ (planned card : declared.Card) (plans : IsProvedPlannedCard m s planned.settings.items planned.prices)
       (kinds : IsByKind m s planned card) where
-    same : Plans m s card.settings.items planned.prices
-    same = subst (λ settings. Plans m s settings planned.prices) (sym kinds.settings) plans
+    same : IsProvedPlannedCard m s card.settings.items planned.prices
+    same = subst (λ settings. IsProvedPlannedCard m s settings planned.prices) (sym kinds.settings) plans
 
     pub printed : (text : List ℕ) (day : ℕ) (sink : Port) (answer : Result (Unit {0}) DeskFault) → day ≡ day_number s
         → IsCard text day card.settings.items card.prices → WritesText text sink answer

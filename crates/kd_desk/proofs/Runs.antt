@@ -7,50 +7,55 @@ use Rattle.kd_desk.{proofs.Failing.err_is, proofs.SaidCommands.same_command, spe
 use Rattle.{kd_desk.specs.declared.files.fault.FileFault.FileFault, std.proofs.Common.arith}
 use Rattle.kd_desk.proofs.Prelude.{◌≡◌, ℕ, Bool, true, false, List, [], ◌∷◌, ◌++◌, Option, Some, None, IfSome}
 use Rattle.kd_desk.proofs.Prelude.{IsSomeAnd, Result, Ok, Err, IsErrAnd, IsTrue, refl, sym, ap, ◌∙◌, subst, inl, inr}
-use Rattle.kd_desk.proofs.Prelude.{append_assoc, Row, subcommand_of, Stop, Unread, Named, IsOf, Says, KnownCommand}
-use Rattle.kd_desk.proofs.Prelude.{command_over, AskFor, AsksFor, Asking, MissesOne, had, missed, is_ok, CarriesOut}
-use Rattle.kd_desk.proofs.Prelude.{IsDone, Gives, Opened, Port, map, ◌≢◌, Usage}
+use Rattle.kd_desk.proofs.Prelude.{append_assoc, Row, subcommand_of, Stop, Unread, NamedCommand, IsCommandOf}
+use Rattle.kd_desk.proofs.Prelude.{IsCommandLineOf, KnownCommand, known_command, AreAskedFor, AsksFor, AskedName}
+use Rattle.kd_desk.proofs.Prelude.{MissesOne, asked_and_had, asked_and_missed, is_ok, CarriesOut, IsCommandDone}
+use Rattle.kd_desk.proofs.Prelude.{AgreesOrNoMemory, KnownFile, Port, map, ◌≢◌, Usage}
 
 -- the bytes of each file by its name, or nothing if they aren't known
-abbrev Known : Type 0
-Known = Option (List ℕ → Option (List ℕ))
+abbrev KnownFiles : Type 0
+KnownFiles = Option (List ℕ → Option (List ℕ))
 
 -- ---- the names that are asked for
 
-joined : (one : Asking) (old new rest : List Asking) → new ≡ old ++ one ∷ [] → new ++ rest ≡ old ++ one ∷ rest
-joined one old new rest is = ap (λ l. l ++ rest) is ∙ append_assoc old (one ∷ []) rest
+asked-joined : (one : AskedName) (old new rest : List AskedName) → new ≡ old ++ one ∷ []
+    → new ++ rest ≡ old ++ one ∷ rest
+asked-joined one old new rest is = ap (λ l. l ++ rest) is ∙ append_assoc old (one ∷ []) rest
 
 -- if one file was read or opened, and then all others, all of them were
-pub all_on : (name : List ℕ) (names : List (List ℕ)) (old new newer : List Asking)
-    → new ≡ old ++ had name ∷ [] → newer ≡ new ++ map had names → newer ≡ old ++ map had (name ∷ names)
-all_on name names old new newer is more = more ∙ joined (had name) old new (map had names) is
+pub all_on : (name : List ℕ) (names : List (List ℕ)) (old new newer : List AskedName)
+    → new ≡ old ++ asked_and_had name ∷ [] → newer ≡ new ++ map asked_and_had names
+    → newer ≡ old ++ map asked_and_had (name ∷ names)
+all_on name names old new newer is more = more ∙ asked-joined (asked_and_had name) old new (map asked_and_had names) is
 
 -- if one file was read or opened, and a later one wasn't, one of them wasn't
-pub misses_on : (name : List ℕ) (names : List (List ℕ)) (old new newer : List Asking)
-    → new ≡ old ++ had name ∷ [] → MissesOne names new newer → MissesOne (name ∷ names) old newer
+pub misses_on : (name : List ℕ) (names : List (List ℕ)) (old new newer : List AskedName)
+    → new ≡ old ++ asked_and_had name ∷ [] → MissesOne names new newer → MissesOne (name ∷ names) old newer
 misses_on name names old new newer is more = record {
   before = name ∷ more.before;
   name = more.name;
   after = more.after;
   names_are = ap (λ l. name ∷ l) more.names_are;
-  asked = more.asked ∙ joined (had name) old new (map had more.before ++ missed more.name ∷ []) is;
+  asked = more.asked ∙ asked-joined (asked_and_had name) old new
+      (map asked_and_had more.before ++ asked_and_missed more.name ∷ []) is;
 }
 
 -- if the first file couldn't be read or opened, no other was asked for
-pub misses_first : (name : List ℕ) (names : List (List ℕ)) (old new : List Asking) → new ≡ old ++ missed name ∷ []
+pub misses_first : (name : List ℕ) (names : List (List ℕ)) (old new : List AskedName)
+    → new ≡ old ++ asked_and_missed name ∷ []
     → MissesOne (name ∷ names) old new
 misses_first name names old new is = record { before = []; name = name; after = names; names_are = refl; asked = is }
 
 -- one file couldn't be read or opened, and the answer is the error that `?` returns
-pub misses_so : {T : Type 0} (names : List (List ℕ)) (old new : List Asking) (answer : Result T FileFault)
+pub misses_so : {T : Type 0} (names : List (List ℕ)) (old new : List AskedName) (answer : Result T FileFault)
     (fault : FileFault) → IsErrAnd answer (λ made. made ≡ fault) → MissesOne names old new
-    → AskFor names old new (is_ok answer)
+    → AreAskedFor names old new (is_ok answer)
 misses_so names old new answer fault made misses =
-    subst (λ a. AskFor names old new (is_ok a)) (sym (err_is answer fault made)) misses
+    subst (λ a. AreAskedFor names old new (is_ok a)) (sym (err_is answer fault made)) misses
 
 -- ---- what the program asks for
 
-module _ (names : List (List ℕ)) (asked : List Asking) where
+module _ (names : List (List ℕ)) (asked : List AskedName) where
   abbrev Asks : Result (Unit {0}) Stop → Type 0
   Asks = AsksFor names asked
 
@@ -63,74 +68,76 @@ module _ (names : List (List ℕ)) (asked : List Asking) where
       subst Asks (sym (err_is answer (Refused fault) made)) (inr (none, grind (arith, memory)))
 
   pub asked_yet : (answer : Result (Unit {0}) Stop) (fault : FileFault) → IsErrAnd answer (λ made. made ≡ Unread fault)
-      → AskFor names [] asked false → Asks answer
+      → AreAskedFor names [] asked false → Asks answer
   asked_yet answer fault made asks = subst Asks (sym (err_is answer (Unread fault) made)) asks
 
-  asks_after : (file_failed : Bool) (told : Result (Unit {0}) DeskFault) → AskFor names [] asked true
+  asks_after : (file_failed : Bool) (told : Result (Unit {0}) DeskFault) → AreAskedFor names [] asked true
       → Asks (stop_after file_failed told)
   asks_after file_failed (Ok done) asks = asks
   asks_after true (Err Device) asks = asks
   asks_after file_failed (Err fault) asks = inl asks
 
   pub asked_all : (command : KnownCommand) (source sink : Port) (answer : Result (Unit {0}) Stop)
-      → IsDone command source sink answer → AskFor names [] asked true → Asks answer
+      → IsCommandDone command source sink answer → AreAskedFor names [] asked true → Asks answer
   asked_all command source sink answer done asks = subst Asks (sym done.answers) (asks_after _ done.told asks)
 
 -- ---- what the command line says
 
-said_by : (said : Option (List ℕ × List Row)) (one other : Named) → IsSomeAnd said (λ x. IsOf x one)
-    → IsSomeAnd said (λ x. IsOf x other) → one ≡ other
+said_by : (said : Option (List ℕ × List Row)) (one other : NamedCommand) → IsSomeAnd said (λ x. IsCommandOf x one)
+    → IsSomeAnd said (λ x. IsCommandOf x other) → one ≡ other
 said_by said one other e d = grind (arith, same_command)
 
 -- a command line says at most one command
-pub said_command : (words : List (List ℕ)) (one other : Named) → Says words one → Says words other → one ≡ other
+pub said_command : (words : List (List ℕ)) (one other : NamedCommand) → IsCommandLineOf words one
+    → IsCommandLineOf words other → one ≡ other
 said_command words one other says same = said_by (subcommand_of desk_grammar words) one other says.said same.said
 
 -- ---- what is done
 
 -- nothing is known of a file that wasn't opened
-pub nothing_left : Opened
+pub nothing_left : KnownFile
 nothing_left = record { bytes = None; failed = false }
 
 -- ---- what is answered
 
-abbrev fails : FileFault → Result KnownCommand FileFault
-fails fault = Err fault
+abbrev failed_command : FileFault → Result KnownCommand FileFault
+failed_command fault = Err fault
 
-abbrev stopped : FileFault → Result (Unit {0}) Stop
-stopped fault = Err (Unread fault)
+abbrev unread_answer : FileFault → Result (Unit {0}) Stop
+unread_answer fault = Err (Unread fault)
 
 module _ (source sink : Port) (answer : Result (Unit {0}) Stop) where
-  unread_by : (fault other : FileFault) → fails fault ≡ fails other → answer ≡ Err (Unread fault)
+  unread_by : (fault other : FileFault) → failed_command fault ≡ failed_command other → answer ≡ Err (Unread fault)
       → answer ≡ Err (Unread other)
   unread_by fault other is answers =
-      answers ∙ subst (λ (r : Result KnownCommand FileFault). IsErrAnd r (λ f. stopped fault ≡ stopped f)) is refl
+      answers ∙ subst (λ (r : Result KnownCommand FileFault). IsErrAnd r
+      (λ f. unread_answer fault ≡ unread_answer f)) is refl
 
-  file_refused : (meant : Result KnownCommand FileFault) (fault : FileFault) → Gives meant (Err fault)
+  file_refused : (meant : Result KnownCommand FileFault) (fault : FileFault) → AgreesOrNoMemory meant (Err fault)
       → answer ≡ Err (Unread fault) → CarriesOut meant source sink answer
   file_refused meant fault e d = grind (arith, unread_by)
 
-  carried_out : (meant : Result KnownCommand FileFault) (command : KnownCommand) → Gives meant (Ok command)
-      → IsDone command source sink answer → CarriesOut meant source sink answer
+  carried_out : (meant : Result KnownCommand FileFault) (command : KnownCommand) → AgreesOrNoMemory meant (Ok command)
+      → IsCommandDone command source sink answer → CarriesOut meant source sink answer
   carried_out meant command (inl is) done = subst (λ r. CarriesOut r source sink answer) is (inl done)
   carried_out meant command (inr lacks) done = cc
 
   -- each command that the words say is the parsed command, whatever is known of the files
-  module _ (known : Known) (said command : Named) (same : said ≡ command) where
+  module _ (known : KnownFiles) (said command : NamedCommand) (same : said ≡ command) where
     abbrev Meant : (List ℕ → Option (List ℕ)) → Type 0
-    Meant held = CarriesOut (command_over held command) source sink answer
+    Meant held = CarriesOut (known_command held command) source sink answer
 
     pub unread : (fault : FileFault) → IsErrAnd answer (λ made. made ≡ Unread fault)
-        → IfSome known (λ held. Gives (command_over held said) (Err fault)) → IfSome known Meant
+        → IfSome known (λ held. AgreesOrNoMemory (known_command held said) (Err fault)) → IfSome known Meant
     unread fault made gives = grind (arith, err_is, file_refused, same)
 
-    done_of : (of_files : KnownCommand) → IsDone of_files source sink answer → (k : Known)
-        → IfSome k (λ held. Gives (command_over held said) (Ok of_files)) → IfSome k Meant
+    done_of : (of_files : KnownCommand) → IsCommandDone of_files source sink answer → (k : KnownFiles)
+        → IfSome k (λ held. AgreesOrNoMemory (known_command held said) (Ok of_files)) → IfSome k Meant
     done_of of_files done None gives = tt
     done_of of_files done (Some held) gives = grind (arith, carried_out, same, done)
 
-    pub done : (of_files : KnownCommand) → IsDone of_files source sink answer
-        → IfSome known (λ held. Gives (command_over held said) (Ok of_files)) → IfSome known Meant
+    pub done : (of_files : KnownCommand) → IsCommandDone of_files source sink answer
+        → IfSome known (λ held. AgreesOrNoMemory (known_command held said) (Ok of_files)) → IfSome known Meant
     done of_files is gives = done_of of_files is known gives
 
 -- If the program stopped before anything was written, the command was refused before that.

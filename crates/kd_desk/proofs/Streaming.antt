@@ -1,6 +1,6 @@
 -- The desk's answer, made from the answer of typing, sending or receiving a message.
-use Rattle.kd_desk.proofs.Prelude.{arith, ◌≡◌, Result, Ok, Err, IsErrAnd, MatchResult, IsTrue, FormFault, Port, Fail}
-use Rattle.kd_desk.proofs.Prelude.{DeskFault, answer_to_message, is_refused_before, is_device}
+use Rattle.kd_desk.proofs.Prelude.{arith, ◌≡◌, Result, Ok, Err, IsErrAnd, MatchResult, IsTrue, FormFault, Port}
+use Rattle.kd_desk.proofs.Prelude.{FailureAgrees, DeskFault, answer_to_message, is_refused_before, is_device}
 use Rattle.kd_desk.{proofs.Failing.err_is, specs.Messages.fault_of_message}
 use Rattle.kd_form.specs.Streams as streams
 use Rattle.kd_form.specs.Streams.{is_off_key}
@@ -10,10 +10,11 @@ pub off_key : (told : Result (Unit {0}) FormFault) (answer : Result (Unit {0}) D
     → IsTrue (is_refused_before answer) → IsTrue (is_off_key told)
 off_key told answer is before = grind arith
 
-pub fails : (source sink : Port) (told : Result (Unit {0}) FormFault) (answer : Result (Unit {0}) DeskFault)
+pub FailureAgrees-passed_on : (source sink : Port) (told : Result (Unit {0}) FormFault)
+    (answer : Result (Unit {0}) DeskFault)
     → answer ≡ answer_to_message told
-    → Fail source sink (streams.is_device told) → Fail source sink (is_device answer)
-fails source sink told answer is failed = grind arith
+    → FailureAgrees source sink (streams.is_device told) → FailureAgrees source sink (is_device answer)
+FailureAgrees-passed_on source sink told answer is failed = grind arith
 
 -- `map_err` gives the desk's fault for a message's fault
 pub passed_on : (told : Result (Unit {0}) FormFault) (answer : Result (Unit {0}) DeskFault)

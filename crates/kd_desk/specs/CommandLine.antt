@@ -13,8 +13,8 @@ use Rattle.kd_desk.specs.declared.command.Action.{Action}
 use Rattle.kd_desk.specs.declared.command.Action.TheVariants as actions
 use Rattle.kd_desk.specs.declared.command.Task.{Task}
 use Rattle.kd_desk.specs.declared.command.Task.TheVariants as tasks
-use Rattle.kd_desk.specs.declared.command.Way.{Way}
-use Rattle.kd_desk.specs.declared.command.Way.TheVariants.{Send, Receive}
+use Rattle.kd_desk.specs.declared.command.Direction.{Direction}
+use Rattle.kd_desk.specs.declared.command.Direction.TheVariants.{Send, Receive}
 
 -- a command with its words, without options and help
 abbrev pub command_shape : List ℕ → List (List ℕ) → Shape
@@ -24,20 +24,21 @@ command_shape name words = record (new_shape name) {
 }
 
 -- a grammar that is one command without subcommands
-abbrev pub alone : Shape → App
-alone shape = record { top = shape; subs = [] }
+abbrev pub app_without_subcommands : Shape → App
+app_without_subcommands shape = record { top = shape; subs = [] }
 
 -- `command_shape`, over borrowed words
-abbrev pub shape_with : List ℕ → List (Bor (List ℕ)) → Shape
-shape_with name words = command_shape name (map (λ word. word.now) words)
+abbrev pub borrowed_shape : List ℕ → List (Bor (List ℕ)) → Shape
+borrowed_shape name words = command_shape name (map (λ word. word.now) words)
 
 -- the grammar with these commands added, each with its words
 abbrev pub with_commands : App → List (Bor (List ℕ) × Bor (List (Bor (List ℕ)))) → App
-with_commands app commands = fold (λ a command. with_subcommand a (shape_with command.0.now command.1.now)) app commands
+with_commands app commands = fold (λ a command. with_subcommand a (borrowed_shape command.0.now command.1.now)) app
+    commands
 
 -- The grammar is the command `name` with these words, none of which is global.
 pub record IsMadeOf (grammar : Grammar) (name : List ℕ) (words : List (Bor (List ℕ))) : Type 0 where
-  pub shape : app_of grammar ≡ alone (shape_with name words)
+  pub shape : app_of grammar ≡ app_without_subcommands (borrowed_shape name words)
   pub local : (out-Command grammar).has_globals ≡ false
 
 -- the words for a machine file, a sheet and a day
@@ -45,13 +46,13 @@ abbrev pub day_words : List (List ℕ)
 day_words = codes "MACHINE" ∷ codes "SHEET" ∷ codes "DAY" ∷ []
 
 -- the name of the command that sends or receives, and the word for its file
-abbrev pub way_name : Way → List ℕ
-way_name Send = codes "send"
-way_name Receive = codes "receive"
+abbrev pub direction_name : Direction → List ℕ
+direction_name Send = codes "send"
+direction_name Receive = codes "receive"
 
-abbrev pub way_word : Way → List ℕ
-way_word Send = codes "ORDER"
-way_word Receive = codes "FORM"
+abbrev pub direction_word : Direction → List ℕ
+direction_word Send = codes "ORDER"
+direction_word Receive = codes "FORM"
 
 -- the commands `type`, `apply` and `card`
 abbrev pub type_shape : Shape
@@ -71,8 +72,8 @@ file_shape name word = command_shape name (day_words ++ word ∷ [])
 abbrev pub check_shape : Shape
 check_shape = file_shape (codes "check") (codes "CARD")
 
-abbrev pub way_shape : Way → Shape
-way_shape way = file_shape (way_name way) (way_word way)
+abbrev pub direction_shape : Direction → Shape
+direction_shape direction = file_shape (direction_name direction) (direction_word direction)
 
 -- the grammar of the desk: its six commands
 unfoldable pub desk_grammar : App
@@ -82,7 +83,7 @@ desk_grammar = record {
     disable_help_subcommand = true;
     is_leaf = false;
   };
-  subs = type_shape ∷ apply_shape ∷ card_shape ∷ check_shape ∷ way_shape Send ∷ way_shape Receive ∷ [];
+  subs = type_shape ∷ apply_shape ∷ card_shape ∷ check_shape ∷ direction_shape Send ∷ direction_shape Receive ∷ [];
 }
 
 -- ---- A command with other files in place of its own.
@@ -93,7 +94,7 @@ desk_grammar = record {
 abbrev pub with_task_files : {F G O P : Type 0} → (F → G) → (O → P) → Task F O → Task G P
 with_task_files f g tasks.Card = tasks.Card
 with_task_files f g (tasks.Check card) = tasks.Check (f card)
-with_task_files f g (tasks.Message way file) = tasks.Message way (g file)
+with_task_files f g (tasks.Message direction file) = tasks.Message direction (g file)
 
 abbrev pub with_action_files : {F G O P : Type 0} → (F → G) → (O → P) → Action F O → Action G P
 with_action_files f g actions.Type = actions.Type
@@ -104,14 +105,14 @@ abbrev pub with_files : {F G O P : Type 0} → (F → G) → (O → P) → Comma
 with_files f g command = record { machine = f command.machine; action = with_action_files f g command.action }
 
 -- the task, with its file names as texts that aren't borrowed
-abbrev pub task_named : Task (Bor (List ℕ)) (Bor (List ℕ)) → Task (List ℕ) (List ℕ)
-task_named task = with_task_files (λ name. name.now) (λ name. name.now) task
+abbrev pub unborrowed_task : Task (Bor (List ℕ)) (Bor (List ℕ)) → Task (List ℕ) (List ℕ)
+unborrowed_task task = with_task_files (λ name. name.now) (λ name. name.now) task
 
-abbrev pub action_named : Action (Bor (List ℕ)) (Bor (List ℕ)) → Action (List ℕ) (List ℕ)
-action_named action = with_action_files (λ name. name.now) (λ name. name.now) action
+abbrev pub unborrowed_action : Action (Bor (List ℕ)) (Bor (List ℕ)) → Action (List ℕ) (List ℕ)
+unborrowed_action action = with_action_files (λ name. name.now) (λ name. name.now) action
 
-abbrev pub named : Command (Bor (List ℕ)) (Bor (List ℕ)) → Command (List ℕ) (List ℕ)
-named command = with_files (λ name. name.now) (λ name. name.now) command
+abbrev pub unborrowed_command : Command (Bor (List ℕ)) (Bor (List ℕ)) → Command (List ℕ) (List ℕ)
+unborrowed_command command = with_files (λ name. name.now) (λ name. name.now) command
 
 -- the task, with `g` applied to the opened file
 abbrev pub with_task_opened : {F O P : Type 0} → (O → P) → Task F O → Task F P
@@ -120,30 +121,30 @@ with_task_opened g task = with_task_files (λ file. file) g task
 abbrev pub with_action_opened : {F O P : Type 0} → (O → P) → Action F O → Action F P
 with_action_opened g action = with_action_files (λ file. file) g action
 
-abbrev pub with_opened : {F O P : Type 0} → (O → P) → Command F O → Command F P
-with_opened g command = with_files (λ file. file) g command
+abbrev pub with_command_opened : {F O P : Type 0} → (O → P) → Command F O → Command F P
+with_command_opened g command = with_files (λ file. file) g command
 
 -- the opened file, if the task has one
 abbrev pub task_opened : {F O : Type 0} → Task F O → Option O
 task_opened tasks.Card = None
 task_opened (tasks.Check card) = None
-task_opened (tasks.Message way file) = Some file
+task_opened (tasks.Message direction file) = Some file
 
 abbrev pub action_opened : {F O : Type 0} → Action F O → Option O
 action_opened actions.Type = None
 action_opened (actions.Apply list) = None
 action_opened (actions.OnDay sheet day task) = task_opened task
 
-abbrev pub opened_by : {F O : Type 0} → Command F O → Option O
-opened_by command = action_opened command.action
+abbrev pub command_opened : {F O : Type 0} → Command F O → Option O
+command_opened command = action_opened command.action
 
 -- ---- Which command the words say, and the names of its files.
 -- Code: the parser of `clap`.
 -- Test: finds_the_machine_file, finds_the_day, refuses_other_words, stops_before_it_writes
 
 -- A command with the names of its files.
-abbrev pub Named : Type 0
-Named = Command (List ℕ) (List ℕ)
+abbrev pub NamedCommand : Type 0
+NamedCommand = Command (List ℕ) (List ℕ)
 
 abbrev pub NamedAction : Type 0
 NamedAction = Action (List ℕ) (List ℕ)
@@ -155,7 +156,7 @@ NamedTask = Task (List ℕ) (List ℕ)
 abbrev pub task_name : NamedTask → List ℕ
 task_name tasks.Card = codes "card"
 task_name (tasks.Check card) = codes "check"
-task_name (tasks.Message way file) = way_name way
+task_name (tasks.Message direction file) = direction_name direction
 
 abbrev pub action_name : NamedAction → List ℕ
 action_name actions.Type = codes "type"
@@ -163,53 +164,53 @@ action_name (actions.Apply list) = codes "apply"
 action_name (actions.OnDay sheet day task) = task_name task
 
 -- The words name this sheet and this day. The day's number is in decimal.
-pub record HaveDay (rows : List Row) (sheet : List ℕ) (day : ℕ) : Type 0 where
+pub record HaveSheetAndDay (rows : List Row) (sheet : List ℕ) (day : ℕ) : Type 0 where
   pub sheet_word : first_of (codes "SHEET") rows ≡ Some sheet
   pub day_word : first_of (codes "DAY") rows ≡ Some (decimal day)
   pub of_month : IsDayNumber day
 
 -- The words name the files of the task.
-abbrev pub HasFile : List Row → NamedTask → Type 0
-HasFile rows tasks.Card = Unit {0}
-HasFile rows (tasks.Check card) = first_of (codes "CARD") rows ≡ Some card
-HasFile rows (tasks.Message way file) = first_of (way_word way) rows ≡ Some file
+abbrev pub HasTaskFile : List Row → NamedTask → Type 0
+HasTaskFile rows tasks.Card = Unit {0}
+HasTaskFile rows (tasks.Check card) = first_of (codes "CARD") rows ≡ Some card
+HasTaskFile rows (tasks.Message direction file) = first_of (direction_word direction) rows ≡ Some file
 
-abbrev pub HasWords : List Row → NamedAction → Type 0
-HasWords rows actions.Type = Unit {0}
-HasWords rows (actions.Apply list) = first_of (codes "LIST") rows ≡ Some list
-HasWords rows (actions.OnDay sheet day task) = HaveDay rows sheet day × HasFile rows task
+abbrev pub HasActionWords : List Row → NamedAction → Type 0
+HasActionWords rows actions.Type = Unit {0}
+HasActionWords rows (actions.Apply list) = first_of (codes "LIST") rows ≡ Some list
+HasActionWords rows (actions.OnDay sheet day task) = HaveSheetAndDay rows sheet day × HasTaskFile rows task
 
 -- The command's name and the values of its words say this action.
 pub record IsActionOf (said : List ℕ × List Row) (action : NamedAction) : Type 0 where
   pub name : said.0 ≡ action_name action
-  pub words : HasWords said.1 action
+  pub words : HasActionWords said.1 action
 
 -- The command's name and the values of its words say this command.
-pub record IsOf (said : List ℕ × List Row) (command : Named) : Type 0 where
+pub record IsCommandOf (said : List ℕ × List Row) (command : NamedCommand) : Type 0 where
   pub machine : first_of (codes "MACHINE") said.1 ≡ Some command.machine
   pub action : IsActionOf said command.action
 
-abbrev pub IsOfNone : List ℕ × List Row → Type 0
-IsOfNone said = (command : Named) → ¬ (IsOf said command)
+abbrev pub IsNoCommand : List ℕ × List Row → Type 0
+IsNoCommand said = (command : NamedCommand) → ¬ (IsCommandOf said command)
 
 -- The command line fits the grammar and says this command. Its first word is the program's own name.
-pub record Says (words : List (List ℕ)) (command : Named) : Type 0 where
+pub record IsCommandLineOf (words : List (List ℕ)) (command : NamedCommand) : Type 0 where
   pub taken : fault_of desk_grammar words ≡ []
-  pub said : IsSomeAnd (subcommand_of desk_grammar words) (λ said. IsOf said command)
+  pub said : IsSomeAnd (subcommand_of desk_grammar words) (λ said. IsCommandOf said command)
 
-abbrev pub SaysNothing : List (List ℕ) → Type 0
-SaysNothing words = (command : Named) → ¬ (Says words command)
+abbrev pub IsNoCommandLine : List (List ℕ) → Type 0
+IsNoCommandLine words = (command : NamedCommand) → ¬ (IsCommandLineOf words command)
 
 -- the file names of a task, in the order of the words
 abbrev pub task_files : NamedTask → List (List ℕ)
 task_files tasks.Card = []
 task_files (tasks.Check card) = card ∷ []
-task_files (tasks.Message way file) = file ∷ []
+task_files (tasks.Message direction file) = file ∷ []
 
 abbrev pub action_files : NamedAction → List (List ℕ)
 action_files actions.Type = []
 action_files (actions.Apply list) = list ∷ []
 action_files (actions.OnDay sheet day task) = sheet ∷ task_files task
 
-abbrev pub files_of : Named → List (List ℕ)
+abbrev pub files_of : NamedCommand → List (List ℕ)
 files_of command = command.machine ∷ action_files command.action

@@ -24,9 +24,9 @@ stop_line ReadFailed = refused_line faults.Device
 stop_line (Refused fault) = refused_line fault
 
 -- the text for standard error: nothing if all went well
-abbrev pub told_of : Result (Unit {0}) Stop → List ℕ
-told_of (Ok done) = []
-told_of (Err stop) = stop_line stop
+abbrev pub error_text : Result (Unit {0}) Stop → List ℕ
+error_text (Ok done) = []
+error_text (Err stop) = stop_line stop
 
 -- the exit status: 0 if all went well, 2 for words that are no command, 1 for a refusal
 abbrev pub status_of : Result (Unit {0}) Stop → ℕ
@@ -41,5 +41,5 @@ status_of (Err (Refused fault)) = 1
 pub record EndsAs (answer : Result (Unit {0}) Stop) (errors : Port) (status : ℕ) : Type 0 where
   pub ends : status ≡ status_of answer
   pub written : Result (Unit {0}) Device
-  pub told : Writes errors.had errors.has (told_of answer) written
+  pub told : Writes errors.had errors.has (error_text answer) written
   pub failed : errors.has_failed ≡ (errors.had_failed || is_err written)

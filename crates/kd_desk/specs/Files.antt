@@ -6,7 +6,7 @@ use Rattle.std.specs.Prelude.{length, Option, Some, None, Result, Ok, Err, find,
 use Rattle.std.specs.Result.{result_map_both}
 use Rattle.std.specs.Borrow.{Bor}
 use Rattle.std.specs.Io.KnownBytes.{Consumes, IsAtEnd}
-use Rattle.kd_tables.specs.Ports.{read_limit, Port, IsWell}
+use Rattle.kd_tables.specs.Ports.{read_limit, Port, HasNotFailed}
 use Rattle.kd_desk.specs.declared.files.fault.FileFault.{FileFault}
 use Rattle.kd_desk.specs.declared.files.fault.FileFault.TheVariants.{NoMemory, Device, ReadTooLong}
 
@@ -16,68 +16,69 @@ content_of None = Err Device
 content_of (Some bytes) = if nat_le (length bytes) read_limit then Ok bytes else Err ReadTooLong
 
 -- What is known of an opened file: the bytes that are still to come, and whether a read of it has failed.
-pub record Opened : Type 0 where
+pub record KnownFile : Type 0 where
   pub bytes : Option (List ℕ)
   pub failed : Bool
 
-abbrev pub opened : {O : Type 0} → (O → Option (List ℕ)) → (O → Bool) → O → Opened
-opened bytes failed file = record { bytes = bytes file; failed = failed file }
+abbrev pub known_file : {O : Type 0} → (O → Option (List ℕ)) → (O → Bool) → O → KnownFile
+known_file bytes failed file = record { bytes = bytes file; failed = failed file }
 
 -- an opened file, with all of its bytes still to come, or the fault that it isn't there
-abbrev pub opening_of : Option (List ℕ) → Result Opened FileFault
+abbrev pub opening_of : Option (List ℕ) → Result KnownFile FileFault
 opening_of None = Err Device
 opening_of (Some bytes) = Ok (record { bytes = Some bytes; failed = false })
 
 -- the bytes of the first file with this name, in a list of names with bytes
-abbrev pub held_in : List (Bor (List ℕ) × Bor (List ℕ)) → List ℕ → Option (List ℕ)
-held_in files name = option_map (λ file. file.1.now) (find (λ file. bytes_eq file.0.now name) files)
+abbrev pub bytes_in_files : List (Bor (List ℕ) × Bor (List ℕ)) → List ℕ → Option (List ℕ)
+bytes_in_files files name = option_map (λ file. file.1.now) (find (λ file. bytes_eq file.0.now name) files)
 
 -- The answer is `meant`, unless memory ran out.
-abbrev pub Gives : {X : Type 0} → Result X FileFault → Result X FileFault → Type 0
-Gives meant answer = (answer ≡ meant) ⊎ (answer ≡ Err NoMemory)
+abbrev pub AgreesOrNoMemory : {X : Type 0} → Result X FileFault → Result X FileFault → Type 0
+AgreesOrNoMemory meant answer = (answer ≡ meant) ⊎ (answer ≡ Err NoMemory)
 
 -- The answer is `meant`, with what is known of the opened file in place of the file.
-abbrev pub IsOpening : {O : Type 0} → Result Opened FileFault → (O → Opened) → Result O FileFault → Type 0
-IsOpening meant known answer = result_map_both known (λ fault. fault) answer ≡ meant
+abbrev pub IsOpenAnswer : {O : Type 0} → Result KnownFile FileFault → (O → KnownFile) → Result O FileFault → Type 0
+IsOpenAnswer meant known answer = result_map_both known (λ fault. fault) answer ≡ meant
 
-abbrev pub IsReading : {X Y : Type 0} → Result Y FileFault → (X → Y) → Result X FileFault → Type 0
-IsReading meant known answer = Gives meant (result_map_both known (λ fault. fault) answer)
+abbrev pub IsReadAnswer : {X Y : Type 0} → Result Y FileFault → (X → Y) → Result X FileFault → Type 0
+IsReadAnswer meant known answer = AgreesOrNoMemory meant (result_map_both known (λ fault. fault) answer)
 
 -- What was read of a source, by the answer: all that it had; one byte more than a file may have; or what came
 -- before a read failed or memory ran out.
-abbrev pub IsReadAs : Port → List ℕ → Result (List ℕ) FileFault → Type 0
-IsReadAs source read (Ok bytes) = (bytes ≡ read) × (length read ≤ read_limit) × IsAtEnd source.has × IsWell source
-IsReadAs source read (Err ReadTooLong) = (length read ≡ read_limit + 1) × IsWell source
-IsReadAs source read (Err Device) = IsTrue source.has_failed
-IsReadAs source read (Err NoMemory) = IsWell source
+abbrev pub IsReadWholeAs : Port → List ℕ → Result (List ℕ) FileFault → Type 0
+IsReadWholeAs source read (Ok bytes) = (bytes ≡ read) × (length read ≤ read_limit) × IsAtEnd source.has
+    × HasNotFailed source
+IsReadWholeAs source read (Err ReadTooLong) = (length read ≡ read_limit + 1) × HasNotFailed source
+IsReadWholeAs source read (Err Device) = IsTrue source.has_failed
+IsReadWholeAs source read (Err NoMemory) = HasNotFailed source
 
 pub record IsReadWhole (source : Port) (answer : Result (List ℕ) FileFault) : Type 0 where
   pub read : List ℕ
   pub given : Consumes source.had source.has read
-  pub is : IsReadAs source read answer
+  pub is : IsReadWholeAs source read answer
 
 -- ---- Which names of files were asked for.
 -- Code: `Files` keep them.
 -- Test: stops_before_it_writes
 
 -- A name that was asked for, and whether its file could be read or opened.
-abbrev pub Asking : Type 0
-Asking = List ℕ × Bool
+abbrev pub AskedName : Type 0
+AskedName = List ℕ × Bool
 
-abbrev pub had : List ℕ → Asking
-had name = (name, true)
+abbrev pub asked_and_had : List ℕ → AskedName
+asked_and_had name = (name, true)
 
-abbrev pub missed : List ℕ → Asking
-missed name = (name, false)
+abbrev pub asked_and_missed : List ℕ → AskedName
+asked_and_missed name = (name, false)
 
-pub record MissesOne (names : List (List ℕ)) (old new : List Asking) : Type 0 where
+pub record MissesOne (names : List (List ℕ)) (old new : List AskedName) : Type 0 where
   pub before : List (List ℕ)
   pub name : List ℕ
   pub after : List (List ℕ)
   pub names_are : names ≡ before ++ name ∷ after
-  pub asked : new ≡ old ++ (map had before ++ missed name ∷ [])
+  pub asked : new ≡ old ++ (map asked_and_had before ++ asked_and_missed name ∷ [])
 
 -- The names were asked for in order: all of them, or up to the first whose file couldn't be read or opened.
-abbrev pub AskFor : List (List ℕ) → List Asking → List Asking → Bool → Type 0
-AskFor names old new true = new ≡ old ++ map had names
-AskFor names old new false = MissesOne names old new
+abbrev pub AreAskedFor : List (List ℕ) → List AskedName → List AskedName → Bool → Type 0
+AreAskedFor names old new true = new ≡ old ++ map asked_and_had names
+AreAskedFor names old new false = MissesOne names old new

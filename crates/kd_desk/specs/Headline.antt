@@ -29,7 +29,7 @@ pub record AreEquallySet (s : Day) (one other : Parts) : Type 0 where
   pub letters : window_of one ≡ window_of other
 
 -- A machine deciphers what an equally set machine enciphers.
-abbrev pub EquallySetDecipher : Day → Type 0
-EquallySetDecipher s =
+abbrev pub EquallySetDecipherOn : Day → Type 0
+EquallySetDecipherOn s =
     (one other : Parts) (text : List ℕ) → AreEquallySet s one other → All (λ letter. letter < 26) text
     → physical_cipher other (physical_cipher one text) ≡ text

@@ -6,9 +6,9 @@ use Rattle.kd_state.specs.declared.machine.parts.Parts.{Parts}
 use Rattle.kd_state.specs.SheetDay.{Day}
 use Rattle.kd_form.specs.declared.fault.FormFault.{FormFault}
 use Rattle.kd_form.specs.declared.fault.FormFault.TheVariants as message
-use Rattle.kd_form.specs.FormText.{IsTextOf, IsReceiveFault, IsGivenOf, form_message}
+use Rattle.kd_form.specs.FormText.{IsTextOf, IsReceiveFault, IsPlaintextOf, form_message}
 use Rattle.kd_form.specs.Sending.{IsFormOf}
-use Rattle.kd_form.specs.SendStream.{orders}
+use Rattle.kd_form.specs.SendStream.{order_message}
 use Rattle.kd_form.specs.Streams.{Message, StreamsOnKey}
 use Rattle.kd_form.specs.Typing.{TypesIfReady}
 use Rattle.kd_desk.specs.declared.fault.DeskFault.{DeskFault}
@@ -33,8 +33,8 @@ pub record IsAnswered (is_so : Result (Unit {0}) FormFault → Type 0) (answer :
   pub answers : answer ≡ answer_to_message told
 
 -- The ciphertext of a typed text is written, or the text is refused.
-abbrev pub Types : Parts → Port → Port → Result (Unit {0}) DeskFault → Type 0
-Types m source sink answer = IsAnswered (TypesIfReady m source sink) answer
+abbrev pub TypesText : Parts → Port → Port → Result (Unit {0}) DeskFault → Type 0
+TypesText m source sink answer = IsAnswered (TypesIfReady m source sink) answer
 
 -- A message was read as it came, and its result was written part by part.
 abbrev pub IsStreamedOn : Parts → Day → Message → Port → Port → Result (Unit {0}) DeskFault → Type 0
@@ -42,13 +42,13 @@ IsStreamedOn m s message source sink answer = IsAnswered (StreamsOnKey m s messa
 
 -- The form of the order is written, or the order is refused.
 abbrev pub Sends : Parts → Day → Port → Port → Result (Unit {0}) DeskFault → Type 0
-Sends m s order sink answer = IsStreamedOn m s (orders s) order sink answer
+Sends m s order sink answer = IsStreamedOn m s (order_message s) order sink answer
 
 -- What a form of the day tells of orders. Its text is what its order gives. A form with a fault is no order's
 -- form. If the fault stands, no longer form that begins with this one is an order's form either.
 pub record TellOfOrders (s : Day) : Type 0 where
   pub back : (form text order given : List ℕ) → IsTextOf s form text → IsFormOf s order form
-      → IsGivenOf s order given → text ≡ given
+      → IsPlaintextOf s order given → text ≡ given
   pub of_no_order : (form order : List ℕ) (fault : FormFault) → IsReceiveFault s form fault → ¬ (IsFormOf s order form)
   pub of_no_front : (form more order : List ℕ) (fault : FormFault) → (form_message s).stands form fault
       → ¬ (IsFormOf s order (form ++ more))

@@ -15,7 +15,7 @@ use Rattle.kd_sheet.specs.Sheet.{day_of}
 use Rattle.kd_sheet.specs.SheetFile.{sheet_of}
 use Rattle.kd_desk.specs.declared.fault.DeskFault.{DeskFault}
 use Rattle.kd_desk.specs.Headline.{IsSheetsMachine}
-use Rattle.kd_desk.specs.OnDay.{OnDay}
+use Rattle.kd_desk.specs.OnDay.{IsAnswerOnDay}
 use Rattle.kd_desk.specs.RunApply.{Applies}
 use Rattle.kd_desk.specs.RunCard.{Prints}
 use Rattle.kd_desk.specs.RunSteps.{LacksMemory}
@@ -27,17 +27,18 @@ pub record Papers : Type 0 where
   pub file : List ℕ
 
 -- a sink that has taken just this text, and a call that went well
-abbrev pub taken : List ℕ → Port
-taken text = record { had = Some []; has = Some text; had_failed = false; has_failed = false }
+abbrev pub sink_with : List ℕ → Port
+sink_with text = record { had = Some []; has = Some text; had_failed = false; has_failed = false }
 
-abbrev pub well : Result (Unit {0}) DeskFault
-well = Ok tt
+abbrev pub success : Result (Unit {0}) DeskFault
+success = Ok tt
 
 -- The card is what `run_card` writes for the machine's file and day `number`. The next file is what `run_apply`
 -- writes for this file and this card.
 pub record AreWritten (file sheet : List ℕ) (number : ℕ) (papers : Papers) : Type 0 where
-  pub printed : OnDay file sheet number (λ m s. Prints m s number (taken papers.card) well) well
-  pub applied : IfOk (machine_of file) (λ m. Applies m papers.card (taken papers.file) well ⊎ LacksMemory well)
+  pub printed : IsAnswerOnDay file sheet number (λ m s. Prints m s number (sink_with papers.card) success) success
+  pub applied : IfOk (machine_of file)
+      (λ m. Applies m papers.card (sink_with papers.file) success ⊎ LacksMemory success)
 
 -- Cards and files are written for one day after another, each card from the file before it.
 abbrev pub AreWrittenInTurn : List ℕ → List ℕ → List ℕ → List Papers → Type 0

@@ -25,8 +25,8 @@ pub data FindsDay (machine sheet : List ℕ) (number : ℕ) (found : Result (Par
       → day_of days number ≡ Some s → found ≡ Ok (m, s) → FindsDay machine sheet number found
 
 -- The machine and the day satisfy `does`, or the answer is the first fault of the files.
-pub record OnDay (machine sheet : List ℕ) (number : ℕ) (does : Parts → Day → Type 0)
+pub record IsAnswerOnDay (machine sheet : List ℕ) (number : ℕ) (does : Parts → Day → Type 0)
     (answer : Result (Unit {0}) DeskFault) : Type 0 where
   pub found : Result (Parts × Day) DeskFault
   pub finds : FindsDay machine sheet number found
-  pub done : MatchResult found (λ on. does on.0 on.1) (λ fault. answer ≡ Err fault)
+  pub done : MatchResult found (λ both. does both.0 both.1) (λ fault. answer ≡ Err fault)

@@ -7,28 +7,27 @@ use Rattle.kd_sheet.specs.declared.fault.SheetFault.TheVariants.{NoMemory}
 use Rattle.kd_sheet.specs.MachineFile.{machine_of}
 use Rattle.kd_state.specs.declared.machine.parts.Parts.{Parts}
 use Rattle.kd_state.specs.SheetDay.{Day}
-use Rattle.kd_desk.specs.CommandLine.{Says, SaysNothing, files_of}
-use Rattle.kd_desk.specs.CommandLine.{Named, NamedAction, NamedTask, with_opened, with_task_opened, opened_by}
-use Rattle.kd_desk.specs.CommandLine.{task_opened}
+use Rattle.kd_desk.specs.CommandLine.{IsCommandLineOf, IsNoCommandLine, files_of, NamedCommand, NamedAction, NamedTask}
+use Rattle.kd_desk.specs.CommandLine.{with_command_opened, with_task_opened, command_opened, task_opened}
 use Rattle.kd_desk.specs.declared.command.Command.{Command}
 use Rattle.kd_desk.specs.declared.command.Action.{Action}
 use Rattle.kd_desk.specs.declared.command.Action.TheVariants as actions
 use Rattle.kd_desk.specs.declared.command.Task.{Task}
 use Rattle.kd_desk.specs.declared.command.Task.TheVariants as tasks
-use Rattle.kd_desk.specs.declared.command.Way.TheVariants.{Send, Receive}
+use Rattle.kd_desk.specs.declared.command.Direction.TheVariants.{Send, Receive}
 use Rattle.kd_desk.specs.declared.fault.DeskFault.{DeskFault}
 use Rattle.kd_desk.specs.declared.fault.DeskFault.TheVariants.{File}
 use Rattle.kd_desk.specs.declared.files.fault.FileFault.{FileFault}
 use Rattle.kd_desk.specs.declared.files.fault.FileFault.TheVariants as files
 use Rattle.kd_desk.specs.declared.stop.Stop.{Stop}
 use Rattle.kd_desk.specs.declared.stop.Stop.TheVariants.{Usage, Unread, ReadFailed, Refused}
-use Rattle.kd_desk.specs.Files.{Asking, AskFor, Opened, content_of, opening_of}
+use Rattle.kd_desk.specs.Files.{AskedName, AreAskedFor, KnownFile, content_of, opening_of}
 use Rattle.kd_desk.specs.Stops.{stop_after}
-use Rattle.kd_tables.specs.Ports.{Port, Fail}
+use Rattle.kd_tables.specs.Ports.{Port, FailureAgrees}
 use Rattle.kd_desk.specs.Ending.{EndsAs}
-use Rattle.kd_form.specs.Streams.{IsLeft}
-use Rattle.kd_desk.specs.Messages.{Types, Sends, Receives}
-use Rattle.kd_desk.specs.OnDay.{OnDay}
+use Rattle.kd_form.specs.Streams.{IsUntouched}
+use Rattle.kd_desk.specs.Messages.{TypesText, Sends, Receives}
+use Rattle.kd_desk.specs.OnDay.{IsAnswerOnDay}
 use Rattle.kd_desk.specs.RunApply.{Applies}
 use Rattle.kd_desk.specs.RunCard.{Prints}
 use Rattle.kd_desk.specs.RunCheck.{Checks}
@@ -36,13 +35,13 @@ use Rattle.kd_desk.specs.RunSteps.{LacksMemory, AnswersFault, is_refused_before,
 
 -- A command with what is known of its files: the bytes of those that are read whole, and the opened one.
 abbrev pub KnownTask : Type 0
-KnownTask = Task (List ℕ) Opened
+KnownTask = Task (List ℕ) KnownFile
 
 abbrev pub KnownAction : Type 0
-KnownAction = Action (List ℕ) Opened
+KnownAction = Action (List ℕ) KnownFile
 
 abbrev pub KnownCommand : Type 0
-KnownCommand = Command (List ℕ) Opened
+KnownCommand = Command (List ℕ) KnownFile
 
 -- goes on with `made` and the file, or gives the file's fault
 abbrev pub with_file : {F X : Type 0} → Result F FileFault → (F → Result X FileFault) → Result X FileFault
@@ -50,28 +49,30 @@ with_file (Ok file) made = made file
 with_file (Err fault) made = Err fault
 
 -- a task with what is known of its files, or the fault of the first file that can't be read or opened
-abbrev pub task_over : (List ℕ → Option (List ℕ)) → NamedTask → Result KnownTask FileFault
-task_over held tasks.Card = Ok tasks.Card
-task_over held (tasks.Check card) = with_file (content_of (held card)) (λ bytes. Ok (tasks.Check bytes))
-task_over held (tasks.Message way file) = with_file (opening_of (held file)) (λ known. Ok (tasks.Message way known))
+abbrev pub known_task : (List ℕ → Option (List ℕ)) → NamedTask → Result KnownTask FileFault
+known_task held tasks.Card = Ok tasks.Card
+known_task held (tasks.Check card) = with_file (content_of (held card)) (λ bytes. Ok (tasks.Check bytes))
+known_task held (tasks.Message direction file) = with_file (opening_of (held file))
+    (λ known. Ok (tasks.Message direction known))
 
-abbrev pub action_over : (List ℕ → Option (List ℕ)) → NamedAction → Result KnownAction FileFault
-action_over held actions.Type = Ok actions.Type
-action_over held (actions.Apply list) = with_file (content_of (held list)) (λ bytes. Ok (actions.Apply bytes))
-action_over held (actions.OnDay sheet day task) =
-    with_file (content_of (held sheet)) (λ bytes. with_file (task_over held task) (λ t. Ok (actions.OnDay bytes day t)))
+abbrev pub known_action : (List ℕ → Option (List ℕ)) → NamedAction → Result KnownAction FileFault
+known_action held actions.Type = Ok actions.Type
+known_action held (actions.Apply list) = with_file (content_of (held list)) (λ bytes. Ok (actions.Apply bytes))
+known_action held (actions.OnDay sheet day task) =
+    with_file (content_of (held sheet)) (λ bytes. with_file (known_task held task)
+    (λ t. Ok (actions.OnDay bytes day t)))
 
-abbrev pub command_over : (List ℕ → Option (List ℕ)) → Named → Result KnownCommand FileFault
-command_over held command =
+abbrev pub known_command : (List ℕ → Option (List ℕ)) → NamedCommand → Result KnownCommand FileFault
+known_command held command =
     with_file (content_of (held command.machine))
-    (λ bytes. with_file (action_over held command.action) (λ a. Ok (record { machine = bytes; action = a })))
+    (λ bytes. with_file (known_action held command.action) (λ a. Ok (record { machine = bytes; action = a })))
 
 -- ---- What a command does: what its own call promises.
 
 -- A text was typed on the machine of a machine file, or the machine file was refused.
 pub record TypesOn (machine : List ℕ) (source sink : Port) (answer : Result (Unit {0}) DeskFault) : Type 0 where
   pub refused : IfErr (machine_of machine) (λ fault. AnswersFault answer (File fault))
-  pub typed : IfOk (machine_of machine) (λ m. Types m source sink answer ⊎ LacksMemory answer)
+  pub typed : IfOk (machine_of machine) (λ m. TypesText m source sink answer ⊎ LacksMemory answer)
 
 -- Settings were carried out on the machine of a machine file, or the machine file was refused.
 pub record AppliesTo (machine list : List ℕ) (sink : Port) (answer : Result (Unit {0}) DeskFault) : Type 0 where
@@ -88,22 +89,22 @@ DoesTask (tasks.Message Receive form) number sink answer m s = Receives m s form
 -- What an action does with the machine of a machine file. Only typing reads the source.
 abbrev pub DoesAction : List ℕ → Action (List ℕ) Port → Port → Port → Result (Unit {0}) DeskFault → Type 0
 DoesAction machine actions.Type source sink answer = TypesOn machine source sink answer
-DoesAction machine (actions.Apply list) source sink answer = AppliesTo machine list sink answer × IsLeft source
+DoesAction machine (actions.Apply list) source sink answer = AppliesTo machine list sink answer × IsUntouched source
 DoesAction machine (actions.OnDay sheet day task) source sink answer =
-    OnDay machine sheet day (DoesTask task day sink answer) answer × IsLeft source
+    IsAnswerOnDay machine sheet day (DoesTask task day sink answer) answer × IsUntouched source
 
 -- What a command does with the bytes of its files.
-abbrev pub Does : Command (List ℕ) Port → Port → Port → Result (Unit {0}) DeskFault → Type 0
-Does command source sink answer = DoesAction command.machine command.action source sink answer
+abbrev pub DoesCommand : Command (List ℕ) Port → Port → Port → Result (Unit {0}) DeskFault → Type 0
+DoesCommand command source sink answer = DoesAction command.machine command.action source sink answer
 
 -- ---- How a command is carried out, and what is left of the file that it opened.
 
 -- the opened file as a port, from what was known of it before to what is known after
-abbrev pub read_to : Opened → Opened → Port
-read_to left file = record { had = file.bytes; has = left.bytes; had_failed = file.failed; has_failed = left.failed }
+abbrev pub file_port : KnownFile → KnownFile → Port
+file_port left file = record { had = file.bytes; has = left.bytes; had_failed = file.failed; has_failed = left.failed }
 
 -- whether there is an opened file, and a read of it failed
-abbrev pub has_file_failed : Option Opened → Opened → Bool
+abbrev pub has_file_failed : Option KnownFile → KnownFile → Bool
 has_file_failed None left = false
 has_file_failed (Some file) left = left.failed
 
@@ -117,23 +118,24 @@ StopsForMemory answer = (answer ≡ Err (Refused (File NoMemory))) ⊎ (answer �
 
 -- A command was carried out, and its answer stops the program or ends it well. `left` is what is left of the
 -- file that the command opened.
-pub record IsDone (command : KnownCommand) (source sink : Port) (answer : Result (Unit {0}) Stop) : Type 0 where
-  pub left : Opened
+pub record IsCommandDone (command : KnownCommand) (source sink : Port) (answer : Result (Unit {0}) Stop) : Type 0 where
+  pub left : KnownFile
   pub told : Result (Unit {0}) DeskFault
-  pub does : Does (with_opened (read_to left) command) source sink told
-  pub answers : answer ≡ stop_after (has_file_failed (opened_by command) left) told
+  pub does : DoesCommand (with_command_opened (file_port left) command) source sink told
+  pub answers : answer ≡ stop_after (has_file_failed (command_opened command) left) told
 
--- `IsDone` for a task, with a machine file and a day of a sheet.
+-- `IsCommandDone` for a task, with a machine file and a day of a sheet.
 pub record IsTaskDone (machine sheet : List ℕ) (number : ℕ) (task : KnownTask) (sink : Port)
     (answer : Result (Unit {0}) Stop) : Type 0 where
-  pub left : Opened
+  pub left : KnownFile
   pub told : Result (Unit {0}) DeskFault
-  pub does : OnDay machine sheet number (DoesTask (with_task_opened (read_to left) task) number sink told) told
+  pub does : IsAnswerOnDay machine sheet number (DoesTask (with_task_opened (file_port left) task) number sink told)
+      told
   pub answers : answer ≡ stop_after (has_file_failed (task_opened task) left) told
 
 -- A command was carried out, or was refused for a file that can't be read or opened, or memory ran out.
 abbrev pub CarriesOut : Result KnownCommand FileFault → Port → Port → Result (Unit {0}) Stop → Type 0
-CarriesOut (Ok command) source sink answer = IsDone command source sink answer ⊎ StopsForMemory answer
+CarriesOut (Ok command) source sink answer = IsCommandDone command source sink answer ⊎ StopsForMemory answer
 CarriesOut (Err fault) source sink answer = (answer ≡ Err (Unread fault)) ⊎ StopsForMemory answer
 
 -- ---- What holds of the program's answer: the command's answer, the files asked for, and the ports.
@@ -153,23 +155,23 @@ is_stopped_by_port _ = false
 
 -- Which files were asked for, by the answer: none, if memory ran out over the command line; those up to the
 -- first that couldn't be read or opened; otherwise all.
-abbrev pub AsksFor : List (List ℕ) → List Asking → Result (Unit {0}) Stop → Type 0
+abbrev pub AsksFor : List (List ℕ) → List AskedName → Result (Unit {0}) Stop → Type 0
 AsksFor names asked (Err Usage) = asked ≡ []
-AsksFor names asked (Err (Unread fault)) = AskFor names [] asked false
-AsksFor names asked (Err (Refused fault)) = AskFor names [] asked true ⊎ ((asked ≡ []) × (fault ≡ File NoMemory))
-AsksFor names asked answer = AskFor names [] asked true
+AsksFor names asked (Err (Unread fault)) = AreAskedFor names [] asked false
+AsksFor names asked (Err (Refused fault)) = AreAskedFor names [] asked true ⊎ ((asked ≡ []) × (fault ≡ File NoMemory))
+AsksFor names asked answer = AreAskedFor names [] asked true
 
 -- The program's answer to a command line, by what is known of the files, and the names that it asked for.
-pub record IsRun (words : List (List ℕ)) (known : Option (List ℕ → Option (List ℕ))) (asked : List Asking)
+pub record IsRun (words : List (List ℕ)) (known : Option (List ℕ → Option (List ℕ))) (asked : List AskedName)
     (source sink : Port) (Untouched : Type 0) (answer : Result (Unit {0}) Stop) : Type 0 where
-  pub carried : (command : Named) → Says words command
-      → IfSome known (λ held. CarriesOut (command_over held command) source sink answer)
-  pub asks : (command : Named) → Says words command → AsksFor (files_of command) asked answer
-  pub usage : answer ≡ Err Usage → SaysNothing words
-  pub other_words : SaysNothing words → (answer ≡ Err Usage) ⊎ StopsForMemory answer
-  pub none_asked : SaysNothing words → asked ≡ []
+  pub carried : (command : NamedCommand) → IsCommandLineOf words command
+      → IfSome known (λ held. CarriesOut (known_command held command) source sink answer)
+  pub asks : (command : NamedCommand) → IsCommandLineOf words command → AsksFor (files_of command) asked answer
+  pub usage : answer ≡ Err Usage → IsNoCommandLine words
+  pub other_words : IsNoCommandLine words → (answer ≡ Err Usage) ⊎ StopsForMemory answer
+  pub none_asked : IsNoCommandLine words → asked ≡ []
   pub untouched : IsTrue (is_stopped_before answer) → Untouched
-  pub failed : Fail source sink (is_stopped_by_port answer)
+  pub failed : FailureAgrees source sink (is_stopped_by_port answer)
 
 -- The program's answer satisfies `IsSo`, and the program ended as this answer says.
 pub record HasEnded (IsSo : Result (Unit {0}) Stop → Type 0) (errors : Port) (status : ℕ) : Type 0 where

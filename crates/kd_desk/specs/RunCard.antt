@@ -11,10 +11,10 @@ use Rattle.kd_card.specs.declared.prices.Version.TheVariants.{ByKind}
 use Rattle.kd_card.specs.CardText.{IsCard}
 use Rattle.kd_card.specs.Prices.{version_of}
 use Rattle.kd_card.specs.Proving.{Proves}
-use Rattle.kd_plan.specs.Planned.{Plans}
+use Rattle.kd_plan.specs.Planned.{IsProvedPlannedCard}
 use Rattle.kd_desk.specs.declared.fault.DeskFault.{DeskFault}
 use Rattle.kd_desk.specs.declared.fault.DeskFault.TheVariants.{OtherModel}
-use Rattle.kd_desk.specs.Headline.{LeavesTheSheetsMachine, EquallySetDecipher}
+use Rattle.kd_desk.specs.Headline.{LeavesTheSheetsMachine, EquallySetDecipherOn}
 use Rattle.kd_tables.specs.Ports.{Port}
 use Rattle.kd_desk.specs.Ports.{WritesText}
 
@@ -28,9 +28,9 @@ pub record WritesCard (m : Parts) (s : Day) (number : ℕ) (sink : Port)
   pub prices : PriceParts
   pub version : version_of prices ≡ ByKind
   pub proves : Proves m s settings prices
-  pub plans : Plans m s settings proves.numbered
+  pub plans : IsProvedPlannedCard m s settings proves.numbered
   pub leaves : LeavesTheSheetsMachine m s settings
-  pub deciphers : EquallySetDecipher s
+  pub deciphers : EquallySetDecipherOn s
   pub text : List ℕ
   pub card : IsCard text number settings prices
   pub written : WritesText text sink answer

@@ -22,7 +22,7 @@ verdict_text number = codes "SHORTEST " ++ decimal number ++ 10 ∷ []
 
 -- The card proves itself, so no fewer settings reach the day. The line `verdict_text` was written, or only a
 -- prefix of it if the device failed.
-pub record IsTold (m : Parts) (s : Day) (settings : List Setting) (prices : PriceParts) (sink : Port)
+pub record IsVerdictWritten (m : Parts) (s : Day) (settings : List Setting) (prices : PriceParts) (sink : Port)
     (answer : Result (Unit {0}) DeskFault)
     : Type 0 where
   pub proves : Proves m s settings prices
@@ -35,9 +35,10 @@ pub data Checks (m : Parts) (s : Day) (number : ℕ) (bytes : List ℕ) (sink : 
     (answer : Result (Unit {0}) DeskFault) : Type 0 where
   NoCard : (fault : CardFault) → IsCardFault bytes fault → answer ≡ Err (faults.Card fault)
       → Checks m s number bytes sink answer
-  Other : (day : ℕ) (settings : List Setting) (prices : PriceParts) → IsCard bytes day settings prices → day ≢ number
+  ForOtherDay : (day : ℕ) (settings : List Setting) (prices : PriceParts) → IsCard bytes day settings prices
+      → day ≢ number
       → answer ≡ Err faults.OtherDay → Checks m s number bytes sink answer
   Doubtful : (settings : List Setting) (prices : PriceParts) (doubt : Doubt) → IsCard bytes number settings prices
       → IsDoubt m s settings prices doubt → answer ≡ Err (faults.Doubtful doubt) → Checks m s number bytes sink answer
   Shortest : (settings : List Setting) (prices : PriceParts) → IsCard bytes number settings prices
-      → IsTold m s settings prices sink answer → Checks m s number bytes sink answer
+      → IsVerdictWritten m s settings prices sink answer → Checks m s number bytes sink answer

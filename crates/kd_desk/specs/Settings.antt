@@ -5,7 +5,7 @@ use Rattle.std.specs.Prelude.{codes, ◌≡◌, ℕ, nat_eq, Bool, List, IsTrue,
 use Rattle.std.specs.List.{starts_with}
 use Rattle.kd_state.specs.declared.setting.Setting.{Setting}
 use Rattle.kd_state.specs.declared.setting.list.ListFault.{ListFault}
-use Rattle.kd_state.specs.Line.{IsList, IsListFault}
+use Rattle.kd_state.specs.Line.{IsListText, IsListFault}
 use Rattle.kd_card.specs.declared.fault.CardFault.{CardFault}
 use Rattle.kd_card.specs.declared.prices.PriceParts.{PriceParts}
 use Rattle.kd_card.specs.CardText.{IsCard}
@@ -22,7 +22,7 @@ begins_as_card bytes = starts_with nat_eq bytes (codes "CARD ")
 pub data AreSettings (bytes : List ℕ) (settings : List Setting) : Type 0 where
   OfCard : IsTrue (begins_as_card bytes) → (day : ℕ) (prices : PriceParts) → IsCard bytes day settings prices
       → AreSettings bytes settings
-  OfList : IsFalse (begins_as_card bytes) → IsList bytes settings → AreSettings bytes settings
+  OfList : IsFalse (begins_as_card bytes) → IsListText bytes settings → AreSettings bytes settings
 
 -- The bytes begin as a card and have this fault of a card; or they don't, and have this fault of a list.
 pub data IsSettingsFault (bytes : List ℕ) (fault : DeskFault) : Type 0 where

@@ -1,9 +1,9 @@
 //! The desk's commands, and the parser of its command line.
 ghost use Rattle.std.specs.Prelude.{◌≡◌, ◌≢◌, [], ◌∷◌, ℕ, List, false, codes, map, Err, IfSome, IfOk, IfErr};
 ghost use Rattle.clap.specs.Words.{App, app_of, found_of, kind_of, rows_of};
-ghost use Rattle.kd_desk.specs.CommandLine.{IsMadeOf, way_name, way_word, desk_grammar, with_commands};
-ghost use Rattle.kd_desk.specs.CommandLine.{named, action_named, HaveDay, IsActionOf, IsOf};
-ghost use Rattle.kd_desk.specs.CommandLine.{IsOfNone, Says, SaysNothing};
+ghost use Rattle.kd_desk.specs.CommandLine.{IsMadeOf, direction_name, direction_word, desk_grammar, with_commands};
+ghost use Rattle.kd_desk.specs.CommandLine.{unborrowed_command, unborrowed_action, HaveSheetAndDay, IsActionOf};
+ghost use Rattle.kd_desk.specs.CommandLine.{IsCommandOf, IsNoCommand, IsCommandLineOf, IsNoCommandLine};
 
 use crate::fault::DeskFault;
 use crate::stop::Stop;
@@ -52,32 +52,32 @@ pub enum Task<F, O> {
     /// Checks whether this card's prices prove it shortest, from the machine to the day.
     Check(F),
     /// Sends or receives the message in this file, part by part.
-    Message(Way, O),
+    Message(Direction, O),
 }
 
 /// The direction of a message.
 #[derive(Clone, Copy)]
-pub enum Way {
+pub enum Direction {
     /// The message is an order; its form is printed.
     Send,
     /// The message is a form; its text is printed.
     Receive,
 }
 
-impl Way {
+impl Direction {
     /// The name of the message's word on the command line: ORDER or FORM.
-    fn word(self) -> &'static str
-        ensures { result.now ≡ way_word self }
+    fn file_word(self) -> &'static str
+        ensures { result.now ≡ direction_word self }
     {
         match self {
-            Way::Send => "ORDER",
-            Way::Receive => "FORM",
+            Direction::Send => "ORDER",
+            Direction::Receive => "FORM",
         }
     }
 }
 
 /// A command with file names, not yet read.
-pub type Named<'a> = Command<&'a str, &'a str>;
+pub type NamedCommand<'a> = Command<&'a str, &'a str>;
 
 /// An action with file names, not yet read.
 pub type NamedAction<'a> = Action<&'a str, &'a str>;
@@ -87,15 +87,15 @@ pub type NamedAction<'a> = Action<&'a str, &'a str>;
 /// A file name that begins with `-` must come after the word `--`, unless it is `-` alone. The word `--` may
 /// come once, after the command's name. An invalid command line gives `Usage`; the only other error is lack
 /// of memory.
-pub fn parse_words<'a, S: AsStr>(alloc: Global, words: &'a [S]) -> Result<Named<'a>, Stop>
-    ensures said { IfOk result (λ command. Says (map S.text words.entry.now) (named command)) }
-    ensures usage { result ≡ Err Stop.Usage → SaysNothing (map S.text words.entry.now) }
+pub fn parse_words<'a, S: AsStr>(alloc: Global, words: &'a [S]) -> Result<NamedCommand<'a>, Stop>
+    ensures said { IfOk result (λ command. IsCommandLineOf (map S.text words.entry.now) (unborrowed_command command)) }
+    ensures usage { result ≡ Err Stop.Usage → IsNoCommandLine (map S.text words.entry.now) }
     ensures memory { IfErr result (λ stop. stop ≢ Stop.Usage
         → stop ≡ Stop.Refused (DeskFault.File SheetFault.NoMemory)) }
 {
     let matches = match grammar(alloc)?.try_get_matches_from(words) {
         Ok(matches) => matches,
-        Err(error) => return Err(stop(&error)),
+        Err(error) => return Err(stop_of_error(&error)),
     };
     let Some((name, words)) = matches.subcommand() else {
         return Err(Stop::Usage);
@@ -104,10 +104,10 @@ pub fn parse_words<'a, S: AsStr>(alloc: Global, words: &'a [S]) -> Result<Named<
 }
 
 /// The command called `name`, with the file names and the day in `words`.
-fn command_of<'a>(name: &str, words: &ArgMatches<'a>) -> Option<Named<'a>>
+fn command_of<'a>(name: &str, words: &ArgMatches<'a>) -> Option<NamedCommand<'a>>
     ensures said { IfSome result (λ command.
-        IsOf (name.now, rows_of (found_of words.now)) (named command)) }
-    ensures none { result ≡ None → IsOfNone (name.now, rows_of (found_of words.now)) }
+        IsCommandOf (name.now, rows_of (found_of words.now)) (unborrowed_command command)) }
+    ensures none { result ≡ None → IsNoCommand (name.now, rows_of (found_of words.now)) }
 {
     let machine = words.get_str("MACHINE")?;
     let action = action_of(name, words)?;
@@ -117,7 +117,7 @@ fn command_of<'a>(name: &str, words: &ArgMatches<'a>) -> Option<Named<'a>>
 /// The action of the command `name`, with the file names and the day in `words`.
 fn action_of<'a>(name: &str, words: &ArgMatches<'a>) -> Option<NamedAction<'a>>
     ensures said { IfSome result (λ action.
-        IsActionOf (name.now, rows_of (found_of words.now)) (action_named action)) }
+        IsActionOf (name.now, rows_of (found_of words.now)) (unborrowed_action action)) }
     ensures none { result ≡ None → (action : _)
         → ¬ (IsActionOf (name.now, rows_of (found_of words.now)) action) }
 {
@@ -126,8 +126,8 @@ fn action_of<'a>(name: &str, words: &ArgMatches<'a>) -> Option<NamedAction<'a>>
         "apply" => apply_of(words),
         "card" => card_of(words),
         "check" => check_of(words),
-        "send" => message_of(words, Way::Send),
-        "receive" => message_of(words, Way::Receive),
+        "send" => message_of(words, Direction::Send),
+        "receive" => message_of(words, Direction::Receive),
         _ => None,
     }
 }
@@ -135,7 +135,7 @@ fn action_of<'a>(name: &str, words: &ArgMatches<'a>) -> Option<NamedAction<'a>>
 /// The action of `apply`, with the list's file name in `words`.
 fn apply_of<'a>(words: &ArgMatches<'a>) -> Option<NamedAction<'a>>
     ensures said { IfSome result (λ action.
-        IsActionOf (codes "apply", rows_of (found_of words.now)) (action_named action)) }
+        IsActionOf (codes "apply", rows_of (found_of words.now)) (unborrowed_action action)) }
     ensures none { result ≡ None → (action : _)
         → ¬ (IsActionOf (codes "apply", rows_of (found_of words.now)) action) }
 {
@@ -146,11 +146,11 @@ fn apply_of<'a>(words: &ArgMatches<'a>) -> Option<NamedAction<'a>>
 /// The action of `card`, if the word `DAY` is a day's number.
 fn card_of<'a>(words: &ArgMatches<'a>) -> Option<NamedAction<'a>>
     ensures said { IfSome result (λ action.
-        IsActionOf (codes "card", rows_of (found_of words.now)) (action_named action)) }
+        IsActionOf (codes "card", rows_of (found_of words.now)) (unborrowed_action action)) }
     ensures none { result ≡ None → (action : _)
         → ¬ (IsActionOf (codes "card", rows_of (found_of words.now)) action) }
 {
-    let (sheet, day) = day_of(words)?;
+    let (sheet, day) = sheet_and_day(words)?;
     let task = Task::Card;
     Some(Action::OnDay { sheet, day, task })
 }
@@ -158,34 +158,34 @@ fn card_of<'a>(words: &ArgMatches<'a>) -> Option<NamedAction<'a>>
 /// The action of `check`, if the word `DAY` is a day's number.
 fn check_of<'a>(words: &ArgMatches<'a>) -> Option<NamedAction<'a>>
     ensures said { IfSome result (λ action.
-        IsActionOf (codes "check", rows_of (found_of words.now)) (action_named action)) }
+        IsActionOf (codes "check", rows_of (found_of words.now)) (unborrowed_action action)) }
     ensures none { result ≡ None → (action : _)
         → ¬ (IsActionOf (codes "check", rows_of (found_of words.now)) action) }
 {
-    let (sheet, day) = day_of(words)?;
+    let (sheet, day) = sheet_and_day(words)?;
     let card = words.get_str("CARD")?;
     let task = Task::Check(card);
     Some(Action::OnDay { sheet, day, task })
 }
 
 /// The action of `send` or `receive`, if the word `DAY` is a day's number.
-fn message_of<'a>(words: &ArgMatches<'a>, way: Way) -> Option<NamedAction<'a>>
+fn message_of<'a>(words: &ArgMatches<'a>, direction: Direction) -> Option<NamedAction<'a>>
     ensures said { IfSome result (λ action.
-        IsActionOf (way_name way, rows_of (found_of words.now)) (action_named action)) }
+        IsActionOf (direction_name direction, rows_of (found_of words.now)) (unborrowed_action action)) }
     ensures none { result ≡ None → (action : _)
-        → ¬ (IsActionOf (way_name way, rows_of (found_of words.now)) action) }
+        → ¬ (IsActionOf (direction_name direction, rows_of (found_of words.now)) action) }
 {
-    let (sheet, day) = day_of(words)?;
-    let file = words.get_str(way.word())?;
-    let task = Task::Message(way, file);
+    let (sheet, day) = sheet_and_day(words)?;
+    let file = words.get_str(direction.file_word())?;
+    let task = Task::Message(direction, file);
     Some(Action::OnDay { sheet, day, task })
 }
 
 /// The sheet's file name and the day's number, if the word `DAY` is a day's number.
-fn day_of<'a>(words: &ArgMatches<'a>) -> Option<(&'a str, u8)>
-    ensures said { IfSome result (λ on. HaveDay (rows_of (found_of words.now)) on.0.now on.1) }
+fn sheet_and_day<'a>(words: &ArgMatches<'a>) -> Option<(&'a str, u8)>
+    ensures said { IfSome result (λ on. HaveSheetAndDay (rows_of (found_of words.now)) on.0.now on.1) }
     ensures none { result ≡ None → (sheet : List ℕ) (day : ℕ)
-        → ¬ (HaveDay (rows_of (found_of words.now)) sheet day) }
+        → ¬ (HaveSheetAndDay (rows_of (found_of words.now)) sheet day) }
 {
     let sheet = words.get_str("SHEET")?;
     let day = day_of_text(words.get_str("DAY")?.as_bytes())?;
@@ -223,14 +223,14 @@ fn with_commands<'a>(
 {
     let mut grammar = grammar;
     for (name, words) in commands {
-        let command = with_words(alloc, *name, *words)?;
+        let command = command_grammar(alloc, *name, *words)?;
         grammar = grammar.subcommand(command)?;
     }
     Ok(grammar)
 }
 
 /// The grammar of the command `name`, with one word for each name in `words`.
-fn with_words<'a>(
+fn command_grammar<'a>(
     alloc: Global,
     name: &'a str,
     words: &[&'a str],
@@ -245,7 +245,7 @@ fn with_words<'a>(
 }
 
 /// The `Stop` for a command line that doesn't parse.
-fn stop(error: &Error) -> Stop
+fn stop_of_error(error: &Error) -> Stop
     ensures memory { kind_of error.now ≡ ErrorKind.OutOfMemory
         → result ≡ Stop.Refused (DeskFault.File SheetFault.NoMemory) }
     ensures usage { kind_of error.now ≢ ErrorKind.OutOfMemory → result ≡ Stop.Usage }

@@ -1,6 +1,6 @@
 //! `Files`: the trait that reads and opens the files that the command line names.
 ghost use Rattle.std.specs.Prelude.{◌≡◌, ◌<◌, [], ◌∷◌, ◌++◌, ℕ, false, List, Option, None, IfSome, IfOk, is_ok, length};
-ghost use Rattle.kd_desk.specs.Files.{content_of, opening_of, opened, Asking, Gives, IsOpening};
+ghost use Rattle.kd_desk.specs.Files.{content_of, opening_of, known_file, AskedName, AgreesOrNoMemory, IsOpenAnswer};
 
 mod asked;
 mod content;
@@ -23,16 +23,16 @@ pub trait Files<'n> {
     ghost known: { Self → Option (List ℕ → Option (List ℕ)) } = { λ _. None };
 
     /// The names asked for, in order, and for each whether the file could be read or opened.
-    ghost asked: { Self → List Asking };
+    ghost asked: { Self → List AskedName };
 
     /// Reads the file `name` whole.
     ///
     /// Returns `Device` if there is no such file or a read fails, and `ReadTooLong` if the file has more than
     /// 1,048,576 bytes. At most three names may be asked for.
-    fn read(&mut self, alloc: Global, name: &'n str) -> Result<Content, FileFault>
+    fn read_content(&mut self, alloc: Global, name: &'n str) -> Result<Content, FileFault>
         requires { length (asked self.old) < 3 }
         ensures content { IfSome (known self.old)
-            (λ held. Gives (content_of (held name.now)) result) }
+            (λ held. AgreesOrNoMemory (content_of (held name.now)) result) }
         ensures asked { asked self.new ≡ asked self.old ++ (name.now, is_ok result) ∷ [] }
         ensures same { known self.new ≡ known self.old };
 
@@ -42,8 +42,8 @@ pub trait Files<'n> {
     fn open(&mut self, name: &'n str) -> Result<Self::Opened, FileFault>
         requires { length (asked self.old) < 3 }
         ensures opened { IfSome (known self.old) (λ held.
-            IsOpening (opening_of (held name.now))
-            (opened Self.Opened.remaining Self.Opened.has_failed) result) }
+            IsOpenAnswer (opening_of (held name.now))
+            (known_file Self.Opened.remaining Self.Opened.has_failed) result) }
         ensures fresh { IfOk result (λ file. Self.Opened.has_failed file ≡ false) }
         ensures asked { asked self.new ≡ asked self.old ++ (name.now, is_ok result) ∷ [] }
         ensures same { known self.new ≡ known self.old };

@@ -58,12 +58,12 @@ pub fn months_can_be_written(machine: &Machine, sheet: &Sheet, numbers: &[u8])
 {
     if let Some((number, rest)) = numbers.split_first() {
         let day = sheet.day(*number).unwrap();
-        months_can_be_written(&set_to(machine, day), sheet, rest);
+        months_can_be_written(&machine_after_card(machine, day), sheet, rest);
     }
 }
 
 /// The machine after the settings of the day's card are carried out on `machine`.
-fn set_to(machine: &Machine, day: &SheetDay) -> Machine
+fn machine_after_card(machine: &Machine, day: &SheetDay) -> Machine
     requires { day_model day.now ≡ model_of machine.now }
     ensures model { model_of result ≡ model_of machine.now }
     ensures written { HasPapers machine.now day.now result }

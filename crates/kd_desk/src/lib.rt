@@ -19,9 +19,9 @@ pub mod run_send;
 pub mod run_type;
 mod stop;
 
-pub use command::{Action, Command, Named, NamedAction, Task, Way, parse_words};
+pub use command::{Action, Command, Direction, NamedAction, NamedCommand, Task, parse_words};
 pub use fault::DeskFault;
 pub use files::{Asked, Content, FileFault, Files, HostFile, HostFiles, read_whole};
 pub use ports::{ReaderSource, WriterSink};
 pub use program::run_desk;
-pub use stop::{Stop, end};
+pub use stop::{Stop, end_program};

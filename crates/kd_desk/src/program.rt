@@ -1,18 +1,18 @@
 //! The program: reads the command line, then the files, and carries the command out.
 ghost use Rattle.std.specs.Prelude.{◌≡◌, ◌≤◌, ◌⊎◌, ◌||◌, [], false, map, length, Err, IfSome, IfOk, IsTrue, is_ok};
-ghost use Rattle.kd_desk.specs.CommandLine.{named, action_named, task_named, files_of, action_files, task_files};
-ghost use Rattle.kd_desk.specs.CommandLine.{with_opened, with_action_opened, with_task_opened};
-ghost use Rattle.kd_desk.specs.CommandLine.{opened_by, action_opened, task_opened};
-ghost use Rattle.kd_desk.specs.CommandLine.{Says, SaysNothing};
-ghost use Rattle.kd_desk.specs.Program.{command_over, action_over, task_over, AsksFor, CarriesOut, DoesTask, IsDone};
-ghost use Rattle.kd_desk.specs.Program.{HasEnded, IsRun, IsTaskDone, StopsForMemory};
-ghost use Rattle.kd_desk.specs.Program.{IsUnfailed, is_stopped_before, is_stopped_by_port};
-ghost use Rattle.kd_desk.specs.Files.{AskFor, Gives, IsReading, opened};
-ghost use Rattle.kd_desk.specs.OnDay.{OnDay};
-ghost use Rattle.kd_tables.specs.Ports.{Fail, port};
+ghost use Rattle.kd_desk.specs.CommandLine.{unborrowed_command, unborrowed_action, unborrowed_task, files_of};
+ghost use Rattle.kd_desk.specs.CommandLine.{action_files, task_files, with_command_opened, with_action_opened};
+ghost use Rattle.kd_desk.specs.CommandLine.{with_task_opened, command_opened, action_opened, task_opened};
+ghost use Rattle.kd_desk.specs.CommandLine.{IsCommandLineOf, IsNoCommandLine};
+ghost use Rattle.kd_desk.specs.Program.{known_command, known_action, known_task, AsksFor, CarriesOut, DoesTask};
+ghost use Rattle.kd_desk.specs.Program.{IsCommandDone, HasEnded, IsRun, IsTaskDone, StopsForMemory, IsUnfailed};
+ghost use Rattle.kd_desk.specs.Program.{is_stopped_before, is_stopped_by_port};
+ghost use Rattle.kd_desk.specs.Files.{AreAskedFor, AgreesOrNoMemory, IsReadAnswer, known_file};
+ghost use Rattle.kd_desk.specs.OnDay.{IsAnswerOnDay};
+ghost use Rattle.kd_tables.specs.Ports.{FailureAgrees, port};
 ghost use Rattle.kd_desk.specs.RunSteps.{is_device, is_refused_before};
 
-use crate::command::{Action, Command, Named, NamedAction, Task, Way, parse_words};
+use crate::command::{Action, Command, Direction, NamedAction, NamedCommand, Task, parse_words};
 use crate::fault::DeskFault;
 use crate::files::{Content, FileFault, Files};
 use crate::run_apply::run_apply;
@@ -21,7 +21,7 @@ use crate::run_check::run_check;
 use crate::run_receive::run_receive;
 use crate::run_send::run_send;
 use crate::run_type::run_type;
-use crate::stop::{Stop, end};
+use crate::stop::{Stop, end_program};
 use kd_tables::{Sink, Source};
 use std::alloc::Global;
 use std::convert::AsStr;
@@ -47,7 +47,7 @@ pub fn run_desk<'n, S: AsStr, F: Files<'n>, R: Source, W: Sink, E: Sink>(
         ((source.new ≡ source.old) × (sink.new ≡ sink.old)))
         (port E.taken E.has_failed errors.old errors.new) result }
 {
-    end(carry_words(alloc, words, files, source, sink), errors)
+    end_program(carry_words(alloc, words, files, source, sink), errors)
 }
 
 /// Parses the command line, reads its files, and carries out the command.
@@ -59,19 +59,19 @@ fn carry_words<'n, S: AsStr, F: Files<'n>, R: Source, W: Sink>(
     sink: &mut W,
 ) -> Result<(), Stop>
     requires { F.asked files.old ≡ [] }
-    ensures carried { (command : _) → Says (map S.text words.entry.now) command
-        → IfSome (F.known files.old) (λ held. CarriesOut (command_over held command)
+    ensures carried { (command : _) → IsCommandLineOf (map S.text words.entry.now) command
+        → IfSome (F.known files.old) (λ held. CarriesOut (known_command held command)
         (port R.remaining R.has_failed source.old source.new)
         (port W.taken W.has_failed sink.old sink.new) result) }
-    ensures asked { (command : _) → Says (map S.text words.entry.now) command
+    ensures asked { (command : _) → IsCommandLineOf (map S.text words.entry.now) command
         → AsksFor (files_of command) (F.asked files.new) result }
-    ensures usage { result ≡ Err Stop.Usage → SaysNothing (map S.text words.entry.now) }
-    ensures other_words { SaysNothing (map S.text words.entry.now)
+    ensures usage { result ≡ Err Stop.Usage → IsNoCommandLine (map S.text words.entry.now) }
+    ensures other_words { IsNoCommandLine (map S.text words.entry.now)
         → (result ≡ Err Stop.Usage) ⊎ StopsForMemory result }
-    ensures none_asked { SaysNothing (map S.text words.entry.now) → F.asked files.new ≡ [] }
+    ensures none_asked { IsNoCommandLine (map S.text words.entry.now) → F.asked files.new ≡ [] }
     ensures untouched { IsTrue (is_stopped_before result)
         → (source.new ≡ source.old) × (sink.new ≡ sink.old) }
-    ensures failed { Fail (port R.remaining R.has_failed source.old source.new)
+    ensures failed { FailureAgrees (port R.remaining R.has_failed source.old source.new)
         (port W.taken W.has_failed sink.old sink.new) (is_stopped_by_port result) }
 {
     let command = parse_words(alloc, words)?;
@@ -84,18 +84,18 @@ fn carry_words<'n, S: AsStr, F: Files<'n>, R: Source, W: Sink>(
 /// If a file can't be read or opened, returns the fault, and asks for no later file.
 fn read_files<'n, F: Files<'n>>(
     alloc: Global,
-    command: Named<'n>,
+    command: NamedCommand<'n>,
     files: &mut F,
 ) -> Result<Command<Content, F::Opened>, FileFault>
     requires { F.asked files.old ≡ [] }
     ensures read { IfSome (F.known files.old) (λ held.
-        IsReading (command_over held (named command.entry))
-        (with_opened (opened F.Opened.remaining F.Opened.has_failed)) result) }
-    ensures fresh { IfOk result (λ c. IsUnfailed F.Opened.has_failed (opened_by c)) }
-    ensures asked { AskFor (files_of (named command.entry)) (F.asked files.old)
+        IsReadAnswer (known_command held (unborrowed_command command.entry))
+        (with_command_opened (known_file F.Opened.remaining F.Opened.has_failed)) result) }
+    ensures fresh { IfOk result (λ c. IsUnfailed F.Opened.has_failed (command_opened c)) }
+    ensures asked { AreAskedFor (files_of (unborrowed_command command.entry)) (F.asked files.old)
         (F.asked files.new) (is_ok result) }
 {
-    let machine = files.read(alloc, command.machine)?;
+    let machine = files.read_content(alloc, command.machine)?;
     let action = read_action(alloc, command.action, files)?;
     Ok(Command { machine, action })
 }
@@ -108,21 +108,21 @@ fn read_action<'n, F: Files<'n>>(
 ) -> Result<Action<Content, F::Opened>, FileFault>
     requires { length (F.asked files.old) ≤ 1 }
     ensures read { IfSome (F.known files.old) (λ held.
-        IsReading (action_over held (action_named action.entry))
-        (with_action_opened (opened F.Opened.remaining F.Opened.has_failed)) result) }
+        IsReadAnswer (known_action held (unborrowed_action action.entry))
+        (with_action_opened (known_file F.Opened.remaining F.Opened.has_failed)) result) }
     ensures fresh { IfOk result (λ a. IsUnfailed F.Opened.has_failed (action_opened a)) }
-    ensures asked { AskFor (action_files (action_named action.entry)) (F.asked files.old)
+    ensures asked { AreAskedFor (action_files (unborrowed_action action.entry)) (F.asked files.old)
         (F.asked files.new) (is_ok result) }
     ensures same { F.known files.new ≡ F.known files.old }
 {
     match action {
         Action::Type => Ok(Action::Type),
         Action::Apply { list } => {
-            let list = files.read(alloc, list)?;
+            let list = files.read_content(alloc, list)?;
             Ok(Action::Apply { list })
         }
         Action::OnDay { sheet, day, task } => {
-            let sheet = files.read(alloc, sheet)?;
+            let sheet = files.read_content(alloc, sheet)?;
             let task = read_task(alloc, task, files)?;
             Ok(Action::OnDay { sheet, day, task })
         }
@@ -137,22 +137,22 @@ fn read_task<'n, F: Files<'n>>(
 ) -> Result<Task<Content, F::Opened>, FileFault>
     requires { length (F.asked files.old) ≤ 2 }
     ensures read { IfSome (F.known files.old) (λ held.
-        IsReading (task_over held (task_named task.entry))
-        (with_task_opened (opened F.Opened.remaining F.Opened.has_failed)) result) }
+        IsReadAnswer (known_task held (unborrowed_task task.entry))
+        (with_task_opened (known_file F.Opened.remaining F.Opened.has_failed)) result) }
     ensures fresh { IfOk result (λ t. IsUnfailed F.Opened.has_failed (task_opened t)) }
-    ensures asked { AskFor (task_files (task_named task.entry)) (F.asked files.old)
+    ensures asked { AreAskedFor (task_files (unborrowed_task task.entry)) (F.asked files.old)
         (F.asked files.new) (is_ok result) }
     ensures same { F.known files.new ≡ F.known files.old }
 {
     match task {
         Task::Card => Ok(Task::Card),
         Task::Check(card) => {
-            let card = files.read(alloc, card)?;
+            let card = files.read_content(alloc, card)?;
             Ok(Task::Check(card))
         }
-        Task::Message(way, file) => {
+        Task::Message(direction, file) => {
             let file = files.open(file)?;
-            Ok(Task::Message(way, file))
+            Ok(Task::Message(direction, file))
         }
     }
 }
@@ -164,20 +164,20 @@ fn carry_out<O: Source + Drop, R: Source, W: Sink>(
     source: &mut R,
     sink: &mut W,
 ) -> Result<(), Stop>
-    requires { IsUnfailed O.has_failed (opened_by command) }
-    ensures does { IsDone (with_opened (opened O.remaining O.has_failed) command)
+    requires { IsUnfailed O.has_failed (command_opened command) }
+    ensures does { IsCommandDone (with_command_opened (known_file O.remaining O.has_failed) command)
         (port R.remaining R.has_failed source.old source.new)
         (port W.taken W.has_failed sink.old sink.new) result }
     ensures untouched { IsTrue (is_stopped_before result)
         → (source.new ≡ source.old) × (sink.new ≡ sink.old) }
-    ensures failed { Fail (port R.remaining R.has_failed source.old source.new)
+    ensures failed { FailureAgrees (port R.remaining R.has_failed source.old source.new)
         (port W.taken W.has_failed sink.old sink.new) (is_stopped_by_port result) }
 {
     let Command { machine, action } = command;
     let machine = machine.as_slice();
     match action {
-        Action::Type => Stop::after(run_type(alloc, machine, source, sink)),
-        Action::Apply { list } => Stop::after(run_apply(alloc, machine, list.as_slice(), sink)),
+        Action::Type => Stop::of_answer(run_type(alloc, machine, source, sink)),
+        Action::Apply { list } => Stop::of_answer(run_apply(alloc, machine, list.as_slice(), sink)),
         Action::OnDay { sheet, day, task } => {
             carry_task(alloc, machine, sheet.as_slice(), day, task, sink)
         }
@@ -195,19 +195,19 @@ fn carry_task<O: Source + Drop, W: Sink>(
 ) -> Result<(), Stop>
     requires { IsUnfailed O.has_failed (task_opened task) }
     ensures does { IsTaskDone machine.now sheet.now number
-        (with_task_opened (opened O.remaining O.has_failed) task)
+        (with_task_opened (known_file O.remaining O.has_failed) task)
         (port W.taken W.has_failed sink.old sink.new) result }
     ensures untouched { IsTrue (is_stopped_before result) → sink.new ≡ sink.old }
     ensures failed { W.has_failed sink.new ≡ (W.has_failed sink.old || is_stopped_by_port result) }
 {
     match task {
-        Task::Card => Stop::after(run_card(alloc, machine, sheet, number, sink)),
+        Task::Card => Stop::of_answer(run_card(alloc, machine, sheet, number, sink)),
         Task::Check(card) => {
-            Stop::after(run_check(alloc, machine, sheet, number, card.as_slice(), sink))
+            Stop::of_answer(run_check(alloc, machine, sheet, number, card.as_slice(), sink))
         }
-        Task::Message(way, mut file) => {
-            let done = carry_message(alloc, machine, sheet, number, way, &mut file, sink);
-            Stop::after_file(done, file.failed())
+        Task::Message(direction, mut file) => {
+            let done = carry_message(alloc, machine, sheet, number, direction, &mut file, sink);
+            Stop::of_file_answer(done, file.failed())
         }
     }
 }
@@ -218,20 +218,20 @@ fn carry_message<O: Source, W: Sink>(
     machine: &[u8],
     sheet: &[u8],
     number: u8,
-    way: Way,
+    direction: Direction,
     file: &mut O,
     sink: &mut W,
 ) -> Result<(), DeskFault>
-    ensures does { OnDay machine.now sheet.now number
-        (DoesTask (Task.Message way (port O.remaining O.has_failed file.old file.new)) number
+    ensures does { IsAnswerOnDay machine.now sheet.now number
+        (DoesTask (Task.Message direction (port O.remaining O.has_failed file.old file.new)) number
         (port W.taken W.has_failed sink.old sink.new) result) result }
     ensures untouched { IsTrue (is_refused_before result)
         → (file.new ≡ file.old) × (sink.new ≡ sink.old) }
-    ensures failed { Fail (port O.remaining O.has_failed file.old file.new)
+    ensures failed { FailureAgrees (port O.remaining O.has_failed file.old file.new)
         (port W.taken W.has_failed sink.old sink.new) (is_device result) }
 {
-    match way {
-        Way::Send => run_send(alloc, machine, sheet, number, file, sink),
-        Way::Receive => run_receive(alloc, machine, sheet, number, file, sink),
+    match direction {
+        Direction::Send => run_send(alloc, machine, sheet, number, file, sink),
+        Direction::Receive => run_receive(alloc, machine, sheet, number, file, sink),
     }
 }

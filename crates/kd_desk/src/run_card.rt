@@ -4,7 +4,7 @@ ghost use Rattle.kd_card.specs.Proving.{ProvesByNumber};
 ghost use Rattle.kd_prices.specs.KindCards.{IsByKind};
 ghost use Rattle.kd_state.specs.Machine.{IsMachine};
 ghost use Rattle.kd_state.specs.SheetDay.{IsLegalDay, day_number};
-ghost use Rattle.kd_desk.specs.OnDay.{OnDay};
+ghost use Rattle.kd_desk.specs.OnDay.{IsAnswerOnDay};
 ghost use Rattle.kd_tables.specs.Ports.{port};
 ghost use Rattle.kd_desk.specs.RunCard.{Prints};
 ghost use Rattle.kd_desk.specs.RunSteps.{is_refused_before, is_device};
@@ -29,7 +29,7 @@ pub fn run_card<W: Sink>(
     number: u8,
     sink: &mut W,
 ) -> Result<(), DeskFault>
-    ensures card { OnDay machine.now sheet.now number
+    ensures card { IsAnswerOnDay machine.now sheet.now number
         (λ m s. Prints m s number (port W.taken W.has_failed sink.old sink.new) result) result }
     ensures untouched { IsTrue (is_refused_before result) → sink.new ≡ sink.old }
     ensures failed { W.has_failed sink.new ≡ (W.has_failed sink.old || is_device result) }

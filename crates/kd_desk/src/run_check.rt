@@ -1,7 +1,7 @@
 //! The command `check`: says whether a card proves itself shortest.
 ghost use Rattle.std.specs.Prelude.{◌≡◌, ◌||◌, is_err, IsTrue};
 ghost use Rattle.kd_tables.specs.Writing.{Writes};
-ghost use Rattle.kd_desk.specs.OnDay.{OnDay};
+ghost use Rattle.kd_desk.specs.OnDay.{IsAnswerOnDay};
 ghost use Rattle.kd_tables.specs.Ports.{port};
 ghost use Rattle.kd_desk.specs.RunCheck.{Checks, verdict_text};
 ghost use Rattle.kd_desk.specs.RunSteps.{is_refused_before, is_device};
@@ -30,7 +30,7 @@ pub fn run_check<W: Sink>(
     card: &[u8],
     sink: &mut W,
 ) -> Result<(), DeskFault>
-    ensures checks { OnDay machine.now sheet.now number
+    ensures checks { IsAnswerOnDay machine.now sheet.now number
         (λ m s. Checks m s number card.now (port W.taken W.has_failed sink.old sink.new) result) result }
     ensures untouched { IsTrue (is_refused_before result) → sink.new ≡ sink.old }
     ensures failed { W.has_failed sink.new ≡ (W.has_failed sink.old || is_device result) }

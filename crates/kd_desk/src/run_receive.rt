@@ -1,8 +1,8 @@
 //! The command `receive`: writes the text of a form.
 ghost use Rattle.std.specs.Prelude.{◌≡◌, IsTrue};
 ghost use Rattle.kd_desk.specs.Messages.{Receives};
-ghost use Rattle.kd_desk.specs.OnDay.{OnDay};
-ghost use Rattle.kd_tables.specs.Ports.{Fail, port};
+ghost use Rattle.kd_desk.specs.OnDay.{IsAnswerOnDay};
+ghost use Rattle.kd_tables.specs.Ports.{FailureAgrees, port};
 ghost use Rattle.kd_desk.specs.RunSteps.{is_refused_before, is_device};
 
 use crate::fault::DeskFault;
@@ -26,12 +26,12 @@ pub fn run_receive<R: Source, W: Sink>(
     form: &mut R,
     sink: &mut W,
 ) -> Result<(), DeskFault>
-    ensures receives { OnDay machine.now sheet.now number
+    ensures receives { IsAnswerOnDay machine.now sheet.now number
         (λ m s. Receives m s (port R.remaining R.has_failed form.old form.new)
         (port W.taken W.has_failed sink.old sink.new) result) result }
     ensures untouched { IsTrue (is_refused_before result)
         → (form.new ≡ form.old) × (sink.new ≡ sink.old) }
-    ensures failed { Fail (port R.remaining R.has_failed form.old form.new)
+    ensures failed { FailureAgrees (port R.remaining R.has_failed form.old form.new)
         (port W.taken W.has_failed sink.old sink.new) (is_device result) }
 {
     let (machine, day) = find_day(alloc, machine, sheet, number)?;

@@ -1,8 +1,8 @@
 //! The command `send`: writes the form of an order.
 ghost use Rattle.std.specs.Prelude.{◌≡◌, IsTrue};
 ghost use Rattle.kd_desk.specs.Messages.{Sends};
-ghost use Rattle.kd_desk.specs.OnDay.{OnDay};
-ghost use Rattle.kd_tables.specs.Ports.{Fail, port};
+ghost use Rattle.kd_desk.specs.OnDay.{IsAnswerOnDay};
+ghost use Rattle.kd_tables.specs.Ports.{FailureAgrees, port};
 ghost use Rattle.kd_desk.specs.RunSteps.{is_refused_before, is_device};
 
 use crate::fault::DeskFault;
@@ -26,12 +26,12 @@ pub fn run_send<R: Source, W: Sink>(
     order: &mut R,
     sink: &mut W,
 ) -> Result<(), DeskFault>
-    ensures sends { OnDay machine.now sheet.now number
+    ensures sends { IsAnswerOnDay machine.now sheet.now number
         (λ m s. Sends m s (port R.remaining R.has_failed order.old order.new)
         (port W.taken W.has_failed sink.old sink.new) result) result }
     ensures untouched { IsTrue (is_refused_before result)
         → (order.new ≡ order.old) × (sink.new ≡ sink.old) }
-    ensures failed { Fail (port R.remaining R.has_failed order.old order.new)
+    ensures failed { FailureAgrees (port R.remaining R.has_failed order.old order.new)
         (port W.taken W.has_failed sink.old sink.new) (is_device result) }
 {
     let (machine, day) = find_day(alloc, machine, sheet, number)?;

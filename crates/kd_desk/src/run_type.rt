@@ -2,8 +2,8 @@
 ghost use Rattle.std.specs.Prelude.{◌≡◌, ◌⊎◌, IfOk, IfErr, IsTrue};
 ghost use Rattle.kd_desk.specs.declared.fault.DeskFault.TheVariants as faults;
 ghost use Rattle.kd_sheet.specs.MachineFile.{machine_of};
-ghost use Rattle.kd_tables.specs.Ports.{Fail, port};
-ghost use Rattle.kd_desk.specs.Messages.{Types};
+ghost use Rattle.kd_tables.specs.Ports.{FailureAgrees, port};
+ghost use Rattle.kd_desk.specs.Messages.{TypesText};
 ghost use Rattle.kd_desk.specs.RunSteps.{LacksMemory, AnswersFault, is_device, is_refused_before};
 
 use crate::fault::DeskFault;
@@ -27,12 +27,12 @@ pub fn run_type<R: Source, W: Sink>(
 ) -> Result<(), DeskFault>
     ensures refused { IfErr (machine_of machine.now)
         (λ fault. AnswersFault result (faults.File fault)) }
-    ensures typed { IfOk (machine_of machine.now) (λ m. Types m
+    ensures typed { IfOk (machine_of machine.now) (λ m. TypesText m
         (port R.remaining R.has_failed source.old source.new)
         (port W.taken W.has_failed sink.old sink.new) result ⊎ LacksMemory result) }
     ensures untouched { IsTrue (is_refused_before result)
         → (source.new ≡ source.old) × (sink.new ≡ sink.old) }
-    ensures failed { Fail (port R.remaining R.has_failed source.old source.new)
+    ensures failed { FailureAgrees (port R.remaining R.has_failed source.old source.new)
         (port W.taken W.has_failed sink.old sink.new) (is_device result) }
 {
     let machine = read_machine(alloc, machine)?;

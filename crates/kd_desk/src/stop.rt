@@ -29,7 +29,7 @@ pub enum Stop {
 
 impl Stop {
     /// Returns the fault of a command as a `Stop`.
-    pub(crate) fn after(done: Result<(), DeskFault>) -> Result<(), Stop>
+    pub(crate) fn of_answer(done: Result<(), DeskFault>) -> Result<(), Stop>
         ensures { result ≡ stop_after false done }
     {
         match done {
@@ -41,12 +41,12 @@ impl Stop {
     /// Returns the fault of a command that streams a file, as a `Stop`.
     ///
     /// `file_failed` says whether a read of this file failed.
-    pub(crate) fn after_file(done: Result<(), DeskFault>, file_failed: bool) -> Result<(), Stop>
+    pub(crate) fn of_file_answer(done: Result<(), DeskFault>, file_failed: bool) -> Result<(), Stop>
         ensures { result ≡ stop_after file_failed done }
     {
         match done {
             Err(DeskFault::Device) if file_failed => Err(Stop::ReadFailed),
-            done => Stop::after(done),
+            done => Stop::of_answer(done),
         }
     }
 
@@ -91,7 +91,7 @@ fn refused_line(fault: DeskFault) -> Line
 /// Writes the error's line to `errors`, and returns the exit status.
 ///
 /// The status doesn't depend on whether the line could be written.
-pub fn end<E: Sink>(answer: Result<(), Stop>, errors: &mut E) -> u8
+pub fn end_program<E: Sink>(answer: Result<(), Stop>, errors: &mut E) -> u8
     ensures { EndsAs answer (port E.taken E.has_failed errors.old errors.new) result }
 {
     let Err(stop) = answer else {

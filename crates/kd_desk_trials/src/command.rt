@@ -1,5 +1,5 @@
 //! Tests of the command line.
-use kd_desk::{Action, Command, Stop, Task, Way, parse_words};
+use kd_desk::{Action, Command, Direction, Stop, Task, parse_words};
 use std::alloc::Global;
 
 /// A command line, and the machine file that it names.
@@ -129,8 +129,8 @@ fn on_a_day<'a>(alloc: Global, words: &'a [&'a str]) -> Option<Said<'a>> {
     let (name, file) = match task {
         Task::Card => ("card", ""),
         Task::Check(card) => ("check", card),
-        Task::Message(Way::Send, order) => ("send", order),
-        Task::Message(Way::Receive, form) => ("receive", form),
+        Task::Message(Direction::Send, order) => ("send", order),
+        Task::Message(Direction::Receive, form) => ("receive", form),
     };
     Some((machine, sheet, day, name, file))
 }

@@ -29,8 +29,8 @@ fn reads_to_the_limit(rt: HostRuntime) {
 fn is_read_twice(rt: &HostRuntime, name: &str, content: &str) -> Result<bool, Fail> {
     fs::write(rt, name, content)?;
     let mut files = HostFiles::new(rt);
-    let first = files.read(rt.alloc(), name)?;
-    let again = files.read(rt.alloc(), name)?;
+    let first = files.read_content(rt.alloc(), name)?;
+    let again = files.read_content(rt.alloc(), name)?;
     fs::remove_file(rt, name)?;
     let content = content.as_bytes();
     Ok(first.as_slice() == content && again.as_slice() == content)
@@ -69,7 +69,7 @@ fn opens_files_of_the_host(rt: HostRuntime) -> Result<(), Fail> {
 /// The faults of reading and of opening the file `name`.
 fn faults(rt: &HostRuntime, name: &str) -> (Option<FileFault>, Option<FileFault>) {
     let mut files = HostFiles::new(rt);
-    let read = files.read(rt.alloc(), name).err();
+    let read = files.read_content(rt.alloc(), name).err();
     let opened = files.open(name).err();
     (read, opened)
 }

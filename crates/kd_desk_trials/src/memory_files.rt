@@ -1,6 +1,6 @@
 //! Files in memory, for tests of the program.
 ghost use Rattle.std.specs.Prelude.{◌≡◌, [], option_map};
-ghost use Rattle.kd_desk.specs.Files.{content_of, held_in, Gives};
+ghost use Rattle.kd_desk.specs.Files.{content_of, bytes_in_files, AgreesOrNoMemory};
 
 use kd_desk::{Asked, Content, FileFault, Files};
 use kd_tables::MemorySource;
@@ -27,7 +27,7 @@ impl<'n> MemoryFiles<'n> {
 
     /// The bytes of the first file with this name.
     fn find(&self, name: &str) -> Option<&'n [u8]>
-        ensures { option_map (λ bytes. bytes.now) result ≡ held_in self.now.files.now name.now }
+        ensures { option_map (λ bytes. bytes.now) result ≡ bytes_in_files self.now.files.now name.now }
     {
         let (_, bytes) = self.files.iter().find(|(held, _)| *held == name)?;
         Some(*bytes)
@@ -35,7 +35,7 @@ impl<'n> MemoryFiles<'n> {
 
     /// The content of the first file with this name.
     fn content(&self, alloc: Global, name: &str) -> Result<Content, FileFault>
-        ensures { Gives (content_of (held_in self.now.files.now name.now)) result }
+        ensures { AgreesOrNoMemory (content_of (bytes_in_files self.now.files.now name.now)) result }
     {
         let bytes = self.find(name).ok_or(FileFault::Device)?;
         Content::new(Vec::from_slice(alloc, bytes)?)
@@ -44,15 +44,15 @@ impl<'n> MemoryFiles<'n> {
 
 impl<'n> Files<'n> for MemoryFiles<'n> {
     ghost use Rattle.std.specs.Prelude.{Some};
-    ghost use Rattle.kd_desk.specs.Files.{held_in};
+    ghost use Rattle.kd_desk.specs.Files.{bytes_in_files};
 
     type Opened = MemorySource<'n>;
 
-    ghost known = { λ s. Some (held_in s.files.now) };
+    ghost known = { λ s. Some (bytes_in_files s.files.now) };
 
     ghost asked = { λ s. s.asked };
 
-    fn read(&mut self, alloc: Global, name: &'n str) -> Result<Content, FileFault> {
+    fn read_content(&mut self, alloc: Global, name: &'n str) -> Result<Content, FileFault> {
         let content = self.content(alloc, name);
         self.asked.add(name, content.is_ok());
         content

@@ -3,7 +3,7 @@ ghost use Rattle.std.specs.Prelude.{◌≡◌, []};
 
 use crate::memory_files::MemoryFiles;
 use crate::samples::{DAYS, FORM, MACHINE, ORDER, TEXT};
-use kd_desk::{Content, DeskFault, FileFault, Files, Stop, end, run_desk};
+use kd_desk::{Content, DeskFault, FileFault, Files, Stop, end_program, run_desk};
 use kd_tables::{MemorySink, MemorySource, Sink};
 use kd_trials::texts::{EMPTY_KINDS, M1, M1_WRITTEN, M209, NO_SETTINGS, SHEET, UNREADY};
 use std::alloc::{AllocError, Global};
@@ -223,8 +223,8 @@ impl<'n> Files<'n> for CutOff<'n> {
 
     ghost asked = { λ s. s.files.asked };
 
-    fn read(&mut self, alloc: Global, name: &'n str) -> Result<Content, FileFault> {
-        self.files.read(alloc, name)
+    fn read_content(&mut self, alloc: Global, name: &'n str) -> Result<Content, FileFault> {
+        self.files.read_content(alloc, name)
     }
 
     fn open(&mut self, name: &'n str) -> Result<MemorySource<'n>, FileFault> {
@@ -304,7 +304,7 @@ static ENDS: [(Result<(), Stop>, &str); 6] = [
 fn ends_with_a_status_and_a_line(rt: HostRuntime) {
     for (answer, told) in &ENDS {
         let mut errors: MemorySink<96> = MemorySink::new(96);
-        assert_eq!(rt; end(*answer, &mut errors), status_of(told));
+        assert_eq!(rt; end_program(*answer, &mut errors), status_of(told));
         assert_eq!(rt; errors.taken(), told.as_bytes());
     }
 }

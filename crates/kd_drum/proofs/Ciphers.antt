@@ -1,7 +1,8 @@
 -- The Converter's cipher, letter by letter.
 use Rattle.std.proofs.Common.{All, List, [], add-one, add-zero, ap, arith, drop, get_or, length, map, refl, set, suc}
 use Rattle.kd_drum.{proofs.Starts.bars_met_sum, specs.Converter.{PinKey, bars_met, converter_cipher, pin_key_after}}
-use Rattle.{kd_drum.specs.Laws.{CipherInTurn, TwiceGivesBack}, std.proofs.lemmas.List.Elements.{All-head, All-tail}}
+use Rattle.{kd_drum.specs.Laws.{ConverterCipherInTurn, ConverterTwiceGivesBack}}
+use Rattle.{std.proofs.lemmas.List.Elements.{All-head, All-tail}}
 use Rattle.std.{proofs.Common.{sym, take, zero, ℕ, ◌%◌, ◌++◌, ◌+◌, ◌-◌, ◌<◌, ◌∙◌, ◌∷◌, ◌≡◌}, specs.List.enumerate_from}
 
 -- the letter that replaces a letter if `met` bars are met
@@ -25,16 +26,16 @@ twice_from key start (letter ∷ text) h =
     (reversed_twice (bars_met key start) letter (All-head (λ l. l < 26) letter text h))
     ∙ ap (λ ls. letter ∷ ls) (twice_from key (start + 1) text (All-tail (λ l. l < 26) letter text h))
 
-pub twice_gives_back : TwiceGivesBack
+pub twice_gives_back : ConverterTwiceGivesBack
 twice_gives_back key text = twice_from key 0 text
 
 -- A text that begins `m` letters later is enciphered with the key after `m` letters.
-later : (key : PinKey) (m start : ℕ) (text : List ℕ)
+cipher_from-add : (key : PinKey) (m start : ℕ) (text : List ℕ)
     → cipher_from key (m + start) text ≡ cipher_from (pin_key_after key m) start text
-later key m start [] = refl
-later key m start (letter ∷ text) =
+cipher_from-add key m start [] = refl
+cipher_from-add key m start (letter ∷ text) =
     let place : m + start + 1 ≡ m + (start + 1) = omega arith in
-    let rest = ap (λ n. cipher_from key n text) place ∙ later key m (start + 1) text in
+    let rest = ap (λ n. cipher_from key n text) place ∙ cipher_from-add key m (start + 1) text in
     λ i. reversed_by (sym (bars_met_sum key m start) i) letter ∷ rest i
 
 append_from : (key : PinKey) (start : ℕ) (first rest : List ℕ)
@@ -42,20 +43,20 @@ append_from : (key : PinKey) (start : ℕ) (first rest : List ℕ)
 append_from key start [] rest = ap (λ n. cipher_from key n rest) (sym (add-zero start))
 append_from key start (letter ∷ first) rest = grind (arith, key, append_from key (start + 1) first rest)
 
-pub cipher_in_turn : CipherInTurn
+pub cipher_in_turn : ConverterCipherInTurn
 cipher_in_turn key first rest =
     append_from key 0 first rest
     ∙ ap (λ ls. converter_cipher key first ++ ls)
-    (ap (λ n. cipher_from key n rest) (omega arith) ∙ later key (length first) 0 rest)
+    (ap (λ n. cipher_from key n rest) (omega arith) ∙ cipher_from-add key (length first) 0 rest)
 
 -- One more letter is enciphered, and the rest with the key that this letter leaves.
-pub one_more : (key : PinKey) (text : List ℕ) (n d become : ℕ) → n < length text
+pub converter_cipher-set : (key : PinKey) (text : List ℕ) (n d become : ℕ) → n < length text
     → converter_cipher key (get_or text n d ∷ []) ≡ become ∷ []
     → take n text ++ converter_cipher key (drop n text)
     ≡ take (n + 1) (set text n become) ++ converter_cipher (pin_key_after key 1) (drop (n + 1) (set text n become))
-one_more key [] n d become lt e = absurd (omega arith)
-one_more key (letter ∷ text) zero d become lt e =
+converter_cipher-set key [] n d become lt e = absurd (omega arith)
+converter_cipher-set key (letter ∷ text) zero d become lt e =
     cipher_in_turn key (letter ∷ []) text ∙ ap (λ l. l ++ converter_cipher (pin_key_after key 1) text) e
-one_more key (letter ∷ text) (suc n) d become lt e =
-    let rest = one_more key text n d become (omega arith) e in
+converter_cipher-set key (letter ∷ text) (suc n) d become lt e =
+    let rest = converter_cipher-set key text n d become (omega arith) e in
     rw (add-one (suc n)) (ap (λ l. letter ∷ l) (rw (add-one n) at rest))

@@ -1,7 +1,7 @@
 -- Six letters, each tested on its wheel.
 use Rattle.std.proofs.Common.{◌≡◌, ◌↔◌, ◌-◌, ◌||◌, ◌∷◌, [], ℕ, ◌<◌, Bool, false, not, IsTrue, List, Contains, length}
 use Rattle.std.proofs.Common.{get_or, slice_index, refl, arith}
-use Rattle.{kd_drum.{proofs.Starts.each_wheel, specs.Converter.OnWheels}, kd_tables.specs.Rings.ring_of}
+use Rattle.{kd_drum.{proofs.Starts.each_wheel, specs.Converter.IsEachOnItsWheel}, kd_tables.specs.Rings.ring_of}
 use Rattle.std.proofs.{Math.Bool.beq, lemmas.Bool.Decides.nat_tests, lemmas.List.get_or_default}
 
 -- The test of a letter in the list finds it on the wheel exactly if the wheel has it.
@@ -18,7 +18,7 @@ pub none_fails : (letters : List ℕ) (h1 h2 h3 h4 h5 h6 : Bool)
     → (IsTrue h5 ↔ Contains (ring_of 5) (slice_index letters 4))
     → (IsTrue h6 ↔ Contains (ring_of 6) (slice_index letters 5))
     → IsTrue (not (beq h1 false || (beq h2 false
-    || (beq h3 false || (beq h4 false || (beq h5 false || (beq h6 false || false))))))) ↔ OnWheels letters
+    || (beq h3 false || (beq h4 false || (beq h5 false || (beq h6 false || false))))))) ↔ IsEachOnItsWheel letters
 none_fails letters h1 h2 h3 h4 h5 h6 a b c d e f =
     grind (arith, nat_tests, each_wheel (λ wheel. Contains (ring_of wheel) (slice_index letters (wheel - 1))))
 

@@ -1,5 +1,5 @@
 -- Sets of wheels as numbers, made from a test of each wheel.
-use Rattle.{kd_drum.proofs.Starts.each_wheel, kd_drum.specs.Counts.is_in, std.proofs.lemmas.Bool.Decides.nat_tests}
+use Rattle.{kd_drum.proofs.Starts.each_wheel, kd_drum.specs.Counts.is_in_set, std.proofs.lemmas.Bool.Decides.nat_tests}
 use Rattle.std.specs.Int.{from_bool}
 use Rattle.std.proofs.Common.{◌≡◌, ℕ, ◌+◌, ◌*◌, ◌-◌, ◌/◌, ◌%◌, ◌^◌, ◌≤◌, Bool, ◌&&◌, eqb, leb, ◌∙◌, arith}
 
@@ -35,6 +35,6 @@ bits_are a1 a2 a3 a4 a5 a6 does e1 e2 e3 e4 e5 e6 =
 -- A wheel is in the set exactly if its test is true.
 pub in_set_of : (a1 a2 a3 a4 a5 a6 : Bool) (does : ℕ → Bool) → a1 ≡ does 1 → a2 ≡ does 2 → a3 ≡ does 3 → a4 ≡ does 4
     → a5 ≡ does 5 → a6 ≡ does 6
-    → (wheel : ℕ) → is_in (set_of a1 a2 a3 a4 a5 a6) wheel ≡ ((leb 1 wheel && leb wheel 6) && does wheel)
+    → (wheel : ℕ) → is_in_set (set_of a1 a2 a3 a4 a5 a6) wheel ≡ ((leb 1 wheel && leb wheel 6) && does wheel)
 in_set_of a1 a2 a3 a4 a5 a6 does e1 e2 e3 e4 e5 e6 wheel =
     grind (arith, nat_tests, bits_are a1 a2 a3 a4 a5 a6 does e1 e2 e3 e4 e5 e6 wheel)

@@ -1,45 +1,48 @@
 -- The wheels after a number of letters.
 use Rattle.std.proofs.Common.{◌≡◌, ℕ, ◌+◌, ◌-◌, ◌%◌, ◌<◌, ◌≤◌, Bool, ◌&&◌, ◌||◌, Option, unwrap_or, List, [], ◌∷◌}
 use Rattle.std.proofs.Common.{length, map, slice_index, slice_index_or, true, count_by, refl, sym, ap, ◌∙◌, arith, leb}
-use Rattle.kd_drum.specs.{Laws.KeyInTurn, Standing.AllStand, Standing.StandsAs, Standing.key_of}
+use Rattle.kd_drum.specs.{Laws.ConverterKeyInTurn, SixWheels.AreSixWheels, SixWheels.IsPinWheel}
+use Rattle.kd_drum.specs.{SixWheels.converter_key}
 use Rattle.{kd_tables.specs.Rings.{IsRing, place_on, ring_of, ring_texts}, std.proofs.Math.Nat.mod-add-mod}
 use Rattle.kd_tables.{proofs.Rings.letter_leads_to_place, proofs.Wirings.text_makes_ring, specs.WiringText.is_ring_text}
 use Rattle.std.proofs.{Math.Nat.mod-lt, lemmas.Bool.Decides.nat_tests, lemmas.List.FromFn.get_or-map-range_with_len}
 use Rattle.std.proofs.lemmas.List.{Sums.sum_by-le-sum_by, ext_get_or}
-use Rattle.kd_pins.specs.PinWheel.{TurnedWheel, is_effective, letter_shown, pin_acting, turned_to}
-use Rattle.kd_pins.specs.PinWheels.{pin_wheels, pins_on, offset_of, size_of}
-use Rattle.kd_drum.specs.Converter.{PinKey, pin_key_turned, start_on, acts_after, bars_met, letter_after, pin_key_after}
+use Rattle.kd_pins.specs.PinWheel.{TurnedWheel, is_effective, letter_shown, is_acting_pin_effective, wheel_at_place}
+use Rattle.kd_pins.specs.PinWheels.{pin_wheels, pins_on, acting_offset, pin_wheel_size}
+use Rattle.kd_drum.specs.Converter.{PinKey, pin_key_turned, shown_place_in_key, is_acting_after, bars_met, letter_after}
+use Rattle.kd_drum.specs.Converter.{pin_key_after}
 
 -- What holds for each of the six wheels holds for any wheel from 1 to 6.
 pub each_wheel : (P : ℕ → Type 0) → P 1 → P 2 → P 3 → P 4 → P 5 → P 6 → (wheel : ℕ) → 1 ≤ wheel → wheel ≤ 6 → P wheel
 each_wheel P e d g h o q wheel w y = grind arith
 
 -- A wheel has at least one place.
-pub has_places : (wheel : ℕ) → 1 ≤ wheel → wheel ≤ 6 → 0 < size_of wheel
+pub has_places : (wheel : ℕ) → 1 ≤ wheel → wheel ≤ 6 → 0 < pin_wheel_size wheel
 unfolding ring_of
 has_places =
-    each_wheel (λ wheel. 0 < size_of wheel) (omega arith) (omega arith) (omega arith) (omega arith) (omega arith)
+    each_wheel (λ wheel. 0 < pin_wheel_size wheel) (omega arith) (omega arith) (omega arith) (omega arith) (omega arith)
     (omega arith)
 
 -- A wheel has a different letter at each place.
-is_ring : (wheel : ℕ) → 1 ≤ wheel → wheel ≤ 6 → IsRing (size_of wheel) (ring_of wheel)
+is_ring : (wheel : ℕ) → 1 ≤ wheel → wheel ≤ 6 → IsRing (pin_wheel_size wheel) (ring_of wheel)
 unfolding ring_of
 is_ring =
     let text = λ (wheel : ℕ). slice_index_or ring_texts wheel [] in
     let is =
-    λ (wheel : ℕ) (h : is_ring_text (text wheel) ≡ true). text_makes_ring (size_of wheel) (text wheel) refl h in
-    each_wheel (λ wheel. IsRing (size_of wheel) (ring_of wheel)) (is 1 refl) (is 2 refl) (is 3 refl) (is 4 refl)
+    λ (wheel : ℕ) (h : is_ring_text (text wheel) ≡ true). text_makes_ring (pin_wheel_size wheel) (text wheel) refl h in
+    each_wheel (λ wheel. IsRing (pin_wheel_size wheel) (ring_of wheel)) (is 1 refl) (is 2 refl) (is 3 refl) (is 4 refl)
     (is 5 refl) (is 6 refl)
 
 start_after : (key : PinKey) (count wheel : ℕ) → 1 ≤ wheel → wheel ≤ 6
-    → start_on (pin_key_after key count) wheel ≡ (start_on key wheel + count) % size_of wheel
+    → shown_place_in_key (pin_key_after key count) wheel ≡ (shown_place_in_key key wheel + count) % pin_wheel_size wheel
 start_after key count wheel low high =
-    let place = (start_on key wheel + count) % size_of wheel in
-    let within : place < size_of wheel = mod-lt (start_on key wheel + count) (has_places wheel low high) in
+    let place = (shown_place_in_key key wheel + count) % pin_wheel_size wheel in
+    let within : place < pin_wheel_size wheel = mod-lt (shown_place_in_key key wheel + count)
+    (has_places wheel low high) in
     ap (λ letter. unwrap_or (place_on (ring_of wheel) letter) 0)
     (get_or-map-range_with_len (letter_after key count) 1 6 (wheel - 1) wheel 0 (omega arith) (omega arith))
     ∙ ap (λ (found : Option ℕ). unwrap_or found 0)
-    (letter_leads_to_place (size_of wheel) (ring_of wheel) (is_ring wheel low high) place within)
+    (letter_leads_to_place (pin_wheel_size wheel) (ring_of wheel) (is_ring wheel low high) place within)
 
 -- Moving on in three steps is moving on by their sum.
 three_on : (s m i o n : ℕ) → ((s + m) % n + i + o) % n ≡ (s + (m + i) + o) % n
@@ -48,9 +51,9 @@ three_on s m i o n = grind (arith, mod-add-mod (s + m) n (i + o))
 letter_after_sum : (key : PinKey) (m n wheel : ℕ) → 1 ≤ wheel → wheel ≤ 6
     → letter_after (pin_key_after key m) n wheel ≡ letter_after key (m + n) wheel
 letter_after_sum key m n wheel low high =
-    grind (arith, start_after, mod-add-mod (start_on key wheel + m) (size_of wheel) n)
+    grind (arith, start_after, mod-add-mod (shown_place_in_key key wheel + m) (pin_wheel_size wheel) n)
 
-pub key_in_turn : KeyInTurn
+pub key_in_turn : ConverterKeyInTurn
 key_in_turn key m n =
     let once = letter_after (pin_key_after key m) n in
     let whole = letter_after key (m + n) in
@@ -65,11 +68,12 @@ alike_on_wheels : (wheel : ℕ) (x y : Bool) → (1 ≤ wheel → wheel ≤ 6 �
 alike_on_wheels wheel x y same = grind (arith, nat_tests, same)
 
 acts_after_sum : (key : PinKey) (m i wheel : ℕ)
-    → acts_after (pin_key_after key m) i wheel ≡ acts_after key (m + i) wheel
+    → is_acting_after (pin_key_after key m) i wheel ≡ is_acting_after key (m + i) wheel
 acts_after_sum key m i wheel = alike_on_wheels wheel _ _ (λ low high.
-    ap (λ start. is_effective (pins_on key.pins wheel) ((start + i + offset_of wheel) % size_of wheel))
+    ap (λ start. is_effective (pins_on key.pins wheel) ((start + i + acting_offset wheel) % pin_wheel_size wheel))
     (start_after key m wheel low high)
-    ∙ ap (is_effective (pins_on key.pins wheel)) (three_on (start_on key wheel) m i (offset_of wheel) (size_of wheel)))
+    ∙ ap (is_effective (pins_on key.pins wheel))
+    (three_on (shown_place_in_key key wheel) m i (acting_offset wheel) (pin_wheel_size wheel)))
 
 -- Tests that agree give equal counts.
 pub count_alike : {X : Type 0} (p q : X → Bool) (xs : List X) → ((x : X) → p x ≡ q x) → count_by p xs ≡ count_by q xs
@@ -81,37 +85,38 @@ bars_met_sum key m n = λ i. count_by (λ row. acts_after_sum key m n row.0 i ||
 -- ---- the wheels in the Converter
 
 -- The place of the letter shown is the place that the wheel keeps.
-start_place : (number size : ℕ) (wheel : TurnedWheel) → StandsAs number size wheel
+start_place : (number size : ℕ) (wheel : TurnedWheel) → IsPinWheel number size wheel
     → unwrap_or (place_on (ring_of number) (letter_shown wheel)) 0 ≡ wheel.place
 start_place number size wheel h =
     grind (arith, letter_leads_to_place size wheel.ring h.turned.ring wheel.place h.turned.place)
 
-size_is : (number size : ℕ) (wheel : TurnedWheel) → StandsAs number size wheel → size_of number ≡ size
+size_is : (number size : ℕ) (wheel : TurnedWheel) → IsPinWheel number size wheel → pin_wheel_size number ≡ size
 size_is number size wheel h = sym (ap length h.ring) ∙ h.turned.ring.full
 
 -- A wheel that is moved on by `count` places shows its letter after `count` letters.
-shows_after : (key : PinKey) (number size count place : ℕ) (wheel : TurnedWheel) → StandsAs number size wheel
+shows_after : (key : PinKey) (number size count place : ℕ) (wheel : TurnedWheel) → IsPinWheel number size wheel
     → slice_index key.letters (number - 1) ≡ letter_shown wheel
     → (wheel.place + count) % size ≡ place → slice_index wheel.ring place ≡ letter_after key count number
 shows_after key number size count place wheel h shown e = grind (arith, size, size_is, start_place)
 
 -- The acting pin of a wheel is the pin that acts after no letters.
-pub acts_now : (key : PinKey) (number size : ℕ) (wheel : TurnedWheel) → StandsAs number size wheel
+pub acts_now : (key : PinKey) (number size : ℕ) (wheel : TurnedWheel) → IsPinWheel number size wheel
     → slice_index key.letters (number - 1) ≡ letter_shown wheel → pins_on key.pins number ≡ wheel.pins
-    → pin_acting size wheel
-    ≡ is_effective (pins_on key.pins number) ((start_on key number + 0 + offset_of number) % size_of number)
+    → is_acting_pin_effective size wheel
+    ≡ is_effective (pins_on key.pins number)
+    ((shown_place_in_key key number + 0 + acting_offset number) % pin_wheel_size number)
 acts_now key number size wheel h shown pins = grind (arith, key, start_place, size, size_is)
 
 -- Moving each wheel on by `count` places makes the key after `count` letters.
-pub key_moved : (w1 w2 w3 w4 w5 w6 : TurnedWheel) (rows : List (ℕ × ℕ)) → AllStand w1 w2 w3 w4 w5 w6
+pub key_moved : (w1 w2 w3 w4 w5 w6 : TurnedWheel) (rows : List (ℕ × ℕ)) → AreSixWheels w1 w2 w3 w4 w5 w6
     → (count p1 p2 p3 p4 p5 p6 : ℕ)
     → (w1.place + count) % 26 ≡ p1 → (w2.place + count) % 25 ≡ p2 → (w3.place + count) % 23 ≡ p3
     → (w4.place + count) % 21 ≡ p4 → (w5.place + count) % 19 ≡ p5 → (w6.place + count) % 17 ≡ p6
-    → key_of (turned_to w1 p1) (turned_to w2 p2) (turned_to w3 p3)
-    (turned_to w4 p4) (turned_to w5 p5) (turned_to w6 p6) rows
-    ≡ pin_key_after (key_of w1 w2 w3 w4 w5 w6 rows) count
+    → converter_key (wheel_at_place w1 p1) (wheel_at_place w2 p2) (wheel_at_place w3 p3)
+    (wheel_at_place w4 p4) (wheel_at_place w5 p5) (wheel_at_place w6 p6) rows
+    ≡ pin_key_after (converter_key w1 w2 w3 w4 w5 w6 rows) count
 key_moved w1 w2 w3 w4 w5 w6 rows all count p1 p2 p3 p4 p5 p6 e1 e2 e3 e4 e5 e6 =
-    let key = key_of w1 w2 w3 w4 w5 w6 rows in
+    let key = converter_key w1 w2 w3 w4 w5 w6 rows in
     let first = shows_after key 1 26 count p1 w1 all.first refl e1 in
     let second = shows_after key 2 25 count p2 w2 all.second refl e2 in
     let third = shows_after key 3 23 count p3 w3 all.third refl e3 in
@@ -121,8 +126,8 @@ key_moved w1 w2 w3 w4 w5 w6 rows all count p1 p2 p3 p4 p5 p6 e1 e2 e3 e4 e5 e6 =
     λ i. pin_key_turned key (first i ∷ second i ∷ third i ∷ fourth i ∷ fifth i ∷ sixth i ∷ [])
 
 -- The key of the wheels is the key after no letters.
-pub key_stands : (w1 w2 w3 w4 w5 w6 : TurnedWheel) (rows : List (ℕ × ℕ)) → AllStand w1 w2 w3 w4 w5 w6
-    → key_of w1 w2 w3 w4 w5 w6 rows ≡ pin_key_after (key_of w1 w2 w3 w4 w5 w6 rows) 0
+pub key_stands : (w1 w2 w3 w4 w5 w6 : TurnedWheel) (rows : List (ℕ × ℕ)) → AreSixWheels w1 w2 w3 w4 w5 w6
+    → converter_key w1 w2 w3 w4 w5 w6 rows ≡ pin_key_after (converter_key w1 w2 w3 w4 w5 w6 rows) 0
 key_stands w1 w2 w3 w4 w5 w6 rows all =
     key_moved w1 w2 w3 w4 w5 w6 rows all 0 w1.place w2.place w3.place w4.place w5.place w6.place
     (omega (arith, all.first.turned.place)) (omega (arith, all.second.turned.place))

@@ -8,7 +8,7 @@ use Rattle.std.specs.Prelude.{Contains}
 use Rattle.std.specs.List.{count_by, enumerate_from}
 use Rattle.kd_tables.specs.Rings.{ring_of, place_on}
 use Rattle.kd_pins.specs.PinWheel.{is_effective}
-use Rattle.kd_pins.specs.PinWheels.{pin_wheels, pins_on, offset_of, size_of}
+use Rattle.kd_pins.specs.PinWheels.{pin_wheels, pins_on, acting_offset, pin_wheel_size}
 
 -- A key of the Converter: the effective pins of its six wheels, the letters that they show, and the readings of
 -- the bars.
@@ -22,22 +22,24 @@ abbrev pub pin_key_turned : PinKey → List ℕ → PinKey
 pin_key_turned key letters = record key { letters = letters }
 
 -- Each of the six letters is on its wheel.
-abbrev pub OnWheels : List ℕ → Type 0
-OnWheels letters = (wheel : ℕ) → 1 ≤ wheel → wheel ≤ 6 → Contains (ring_of wheel) (slice_index letters (wheel - 1))
+abbrev pub IsEachOnItsWheel : List ℕ → Type 0
+IsEachOnItsWheel letters = (wheel : ℕ) → 1 ≤ wheel → wheel ≤ 6
+    → Contains (ring_of wheel) (slice_index letters (wheel - 1))
 
 -- the place of the letter that a wheel shows at the start
-abbrev pub start_on : PinKey → ℕ → ℕ
-start_on key wheel = unwrap_or (place_on (ring_of wheel) (slice_index key.letters (wheel - 1))) 0
+abbrev pub shown_place_in_key : PinKey → ℕ → ℕ
+shown_place_in_key key wheel = unwrap_or (place_on (ring_of wheel) (slice_index key.letters (wheel - 1))) 0
 
 -- whether `wheel` is a wheel's number, and the acting pin of this wheel is effective after `count` letters
-abbrev pub acts_after : PinKey → ℕ → ℕ → Bool
-acts_after key count wheel =
+abbrev pub is_acting_after : PinKey → ℕ → ℕ → Bool
+is_acting_after key count wheel =
     (nat_le 1 wheel && nat_le wheel 6)
-    && is_effective (pins_on key.pins wheel) ((start_on key wheel + count + offset_of wheel) % size_of wheel)
+    && is_effective (pins_on key.pins wheel)
+    ((shown_place_in_key key wheel + count + acting_offset wheel) % pin_wheel_size wheel)
 
 -- how many bars are met after `count` letters: those that read a wheel whose acting pin is effective
 abbrev pub bars_met : PinKey → ℕ → ℕ
-bars_met key count = count_by (λ row. acts_after key count row.0 || acts_after key count row.1) key.rows
+bars_met key count = count_by (λ row. is_acting_after key count row.0 || is_acting_after key count row.1) key.rows
 
 -- The ciphertext of `text`: each letter at its place in the reversed alphabet, moved on by the number of bars
 -- met.
@@ -47,7 +49,8 @@ converter_cipher key text =
 
 -- the letter that a wheel shows after `count` letters; it turns by one place for each
 abbrev pub letter_after : PinKey → ℕ → ℕ → ℕ
-letter_after key count wheel = slice_index (ring_of wheel) ((start_on key wheel + count) % size_of wheel)
+letter_after key count wheel = slice_index (ring_of wheel)
+    ((shown_place_in_key key wheel + count) % pin_wheel_size wheel)
 
 -- the key after `count` letters
 abbrev pub pin_key_after : PinKey → ℕ → PinKey

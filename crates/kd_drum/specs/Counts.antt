@@ -5,15 +5,15 @@ use Rattle.std.specs.Prelude.{slice_index}
 use Rattle.std.specs.List.{count_by}
 
 -- whether `wheel` is a wheel's number, and this wheel is in the set
-abbrev pub is_in : ℕ → ℕ → Bool
-is_in wheels wheel = (nat_le 1 wheel && nat_le wheel 6) && nat_eq (wheels / 2 ^ (wheel - 1) % 2) 1
+abbrev pub is_in_set : ℕ → ℕ → Bool
+is_in_set wheels wheel = (nat_le 1 wheel && nat_le wheel 6) && nat_eq (wheels / 2 ^ (wheel - 1) % 2) 1
 
 -- how many bars are met if just the wheels in the set have an effective acting pin
-abbrev pub met_by : List (ℕ × ℕ) → ℕ → ℕ
-met_by rows wheels = count_by (λ row. is_in wheels row.0 || is_in wheels row.1) rows
+abbrev pub bars_met_by : List (ℕ × ℕ) → ℕ → ℕ
+bars_met_by rows wheels = count_by (λ row. is_in_set wheels row.0 || is_in_set wheels row.1) rows
 
 -- There are 27 bars, and `counts` has the number of bars met for each of the 64 sets.
 pub record AreCounts (rows : List (ℕ × ℕ)) (counts : List ℕ) : Type 0 where
   pub bars : length rows ≡ 27
   pub size : length counts ≡ 64
-  pub each : (wheels : ℕ) → wheels < 64 → slice_index counts wheels ≡ met_by rows wheels
+  pub each : (wheels : ℕ) → wheels < 64 → slice_index counts wheels ≡ bars_met_by rows wheels

@@ -3,17 +3,17 @@ use Rattle.std.specs.Prelude.{◌≡◌, ◌+◌, ◌<◌, ◌++◌, List, ℕ, 
 use Rattle.kd_drum.specs.Converter.{PinKey, pin_key_after, converter_cipher}
 
 -- Enciphering twice with the same key gives the text back.
-abbrev pub TwiceGivesBack : Type 0
-TwiceGivesBack =
+abbrev pub ConverterTwiceGivesBack : Type 0
+ConverterTwiceGivesBack =
     (key : PinKey) (text : List ℕ) → All (λ letter. letter < 26) text
     → converter_cipher key (converter_cipher key text) ≡ text
 
 -- A text can be enciphered in pieces: each piece with the key that the piece before it leaves.
-abbrev pub CipherInTurn : Type 0
-CipherInTurn =
+abbrev pub ConverterCipherInTurn : Type 0
+ConverterCipherInTurn =
     (key : PinKey) (first rest : List ℕ)
     → converter_cipher key (first ++ rest)
     ≡ converter_cipher key first ++ converter_cipher (pin_key_after key (length first)) rest
 
-abbrev pub KeyInTurn : Type 0
-KeyInTurn = (key : PinKey) (m n : ℕ) → pin_key_after (pin_key_after key m) n ≡ pin_key_after key (m + n)
+abbrev pub ConverterKeyInTurn : Type 0
+ConverterKeyInTurn = (key : PinKey) (m n : ℕ) → pin_key_after (pin_key_after key m) n ≡ pin_key_after key (m + n)

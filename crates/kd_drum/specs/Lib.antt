@@ -1,4 +1,4 @@
 pub mod Converter
 pub mod Counts
 pub mod Laws
-pub mod Standing
+pub mod SixWheels

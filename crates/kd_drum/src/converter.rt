@@ -3,11 +3,11 @@ ghost use Rattle.std.specs.Prelude.{◌≡◌, ◌↔◌, ◌<◌, ◌≤◌, �
 ghost use Rattle.std.specs.Prelude.{IsTrue, IfOk, OnOk, OnErr};
 ghost use Rattle.kd_pins.specs.PinWheel.{TurnedWheel, IsWheel, letter_shown};
 ghost use Rattle.kd_pins.specs.PinWheels.{pins_of};
-ghost use Rattle.kd_drum.specs.Converter.{OnWheels, acts_after, bars_met, converter_cipher, pin_key_after};
+ghost use Rattle.kd_drum.specs.Converter.{IsEachOnItsWheel, is_acting_after, bars_met, converter_cipher, pin_key_after};
 ghost use Rattle.kd_drum.specs.Converter.{pin_key_turned};
-ghost use Rattle.kd_drum.specs.Counts.{is_in};
+ghost use Rattle.kd_drum.specs.Counts.{is_in_set};
 
-use super::counts::counts;
+use super::counts::count_bars_met;
 use kd_pins::{NotOnWheel, PinSet, PinWheel};
 use kd_tables::{Letter, Reading, ring1, ring2, ring3, ring4, ring5, ring6};
 use std::marker::Model;
@@ -28,13 +28,13 @@ pub struct Converter {
 impl Model for Converter {
     ghost use Rattle.kd_drum.specs.Converter.{PinKey};
     ghost use Rattle.kd_drum.specs.Counts.{AreCounts};
-    ghost use Rattle.kd_drum.specs.Standing.{AllStand, key_of};
+    ghost use Rattle.kd_drum.specs.SixWheels.{AreSixWheels, converter_key};
 
     ghost Value = { PinKey };
 
-    ghost view = { λ c. key_of c.w1 c.w2 c.w3 c.w4 c.w5 c.w6 c.rows };
+    ghost view = { λ c. converter_key c.w1 c.w2 c.w3 c.w4 c.w5 c.w6 c.rows };
 
-    ghost invariant = { λ c. AllStand c.w1 c.w2 c.w3 c.w4 c.w5 c.w6 × AreCounts c.rows c.counts };
+    ghost invariant = { λ c. AreSixWheels c.w1 c.w2 c.w3 c.w4 c.w5 c.w6 × AreCounts c.rows c.counts };
 }
 
 impl Converter {
@@ -46,7 +46,7 @@ impl Converter {
         letters: [Letter; 6],
         rows: [Reading; 27],
     ) -> Result<Converter, NotOnWheel>
-        ensures ok { IsOk result ↔ OnWheels letters }
+        ensures ok { IsOk result ↔ IsEachOnItsWheel letters }
         ensures value { IfOk result (λ converter.
             converter ≡ record { pins = pins_of pins; letters = letters; rows = rows }) }
     {
@@ -57,7 +57,7 @@ impl Converter {
             w4: PinWheel::new(ring4(), 12, pins.w4),
             w5: PinWheel::new(ring5(), 11, pins.w5),
             w6: PinWheel::new(ring6(), 10, pins.w6),
-            counts: counts(&rows),
+            counts: count_bars_met(&rows),
             rows,
         };
         converter.turn_to(letters)?;
@@ -68,7 +68,7 @@ impl Converter {
     ///
     /// If one of `letters` isn't on its wheel, returns `NotOnWheel` and turns no wheel.
     pub fn turn_to(&mut self, letters: [Letter; 6]) -> Result<(), NotOnWheel>
-        ensures ok { IsOk result ↔ OnWheels letters }
+        ensures ok { IsOk result ↔ IsEachOnItsWheel letters }
         ensures turned { OnOk result (self.new ≡ pin_key_turned self.old letters) }
         ensures unchanged { OnErr result (self.new ≡ self.old) }
     {
@@ -87,7 +87,7 @@ impl Converter {
 
     /// Whether each of `letters` is on its wheel.
     fn can_show(&self, letters: &[Letter; 6]) -> bool
-        ensures { IsTrue result ↔ OnWheels letters.now }
+        ensures { IsTrue result ↔ IsEachOnItsWheel letters.now }
     {
         let [l1, l2, l3, l4, l5, l6] = *letters;
         let have = [
@@ -108,7 +108,7 @@ impl Converter {
     {
         let met = self.met();
         self.advance();
-        reversed(met, letter)
+        reversed_letter(met, letter)
     }
 
     /// Enciphers or deciphers `text` in place.
@@ -116,7 +116,7 @@ impl Converter {
         ensures cipher { text.new ≡ converter_cipher self.old text.old }
         ensures after { self.new ≡ pin_key_after self.old (length text.old) }
     {
-        prove!(self.acting() < 64);
+        prove!(self.acting_wheels() < 64);
         for letter in text.iter_mut() {
             *letter = self.press(*letter);
         }
@@ -127,7 +127,7 @@ impl Converter {
         ensures value { result ≡ bars_met self.now 0 }
         ensures most { result ≤ 27 }
     {
-        self.counts[self.acting()]
+        self.counts[self.acting_wheels()]
     }
 
     /// The letters that the wheels show, from wheel 1 to wheel 6.
@@ -147,9 +147,9 @@ impl Converter {
     /// The set of wheels with an effective acting pin.
     ///
     /// The set is a sum: 1 for wheel 1, 2 for wheel 2, and so on up to 32 for wheel 6.
-    fn acting(&self) -> usize
+    fn acting_wheels(&self) -> usize
         ensures set { result < 64 }
-        ensures each { (wheel : _) → is_in result wheel ≡ acts_after self.now 0 wheel }
+        ensures each { (wheel : _) → is_in_set result wheel ≡ is_acting_after self.now 0 wheel }
         ensures stands { pin_key_after self.now 0 ≡ self.now }
     {
         usize::from(self.w1.acting())
@@ -174,7 +174,7 @@ impl Converter {
 }
 
 /// The letter at the place of `letter` in the reversed alphabet, moved on by `met` places.
-fn reversed(met: u8, letter: Letter) -> Letter
+fn reversed_letter(met: u8, letter: Letter) -> Letter
     requires { met ≤ 27 }
     ensures { result ≡ (25 + met - letter) % 26 }
 {

@@ -1,25 +1,25 @@
 //! How many bars the wheels meet: a table with an entry for each set of wheels.
 ghost use Rattle.std.specs.Prelude.{◌≡◌, ◌≤◌, ◌||◌};
-ghost use Rattle.kd_drum.specs.Counts.{AreCounts, is_in, met_by};
+ghost use Rattle.kd_drum.specs.Counts.{AreCounts, is_in_set, bars_met_by};
 
 use kd_tables::Reading;
 
 /// For each set of wheels with an effective acting pin, counts the bars that these wheels meet.
 ///
 /// A set is a sum: 1 for wheel 1, 2 for wheel 2, and so on up to 32 for wheel 6.
-pub(crate) fn counts(rows: &[Reading; 27]) -> [u8; 64]
+pub(crate) fn count_bars_met(rows: &[Reading; 27]) -> [u8; 64]
     ensures { AreCounts rows.now result }
 {
     let mut counts = [0; 64];
     for wheels in 0..64 {
-        counts[wheels] = met_by(rows, wheels);
+        counts[wheels] = bars_met_by(rows, wheels);
     }
     counts
 }
 
 /// Counts the bars that the wheels of the set `wheels` meet.
-fn met_by(rows: &[Reading; 27], wheels: usize) -> u8
-    ensures { result ≡ met_by rows.now wheels }
+fn bars_met_by(rows: &[Reading; 27], wheels: usize) -> u8
+    ensures { result ≡ bars_met_by rows.now wheels }
 {
     let mut met = 0;
     for row in rows {
@@ -32,15 +32,15 @@ fn met_by(rows: &[Reading; 27], wheels: usize) -> u8
 
 /// Whether a bar that reads as `row` has a lug at a wheel of the set `wheels`.
 fn is_met(row: Reading, wheels: usize) -> bool
-    ensures { result ≡ (is_in wheels row.0 || is_in wheels row.1) }
+    ensures { result ≡ (is_in_set wheels row.0 || is_in_set wheels row.1) }
 {
     let (smaller, larger) = row.numbers();
-    is_in(wheels, smaller) || is_in(wheels, larger)
+    is_in_set(wheels, smaller) || is_in_set(wheels, larger)
 }
 
 /// Whether `wheel` is from 1 to 6 and in the set `wheels`.
-fn is_in(wheels: usize, wheel: u8) -> bool
-    ensures { result ≡ is_in wheels wheel }
+fn is_in_set(wheels: usize, wheel: u8) -> bool
+    ensures { result ≡ is_in_set wheels wheel }
 {
     1 <= wheel && wheel <= 6 && (wheels >> (wheel - 1)) % 2 == 1
 }

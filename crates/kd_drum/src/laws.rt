@@ -1,15 +1,15 @@
 //! Laws on the definition of the Converter's cipher, independent of the code.
-ghost use Rattle.kd_drum.specs.Laws.{TwiceGivesBack, CipherInTurn, KeyInTurn};
+ghost use Rattle.kd_drum.specs.Laws.{ConverterTwiceGivesBack, ConverterCipherInTurn, ConverterKeyInTurn};
 
 /// Enciphering twice with the same key gives the text back.
 #[tactic(auto, using(crate::proofs::Ciphers::twice_gives_back))]
 pub fn enciphering_twice_gives_back()
-    ensures { TwiceGivesBack }
+    ensures { ConverterTwiceGivesBack }
 {}
 
 /// A text can be enciphered piece by piece, each with the key that the piece before it leaves.
 #[tactic(auto, using(crate::proofs::Ciphers::cipher_in_turn))]
 pub fn pieces_are_enciphered_in_turn()
-    ensures cipher { CipherInTurn }
-    ensures after { KeyInTurn }
+    ensures cipher { ConverterCipherInTurn }
+    ensures after { ConverterKeyInTurn }
 {}

@@ -1,7 +1,7 @@
 -- Pairs of a plugboard: what each letter is exchanged for, and the table that plugging them one by one makes.
 use Rattle.std.proofs.Common.{All, Bool, Contains, List, [], ap, arith, cond, drop, eqb, false, get_or, inl, inr}
 use Rattle.std.proofs.Common.{length, refl, rules, set, slice_index, subst, suc, sym, take, true, zero, ℕ, ◌++◌, ◌+◌}
-use Rattle.kd_enigma.{proofs.Ways.each_letter, specs.Plugs.{IsLeft, Joins, NoLetterTwice, letters_plugged}}
+use Rattle.kd_enigma.{proofs.Ways.each_letter, specs.Plugs.{IsFixedLetter, HavePairOf, NoLetterTwice, letters_in_pairs}}
 use Rattle.kd_enigma.specs.{Cipher.IsPlugboard, Laws.{PairsExchange, PairsMakeAPlugboard, SamePairsExchangeAlike}}
 use Rattle.kd_tables.specs.Permutation.{alphabet, exchange, exchanged}
 use Rattle.std.proofs.Common.{◌<◌, ◌↔◌, ◌∙◌, ◌∷◌, ◌≡◌, ◌≢◌, ◌≤◌, ◌⊎◌}
@@ -14,112 +14,123 @@ use Rattle.std.specs.List.{AllByRecursion, IsDistinct, list_any}
 
 -- ---- the letters of pairs
 
-abbrev pub lies_in : ℕ → List (ℕ × ℕ) → Bool
-lies_in x pairs = list_any (eqb x) (letters_plugged pairs)
+abbrev pub lies_in_pairs : ℕ → List (ℕ × ℕ) → Bool
+lies_in_pairs x pairs = list_any (eqb x) (letters_in_pairs pairs)
 
 -- No letter occurs in two pairs, or twice in one.
-abbrev pub AreApart : List (ℕ × ℕ) → Type 0
-AreApart [] = Unit {0}
-AreApart (pair ∷ pairs) =
-    (eqb pair.0 pair.1 ≡ false) × (lies_in pair.0 pairs ≡ false) × (lies_in pair.1 pairs ≡ false) × AreApart pairs
+abbrev pub HaveNoLetterTwice : List (ℕ × ℕ) → Type 0
+HaveNoLetterTwice [] = Unit {0}
+HaveNoLetterTwice (pair ∷ pairs) =
+    (eqb pair.0 pair.1 ≡ false) × (lies_in_pairs pair.0 pairs ≡ false) × (lies_in_pairs pair.1 pairs ≡ false)
+    × HaveNoLetterTwice pairs
 
-free_tells : (x : ℕ) (letters : List ℕ)
+list_any-AllByRecursion : (x : ℕ) (letters : List ℕ)
     → (list_any (eqb x) letters ≡ false) ↔ AllByRecursion (λ y. eqb x y ≡ false) letters
-free_tells x [] = (λ _. tt, λ _. refl)
-free_tells x (y ∷ letters) = grind (arith, nat_tests, free_tells x letters)
+list_any-AllByRecursion x [] = (λ _. tt, λ _. refl)
+list_any-AllByRecursion x (y ∷ letters) = grind (arith, nat_tests, list_any-AllByRecursion x letters)
 
-pub apart_tells : (pairs : List (ℕ × ℕ)) → NoLetterTwice pairs ↔ AreApart pairs
+pub apart_tells : (pairs : List (ℕ × ℕ)) → NoLetterTwice pairs ↔ HaveNoLetterTwice pairs
 unfolding IsDistinct
 apart_tells [] = (λ _. tt, λ _. tt)
-apart_tells (pair ∷ pairs) = grind (arith, nat_tests, free_tells, apart_tells pairs)
+apart_tells (pair ∷ pairs) = grind (arith, nat_tests, list_any-AllByRecursion, apart_tells pairs)
 
 -- The two letters of a pair differ, and occur in none of the pairs.
-abbrev IsApart : List (ℕ × ℕ) → ℕ × ℕ → Type 0
-IsApart pairs pair = (eqb pair.0 pair.1 ≡ false) × (lies_in pair.0 pairs ≡ false) × (lies_in pair.1 pairs ≡ false)
+abbrev IsPairApart : List (ℕ × ℕ) → ℕ × ℕ → Type 0
+IsPairApart pairs pair = (eqb pair.0 pair.1 ≡ false) × (lies_in_pairs pair.0 pairs ≡ false)
+    × (lies_in_pairs pair.1 pairs ≡ false)
 
-apart_push : (pairs : List (ℕ × ℕ)) (pair : ℕ × ℕ) → AreApart pairs → IsApart pairs pair → AreApart (pairs ++ pair ∷ [])
+apart_push : (pairs : List (ℕ × ℕ)) (pair : ℕ × ℕ) → HaveNoLetterTwice pairs → IsPairApart pairs pair
+    → HaveNoLetterTwice (pairs ++ pair ∷ [])
 apart_push [] pair apart is = (is.0, refl, refl, tt)
 apart_push (first ∷ pairs) pair apart is = grind
     (arith, nat_tests, flat_map-append, list_any-append, apart_push pairs pair)
 
-apart_front : (pairs rest : List (ℕ × ℕ)) (pair : ℕ × ℕ) → AreApart (pairs ++ pair ∷ rest) → IsApart pairs pair
+apart_front : (pairs rest : List (ℕ × ℕ)) (pair : ℕ × ℕ) → HaveNoLetterTwice (pairs ++ pair ∷ rest)
+    → IsPairApart pairs pair
 apart_front [] rest pair apart = (apart.0, refl, refl)
 apart_front (first ∷ pairs) rest pair apart =
     grind (arith, nat_tests, flat_map-append, list_any-append, apart_front pairs rest pair)
 
 -- ---- what a letter is exchanged for
 
-exchanged_free : (pairs : List (ℕ × ℕ)) (x : ℕ) → lies_in x pairs ≡ false → exchanged pairs x ≡ x
+exchanged_free : (pairs : List (ℕ × ℕ)) (x : ℕ) → lies_in_pairs x pairs ≡ false → exchanged pairs x ≡ x
 exchanged_free [] x h = refl
 exchanged_free (pair ∷ pairs) x h = grind (arith, nat_tests, exchanged_free pairs x)
 
-exchanged_stays : (pairs : List (ℕ × ℕ)) (x : ℕ) → lies_in x pairs ≡ true → lies_in (exchanged pairs x) pairs ≡ true
+exchanged_stays : (pairs : List (ℕ × ℕ)) (x : ℕ) → lies_in_pairs x pairs ≡ true
+    → lies_in_pairs (exchanged pairs x) pairs ≡ true
 exchanged_stays [] x h = h
 exchanged_stays (pair ∷ pairs) x h = grind (arith, nat_tests, exchanged_stays pairs x)
 
-returns_where_it_came_from : (pairs : List (ℕ × ℕ)) (x : ℕ) → AreApart pairs → exchanged pairs (exchanged pairs x) ≡ x
+returns_where_it_came_from : (pairs : List (ℕ × ℕ)) (x : ℕ) → HaveNoLetterTwice pairs
+    → exchanged pairs (exchanged pairs x) ≡ x
 returns_where_it_came_from [] x h = refl
 returns_where_it_came_from (pair ∷ pairs) x h =
     grind (arith, nat_tests, exchanged_stays pairs x, exchanged_free pairs x, returns_where_it_came_from pairs x)
 
-exchanged_moves : (pairs : List (ℕ × ℕ)) (x : ℕ) → AreApart pairs → lies_in x pairs ≡ true → exchanged pairs x ≢ x
+exchanged_moves : (pairs : List (ℕ × ℕ)) (x : ℕ) → HaveNoLetterTwice pairs → lies_in_pairs x pairs ≡ true
+    → exchanged pairs x ≢ x
 exchanged_moves [] x h lies e = false≢true lies
 exchanged_moves (pair ∷ pairs) x h lies e = grind (arith, nat_tests, exchanged_moves pairs x)
 
 -- ---- where a letter leads
 
-contains_later : (pair : ℕ × ℕ) (pairs : List (ℕ × ℕ)) (x y : ℕ) → Joins pairs x y → Joins (pair ∷ pairs) x y
+contains_later : (pair : ℕ × ℕ) (pairs : List (ℕ × ℕ)) (x y : ℕ) → HavePairOf pairs x y → HavePairOf (pair ∷ pairs) x y
 contains_later pair pairs x y (inl c) = inl (suc c.0, omega (arith, c.1), c.2)
 contains_later pair pairs x y (inr c) = inr (suc c.0, omega (arith, c.1), c.2)
 
 -- A letter that occurs in a pair is exchanged for the other letter of this pair.
-leads : (pairs : List (ℕ × ℕ)) (x y : ℕ) → lies_in x pairs ≡ true → exchanged pairs x ≡ y → Joins pairs x y
-leads [] x y h e = absurd (false≢true h)
-leads (pair ∷ pairs) x y h e =
+exchanged-HavePairOf : (pairs : List (ℕ × ℕ)) (x y : ℕ) → lies_in_pairs x pairs ≡ true → exchanged pairs x ≡ y
+    → HavePairOf pairs x y
+exchanged-HavePairOf [] x y h e = absurd (false≢true h)
+exchanged-HavePairOf (pair ∷ pairs) x y h e =
     elim (cases_eq x pair.0) [
       | inl same ↦
           let other : pair.1 ≡ y = grind (arith, nat_tests) in inl (zero, omega arith, λ i. (sym same i, other i))
       | inr n ↦ elim (cases_eq x pair.1) [
         | inl same ↦
             let other : pair.0 ≡ y = grind (arith, nat_tests) in inr (zero, omega arith, λ i. (other i, sym same i))
-        | inr m ↦ contains_later pair pairs x y (leads pairs x y (grind (arith, nat_tests)) (grind (arith, nat_tests)))
+        | inr m ↦ contains_later pair pairs x y
+            (exchanged-HavePairOf pairs x y (grind (arith, nat_tests)) (grind (arith, nat_tests)))
       ]
     ]
 
 -- `x` and `y` are exchanged for one another.
-record IsCable (pairs : List (ℕ × ℕ)) (x y : ℕ) : Type 0 where
+record AreExchanged (pairs : List (ℕ × ℕ)) (x y : ℕ) : Type 0 where
   there : exchanged pairs x ≡ y
   back : exchanged pairs y ≡ x
-  first : lies_in x pairs ≡ true
-  second : lies_in y pairs ≡ true
+  first : lies_in_pairs x pairs ≡ true
+  second : lies_in_pairs y pairs ≡ true
 
-cable_at : (pairs : List (ℕ × ℕ)) (v : ℕ × ℕ) (k : ℕ) → AreApart pairs → k < length pairs → get_or pairs k v ≡ v
-    → IsCable pairs v.0 v.1
+cable_at : (pairs : List (ℕ × ℕ)) (v : ℕ × ℕ) (k : ℕ) → HaveNoLetterTwice pairs → k < length pairs
+    → get_or pairs k v ≡ v
+    → AreExchanged pairs v.0 v.1
 cable_at [] v k h lt e = absurd (omega arith)
 cable_at (pair ∷ pairs) v zero h lt e = grind arith
 cable_at (pair ∷ pairs) v (suc k) h lt e = grind (arith, cable_at pairs v k (grind arith) (omega arith) e)
 
-joined : (pairs : List (ℕ × ℕ)) (x y : ℕ) → AreApart pairs → Joins pairs x y → exchanged pairs x ≡ y
-joined pairs x y e d = grind (arith, cable_at)
+HavePairOf-exchanged : (pairs : List (ℕ × ℕ)) (x y : ℕ) → HaveNoLetterTwice pairs → HavePairOf pairs x y
+    → exchanged pairs x ≡ y
+HavePairOf-exchanged pairs x y e d = grind (arith, cable_at)
 
-exchanges : (pairs : List (ℕ × ℕ)) (x y : ℕ) → exchanged pairs x ≡ y
-    → Joins pairs x y ⊎ ((x ≡ y) × ¬ Contains (letters_plugged pairs) x)
-exchanges pairs x y e = grind (arith, cases_Bool, leads, exchanged_free, list_any_at, eq-eqb)
+exchanged-cases : (pairs : List (ℕ × ℕ)) (x y : ℕ) → exchanged pairs x ≡ y
+    → HavePairOf pairs x y ⊎ ((x ≡ y) × ¬ Contains (letters_in_pairs pairs) x)
+exchanged-cases pairs x y e = grind (arith, cases_Bool, exchanged-HavePairOf, exchanged_free, list_any_at, eq-eqb)
 
-exchanged_by : (pairs : List (ℕ × ℕ)) (x y : ℕ) → AreApart pairs
-    → Joins pairs x y ⊎ ((x ≡ y) × ¬ Contains (letters_plugged pairs) x) → exchanged pairs x ≡ y
-exchanged_by pairs x y h (inl j) = joined pairs x y h j
+exchanged_by : (pairs : List (ℕ × ℕ)) (x y : ℕ) → HaveNoLetterTwice pairs
+    → HavePairOf pairs x y ⊎ ((x ≡ y) × ¬ Contains (letters_in_pairs pairs) x) → exchanged pairs x ≡ y
+exchanged_by pairs x y h (inl j) = HavePairOf-exchanged pairs x y h j
 exchanged_by pairs x y h (inr left) = search (rules, exchanged_free, false_from_ne_true, Any-from_list_any, eqb-true)
 
 pub pairs_exchange : PairsExchange
-pairs_exchange pairs x y once = (exchanges pairs x y, exchanged_by pairs x y ((apart_tells pairs).0 once))
+pairs_exchange pairs x y once = (exchanged-cases pairs x y, exchanged_by pairs x y ((apart_tells pairs).0 once))
 
-exchanged_alike : (ps qs : List (ℕ × ℕ)) (x : ℕ) → AreApart ps → AreApart qs
-    → ((y : ℕ) → Joins ps x y ↔ Joins qs x y) → exchanged ps x ≡ exchanged qs x
-exchanged_alike ps qs x hp hq same = elim (exchanges ps x (exchanged ps x) refl) [
-  | inl there ↦ sym (joined qs x (exchanged ps x) hq ((same (exchanged ps x)).0 there))
-  | inr free ↦ elim (exchanges qs x (exchanged qs x) refl) [
-    | inl there ↦ joined ps x (exchanged qs x) hp ((same (exchanged qs x)).1 there)
+exchanged_alike : (ps qs : List (ℕ × ℕ)) (x : ℕ) → HaveNoLetterTwice ps → HaveNoLetterTwice qs
+    → ((y : ℕ) → HavePairOf ps x y ↔ HavePairOf qs x y) → exchanged ps x ≡ exchanged qs x
+exchanged_alike ps qs x hp hq same = elim (exchanged-cases ps x (exchanged ps x) refl) [
+  | inl there ↦ sym (HavePairOf-exchanged qs x (exchanged ps x) hq ((same (exchanged ps x)).0 there))
+  | inr free ↦ elim (exchanged-cases qs x (exchanged qs x) refl) [
+    | inl there ↦ HavePairOf-exchanged ps x (exchanged qs x) hp ((same (exchanged qs x)).1 there)
     | inr also ↦ sym free.0 ∙ also.0
   ]
 ]
@@ -144,7 +155,7 @@ same_pairs_exchange_alike ps qs once also same =
     exchange_is (exchange ps) qs (exchange-size ps) (λ x lt. exchange-at ps x lt
     ∙ exchanged_alike ps qs x ((apart_tells ps).0 once) ((apart_tells qs).0 also) (same x))
 
-exchanged_within : (pairs : List (ℕ × ℕ)) (x : ℕ) → All (λ letter. letter < 26) (letters_plugged pairs) → x < 26
+exchanged_within : (pairs : List (ℕ × ℕ)) (x : ℕ) → All (λ letter. letter < 26) (letters_in_pairs pairs) → x < 26
     → exchanged pairs x < 26
 exchanged_within [] x h lt = lt
 exchanged_within (pair ∷ pairs) x h lt =
@@ -170,7 +181,7 @@ no_cables = pairs_make_a_plugboard [] ((apart_tells []).1 tt) (All-nil (λ lette
 
 -- ---- pairs plugged one after the other
 
-exchanged_push : (pairs : List (ℕ × ℕ)) (pair : ℕ × ℕ) (x : ℕ) → AreApart pairs → IsApart pairs pair
+exchanged_push : (pairs : List (ℕ × ℕ)) (pair : ℕ × ℕ) (x : ℕ) → HaveNoLetterTwice pairs → IsPairApart pairs pair
     → exchanged (pairs ++ pair ∷ []) x ≡ cond (eqb x pair.0) pair.1 (cond (eqb x pair.1) pair.0 (exchanged pairs x))
 exchanged_push [] pair x apart is = refl
 exchanged_push (first ∷ pairs) pair x apart is = grind
@@ -179,20 +190,20 @@ exchanged_push (first ∷ pairs) pair x apart is = grind
 -- The table exchanges the letters of the pairs that are plugged so far.
 pub record IsPlugged (board : List ℕ) (pairs : List (ℕ × ℕ)) : Type 0 where
   pub table : board ≡ exchange pairs
-  pub apart : AreApart pairs
-  pub letters : All (λ letter. letter < 26) (letters_plugged pairs)
+  pub apart : HaveNoLetterTwice pairs
+  pub letters : All (λ letter. letter < 26) (letters_in_pairs pairs)
 
 pub is_plugged_none : (table : List ℕ) → table ≡ alphabet → IsPlugged table []
 unfolding exchange
 is_plugged_none table e = grind (arith, map-id, All-nil)
 
 -- A letter that the table leaves occurs in none of the pairs.
-left_free : (pairs : List (ℕ × ℕ)) (x : ℕ) → AreApart pairs → x < 26 → slice_index (exchange pairs) x ≡ x
-    → lies_in x pairs ≡ false
+left_free : (pairs : List (ℕ × ℕ)) (x : ℕ) → HaveNoLetterTwice pairs → x < 26 → slice_index (exchange pairs) x ≡ x
+    → lies_in_pairs x pairs ≡ false
 left_free pairs x apart lt left = grind (arith, false_from_ne_true, exchanged_moves, exchange-at)
 
 plugged_push : (table after : List ℕ) (pairs : List (ℕ × ℕ)) (pair : ℕ × ℕ) → IsPlugged table pairs
-    → (pair.0 ≢ pair.1) × IsLeft table pair.0 × IsLeft table pair.1
+    → (pair.0 ≢ pair.1) × IsFixedLetter table pair.0 × IsFixedLetter table pair.1
     → pair.0 < 26 → pair.1 < 26 → after ≡ set (set table pair.0 pair.1) pair.1 pair.0
     → IsPlugged after (pairs ++ pair ∷ [])
 plugged_push table after pairs pair h can one_lt other_lt e =
@@ -200,7 +211,7 @@ plugged_push table after pairs pair h can one_lt other_lt e =
     let size : length once ≡ 26 = length-set (exchange pairs) pair.0 pair.1 ∙ exchange-size pairs in
     let one = left_free pairs pair.0 h.apart one_lt (rw h.table at can.1) in
     let other = left_free pairs pair.1 h.apart other_lt (rw h.table at can.2) in
-    let is : IsApart pairs pair = (ne_eqb pair.0 pair.1 can.0, one, other) in
+    let is : IsPairApart pairs pair = (ne_eqb pair.0 pair.1 can.0, one, other) in
     let twice : set once pair.1 pair.0 ≡ exchange (pairs ++ pair ∷ []) =
     exchange_is (set once pair.1 pair.0) (pairs ++ pair ∷ []) (length-set once pair.1 pair.0 ∙ size)
     (λ x lt. grind (
@@ -218,7 +229,7 @@ plugged_push table after pairs pair h can one_lt other_lt e =
     record {
       table = e ∙ ap (λ t. set (set t pair.0 pair.1) pair.1 pair.0) h.table ∙ twice;
       apart = apart_push pairs pair h.apart is;
-      letters = rw flat_map-append (All-append (λ letter. letter < 26) (letters_plugged pairs)
+      letters = rw flat_map-append (All-append (λ letter. letter < 26) (letters_in_pairs pairs)
           (pair.0 ∷ pair.1 ∷ []) h.letters letters);
     }
 
@@ -231,7 +242,7 @@ module _ (all : List (ℕ × ℕ)) (place : ℕ) (table : List ℕ) (h : IsPlugg
       (whole.table, once, rw whole.table (pairs_make_a_plugboard all once whole.letters))
 
   module _ (pair : ℕ × ℕ) (left : place < length all) (here : pair ≡ get_or all place pair) where
-    pub plugged_more : (after : List ℕ) → (pair.0 ≢ pair.1) × IsLeft table pair.0 × IsLeft table pair.1
+    pub plugged_more : (after : List ℕ) → (pair.0 ≢ pair.1) × IsFixedLetter table pair.0 × IsFixedLetter table pair.1
         → (pair.0 < 26) × (pair.1 < 26) → after ≡ set (set table pair.0 pair.1) pair.1 pair.0
         → IsPlugged after (take (place + 1) all)
     plugged_more after can low e =
@@ -239,7 +250,7 @@ module _ (all : List (ℕ × ℕ)) (place : ℕ) (table : List ℕ) (h : IsPlugg
 
     -- If no letter occurs twice, the two letters of the next pair are free.
     pub can_plug : NoLetterTwice all → (pair.0 < 26) × (pair.1 < 26)
-        → (pair.0 ≢ pair.1) × IsLeft table pair.0 × IsLeft table pair.1
+        → (pair.0 ≢ pair.1) × IsFixedLetter table pair.0 × IsFixedLetter table pair.1
     can_plug once low =
         let split : take place all ++ pair ∷ drop (place + 1) all ≡ all =
         rw here (rw (← drop_more all place pair left) (take-append-drop place all)) in

@@ -1,6 +1,7 @@
 -- The cipher of a rotor machine, letter by letter.
 use Rattle.std.proofs.Common.{All, List, [], add-one, add-suc, add-zero, ap, arith, drop, get_or, length, map, refl}
-use Rattle.kd_enigma.{proofs.Ways.path_exchanges, specs.Laws.{CipherInTurn, KeyInTurn, TwiceGivesBack}}
+use Rattle.kd_enigma.{proofs.Ways.path_exchanges}
+use Rattle.kd_enigma.{specs.Laws.{EnigmaCipherInTurn, EnigmaKeyInTurn, EnigmaTwiceGivesBack}}
 use Rattle.kd_enigma.specs.Cipher.{IsPlugboard, RotorKey, enigma_cipher, key_after, key_turned, path}
 use Rattle.{kd_step.specs.Stepper.{next_window, window_after}, kd_tables.specs.declared.wheel.Wheel.Wheel}
 use Rattle.std.proofs.Common.{rules, set, slice_index, suc, sym, take, zero, ℕ, ◌++◌, ◌+◌, ◌<◌, ◌∙◌, ◌∷◌, ◌≡◌}
@@ -8,11 +9,11 @@ use Rattle.std.{proofs.lemmas.List.Elements.{All-head, All-tail}, specs.List.enu
 
 -- the letter that lights up after a number of steps, and the cipher of a text that begins after a number of
 -- steps
-abbrev lit : RotorKey → ℕ → ℕ → ℕ
-lit key steps letter = slice_index (path key (window_after key.wheels key.window steps)) letter
+abbrev lit_letter : RotorKey → ℕ → ℕ → ℕ
+lit_letter key steps letter = slice_index (path key (window_after key.wheels key.window steps)) letter
 
 abbrev cipher_from : RotorKey → ℕ → List ℕ → List ℕ
-cipher_from key start text = map (λ numbered. lit key numbered.0 numbered.1) (enumerate_from start text)
+cipher_from key start text = map (λ numbered. lit_letter key numbered.0 numbered.1) (enumerate_from start text)
 
 -- The path doesn't depend on the window of the key, but on the window given.
 pub path_turned : (key : RotorKey) (window shown : List ℕ) → path (key_turned key window) shown ≡ path key shown
@@ -30,7 +31,7 @@ twice_from key start (letter ∷ text) board h =
     (All-head (λ l. l < 26) letter text h))
     ∙ ap (λ ls. letter ∷ ls) (twice_from key (start + 1) text board (All-tail (λ l. l < 26) letter text h))
 
-pub twice_gives_back : TwiceGivesBack
+pub twice_gives_back : EnigmaTwiceGivesBack
 twice_gives_back key text = twice_from key 1 text
 
 -- ---- a text in two pieces
@@ -41,34 +42,35 @@ window_after_sum wheels window m zero = ap (window_after wheels window) (sym (ad
 window_after_sum wheels window m (suc n) =
     ap (next_window wheels) (window_after_sum wheels window m n) ∙ ap (window_after wheels window) (sym (add-suc m n))
 
-pub key_in_turn : KeyInTurn
+pub key_in_turn : EnigmaKeyInTurn
 key_in_turn key m n = ap (key_turned key) (window_after_sum key.wheels key.window m n)
 
 -- A text that begins `m` steps later is enciphered with the key after `m` steps.
-later : (key : RotorKey) (m start : ℕ) (text : List ℕ)
+cipher_from-add : (key : RotorKey) (m start : ℕ) (text : List ℕ)
     → cipher_from key (m + start) text ≡ cipher_from (key_after key m) start text
-later key m start [] = refl
-later key m start (letter ∷ text) = search (rules, key, window_after_sum, path_turned, later key m (start + 1) text)
+cipher_from-add key m start [] = refl
+cipher_from-add key m start (letter ∷ text) = search
+    (rules, key, window_after_sum, path_turned, cipher_from-add key m (start + 1) text)
 
 append_from : (key : RotorKey) (start : ℕ) (first rest : List ℕ)
     → cipher_from key start (first ++ rest) ≡ cipher_from key start first ++ cipher_from key (start + length first) rest
 append_from key start [] rest = ap (λ n. cipher_from key n rest) (sym (add-zero start))
 append_from key start (letter ∷ first) rest = grind (arith, key, append_from key (start + 1) first rest)
 
-pub cipher_in_turn : CipherInTurn
+pub cipher_in_turn : EnigmaCipherInTurn
 cipher_in_turn key first rest =
     append_from key 1 first rest
     ∙ ap (λ ls. enigma_cipher key first ++ ls)
-    (ap (λ n. cipher_from key n rest) (omega arith) ∙ later key (length first) 1 rest)
+    (ap (λ n. cipher_from key n rest) (omega arith) ∙ cipher_from-add key (length first) 1 rest)
 
 -- One more letter is enciphered, and the rest with the key that this letter leaves.
-pub one_more : (key : RotorKey) (text : List ℕ) (n d light : ℕ) → n < length text
+pub enigma_cipher-set : (key : RotorKey) (text : List ℕ) (n d light : ℕ) → n < length text
     → enigma_cipher key (get_or text n d ∷ []) ≡ light ∷ []
     → take n text ++ enigma_cipher key (drop n text)
     ≡ take (n + 1) (set text n light) ++ enigma_cipher (key_after key 1) (drop (n + 1) (set text n light))
-one_more key [] n d light lt e = absurd (omega arith)
-one_more key (letter ∷ text) zero d light lt e = cipher_in_turn key (letter ∷ []) text
+enigma_cipher-set key [] n d light lt e = absurd (omega arith)
+enigma_cipher-set key (letter ∷ text) zero d light lt e = cipher_in_turn key (letter ∷ []) text
     ∙ ap (λ l. l ++ enigma_cipher (key_after key 1) text) e
-one_more key (letter ∷ text) (suc n) d light lt e =
-    let rest = one_more key text n d light (omega arith) e in
+enigma_cipher-set key (letter ∷ text) (suc n) d light lt e =
+    let rest = enigma_cipher-set key text n d light (omega arith) e in
     rw (add-one (suc n)) (ap (λ l. letter ∷ l) (rw (add-one n) at rest))

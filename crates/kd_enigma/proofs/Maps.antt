@@ -1,16 +1,17 @@
 -- Permutations as they are kept in 32 lanes.
 use Rattle.std.proofs.Common.{◌≡◌, ℕ, ◌-◌, ◌<◌, ◌≤◌, List, ◌++◌, length, take, map, get_or, slice_index, w8, inl, inr}
 use Rattle.std.proofs.Common.{refl, sym, ap, ◌∙◌, arith, length-append, rules}
-use Rattle.kd_enigma.{proofs.Ways.product-at, proofs.Ways.product-size, specs.Map.AreLanes, specs.Map.spare}
+use Rattle.kd_enigma.{proofs.Ways.product-at, proofs.Ways.product-size, specs.Map.AreLanes, specs.Map.spare_lanes}
 use Rattle.kd_tables.specs.Permutation.{alphabet, followed_by}
 use Rattle.std.proofs.lemmas.{Bool.cases_lt, List.FromFn.get_or-map-range_with_len, List.FromFn.get_or-range_with_len}
 use Rattle.std.proofs.lemmas.List.{ext_get_or, get_or-take, get_or_append_left, get_or-append_right, length-take-le}
 use Rattle.std.proofs.lemmas.Simd.{swz_l, SwzOk, SwzOk-from_below, Each1-from_get_or, length-swz_l, get_or-swz_l_below}
 
 -- the lanes after the 26 letters
-spare_at : (lanes : List ℕ) → length lanes ≡ 32 → (k : ℕ) → 26 ≤ k → k < 32 → get_or (take 26 lanes ++ spare) k 0 ≡ k
+spare_at : (lanes : List ℕ) → length lanes ≡ 32 → (k : ℕ) → 26 ≤ k → k < 32
+    → get_or (take 26 lanes ++ spare_lanes) k 0 ≡ k
 spare_at lanes size k low lt =
-    get_or-append_right (take 26 lanes) spare 26 k 0 (length-take-le 26 lanes (omega arith)) low
+    get_or-append_right (take 26 lanes) spare_lanes 26 k 0 (length-take-le 26 lanes (omega arith)) low
     ∙ get_or-range_with_len 26 6 (k - 26) 0 (omega arith) ∙ omega arith
 
 -- 26 lanes with letters, and six that map to themselves, are the lanes of a table.
@@ -18,12 +19,12 @@ pub lanes_of : (lanes : List ℕ) → length lanes ≡ 32 → ((k : ℕ) → k <
     → ((k : ℕ) → 26 ≤ k → k < 32 → slice_index lanes k ≡ k) → AreLanes lanes
 lanes_of lanes size letters still =
     let front : length (take 26 lanes) ≡ 26 = length-take-le 26 lanes (omega arith) in
-    let all : length (take 26 lanes ++ spare) ≡ 32 = omega (arith, length-append (take 26 lanes) spare) in
+    let all : length (take 26 lanes ++ spare_lanes) ≡ 32 = omega (arith, length-append (take 26 lanes) spare_lanes) in
     record {
       size = size;
       letters = letters;
-      behind = ext_get_or 0 (take 26 lanes ++ spare) lanes (omega arith) (λ k lt. elim (cases_lt k 26) [
-        | inl low ↦ get_or_append_left (take 26 lanes) spare 0 k (omega arith) ∙ get_or-take 26 lanes k 0 low
+      behind = ext_get_or 0 (take 26 lanes ++ spare_lanes) lanes (omega arith) (λ k lt. elim (cases_lt k 26) [
+        | inl low ↦ get_or_append_left (take 26 lanes) spare_lanes 0 k (omega arith) ∙ get_or-take 26 lanes k 0 low
         | inr high ↦ spare_at lanes size k high (omega arith) ∙ sym (still k high (omega arith))
       ]);
     }

@@ -1,7 +1,7 @@
 -- Permutations on the way of the current: in through wheels, through a core, and back.
 use Rattle.std.proofs.Common.{◌≡◌, ◌≢◌, ℕ, ◌<◌, List, [], ◌∷◌, ◌++◌, map, reverse, slice_index, All, length, refl, sym}
 use Rattle.std.proofs.Common.{ap, ◌∙◌, subst, arith, rules, append_assoc}
-use Rattle.kd_enigma.specs.{Laws.PathsLeadBack, Laws.PathsMoveEachLetter, Rotor.rotor, Rotor.turned}
+use Rattle.kd_enigma.specs.{Laws.PathsLeadBack, Laws.PathsMoveEachLetter, Rotor.rotor, Rotor.wiring_turned_by}
 use Rattle.kd_tables.proofs.Products.{inverse_by_letter, inverse_permutes, product_backwards, product_permutes}
 use Rattle.kd_tables.proofs.Products.{shift_backwards, shift_permutes}
 use Rattle.kd_tables.proofs.Wirings.{reflector_moves, reflector_permutes, reflector_returns, wiring_permutes}
@@ -40,9 +40,9 @@ same_maps : (p q : List ℕ) → length p ≡ 26 → length q ≡ 26 → ((x : �
 same_maps p q long also each = ext_get_or 0 p q (omega arith) (λ x lt. each x (omega arith))
 
 -- A product of three permutations doesn't depend on how they are grouped.
-pub grouped : (p q r : List ℕ) → IsPermutation26 p → length q ≡ 26
+pub followed_by-assoc : (p q r : List ℕ) → IsPermutation26 p → length q ≡ 26
     → followed_by (followed_by p q) r ≡ followed_by p (followed_by q r)
-grouped p q r h size = grind (arith, same_maps, product-size, product-at)
+followed_by-assoc p q r h size = grind (arith, same_maps, product-size, product-at)
 
 -- The permutation that leaves each letter changes no product.
 pub nothing_before : (p : List ℕ) → length p ≡ 26 → followed_by alphabet p ≡ p
@@ -60,10 +60,19 @@ unfolding shift
 no_shift = refl
 
 -- The inverse of a turned permutation is the inverse turned by as many places.
-pub turned_undone : (by : ℕ) (p : List ℕ) → by < 26 → IsPermutation26 p → inverse (turned by p) ≡ turned by (inverse p)
-unfolding turned
+pub turned_undone : (by : ℕ) (p : List ℕ) → by < 26 → IsPermutation26 p
+    → inverse (wiring_turned_by by p) ≡ wiring_turned_by by (inverse p)
+unfolding wiring_turned_by
 turned_undone by p lt h =
-    search (rules, grouped, product_backwards, product_permutes, shift_backwards, shift_permutes, inverse_permutes)
+    search (
+      rules,
+      followed_by-assoc,
+      product_backwards,
+      product_permutes,
+      shift_backwards,
+      shift_permutes,
+      inverse_permutes,
+    )
 
 -- ---- permutations that take each letter to another one, and that one back
 
@@ -82,26 +91,26 @@ reflectors_exchange reflector = record {
 }
 
 -- Two permutations undo each other.
-record Undo (there back : List ℕ) : Type 0 where
+record UndoEachOther (there back : List ℕ) : Type 0 where
   in_permutes : IsPermutation26 there
   out_permutes : IsPermutation26 back
   out : (x : ℕ) → x < 26 → slice_index back (slice_index there x) ≡ x
   into : (x : ℕ) → x < 26 → slice_index there (slice_index back x) ≡ x
 
-wheels_undo : (w : List ℕ) → IsPermutation26 w → Undo w (inverse w)
+wheels_undo : (w : List ℕ) → IsPermutation26 w → UndoEachOther w (inverse w)
 wheels_undo w h =
     let back = inverse_permutes w h in grind (arith, inverse_by_letter, h.each_once.within, back.each_once.within)
 
-boards_undo : (plugs : List ℕ) → IsPlugboard plugs → Undo plugs plugs
+boards_undo : (plugs : List ℕ) → IsPlugboard plugs → UndoEachOther plugs plugs
 boards_undo plugs board =
     let back = at_letter (λ x. slice_index plugs (slice_index plugs x) ≡ x) board.own_inverse in
     record { in_permutes = board.permutation; out_permutes = board.permutation; out = back; into = back }
 
 -- In through a permutation, through a core that exchanges letters, and back through the inverse: this exchanges
 -- letters.
-conjugate : (there core back : List ℕ) → Undo there back → Exchanges core
+Exchanges-conjugate : (there core back : List ℕ) → UndoEachOther there back → Exchanges core
     → Exchanges (followed_by there (followed_by core back))
-conjugate there core back undo h =
+Exchanges-conjugate there core back undo h =
     let in_lt = undo.in_permutes.each_once.within in
     let at : (x : ℕ) → x < 26
     → slice_index (followed_by there (followed_by core back)) x
@@ -131,15 +140,15 @@ conjugate there core back undo h =
 -- ---- the way around
 
 -- a core that a wheel encloses, and a core that wheels enclose from left to right
-abbrev pub enclosed : List ℕ → List ℕ → List ℕ
-enclosed core w = followed_by w (followed_by core (inverse w))
+abbrev pub core_in_wheel : List ℕ → List ℕ → List ℕ
+core_in_wheel core w = followed_by w (followed_by core (inverse w))
 
-abbrev pub nested : List ℕ → List (List ℕ) → List ℕ
-nested core [] = core
-nested core (w ∷ ws) = nested (enclosed core w) ws
+abbrev pub core_in_wheels : List ℕ → List (List ℕ) → List ℕ
+core_in_wheels core [] = core
+core_in_wheels core (w ∷ ws) = core_in_wheels (core_in_wheel core w) ws
 
 pub rotor_permutes : (wheel : Wheel) (ring letter : ℕ) → IsPermutation26 (rotor wheel ring letter)
-unfolding turned
+unfolding wiring_turned_by
 rotor_permutes wheel ring letter =
     product_permutes _ _ (product_permutes _ _ (shift_permutes _) (wiring_permutes wheel)) (shift_permutes _)
 
@@ -152,49 +161,52 @@ rotors_permute [] rings window = tt
 rotors_permute wheels [] window = tt
 rotors_permute wheels rings [] = tt
 
-encloses : (core w : List ℕ) → IsPermutation26 w → Exchanges core → Exchanges (enclosed core w)
-encloses core w h k = conjugate w core (inverse w) (wheels_undo w h) k
+Exchanges-core_in_wheel : (core w : List ℕ) → IsPermutation26 w → Exchanges core → Exchanges (core_in_wheel core w)
+Exchanges-core_in_wheel core w h k = Exchanges-conjugate w core (inverse w) (wheels_undo w h) k
 
 pub wheel_exchanges : (core : List ℕ) (wheel : Wheel) (ring letter : ℕ) → Exchanges core
-    → Exchanges (enclosed core (rotor wheel ring letter))
-wheel_exchanges core wheel ring letter k = encloses core (rotor wheel ring letter) (rotor_permutes wheel ring letter) k
+    → Exchanges (core_in_wheel core (rotor wheel ring letter))
+wheel_exchanges core wheel ring letter k = Exchanges-core_in_wheel core (rotor wheel ring letter)
+    (rotor_permutes wheel ring letter) k
 
 nested_exchanges : (core : List ℕ) (ws : List (List ℕ)) → AllByRecursion IsPermutation26 ws
-    → Exchanges core → Exchanges (nested core ws)
+    → Exchanges core → Exchanges (core_in_wheels core ws)
 nested_exchanges core [] h k = k
-nested_exchanges core (w ∷ ws) h k = nested_exchanges (enclosed core w) ws h.1 (encloses core w h.0 k)
+nested_exchanges core (w ∷ ws) h k = nested_exchanges (core_in_wheel core w) ws h.1
+    (Exchanges-core_in_wheel core w h.0 k)
 
 -- Equal products stay equal if the same permutations come before them.
-behind : (xs ps qs : List (List ℕ)) → product ps ≡ product qs → product (xs ++ ps) ≡ product (xs ++ qs)
+product-append : (xs ps qs : List (List ℕ)) → product ps ≡ product qs → product (xs ++ ps) ≡ product (xs ++ qs)
 unfolding product
-behind [] ps qs e = e
-behind (x ∷ xs) ps qs e = ap (followed_by x) (behind xs ps qs e)
+product-append [] ps qs e = e
+product-append (x ∷ xs) ps qs e = ap (followed_by x) (product-append xs ps qs e)
 
 product_around : (core : List ℕ) (ws : List (List ℕ)) (rest : List (List ℕ))
     → AllByRecursion IsPermutation26 ws → Exchanges core
-    → product (reverse ws ++ (core ∷ map inverse ws ++ rest)) ≡ followed_by (nested core ws) (product rest)
+    → product (reverse ws ++ (core ∷ map inverse ws ++ rest)) ≡ followed_by (core_in_wheels core ws) (product rest)
 unfolding product
 product_around core [] rest h k = refl
 product_around core (w ∷ ws) rest h k =
     let outward = map inverse ws ++ rest in
     let back = (inverse_permutes w h.0).size in
-    let one : product (w ∷ core ∷ inverse w ∷ outward) ≡ product (enclosed core w ∷ outward) =
+    let one : product (w ∷ core ∷ inverse w ∷ outward) ≡ product (core_in_wheel core w ∷ outward) =
     grind (
       arith,
-      grouped w (followed_by core (inverse w)) (product outward) h.0,
-      grouped core (inverse w) (product outward) k.permutes,
+      followed_by-assoc w (followed_by core (inverse w)) (product outward) h.0,
+      followed_by-assoc core (inverse w) (product outward) k.permutes,
       product-size,
       back,
       k.permutes.size,
     ) in
     ap product (ap (λ ps. ps ++ (core ∷ inverse w ∷ outward)) (reverse-append (w ∷ []) ws)
     ∙ append_assoc (reverse ws) (w ∷ []) (core ∷ inverse w ∷ outward))
-    ∙ behind (reverse ws) _ _ one ∙ product_around (enclosed core w) ws rest h.1 (encloses core w h.0 k)
+    ∙ product-append (reverse ws) _ _ one
+    ∙ product_around (core_in_wheel core w) ws rest h.1 (Exchanges-core_in_wheel core w h.0 k)
 
 -- The path leads in through the plugboard, around through the wheels, and back through the plugboard.
 pub path_is : (key : RotorKey) (window : List ℕ) → IsPlugboard key.plugs
     → path key window ≡ followed_by key.plugs
-    (followed_by (nested (reflector_of key.reflector) (rotors key.wheels key.rings window)) key.plugs)
+    (followed_by (core_in_wheels (reflector_of key.reflector) (rotors key.wheels key.rings window)) key.plugs)
 unfolding path product
 path_is key window board =
     grind (arith, append_assoc, product_around, rotors_permute, reflectors_exchange, nothing_after)
@@ -202,7 +214,17 @@ path_is key window board =
 pub path_exchanges : (key : RotorKey) (window : List ℕ) → IsPlugboard key.plugs
     → Exchanges (path key window)
 path_exchanges key window board =
-    search (rules, nested_exchanges, rotors_permute, reflectors_exchange, path_is, key, board, conjugate, boards_undo)
+    search (
+      rules,
+      nested_exchanges,
+      rotors_permute,
+      reflectors_exchange,
+      path_is,
+      key,
+      board,
+      Exchanges-conjugate,
+      boards_undo,
+    )
 
 pub paths_lead_back : PathsLeadBack
 paths_lead_back key window board =

@@ -12,16 +12,18 @@ pub record SeatedWheel : Type 0 where
   pub board : List ℕ
 
 -- the path around `core`: through the board and the wheel, through `core`, and back
-abbrev pub boarded : List ℕ → List ℕ → List ℕ → List ℕ
-boarded board core wheel = followed_by (followed_by (followed_by board wheel) core) (followed_by (inverse wheel) board)
+abbrev pub around_wheel : List ℕ → List ℕ → List ℕ → List ℕ
+around_wheel board core wheel = followed_by (followed_by (followed_by board wheel) core)
+    (followed_by (inverse wheel) board)
 
 -- The path through these wheels, around `core`, while the window shows these letters. The first wheel is next
 -- to `core`.
-abbrev pub around : List ℕ → List SeatedWheel → List ℕ → List ℕ
-around core (s ∷ seated) (letter ∷ window) = around (boarded s.board core (rotor s.wheel s.ring letter)) seated window
-around core _ _ = core
+abbrev pub around_wheels : List ℕ → List SeatedWheel → List ℕ → List ℕ
+around_wheels core (s ∷ seated) (letter ∷ window) = around_wheels
+    (around_wheel s.board core (rotor s.wheel s.ring letter)) seated window
+around_wheels core _ _ = core
 
 -- for each window letter of a wheel: the permutation on the way in and the one on the way back, with the board
-abbrev pub ways_of : Wheel → ℕ → List ℕ → List (List ℕ × List ℕ)
-ways_of wheel ring board = map (λ window. let turns = rotor wheel ring window in
+abbrev pub ways_by_window : Wheel → ℕ → List ℕ → List (List ℕ × List ℕ)
+ways_by_window wheel ring board = map (λ window. let turns = rotor wheel ring window in
     (followed_by board turns, followed_by (inverse turns) board)) alphabet

@@ -4,24 +4,24 @@
 use Rattle.std.specs.Prelude.{◌≡◌, ◌↔◌, ◌⊎◌, ◌+◌, ◌<◌, ◌++◌, List, ℕ, length, All, Contains}
 use Rattle.kd_tables.specs.Permutation.{exchanged, exchange, IsOwnInverse, MovesEachLetter}
 use Rattle.kd_enigma.specs.Cipher.{RotorKey, IsPlugboard, key_after, path, enigma_cipher}
-use Rattle.kd_enigma.specs.Plugs.{letters_plugged, NoLetterTwice, Joins}
+use Rattle.kd_enigma.specs.Plugs.{letters_in_pairs, NoLetterTwice, HavePairOf}
 
 -- Pairs in which no letter occurs twice make a plugboard.
 abbrev pub PairsMakeAPlugboard : Type 0
 PairsMakeAPlugboard =
-    (pairs : List (ℕ × ℕ)) → NoLetterTwice pairs → All (λ letter. letter < 26) (letters_plugged pairs)
+    (pairs : List (ℕ × ℕ)) → NoLetterTwice pairs → All (λ letter. letter < 26) (letters_in_pairs pairs)
     → IsPlugboard (exchange pairs)
 
 -- Each letter becomes the other letter of its pair. A letter without a pair stays as it is.
 abbrev pub PairsExchange : Type 0
 PairsExchange =
     (pairs : List (ℕ × ℕ)) (x y : ℕ) → NoLetterTwice pairs
-    → (exchanged pairs x ≡ y) ↔ (Joins pairs x y ⊎ ((x ≡ y) × ¬ Contains (letters_plugged pairs) x))
+    → (exchanged pairs x ≡ y) ↔ (HavePairOf pairs x y ⊎ ((x ≡ y) × ¬ Contains (letters_in_pairs pairs) x))
 
 -- Neither the order of the pairs nor the order of a pair's letters makes a difference.
 abbrev pub SamePairsExchangeAlike : Type 0
 SamePairsExchangeAlike =
-    (ps qs : List (ℕ × ℕ)) → NoLetterTwice ps → NoLetterTwice qs → ((x y : ℕ) → Joins ps x y ↔ Joins qs x y)
+    (ps qs : List (ℕ × ℕ)) → NoLetterTwice ps → NoLetterTwice qs → ((x y : ℕ) → HavePairOf ps x y ↔ HavePairOf qs x y)
     → exchange ps ≡ exchange qs
 
 -- ---- The laws of the path and of the cipher.
@@ -35,16 +35,16 @@ abbrev pub PathsMoveEachLetter : Type 0
 PathsMoveEachLetter = (key : RotorKey) (window : List ℕ) → IsPlugboard key.plugs → MovesEachLetter (path key window)
 
 -- Enciphering twice with the same key gives the text back.
-abbrev pub TwiceGivesBack : Type 0
-TwiceGivesBack =
+abbrev pub EnigmaTwiceGivesBack : Type 0
+EnigmaTwiceGivesBack =
     (key : RotorKey) (text : List ℕ) → IsPlugboard key.plugs → All (λ letter. letter < 26) text
     → enigma_cipher key (enigma_cipher key text) ≡ text
 
 -- A text can be enciphered in pieces: each piece with the key that the piece before it leaves.
-abbrev pub CipherInTurn : Type 0
-CipherInTurn =
+abbrev pub EnigmaCipherInTurn : Type 0
+EnigmaCipherInTurn =
     (key : RotorKey) (first rest : List ℕ)
     → enigma_cipher key (first ++ rest) ≡ enigma_cipher key first ++ enigma_cipher (key_after key (length first)) rest
 
-abbrev pub KeyInTurn : Type 0
-KeyInTurn = (key : RotorKey) (m n : ℕ) → key_after (key_after key m) n ≡ key_after key (m + n)
+abbrev pub EnigmaKeyInTurn : Type 0
+EnigmaKeyInTurn = (key : RotorKey) (m n : ℕ) → key_after (key_after key m) n ≡ key_after key (m + n)

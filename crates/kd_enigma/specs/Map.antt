@@ -3,11 +3,11 @@ use Rattle.std.specs.Prelude.{◌≡◌, ℕ, ◌<◌, List, ◌++◌, length, t
 use Rattle.std.specs.List.{range_with_len}
 
 -- the six lanes after the 26 letters; each has its own number
-abbrev pub spare : List ℕ
-spare = range_with_len 26 6
+abbrev pub spare_lanes : List ℕ
+spare_lanes = range_with_len 26 6
 
 -- The first 26 lanes have letters, and the spare lanes follow.
 pub record AreLanes (lanes : List ℕ) : Type 0 where
   pub size : length lanes ≡ 32
   pub letters : (place : ℕ) → place < 26 → slice_index lanes place < 26
-  pub behind : take 26 lanes ++ spare ≡ lanes
+  pub behind : take 26 lanes ++ spare_lanes ≡ lanes

@@ -6,17 +6,17 @@ use Rattle.std.specs.Prelude.{◌≡◌, ◌⊎◌, ℕ, nat_eq, List, [], ◌�
 use Rattle.std.specs.List.{flat_map, IsDistinct}
 
 -- the letters of all pairs
-abbrev pub letters_plugged : List (ℕ × ℕ) → List ℕ
-letters_plugged pairs = flat_map (λ pair. pair.0 ∷ pair.1 ∷ []) pairs
+abbrev pub letters_in_pairs : List (ℕ × ℕ) → List ℕ
+letters_in_pairs pairs = flat_map (λ pair. pair.0 ∷ pair.1 ∷ []) pairs
 
 -- No letter is in two pairs, or twice in one.
 abbrev pub NoLetterTwice : List (ℕ × ℕ) → Type 0
-NoLetterTwice pairs = IsDistinct nat_eq (letters_plugged pairs)
+NoLetterTwice pairs = IsDistinct nat_eq (letters_in_pairs pairs)
 
 -- One of the pairs has the letters `x` and `y`, in either order.
-abbrev pub Joins : List (ℕ × ℕ) → ℕ → ℕ → Type 0
-Joins pairs x y = Contains pairs (x, y) ⊎ Contains pairs (y, x)
+abbrev pub HavePairOf : List (ℕ × ℕ) → ℕ → ℕ → Type 0
+HavePairOf pairs x y = Contains pairs (x, y) ⊎ Contains pairs (y, x)
 
 -- The table takes the letter to itself.
-abbrev pub IsLeft : List ℕ → ℕ → Type 0
-IsLeft table letter = slice_index table letter ≡ letter
+abbrev pub IsFixedLetter : List ℕ → ℕ → Type 0
+IsFixedLetter table letter = slice_index table letter ≡ letter

@@ -12,9 +12,9 @@ abbrev pub offset : ℕ → ℕ → ℕ
 offset ring window = (window + (26 - ring)) % 26
 
 -- the permutation of a wiring that is turned by `by` places
-unfoldable pub turned : ℕ → List ℕ → List ℕ
-turned by wiring = followed_by (followed_by (shift by) wiring) (shift (26 - by))
+unfoldable pub wiring_turned_by : ℕ → List ℕ → List ℕ
+wiring_turned_by by wiring = followed_by (followed_by (shift by) wiring) (shift (26 - by))
 
 -- the permutation of the wheel on the way in, from right to left, at this ring and window letter
 abbrev pub rotor : Wheel → ℕ → ℕ → List ℕ
-rotor wheel ring window = turned (offset ring window) (wiring_of wheel)
+rotor wheel ring window = wiring_turned_by (offset ring window) (wiring_of wheel)

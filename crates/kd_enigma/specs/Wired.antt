@@ -5,23 +5,23 @@ use Rattle.kd_tables.specs.Tables.{reflector_of}
 use Rattle.kd_tables.specs.declared.reflector.Reflector.{Reflector}
 use Rattle.kd_tables.specs.declared.wheel.Wheel.{Wheel}
 use Rattle.kd_step.specs.Stepper.{Stepping}
-use Rattle.kd_enigma.specs.Around.{SeatedWheel, around}
+use Rattle.kd_enigma.specs.Around.{SeatedWheel, around_wheels}
 use Rattle.kd_enigma.specs.Cipher.{RotorKey, IsPlugboard, path}
 
 -- all items but the last: those of the slow wheels, left of the right wheel
-abbrev pub slow : {X : Type 0} → List X → List X
-slow slots = take (length slots - 1) slots
+abbrev pub slow_slots : {X : Type 0} → List X → List X
+slow_slots slots = take (length slots - 1) slots
 
 -- The wheels in their slots. The plugboard is to the right of the last wheel, and no board is between wheels.
-abbrev pub seats : List ℕ → List Wheel → List ℕ → List SeatedWheel
-seats plugs (wheel ∷ []) (ring ∷ rings) = record { wheel = wheel; ring = ring; board = plugs } ∷ []
-seats plugs (wheel ∷ wheels) (ring ∷ rings) =
-    record { wheel = wheel; ring = ring; board = alphabet } ∷ seats plugs wheels rings
-seats plugs _ _ = []
+abbrev pub wheels_with_boards : List ℕ → List Wheel → List ℕ → List SeatedWheel
+wheels_with_boards plugs (wheel ∷ []) (ring ∷ rings) = record { wheel = wheel; ring = ring; board = plugs } ∷ []
+wheels_with_boards plugs (wheel ∷ wheels) (ring ∷ rings) =
+    record { wheel = wheel; ring = ring; board = alphabet } ∷ wheels_with_boards plugs wheels rings
+wheels_with_boards plugs _ _ = []
 
 -- the key that these parts make
-abbrev pub key_in : Stepping → List ℕ → Reflector → List ℕ → RotorKey
-key_in stepper rings reflector plugs = record {
+abbrev pub key_of_parts : Stepping → List ℕ → Reflector → List ℕ → RotorKey
+key_of_parts stepper rings reflector plugs = record {
   wheels = stepper.wheels;
   rings = rings;
   window = stepper.window;
@@ -31,9 +31,9 @@ key_in stepper rings reflector plugs = record {
 
 -- What the code keeps for a key: its wheels in their slots, and three permutations. These are the reflector's,
 -- that of the path through the slow wheels, and that of the whole path at the letters that show.
-pub record IsWired (key : RotorKey) (seated : List SeatedWheel) (reflecting inner whole : List ℕ) : Type 0 where
-  pub seats : seated ≡ seats key.plugs key.wheels key.rings
+pub record IsWired (key : RotorKey) (seated : List SeatedWheel) (reflecting slow_map path_map : List ℕ) : Type 0 where
+  pub seats : seated ≡ wheels_with_boards key.plugs key.wheels key.rings
   pub board : IsPlugboard key.plugs
   pub reflector : reflecting ≡ reflector_of key.reflector
-  pub around_slow : inner ≡ around reflecting (slow seated) (slow key.window)
-  pub path_shown : whole ≡ path key key.window
+  pub around_slow : slow_map ≡ around_wheels reflecting (slow_slots seated) (slow_slots key.window)
+  pub path_shown : path_map ≡ path key key.window

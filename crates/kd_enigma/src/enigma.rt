@@ -1,9 +1,9 @@
 //! The rotor machine: an Enigma of three or four slots that is set to a key.
 ghost use Rattle.std.specs.Prelude.{◌≡◌, ◌<◌, ◌≤◌, ◌+◌, nat_lt, ◌∷◌, [], length, slice_index, slice_index_or};
 ghost use Rattle.std.specs.Prelude.{if◌then◌else◌};
-ghost use Rattle.kd_enigma.specs.Around.{around};
+ghost use Rattle.kd_enigma.specs.Around.{around_wheels};
 ghost use Rattle.kd_enigma.specs.Cipher.{enigma_cipher, key_after, key_turned, path};
-ghost use Rattle.kd_enigma.specs.Wired.{slow};
+ghost use Rattle.kd_enigma.specs.Wired.{slow_slots};
 
 use super::key::EnigmaKey;
 use super::map::Map;
@@ -23,21 +23,21 @@ pub struct Enigma<const S: usize> {
     stepper: Stepper<S>,
     rotors: [Rotor; S],
     reflecting: Map,
-    inner: Map,
-    whole: Map,
+    slow_map: Map,
+    path_map: Map,
 }
 
 impl<const S: usize> Model for Enigma<S> {
     ghost use Rattle.std.specs.Prelude.{◌≡◌, ◌≤◌};
     ghost use Rattle.kd_enigma.specs.Cipher.{RotorKey};
-    ghost use Rattle.kd_enigma.specs.Wired.{IsWired, key_in};
+    ghost use Rattle.kd_enigma.specs.Wired.{IsWired, key_of_parts};
 
     ghost Value = { RotorKey };
 
-    ghost view = { λ e. key_in e.stepper e.rings e.reflector e.plugs };
+    ghost view = { λ e. key_of_parts e.stepper e.rings e.reflector e.plugs };
 
     ghost invariant = { λ e. (e.wheels ≡ e.stepper.wheels)
-        × IsWired (key_in e.stepper e.rings e.reflector e.plugs) e.rotors e.reflecting e.inner e.whole
+        × IsWired (key_of_parts e.stepper e.rings e.reflector e.plugs) e.rotors e.reflecting e.slow_map e.path_map
         × (3 ≤ S) × (S ≤ 4) };
 }
 
@@ -67,9 +67,9 @@ impl<const S: usize> Enigma<S> {
                 Rotor::new(wheels[slot], rings[slot], beside)
             },
         );
-        let reflecting = Map::of(&reflecting(reflector));
-        let inner = around_slow(&rotors, &window, reflecting);
-        let whole = rotors[S - 1].enclosing(inner, window[S - 1]);
+        let reflecting = Map::from_table(&reflecting(reflector));
+        let slow_map = around_slow(&rotors, &window, reflecting);
+        let path_map = rotors[S - 1].enclose(slow_map, window[S - 1]);
         Enigma {
             wheels,
             rings,
@@ -78,8 +78,8 @@ impl<const S: usize> Enigma<S> {
             stepper: Stepper::new(wheels, window),
             rotors,
             reflecting,
-            inner,
-            whole,
+            slow_map,
+            path_map,
         }
     }
 
@@ -108,8 +108,8 @@ impl<const S: usize> Enigma<S> {
         ensures { self.new ≡ key_turned self.old window.entry }
     {
         self.stepper = Stepper::new(self.wheels, window);
-        self.inner = around_slow(&self.rotors, &window, self.reflecting);
-        self.whole = self.rotors[S - 1].enclosing(self.inner, window[S - 1]);
+        self.slow_map = around_slow(&self.rotors, &window, self.reflecting);
+        self.path_map = self.rotors[S - 1].enclose(self.slow_map, window[S - 1]);
     }
 
     /// The letters that show in the windows, from left to right.
@@ -130,18 +130,18 @@ impl<const S: usize> Enigma<S> {
         self.stepper.step();
         let stands = self.stepper.shown(S - 2).index();
         if stands != stood {
-            self.inner = around_slow(&self.rotors, &self.stepper.window(), self.reflecting);
+            self.slow_map = around_slow(&self.rotors, &self.stepper.window(), self.reflecting);
         }
         let right = self.stepper.shown(S - 1);
-        self.whole = self.rotors[S - 1].enclosing(self.inner, right);
+        self.path_map = self.rotors[S - 1].enclose(self.slow_map, right);
     }
 
     /// The letter whose lamp lights up for `letter` while no wheel moves.
     fn light(&self, letter: Letter) -> Letter
         ensures { result ≡ slice_index (path self.now self.now.window) letter }
     {
-        let Enigma { whole, .. } = self;
-        whole.at(letter)
+        let Enigma { path_map, .. } = self;
+        path_map.at(letter)
     }
 }
 
@@ -149,11 +149,11 @@ impl<const S: usize> Enigma<S> {
 #[tactic(auto, using(crate::proofs::Seats::around_more))]
 fn around_slow<const S: usize>(rotors: &[Rotor; S], window: &[Letter; S], reflecting: Map) -> Map
     requires { 1 ≤ S }
-    ensures { result ≡ around reflecting (slow rotors.now) (slow window.now) }
+    ensures { result ≡ around_wheels reflecting (slow_slots rotors.now) (slow_slots window.now) }
 {
     let mut core = reflecting;
     for slot in 0..S - 1 {
-        core = rotors[slot].enclosing(core, window[slot]);
+        core = rotors[slot].enclose(core, window[slot]);
     }
     core
 }

@@ -2,8 +2,8 @@
 ghost use Rattle.std.specs.Prelude.{[]};
 ghost use Rattle.kd_tables.specs.Permutation.{exchange};
 ghost use Rattle.kd_enigma.specs.Cipher.{IsPlugboard};
-ghost use Rattle.kd_enigma.specs.Laws.{PairsMakeAPlugboard, PairsExchange, SamePairsExchangeAlike};
-ghost use Rattle.kd_enigma.specs.Laws.{PathsLeadBack, PathsMoveEachLetter, TwiceGivesBack, CipherInTurn, KeyInTurn};
+ghost use Rattle.kd_enigma.specs.Laws.{PairsMakeAPlugboard, PairsExchange, SamePairsExchangeAlike, PathsLeadBack};
+ghost use Rattle.kd_enigma.specs.Laws.{PathsMoveEachLetter, EnigmaTwiceGivesBack, EnigmaCipherInTurn, EnigmaKeyInTurn};
 
 /// Pairs in which no letter occurs twice make a plugboard, which exchanges the two letters of each pair.
 ///
@@ -31,12 +31,12 @@ pub fn path_is_its_own_inverse()
 /// Enciphering twice with the same key gives the text back.
 #[tactic(auto, using(crate::proofs::Ciphers::twice_gives_back))]
 pub fn enciphering_twice_gives_back()
-    ensures { TwiceGivesBack }
+    ensures { EnigmaTwiceGivesBack }
 {}
 
 /// A text can be enciphered piece by piece, each with the key that the piece before it leaves.
 #[tactic(auto, using(crate::proofs::Ciphers::cipher_in_turn, crate::proofs::Ciphers::key_in_turn))]
 pub fn pieces_are_enciphered_in_turn()
-    ensures cipher { CipherInTurn }
-    ensures after { KeyInTurn }
+    ensures cipher { EnigmaCipherInTurn }
+    ensures after { EnigmaKeyInTurn }
 {}

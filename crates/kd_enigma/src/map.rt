@@ -14,7 +14,7 @@ pub(crate) struct Map {
 
 impl Model for Map {
     ghost use Rattle.std.specs.Prelude.{List, ℕ, ◌++◌, take};
-    ghost use Rattle.kd_enigma.specs.Map.{AreLanes, spare};
+    ghost use Rattle.kd_enigma.specs.Map.{AreLanes, spare_lanes};
 
     ghost Value = { List ℕ };
 
@@ -22,14 +22,14 @@ impl Model for Map {
 
     ghost invariant = { λ m. AreLanes m.lanes };
 
-    ghost inverse = { λ letters. record { lanes = letters ++ spare } };
+    ghost inverse = { λ letters. record { lanes = letters ++ spare_lanes } };
 
     ghost inverse_ok = { λ m h i. record { lanes = h.behind i } };
 }
 
 impl Map {
     /// Makes the permutation that takes each letter to its entry in `table`.
-    pub(crate) fn of(table: &[Letter; 26]) -> Self
+    pub(crate) fn from_table(table: &[Letter; 26]) -> Self
         ensures { result ≡ table.now }
     {
         let lanes = std::array::from_fn(
@@ -55,7 +55,7 @@ impl Map {
         requires { by ≤ 26 }
         ensures { result ≡ shift by }
     {
-        Map::of(&shifted(by))
+        Map::from_table(&shift_table(by))
     }
 
     /// Composes two permutations: first this one, then `second`.
@@ -77,7 +77,7 @@ impl Map {
 }
 
 /// The table that takes each letter `by` places on, with A after Z.
-pub(crate) fn shifted(by: u8) -> [Letter; 26]
+pub(crate) fn shift_table(by: u8) -> [Letter; 26]
     requires { by ≤ 26 }
     ensures { result ≡ shift by }
 {

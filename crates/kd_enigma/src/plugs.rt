@@ -3,9 +3,9 @@ ghost use Rattle.std.specs.Prelude.{◌≡◌, ◌≢◌, ◌<◌, ◌↔◌, Is
 ghost use Rattle.kd_tables.specs.Permutation.{exchange};
 ghost use Rattle.kd_tables.specs.Refusals.{refusal_name};
 ghost use Rattle.kd_enigma.specs.Cipher.{IsPlugboard};
-ghost use Rattle.kd_enigma.specs.Plugs.{IsLeft, NoLetterTwice};
+ghost use Rattle.kd_enigma.specs.Plugs.{IsFixedLetter, NoLetterTwice};
 
-use super::map::{Map, shifted};
+use super::map::{Map, shift_table};
 use kd_tables::{Letter, Refusal, Text};
 use std::marker::Model;
 use thiserror::Error;
@@ -53,7 +53,7 @@ impl Plugs {
         ensures value { IfOk result (λ plugs. plugs ≡ exchange pairs.now) }
         ensures plugboard { IfOk result IsPlugboard }
     {
-        let mut table = shifted(0);
+        let mut table = shift_table(0);
         for (one, other) in pairs {
             if !plug(&mut table, *one, *other) {
                 return Err(LetterTwice);
@@ -75,13 +75,13 @@ impl Plugs {
         ensures value { result ≡ self }
         ensures plugboard { IsPlugboard self }
     {
-        Map::of(&self.table)
+        Map::from_table(&self.table)
     }
 }
 
 /// Exchanges `one` and `other`, if they differ and are not exchanged yet; returns whether it did.
 fn plug(table: &mut [Letter; 26], one: Letter, other: Letter) -> bool
-    ensures can { IsTrue result ↔ (one ≢ other) × IsLeft table.old one × IsLeft table.old other }
+    ensures can { IsTrue result ↔ (one ≢ other) × IsFixedLetter table.old one × IsFixedLetter table.old other }
     ensures after { IsTrue result → table.new ≡ slice_set (slice_set table.old one other) other one }
     ensures letters { (one < 26) × (other < 26) }
 {

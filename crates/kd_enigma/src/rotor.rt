@@ -1,8 +1,8 @@
 //! A wheel in its slot, with its permutations for all 26 window letters.
 ghost use Rattle.std.specs.Prelude.{◌≡◌, ◌<◌};
 ghost use Rattle.kd_tables.specs.Permutation.{followed_by};
-ghost use Rattle.kd_enigma.specs.Around.{boarded};
-ghost use Rattle.kd_enigma.specs.Rotor.{offset, rotor, turned};
+ghost use Rattle.kd_enigma.specs.Around.{around_wheel};
+ghost use Rattle.kd_enigma.specs.Rotor.{offset, rotor, wiring_turned_by};
 
 use super::map::Map;
 use kd_tables::{Letter, Wheel, unwiring, wiring};
@@ -21,28 +21,31 @@ pub(crate) struct Rotor {
 
 impl Model for Rotor {
     ghost use Rattle.std.specs.Prelude.{◌≡◌};
-    ghost use Rattle.kd_enigma.specs.Around.{SeatedWheel, ways_of};
+    ghost use Rattle.kd_enigma.specs.Around.{SeatedWheel, ways_by_window};
 
     ghost Value = { SeatedWheel };
 
     ghost view = { λ r. record { wheel = r.wheel; ring = r.ring; board = r.board } };
 
-    ghost invariant = { λ r. r.ways ≡ ways_of r.wheel r.ring r.board };
+    ghost invariant = { λ r. r.ways ≡ ways_by_window r.wheel r.ring r.board };
 }
 
 impl Rotor {
     pub(crate) fn new(wheel: Wheel, ring: Letter, board: Map) -> Self
         ensures { result ≡ record { wheel = wheel; ring = ring; board = board } }
     {
-        let (there, back) = (Map::of(&wiring(wheel)), Map::of(&unwiring(wheel)));
+        let (there, back) = (
+            Map::from_table(&wiring(wheel)),
+            Map::from_table(&unwiring(wheel)),
+        );
         let ways = std::array::from_fn(
             |window: usize|
                 requires { window < 26 }
-                ensures inward { result.0 ≡ followed_by board (turned (offset ring window) there) }
-                ensures outward { result.1 ≡ followed_by (turned (offset ring window) back) board }
+                ensures inward { result.0 ≡ followed_by board (wiring_turned_by (offset ring window) there) }
+                ensures outward { result.1 ≡ followed_by (wiring_turned_by (offset ring window) back) board }
             {
-                let inward = board.then(turned(there, ring, window));
-                (inward, turned(back, ring, window).then(board))
+                let inward = board.then(turn_map(there, ring, window));
+                (inward, turn_map(back, ring, window).then(board))
             },
         );
         Rotor {
@@ -54,8 +57,8 @@ impl Rotor {
     }
 
     /// Encloses `core`: in through board and wheel, through `core`, and back, while `window` shows.
-    pub(crate) fn enclosing(&self, core: Map, window: Letter) -> Map
-        ensures { result ≡ boarded self.now.board core (rotor self.now.wheel self.now.ring window) }
+    pub(crate) fn enclose(&self, core: Map, window: Letter) -> Map
+        ensures { result ≡ around_wheel self.now.board core (rotor self.now.wheel self.now.ring window) }
     {
         let (inward, outward) = &self.ways[window.index()];
         inward.then(core).then(*outward)
@@ -63,10 +66,10 @@ impl Rotor {
 }
 
 /// The permutation of a wheel with the wiring `map` and the ring `ring`, while letter `window` shows.
-#[tactic(auto, unfolding(crate::specs::Rotor::turned))]
-fn turned(map: Map, ring: Letter, window: usize) -> Map
+#[tactic(auto, unfolding(crate::specs::Rotor::wiring_turned_by))]
+fn turn_map(map: Map, ring: Letter, window: usize) -> Map
     requires { window < 26 }
-    ensures { result ≡ turned (offset ring window) map }
+    ensures { result ≡ wiring_turned_by (offset ring window) map }
 {
     let by = Letter::at(window as u8).back(ring).index() as u8;
     Map::shift(by).then(map).then(Map::shift(26 - by))

@@ -6,20 +6,24 @@ pub use Rattle.kd_form.proofs.Prelude.{take-append_seam, cases_lt, cases_eq, app
 pub use Rattle.kd_form.proofs.Prelude.{take-append-le, length-take, length-take-le, filter_map-append, All-nil}
 pub use Rattle.kd_form.proofs.Prelude.{All-push, ArrayVec, is_text_byte, Day, line_of, IsFirstPart, FormFault, Heading}
 pub use Rattle.kd_form.proofs.Prelude.{IsLineText, heading_words, letter_of_byte, letters_from, IsHeading}
-pub use Rattle.kd_form.proofs.Prelude.{BeginsHeading, Answer, SaysBody, HasHeading, IsExpected, IsEarlyFault, InHeading}
-pub use Rattle.kd_form.proofs.Prelude.{InNumber, InBody, IsPartFault, HoldsBody, IsBodyGiven, HasBegun, HoldsPart}
-pub use Rattle.kd_form.proofs.Prelude.{HoldsStage, HoldsForm, IsHeadingOff, Missing, Other, IsPartRead, PartOrder}
-pub use Rattle.kd_form.proofs.Prelude.{given_letters, IsRefusedForGood, NoHeading, form_message, IsRefused, Closes}
-pub use Rattle.kd_form.proofs.Prelude.{Held, OfRest, ReadsTo, IsReadTo, StandsAt, EndsAt, IsComplete, IsLast, AtPart}
-pub use Rattle.kd_form.proofs.Prelude.{cut, parts_of, Place, at_first, place_behind, HasTail, place_of, map-append}
-pub use Rattle.kd_form.proofs.Prelude.{given_byte, blank_of, BadHeading, BadByte, false≢true, All-take}
-use Rattle.kd_form.specs.declared.{part_body.PartBody.PartBody, form_reader.{FormReader.FormReader, Stage.Stage}}
-pub use Rattle.kd_form.proofs.Headings.{at_most, has_byte, one_heading, begins_there, as_parts, begins, begins_more}
-pub use Rattle.kd_form.proofs.Headings.{first_ends, first_more, may_begin, one_more, single, follows, not_begun}
-pub use Rattle.kd_form.proofs.Headings.{ended_heading, whole_line, no_bad_byte, bad_behind}
+pub use Rattle.kd_form.proofs.Prelude.{BeginsHeading, Answer, IsBodyAnswer, HasHeading, IsExpectedCount, IsEarlyFault}
+pub use Rattle.kd_form.proofs.Prelude.{InHeading, InNumber, InBody, IsPartFault, HoldsBody, IsBodyPlaintext}
+pub use Rattle.kd_form.proofs.Prelude.{HasBegunHeading, HoldsPart, HoldsStage, HoldsForm, IsHeadingFault}
+pub use Rattle.kd_form.proofs.Prelude.{HeadingMissing, HeadingOfOther, IsPartRead, PartOrder, plaintext_bytes}
+pub use Rattle.kd_form.proofs.Prelude.{IsRefusedForGood, NoHeading, form_message, IsRefused, IsMessageAnswer}
+pub use Rattle.kd_form.proofs.Prelude.{HasReadSoFar, PartsProperty, ReadsPartsTo, IsFormReadTo, IsPartFaultForGood}
+pub use Rattle.kd_form.proofs.Prelude.{IsPartFaultAtEnd, AreAllPartsRead, IsLastPart, AtPart, cut_at_headings, parts_of}
+pub use Rattle.kd_form.proofs.Prelude.{PartStart, first_part_start, next_part_start, HasTail, reader_place, map-append}
+pub use Rattle.kd_form.proofs.Prelude.{plaintext_byte, blank_of, BadHeading, BadByte, false≢true, All-take}
+use Rattle.kd_form.specs.declared.{part_body.PartBody.PartBody}
+use Rattle.kd_form.specs.declared.{form_reader.{FormReader.FormReader, FormStage.FormStage}}
+pub use Rattle.kd_form.proofs.Headings.{at_most, has_byte, one_heading, begins_there, as_parts, BeginsHeading-digit}
+pub use Rattle.kd_form.proofs.Headings.{begins_more, first_ends, first_more, may_begin, cut_at_headings-line}
+pub use Rattle.kd_form.proofs.Headings.{cut_at_headings-whole, HasBegunHeading-snoc, not_begun, ended_heading}
+pub use Rattle.kd_form.proofs.Headings.{whole_line, no_bad_byte, bad_behind}
 use Rattle.kd_form.proofs.Lines.{letters_first, head_unbroken}
 use Rattle.kd_form.proofs.OneText.{read_or_refused, reads_meet, reads_then, stands_at, stays_refused}
-use Rattle.kd_form.specs.declared.form_reader.Stage.TheVariants as stages
+use Rattle.kd_form.specs.declared.form_reader.FormStage.TheVariants as stages
 
 -- -------- the body of a part, byte by byte
 
@@ -108,7 +112,7 @@ are_shown others kept shown letters more few size is cut = elim (cases_lt 525 (l
 
 pub body_told : (s : Day) (h : Heading) (others : ℕ) (kept shown letters more : List ℕ) (v : Answer) → IsHeading s h
     → others ≤ 4 → length more ≡ others → kept ≡ take 525 (letters ++ more) → shown ≡ take (length kept - others) kept
-    → SaysBody s h.part h shown v → SaysBody s h.part h letters v
+    → IsBodyAnswer s h.part h shown v → IsBodyAnswer s h.part h letters v
 body_told s h others kept shown letters more v is few size kept_is cut told = grind (arith, are_shown, at_most)
 
 -- -------- a whole part
@@ -119,57 +123,62 @@ body_heading s b part body holds =
     record { is_heading = holds.is_heading; first = inl (holds.line, holds.first, holds.text) }
 
 -- `P` holds of the body's letters if the last `others` letters read belong to the next heading
-abbrev pub IsSaid : PartBody → ℕ → (List ℕ → Type 0) → Type 0
-IsSaid b others P =
+abbrev pub HoldsWithMore : PartBody → ℕ → (List ℕ → Type 0) → Type 0
+HoldsWithMore b others P =
     (letters more : List ℕ) → length more ≡ others → b.letters.items ≡ take 525 (letters ++ more) → P letters
 
 -- the part with this number is complete; the letters `more` of the next heading are kept after its body
 pub record IsNext (s : Day) (b : PartBody) (number : ℕ) (expected : Option ℕ) (part body more : List ℕ) : Type 0 where
   pub has : HasHeading s part b.heading body
   pub numbered : b.heading.part ≡ number
-  pub due : IsExpected expected b.heading.parts
+  pub due : IsExpectedCount expected b.heading.parts
   pub allowed : All (λ b. IsTrue (is_text_byte b)) body
   pub kept : b.letters.items ≡ take 525 (letters_from None body ++ more)
 
 module _ (s : Day) (b : PartBody) (number : ℕ) (expected : Option ℕ) (part body more : List ℕ)
     (next : IsNext s b number expected part body more) where
-  next_read : (made : List ℕ) → IsSaid b (length more) (λ letters. IsBodyGiven s b.heading letters made)
-      → (one : List ℕ) × IsPartRead s number b.heading.parts part one × (made ≡ given_letters s one)
+  next_read : (made : List ℕ) → HoldsWithMore b (length more) (λ letters. IsBodyPlaintext s b.heading letters made)
+      → (one : List ℕ) × IsPartRead s number b.heading.parts part one × (made ≡ plaintext_bytes s one)
   next_read made told = grind (arith, told (letters_from None body) more refl next.kept)
 
   pub next_refused : (fault : FormFault)
-      → IsSaid b (length more) (λ letters. SaysBody s b.heading.part b.heading letters (Err fault))
+      → HoldsWithMore b (length more) (λ letters. IsBodyAnswer s b.heading.part b.heading letters (Err fault))
       → (start : ℕ) → IsPartFault s number expected start part fault
   next_refused fault told start = grind (arith, told (letters_from None body) more refl next.kept)
 
 -- a missing or wrong heading is an early fault of its part
-pub off : (s : Day) (number : ℕ) (expected : Option ℕ) (start : ℕ) (part : List ℕ) (found : Option Heading)
+pub IsHeadingFault-IsEarlyFault : (s : Day) (number : ℕ) (expected : Option ℕ) (start : ℕ) (part : List ℕ)
+    (found : Option Heading)
     (fault : FormFault)
     → MatchOption found ((h : Heading) (body : List ℕ) → ¬ (HasHeading s part h body)) (λ h. HasHeading s part h [])
-    → IsHeadingOff number expected found fault → IsEarlyFault s number expected start part fault
-off s number expected start part found fault told (Missing none is) = InHeading (rw none at told) is
-off s number expected start part found fault told (Other h there wrong is) = InNumber h [] (rw there at told) wrong is
+    → IsHeadingFault number expected found fault → IsEarlyFault s number expected start part fault
+IsHeadingFault-IsEarlyFault s number expected start part found fault told (HeadingMissing none is) = InHeading
+    (rw none at told) is
+IsHeadingFault-IsEarlyFault s number expected start part found fault told
+    (HeadingOfOther h there wrong is) = InNumber h [] (rw there at told) wrong is
 
 -- -------- the reader of a form, byte by byte
 
-has_begun : (s : Day) (stage : Stage) (number : ℕ) (expected : Option ℕ) (part : List ℕ)
-    → HoldsStage s stage number expected part → HasBegun part
+has_begun : (s : Day) (stage : FormStage) (number : ℕ) (expected : Option ℕ) (part : List ℕ)
+    → HoldsStage s stage number expected part → HasBegunHeading part
 has_begun s (stages.Heading line) number expected part held = held.0.begins
 has_begun s (stages.Body b) number expected part held =
     inr (begins_there s part b.heading held.body (body_heading s b part held.body held.holds))
 
-not_refused : (s : Day) (stage : Stage) (number : ℕ) (expected : Option ℕ) (start : ℕ) (part line body : List ℕ)
+HoldsStage-not_early : (s : Day) (stage : FormStage) (number : ℕ) (expected : Option ℕ) (start : ℕ)
+    (part line body : List ℕ)
     (fault : FormFault)
     → HoldsStage s stage number expected part → IsFirstPart 10 part line body
     → ¬ (IsEarlyFault s number expected start part fault)
-not_refused s (stages.Heading shown) number expected start part line body fault held broken early =
+HoldsStage-not_early s (stages.Heading shown) number expected start part line body fault held broken early =
     has_byte 10 line body (rw broken.joined at held.0.unbroken)
-not_refused s (stages.Body b) number expected start part line body fault held broken (InHeading none is) =
+HoldsStage-not_early s (stages.Body b) number expected start part line body fault held broken (InHeading none is) =
     none b.heading held.body (body_heading s b part held.body held.holds)
-not_refused s (stages.Body b) number expected start part line body fault held broken (InNumber h rest has other is) =
+HoldsStage-not_early s (stages.Body b) number expected start part line body fault held broken
+    (InNumber h rest has other is) =
     let same = one_heading s part b.heading h held.body rest (body_heading s b part held.body held.holds) has in
     grind (arith, same, held.numbered, held.due)
-not_refused s (stages.Body b) number expected start part line body fault held broken
+HoldsStage-not_early s (stages.Body b) number expected start part line body fault held broken
     (InBody h rest place has numbered due bad is) =
     let same = one_heading s part b.heading h held.body rest (body_heading s b part held.body held.holds) has in
     no_bad_byte rest place (rw same.1 at held.holds.allowed) bad
@@ -177,32 +186,35 @@ not_refused s (stages.Body b) number expected start part line body fault held br
 -- ---- what is held
 
 module _ (s : Day) (r : FormReader) (form text : List ℕ) (h : HoldsForm s r form text) where
-  abbrev pub here : Place
-  here = place_of r h.front
+  abbrev pub here : PartStart
+  here = reader_place r h.front
 
   -- if the last part with more bytes is read up to `B`, so is the whole form with these bytes
-  pub reaches : (B : OfRest) (more made letters : List ℕ) (parts : List (List ℕ)) → parts_of (h.last ++ more) ≡ parts
-      → ReadsTo s B here parts letters → made ≡ given_letters s letters → IsReadTo s B (form ++ more) (text ++ made)
+  pub reaches : (B : PartsProperty) (more made letters : List ℕ) (parts : List (List ℕ))
+      → parts_of (h.last ++ more) ≡ parts
+      → ReadsPartsTo s B here parts letters → made ≡ plaintext_bytes s letters
+      → IsFormReadTo s B (form ++ more) (text ++ made)
   reaches B more made letters parts are reads given = (
     h.letters ++ letters,
-    grind (arith, h.cuts more, reads_then s here B at_first h.parts parts h.letters letters),
-    cc (h.is, given, map-append (given_byte (blank_of s)) h.letters letters),
+    grind (arith, h.cuts more, reads_then s here B first_part_start h.parts parts h.letters letters),
+    cc (h.is, given, map-append (plaintext_byte (blank_of s)) h.letters letters),
   )
 
-  pub ends_so : (B : OfRest) (letters made : List ℕ) → ReadsTo s B here (h.last ∷ []) letters
-      → made ≡ given_letters s letters → IsReadTo s B form (text ++ made)
-  ends_so B letters made reads given = subst (λ f. IsReadTo s B f (text ++ made)) (append-nil form)
-      (reaches B [] made letters (h.last ∷ []) (cc (single h.last h.alone, h.alone, append-nil h.last)) reads given)
+  pub ends_so : (B : PartsProperty) (letters made : List ℕ) → ReadsPartsTo s B here (h.last ∷ []) letters
+      → made ≡ plaintext_bytes s letters → IsFormReadTo s B form (text ++ made)
+  ends_so B letters made reads given = subst (λ f. IsFormReadTo s B f (text ++ made)) (append-nil form)
+      (reaches B [] made letters (h.last ∷ [])
+      (cc (cut_at_headings-whole h.last h.alone, h.alone, append-nil h.last)) reads given)
 
-  abbrev IsHere : OfRest
+  abbrev IsHere : PartsProperty
   IsHere p parts = (p ≡ here) × (parts ≡ h.last ∷ [])
 
   -- no fault stands at the part that is held, and parts that are read end before it
-  never_refused : (fault : FormFault) (p : Place) (parts : List (List ℕ)) → IsHere p parts
-      → ¬ (StandsAt s fault p parts)
+  never_refused : (fault : FormFault) (p : PartStart) (parts : List (List ℕ)) → IsHere p parts
+      → ¬ (IsPartFaultForGood s fault p parts)
   never_refused fault p parts (there, alone) stands =
       let found = rw (there, alone) at stands in
-      not_refused s r.stage r.number r.expected
+      HoldsStage-not_early s r.stage r.number r.expected
       (length h.front) h.last found.0.0 found.0.1 fault h.stage found.0.2 found.1
 
   unrefused : (before : List ℕ) (fault : FormFault) → ¬ (IsRefusedForGood s form before fault)
@@ -215,33 +227,34 @@ module _ (s : Day) (r : FormReader) (form text : List ℕ) (h : HoldsForm s r fo
   ]
   unrefused before fault (AtPart (others, stands, so)) =
       let (letters, reads, is) = ends_so IsHere [] [] (inl ((refl, refl), refl)) refl in
-      (reads_meet s IsHere (StandsAt s fault) ⊥
+      (reads_meet s IsHere (IsPartFaultForGood s fault) ⊥
       (λ p part parts count one more held is due rest. let none : parts ≡ [] = cc in (rw none at rest).0)
       (λ p part parts count one more stands is due rest.
       read_or_refused s (stands_at s fault p (part ∷ parts) stands).1 is due)
-      (never_refused fault) at_first (parts_of form) letters others reads stands).1
+      (never_refused fault) first_part_start (parts_of form) letters others reads stands).1
 
-  pub held : Held (form_message s) (HoldsForm s r) form text
+  pub held : HasReadSoFar (form_message s) (HoldsForm s r) form text
   held = record {
     is = h;
     open_yet = record {
       unrefused = λ fault found. unrefused found.0 fault found.1;
       written =
-          subst (IsReadTo s IsLast form) (append-nil text) (ends_so IsLast [] [] (inl ((h.last, refl), refl)) refl);
+          subst (IsFormReadTo s IsLastPart form) (append-nil text)
+          (ends_so IsLastPart [] [] (inl ((h.last, refl), refl)) refl);
     };
   }
 
-pub refused : (s : Day) (form text : List ℕ) (fault : FormFault) → IsRefusedForGood s form text fault
+pub IsRefusedForGood-IsRefused : (s : Day) (form text : List ℕ) (fault : FormFault) → IsRefusedForGood s form text fault
     → IsRefused (form_message s) form text fault
-refused s form text fault found = record {
+IsRefusedForGood-IsRefused s form text fault found = record {
   stands = λ more. (text, stays_refused s form more text fault found);
   refused = λ more. (text, inl (stays_refused s form more text fault found));
   written = λ more. inl (stays_refused s form more text fault found);
 }
 
 -- the byte is a digit after the five bytes `PART `
-abbrev pub IsDigitDue : PartBody → ℕ → Type 0
-IsDigitDue b byte = (b.line.items ≡ codes "PART ") × (48 ≤ byte) × (byte ≤ 57)
+abbrev pub IsHeadingDigit : PartBody → ℕ → Type 0
+IsHeadingDigit b byte = (b.line.items ≡ codes "PART ") × (48 ≤ byte) × (byte ≤ 57)
 
 -- the part, divided at the LF before its last line
 by_lines : (s : Day) (b : PartBody) (part body : List ℕ) (holds : HoldsBody s b part body)
@@ -257,22 +270,23 @@ by_lines s b part body holds =
     )
 
 -- a byte that isn't the digit of the next heading belongs to the part
-pub goes_on : (s : Day) (b : PartBody) (part body : List ℕ) (byte : ℕ) → HoldsBody s b part body → (cut part).1 ≡ []
-    → ¬ (IsDigitDue b byte) → cut (part ++ byte ∷ []) ≡ (part ++ byte ∷ [], [])
+pub goes_on : (s : Day) (b : PartBody) (part body : List ℕ) (byte : ℕ) → HoldsBody s b part body
+    → (cut_at_headings part).1 ≡ []
+    → ¬ (IsHeadingDigit b byte) → cut_at_headings (part ++ byte ∷ []) ≡ (part ++ byte ∷ [], [])
 goes_on s b part body byte holds none not =
     grind (arith, by_lines s b part body holds, append_assoc, first_more holds.last.front holds.last.tail byte)
 
 -- the part without its last five bytes `PART ` is complete, and the letters PART are kept
-record Settled (s : Day) (b : PartBody) (number : ℕ) (expected : Option ℕ) (part : List ℕ)
+record EndsInHeading (s : Day) (b : PartBody) (number : ℕ) (expected : Option ℕ) (part : List ℕ)
     (mine : HoldsPart s b number expected part) : Type 0 where
   split : part ≡ mine.holds.last.front ++ 10 ∷ codes "PART "
   next : IsNext s b number expected (mine.holds.last.front ++ 10 ∷ []) mine.holds.last.settled
       (letters_from None (codes "PART "))
 
-settled : (s : Day) (b : PartBody) (number : ℕ) (expected : Option ℕ) (part : List ℕ)
+EndsInHeading-holds : (s : Day) (b : PartBody) (number : ℕ) (expected : Option ℕ) (part : List ℕ)
     (mine : HoldsPart s b number expected part) → b.line.items ≡ codes "PART "
-    → Settled s b number expected part mine
-settled s b number expected part mine begun =
+    → EndsInHeading s b number expected part mine
+EndsInHeading-holds s b number expected part mine begun =
     let holds = mine.holds in
     let last = holds.last in
     let tail : last.tail ≡ codes "PART " =
@@ -297,38 +311,40 @@ settled s b number expected part mine begun =
 -- ---- one more byte of a form that is held
 
 -- the reader at `stage`, after one more byte
-abbrev pub behind : FormReader → Stage → FormReader
-behind r stage = record r { position = r.position + 1; stage = stage }
+abbrev pub reader_after : FormReader → FormStage → FormReader
+reader_after r stage = record r { position = r.position + 1; stage = stage }
 
 module _ (s : Day) (r : FormReader) (form text : List ℕ) (h : HoldsForm s r form text) where
-  pub in_stage : (stage : Stage) → r.stage ≡ stage → HoldsStage s stage r.number r.expected h.last
+  pub in_stage : (stage : FormStage) → r.stage ≡ stage → HoldsStage s stage r.number r.expected h.last
   in_stage stage is = subst (λ st. HoldsStage s st r.number r.expected h.last) is h.stage
 
   -- after one more byte of the current part, the reader holds the form with this byte
-  pub grows : (stage : Stage) (made : List ℕ) (byte : ℕ) → made ≡ []
-      → cut (h.last ++ byte ∷ []) ≡ (h.last ++ byte ∷ [], [])
+  pub grows : (stage : FormStage) (made : List ℕ) (byte : ℕ) → made ≡ []
+      → cut_at_headings (h.last ++ byte ∷ []) ≡ (h.last ++ byte ∷ [], [])
       → HoldsStage s stage r.number r.expected (h.last ++ byte ∷ [])
-      → HoldsForm s (behind r stage) (form ++ byte ∷ []) (text ++ made)
+      → HoldsForm s (reader_after r stage) (form ++ byte ∷ []) (text ++ made)
   grows stage made byte none one there = grind (arith, append_assoc, append-nil, length-append)
 
   -- if a fault stands at the last part with more bytes, the form with these bytes is refused
   pub refused_at : (fault : FormFault) (more part : List ℕ) (others : List (List ℕ))
-      → cut (h.last ++ more) ≡ (part, others)
-      → StandsAt s fault (here s r form text h) (part ∷ others) → IsRefused (form_message s) (form ++ more) text fault
+      → cut_at_headings (h.last ++ more) ≡ (part, others)
+      → IsPartFaultForGood s fault (here s r form text h) (part ∷ others)
+      → IsRefused (form_message s) (form ++ more) text fault
   refused_at fault more part others are stands =
       let (letters, reads, is) =
-      reaches s r form text h (StandsAt s fault) more [] [] (part ∷ others) (as_parts (h.last ++ more) part others are)
+      reaches s r form text h (IsPartFaultForGood s fault) more [] [] (part ∷ others)
+      (as_parts (h.last ++ more) part others are)
       (inl (stands, refl)) refl in
-      refused s (form ++ more) text fault (AtPart (letters, reads, sym (append-nil text) ∙ is))
+      IsRefusedForGood-IsRefused s (form ++ more) text fault (AtPart (letters, reads, sym (append-nil text) ∙ is))
 
   -- ---- the part ends, as a digit comes after the five bytes `PART `
 
-  module _ (b : PartBody) (byte : ℕ) (stage : r.stage ≡ stages.Body b) (digit : IsDigitDue b byte) where
+  module _ (b : PartBody) (byte : ℕ) (stage : r.stage ≡ stages.Body b) (digit : IsHeadingDigit b byte) where
     abbrev there : HoldsPart s b r.number r.expected h.last
     there = in_stage (stages.Body b) stage
 
-    abbrev ended : Settled s b r.number r.expected h.last there
-    ended = settled s b r.number r.expected h.last there digit.0
+    abbrev ended : EndsInHeading s b r.number r.expected h.last there
+    ended = EndsInHeading-holds s b r.number r.expected h.last there digit.0
 
     abbrev front : List ℕ
     front = there.holds.last.front
@@ -339,17 +355,19 @@ module _ (s : Day) (r : FormReader) (form text : List ℕ) (h : HoldsForm s r fo
     pub four_letters : 4 ≤ length b.letters.items
     four_letters = omega (arith, ap length ended.next.kept, length-take {A = ℕ}, length-append {A = ℕ})
 
-    cut_off : (more : List ℕ) → cut (h.last ++ byte ∷ more) ≡ (whole, parts_of (codes "PART " ++ byte ∷ more))
+    cut_off : (more : List ℕ) → cut_at_headings (h.last ++ byte ∷ more)
+        ≡ (whole, parts_of (codes "PART " ++ byte ∷ more))
     cut_off more = grind (arith, ended.split, append_assoc, first_ends front more byte)
 
     pub part_refused : (fault : FormFault)
-        → IsSaid b 4 (λ letters. SaysBody s b.heading.part b.heading letters (Err fault))
+        → HoldsWithMore b 4 (λ letters. IsBodyAnswer s b.heading.part b.heading letters (Err fault))
         → IsRefused (form_message s) (form ++ byte ∷ []) text fault
     part_refused fault told =
         let found = next_refused s b _ _ whole _ _ ended.next fault told (length h.front) in
         refused_at fault (byte ∷ []) whole _ (cut_off []) found
 
-    pub part_read : (made : List ℕ) (line : ArrayVec ℕ) → IsSaid b 4 (λ letters. IsBodyGiven s b.heading letters made)
+    pub part_read : (made : List ℕ) (line : ArrayVec ℕ)
+        → HoldsWithMore b 4 (λ letters. IsBodyPlaintext s b.heading letters made)
         → line.items ≡ codes "PART " ++ byte ∷ [] → HoldsForm s (record {
           position = r.position + 1;
           number = r.number + 1;
@@ -367,22 +385,22 @@ module _ (s : Day) (r : FormReader) (form text : List ℕ) (h : HoldsForm s r fo
           letters = h.letters ++ one;
           joined = grind (arith, h.joined, ended.split, append_assoc);
           cuts = grind (arith, append_assoc, as_parts, cut_off);
-          alone = ap (λ c. c.1) (one_more (codes "PART ") byte head_unbroken);
+          alone = ap (λ c. c.1) (cut_at_headings-line (codes "PART ") byte head_unbroken);
           begun = inr (grind (arith, h.begun, begins_there s whole b.heading _ has, begins_more h.front whole));
           first = λ same. absurd (omega (arith, same, there.numbered, there.holds.is_heading.number.first));
-          read = grind (arith, reads_then, at_first, read, length-append, append-nil);
-          is = cc (h.is, given, map-append (given_byte (blank_of s)) h.letters one);
+          read = grind (arith, reads_then, first_part_start, read, length-append, append-nil);
+          is = cc (h.is, given, map-append (plaintext_byte (blank_of s)) h.letters one);
           counted = omega (arith, h.counted, length-append form (byte ∷ []));
-          stage = grind (arith, All-push, head_unbroken, begins);
+          stage = grind (arith, All-push, head_unbroken, BeginsHeading-digit);
         }
 
   -- ---- the end
 
   pub closes_refused : (made : List ℕ) (fault : FormFault)
       → ((start : ℕ) → IsPartFault s r.number r.expected start h.last fault) → made ≡ []
-      → Closes (form_message s) form (text ++ made) (Err fault)
+      → IsMessageAnswer (form_message s) form (text ++ made) (Err fault)
   closes_refused made fault found none =
-      let ends = ends_so s r form text h (EndsAt s fault) [] made (inl (found (length h.front), refl)) none in
+      let ends = ends_so s r form text h (IsPartFaultAtEnd s fault) [] made (inl (found (length h.front), refl)) none in
       ((text ++ made, inr ends), inr ends)
 
   module _ (b : PartBody) (stage : r.stage ≡ stages.Body b) where
@@ -392,23 +410,25 @@ module _ (s : Day) (r : FormReader) (form text : List ℕ) (h : HoldsForm s r fo
     pub next_last : IsNext s b r.number r.expected h.last mine.body []
     next_last = grind (arith, body_heading, append-nil, letters_from)
 
-    module _ (given : List ℕ) (told : IsSaid b 0 (λ letters. IsBodyGiven s b.heading letters given)) where
+    module _ (given : List ℕ) (told : HoldsWithMore b 0 (λ letters. IsBodyPlaintext s b.heading letters given)) where
       -- at the end of the form, the last part is read, and the form is read up to `B`
-      ends_read : (B : OfRest) → B (place_behind (here s r form text h) b.heading.parts h.last) []
-          → IsReadTo s B form (text ++ given)
+      ends_read : (B : PartsProperty) → B (next_part_start (here s r form text h) b.heading.parts h.last) []
+          → IsFormReadTo s B form (text ++ given)
       ends_read B so =
           let (one, read, is) = next_read s b _ _ h.last _ _ next_last given told in
           ends_so s r form text h B one given (inr
           (b.heading.parts, one, [], read, mine.due, (so, refl), sym (append-nil one))) is
 
       pub closes : (made : List ℕ) → b.heading.parts ≡ r.number → made ≡ given ++ 10 ∷ []
-          → Closes (form_message s) form (text ++ made) (Ok tt)
+          → IsMessageAnswer (form_message s) form (text ++ made) (Ok tt)
       closes made same is =
-          let (letters, read, text_is) = ends_read IsComplete (b.heading.parts, refl, ap (λ n. n + 1) (sym same)) in
+          let (letters, read, text_is) = ends_read AreAllPartsRead
+          (b.heading.parts, refl, ap (λ n. n + 1) (sym same)) in
           record { letters = letters; read = read; is = cc (is, text_is, append_assoc text given (10 ∷ [])) }
 
-      pub closes_short : b.heading.parts ≢ r.number → Closes (form_message s) form (text ++ given) (Err PartOrder)
+      pub closes_short : b.heading.parts ≢ r.number
+          → IsMessageAnswer (form_message s) form (text ++ given) (Err PartOrder)
       closes_short other =
           let few : r.number + 1 ≤ b.heading.parts = omega (arith, mine.numbered, mine.holds.is_heading.number) in
-          let ends = ends_read (EndsAt s PartOrder) (refl, b.heading.parts, refl, few) in
+          let ends = ends_read (IsPartFaultAtEnd s PartOrder) (refl, b.heading.parts, refl, few) in
           ((text ++ given, inr ends), inr ends)

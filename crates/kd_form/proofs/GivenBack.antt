@@ -4,18 +4,19 @@ pub use Rattle.kd_form.proofs.Prelude.{◌+◌, ◌<◌, ◌≤◌, List, [], �
 pub use Rattle.kd_form.proofs.Prelude.{◌∙◌, append_assoc, length-drop, arith, map, All, IsTrue, Some, None, flat_map}
 pub use Rattle.kd_form.proofs.Prelude.{cons_option, nat_tests, All-nil, All-cons, All-head, All-tail, All-append}
 pub use Rattle.kd_form.proofs.Prelude.{All-take, All-drop, filter_map-append, is_text_byte, letters_text, line_of}
-pub use Rattle.kd_form.proofs.Prelude.{pieces, groups_of, with_line, body_text, Part, heading_words, part_text}
+pub use Rattle.kd_form.proofs.Prelude.{pieces, letter_groups, line_then, body_text, Part, heading_words, part_text}
 pub use Rattle.kd_form.proofs.Prelude.{letter_of_byte, letters_from, Day, IsHeading, BeginsHeading, HasHeading}
-pub use Rattle.kd_form.proofs.Prelude.{WithoutReturn, cut, common_steps, ◌≢◌, ◌%◌, inl, inr, length-append, Option}
-pub use Rattle.kd_form.proofs.Prelude.{IfSome, cases_lt, take_all, drop_all, length-take, length-take-le, IsLegalDay}
-pub use Rattle.kd_form.proofs.Prelude.{Keys, given_text, sent_letters, AreKeys, FormsGiveTheirOrders, Suits, part_size}
-pub use Rattle.kd_form.proofs.Prelude.{filled, SaysBody, Ok, IsPartRead, blank_of, text_letters, AreMadeTexts, ReadsTo}
-pub use Rattle.kd_form.proofs.Prelude.{at_first, IsComplete, IsExpected, take-append_seam, All-more}
+pub use Rattle.kd_form.proofs.Prelude.{WithoutReturn, cut_at_headings, common_steps, ◌≢◌, ◌%◌, inl, inr, length-append}
+pub use Rattle.kd_form.proofs.Prelude.{Option, IfSome, cases_lt, take_all, drop_all, length-take, length-take-le}
+pub use Rattle.kd_form.proofs.Prelude.{IsLegalDay, Keys, plaintext_with_end, sent_letters, AreKeys}
+pub use Rattle.kd_form.proofs.Prelude.{FormsGiveTheirOrders, KeysSuitDay, part_size, fill_last_group, IsBodyAnswer, Ok}
+pub use Rattle.kd_form.proofs.Prelude.{IsPartRead, blank_of, text_letters, ArePartTextsMade, ReadsPartsTo}
+pub use Rattle.kd_form.proofs.Prelude.{first_part_start, AreAllPartsRead, IsExpectedCount, take-append_seam, All-more}
 use Rattle.kd_form.proofs.Headings.{allowed_one, at_cut, cut_behind, ended_heading, has_byte, plain_heading}
 use Rattle.kd_form.proofs.Headings.{words_begin, one_byte}
 use Rattle.kd_form.proofs.MadeParts.{pieces-next, pieces-none, more_pieces, IsPiece, GivesBack, part_gives_back}
 use Rattle.kd_form.proofs.MadeParts.{size_some}
-use Rattle.kd_form.proofs.{Lines.AreAllowed, Lines.without, OneOrder.all_of_the_day, OneOrder.one_order}
+use Rattle.kd_form.proofs.{Lines.AreAllowed, Lines.IsWithout-plain, OneOrder.all_of_the_day, OneOrder.one_order}
 
 -- -------- the body of a part as it is written: the letters that it gives, its bytes, and its lines
 
@@ -87,23 +88,23 @@ gives_pieces size whole large none step letters =
     (All-take (λ l. l < 26) size letters are)
     (rest (All-drop (λ l. l < 26) size letters are))))) (length letters) letters (omega arith)
 
-gives_line : (line : List ℕ) → AreOfTheAlphabet line → Gives (line_of (groups_of line)) line
+gives_line : (line : List ℕ) → AreOfTheAlphabet line → Gives (line_of (letter_groups line)) line
 gives_line = gives_pieces 5 (λ groups. line_of (map letters_text groups)) (omega arith) refl
     (λ group groups more are. gives_words (letters_text group) group (map letters_text groups) _ (gives_word group are))
 
 pub gives_body : (letters : List ℕ) → AreOfTheAlphabet letters → Gives (body_text letters) letters
-gives_body = gives_pieces 50 (flat_map (λ line. with_line (groups_of line) [])) (omega arith) refl
+gives_body = gives_pieces 50 (flat_map (λ line. line_then (letter_groups line) [])) (omega arith) refl
     (λ line lines more are rest. rw append_assoc (gives_after 10 _ line _ more refl refl (gives_line line are) rest))
 
 -- ---- the lines of a body
 
 -- an LF and the lines of a body end in LF
 lines_end : (items : List (List ℕ))
-    → (front : List ℕ) × (10 ∷ flat_map (λ line. with_line (groups_of line) []) items ≡ front ++ 10 ∷ [])
+    → (front : List ℕ) × (10 ∷ flat_map (λ line. line_then (letter_groups line) []) items ≡ front ++ 10 ∷ [])
 lines_end [] = ([], refl)
 lines_end (item ∷ items) =
     let (front, is) = lines_end items in
-    (10 ∷ (line_of (groups_of item) ++ front), grind (arith, append_assoc, is))
+    (10 ∷ (line_of (letter_groups item) ++ front), grind (arith, append_assoc, is))
 
 -- -------- a part as it is written: its heading, and where it ends in what it begins
 
@@ -113,9 +114,9 @@ pub part_has_heading : (s : Day) (made : Part) → IsHeading s made.heading
 part_has_heading s made is =
     let plain = plain_heading s made.heading is in
     let line : List ℕ = line_of (heading_words made.heading) in
-    ended_heading s line (body_text made.body) made.heading (without 10 line (omega arith) plain) is
+    ended_heading s line (body_text made.body) made.heading (IsWithout-plain 10 line (omega arith) plain) is
     (WithoutReturn refl (λ front same. has_byte 13 front []
-    (subst (IsWithout 13) same (without 13 line (omega arith) plain))))
+    (subst (IsWithout 13) same (IsWithout-plain 13 line (omega arith) plain))))
 
 -- a written part begins with a heading
 pub part_begins_heading : (s : Day) (made : Part) (more : List ℕ) → IsHeading s made.heading
@@ -125,38 +126,42 @@ part_begins_heading s made more is = grind (arith, append_assoc, words_begin)
 -- a written part after an LF is one part of the form, if another part or nothing follows
 pub part_is_first : (s : Day) (made : Part) (rest : List ℕ) (others : List (List ℕ)) → IsHeading s made.heading
     → All (λ letter. letter < 26) made.body
-    → cut (10 ∷ rest) ≡ (10 ∷ [], others) → cut (10 ∷ (part_text made ++ rest)) ≡ (10 ∷ [], part_text made ∷ others)
+    → cut_at_headings (10 ∷ rest) ≡ (10 ∷ [], others)
+    → cut_at_headings (10 ∷ (part_text made ++ rest)) ≡ (10 ∷ [], part_text made ∷ others)
 part_is_first s made rest others is are follows =
     let line : List ℕ = line_of (heading_words made.heading) in
     let (front, ends) = lines_end (pieces 50 made.body) in
     let allowed =
     All-cons (λ b. IsTrue (is_text_byte b)) 10 (body_text made.body) refl (gives_body made.body are).allowed in
-    let tail : cut (front ++ 10 ∷ rest) ≡ (front ++ 10 ∷ [], others) =
+    let tail : cut_at_headings (front ++ 10 ∷ rest) ≡ (front ++ 10 ∷ [], others) =
     allowed_one front rest others (subst AreAllowed ends allowed) follows in
     let joined : part_text made ++ rest ≡ line ++ (front ++ 10 ∷ rest) =
     append_assoc line (10 ∷ body_text made.body) rest ∙ ap (λ t. line ++ (t ++ rest)) ends
     ∙ ap (λ t. line ++ t) (append_assoc front (10 ∷ []) rest) in
-    let whole : cut (part_text made ++ rest) ≡ (part_text made, others) =
-    ap cut joined ∙ cut_behind line (front ++ 10 ∷ rest)
-    (without 10 line (omega arith) (plain_heading s made.heading is))
+    let whole : cut_at_headings (part_text made ++ rest) ≡ (part_text made, others) =
+    ap cut_at_headings joined ∙ cut_behind line (front ++ 10 ∷ rest)
+    (IsWithout-plain 10 line (omega arith) (plain_heading s made.heading is))
     ∙ ap (λ (c : List ℕ × List (List ℕ)). (line ++ c.0, c.1)) tail ∙ ap (λ t. (line ++ t, others)) (sym ends) in
     at_cut (part_text made ++ rest) (part_begins_heading s made rest is)
     ∙ ap (λ (c : List ℕ × List (List ℕ)). (10 ∷ [], c.0 ∷ c.1)) whole
 
 -- -------- the form that an order becomes gives the order's letters back
 
-letters_within : (blank : Option ℕ) (text : List ℕ) → IfSome blank (λ letter. letter < 26)
+letters_from-within : (blank : Option ℕ) (text : List ℕ) → IfSome blank (λ letter. letter < 26)
     → All (λ letter. letter < 26) (letters_from blank text)
-letters_within blank [] less = All-nil (λ letter. letter < 26)
-letters_within blank (byte ∷ text) less = grind (arith, All-cons {X = ℕ}, letters_from, letters_within blank text less)
+letters_from-within blank [] less = All-nil (λ letter. letter < 26)
+letters_from-within blank (byte ∷ text) less = grind
+    (arith, All-cons {X = ℕ}, letters_from, letters_from-within blank text less)
 
 -- after whole groups, filling the rest fills the whole text
-filled_behind : (front rest : List ℕ) → length front % 5 ≡ 0 → filled front ++ filled rest ≡ filled (front ++ rest)
+filled_behind : (front rest : List ℕ) → length front % 5 ≡ 0
+    → fill_last_group front ++ fill_last_group rest ≡ fill_last_group (front ++ rest)
 filled_behind front rest whole = grind (arith, length-append {A = ℕ}, append_assoc {A = ℕ}, append-nil {A = ℕ})
 
-filled_pieces : (letters : List ℕ) → filled (take 500 letters) ++ filled (drop 500 letters) ≡ filled letters
+filled_pieces : (letters : List ℕ) → fill_last_group (take 500 letters) ++ fill_last_group (drop 500 letters)
+    ≡ fill_last_group letters
 filled_pieces letters = elim (cases_lt (length letters) 500) [
-  | inl short ↦ grind (arith, take_all 500 letters, drop_all 500 letters, append-nil (filled letters))
+  | inl short ↦ grind (arith, take_all 500 letters, drop_all 500 letters, append-nil (fill_last_group letters))
   | inr long ↦
       grind (
         arith,
@@ -194,15 +199,16 @@ record AreGivenBack (s : Day) (part parts count : ℕ) (pieces : List (List ℕ)
   texts : List (List ℕ)
   counted : length texts ≡ count
   begins : texts ≢ [] → BeginsHeading form
-  cut_so : cut (10 ∷ form) ≡ (10 ∷ [], texts)
-  read : (expected : Option ℕ) (start : ℕ) → IsExpected expected parts → (texts ≡ [] → expected ≡ Some parts)
-      → ReadsTo s IsComplete (record { number = part; expected = expected; start = start }) texts
+  cut_so : cut_at_headings (10 ∷ form) ≡ (10 ∷ [], texts)
+  read : (expected : Option ℕ) (start : ℕ) → IsExpectedCount expected parts → (texts ≡ [] → expected ≡ Some parts)
+      → ReadsPartsTo s AreAllPartsRead (record { number = part; expected = expected; bytes_before = start }) texts
       (flat_map (sent_letters s) pieces)
 
 parts_are_given_back : (s : Day) (part parts : ℕ) (keys : List Keys) (pieces : List (List ℕ)) (form : List ℕ)
     → IsLegalDay s
-    → All (AreKeys s) keys → All (Suits s) keys → All (IsPiece s) pieces → 1 ≤ part → part + length keys ≡ parts + 1
-    → parts ≤ 99 → AreMadeTexts s part parts keys pieces form → AreGivenBack s part parts (length keys) pieces form
+    → All (AreKeys s) keys → All (KeysSuitDay s) keys → All (IsPiece s) pieces → 1 ≤ part
+    → part + length keys ≡ parts + 1
+    → parts ≤ 99 → ArePartTextsMade s part parts keys pieces form → AreGivenBack s part parts (length keys) pieces form
 parts_are_given_back s part parts [] [] form legal are suited all first last few made = rw made (record {
   texts = [];
   counted = refl;
@@ -214,10 +220,11 @@ parts_are_given_back s part parts (k ∷ keys) (piece ∷ pieces) form legal are
     (one, more, (made, makes, written), others, joined) =
     let rest : AreGivenBack s (part + 1) parts (length keys) pieces more =
     parts_are_given_back s (part + 1) parts keys pieces more legal (All-tail (AreKeys s) k keys are)
-    (All-tail (Suits s) k keys suited)
+    (All-tail (KeysSuitDay s) k keys suited)
     (All-tail (IsPiece s) piece pieces all) (omega arith) (omega arith) few others in
     let back : GivesBack s part parts (sent_letters s piece) made =
-    part_gives_back s part parts k piece made legal (All-head (AreKeys s) k keys are) (All-head (Suits s) k keys suited)
+    part_gives_back s part parts k piece made legal (All-head (AreKeys s) k keys are)
+    (All-head (KeysSuitDay s) k keys suited)
     (record { first = first; in_order = omega arith; few = few }) (All-head (IsPiece s) piece pieces all) makes in
     let given = gives_body made.body back.within in
     let is_read : IsPartRead s part parts (part_text made) (sent_letters s piece) = record {
@@ -228,7 +235,7 @@ parts_are_given_back s part parts (k ∷ keys) (piece ∷ pieces) form legal are
       so_many = back.so_many;
       allowed = given.allowed;
       read =
-          subst (λ ls. SaysBody s part made.heading ls (Ok (sent_letters s piece))) (sym given.gives)
+          subst (λ ls. IsBodyAnswer s part made.heading ls (Ok (sent_letters s piece))) (sym given.gives)
           (inr (back.counted, back.read));
     } in
     rw (joined, written) (record {
@@ -249,16 +256,16 @@ forms_give_their_orders s order form given legal is due =
     let back : AreGivenBack s 1 (length is.keys) (length is.keys) (pieces (part_size s) letters) form =
     parts_are_given_back s 1 (length is.keys) is.keys (pieces (part_size s) letters) form legal
     (all_of_the_day _ s is.keys is.head order_is.is_head.lines) is.sendable.suited
-    (are_pieces s letters (letters_within (blank_of s) is.text (grind arith))) (omega arith)
+    (are_pieces s letters (letters_from-within (blank_of s) is.text (grind arith))) (omega arith)
     (omega arith) order_is.is_head.few is.made in
     let some : back.texts ≢ [] =
     grind (arith, common_steps, more_pieces, size_some, is.some, back.counted, is.counted) in
     let read = back.read None 0 tt (λ none. absurd (some none)) in
     record {
       letters = sent;
-      read = grind (arith, at_first, at_cut, back.begins, sent_pieces, letters, read);
-      is = due.is ∙ ap (λ t. given_text s (sent_letters s (text_letters s t))) (sym same.2);
+      read = grind (arith, first_part_start, at_cut, back.begins, sent_pieces, letters, read);
+      is = due.is ∙ ap (λ t. plaintext_with_end s (sent_letters s (text_letters s t))) (sym same.2);
     }
 
 pub orders_give_letters : OrdersGiveLetters
-orders_give_letters s order form is = (given_text s (sent_letters s (text_letters s is.text)), grind arith)
+orders_give_letters s order form is = (plaintext_with_end s (sent_letters s (text_letters s is.text)), grind arith)

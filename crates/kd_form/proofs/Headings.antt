@@ -1,20 +1,21 @@
 -- How a form is divided into parts, also with more bytes; and the heading line with which a part begins.
-pub use Rattle.kd_form.proofs.Prelude.{figures, common_steps, ◌≡◌, ◌≢◌, ◌⊎◌, inl, inr, ℕ, ◌<◌, ◌≤◌, List, [], ◌∷◌, ◌++◌}
-pub use Rattle.kd_form.proofs.Prelude.{length, get_or, take, drop, refl, sym, ap, ◌∙◌, append_assoc, length-append}
-pub use Rattle.kd_form.proofs.Prelude.{length-take, arith, codes, All-head, All-tail, All-get_or, IsTrue, nat_tests}
-pub use Rattle.kd_form.proofs.Prelude.{cases_Bool, cases_eq, cases_lt, false≢true, append-nil, take-append-le}
-pub use Rattle.kd_form.proofs.Prelude.{take-append-drop, take-append_seam, get_or-append, get_or-append_seam}
-pub use Rattle.kd_form.proofs.Prelude.{get_or-take, get_or_past, BeginsHeading, cut, parts_of, FitsAt, HasBegun}
-pub use Rattle.kd_form.proofs.Prelude.{IsWithout, IsBadAt, is_text_byte, AllPass-from_list_all, All-take, All-same}
-pub use Rattle.kd_form.proofs.Prelude.{take-take, take_more, rules, ◌^◌, ◌+◌, decimal, All, Option, Some, None}
-pub use Rattle.kd_form.proofs.Prelude.{MatchOption, All-from_get_or, All-cons, All-nil, All-append, All-map, All-push}
-pub use Rattle.kd_form.proofs.Prelude.{All-weaker, IsFirstPart, line_of, words_of, texts_tell_first_parts}
-pub use Rattle.kd_form.proofs.Prelude.{numbers_are_words, lines_split_into_words, parts_make_lines, fraction}
-pub use Rattle.kd_form.proofs.Prelude.{indicator_words, heading_words, length-map, append_cancel_right, take_all}
-pub use Rattle.kd_form.proofs.Prelude.{get_or-map, letters_text, AreFewLetters, IsFraction, IsLetterCount, IsHeading}
+pub use Rattle.kd_form.proofs.Prelude.{IsNumeralModel-digits, common_steps, ◌≡◌, ◌≢◌, ◌⊎◌, inl, inr, ℕ, ◌<◌, ◌≤◌, List}
+pub use Rattle.kd_form.proofs.Prelude.{[], ◌∷◌, ◌++◌, length, get_or, take, drop, refl, sym, ap, ◌∙◌, append_assoc}
+pub use Rattle.kd_form.proofs.Prelude.{length-append, length-take, arith, codes, All-head, All-tail, All-get_or, IsTrue}
+pub use Rattle.kd_form.proofs.Prelude.{nat_tests, cases_Bool, cases_eq, cases_lt, false≢true, append-nil}
+pub use Rattle.kd_form.proofs.Prelude.{take-append-le, take-append-drop, take-append_seam, get_or-append}
+pub use Rattle.kd_form.proofs.Prelude.{get_or-append_seam, get_or-take, get_or_past, BeginsHeading, cut_at_headings}
+pub use Rattle.kd_form.proofs.Prelude.{parts_of, FitsHeadingAt, HasBegunHeading, IsWithout, IsFirstBadByteAt}
+pub use Rattle.kd_form.proofs.Prelude.{is_text_byte, AllPass-from_list_all, All-take, All-same, take-take, take_more}
+pub use Rattle.kd_form.proofs.Prelude.{rules, ◌^◌, ◌+◌, decimal, All, Option, Some, None, MatchOption, All-from_get_or}
+pub use Rattle.kd_form.proofs.Prelude.{All-cons, All-nil, All-append, All-map, All-push, All-weaker, IsFirstPart}
+pub use Rattle.kd_form.proofs.Prelude.{line_of, words_of, texts_tell_first_parts, numbers_are_words}
+pub use Rattle.kd_form.proofs.Prelude.{lines_split_into_words, parts_make_lines, fraction_text, indicator_words}
+pub use Rattle.kd_form.proofs.Prelude.{heading_words, length-map, append_cancel_right, take_all, get_or-map}
+pub use Rattle.kd_form.proofs.Prelude.{letters_text, AreFewLetters, IsFraction, IsLetterCount, IsHeading}
 pub use Rattle.kd_form.proofs.Prelude.{AreHeadingWords, HasFirstLine, IsLineText, Day, OfRotors, OfPins, Heading}
-pub use Rattle.kd_form.proofs.Prelude.{Indicator, HasIndicator, HasSlots, HasPins, HasHeading, drop-cons, map, IsFalse}
-pub use Rattle.kd_form.proofs.Prelude.{word_by_bytes}
+pub use Rattle.kd_form.proofs.Prelude.{Indicator, HasIndicator, IsRotorDayWith, IsConverterDay, HasHeading, drop-cons}
+pub use Rattle.kd_form.proofs.Prelude.{map, IsFalse, word_by_bytes}
 use Rattle.std.proofs.lemmas.Fmt.{digits_decimal, decimal_injective, length-decimal-le, decimal_nonempty}
 use Rattle.{kd_form.specs.FormParts.begins_heading, std.proofs.lemmas.Slice.Eq.bytes_eq-Decides}
 pub use Rattle.kd_form.proofs.OneOrder.{no_bad_byte, same_letters, same_word, bad_behind}
@@ -22,17 +23,24 @@ pub use Rattle.kd_form.proofs.Lines.{AreAllowed, plain_text, whole_line, same_fr
 
 -- ---- where a heading begins
 
-pub told : (bytes : List ℕ) → BeginsHeading bytes
+pub BeginsHeading-bytes : (bytes : List ℕ) → BeginsHeading bytes
     → (take 5 bytes ≡ codes "PART ") × (48 ≤ get_or bytes 5 0) × (get_or bytes 5 0 ≤ 57)
 unfolding begins_heading
-told bytes begins = grind (arith, nat_tests, bytes_eq-Decides (take 5 bytes) (codes "PART "))
+BeginsHeading-bytes bytes begins = grind (arith, nat_tests, bytes_eq-Decides (take 5 bytes) (codes "PART "))
 
-pub begins : (digit : ℕ) (rest : List ℕ) → 48 ≤ digit → digit ≤ 57 → BeginsHeading (codes "PART " ++ digit ∷ rest)
+pub BeginsHeading-digit : (digit : ℕ) (rest : List ℕ) → 48 ≤ digit → digit ≤ 57
+    → BeginsHeading (codes "PART " ++ digit ∷ rest)
 unfolding begins_heading
-begins digit rest low high = grind (arith, nat_tests)
+BeginsHeading-digit digit rest low high = grind (arith, nat_tests)
 
 pub heading_size : (bytes : List ℕ) → BeginsHeading bytes → 6 ≤ length bytes
-heading_size bytes begun = grind (arith, told bytes begun, cases_lt 5 (length bytes), get_or_past bytes 5 0)
+heading_size bytes begun = grind (
+  arith,
+  BeginsHeading-bytes bytes begun,
+  cases_lt 5 (length bytes),
+  get_or_past
+      bytes 5 0,
+)
 
 -- the first six bytes decide whether a heading begins
 pub begins_front : (bytes more : List ℕ) → 6 ≤ length bytes → begins_heading (bytes ++ more) ≡ begins_heading bytes
@@ -48,7 +56,7 @@ heading_byte bytes place begun inside =
     grind (
       arith,
       cases_lt place 5,
-      told bytes begun,
+      BeginsHeading-bytes bytes begun,
       get_or-take 5 bytes place 0,
       All-get_or (λ b. 32 ≤ b) (codes "PART ") place 0,
       plain_text (codes "PART ") refl,
@@ -72,26 +80,28 @@ few_begin : (bytes more : List ℕ) → length bytes ≤ 5 → BeginsHeading (by
     → bytes ≡ take (length bytes) (codes "PART ")
 few_begin bytes more few begun =
     sym (take-append_seam bytes more) ∙ sym (take-take (length bytes) 5 (bytes ++ more) few)
-    ∙ ap (take (length bytes)) (told (bytes ++ more) begun).0
+    ∙ ap (take (length bytes)) (BeginsHeading-bytes (bytes ++ more) begun).0
 
-pub may_begin : (bytes : List ℕ) → HasBegun bytes → (more : List ℕ) × BeginsHeading (bytes ++ more)
+pub may_begin : (bytes : List ℕ) → HasBegunHeading bytes → (more : List ℕ) × BeginsHeading (bytes ++ more)
 may_begin bytes (inl (count, few, is)) = (
   drop count (codes "PART 0"),
   rw (is, ← take-append-le count (codes "PART ") (codes "0") few, take-append-drop count (codes "PART 0"))
-      (begins 48 [] (omega arith) (omega arith)),
+      (BeginsHeading-digit 48 [] (omega arith) (omega arith)),
 )
 may_begin bytes (inr begun) = ([], rw (append-nil bytes) begun)
 
-fits_there : (bytes : List ℕ) (place : ℕ) → BeginsHeading bytes → FitsAt place (get_or bytes place 0)
-fits_there bytes place begun = grind (arith, common_steps, told bytes begun, get_or-take 5 bytes place 0)
+fits_there : (bytes : List ℕ) (place : ℕ) → BeginsHeading bytes → FitsHeadingAt place (get_or bytes place 0)
+fits_there bytes place begun = grind (arith, common_steps, BeginsHeading-bytes bytes begun, get_or-take 5 bytes place 0)
 
 -- bytes that may begin a heading still may after a byte that fits
-pub follows : (part line : List ℕ) (byte : ℕ) → line ≡ take 64 part → HasBegun part → FitsAt (length line) byte
-    → HasBegun (part ++ byte ∷ [])
-follows part line byte e d g = grind (arith, common_steps, begins_more, length-take, take_more, begins)
+pub HasBegunHeading-snoc : (part line : List ℕ) (byte : ℕ) → line ≡ take 64 part → HasBegunHeading part
+    → FitsHeadingAt (length line) byte
+    → HasBegunHeading (part ++ byte ∷ [])
+HasBegunHeading-snoc part line byte e d g = grind
+    (arith, common_steps, begins_more, length-take, take_more, BeginsHeading-digit)
 
 -- after a byte that doesn't fit, the bytes begin no heading
-pub not_begun : (part line : List ℕ) (byte : ℕ) → line ≡ take 64 part → ¬ (FitsAt (length line) byte)
+pub not_begun : (part line : List ℕ) (byte : ℕ) → line ≡ take 64 part → ¬ (FitsHeadingAt (length line) byte)
     → (length part < 6) × ((more : List ℕ) → ¬ (BeginsHeading ((part ++ byte ∷ []) ++ more)))
 not_begun part line byte kept off =
     let short : length line < 6 = grind (arith, cases_lt (length line) 6) in
@@ -102,42 +112,44 @@ not_begun part line byte kept off =
 cut_or_not : (byte : ℕ) (bytes : List ℕ) → ((byte ≡ 10) × BeginsHeading bytes) ⊎ ((byte ≡ 10) → ¬ (BeginsHeading bytes))
 cut_or_not byte bytes = grind (arith, cases_eq byte 10, cases_Bool (begins_heading bytes), false≢true)
 
-pub at_cut : (bytes : List ℕ) → BeginsHeading bytes → cut (10 ∷ bytes) ≡ (10 ∷ [], parts_of bytes)
+pub at_cut : (bytes : List ℕ) → BeginsHeading bytes → cut_at_headings (10 ∷ bytes) ≡ (10 ∷ [], parts_of bytes)
 at_cut bytes begun = rw begun refl
 
 pub no_cut : (byte : ℕ) (bytes : List ℕ) → ((byte ≡ 10) → ¬ (BeginsHeading bytes))
-    → cut (byte ∷ bytes) ≡ (byte ∷ (cut bytes).0, (cut bytes).1)
+    → cut_at_headings (byte ∷ bytes) ≡ (byte ∷ (cut_at_headings bytes).0, (cut_at_headings bytes).1)
 no_cut byte bytes not = grind (arith, nat_tests, cases_eq byte 10, cases_Bool (begins_heading bytes))
 
 -- if the bytes are one part, the first byte ends no part, and the other bytes are one part too
-uncut : (byte : ℕ) (bytes : List ℕ) → (cut (byte ∷ bytes)).1 ≡ []
-    → ((byte ≡ 10) → ¬ (BeginsHeading bytes)) × ((cut bytes).1 ≡ [])
-uncut byte bytes none = grind (arith, cut_or_not byte bytes, at_cut bytes, no_cut byte bytes)
+cut_at_headings-tail : (byte : ℕ) (bytes : List ℕ) → (cut_at_headings (byte ∷ bytes)).1 ≡ []
+    → ((byte ≡ 10) → ¬ (BeginsHeading bytes)) × ((cut_at_headings bytes).1 ≡ [])
+cut_at_headings-tail byte bytes none = grind (arith, cut_or_not byte bytes, at_cut bytes, no_cut byte bytes)
 
-pub as_parts : (form part : List ℕ) (others : List (List ℕ)) → cut form ≡ (part, others) → parts_of form ≡ part ∷ others
+pub as_parts : (form part : List ℕ) (others : List (List ℕ)) → cut_at_headings form ≡ (part, others)
+    → parts_of form ≡ part ∷ others
 as_parts form part others is = ap (λ (c : List ℕ × List (List ℕ)). c.0 ∷ c.1) is
 
-pub first_there : (form : List ℕ) → (rest : List ℕ) × (form ≡ (cut form).0 ++ rest)
+pub first_there : (form : List ℕ) → (rest : List ℕ) × (form ≡ (cut_at_headings form).0 ++ rest)
 first_there [] = ([], refl)
 first_there (byte ∷ bytes) = elim (cut_or_not byte bytes) [
   | inl (is, begun) ↦ (bytes, rw (is, ap (λ c. c.0) (at_cut bytes begun)) refl)
   | inr not ↦ let (rest, joined) = first_there bytes in (rest, rw (no_cut byte bytes not) (ap (λ l. byte ∷ l) joined))
 ]
 
-pub single : (form : List ℕ) → (cut form).1 ≡ [] → (cut form).0 ≡ form
-single [] none = refl
-single (byte ∷ bytes) none =
-    let is = uncut byte bytes none in rw (no_cut byte bytes is.0) (ap (λ l. byte ∷ l) (single bytes is.1))
+pub cut_at_headings-whole : (form : List ℕ) → (cut_at_headings form).1 ≡ [] → (cut_at_headings form).0 ≡ form
+cut_at_headings-whole [] none = refl
+cut_at_headings-whole (byte ∷ bytes) none =
+    let is = cut_at_headings-tail byte bytes none in rw (no_cut byte bytes is.0)
+    (ap (λ l. byte ∷ l) (cut_at_headings-whole bytes is.1))
 
 -- the first part is complete: more bytes only add to what follows it
 pub record IsDone (form : List ℕ) : Type 0 where
   pub rest : List ℕ
   pub long : 6 ≤ length form
-  pub joined : form ≡ (cut form).0 ++ rest
-  pub others : (cut form).1 ≡ parts_of rest
-  pub grows : (more : List ℕ) → cut (form ++ more) ≡ ((cut form).0, parts_of (rest ++ more))
+  pub joined : form ≡ (cut_at_headings form).0 ++ rest
+  pub others : (cut_at_headings form).1 ≡ parts_of rest
+  pub grows : (more : List ℕ) → cut_at_headings (form ++ more) ≡ ((cut_at_headings form).0, parts_of (rest ++ more))
 
-pub first_done : (form : List ℕ) → (cut form).1 ≢ [] → IsDone form
+pub first_done : (form : List ℕ) → (cut_at_headings form).1 ≢ [] → IsDone form
 first_done [] some = absurd (some refl)
 first_done (byte ∷ bytes) some =
     grind (arith, cut_or_not byte bytes, heading_size, at_cut, begins_more, no_cut, first_done bytes, begins_front)
@@ -146,16 +158,17 @@ first_done (byte ∷ bytes) some =
 
 -- bytes without LF before others belong to the first part
 pub cut_behind : (line bytes : List ℕ) → IsWithout 10 line
-    → cut (line ++ bytes) ≡ (line ++ (cut bytes).0, (cut bytes).1)
+    → cut_at_headings (line ++ bytes) ≡ (line ++ (cut_at_headings bytes).0, (cut_at_headings bytes).1)
 cut_behind [] bytes unbroken = refl
 cut_behind (byte ∷ line) bytes unbroken =
     grind (arith, no_cut, All-head, All-tail, cut_behind line bytes (All-tail (λ b. b ≢ 10) byte line unbroken))
 
-pub one_byte : (byte : ℕ) → cut (byte ∷ []) ≡ (byte ∷ [], [])
+pub one_byte : (byte : ℕ) → cut_at_headings (byte ∷ []) ≡ (byte ∷ [], [])
 one_byte byte = no_cut byte [] (λ is begun. omega (arith, heading_size [] begun))
 
-pub one_more : (line : List ℕ) (byte : ℕ) → IsWithout 10 line → cut (line ++ byte ∷ []) ≡ (line ++ byte ∷ [], [])
-one_more line byte unbroken = cut_behind line (byte ∷ []) unbroken ∙ rw (one_byte byte) refl
+pub cut_at_headings-line : (line : List ℕ) (byte : ℕ) → IsWithout 10 line
+    → cut_at_headings (line ++ byte ∷ []) ≡ (line ++ byte ∷ [], [])
+cut_at_headings-line line byte unbroken = cut_behind line (byte ∷ []) unbroken ∙ rw (one_byte byte) refl
 
 -- if five bytes and one more begin a heading, the last one is a digit after `PART `
 last_digit : (bytes : List ℕ) (byte : ℕ) → length bytes < 6 → BeginsHeading (bytes ++ byte ∷ [])
@@ -163,7 +176,7 @@ last_digit : (bytes : List ℕ) (byte : ℕ) → length bytes < 6 → BeginsHead
 last_digit bytes byte few begun =
     grind (
       arith,
-      told (bytes ++ byte ∷ []) begun,
+      BeginsHeading-bytes (bytes ++ byte ∷ []) begun,
       heading_size (bytes ++ byte ∷ []) begun,
       length-append bytes (byte ∷ []),
       get_or-append_seam bytes byte [] 0,
@@ -171,63 +184,77 @@ last_digit bytes byte few begun =
     )
 
 -- a byte after the last line begins no part, unless the line is `PART ` and the byte is a digit
-pub first_more : (front tail : List ℕ) (byte : ℕ) → IsWithout 10 tail → (cut (front ++ 10 ∷ tail)).1 ≡ []
+pub first_more : (front tail : List ℕ) (byte : ℕ) → IsWithout 10 tail → (cut_at_headings (front ++ 10 ∷ tail)).1 ≡ []
     → ((tail ≡ codes "PART ") → (48 ≤ byte) → (byte ≤ 57) → ⊥)
-    → cut (front ++ 10 ∷ (tail ++ byte ∷ [])) ≡ (front ++ 10 ∷ (tail ++ byte ∷ []), [])
-first_more [] tail byte unbroken none not = grind (arith, uncut, no_cut, last_digit, begins_front, one_more)
+    → cut_at_headings (front ++ 10 ∷ (tail ++ byte ∷ [])) ≡ (front ++ 10 ∷ (tail ++ byte ∷ []), [])
+first_more [] tail byte unbroken none not = grind
+    (arith, cut_at_headings-tail, no_cut, last_digit, begins_front, cut_at_headings-line)
 first_more (x ∷ front) tail byte unbroken none not =
-    grind (arith, uncut, no_cut, begins_more, before_break, append_assoc, first_more front tail byte unbroken)
+    grind (
+      arith,
+      cut_at_headings-tail,
+      no_cut,
+      begins_more,
+      before_break,
+      append_assoc,
+      first_more front tail byte
+          unbroken,
+    )
 
 -- the digit of a heading ends the part before it
-pub first_ends : (front more : List ℕ) (digit : ℕ) → (cut (front ++ 10 ∷ codes "PART ")).1 ≡ [] → 48 ≤ digit
+pub first_ends : (front more : List ℕ) (digit : ℕ) → (cut_at_headings (front ++ 10 ∷ codes "PART ")).1 ≡ [] → 48 ≤ digit
     → digit ≤ 57
-    → cut (front ++ 10 ∷ (codes "PART " ++ digit ∷ more)) ≡ (front ++ 10 ∷ [], parts_of (codes "PART " ++ digit ∷ more))
-first_ends [] more digit none low high = at_cut (codes "PART " ++ digit ∷ more) (begins digit more low high)
+    → cut_at_headings (front ++ 10 ∷ (codes "PART " ++ digit ∷ more))
+    ≡ (front ++ 10 ∷ [], parts_of (codes "PART " ++ digit ∷ more))
+first_ends [] more digit none low high = at_cut (codes "PART " ++ digit ∷ more)
+    (BeginsHeading-digit digit more low high)
 first_ends (x ∷ front) more digit none low high =
-    grind (arith, uncut, no_cut, begins_more, before_break, append_assoc, first_ends front more digit)
+    grind (arith, cut_at_headings-tail, no_cut, begins_more, before_break, append_assoc, first_ends front more digit)
 
 -- fewer than six bytes that begin a heading are all allowed in a body
 few_allowed : (bytes more : List ℕ) → length bytes < 6 → BeginsHeading (bytes ++ more) → AreAllowed bytes
 few_allowed bytes more few begun = grind (arith, common_steps, All-same, few_begin, All-take, AllPass-from_list_all)
 
 -- with more bytes, the first byte that isn't allowed stays where it is, in the same part
-stays : (front rest more : List ℕ) (byte : ℕ) → AreAllowed front → IsFalse (is_text_byte byte)
-    → (cut (front ++ byte ∷ rest)).1 ≡ []
-    → (other : List ℕ) × ((cut ((front ++ byte ∷ rest) ++ more)).0 ≡ front ++ byte ∷ other)
-stays [] rest more byte allowed bad none =
+cut_at_headings-bad_byte : (front rest more : List ℕ) (byte : ℕ) → AreAllowed front → IsFalse (is_text_byte byte)
+    → (cut_at_headings (front ++ byte ∷ rest)).1 ≡ []
+    → (other : List ℕ) × ((cut_at_headings ((front ++ byte ∷ rest) ++ more)).0 ≡ front ++ byte ∷ other)
+cut_at_headings-bad_byte [] rest more byte allowed bad none =
     let not = λ (is : byte ≡ 10) (begun : BeginsHeading (rest ++ more)). false≢true (sym bad ∙ ap is_text_byte is) in
-    ((cut (rest ++ more)).0, ap (λ c. c.0) (no_cut byte (rest ++ more) not))
-stays (b ∷ front) rest more byte allowed bad none =
+    ((cut_at_headings (rest ++ more)).0, ap (λ c. c.0) (no_cut byte (rest ++ more) not))
+cut_at_headings-bad_byte (b ∷ front) rest more byte allowed bad none =
     let body : List ℕ = front ++ byte ∷ rest in
-    let is = uncut b body none in
+    let is = cut_at_headings-tail b body none in
     let good = All-tail (λ x. IsTrue (is_text_byte x)) b front allowed in
     elim (cut_or_not b (body ++ more)) [
       | inl (break, begun) ↦
           let few : length body < 6 = grind (arith, cases_lt (length body) 6, begins_front body more, is.0 break) in
           absurd (no_bad_byte body _ (few_allowed body more few begun) (bad_behind front rest byte good bad))
       | inr not ↦
-          let (other, same) = stays front rest more byte good bad is.1 in
+          let (other, same) = cut_at_headings-bad_byte front rest more byte good bad is.1 in
           (other, rw (no_cut b (body ++ more) not, same) refl)
     ]
 
-bad_stays : (body more : List ℕ) (place : ℕ) → (cut body).1 ≡ [] → IsBadAt body place
-    → IsBadAt ((cut (body ++ more)).0) place
+bad_stays : (body more : List ℕ) (place : ℕ) → (cut_at_headings body).1 ≡ [] → IsFirstBadByteAt body place
+    → IsFirstBadByteAt ((cut_at_headings (body ++ more)).0) place
 bad_stays body more place none bad =
-    let (other, is) = stays bad.before bad.rest more bad.byte bad.allowed bad.bad (rw bad.joined at none) in
+    let (other, is) = cut_at_headings-bad_byte bad.before bad.rest more bad.byte bad.allowed bad.bad
+    (rw bad.joined at none) in
     rw (bad.joined, is, bad.size) (bad_behind bad.before other bad.byte bad.allowed bad.bad)
 
 -- `part` is `line`, an LF, and a rest in which the first bad byte is where `body` has it
 pub record IsAlike (part line body : List ℕ) : Type 0 where
   pub other : List ℕ
   pub is : part ≡ line ++ 10 ∷ other
-  pub bad : (place : ℕ) → IsBadAt body place → IsBadAt other place
+  pub bad : (place : ℕ) → IsFirstBadByteAt body place → IsFirstBadByteAt other place
 
-pub alike : (line body more : List ℕ) → IsWithout 10 line → (cut (line ++ 10 ∷ body)).1 ≡ []
-    → IsAlike (cut ((line ++ 10 ∷ body) ++ more)).0 line body
-alike line body more unbroken none =
-    let is = uncut 10 body (sym (ap (λ c. c.1) (cut_behind line (10 ∷ body) unbroken)) ∙ none) in
-    let part : (cut ((line ++ 10 ∷ body) ++ more)).0 ≡ line ++ (cut (10 ∷ (body ++ more))).0 =
-    ap (λ l. (cut l).0) (append_assoc line (10 ∷ body) more)
+pub cut_at_headings-IsAlike : (line body more : List ℕ) → IsWithout 10 line
+    → (cut_at_headings (line ++ 10 ∷ body)).1 ≡ []
+    → IsAlike (cut_at_headings ((line ++ 10 ∷ body) ++ more)).0 line body
+cut_at_headings-IsAlike line body more unbroken none =
+    let is = cut_at_headings-tail 10 body (sym (ap (λ c. c.1) (cut_behind line (10 ∷ body) unbroken)) ∙ none) in
+    let part : (cut_at_headings ((line ++ 10 ∷ body) ++ more)).0 ≡ line ++ (cut_at_headings (10 ∷ (body ++ more))).0 =
+    ap (λ l. (cut_at_headings l).0) (append_assoc line (10 ∷ body) more)
     ∙ ap (λ c. c.0) (cut_behind line (10 ∷ (body ++ more)) unbroken) in
     elim (cut_or_not 10 (body ++ more)) [
       | inl (break, begun) ↦
@@ -238,7 +265,7 @@ alike line body more unbroken none =
             bad = λ place at. absurd (no_bad_byte body place (few_allowed body more few begun) at);
           }
       | inr not ↦ record {
-        other = (cut (body ++ more)).0;
+        other = (cut_at_headings (body ++ more)).0;
         is = part ∙ ap (λ (c : List ℕ × List (List ℕ)). line ++ c.0) (no_cut 10 (body ++ more) not);
         bad = λ place. bad_stays body more place is.1;
       }
@@ -246,7 +273,8 @@ alike line body more unbroken none =
 
 -- bytes that are all allowed and end in LF are one part
 pub allowed_one : (front rest : List ℕ) (others : List (List ℕ)) → AreAllowed (front ++ 10 ∷ [])
-    → cut (10 ∷ rest) ≡ (10 ∷ [], others) → cut (front ++ 10 ∷ rest) ≡ (front ++ 10 ∷ [], others)
+    → cut_at_headings (10 ∷ rest) ≡ (10 ∷ [], others)
+    → cut_at_headings (front ++ 10 ∷ rest) ≡ (front ++ 10 ∷ [], others)
 allowed_one [] rest others allowed is = is
 allowed_one (byte ∷ front) rest others allowed is =
     let good = All-tail (λ b. IsTrue (is_text_byte b)) byte (front ++ 10 ∷ []) allowed in
@@ -259,7 +287,7 @@ allowed_one (byte ∷ front) rest others allowed is =
           arith,
           nat_tests,
           heading_size bytes begun,
-          told bytes begun,
+          BeginsHeading-bytes bytes begun,
           get_or-append bytes (10 ∷ []) 0 5,
           length-append bytes (10 ∷ []),
           All-get_or (λ b. IsTrue (is_text_byte b)) (bytes ++ 10 ∷ []) 5 0,
@@ -268,21 +296,23 @@ allowed_one (byte ∷ front) rest others allowed is =
 -- -------- which part of how many, as it is written
 
 -- no byte is below `least`
-abbrev IsFrom : ℕ → List ℕ → Type 0
-IsFrom least text = All (λ b. least ≤ b) text
+abbrev AreBytesFrom : ℕ → List ℕ → Type 0
+AreBytesFrom least text = All (λ b. least ≤ b) text
 
-lower : (least low : ℕ) (text : List ℕ) → low ≤ least → IsFrom least text → IsFrom low text
-lower least low text less from = All-weaker (λ b. least ≤ b) (λ b. low ≤ b) (λ b above. omega arith) text from
+AreBytesFrom-weaker : (least low : ℕ) (text : List ℕ) → low ≤ least → AreBytesFrom least text → AreBytesFrom low text
+AreBytesFrom-weaker least low text less from = All-weaker (λ b. least ≤ b) (λ b. low ≤ b) (λ b above. omega arith)
+    text from
 
-number_from : (number : ℕ) → number < 2 ^ 64 → IsFrom 48 (decimal number)
+number_from : (number : ℕ) → number < 2 ^ 64 → AreBytesFrom 48 (decimal number)
 number_from number small =
-    All-from_get_or (λ b. 48 ≤ b) (decimal number) 0 (λ i inside. (digits_decimal figures number small i inside).0)
+    All-from_get_or (λ b. 48 ≤ b) (decimal number) 0
+    (λ i inside. (digits_decimal IsNumeralModel-digits number small i inside).0)
 
-letters_from : (letters : List ℕ) → IsFrom 65 (letters_text letters)
+letters_from : (letters : List ℕ) → AreBytesFrom 65 (letters_text letters)
 letters_from letters = All-map (λ b. 65 ≤ b) (λ l. l + 65) letters (λ k d inside. omega arith)
 
-fraction_from : (part parts : ℕ) → part < 2 ^ 64 → parts < 2 ^ 64 → IsFrom 47 (fraction part parts)
-fraction_from part parts small few = grind (arith, common_steps, All-append, All-push, lower, number_from)
+fraction_from : (part parts : ℕ) → part < 2 ^ 64 → parts < 2 ^ 64 → AreBytesFrom 47 (fraction_text part parts)
+fraction_from part parts small few = grind (arith, common_steps, All-append, All-push, AreBytesFrom-weaker, number_from)
 
 -- equal texts have the same number before a byte that is no digit, and the same rest
 one_number : (number found byte : ℕ) (rest more : List ℕ) → number < 2 ^ 64 → found < 2 ^ 64 → byte < 48
@@ -292,13 +322,13 @@ one_number number found byte rest more small little low same =
     grind (arith, both, number_from, decimal_injective number found)
 
 pub fraction_parts : (word one other : List ℕ) (part parts : ℕ) → IsFraction part parts → IsFirstPart 47 word one other
-    → fraction part parts ≡ word → (decimal part ≡ one) × (decimal parts ≡ other)
+    → fraction_text part parts ≡ word → (decimal part ≡ one) × (decimal parts ≡ other)
 fraction_parts word one other part parts number first is =
     search (rules, texts_tell_first_parts, All-weaker, number_from, append_assoc)
 
 pub same_fraction : (word one other : List ℕ) (part parts found last : ℕ) → IsFraction part parts → found < 2 ^ 8
     → last < 2 ^ 8
-    → IsFirstPart 47 word one other → decimal found ≡ one → decimal last ≡ other → fraction part parts ≡ word
+    → IsFirstPart 47 word one other → decimal found ≡ one → decimal last ≡ other → fraction_text part parts ≡ word
     → (part ≡ found) × (parts ≡ last)
 same_fraction word one other part parts found last number small few first read also is =
     let both = fraction_parts word one other part parts number first is in
@@ -329,38 +359,39 @@ same_count s count found word are small is read =
     decimal_injective count found (omega (arith, at_most s count are)) (omega arith) (is ∙ sym read)
 
 -- the numbers of a heading are below 2^64
-record IsSmall (h : Heading) : Type 0 where
+record IsSmallHeading (h : Heading) : Type 0 where
   part : h.part < 2 ^ 64
   parts : h.parts < 2 ^ 64
   letters : h.letters < 2 ^ 64
 
-are_small : (s : Day) (h : Heading) → IsHeading s h → IsSmall h
+are_small : (s : Day) (h : Heading) → IsHeading s h → IsSmallHeading h
 are_small s h is = omega (arith, is.number.in_order, is.number.few, at_most s h.letters is.letters)
 
 -- ---- the words of a heading
 
-ruleset as_words = (word_by_bytes, lower, letters_from, fraction_from, numbers_are_words)
+ruleset as_words = (word_by_bytes, AreBytesFrom-weaker, letters_from, fraction_from, numbers_are_words)
 
-line_words : (s : Day) (found : Option ℕ) (h : Heading) (line : List ℕ) → MatchOption found (HasPins s) (HasSlots s)
+line_words : (s : Day) (found : Option ℕ) (h : Heading) (line : List ℕ)
+    → MatchOption found (IsConverterDay s) (IsRotorDayWith s)
     → IsHeading s h → line_of (heading_words h) ≡ line → words_of line ≡ heading_words h
 line_words s found h line has is same =
     ap words_of (sym same) ∙ lines_split_into_words (heading_words h) (λ none. cc)
     (grind (arith, common_steps, are_small, as_words, length-append {A = ℕ}, All-cons, All-nil))
 
 pub too_many_words : (s : Day) (found : Option ℕ) (h : Heading) (line : List ℕ)
-    → MatchOption found (HasPins s) (HasSlots s)
+    → MatchOption found (IsConverterDay s) (IsRotorDayWith s)
     → IsHeading s h → 5 < length (words_of line) → line_of (heading_words h) ≢ line
 too_many_words s found h line has is many same = grind (arith, ap length (line_words s found h line has is same))
 
 -- the answer is the heading that the line has, or `None` if the line isn't a heading
-abbrev IsTold : Day → Option Heading → List ℕ → Type 0
-IsTold s answer line =
+abbrev IsHeadingAnswer : Day → Option Heading → List ℕ → Type 0
+IsHeadingAnswer s answer line =
     MatchOption answer ((h : Heading) → IsHeading s h → line_of (heading_words h) ≢ line)
     (λ h. IsHeading s h × (line_of (heading_words h) ≡ line))
 
 pub heading_told : (s : Day) (found : Option ℕ) (line : List ℕ) (words shown : List (List ℕ)) (answer : Option Heading)
-    → MatchOption found (HasPins s) (HasSlots s) → words ≡ words_of line → shown ≡ words
-    → AreHeadingWords s shown answer → IsTold s answer line
+    → MatchOption found (IsConverterDay s) (IsRotorDayWith s) → words ≡ words_of line → shown ≡ words
+    → AreHeadingWords s shown answer → IsHeadingAnswer s answer line
 heading_told s found line words shown None has are same told =
     λ h is line_is. told h is (sym (line_words s found h line has is line_is) ∙ sym are ∙ sym same)
 heading_told s found line words shown (Some h) has are same told =
@@ -369,10 +400,10 @@ heading_told s found line words shown (Some h) has are same told =
 -- ---- no byte of a heading's line is below the space
 
 plain_end : (count : ℕ) (i : Option Indicator) → count < 2 ^ 64 → IsPlain (line_of (decimal count ∷ indicator_words i))
-plain_end count i e = grind (arith, lower, number_from, plain_more, plain_letters)
+plain_end count i e = grind (arith, AreBytesFrom-weaker, number_from, plain_more, plain_letters)
 
 pub plain_heading : (s : Day) (h : Heading) → IsHeading s h → IsPlain (line_of (heading_words h))
-plain_heading s h is = grind (arith, are_small, plain_more, plain_text, lower, fraction_from, plain_end)
+plain_heading s h is = grind (arith, are_small, plain_more, plain_text, AreBytesFrom-weaker, fraction_from, plain_end)
 
 pub has_byte : (byte : ℕ) (before rest : List ℕ) → ¬ (IsWithout byte (before ++ byte ∷ rest))
 has_byte byte before rest none =
@@ -396,7 +427,8 @@ one_line_text line text other e d = grind (arith, append_cancel_right)
 
 -- ---- the first 64 bytes of a line determine its heading
 
-heading_length : (s : Day) (found : Option ℕ) (h : Heading) → MatchOption found (HasPins s) (HasSlots s) → IsHeading s h
+heading_length : (s : Day) (found : Option ℕ) (h : Heading) → MatchOption found (IsConverterDay s) (IsRotorDayWith s)
+    → IsHeading s h
     → length (line_of (heading_words h)) ≤ 50
 heading_length s found h has is =
     let count = length-decimal-le 3 h.letters in
@@ -405,7 +437,8 @@ heading_length s found h has is =
     grind (arith, are_small s h is, at_most s h.letters is.letters, count, one, all, length-append {A = ℕ}, length-map)
 
 pub open_told : (s : Day) (found : Option ℕ) (part line : List ℕ) (answer : Option Heading)
-    → MatchOption found (HasPins s) (HasSlots s) → IsTold s answer line → IsWithout 10 part → line ≡ take 64 part
+    → MatchOption found (IsConverterDay s) (IsRotorDayWith s) → IsHeadingAnswer s answer line → IsWithout 10 part
+    → line ≡ take 64 part
     → MatchOption answer ((h : Heading) (body : List ℕ) → ¬ (HasHeading s part h body)) (λ h. HasHeading s part h [])
 open_told s found part line None has told unbroken kept = λ h body there.
     let is : line_of (heading_words h) ≡ part = grind (arith, has_byte) in
@@ -417,7 +450,8 @@ open_told s found part line (Some h) has told unbroken kept =
     record { is_heading = told.0; first = inr (unbroken, cc (whole, told.1), refl) }
 
 pub ended_told : (s : Day) (found : Option ℕ) (part line text : List ℕ) (answer : Option Heading)
-    → MatchOption found (HasPins s) (HasSlots s) → IsLineText line text → IsTold s answer text → IsWithout 10 part
+    → MatchOption found (IsConverterDay s) (IsRotorDayWith s) → IsLineText line text → IsHeadingAnswer s answer text
+    → IsWithout 10 part
     → line ≡ take 64 part
     → MatchOption answer ((h : Heading) (body : List ℕ) → ¬ (HasHeading s (part ++ 10 ∷ []) h body))
     (λ h. IsHeading s h × IsLineText part (line_of (heading_words h)))
@@ -438,8 +472,8 @@ one_end : (s : Day) (count found : ℕ) (i j : Option Indicator) → count < 2 ^
     → (count ≡ found) × (i ≡ j)
 one_end (OfRotors s) count found (Some i) (Some j) small little has had same =
     let counts = one_number count found 32 _ _ small little (omega arith) same in
-    let starts = same_word i.start j.start _ _ counts.1 in
-    grind (arith, counts.0, starts.0, same_letters i.key j.key starts.1)
+    let starts = same_word i.ground j.ground _ _ counts.1 in
+    grind (arith, counts.0, starts.0, same_letters i.enciphered_key j.enciphered_key starts.1)
 one_end s count found None None small little has had same = (decimal_injective count found small little same, refl)
 one_end (OfRotors s) count found _ _ small little has had same = search
 one_end (OfPins s) count found _ _ small little has had same = search
@@ -460,7 +494,15 @@ one_heading s part h other body rest a b =
 -- the line of a heading begins with PART, a space and a digit
 pub words_begin : (s : Day) (h : Heading) (more : List ℕ) → IsHeading s h
     → BeginsHeading (line_of (heading_words h) ++ more)
-words_begin s h more is = grind (arith, are_small, decimal_nonempty, digits_decimal, figures, drop-cons, begins)
+words_begin s h more is = grind (
+  arith,
+  are_small,
+  decimal_nonempty,
+  digits_decimal,
+  IsNumeralModel-digits,
+  drop-cons,
+  BeginsHeading-digit,
+)
 
 line_front : (text line rest : List ℕ) → HasFirstLine text line rest → (more : List ℕ) × (text ≡ line ++ more)
 line_front text line rest e = grind (arith, append_assoc, append-nil)

@@ -1,6 +1,6 @@
 -- Prefixes of a list up to an item with a property, plain text, and the lines of an order's head.
 use Rattle.{std.specs.Cmp.Lexicographic.pointwise_decides, kd_state.specs.Machine.AreLetters}
-use Rattle.kd_form.specs.declared.pattern_line.Unread.TheVariants.{Open, Off}
+use Rattle.kd_form.specs.declared.pattern_line.Unread.TheVariants.{Incomplete, Mismatch}
 pub use Rattle.kd_form.proofs.Prelude.{err_is, ◌≡◌, ◌≢◌, ℕ, ◌+◌, ◌≤◌, ◌<◌, true, List, [], ◌∷◌, ◌++◌, refl, subst}
 pub use Rattle.kd_form.proofs.Prelude.{length-append, arith, take, ap, ◌∙◌, length, sym, codes, All, nat_le, IsTrue}
 pub use Rattle.kd_form.proofs.Prelude.{is_text_byte, list_all, nat_tests, take_all, length-take, AllPass-from_list_all}
@@ -9,26 +9,26 @@ pub use Rattle.kd_form.proofs.Prelude.{line_of, IsWithout, Option, option_to_lis
 pub use Rattle.kd_form.proofs.Prelude.{Rotor, Pin, key_words, common_steps, zero, suc, inl, inr, false, get_or, drop}
 pub use Rattle.kd_form.proofs.Prelude.{replicate, append_assoc, length-drop, ◌==◌, AllWithin, cases_Bool, get_or-take}
 pub use Rattle.kd_form.proofs.Prelude.{take-append-drop, length-replicate, length-take-le, append-nil, drop_more}
-pub use Rattle.kd_form.proofs.Prelude.{All-nil, All-replicate, All-take, All-drop, Unread, IsEnded, IsKeyLine}
-pub use Rattle.kd_form.proofs.Prelude.{filled_in, blanks, fits, letters_at, IsFilledLine, IsPatternLine, AreAppended}
-pub use Rattle.kd_form.proofs.Prelude.{BreaksOff, Result, Ok, Err, MatchResult, Day, OfRotors, OfPins, AreKeys}
-pub use Rattle.kd_form.proofs.Prelude.{places_for, rotor_pattern, key_pattern, key_letters, IsAnyKeyLine, FormFault}
-pub use Rattle.kd_form.proofs.Prelude.{Suits, IsKeysFault, IsFirstKeysFault, BeginsWithKeys, nil_from_length}
-pub use Rattle.kd_form.proofs.Prelude.{false≢true}
+pub use Rattle.kd_form.proofs.Prelude.{All-nil, All-replicate, All-take, All-drop, Unread, IsLineWithEnd, IsKeyLine}
+pub use Rattle.kd_form.proofs.Prelude.{filled_pattern, blank_count, fits_mark, letters_for_mark, IsFilledLine}
+pub use Rattle.kd_form.proofs.Prelude.{IsPatternLine, AreLettersAppended, IsUnread, Result, Ok, Err, MatchResult, Day}
+pub use Rattle.kd_form.proofs.Prelude.{OfRotors, OfPins, AreKeys, blank_places, rotor_pattern, key_pattern, key_letters}
+pub use Rattle.kd_form.proofs.Prelude.{IsAnyKeyLine, FormFault, KeysSuitDay, IsKeysFault, IsFirstKeysFault}
+pub use Rattle.kd_form.proofs.Prelude.{BeginsWithKeys, nil_from_length, false≢true}
 
 -- the list doesn't begin with an item that has the property
-abbrev pub IsOff : {X : Type 0} → (X → Type 0) → List X → Type 0
-IsOff P [] = Unit {0}
-IsOff P (x ∷ xs) = ¬ (P x)
+abbrev pub IsNotFirst : {X : Type 0} → (X → Type 0) → List X → Type 0
+IsNotFirst P [] = Unit {0}
+IsNotFirst P (x ∷ xs) = ¬ (P x)
 
 -- two prefixes of one list, up to the first item without the property, are the same
 pub same_front : {X : Type 0} (P : X → Type 0) (front other rest more : List X) → All P front → All P other
-    → IsOff P rest → IsOff P more → front ++ rest ≡ other ++ more → (front ≡ other) × (rest ≡ more)
+    → IsNotFirst P rest → IsNotFirst P more → front ++ rest ≡ other ++ more → (front ≡ other) × (rest ≡ more)
 same_front P [] [] rest more all alls off none same = (refl, same)
 same_front P [] (y ∷ other) rest more all alls off none same =
-    absurd (subst (IsOff P) same off (All-head P y other alls))
+    absurd (subst (IsNotFirst P) same off (All-head P y other alls))
 same_front P (x ∷ front) [] rest more all alls off none same =
-    absurd (subst (IsOff P) (sym same) none (All-head P x front all))
+    absurd (subst (IsNotFirst P) (sym same) none (All-head P x front all))
 same_front P (x ∷ front) (y ∷ other) rest more all alls off none same =
     let both = same_front P front other rest more (All-tail P x front all) (All-tail P y other alls) off none (cc) in
     (cc, both.1)
@@ -53,12 +53,12 @@ pub plain_keys : (k : Keys) → IsPlain (line_of (key_words k))
 plain_keys (Rotor k) = search (arith, plain_more, plain_letters, plain_text (codes "PART") refl)
 plain_keys (Pin k) = grind (arith, plain_more, plain_text, plain_letters)
 
-pub without : (byte : ℕ) (text : List ℕ) → byte < 32 → IsPlain text → IsWithout byte text
-without byte text low plain =
+pub IsWithout-plain : (byte : ℕ) (text : List ℕ) → byte < 32 → IsPlain text → IsWithout byte text
+IsWithout-plain byte text low plain =
     All-weaker (λ b. 32 ≤ b) (λ b. b ≢ byte) (λ b above same. omega (arith, above, same)) text plain
 
 pub head_unbroken : IsWithout 10 (codes "PART ")
-head_unbroken = without 10 (codes "PART ") (omega arith) (plain_text (codes "PART ") refl)
+head_unbroken = IsWithout-plain 10 (codes "PART ") (omega arith) (plain_text (codes "PART ") refl)
 
 -- a line is whole if fewer than `n` bytes of it were kept
 pub whole_line : (n : ℕ) (part line : List ℕ) → line ≡ take n part → length line < n → line ≡ part
@@ -78,31 +78,31 @@ pub ruleset comparing = (pointwise_decides)
 
 -- -------- lines of a pattern, mark by mark
 
-pub length-filled : (pattern letters : List ℕ) → length (filled_in pattern letters) ≡ length pattern
+pub length-filled : (pattern letters : List ℕ) → length (filled_pattern pattern letters) ≡ length pattern
 length-filled [] letters = refl
 length-filled (mark ∷ pattern) letters = grind (arith, length-filled pattern)
 
-line_more : (mark byte : ℕ) (pattern letters bytes : List ℕ) → fits mark byte ≡ true
+line_more : (mark byte : ℕ) (pattern letters bytes : List ℕ) → fits_mark mark byte ≡ true
     → IsFilledLine pattern letters bytes
-    → IsFilledLine (mark ∷ pattern) (letters_at mark byte ++ letters) (byte ∷ bytes)
+    → IsFilledLine (mark ∷ pattern) (letters_for_mark mark byte ++ letters) (byte ∷ bytes)
 line_more mark byte pattern letters bytes fit is = grind (arith, nat_tests, cases_Bool, All-cons)
 
 line_less : (mark byte : ℕ) (pattern letters bytes : List ℕ) → IsFilledLine (mark ∷ pattern) letters (byte ∷ bytes)
-    → (fits mark byte ≡ true) × IsPatternLine pattern bytes
+    → (fits_mark mark byte ≡ true) × IsPatternLine pattern bytes
 line_less mark byte pattern letters bytes is =
     grind (arith, nat_tests, cases_Bool (mark == 95), All-drop (λ l. l < 26) 1 letters)
 
-no_letters : AreLetters 0 []
-no_letters = record { count = refl; within = All-nil (λ l. l < 26) }
+AreLetters-nil : AreLetters 0 []
+AreLetters-nil = record { count = refl; within = All-nil (λ l. l < 26) }
 
 -- if the bytes have ended, they are a prefix of a line: the letter A fills each place left
-pub line_open : (pattern bytes : List ℕ) → length bytes ≡ 0 → BreaksOff (IsPatternLine pattern) bytes Open
+pub line_open : (pattern bytes : List ℕ) → length bytes ≡ 0 → IsUnread (IsPatternLine pattern) bytes Incomplete
 line_open pattern bytes none =
-    let others : List ℕ = replicate (blanks pattern) 0 in
-    let text : List ℕ = filled_in pattern others ++ 10 ∷ [] in
-    let are : AreLetters (blanks pattern) others = record {
-      count = length-replicate {A = ℕ} (blanks pattern) 0;
-      within = All-replicate (λ l. l < 26) (blanks pattern) 0 (omega arith);
+    let others : List ℕ = replicate (blank_count pattern) 0 in
+    let text : List ℕ = filled_pattern pattern others ++ 10 ∷ [] in
+    let are : AreLetters (blank_count pattern) others = record {
+      count = length-replicate {A = ℕ} (blank_count pattern) 0;
+      within = All-replicate (λ l. l < 26) (blank_count pattern) 0 (omega arith);
     } in
     rw (nil_from_length bytes none) (
       text,
@@ -112,76 +112,80 @@ line_open pattern bytes none =
 
 -- bytes with a byte that doesn't fit its mark begin no line
 pub line_off : (mark byte : ℕ) (marks rest pattern bytes : List ℕ) → pattern ≡ mark ∷ marks → bytes ≡ byte ∷ rest
-    → fits mark byte ≡ false → BreaksOff (IsPatternLine pattern) bytes Off
+    → fits_mark mark byte ≡ false → IsUnread (IsPatternLine pattern) bytes Mismatch
 line_off mark byte marks rest pattern bytes first next unfit = grind (arith, false≢true, line_less)
 
 -- if a byte fits its mark, the answer for the rest of the line is the answer for the whole line
 pub line_on : (mark byte : ℕ) (marks rest pattern bytes old now new : List ℕ) (answer : Result (Unit {0}) Unread)
-    → pattern ≡ mark ∷ marks → bytes ≡ byte ∷ rest → fits mark byte ≡ true → now ≡ old ++ letters_at mark byte
-    → MatchResult answer (λ _. AreAppended marks rest now new) (BreaksOff (IsPatternLine marks) rest)
-    → MatchResult answer (λ _. AreAppended pattern bytes old new) (BreaksOff (IsPatternLine pattern) bytes)
+    → pattern ≡ mark ∷ marks → bytes ≡ byte ∷ rest → fits_mark mark byte ≡ true
+    → now ≡ old ++ letters_for_mark mark byte
+    → MatchResult answer (λ _. AreLettersAppended marks rest now new) (IsUnread (IsPatternLine marks) rest)
+    → MatchResult answer (λ _. AreLettersAppended pattern bytes old new) (IsUnread (IsPatternLine pattern) bytes)
 line_on mark byte marks rest pattern bytes old now new (Ok done) first next fit put (more, line, is) =
     rw (first, next) (
-      letters_at mark byte ++ more,
+      letters_for_mark mark byte ++ more,
       line_more mark byte marks more rest fit line,
-      cc (put, is, append_assoc old (letters_at mark byte) more),
+      cc (put, is, append_assoc old (letters_for_mark mark byte) more),
     )
-line_on mark byte marks rest pattern bytes old now new (Err Open) first next fit put (more, some, (letters, line)) =
+line_on mark byte marks rest pattern bytes old now new (Err Incomplete) first next fit put
+    (more, some, (letters, line)) =
     rw (first, next) (
       more,
       some,
       (
-        letters_at mark byte ++ letters,
+        letters_for_mark mark byte ++ letters,
         line_more mark byte marks letters (rest ++ more) fit line,
       ),
     )
-line_on mark byte marks rest pattern bytes old now new (Err Off) first next fit put none =
+line_on mark byte marks rest pattern bytes old now new (Err Mismatch) first next fit put none =
     rw (first, next) (λ more line. none more (line_less mark byte marks line.0 (rest ++ more) line.1).1)
 
 -- at the end of the pattern, the answer says whether the bytes are a line end
 pub line_ends : (pattern bytes letters : List ℕ) (answer : Result (Unit {0}) Unread) → length pattern ≡ 0
-    → MatchResult answer (λ _. IsEnded [] bytes) (BreaksOff (IsEnded []) bytes)
-    → MatchResult answer (λ _. AreAppended pattern bytes letters letters) (BreaksOff (IsPatternLine pattern) bytes)
+    → MatchResult answer (λ _. IsLineWithEnd [] bytes) (IsUnread (IsLineWithEnd []) bytes)
+    → MatchResult answer (λ _. AreLettersAppended pattern bytes letters letters)
+    (IsUnread (IsPatternLine pattern) bytes)
 line_ends [] bytes letters (Ok done) none ended =
-    ([], record { are_letters = no_letters; ended = ended }, sym (append-nil letters))
-line_ends [] bytes letters (Err Open) none (more, some, ended) =
-    (more, some, ([], record { are_letters = no_letters; ended = ended }))
-line_ends [] bytes letters (Err Off) none off = λ more line. off more line.1.ended
+    ([], record { are_letters = AreLetters-nil; ended = ended }, sym (append-nil letters))
+line_ends [] bytes letters (Err Incomplete) none (more, some, ended) =
+    (more, some, ([], record { are_letters = AreLetters-nil; ended = ended }))
+line_ends [] bytes letters (Err Mismatch) none off = λ more line. off more line.1.ended
 line_ends (mark ∷ pattern) bytes letters answer none told = absurd (omega arith)
 
 -- no bytes, or CR alone, are a prefix of a line end
 pub end_open : (bytes : List ℕ) → length bytes < 2 → (1 ≤ length bytes → get_or bytes 0 0 ≡ 13)
-    → BreaksOff (IsEnded []) bytes Open
+    → IsUnread (IsLineWithEnd []) bytes Incomplete
 end_open [] few first = (10 ∷ [], (λ none. cc), inl refl)
 end_open (a ∷ bytes) few first = (10 ∷ [], (λ none. cc), inr (grind (arith, nil_from_length bytes)))
 
-pub end_off : (bytes more : List ℕ) → 3 ≤ length bytes → ¬ (IsEnded [] (bytes ++ more))
+pub end_off : (bytes more : List ℕ) → 3 ≤ length bytes → ¬ (IsLineWithEnd [] (bytes ++ more))
 end_off bytes more long ended = grind (arith, length-append {A = ℕ})
 
 -- -------- lines of keys, as forms with letters
 
-blanks-places : (n : ℕ) (other : List ℕ) → blanks (places_for n ++ other) ≡ n + blanks other
+blanks-places : (n : ℕ) (other : List ℕ) → blank_count (blank_places n ++ other) ≡ n + blank_count other
 blanks-places zero other = omega arith
 blanks-places (suc n) other = ap (λ m. m + 1) (blanks-places n other) ∙ omega arith
 
 filled_word : (n : ℕ) (letters other more : List ℕ) → length letters ≡ n
-    → filled_in (places_for n ++ other) (letters ++ more) ≡ letters_text letters ++ filled_in other more
+    → filled_pattern (blank_places n ++ other) (letters ++ more) ≡ letters_text letters ++ filled_pattern other more
 filled_word zero [] other more count = refl
 filled_word (suc n) (l ∷ letters) other more count =
     ap (λ text. (l + 65) ∷ text) (filled_word n letters other more (omega arith))
 filled_word _ _ other more count = absurd (omega arith)
 
 filled-places : (n : ℕ) (letters : List ℕ) → length letters ≡ n
-    → filled_in (places_for n) letters ≡ letters_text letters
+    → filled_pattern (blank_places n) letters ≡ letters_text letters
 filled-places n letters count = simp append-nil at (filled_word n letters [] [] count)
 
-pub key_line : (s : Day) (k : Keys) → AreKeys s k → filled_in (key_pattern s) (key_letters k) ≡ line_of (key_words k)
+pub key_line : (s : Day) (k : Keys) → AreKeys s k
+    → filled_pattern (key_pattern s) (key_letters k) ≡ line_of (key_words k)
 key_line (OfRotors s) (Rotor k) are = grind (arith, common_steps, filled_word, filled-places)
 key_line (OfPins s) (Pin k) are =
     ap (λ t. codes "PART " ++ (k.chosen + 65) ∷ 32 ∷ t) (filled-places 6 k.external are.external.count)
 key_line _ _ are = absurd are
 
-rotor_blanks : (slots : ℕ) → blanks (rotor_pattern slots) ≡ slots + (slots + (2 + 3))
+rotor_blanks : (slots : ℕ) → blank_count (rotor_pattern slots) ≡ slots + (slots + (2 + 3))
 rotor_blanks slots = grind (arith, blanks-places)
 
 letters_joined : {m n : ℕ} {one other : List ℕ} → AreLetters m one → AreLetters n other
@@ -194,14 +198,14 @@ letters_cut m n letters are = grind (arith, common_steps, length-take-le, length
 
 -- ---- any letters make keys
 
-keys_exist : (s : Day) (letters : List ℕ) → AreLetters (blanks (key_pattern s)) letters
+keys_exist : (s : Day) (letters : List ℕ) → AreLetters (blank_count (key_pattern s)) letters
     → (k : Keys) × AreKeys s k × (key_letters k ≡ letters)
 keys_exist (OfRotors s) letters are =
     let slots : ℕ = length s.wheels in
     let (start, others) = letters_cut slots (slots + (2 + 3)) letters (rw (rotor_blanks slots) at are) in
     let (key, last) = letters_cut slots (2 + 3) (drop slots letters) others in
     let (fillers, group) = letters_cut 2 3 (drop slots (drop slots letters)) last in
-    (Rotor _, record { start = start; key = key; fillers = fillers; group = group }, simp take-append-drop)
+    (Rotor _, record { ground = start; message_key = key; fillers = fillers; group = group }, simp take-append-drop)
 keys_exist (OfPins s) [] are = absurd (omega (arith, are.count))
 keys_exist (OfPins s) (l ∷ letters) are =
     (Pin (record { chosen = l; external = letters }), grind (arith, letters_cut 1 6 (l ∷ letters), All-head), refl)
@@ -212,19 +216,19 @@ as_key_line s line is = grind (arith, keys_exist s is.0 is.1.are_letters, key_li
 pub as_form_line : (s : Day) (line : List ℕ) → IsAnyKeyLine s line → IsPatternLine (key_pattern s) line
 as_form_line s line is = (key_letters is.keys, grind (arith, rotor_blanks, letters_joined, All-cons, key_line))
 
-pub keys_broken : (s : Day) (bytes : List ℕ) (why : Unread) → BreaksOff (IsPatternLine (key_pattern s)) bytes why
-    → BreaksOff (IsAnyKeyLine s) bytes why
-keys_broken s bytes Open (more, some, line) = (more, some, as_key_line s (bytes ++ more) line)
-keys_broken s bytes Off none = λ more line. none more (as_form_line s (bytes ++ more) line)
+pub keys_broken : (s : Day) (bytes : List ℕ) (why : Unread) → IsUnread (IsPatternLine (key_pattern s)) bytes why
+    → IsUnread (IsAnyKeyLine s) bytes why
+keys_broken s bytes Incomplete (more, some, line) = (more, some, as_key_line s (bytes ++ more) line)
+keys_broken s bytes Mismatch none = λ more line. none more (as_form_line s (bytes ++ more) line)
 
 pub keys_read : (s : Day) (bytes letters : List ℕ) (k : Keys) → IsFilledLine (key_pattern s) letters bytes
     → key_letters k ≡ letters → AreKeys s k → AreKeys s k × IsKeyLine k bytes
 keys_read s bytes letters k filled told are = grind (arith, key_line)
 
-pub unsuited : (s : Day) (keys : List Keys) (index : ℕ) (k : Keys) (fault : FormFault) → index < length keys
-    → get_or keys index k ≡ k → AllWithin (Suits s) keys 0 index → IsKeysFault s (index + 1) k fault
+pub is_first_keys_fault : (s : Day) (keys : List Keys) (index : ℕ) (k : Keys) (fault : FormFault) → index < length keys
+    → get_or keys index k ≡ k → AllWithin (KeysSuitDay s) keys 0 index → IsKeysFault s (index + 1) k fault
     → IsFirstKeysFault s keys fault
-unsuited s keys index k fault inside is before found =
+is_first_keys_fault s keys index k fault inside is before found =
     let size : length (take index keys) ≡ index = length-take-le index keys (omega arith) in
     record {
       before = take index keys;
@@ -238,12 +242,13 @@ unsuited s keys index k fault inside is before found =
 
 -- -------- lines of keys, and what follows them
 
-ended_tail : (text line : List ℕ) → IsEnded text line → (tail : List ℕ) × IsEnded [] tail × (line ≡ text ++ tail)
+ended_tail : (text line : List ℕ) → IsLineWithEnd text line → (tail : List ℕ) × IsLineWithEnd [] tail
+    × (line ≡ text ++ tail)
 ended_tail text line ended = grind arith
 
 -- bytes determine the line that they begin with, the line's text, and the bytes after it
-pub same_line : (text other line end rest more : List ℕ) → IsPlain text → IsPlain other → IsEnded text line
-    → IsEnded other end → line ++ rest ≡ end ++ more → (text ≡ other) × (line ≡ end) × (rest ≡ more)
+pub same_line : (text other line end rest more : List ℕ) → IsPlain text → IsPlain other → IsLineWithEnd text line
+    → IsLineWithEnd other end → line ++ rest ≡ end ++ more → (text ≡ other) × (line ≡ end) × (rest ≡ more)
 same_line text other line end rest more one two a b same =
     let (tail, ended, joined) = ended_tail text line a in
     let (close, ending, linked) = ended_tail other end b in
@@ -252,7 +257,7 @@ same_line text other line end rest more one two a b same =
 pub key_first : (k : Keys) (line more : List ℕ) → IsKeyLine k line → get_or (line ++ more) 0 0 ≡ 80
 key_first k line more ended = grind arith
 
-pub text_front : (last text : List ℕ) → IsEnded (codes "TEXT") last → get_or (last ++ text) 0 0 ≡ 84
+pub text_front : (last text : List ℕ) → IsLineWithEnd (codes "TEXT") last → get_or (last ++ text) 0 0 ≡ 84
 text_front last text ended = grind arith
 
 module _ {P : List ℕ → Type 0} (Q : List ℕ → Type 0) (s : Day) (more : List ℕ) where
@@ -264,5 +269,5 @@ module _ {P : List ℕ → Type 0} (Q : List ℕ → Type 0) (s : Day) (more : L
   lines_more (k ∷ keys) others bytes on (line, rest, are, is, later, joined) =
       grind (arith, append_assoc, lines_more keys others rest on later)
 
-pub text_line : (last : List ℕ) → IsEnded (codes "TEXT") last → IsPatternLine (codes "TEXT") last
-text_line last ended = ([], record { are_letters = no_letters; ended = ended })
+pub text_line : (last : List ℕ) → IsLineWithEnd (codes "TEXT") last → IsPatternLine (codes "TEXT") last
+text_line last ended = ([], record { are_letters = AreLetters-nil; ended = ended })

@@ -3,19 +3,21 @@ pub use Rattle.kd_form.proofs.Prelude.{common_steps, ◌≡◌, ◌∙◌, ℕ, 
 pub use Rattle.kd_form.proofs.Prelude.{slice_index, enumerate_from, get_or-eq_default, cases_lt, length-map, All-get_or}
 pub use Rattle.kd_form.proofs.Prelude.{All-from_get_or, All-map, Day, OfRotors, OfPins, cipher_from, ◌≢◌, suc, ◌+◌, ◌≤◌}
 pub use Rattle.kd_form.proofs.Prelude.{inl, inr, ◌++◌, map, refl, ap, subst, append_assoc, length-append, slice_get}
-pub use Rattle.kd_form.proofs.Prelude.{Some, Contains, cases_eq, append-nil, map_push, ComesFirst, ArePicked}
-pub use Rattle.kd_form.proofs.Prelude.{IsInternalKey, HaveRunOut, IsTakenInTurn, OnWheel, OffWheel, ◌-◌, ◌%◌, take}
-pub use Rattle.kd_form.proofs.Prelude.{drop, sym, length-drop, add-one, min, replicate, codes, decimal, Option}
+pub use Rattle.kd_form.proofs.Prelude.{Some, Contains, cases_eq, append-nil, map_push, PrecedesOrEquals, ArePicked}
+pub use Rattle.kd_form.proofs.Prelude.{IsInternalKey, HaveNoInternalKey, IsTakenInTurn, OnWheel, OffWheel, ◌-◌, ◌%◌}
+pub use Rattle.kd_form.proofs.Prelude.{take, drop, sym, length-drop, add-one, min, replicate, codes, decimal, Option}
 pub use Rattle.kd_form.proofs.Prelude.{option_map, div_ceil, join_with_byte, div-eq_of_lt, mod-eq_of_lt, take_min}
-pub use Rattle.kd_form.proofs.Prelude.{drop_min, length-replicate, Heading, fraction, indicator_words, heading_words}
-pub use Rattle.kd_form.proofs.Prelude.{pieces, behind_spaces, with_line, Part, pin_day, IsLegalDay, Keys, Rotor, Pin}
-pub use Rattle.kd_form.proofs.Prelude.{PinKeys, Indicator, Suits, rotor_letters, enciphered_choice, pin_letters}
-pub use Rattle.kd_form.proofs.Prelude.{list_letters, IsMade, part_size, pin_indicators, filled, sheet_key, IsWindow}
-pub use Rattle.kd_form.proofs.Prelude.{take-append_seam, drop-append_seam, HasIndicator, message_key}
-pub use Rattle.kd_form.proofs.Prelude.{HasIndicatorsAround, group_in, keys_in, list_in, text_in, SaysLetters, Ok}
+pub use Rattle.kd_form.proofs.Prelude.{drop_min, length-replicate, Heading, fraction_text, indicator_words}
+pub use Rattle.kd_form.proofs.Prelude.{heading_words, pieces, words_after_spaces, line_then, Part, pin_day, IsLegalDay}
+pub use Rattle.kd_form.proofs.Prelude.{Keys, Rotor, Pin, PinKeys, Indicator, KeysSuitDay, rotor_letters}
+pub use Rattle.kd_form.proofs.Prelude.{enciphered_choice, pin_letters, list_letters, IsPartMade, part_size}
+pub use Rattle.kd_form.proofs.Prelude.{pin_indicators, fill_last_group, sheet_key, IsWindow, take-append_seam}
+pub use Rattle.kd_form.proofs.Prelude.{drop-append_seam, HasIndicator, deciphered_key, HasIndicatorsAround}
+pub use Rattle.kd_form.proofs.Prelude.{group_of_body, keys_of_body, list_of_body, text_of_body, IsLettersAnswer, Ok}
 pub use Rattle.kd_form.proofs.Prelude.{All-append, All-cons, All-replicate, twice_on_key, IsFraction, IsHeading}
 pub use Rattle.kd_form.proofs.Prelude.{sent_letters, AreKeys, nat_tests, AreRising}
-use Rattle.{kd_enigma.specs.Cipher.{path, product}, kd_state.specs.TwoCiphers.{EngineKey, key_left, key_with_window}}
+use Rattle.{kd_enigma.specs.Cipher.{path, product}}
+use Rattle.{kd_state.specs.TwoCiphers.{EngineKey, engine_key_after, key_with_window}}
 use Rattle.{kd_form.specs.Making.IsTurnedFrom, kd_tables.specs.{Permutation.{alphabet, followed_by}, Rings.ring_of}}
 use Rattle.std.proofs.lemmas.List.FromFn.{get_or-range_with_len, length-enumerate_from, length-range_with_len}
 
@@ -58,11 +60,11 @@ pub own_when_turned : (s : Day) (key : EngineKey) (window : List ℕ) → IsTurn
 own_when_turned s key window turned = grind arith
 
 pub own_when_left : (s : Day) (key left : EngineKey) (window : List ℕ) (count : ℕ) → IsTurnedFrom s key
-    → left ≡ key_left (key_with_window key window) count → IsTurnedFrom s left
+    → left ≡ engine_key_after (key_with_window key window) count → IsTurnedFrom s left
 own_when_left (OfRotors s) key left window count (shown, is) left_is =
-    (_, left_is ∙ ap (λ k. key_left (key_with_window k window) count) is)
+    (_, left_is ∙ ap (λ k. engine_key_after (key_with_window k window) count) is)
 own_when_left (OfPins s) key left window count (shown, is) left_is =
-    (_, left_is ∙ ap (λ k. key_left (key_with_window k window) count) is)
+    (_, left_is ∙ ap (λ k. engine_key_after (key_with_window k window) count) is)
 
 -- -------- striking out letters finds the first rising places, letter by letter and wheel by wheel
 
@@ -75,15 +77,16 @@ Picks letters wheel start (place ∷ places) =
 
 pub record IsFirstPick (letters : List ℕ) (wheel start : ℕ) (places : List ℕ) : Type 0 where
   pub picks : Picks letters wheel start places
-  pub first : (others : List ℕ) → Picks letters wheel start others → ComesFirst places others
+  pub first : (others : List ℕ) → Picks letters wheel start others → PrecedesOrEquals places others
 
 abbrev pub HasNoPick : List ℕ → ℕ → ℕ → Type 0
 HasNoPick letters wheel start = (places : List ℕ) → ¬ (Picks letters wheel start places)
 
-earlier : (letters : List ℕ) (wheel start other : ℕ) (places : List ℕ) → other ≤ start
+Picks-earlier : (letters : List ℕ) (wheel start other : ℕ) (places : List ℕ) → other ≤ start
     → Picks letters wheel start places → Picks letters wheel other places
-earlier letters wheel start other [] less picks = picks
-earlier letters wheel start other (place ∷ places) less (after, inside, on, more) = (omega arith, inside, on, more)
+Picks-earlier letters wheel start other [] less picks = picks
+Picks-earlier letters wheel start other (place ∷ places) less
+    (after, inside, on, more) = (omega arith, inside, on, more)
 
 module _ (letters : List ℕ) (wheel start : ℕ) (inside : start < length letters) where
   -- if the letter at `start` is on the wheel, the first pick takes it
@@ -97,7 +100,7 @@ module _ (letters : List ℕ) (wheel start : ℕ) (inside : start < length lette
   none_on : wheel < 7 → HasNoPick letters (wheel + 1) (start + 1) → HasNoPick letters wheel start
   none_on less none [] picks = omega arith
   none_on less none (other ∷ others) (after, within, on, more) =
-      none others (earlier letters (wheel + 1) (other + 1) (start + 1) others (omega arith) more)
+      none others (Picks-earlier letters (wheel + 1) (other + 1) (start + 1) others (omega arith) more)
 
   -- if the letter at `start` isn't on the wheel, each pick begins later
   later : (places : List ℕ) → ¬ (Contains (ring_of wheel) (slice_index letters start))
@@ -148,7 +151,7 @@ picking_more letters start letter done next picking inside is (OffWheel off same
   few = picking.few;
   taken = picking.taken;
   made = λ more first. picking.made more (record {
-    picks = earlier letters _ (start + 1) start more (omega arith) first.picks;
+    picks = Picks-earlier letters _ (start + 1) start more (omega arith) first.picks;
     first = λ others picks. first.first others (later letters _ start inside others (rw is at off) picks);
   });
   spent =
@@ -157,13 +160,13 @@ picking_more letters start letter done next picking inside is (OffWheel off same
 
 -- ---- picks and rising places are the same
 
-on_wheels : (letters : List ℕ) (wheel start : ℕ) (places : List ℕ) → Picks letters wheel start places
+Picks-on_wheels : (letters : List ℕ) (wheel start : ℕ) (places : List ℕ) → Picks letters wheel start places
     → AreRising start (length letters) places × (length places + wheel ≡ 7)
     × ((i letter : ℕ) → slice_get (map (λ p. slice_index letters p) places) i ≡ Some letter
     → Contains (ring_of (wheel + i)) letter)
-on_wheels letters wheel start [] picks = (tt, omega arith, λ i letter is. absurd (cc))
-on_wheels letters wheel start (place ∷ places) (after, inside, on, more) =
-    grind (arith, on_wheels letters (wheel + 1) (place + 1) places more)
+Picks-on_wheels letters wheel start [] picks = (tt, omega arith, λ i letter is. absurd (cc))
+Picks-on_wheels letters wheel start (place ∷ places) (after, inside, on, more) =
+    grind (arith, Picks-on_wheels letters (wheel + 1) (place + 1) places more)
 
 picks_of : (letters : List ℕ) (wheel start : ℕ) (places : List ℕ) → AreRising start (length letters) places
     → length places + wheel ≡ 7 → ((i letter : ℕ) → slice_get (map (λ p. slice_index letters p) places) i ≡ Some letter
@@ -180,17 +183,17 @@ picks_from_picked letters places picked are = grind (arith, picks_of, length-map
 pub key_picked : (letters done : List ℕ) (start : ℕ) → IsPicking letters start done → length done ≡ 6
     → IsInternalKey letters done
 key_picked letters done start picking six =
-    grind (arith, picking.made [], append-nil, on_wheels, length-map, picks_from_picked)
+    grind (arith, picking.made [], append-nil, Picks-on_wheels, length-map, picks_from_picked)
 
 none_left : (letters : List ℕ) (wheel : ℕ) → wheel < 7 → HasNoPick letters wheel (length letters)
 none_left letters wheel less [] picks = omega arith
 none_left letters wheel less (place ∷ places) (after, inside, on, more) = omega arith
 
 pub run_out : (letters done : List ℕ) (start : ℕ) → IsPicking letters start done → length letters ≤ start
-    → length done ≢ 6 → HaveRunOut letters
+    → length done ≢ 6 → HaveNoInternalKey letters
 run_out letters done start picking end less places picked are =
     picking.spent (λ others picks. none_left letters _ (omega (arith, less, picking.few)) others
-    (earlier letters _ start (length letters) others end picks))
+    (Picks-earlier letters _ start (length letters) others end picks))
     places (picks_from_picked letters places picked are)
 
 -- -------- letters in groups and lines, piece by piece
@@ -209,7 +212,7 @@ pub pieces-none : (size : ℕ) → 0 < size → pieces size [] ≡ []
 pieces-none size large = rw (div-eq_of_lt large, mod-eq_of_lt large) refl
 
 pub line_of_groups : (group : List ℕ) (groups : List (List ℕ))
-    → join_with_byte 32 (group ∷ groups) ≡ group ++ behind_spaces groups
+    → join_with_byte 32 (group ∷ groups) ≡ group ++ words_after_spaces groups
 line_of_groups group [] = sym (append-nil group)
 line_of_groups group (next ∷ groups) = ap (λ text. group ++ 32 ∷ text) (line_of_groups next groups)
 
@@ -224,17 +227,17 @@ first_pieces size n letters front rest large some is one other =
 pub heading_line : (front whole : List ℕ) (h : Heading)
     → whole ≡ (((((((front ++ codes "PART ") ++ decimal h.part) ++ codes "/") ++ decimal h.parts) ++ codes " ")
     ++ decimal h.letters)
-    ++ behind_spaces (indicator_words h.indicator)) ++ codes "\n"
-    → whole ≡ front ++ with_line (heading_words h) []
+    ++ words_after_spaces (indicator_words h.indicator)) ++ codes "\n"
+    → whole ≡ front ++ line_then (heading_words h) []
 heading_line front whole h written = grind (arith, append_assoc {A = ℕ}, line_of_groups)
 
 -- keys that suit the day have an internal key
-pub has_internal : (s : Day) (k : PinKeys) → Suits s (Pin k)
+pub has_internal : (s : Day) (k : PinKeys) → KeysSuitDay s (Pin k)
     → (internal : List ℕ) × IsInternalKey (enciphered_choice s k) internal
 has_internal s k suits = grind arith
 
 -- the deciphered message key is a window
-pub key_is_window : (s : Day) (i : Indicator) (key : List ℕ) → HasIndicator s (Some i) → key ≡ message_key s i
+pub key_is_window : (s : Day) (i : Indicator) (key : List ℕ) → HasIndicator s (Some i) → key ≡ deciphered_key s i
     → All (λ l. l < 26) key → IsWindow (sheet_key s) key
 key_is_window s i key has is within = grind (arith, enciphered_length, length-map)
 
@@ -257,18 +260,18 @@ pub record GivesBack (s : Day) (part parts : ℕ) (text : List ℕ) (made : Part
   pub so_many : made.heading.parts ≡ parts
   pub within : All (λ letter. letter < 26) made.body
   pub counted : length made.body ≡ made.heading.letters
-  pub read : SaysLetters s part made.heading.indicator made.body (Ok text)
+  pub read : IsLettersAnswer s part made.heading.indicator made.body (Ok text)
 
 rotor_places : (fillers group text : List ℕ) → length fillers ≡ 2 → length group ≡ 3
-    → (group_in ((fillers ++ group) ++ text) ≡ group) × (drop 5 ((fillers ++ group) ++ text) ≡ text)
+    → (group_of_body ((fillers ++ group) ++ text) ≡ group) × (drop 5 ((fillers ++ group) ++ text) ≡ text)
 rotor_places (a ∷ b ∷ []) (c ∷ d ∷ e ∷ []) text two three = (refl, refl)
 rotor_places _ _ text two three = absurd (omega arith)
 
 record ArePlaced (k : PinKeys) (list text letters : List ℕ) : Type 0 where
   around : HasIndicatorsAround letters
-  keys : k ≡ keys_in letters
-  listed : list ≡ list_in letters
-  text_is : text ≡ text_in letters
+  keys : k ≡ keys_of_body letters
+  listed : list ≡ list_of_body letters
+  text_is : text ≡ text_of_body letters
 
 pin_places : (k : PinKeys) (external list text : List ℕ) → k.external ≡ external → length external ≡ 6 → length list ≡ 2
     → ArePlaced k list text (((k.chosen ∷ k.chosen ∷ k.external ++ list) ++ text)
@@ -292,39 +295,52 @@ pin_places k (a ∷ b ∷ c ∷ d ∷ e ∷ f ∷ []) (x ∷ y ∷ []) text is s
 pin_places k _ _ text is six two = absurd (omega arith)
 
 pub part_gives_back : (s : Day) (part parts : ℕ) (k : Keys) (piece : List ℕ) (made : Part) → IsLegalDay s → AreKeys s k
-    → Suits s k → IsFraction part parts → IsPiece s piece
-    → IsMade s part parts k piece made → GivesBack s part parts (sent_letters s piece) made
+    → KeysSuitDay s k → IsFraction part parts → IsPiece s piece
+    → IsPartMade s part parts k piece made → GivesBack s part parts (sent_letters s piece) made
 part_gives_back (OfRotors s) part parts (Rotor k) piece made legal are suits fraction is makes =
     let day : Day = OfRotors s in
-    let enciphered : List ℕ = cipher_from day k.key piece in
+    let enciphered : List ℕ = cipher_from day k.message_key piece in
     let count : length (rotor_letters day k piece) ≡ 5 + length piece =
-    omega (arith, length-append {A = ℕ}, enciphered_length day k.key piece, are.fillers.count, are.group.count) in
-    let key : cipher_from day k.start (cipher_from day k.start k.key) ≡ k.key =
-    twice_on_key day k.start k.key legal are.key.within in
-    let text : cipher_from day k.key enciphered ≡ piece = twice_on_key day k.key piece legal is.within in
+    omega (
+      arith,
+      length-append {A = ℕ},
+      enciphered_length day k.message_key piece,
+      are.fillers.count,
+      are.group.count,
+    ) in
+    let key : cipher_from day k.ground (cipher_from day k.ground k.message_key) ≡ k.message_key =
+    twice_on_key day k.ground k.message_key legal are.message_key.within in
+    let text : cipher_from day k.message_key enciphered
+    ≡ piece = twice_on_key day k.message_key piece legal is.within in
     let placed = rotor_places k.fillers k.group enciphered are.fillers.count are.group.count in
     rw makes (record {
-      is_heading = grind (arith, count, enciphered_length day k.start k.key, enciphered_letters day k.start k.key);
+      is_heading = grind (
+        arith,
+        count,
+        enciphered_length day k.ground k.message_key,
+        enciphered_letters day k.ground
+            k.message_key,
+      );
       numbered = refl;
       so_many = refl;
-      within = grind (arith, All-append (λ letter. letter < 26), are, enciphered_letters day k.key piece);
+      within = grind (arith, All-append (λ letter. letter < 26), are, enciphered_letters day k.message_key piece);
       counted = refl;
       read = inr (rw (placed.0) suits, grind (arith, placed, key, text));
     })
 part_gives_back (OfPins s) part parts (Pin k) piece made legal are suits fraction is (internal, first, makes) =
     let day : Day = OfPins s in
     let indicators : List ℕ = pin_indicators day k in
-    let enciphered : List ℕ = cipher_from day internal (filled piece) in
+    let enciphered : List ℕ = cipher_from day internal (fill_last_group piece) in
     let more : ℕ = (5 - length piece % 5) % 5 in
-    let groups : length (filled piece) ≡ length piece + more =
+    let groups : length (fill_last_group piece) ≡ length piece + more =
     omega (arith, length-append piece (replicate more 23), length-replicate {A = ℕ} more 23) in
-    let count : length (pin_letters day k internal piece) ≡ 20 + length (filled piece) =
+    let count : length (pin_letters day k internal piece) ≡ 20 + length (fill_last_group piece) =
     omega (
       arith,
       length-append (indicators ++ enciphered) indicators,
       length-append indicators enciphered,
       legal.list.count,
-      enciphered_length day internal (filled piece),
+      enciphered_length day internal (fill_last_group piece),
       length-append k.external (list_letters day),
       are.external.count,
     ) in
@@ -332,7 +348,7 @@ part_gives_back (OfPins s) part parts (Pin k) piece made legal are suits fractio
     All-cons (λ letter. letter < 26) k.chosen (k.chosen ∷ k.external ++ list_letters day) are.chosen
     (All-cons (λ letter. letter < 26) k.chosen (k.external ++ list_letters day) are.chosen
     (All-append (λ letter. letter < 26) k.external (list_letters day) are.external.within legal.list.within)) in
-    let inner : All (λ letter. letter < 26) (filled piece) =
+    let inner : All (λ letter. letter < 26) (fill_last_group piece) =
     All-append (λ letter. letter < 26) piece (replicate more 23) is.within
     (All-replicate (λ letter. letter < 26) more 23 (omega arith)) in
     rw makes (record {
@@ -341,15 +357,15 @@ part_gives_back (OfPins s) part parts (Pin k) piece made legal are suits fractio
       so_many = refl;
       within = All-append (λ letter. letter < 26) (indicators ++ enciphered) indicators
           (All-append (λ letter. letter < 26) indicators enciphered outer
-          (enciphered_letters day internal (filled piece))) outer;
+          (enciphered_letters day internal (fill_last_group piece))) outer;
       counted = refl;
       read =
           let placed = pin_places k k.external (list_letters day) enciphered refl are.external.count legal.list.count in
-          let on_wheels = subst (λ (x : PinKeys). IsWindow (sheet_key day) x.external) placed.keys suits.0 in
+          let Picks-on_wheels = subst (λ (x : PinKeys). IsWindow (sheet_key day) x.external) placed.keys suits.0 in
           let best = subst (λ (x : PinKeys). IsInternalKey (enciphered_choice day x) internal) placed.keys first in
           let is =
-          sym (twice_on_key day internal (filled piece) legal inner)
+          sym (twice_on_key day internal (fill_last_group piece) legal inner)
           ∙ ap (cipher_from day internal) placed.text_is in
-          inr (placed.around, inr (on_wheels, inr (sym placed.listed, inr (internal, best, ap Ok is))));
+          inr (placed.around, inr (Picks-on_wheels, inr (sym placed.listed, inr (internal, best, ap Ok is))));
     })
 part_gives_back _ part parts _ piece made legal are suits fraction is makes = absurd suits

@@ -2,76 +2,84 @@
 pub use Rattle.kd_form.proofs.Prelude.{err_is, append-nil, ◌≡◌, ℕ, ◌+◌, ◌-◌, inl, inr, List, [], ◌∷◌, ◌++◌, length}
 pub use Rattle.kd_form.proofs.Prelude.{Result, Ok, Err, refl, sym, ap, subst, ◌∙◌, append_assoc, arith, All, IsTrue}
 pub use Rattle.kd_form.proofs.Prelude.{Option, Some, None, is_text_byte, Day, FormFault, BadByte, BadHeading, PartOrder}
-pub use Rattle.kd_form.proofs.Prelude.{Heading, Indicator, enciphered_choice, letters_from, IsBadAt, keys_in, Answer}
-pub use Rattle.kd_form.proofs.Prelude.{IsCaught, IsJudged, IsSought, SaysBody, SaysLetters, HasHeading, IsExpected}
-pub use Rattle.kd_form.proofs.Prelude.{IsPartRead, IsPartFault, InHeading, InNumber, InBody, BeginsHeading, IsAt}
-pub use Rattle.kd_form.proofs.Prelude.{OfRest, Place, at_first, place_behind, ReadsTo, IsComplete, StandsAt, EndsAt}
-pub use Rattle.kd_form.proofs.Prelude.{AtPart, cut, parts_of, IsTextOf, NoHeading, IsReceiveFault, false, length-append}
-pub use Rattle.kd_form.proofs.Prelude.{Port, Fail, Parts, IsEarlyFault, form_message, IsKeyFault, orders, Answers}
-pub use Rattle.kd_form.proofs.Prelude.{AreWell, is_device, is_off_key, texts, IsWithout, FormsBecomeOneText}
-pub use Rattle.kd_form.proofs.Prelude.{FormsHaveOneFault, FormsStayRefused, ReceivedFormsHaveNoFault, given_text}
-pub use Rattle.kd_form.proofs.Prelude.{false≢true}
-use Rattle.kd_form.proofs.OneOrder.{only_this, only_either, only_found, only_judged, only_caught, one_internal_key}
-use Rattle.kd_form.proofs.OneOrder.{one_bad_byte, no_bad_byte, IsOnly}
+pub use Rattle.kd_form.proofs.Prelude.{Heading, Indicator, enciphered_choice, letters_from, IsFirstBadByteAt}
+pub use Rattle.kd_form.proofs.Prelude.{keys_of_body, Answer, UnlessFoundThen, DemandsThen, FindsOrFaultThen}
+pub use Rattle.kd_form.proofs.Prelude.{IsBodyAnswer, IsLettersAnswer, HasHeading, IsExpectedCount, IsPartRead}
+pub use Rattle.kd_form.proofs.Prelude.{IsPartFault, InHeading, InNumber, InBody, BeginsHeading, IsAtPartStart}
+pub use Rattle.kd_form.proofs.Prelude.{PartsProperty, PartStart, first_part_start, next_part_start, ReadsPartsTo}
+pub use Rattle.kd_form.proofs.Prelude.{AreAllPartsRead, IsPartFaultForGood, IsPartFaultAtEnd, AtPart, cut_at_headings}
+pub use Rattle.kd_form.proofs.Prelude.{parts_of, IsTextOf, NoHeading, IsReceiveFault, false, length-append, Port}
+pub use Rattle.kd_form.proofs.Prelude.{FailureAgrees, Parts, IsEarlyFault, form_message, IsKeyFault, order_message}
+pub use Rattle.kd_form.proofs.Prelude.{IsStreamAnswer, HaveNotFailed, is_device, is_off_key, text_message, IsWithout}
+pub use Rattle.kd_form.proofs.Prelude.{FormsBecomeOneText, FormsHaveOneFault, FormsStayRefused}
+pub use Rattle.kd_form.proofs.Prelude.{ReceivedFormsHaveNoFault, plaintext_with_end, false≢true}
+use Rattle.kd_form.proofs.OneOrder.{HasOneAnswer-equal, HasOneAnswer-either, HasOneAnswer-FindsThen}
+use Rattle.kd_form.proofs.OneOrder.{HasOneAnswer-DemandsThen, HasOneAnswer-UnlessFoundThen, one_internal_key}
+use Rattle.kd_form.proofs.OneOrder.{one_bad_byte, no_bad_byte, HasOneAnswer}
 use Rattle.kd_form.proofs.Headings.{one_heading, begins_there, begins_more, first_there, ended_heading, heading_there}
-use Rattle.kd_form.proofs.Headings.{IsAlike, alike, as_parts, first_done, single}
+use Rattle.kd_form.proofs.Headings.{IsAlike, cut_at_headings-IsAlike, as_parts, first_done, cut_at_headings-whole}
 
 -- -------- a part of a form has one text, or one fault
 
-only_sought : {X V : Type 0} {Has : X → Type 0} {none : Type 0} {refusal : V} {Later : X → V → Type 0}
+HasOneAnswer-FindsOrFaultThen : {X V : Type 0} {Has : X → Type 0} {none : Type 0} {refusal : V} {Later : X → V → Type 0}
     → ((x y : X) → Has x → Has y → x ≡ y)
-    → (none → (x : X) → ¬ (Has x)) → ((x : X) → IsOnly (Later x)) → IsOnly (IsSought Has none refusal Later)
-only_sought one apart laters =
-    only_either (λ v w a b. a.1 ∙ sym b.1) (only_found one laters) (λ v w a b. apart a.0 b.0 b.1)
+    → (none → (x : X) → ¬ (Has x)) → ((x : X) → HasOneAnswer (Later x))
+    → HasOneAnswer (FindsOrFaultThen Has none refusal Later)
+HasOneAnswer-FindsOrFaultThen one apart laters =
+    HasOneAnswer-either (λ v w a b. a.1 ∙ sym b.1) (HasOneAnswer-FindsThen one laters) (λ v w a b. apart a.0 b.0 b.1)
 
-only_letters : (s : Day) (part : ℕ) (i : Option Indicator) (letters : List ℕ) → IsOnly (SaysLetters s part i letters)
-only_letters s part (Some i) letters = only_judged only_this
-only_letters s part None letters =
-    only_judged (only_judged (only_judged (only_sought (one_internal_key (enciphered_choice s (keys_in letters)))
-    (λ spent internal is. spent is.places internal is.picked) (λ internal. only_this))))
+HasOneAnswer-letters : (s : Day) (part : ℕ) (i : Option Indicator) (letters : List ℕ)
+    → HasOneAnswer (IsLettersAnswer s part i letters)
+HasOneAnswer-letters s part (Some i) letters = HasOneAnswer-DemandsThen HasOneAnswer-equal
+HasOneAnswer-letters s part None letters =
+    HasOneAnswer-DemandsThen (HasOneAnswer-DemandsThen
+    (HasOneAnswer-DemandsThen (HasOneAnswer-FindsOrFaultThen
+    (one_internal_key (enciphered_choice s (keys_of_body letters)))
+    (λ spent internal is. spent is.places internal is.picked) (λ internal. HasOneAnswer-equal))))
 
 -- -------- parts that are read
 
 module _ (s : Day) where
-  pub reads_as : (A B : OfRest) → ((p : Place) (parts : List (List ℕ)) → A p parts → B p parts)
-      → (p : Place) (parts : List (List ℕ)) (letters : List ℕ)
-      → ReadsTo s A p parts letters → ReadsTo s B p parts letters
+  pub reads_as : (A B : PartsProperty) → ((p : PartStart) (parts : List (List ℕ)) → A p parts → B p parts)
+      → (p : PartStart) (parts : List (List ℕ)) (letters : List ℕ)
+      → ReadsPartsTo s A p parts letters → ReadsPartsTo s B p parts letters
   reads_as A B to p [] letters (held, none) = (to p [] held, none)
   reads_as A B to p (part ∷ parts) letters (inl (held, none)) = inl (to p (part ∷ parts) held, none)
   reads_as A B to p (part ∷ parts) letters (inr (count, one, more, is, due, rest, joined)) =
-      inr (count, one, more, is, due, reads_as A B to (place_behind p count part) parts more rest, joined)
+      inr (count, one, more, is, due, reads_as A B to (next_part_start p count part) parts more rest, joined)
 
   -- parts read up to a place, and more parts read from there, are read together
-  pub reads_then : (q : Place) (B : OfRest) (p : Place) (parts others : List (List ℕ)) (letters more : List ℕ)
-      → ReadsTo s (IsAt q) p parts letters → ReadsTo s B q others more
-      → ReadsTo s B p (parts ++ others) (letters ++ more)
+  pub reads_then : (q : PartStart) (B : PartsProperty) (p : PartStart) (parts others : List (List ℕ))
+      (letters more : List ℕ)
+      → ReadsPartsTo s (IsAtPartStart q) p parts letters → ReadsPartsTo s B q others more
+      → ReadsPartsTo s B p (parts ++ others) (letters ++ more)
   reads_then q B p [] others letters more ((there, none), nil) rest =
-      rw nil (subst (λ x. ReadsTo s B x others more) (sym there) rest)
+      rw nil (subst (λ x. ReadsPartsTo s B x others more) (sym there) rest)
   reads_then q B p (part ∷ parts) others letters more (inl ((there, none), nil)) rest = absurd (cc)
   reads_then q B p (part ∷ parts) others letters more (inr (count, one, left, is, due, reads, joined)) rest =
-      grind (arith, reads_then q B (place_behind p count part) parts others left more reads rest, append_assoc)
+      grind (arith, reads_then q B (next_part_start p count part) parts others left more reads rest, append_assoc)
 
   -- from a rest with `A`, no part can be read on the way to a rest with `B`
-  abbrev pub NeverPasses : OfRest → OfRest → Type 0
+  abbrev pub NeverPasses : PartsProperty → PartsProperty → Type 0
   NeverPasses A B =
-      (p : Place) (part : List ℕ) (parts : List (List ℕ)) (count : ℕ) (one more : List ℕ) → A p (part ∷ parts)
+      (p : PartStart) (part : List ℕ) (parts : List (List ℕ)) (count : ℕ) (one more : List ℕ) → A p (part ∷ parts)
       → IsPartRead s p.number count part one
-      → IsExpected p.expected count → ¬ (ReadsTo s B (place_behind p count part) parts more)
+      → IsExpectedCount p.expected count → ¬ (ReadsPartsTo s B (next_part_start p count part) parts more)
 
   -- all parts are read, and are too few or give the text; or a part is refused
-  abbrev pub AnswersAt : Result (Unit {0}) FormFault → OfRest
+  abbrev pub AnswersAt : Result (Unit {0}) FormFault → PartsProperty
   AnswersAt v p [] =
-      (count : ℕ) × (p.expected ≡ Some count) × IsJudged (p.number ≡ count + 1) (Err PartOrder) (λ w. w ≡ Ok tt) v
+      (count : ℕ) × (p.expected ≡ Some count) × DemandsThen (p.number ≡ count + 1) (Err PartOrder) (λ w. w ≡ Ok tt) v
   AnswersAt v p (part ∷ parts) =
-      (fault : FormFault) × IsPartFault s p.number p.expected p.start part fault × (v ≡ Err fault)
+      (fault : FormFault) × IsPartFault s p.number p.expected p.bytes_before part fault × (v ≡ Err fault)
 
-  pub stands_at : (fault : FormFault) (p : Place) (parts : List (List ℕ)) → StandsAt s fault p parts
+  pub stands_at : (fault : FormFault) (p : PartStart) (parts : List (List ℕ)) → IsPartFaultForGood s fault p parts
       → AnswersAt (Err fault) p parts
   stands_at fault p [] none = absurd none
   stands_at fault p (part ∷ []) (ended, early) = (fault, inl early, refl)
   stands_at fault p (part ∷ next ∷ others) refused = (fault, refused, refl)
 
-  pub ends_at : (fault : FormFault) (p : Place) (parts : List (List ℕ)) → EndsAt s fault p parts
+  pub ends_at : (fault : FormFault) (p : PartStart) (parts : List (List ℕ)) → IsPartFaultAtEnd s fault p parts
       → AnswersAt (Err fault) p parts
   ends_at fault p [] (is, count, due, few) = (count, due, inl (λ all. omega (arith, all, few), ap Err is))
   ends_at fault p (part ∷ []) refused = (fault, refused, refl)
@@ -82,20 +90,21 @@ module _ (s : Day) where
 module _ (s : Day) where
   abbrev IsPartAnswer : ℕ → Option ℕ → ℕ → List ℕ → Answer → Type 0
   IsPartAnswer number expected start part =
-      IsSought (λ (x : Heading × List ℕ). HasHeading s part x.0 x.1)
+      FindsOrFaultThen (λ (x : Heading × List ℕ). HasHeading s part x.0 x.1)
       ((h : Heading) (body : List ℕ) → ¬ (HasHeading s part h body)) (Err (BadHeading number))
-      (λ x. IsJudged ((x.0.part ≡ number) × IsExpected expected x.0.parts) (Err PartOrder)
-      (IsCaught (IsBadAt x.1) (λ place. Err (BadByte (start + (length part - length x.1) + place + 1)))
+      (λ x. DemandsThen ((x.0.part ≡ number) × IsExpectedCount expected x.0.parts) (Err PartOrder)
+      (UnlessFoundThen (IsFirstBadByteAt x.1) (λ place. Err (BadByte (start + (length part - length x.1) + place + 1)))
       (All (λ b. IsTrue (is_text_byte b)) x.1)
-      (SaysBody s number x.0 (letters_from None x.1))))
+      (IsBodyAnswer s number x.0 (letters_from None x.1))))
 
   only_part : (number : ℕ) (expected : Option ℕ) (start : ℕ) (part : List ℕ)
-      → IsOnly (IsPartAnswer number expected start part)
+      → HasOneAnswer (IsPartAnswer number expected start part)
   only_part number expected start part =
-      only_sought (λ x y a b. let same = one_heading s part x.0 y.0 x.1 y.1 a b in λ i. (same.0 i, same.1 i))
+      HasOneAnswer-FindsOrFaultThen (λ x y a b. let same = one_heading s part x.0 y.0 x.1 y.1 a b in λ i.
+      (same.0 i, same.1 i))
       (λ none x has. none x.0 x.1 has)
-      (λ x. only_judged (only_caught (one_bad_byte x.1) (no_bad_byte x.1)
-      (only_judged (only_letters s number x.0.indicator (letters_from None x.1)))))
+      (λ x. HasOneAnswer-DemandsThen (HasOneAnswer-UnlessFoundThen (one_bad_byte x.1) (no_bad_byte x.1)
+      (HasOneAnswer-DemandsThen (HasOneAnswer-letters s number x.0.indicator (letters_from None x.1)))))
 
   part_fault : {number : ℕ} {expected : Option ℕ} {start : ℕ} {part : List ℕ} {fault : FormFault}
       → IsPartFault s number expected start part fault → IsPartAnswer number expected start part (Err fault)
@@ -106,7 +115,7 @@ module _ (s : Day) where
   part_fault (inr a) = inr ((a.heading, a.body), a.has, inr ((a.numbered, a.due), inr (a.allowed, a.found)))
 
   part_read : {number parts : ℕ} {part text : List ℕ} → (expected : Option ℕ) (start : ℕ)
-      → IsPartRead s number parts part text → IsExpected expected parts
+      → IsPartRead s number parts part text → IsExpectedCount expected parts
       → IsPartAnswer number expected start part (Ok text)
   part_read expected start a due = inr ((a.heading, a.body), a.has, grind arith)
 
@@ -122,10 +131,10 @@ module _ (s : Day) where
   -- -------- a form becomes one text, or has one fault
 
   -- parts that are read up to `A` and up to `B` are read up to the same rest
-  pub reads_meet : (A B : OfRest) (R : Type 0) → NeverPasses s A B → NeverPasses s B A
-      → ((p : Place) (parts : List (List ℕ)) → A p parts → B p parts → R)
-      → (p : Place) (parts : List (List ℕ)) (letters more : List ℕ) → ReadsTo s A p parts letters
-      → ReadsTo s B p parts more → (letters ≡ more) × R
+  pub reads_meet : (A B : PartsProperty) (R : Type 0) → NeverPasses s A B → NeverPasses s B A
+      → ((p : PartStart) (parts : List (List ℕ)) → A p parts → B p parts → R)
+      → (p : PartStart) (parts : List (List ℕ)) (letters more : List ℕ) → ReadsPartsTo s A p parts letters
+      → ReadsPartsTo s B p parts more → (letters ≡ more) × R
   reads_meet A B R over under at p [] letters more (a, none) (b, nil) = (none ∙ sym nil, at p [] a b)
   reads_meet A B R over under at p (part ∷ parts) letters more (inl (a, none)) (inl (b, nil)) =
       (none ∙ sym nil, at p (part ∷ parts) a b)
@@ -138,8 +147,8 @@ module _ (s : Day) where
   reads_meet A B R over under at p (part ∷ parts) letters more (inr (count, one, left, is, due, rest, joined))
       (inr (other, two, gone, also, duo, beyond, linked)) =
       let same = one_text is also in
-      let both = reads_meet A B R over under at (place_behind p count part) parts left gone rest
-      (subst (λ n. ReadsTo s B (place_behind p n part) parts gone) (sym same.0) beyond) in
+      let both = reads_meet A B R over under at (next_part_start p count part) parts left gone rest
+      (subst (λ n. ReadsPartsTo s B (next_part_start p n part) parts gone) (sym same.0) beyond) in
       (cc (joined, linked, same.1, both.0), both.1)
 
   -- ---- one answer
@@ -147,7 +156,7 @@ module _ (s : Day) where
   -- a part that is read isn't refused
   pub read_or_refused : {number : ℕ} {expected : Option ℕ} {start count : ℕ} {part one : List ℕ} {fault : FormFault}
       → IsPartFault s number expected start part fault
-      → IsPartRead s number count part one → ¬ (IsExpected expected count)
+      → IsPartRead s number count part one → ¬ (IsExpectedCount expected count)
   read_or_refused {number} {expected} {start} {part = part} {one = one} {fault = fault} refused is due =
       let clash : Ok one ≡ Err fault =
       only_part number expected start part (Ok one) (Err fault) (part_read expected start is due)
@@ -156,46 +165,47 @@ module _ (s : Day) where
   pub never_passes : (v w : Result (Unit {0}) FormFault) → NeverPasses s (AnswersAt s v) (AnswersAt s w)
   never_passes v w p part parts count one more (fault, refused, answer) is due rest = read_or_refused refused is due
 
-  one_at : (v w : Result (Unit {0}) FormFault) (p : Place) (parts : List (List ℕ)) → AnswersAt s v p parts
+  one_at : (v w : Result (Unit {0}) FormFault) (p : PartStart) (parts : List (List ℕ)) → AnswersAt s v p parts
       → AnswersAt s w p parts → v ≡ w
   one_at v w p [] (count, is, answer) (other, also, answers) = grind arith
   one_at v w p (part ∷ parts) (fault, refused, answer) (found, also, answers) =
       let both : Err fault ≡ Err found =
-      only_part p.number p.expected p.start part (Err fault) (Err found) (part_fault refused)
+      only_part p.number p.expected p.bytes_before part (Err fault) (Err found) (part_fault refused)
       (part_fault also) in cc
 
   module _ (form : List ℕ) where
     -- the answer to a form, after parts with these letters
     abbrev pub IsFormAnswer : Result (Unit {0}) FormFault → List ℕ → Type 0
-    IsFormAnswer v letters = ReadsTo s (AnswersAt s v) at_first (parts_of form) letters
+    IsFormAnswer v letters = ReadsPartsTo s (AnswersAt s v) first_part_start (parts_of form) letters
 
     pub only_form : (v w : Result (Unit {0}) FormFault) (letters more : List ℕ) → IsFormAnswer v letters
         → IsFormAnswer w more → (letters ≡ more) × (v ≡ w)
     only_form v w =
-        reads_meet (AnswersAt s v) (AnswersAt s w) (v ≡ w) (never_passes v w) (never_passes w v) (one_at v w) at_first
+        reads_meet (AnswersAt s v) (AnswersAt s w) (v ≡ w) (never_passes v w) (never_passes w v) (one_at v w)
+        first_part_start
         (parts_of form)
 
     pub text_answer : (text : List ℕ) (is : IsTextOf s form text) → IsFormAnswer (Ok tt) is.letters
     text_answer text is =
-        reads_as s IsComplete (AnswersAt s (Ok tt)) (λ p parts is. grind (arith, is)) at_first
+        reads_as s AreAllPartsRead (AnswersAt s (Ok tt)) (λ p parts is. grind (arith, is)) first_part_start
         (parts_of form) is.letters is.read
 
     pub fault_answer : (fault : FormFault) → IsReceiveFault s form fault
         → (letters : List ℕ) × IsFormAnswer (Err fault) letters
     fault_answer fault (text, inl (NoHeading none empty is)) =
         let (rest, joined) = first_there form in
-        let unheaded = λ (h : Heading) (body : List ℕ) (has : HasHeading s (cut form).0 h body).
+        let unheaded = λ (h : Heading) (body : List ℕ) (has : HasHeading s (cut_at_headings form).0 h body).
         none [] (subst BeginsHeading (sym joined ∙ sym (append-nil form))
-        (begins_more (cut form).0 rest (begins_there s (cut form).0 h body has))) in
+        (begins_more (cut_at_headings form).0 rest (begins_there s (cut_at_headings form).0 h body has))) in
         ([], inl ((fault, inl (InHeading unheaded is), refl), refl))
     fault_answer fault (text, inl (AtPart (letters, reads, is))) = (
       letters,
-      reads_as s (StandsAt s fault) (AnswersAt s (Err fault)) (stands_at s fault) at_first
+      reads_as s (IsPartFaultForGood s fault) (AnswersAt s (Err fault)) (stands_at s fault) first_part_start
           (parts_of form) letters reads,
     )
     fault_answer fault (text, inr (letters, reads, is)) = (
       letters,
-      reads_as s (EndsAt s fault) (AnswersAt s (Err fault)) (ends_at s fault) at_first
+      reads_as s (IsPartFaultAtEnd s fault) (AnswersAt s (Err fault)) (ends_at s fault) first_part_start
           (parts_of form) letters reads,
     )
 
@@ -203,7 +213,7 @@ pub forms_become_one_text : FormsBecomeOneText
 forms_become_one_text s form text other a b =
     let same =
     only_form s form (Ok tt) (Ok tt) a.letters b.letters (text_answer s form text a) (text_answer s form other b) in
-    a.is ∙ ap (given_text s) same.0 ∙ sym b.is
+    a.is ∙ ap (plaintext_with_end s) same.0 ∙ sym b.is
 
 pub forms_have_one_fault : FormsHaveOneFault
 forms_have_one_fault s form fault other a b =
@@ -219,11 +229,11 @@ received_forms_have_no_fault s form text fault a b =
 -- -------- answers whose reason is a device or the machine
 
 -- a device failed exactly if the answer says so, and the machine isn't the reason for the answer
-abbrev pub IsToldOf : Port → Port → Result (Unit {0}) FormFault → Type 0
-IsToldOf source sink answer = Fail source sink (is_device answer) × (is_off_key answer ≡ false)
+abbrev pub IsDeviceAnswer : Port → Port → Result (Unit {0}) FormFault → Type 0
+IsDeviceAnswer source sink answer = FailureAgrees source sink (is_device answer) × (is_off_key answer ≡ false)
 
 pub order_told : (s : Day) (source sink : Port) (read text : List ℕ) (answer : Result (Unit {0}) FormFault)
-    → Answers (orders s) source sink read text answer → IsToldOf source sink answer
+    → IsStreamAnswer (order_message s) source sink read text answer → IsDeviceAnswer source sink answer
 order_told s source sink read text answer answers = grind arith
 
 abbrev IsOfForms : FormFault → Type 0
@@ -234,27 +244,27 @@ refused_told s form fault found =
     let (letters, reads) = fault_answer s form fault found in
     (reads_meet s (AnswersAt s (Err fault)) (AnswersAt s (Err fault)) (IsOfForms fault)
     (never_passes s (Err fault) (Err fault))
-    (never_passes s (Err fault) (Err fault)) (λ p parts at also. grind arith) at_first
+    (never_passes s (Err fault) (Err fault)) (λ p parts at also. grind arith) first_part_start
     (parts_of form) letters letters reads reads).1
 
 pub form_told : (s : Day) (source sink : Port) (read text : List ℕ) (answer : Result (Unit {0}) FormFault)
-    → Answers (form_message s) source sink read text answer → IsToldOf source sink answer
+    → IsStreamAnswer (form_message s) source sink read text answer → IsDeviceAnswer source sink answer
 form_told s source sink read text answer answers = grind (arith, refused_told s read)
 
 pub text_told : (enciphers : List ℕ → List ℕ) (source sink : Port) (read text : List ℕ)
     (answer : Result (Unit {0}) FormFault)
-    → Answers (texts enciphers) source sink read text answer → IsToldOf source sink answer
+    → IsStreamAnswer (text_message enciphers) source sink read text answer → IsDeviceAnswer source sink answer
 text_told enciphers source sink read text answer answers = grind arith
 
 pub off_key : (m : Parts) (s : Day) (source sink : Port) (fault : FormFault) → IsKeyFault m s fault
-    → AreWell source sink → Fail source sink (is_device (Err fault))
+    → HaveNotFailed source sink → FailureAgrees source sink (is_device (Err fault))
 off_key m s source sink fault off well = grind arith
 
 -- -------- what refuses a form for good
 
 -- an early fault depends only on the heading line, and on the first byte of the body that isn't allowed
 early_as_well : (s : Day) (number : ℕ) (expected : Option ℕ) (start : ℕ) (line body other : List ℕ) (fault : FormFault)
-    → IsWithout 10 line → ((place : ℕ) → IsBadAt body place → IsBadAt other place)
+    → IsWithout 10 line → ((place : ℕ) → IsFirstBadByteAt body place → IsFirstBadByteAt other place)
     → IsEarlyFault s number expected start (line ++ 10 ∷ body) fault
     → IsEarlyFault s number expected start (line ++ 10 ∷ other) fault
 early_as_well s number expected start line body other fault unbroken bad (InHeading none is) = InHeading (λ h rest has.
@@ -269,47 +279,53 @@ early_as_well s number expected start line body other fault unbroken bad (InBody
     (grind (arith, there.1, bad)) (grind (arith, there.1, length-append line))
 
 -- a fault that stands at a part also stands with more bytes
-stands_on : (s : Day) (fault : FormFault) (more : List ℕ) → (p : Place) (rest : List ℕ)
-    → StandsAt s fault p (parts_of rest) → StandsAt s fault p (parts_of (rest ++ more))
-stands_on s fault more p rest stands = split (cut rest).1 refl stands where
+stands_on : (s : Day) (fault : FormFault) (more : List ℕ) → (p : PartStart) (rest : List ℕ)
+    → IsPartFaultForGood s fault p (parts_of rest) → IsPartFaultForGood s fault p (parts_of (rest ++ more))
+stands_on s fault more p rest stands = split (cut_at_headings rest).1 refl stands where
   first_stands : (first line other : List ℕ) (others : List (List ℕ)) → first ≡ line ++ 10 ∷ other → IsWithout 10 line
-      → IsEarlyFault s p.number p.expected p.start first fault → StandsAt s fault p (first ∷ others)
+      → IsEarlyFault s p.number p.expected p.bytes_before first fault → IsPartFaultForGood s fault p (first ∷ others)
   first_stands first line other [] is without early = ((line, other, record { joined = is; without = without }), early)
   first_stands first line other (next ∷ others) is without early = inl early
 
-  split : (others : List (List ℕ)) → (cut rest).1 ≡ others → StandsAt s fault p ((cut rest).0 ∷ others)
-      → StandsAt s fault p (parts_of (rest ++ more))
+  split : (others : List (List ℕ)) → (cut_at_headings rest).1 ≡ others
+      → IsPartFaultForGood s fault p ((cut_at_headings rest).0 ∷ others)
+      → IsPartFaultForGood s fault p (parts_of (rest ++ more))
   split [] none ((line, body, broken), early) =
-      let whole : rest ≡ line ++ 10 ∷ body = sym (single rest none) ∙ broken.joined in
-      let like : IsAlike (cut (rest ++ more)).0 line body =
-      rw whole (alike line body more broken.without (rw whole at none)) in
-      first_stands (cut (rest ++ more)).0 line like.other (cut (rest ++ more)).1 like.is broken.without
-      (rw like.is (early_as_well s p.number p.expected p.start line body like.other fault broken.without like.bad
+      let whole : rest ≡ line ++ 10 ∷ body = sym (cut_at_headings-whole rest none) ∙ broken.joined in
+      let like : IsAlike (cut_at_headings (rest ++ more)).0 line body =
+      rw whole (cut_at_headings-IsAlike line body more broken.without (rw whole at none)) in
+      first_stands (cut_at_headings (rest ++ more)).0 line like.other (cut_at_headings (rest ++ more)).1 like.is
+      broken.without
+      (rw like.is (early_as_well s p.number p.expected p.bytes_before line body like.other fault broken.without like.bad
       (rw broken.joined at early)))
   split (next ∷ others) some refused =
       let done = first_done rest (λ none. cc) in
-      subst (λ (c : List ℕ × List (List ℕ)). StandsAt s fault p (c.0 ∷ c.1)) (sym (done.grows more)) refused
+      subst (λ (c : List ℕ × List (List ℕ)). IsPartFaultForGood s fault p (c.0 ∷ c.1)) (sym (done.grows more)) refused
 
 -- a fault that stands at a later part also stands with more bytes
-reads_on : (s : Day) (fault : FormFault) (more : List ℕ) (p : Place) (parts : List (List ℕ)) (form letters : List ℕ)
-    → parts_of form ≡ parts → ReadsTo s (StandsAt s fault) p parts letters
-    → ReadsTo s (StandsAt s fault) p (parts_of (form ++ more)) letters
-reads_on s fault more p [] form letters same reads = absurd reads.0
-reads_on s fault more p (part ∷ parts) form letters same (inl (stands, nil)) =
-    inl (stands_on s fault more p form (subst (StandsAt s fault p) (sym same) stands), nil)
-reads_on s fault more p (part ∷ []) form letters same (inr (count, one, left, is, due, reads, joined)) = absurd reads.0
-reads_on s fault more p (part ∷ next ∷ parts) form letters same (inr (count, one, left, is, due, reads, joined)) =
-    let others : (cut form).1 ≡ next ∷ parts = cc in
+ReadsPartsTo-append : (s : Day) (fault : FormFault) (more : List ℕ) (p : PartStart) (parts : List (List ℕ))
+    (form letters : List ℕ)
+    → parts_of form ≡ parts → ReadsPartsTo s (IsPartFaultForGood s fault) p parts letters
+    → ReadsPartsTo s (IsPartFaultForGood s fault) p (parts_of (form ++ more)) letters
+ReadsPartsTo-append s fault more p [] form letters same reads = absurd reads.0
+ReadsPartsTo-append s fault more p (part ∷ parts) form letters same (inl (stands, nil)) =
+    inl (stands_on s fault more p form (subst (IsPartFaultForGood s fault p) (sym same) stands), nil)
+ReadsPartsTo-append s fault more p (part ∷ []) form letters same
+    (inr (count, one, left, is, due, reads, joined)) = absurd reads.0
+ReadsPartsTo-append s fault more p (part ∷ next ∷ parts) form letters same
+    (inr (count, one, left, is, due, reads, joined)) =
+    let others : (cut_at_headings form).1 ≡ next ∷ parts = cc in
     let done = first_done form (λ nil. cc) in
     let rest =
-    reads_on s fault more (place_behind p count part) (next ∷ parts) done.rest left
+    ReadsPartsTo-append s fault more (next_part_start p count part) (next ∷ parts) done.rest left
     (sym done.others ∙ others) reads in
-    let first : (cut form).0 ≡ part = cc in
+    let first : (cut_at_headings form).0 ≡ part = cc in
     let same : parts_of (form ++ more) ≡ part ∷ parts_of (done.rest ++ more) =
     as_parts (form ++ more) _ _ (done.grows more) ∙ ap (λ one. one ∷ parts_of (done.rest ++ more)) first in
-    subst (λ ps. ReadsTo s (StandsAt s fault) p ps letters) (sym same) (inr (count, one, left, is, due, rest, joined))
+    subst (λ ps. ReadsPartsTo s (IsPartFaultForGood s fault) p ps letters) (sym same)
+    (inr (count, one, left, is, due, rest, joined))
 
 pub stays_refused : FormsStayRefused
 stays_refused s form more text fault (NoHeading none empty is) = grind (arith, NoHeading, append_assoc, none, empty)
 stays_refused s form more text fault (AtPart (letters, reads, is)) =
-    AtPart (letters, reads_on s fault more at_first (parts_of form) form letters refl reads, is)
+    AtPart (letters, ReadsPartsTo-append s fault more first_part_start (parts_of form) form letters refl reads, is)

@@ -3,26 +3,29 @@ pub use Rattle.kd_form.proofs.Prelude.{append-nil, length-take, [], ◌≡◌, �
 pub use Rattle.kd_form.proofs.Prelude.{inr, List, ◌∷◌, ◌++◌, Some, length, take, drop, refl, sym, ap, ◌∙◌, append_assoc}
 pub use Rattle.kd_form.proofs.Prelude.{length-append, length-drop, arith, get_or, Option, Result, Ok, Err, IsTrue}
 pub use Rattle.kd_form.proofs.Prelude.{slice_get, codes, All, MatchResult, div_ceil, take_all, drop_all, drop-take}
-pub use Rattle.kd_form.proofs.Prelude.{drop-drop, take-take, take_more, length-take-le, Day, Keys, pieces, IsMadeText}
-pub use Rattle.kd_form.proofs.Prelude.{part_size, Suits, parts_needed, AreMadeTexts, letters_from, text_letters}
-pub use Rattle.kd_form.proofs.Prelude.{IsFirstKeysFault, StandsInOrder, InHead, InKeys, InText, NoLetter, InParts}
-pub use Rattle.kd_form.proofs.Prelude.{CanBeWritten, IsSentBefore, orders, AreTaken, IsHeadRead, IsHeadLine, IsTextRead}
-pub use Rattle.kd_form.proofs.Prelude.{IsLastTaken, IsFresh, IsOpen, IsOrderRead, IsStageRead, All-nil, Unread, AreKeys}
-pub use Rattle.kd_form.proofs.Prelude.{IsPatternLine, BreaksOff, key_pattern, key_words, line_of, IsEnded, IsKeyLine}
-pub use Rattle.kd_form.proofs.Prelude.{BeginsWithKeys, IsAnyHead, IsHead, IsOrder, IsHeadFault, is_text_byte, FormFault}
-pub use Rattle.kd_form.proofs.Prelude.{IsRefused, Closes, Held, IsAnyKeyLine, common_steps, BadByte, Cut, blank_of}
+pub use Rattle.kd_form.proofs.Prelude.{drop-drop, take-take, take_more, length-take-le, Day, Keys, pieces}
+pub use Rattle.kd_form.proofs.Prelude.{IsPartTextMade, part_size, KeysSuitDay, parts_needed, ArePartTextsMade}
+pub use Rattle.kd_form.proofs.Prelude.{letters_from, text_letters, IsFirstKeysFault, IsOrderFaultForGood, InHead}
+pub use Rattle.kd_form.proofs.Prelude.{InKeys, InText, NoLetter, InParts, IsWritableCount, IsSentBefore, order_message}
+pub use Rattle.kd_form.proofs.Prelude.{AreLettersTaken, IsHeadBegun, IsHeadLine, IsTextRead, IsTextEndAnswer}
+pub use Rattle.kd_form.proofs.Prelude.{IsFreshWriter, IsOpen, IsOrderRead, IsStageRead, All-nil, Unread, AreKeys}
+pub use Rattle.kd_form.proofs.Prelude.{IsPatternLine, IsUnread, key_pattern, key_words, line_of, IsLineWithEnd}
+pub use Rattle.kd_form.proofs.Prelude.{IsKeyLine, BeginsWithKeys, IsAnyOrderHead, IsOrderHead, IsOrder}
+pub use Rattle.kd_form.proofs.Prelude.{IsOrderHeadFault, is_text_byte, FormFault, IsRefused, IsMessageAnswer}
+pub use Rattle.kd_form.proofs.Prelude.{HasReadSoFar, IsAnyKeyLine, common_steps, BadByte, HeadCutShort, blank_of}
 pub use Rattle.kd_form.proofs.Prelude.{All-push, filter_map-append, ◌-◌, cases_lt, drop_at, le_of_mul-le-mul_left}
 pub use Rattle.kd_form.proofs.Prelude.{take_at}
 use Rattle.std.proofs.lemmas.{Grind.div_ceil_times, Option.slice_get_within, Option.get_or_from_slice_get}
 use Rattle.kd_form.specs.declared.{order_reader.parts.PartWriter.PartWriter, order_reader.head.HeadReader.HeadReader}
-use Rattle.kd_form.specs.declared.{order_reader.OrderReader.OrderReader, order_reader.Stage.Stage}
+use Rattle.kd_form.specs.declared.{order_reader.OrderReader.OrderReader, order_reader.OrderStage.OrderStage}
 pub use Rattle.kd_form.proofs.MadeParts.{pieces-next, pieces-none, size_some}
 use Rattle.kd_form.proofs.Lines.{length-filled, as_form_line, key_first, lines_more, same_line, text_front, text_line}
 use Rattle.kd_form.proofs.Lines.{IsPlain, letters_first, plain_keys, plain_text}
-pub use Rattle.kd_form.proofs.OneOrder.{Shorter, Longer, all_of_the_day, fronts, no_head_fault, no_keys_fault}
-pub use Rattle.kd_form.proofs.OneOrder.{nothing_stands, nothing_stands_yet, one_order, bad_longer, bad_behind, behind}
+pub use Rattle.kd_form.proofs.OneOrder.{Shorter, Longer, all_of_the_day, prefixes, no_head_fault, no_keys_fault}
+pub use Rattle.kd_form.proofs.OneOrder.{nothing_stands, nothing_stands_yet, one_order, bad_longer, bad_behind}
+pub use Rattle.kd_form.proofs.OneOrder.{BeginsWithKeys-append}
 use Rattle.kd_form.specs.declared.pattern_line.Unread.TheVariants as unread
-use Rattle.kd_form.specs.declared.order_reader.Stage.TheVariants as stages
+use Rattle.kd_form.specs.declared.order_reader.OrderStage.TheVariants as stages
 use Rattle.kd_form.specs.SendStream as stream
 
 -- -------- the parts of an order, letter by letter
@@ -36,14 +39,14 @@ pieces_more size (suc k) letters large some few =
     grind (arith, rest, pieces-next, take-take, drop-take, drop-drop, length-drop, length-take)
 
 made_more : (s : Day) (part parts : ℕ) (keys : List Keys) (k : Keys) (texts : List (List ℕ)) (piece bytes one : List ℕ)
-    → AreMadeTexts s part parts keys texts bytes → IsMadeText s (part + length keys) parts k piece one
-    → AreMadeTexts s part parts (keys ++ k ∷ []) (texts ++ piece ∷ []) (bytes ++ one)
+    → ArePartTextsMade s part parts keys texts bytes → IsPartTextMade s (part + length keys) parts k piece one
+    → ArePartTextsMade s part parts (keys ++ k ∷ []) (texts ++ piece ∷ []) (bytes ++ one)
 made_more s part parts [] k [] piece bytes one made is = grind (arith, append-nil one)
 made_more s part parts (first ∷ keys) k (text ∷ texts) piece bytes one (begun, others, is_first, made, joined) is =
     grind (arith, made_more s (part + 1) parts keys k texts piece others one made, append_assoc)
 made_more s part parts _ k _ piece bytes one made is = absurd made
 
-last_number : (size parts letters written : ℕ) → 0 < size → 0 < letters → CanBeWritten size parts letters written
+last_number : (size parts letters written : ℕ) → 0 < size → 0 < letters → IsWritableCount size parts letters written
     → div_ceil letters size ≡ parts
     → (written + 1 ≡ parts) × (size * written < letters) × (letters ≤ size * written + size)
 last_number size zero letters written large some can needed = grind (arith, div_ceil_times)
@@ -53,11 +56,11 @@ last_number size (suc other) letters written large some can needed =
     grind (arith, ap (λ n. size * n) same)
 
 module _ (s : Day) (keys : List Keys) (w : PartWriter) (k : Keys) (letters sent one : List ℕ)
-    (is : AreTaken s keys w letters sent) (found : slice_get keys w.written ≡ Some k)
-    (made : IsMadeText s (w.written + 1) (length keys) k w.letters.items one) where
+    (is : AreLettersTaken s keys w letters sent) (found : slice_get keys w.written ≡ Some k)
+    (made : IsPartTextMade s (w.written + 1) (length keys) k w.letters.items one) where
   -- the kept letters become the next part
   pub part_more : part_size s * w.written < length letters → length letters ≤ part_size s * w.written + part_size s
-      → AreMadeTexts s 1 (length keys) (take (w.written + 1) keys) (pieces (part_size s) letters) (sent ++ one)
+      → ArePartTextsMade s 1 (length keys) (take (w.written + 1) keys) (pieces (part_size s) letters) (sent ++ one)
   part_more some few =
       let inside : w.written < length keys = slice_get_within keys w.written k found in
       let own : w.letters.items ≡ drop (part_size s * w.written) letters = grind (arith, take_all, length-drop) in
@@ -67,7 +70,7 @@ module _ (s : Day) (keys : List Keys) (w : PartWriter) (k : Keys) (letters sent 
   -- at the end, the kept letters become the last part
   pub last_written : w.count ≢ 0 → div_ceil w.count (part_size s) ≡ length keys
       → (letters ≢ []) × (parts_needed s (length letters) ≡ length keys)
-      × AreMadeTexts s 1 (length keys) keys (pieces (part_size s) letters) (sent ++ one)
+      × ArePartTextsMade s 1 (length keys) keys (pieces (part_size s) letters) (sent ++ one)
   last_written counted needed =
       let last = last_number (part_size s) (length keys) (length letters) w.written (size_some s) in
       grind (arith, last, part_more, take_all)
@@ -77,21 +80,21 @@ module _ (s : Day) (keys : List Keys) (w : PartWriter) (k : Keys) (letters sent 
 module _ (s : Day) (count : ℕ) where
   -- the first byte tells whether a line is a line of keys
   pub next_keys : (line : List ℕ) (why : Unread) → get_or line 0 0 ≡ 80 → count < 99
-      → BreaksOff (IsAnyKeyLine s) line why → BreaksOff (IsHeadLine s count) line why
-  next_keys line unread.Open first room (more, some, key) = (more, some, inl (key, room))
-  next_keys [] unread.Off first room off = absurd (omega (arith, first))
-  next_keys (byte ∷ line) unread.Off first room off = grind (arith, off, text_front)
+      → IsUnread (IsAnyKeyLine s) line why → IsUnread (IsHeadLine s count) line why
+  next_keys line unread.Incomplete first room (more, some, key) = (more, some, inl (key, room))
+  next_keys [] unread.Mismatch first room off = absurd (omega (arith, first))
+  next_keys (byte ∷ line) unread.Mismatch first room off = grind (arith, off, text_front)
 
   pub next_text : (line : List ℕ) (why : Unread) → (get_or line 0 0 ≡ 80 → 99 ≤ count)
-      → BreaksOff (IsPatternLine (codes "TEXT")) line why → BreaksOff (IsHeadLine s count) line why
-  next_text line unread.Open full (more, some, (letters, text)) = (more, some, inr text.ended)
-  next_text [] unread.Off full off = absurd (off (codes "TEXT\n") (text_line (codes "TEXT\n") (inl refl)))
-  next_text (byte ∷ line) unread.Off full off = λ more next. elim next [
+      → IsUnread (IsPatternLine (codes "TEXT")) line why → IsUnread (IsHeadLine s count) line why
+  next_text line unread.Incomplete full (more, some, (letters, text)) = (more, some, inr text.ended)
+  next_text [] unread.Mismatch full off = absurd (off (codes "TEXT\n") (text_line (codes "TEXT\n") (inl refl)))
+  next_text (byte ∷ line) unread.Mismatch full off = λ more next. elim next [
     | inl key ↦ omega (arith, key.1, full (key_first key.0.keys (byte ∷ line ++ more) [] key.0.keyed))
     | inr text ↦ off more (text_line (byte ∷ line ++ more) text)
   ]
 
-  next_plain : (line : List ℕ) → IsHeadLine s count line → (text : List ℕ) × IsPlain text × IsEnded text line
+  next_plain : (line : List ℕ) → IsHeadLine s count line → (text : List ℕ) × IsPlain text × IsLineWithEnd text line
   next_plain line (inl key) = (line_of (key_words key.0.keys), plain_keys key.0.keys, key.0.keyed)
   next_plain line (inr text) = (codes "TEXT", plain_text (codes "TEXT") refl, text)
 
@@ -104,10 +107,10 @@ module _ (s : Day) (count : ℕ) where
 
   -- if bytes begin a line of a head, but don't with one more byte, no such line is a prefix of what they
   -- begin
-  pub no_next : (line other one left : List ℕ) (byte : ℕ) → BreaksOff (IsHeadLine s count) line unread.Open
-      → BreaksOff (IsHeadLine s count) (line ++ byte ∷ []) unread.Off → IsHeadLine s count one
+  pub no_next : (line other one left : List ℕ) (byte : ℕ) → IsUnread (IsHeadLine s count) line unread.Incomplete
+      → IsUnread (IsHeadLine s count) (line ++ byte ∷ []) unread.Mismatch → IsHeadLine s count one
       → ¬ (line ++ byte ∷ other ≡ one ++ left)
-  no_next line other one left byte (more, some, next) off is same = elim (fronts line (byte ∷ other) one left same) [
+  no_next line other one left byte (more, some, next) off is same = elim (prefixes line (byte ∷ other) one left same) [
     | Shorter [] longer left ↦ some (next_whole one more is (rw (longer, append-nil line) next))
     | Shorter (x ∷ beyond) longer left ↦ off beyond (let first : byte ≡ x = cc in rw (append_assoc, first, ← longer) is)
     | Longer x beyond longer left ↦
@@ -118,16 +121,16 @@ module _ (s : Day) (count : ℕ) where
 
 -- what is left of a head begins with a line of a head
 pub head_next : (s : Day) (count : ℕ) (keys : List Keys) (bytes : List ℕ) → count + length keys ≤ 99
-    → BeginsWithKeys s keys (IsEnded (codes "TEXT")) bytes
+    → BeginsWithKeys s keys (IsLineWithEnd (codes "TEXT")) bytes
     → (line rest : List ℕ) × IsHeadLine s count line × (bytes ≡ line ++ rest)
 head_next s count [] bytes few ended = (bytes, [], inr ended, sym (append-nil bytes))
 head_next s count (k ∷ keys) bytes few (line, rest, are, is, later, joined) = grind arith
 
-module _ (s : Day) (keys : List Keys) (line order : List ℕ) (is : IsHeadRead s keys line order) where
+module _ (s : Day) (keys : List Keys) (line order : List ℕ) (is : IsHeadBegun s keys line order) where
   pub line_short : length (key_pattern s) ≤ 21 → length line < 25
   line_short few = grind (arith, common_steps, as_form_line, length-filled, length-append {A = ℕ})
 
-  pub text_head : (more : List ℕ) → IsEnded (codes "TEXT") (line ++ more) → IsHead s keys (order ++ more)
+  pub text_head : (more : List ℕ) → IsLineWithEnd (codes "TEXT") (line ++ more) → IsOrderHead s keys (order ++ more)
   text_head more ended = grind (arith, append-nil keys, lines_more)
 
   -- an order that begins with lines of keys and then with one more begins with all of them
@@ -135,22 +138,22 @@ module _ (s : Day) (keys : List Keys) (line order : List ℕ) (is : IsHeadRead s
       → BeginsWithKeys s (keys ++ k ∷ []) Q (order ++ (more ++ end))
   one_more Q k more end are keyed holds = grind (arith, lines_more, append_assoc)
 
-  pub goes_on : BreaksOff (IsAnyHead s) order unread.Open
+  pub goes_on : IsUnread (IsAnyOrderHead s) order unread.Incomplete
   goes_on = let (more, some, next) = is.begins in elim next [
     | inl (key, room) ↦
         let text : List ℕ = codes "TEXT\n" in
-        let lines = one_more (IsEnded (codes "TEXT")) key.keys more text key.of_the_day key.keyed (inl refl) in
+        let lines = one_more (IsLineWithEnd (codes "TEXT")) key.keys more text key.of_the_day key.keyed (inl refl) in
         let few : length (keys ++ key.keys ∷ []) ≤ 99 = omega (arith, length-append keys (key.keys ∷ [])) in
         (more ++ text, grind (arith, length-append more), (keys ++ key.keys ∷ [], record { lines = lines; few = few }))
     | inr text ↦ (more, some, (keys, text_head more text))
   ]
 
-  pub head_cut : IsHeadFault s order (length order + 1)
+  pub head_cut : IsOrderHeadFault s order (length order + 1)
   head_cut = grind (arith, append-nil, goes_on)
 
   -- a byte with which the line can go on leaves the head open
-  pub head_open : (byte : ℕ) → BreaksOff (IsHeadLine s (length keys)) (line ++ byte ∷ []) unread.Open
-      → IsHeadRead s keys (line ++ byte ∷ []) (order ++ byte ∷ [])
+  pub head_open : (byte : ℕ) → IsUnread (IsHeadLine s (length keys)) (line ++ byte ∷ []) unread.Incomplete
+      → IsHeadBegun s keys (line ++ byte ∷ []) (order ++ byte ∷ [])
   head_open byte begins = grind (arith, append-nil keys, lines_more)
 
 -- -------- the faults that the reader of an order has found, and what is sent by then
@@ -164,8 +167,8 @@ module _ (s : Day) where
       → IsOrder s (order ++ more) keys head (text ++ more)
   is_longer more is = grind (arith, append_assoc {A = ℕ})
 
-  pub fault_longer : {order : List ℕ} {position : ℕ} (more : List ℕ) → IsHeadFault s order position
-      → position ≤ length order → IsHeadFault s (order ++ more) position
+  pub fault_longer : {order : List ℕ} {position : ℕ} (more : List ℕ) → IsOrderHeadFault s order position
+      → position ≤ length order → IsOrderHeadFault s (order ++ more) position
   fault_longer {order} {position} more fault inside = record {
     before = fault.before;
     rest = fault.rest ++ more;
@@ -178,16 +181,16 @@ module _ (s : Day) where
         fault.stops byte (drop 1 fault.rest) beyond (grind arith);
   }
 
-  pub stands_longer : (order more : List ℕ) (fault : FormFault) → StandsInOrder s order fault
-      → StandsInOrder s (order ++ more) fault
+  pub stands_longer : (order more : List ℕ) (fault : FormFault) → IsOrderFaultForGood s order fault
+      → IsOrderFaultForGood s (order ++ more) fault
   stands_longer order more fault (InHead p h few e) =
       InHead p (fault_longer more h few) (omega (arith, few, length-append order more)) e
   stands_longer order more fault (InKeys ks hd t o k) = InKeys ks hd (t ++ more) (is_longer more o) k
   stands_longer order more fault (InText ks hd t n o su b e) =
       InText ks hd (t ++ more) n (is_longer more o) su (bad_longer t more n b) e
 
-  pub order_refused : (order sent : List ℕ) (fault : FormFault) → StandsInOrder s order fault
-      → ((more : List ℕ) → IsSentBefore s (order ++ more) sent) → IsRefused (orders s) order sent fault
+  pub order_refused : (order sent : List ℕ) (fault : FormFault) → IsOrderFaultForGood s order fault
+      → ((more : List ℕ) → IsSentBefore s (order ++ more) sent) → IsRefused (order_message s) order sent fault
   order_refused order sent fault stands written = record {
     stands = λ more. stands_longer order more fault stands;
     refused = λ more. inl (stands_longer order more fault stands);
@@ -199,15 +202,16 @@ module _ (s : Day) where
   text_sent : (keys : List Keys) (w : PartWriter) (order sent : List ℕ) → IsTextRead s keys w order sent
       → IsSentBefore s order sent
   text_sent keys w order sent text =
-      stream.InText keys text.head text.text text.text w.written text.sendable.is_order text.sendable.suited
+      stream.TextBegun keys text.head text.text text.text w.written text.sendable.is_order text.sendable.suited
       (grind (arith, append-nil {A = ℕ})) text.taken.written text.taken.made
 
-  open_yet : (stage : Stage) (h : HeadReader) (w : PartWriter) (order sent : List ℕ)
-      → IsStageRead s stage h w order sent → IsOpen (orders s) order sent
+  open_yet : (stage : OrderStage) (h : HeadReader) (w : PartWriter) (order sent : List ℕ)
+      → IsStageRead s stage h w order sent → IsOpen (order_message s) order sent
   open_yet stages.Head h w order sent (head, nothing, fresh) =
       let cut = head_cut s h.keys.items h.line.items order head in record {
         unrefused = λ fault. nothing_stands_yet s order fault cut;
-        written = stream.NotYet (λ keys front text is suited. no_head_fault s order keys front text _ is cut) nothing;
+        written = stream.NothingSent (λ keys front text is suited. no_head_fault s order keys front text _ is cut)
+            nothing;
       }
   open_yet stages.Text h w order sent text = record {
     unrefused = λ fault. nothing_stands s order _ text.head text.text fault text.sendable;
@@ -215,17 +219,19 @@ module _ (s : Day) where
   }
 
   pub order_held : (r : OrderReader) (order sent : List ℕ) → IsOrderRead s r order sent
-      → Held (orders s) (IsOrderRead s r) order sent
+      → HasReadSoFar (order_message s) (IsOrderRead s r) order sent
   order_held r order sent is = record { is = is; open_yet = open_yet r.stage r.head r.parts order sent is.stage }
 
   -- ---- in the text
 
   -- after a complete head, the reader holds the order if the keys suit, and refuses it otherwise
   pub text_begins : (r : OrderReader) (order text sent : List ℕ) (answer : Result (Unit {0}) FormFault)
-      → r.stage ≡ stages.Text → r.read ≡ length order → IsOrder s order r.head.keys.items order [] → IsFresh r.parts
+      → r.stage ≡ stages.Text → r.read ≡ length order → IsOrder s order r.head.keys.items order []
+      → IsFreshWriter r.parts
       → text ≡ [] → sent ≡ []
-      → MatchResult answer (λ _. All (Suits s) r.head.keys.items) (IsFirstKeysFault s r.head.keys.items)
-      → MatchResult answer (λ _. Held (orders s) (IsOrderRead s r) order sent) (IsRefused (orders s) order text)
+      → MatchResult answer (λ _. All (KeysSuitDay s) r.head.keys.items) (IsFirstKeysFault s r.head.keys.items)
+      → MatchResult answer (λ _. HasReadSoFar (order_message s) (IsOrderRead s r) order sent)
+      (IsRefused (order_message s) order text)
   text_begins r order text sent (Ok done) here size is fresh none nil suited =
       let no_piece = pieces-none (part_size s) (size_some s) in
       let first = take_all {A = ℕ} (part_size s * 0) [] (omega arith) in
@@ -246,14 +252,15 @@ module _ (s : Day) where
       })
   text_begins r order text sent (Err fault) here size is fresh none nil found =
       order_refused order text fault (InKeys r.head.keys.items order [] is found)
-      (λ more. stream.NotYet (λ others front beyond other suited.
+      (λ more. stream.NothingSent (λ others front beyond other suited.
       let same = one_order s (order ++ more) _ others order front more beyond (is_longer more is) other in
       no_keys_fault s r.head.keys.items fault (rw same.0 suited) found) none)
 
   module _ (keys : List Keys) (w : PartWriter) (order sent : List ℕ) (text : IsTextRead s keys w order sent) where
     -- at the end of the text, the reader makes the last part, or finds the fault
     pub text_ends : (made : List ℕ) (answer : Result (Unit {0}) FormFault)
-        → IsLastTaken s keys (text_letters s text.text) sent made answer → Closes (orders s) order (sent ++ made) answer
+        → IsTextEndAnswer s keys (text_letters s text.text) sent made answer
+        → IsMessageAnswer (order_message s) order (sent ++ made) answer
     text_ends made (Ok done) (some, counted, is) = grind arith
     text_ends made (Err fault) (nothing, inl (none, is)) =
         (inr (NoLetter _ _ _ text.sendable none is), rw (nothing, append-nil sent) (text_sent _ _ _ _ text))

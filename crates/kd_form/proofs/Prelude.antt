@@ -22,57 +22,66 @@ pub use Rattle.std.specs.{Int.div_ceil, Io.KnownBytes.{Appends, Consumes, IsAtEn
 pub use Rattle.std.specs.List.{AllWithin, cons_option, enumerate_from, flat_map, join_with_byte, list_all}
 pub use Rattle.arrayvec.specs.{ArrayVec.ArrayVec, ArrayVec.array_vec_len}
 pub use Rattle.kd_form.specs.FormParts.{AreFewLetters, AreHeadingWords, BeginsHeading, HasFirstLine, IsFraction}
-pub use Rattle.kd_form.specs.FormParts.{IsHeading, IsLetterCount, IsLineText, WithoutReturn, cut, parts_of}
-pub use Rattle.kd_form.specs.FormReading.{FitsAt, HasBegun, HasTail, HoldsBody, HoldsForm, HoldsPart, HoldsStage, IsAt}
-pub use Rattle.kd_form.specs.FormReading.{IsBodyGiven, IsHeadingOff, Missing, Other, place_of}
-pub use Rattle.kd_form.specs.FormText.{AtPart, EndsAt, IsComplete, IsLast, IsReadTo, IsReceiveFault, IsRefusedForGood}
-pub use Rattle.kd_form.specs.FormText.{IsTextOf, NoHeading, OfRest, Place, ReadsTo, StandsAt, at_first, form_message}
-pub use Rattle.kd_form.specs.FormText.{given_byte, given_letters, given_text, place_behind, sent_letters}
-pub use Rattle.kd_form.specs.InternalKey.{ArePicked, ComesFirst, HaveRunOut, IsInternalKey, IsTakenInTurn, OffWheel}
-pub use Rattle.kd_form.specs.InternalKey.{OnWheel, AreRising}
-pub use Rattle.kd_form.specs.KeyPatterns.{HasPins, HasSlots, IsAnyKeyLine, key_letters, key_pattern, places_for}
-pub use Rattle.kd_form.specs.KeyPatterns.{rotor_pattern}
+pub use Rattle.kd_form.specs.FormParts.{IsHeading, IsLetterCount, IsLineText, WithoutReturn, cut_at_headings, parts_of}
+pub use Rattle.kd_form.specs.FormReading.{FitsHeadingAt, HasBegunHeading, HasTail, HoldsBody, HoldsForm, HoldsPart}
+pub use Rattle.kd_form.specs.FormReading.{HoldsStage, IsAtPartStart, IsBodyPlaintext, IsHeadingFault, HeadingMissing}
+pub use Rattle.kd_form.specs.FormReading.{HeadingOfOther, reader_place}
+pub use Rattle.kd_form.specs.FormText.{AtPart, IsPartFaultAtEnd, AreAllPartsRead, IsLastPart, IsFormReadTo}
+pub use Rattle.kd_form.specs.FormText.{IsReceiveFault, IsRefusedForGood, IsTextOf, NoHeading, PartsProperty, PartStart}
+pub use Rattle.kd_form.specs.FormText.{ReadsPartsTo, IsPartFaultForGood, first_part_start, form_message, plaintext_byte}
+pub use Rattle.kd_form.specs.FormText.{plaintext_bytes, plaintext_with_end, next_part_start, sent_letters}
+pub use Rattle.kd_form.specs.InternalKey.{ArePicked, PrecedesOrEquals, HaveNoInternalKey, IsInternalKey, IsTakenInTurn}
+pub use Rattle.kd_form.specs.InternalKey.{OffWheel, OnWheel, AreRising}
+pub use Rattle.kd_form.specs.KeyPatterns.{IsConverterDay, IsRotorDayWith, IsAnyKeyLine, key_letters, key_pattern}
+pub use Rattle.kd_form.specs.KeyPatterns.{blank_places, rotor_pattern}
 pub use Rattle.kd_form.specs.Keys.{AreKeys, key_words}
 pub use Rattle.kd_form.specs.Laws.{FormsBecomeOneText, FormsGiveTheirOrders, FormsHaveOneFault, FormsStayRefused}
 pub use Rattle.kd_form.specs.Laws.{OrdersGiveLetters, ReceivedFormsHaveNoFault}
-pub use Rattle.kd_form.specs.{OnTheKey.{IsKeyFault, OffKey}, Steps.{Answer, IsCaught, IsFound, IsJudged, IsSought}}
-pub use Rattle.kd_form.specs.Making.{IsMade, IsMadeText, Suits, cipher_from, enciphered_choice, filled, list_letters}
-pub use Rattle.kd_form.specs.Making.{part_size, pin_indicators, pin_letters, rotor_letters}
-pub use Rattle.kd_form.specs.Order.{BeginsWithKeys, BreaksOff, IsAnyHead, IsEnded, IsHead, IsHeadFault, IsKeyLine}
-pub use Rattle.kd_form.specs.Order.{IsOrder}
-pub use Rattle.kd_form.specs.Part.{Part, behind_spaces, body_text, fraction, groups_of, heading_words, indicator_words}
-pub use Rattle.kd_form.specs.Part.{part_text, pieces, with_line}
-pub use Rattle.kd_form.specs.Patterns.{AreAppended, IsFilledLine, IsPatternLine, blanks, filled_in, fits, letters_at}
-pub use Rattle.kd_form.specs.Reading.{HasIndicator, HasIndicatorsAround, SaysLetters, group_in, keys_in, list_in}
-pub use Rattle.kd_form.specs.Reading.{message_key, text_in}
-pub use Rattle.kd_form.specs.Receiving.{HasHeading, InBody, InHeading, InNumber, IsEarlyFault, IsExpected, IsPartFault}
-pub use Rattle.kd_form.specs.Receiving.{IsPartRead, SaysBody}
-pub use Rattle.kd_form.specs.SendSteps.{AreTaken, IsFresh, IsHeadRead, IsHeadLine, IsLastTaken, IsOrderRead}
-pub use Rattle.kd_form.specs.SendSteps.{IsStageRead, IsTextRead}
-pub use Rattle.kd_form.specs.SendStream.{CanBeWritten, IsSentBefore, orders}
-pub use Rattle.kd_form.specs.Sending.{AreMadeTexts, Cut, InHead, InKeys, InParts, InText, IsBadAt, IsFirstKeysFault}
-pub use Rattle.kd_form.specs.Sending.{IsFormOf, IsKeysFault, IsSendFault, IsSendable, NoLetter, StandsInOrder, blank_of}
-pub use Rattle.kd_form.specs.Sending.{letter_of_byte, letters_from, parts_needed, text_letters}
-pub use Rattle.kd_form.specs.StreamSteps.{AtSource, ClosesAs, ClosesAt, EndsIn, FeedsAll, HasRoom, Held, InFeeding}
-pub use Rattle.kd_form.specs.StreamSteps.{IsFed, IsRead, IsStopped, ReadsNext, answer_to, fault_of, stops_at_device}
-pub use Rattle.kd_form.specs.Streams.{Answers, AreWell, AtEnd, ByTheEnd, ByThen, Closes, FallsShort, IsOpen, IsRefused}
-pub use Rattle.kd_form.specs.Streams.{IsStreamed, Message, Off, SinkFails, Stands, TooLong, Whole, is_device}
-pub use Rattle.kd_form.specs.Streams.{is_off_key}
-pub use Rattle.kd_form.specs.Typing.{IsAllowedTo, IsTextFault, IsTypedTo, Lights, cipher_text, texts, typed_letters}
+pub use Rattle.kd_form.specs.{OnTheKey.{IsKeyFault, OffKey}}
+pub use Rattle.kd_form.specs.{FirstFaults.{Answer, UnlessFoundThen, FindsThen, DemandsThen, FindsOrFaultThen}}
+pub use Rattle.kd_form.specs.Making.{IsPartMade, IsPartTextMade, KeysSuitDay, cipher_from, enciphered_choice}
+pub use Rattle.kd_form.specs.Making.{fill_last_group, list_letters, part_size, pin_indicators, pin_letters}
+pub use Rattle.kd_form.specs.Making.{rotor_letters}
+pub use Rattle.kd_form.specs.Order.{BeginsWithKeys, IsUnread, IsAnyOrderHead, IsLineWithEnd, IsOrderHead}
+pub use Rattle.kd_form.specs.Order.{IsOrderHeadFault, IsKeyLine, IsOrder}
+pub use Rattle.kd_form.specs.Part.{Part, words_after_spaces, body_text, fraction_text, letter_groups, heading_words}
+pub use Rattle.kd_form.specs.Part.{indicator_words, part_text, pieces, line_then}
+pub use Rattle.kd_form.specs.Patterns.{AreLettersAppended, IsFilledLine, IsPatternLine, blank_count, filled_pattern}
+pub use Rattle.kd_form.specs.Patterns.{fits_mark, letters_for_mark}
+pub use Rattle.kd_form.specs.Reading.{HasIndicator, HasIndicatorsAround, IsLettersAnswer, group_of_body, keys_of_body}
+pub use Rattle.kd_form.specs.Reading.{list_of_body, deciphered_key, text_of_body}
+pub use Rattle.kd_form.specs.Receiving.{HasHeading, InBody, InHeading, InNumber, IsEarlyFault, IsExpectedCount}
+pub use Rattle.kd_form.specs.Receiving.{IsPartFault, IsPartRead, IsBodyAnswer}
+pub use Rattle.kd_form.specs.SendSteps.{AreLettersTaken, IsFreshWriter, IsHeadBegun, IsHeadLine, IsTextEndAnswer}
+pub use Rattle.kd_form.specs.SendSteps.{IsOrderRead, IsStageRead, IsTextRead}
+pub use Rattle.kd_form.specs.SendStream.{IsWritableCount, IsSentBefore, order_message}
+pub use Rattle.kd_form.specs.Sending.{ArePartTextsMade, HeadCutShort, InHead, InKeys, InParts, InText, IsFirstBadByteAt}
+pub use Rattle.kd_form.specs.Sending.{IsFirstKeysFault, IsFormOf, IsKeysFault, IsSendFault, IsSendable, NoLetter}
+pub use Rattle.kd_form.specs.Sending.{IsOrderFaultForGood, blank_of, letter_of_byte, letters_from, parts_needed}
+pub use Rattle.kd_form.specs.Sending.{text_letters}
+pub use Rattle.kd_form.specs.StreamSteps.{AtSource, IsCloseAnswer, IsFinishAnswer, HasBeenEnded, IsFeedAllAnswer}
+pub use Rattle.kd_form.specs.StreamSteps.{HasRoom, HasReadSoFar, InFeeding, IsFed, IsChunkRead, IsReadStopped}
+pub use Rattle.kd_form.specs.StreamSteps.{IsReadNextAnswer, answer_with_fault, fault_of_interruption}
+pub use Rattle.kd_form.specs.StreamSteps.{is_device_interruption}
+pub use Rattle.kd_form.specs.Streams.{IsStreamAnswer, HaveNotFailed, FaultAtEnd, ByTheEnd, ByThen, IsMessageAnswer}
+pub use Rattle.kd_form.specs.Streams.{FallsShort, IsOpen, IsRefused, IsStreamed, Message, FaultBefore, SinkFails}
+pub use Rattle.kd_form.specs.Streams.{FaultForGood, TooLong, MessageComplete, is_device, is_off_key}
+pub use Rattle.kd_form.specs.Typing.{IsAllowedUpTo, IsTextFault, HasTyped, IsTypedChunk, cipher_text, text_message}
+pub use Rattle.kd_form.specs.Typing.{typed_letters}
 pub use Rattle.kd_form.specs.declared.{fault.FormFault.FormFault, heading.{Heading.Heading, Indicator.Indicator}}
 pub use Rattle.kd_form.specs.declared.keys.{Keys.{Keys, TheVariants.{Pin, Rotor}}, PinKeys.PinKeys}
 pub use Rattle.kd_form.specs.declared.pattern_line.Unread.{Unread}
 pub use Rattle.kd_form.specs.declared.fault.FormFault.TheVariants.{BadByte, BadHeading, EmptyText, NotReady, PartKeys}
 pub use Rattle.kd_form.specs.declared.fault.FormFault.TheVariants.{PartOrder}
-pub use Rattle.kd_state.proofs.Lines.{figures, lines_split_into_words, numbers_are_words, parts_make_lines}
-pub use Rattle.kd_state.proofs.Lines.{texts_tell_first_parts, word_by_bytes}
+pub use Rattle.kd_state.proofs.Lines.{IsNumeralModel-digits, lines_split_into_words, numbers_are_words}
+pub use Rattle.kd_state.proofs.Lines.{parts_make_lines, texts_tell_first_parts, word_by_bytes}
 pub use Rattle.kd_state.proofs.Keys.{cipher_in_turn, engine_cipher, twice_on_key}
 pub use Rattle.kd_state.specs.declared.machine.parts.Parts.{Parts}
 pub use Rattle.kd_state.specs.SheetDay.{Day, IsLegalDay, OfPins, OfRotors, pin_day}
 pub use Rattle.kd_state.specs.TwoCiphers.{EngineKey, IsWindow, cipher, physical_cipher, sheet_key}
 pub use Rattle.kd_state.specs.Words.{IsFirstPart, IsWithout, line_of, words_of}
-pub use Rattle.kd_tables.specs.{Ports.Ends, Ports.Fail, Ports.IsWell, Ports.Port, Ports.port, Ports.read_limit}
-pub use Rattle.kd_tables.specs.{Text.is_text_byte, Text.letters_text, Writing.TakesFront}
+pub use Rattle.kd_tables.specs.{Ports.EndAgrees, Ports.FailureAgrees, Ports.HasNotFailed, Ports.Port, Ports.port}
+pub use Rattle.kd_tables.specs.{Ports.read_limit, Text.is_text_byte, Text.letters_text, Writing.TakesPrefix}
 
 -- the answer is the error that `?` returns
 pub err_is : {T E : Type 0} (answer : Result T E) (fault : E) → IsErrAnd answer (λ made. made ≡ fault)

@@ -1,26 +1,29 @@
 -- Feeding bytes to a reader one after another and piece after piece, and typing a text piece after piece.
-pub use Rattle.kd_form.proofs.Prelude.{err_is, append-nil, take-append-drop, AtSource, InFeeding, IsStopped, [], ◌≡◌, ℕ}
-pub use Rattle.kd_form.proofs.Prelude.{◌+◌, ◌-◌, ◌≤◌, ◌<◌, Bool, true, false, ◌||◌, List, ◌++◌, Option, Some, Result}
-pub use Rattle.kd_form.proofs.Prelude.{Ok, Err, length, take, drop, IsTrue, refl, sym, ap, subst, ◌∙◌, append_assoc}
-pub use Rattle.kd_form.proofs.Prelude.{length-append, length-drop, arith, Appends, Consumes, Keeps, IsAtEnd}
-pub use Rattle.kd_form.proofs.Prelude.{starts_with_of_append, read_limit, Port, IsWell, Ends, TakesFront, FormFault}
-pub use Rattle.kd_form.proofs.Prelude.{Message, ByThen, ByTheEnd, Answers, Whole, Stands, AtEnd, SinkFails, IsStreamed}
-pub use Rattle.kd_form.proofs.Prelude.{FallsShort, ClosesAt, Held, HasRoom, IsFed, FeedsAll, EndsIn, ClosesAs, IsRead}
-pub use Rattle.kd_form.proofs.Prelude.{ReadsNext, fault_of, answer_to, stops_at_device, length-take-le, ◌∷◌, IsFalse}
-pub use Rattle.kd_form.proofs.Prelude.{get_or, suc, drop-cons, map-append, take_all, All-append, filter_map-append}
+pub use Rattle.kd_form.proofs.Prelude.{err_is, append-nil, take-append-drop, AtSource, InFeeding, IsReadStopped, []}
+pub use Rattle.kd_form.proofs.Prelude.{◌≡◌, ℕ, ◌+◌, ◌-◌, ◌≤◌, ◌<◌, Bool, true, false, ◌||◌, List, ◌++◌, Option, Some}
+pub use Rattle.kd_form.proofs.Prelude.{Result, Ok, Err, length, take, drop, IsTrue, refl, sym, ap, subst, ◌∙◌}
+pub use Rattle.kd_form.proofs.Prelude.{append_assoc, length-append, length-drop, arith, Appends, Consumes, Keeps}
+pub use Rattle.kd_form.proofs.Prelude.{IsAtEnd, starts_with_of_append, read_limit, Port, HasNotFailed, EndAgrees}
+pub use Rattle.kd_form.proofs.Prelude.{TakesPrefix, FormFault, Message, ByThen, ByTheEnd, IsStreamAnswer}
+pub use Rattle.kd_form.proofs.Prelude.{MessageComplete, FaultForGood, FaultAtEnd, SinkFails, IsStreamed, FallsShort}
+pub use Rattle.kd_form.proofs.Prelude.{IsFinishAnswer, HasReadSoFar, HasRoom, IsFed, IsFeedAllAnswer, HasBeenEnded}
+pub use Rattle.kd_form.proofs.Prelude.{IsCloseAnswer, IsChunkRead, IsReadNextAnswer, fault_of_interruption}
+pub use Rattle.kd_form.proofs.Prelude.{answer_with_fault, is_device_interruption, length-take-le, ◌∷◌, IsFalse, get_or}
+pub use Rattle.kd_form.proofs.Prelude.{suc, drop-cons, map-append, take_all, All-append, filter_map-append}
 pub use Rattle.kd_form.proofs.Prelude.{is_text_byte, Parts, cipher_in_turn, engine_cipher, cipher, physical_cipher}
-pub use Rattle.kd_form.proofs.Prelude.{BadByte, IsRefused, cipher_text, texts, IsTextFault, Lights, IsAllowedTo}
-pub use Rattle.kd_form.proofs.Prelude.{IsTypedTo, take_more, rules, TooLong, port, All-nil, letters_text, typed_letters}
-pub use Rattle.kd_form.proofs.Prelude.{false≢true, NotReady, Off}
+pub use Rattle.kd_form.proofs.Prelude.{BadByte, IsRefused, cipher_text, text_message, IsTextFault, IsTypedChunk}
+pub use Rattle.kd_form.proofs.Prelude.{IsAllowedUpTo, HasTyped, take_more, rules, TooLong, port, All-nil, letters_text}
+pub use Rattle.kd_form.proofs.Prelude.{typed_letters, false≢true, NotReady, FaultBefore}
 pub use Rattle.std.proofs.KnownBytes.{Consumes-nil, Consumes-kept, Consumes-trans, Appends-nil, Appends-trans}
 pub use Rattle.std.proofs.KnownBytes.{starts_with_rest}
 use Rattle.{kd_form.proofs.OneOrder.{bad_behind, no_bad_byte}, std.specs.Io.StartsWith}
-use Rattle.kd_form.specs.{StreamSteps.Ends as MessageEnds, declared.{stream.stop.Stop.Stop, typing.Typist.Typist}}
-use Rattle.kd_form.specs.declared.stream.stop.Stop.TheVariants as stops
+use Rattle.kd_form.specs.{StreamSteps.IsEndAnswer as MessageEnds}
+use Rattle.kd_form.specs.{declared.{stream.interruption.Interruption.Interruption, typing.Typist.Typist}}
+use Rattle.kd_form.specs.declared.stream.interruption.Interruption.TheVariants as stops
 
 -- a port, by its bytes and its failure before and after a call
-abbrev pub over : Option (List ℕ) → Option (List ℕ) → Bool → Bool → Port
-over had has before after = record { had = had; has = has; had_failed = before; has_failed = after }
+abbrev pub port_over : Option (List ℕ) → Option (List ℕ) → Bool → Bool → Port
+port_over had has before after = record { had = had; has = has; had_failed = before; has_failed = after }
 
 -- after a failed call, the port has failed
 failed_now : (before after : Bool) → after ≡ (before || true) → IsTrue after
@@ -49,20 +52,20 @@ short_of text made count less = grind (arith, length-drop {A = ℕ}, take-append
 -- if the sink took only a prefix of what the bytes made, feeding stops at the device
 pub fed_in_part : (m : Message) (new : List ℕ → List ℕ → Type 0) (bytes text made : List ℕ)
     (took wrote : Option (List ℕ)) (d f : Bool)
-    → Held m new bytes (text ++ made) → TakesFront took wrote made
-    → IsFed m new bytes text (over took wrote d f) (Err stops.Device)
+    → HasReadSoFar m new bytes (text ++ made) → TakesPrefix took wrote made
+    → IsFed m new bytes text (port_over took wrote d f) (Err stops.Device)
 fed_in_part m new bytes text made took wrote d f held part = grind (arith, all_of_it, short_of)
 
 pub fed_none : (m : Message) (old : List ℕ → List ℕ → Type 0) (took : Option (List ℕ)) (d : Bool)
-    → FeedsAll m old old [] (over took took d d) (Ok tt)
+    → IsFeedAllAnswer m old old [] (port_over took took d d) (Ok tt)
 fed_none m old took d bytes text held = grind (arith, Appends-nil, append-nil {A = ℕ})
 
 -- feeding bytes and then the next bytes is feeding all of them
 pub fed_next : (m : Message) (old now new : List ℕ → List ℕ → Type 0) (front next : List ℕ)
     (took taken wrote : Option (List ℕ)) (d e f : Bool)
-    (answer : Result (Unit {0}) Stop) → FeedsAll m old now front (over took taken d e) (Ok tt)
-    → FeedsAll m now new next (over taken wrote e f) answer
-    → FeedsAll m old new (front ++ next) (over took wrote d f) answer
+    (answer : Result (Unit {0}) Interruption) → IsFeedAllAnswer m old now front (port_over took taken d e) (Ok tt)
+    → IsFeedAllAnswer m now new next (port_over taken wrote e f) answer
+    → IsFeedAllAnswer m old new (front ++ next) (port_over took wrote d f) answer
 fed_next m old now new front next took taken wrote d e f answer before after bytes text held =
     grind (arith, Appends-trans, append_assoc {A = ℕ})
 
@@ -75,7 +78,7 @@ room_for m holds room less few has =
 
 -- after `more` is fed, there is room for `less` bytes
 pub room_less : (m : Message) (old new : List ℕ → List ℕ → Type 0) (more : List ℕ) (sink : Port) (room less : ℕ)
-    → length more + less ≤ room → HasRoom m old room → FeedsAll m old new more sink (Ok tt) → HasRoom m new less
+    → length more + less ≤ room → HasRoom m old room → IsFeedAllAnswer m old new more sink (Ok tt) → HasRoom m new less
 room_less m old new more sink room less few has fed = grind (arith, length-append {A = ℕ})
 
 -- bytes are the bytes before a place, the byte there, and the bytes after it
@@ -85,13 +88,14 @@ up_to bytes place inside = grind (arith, append_assoc, drop-cons, take-append-dr
 
 -- feeding bytes is feeding equal bytes
 pub fed_whole : (m : Message) (old new : List ℕ → List ℕ → Type 0) (front whole : List ℕ) (sink : Port)
-    (answer : Result (Unit {0}) Stop) → front ≡ whole
-    → FeedsAll m old new front sink answer → FeedsAll m old new whole sink answer
-fed_whole m old new front whole sink answer same fed = subst (λ all. FeedsAll m old new all sink answer) same fed
+    (answer : Result (Unit {0}) Interruption) → front ≡ whole
+    → IsFeedAllAnswer m old new front sink answer → IsFeedAllAnswer m old new whole sink answer
+fed_whole m old new front whole sink answer same fed = subst (λ all. IsFeedAllAnswer m old new all sink answer) same fed
 
 -- if feeding stops within a prefix of the bytes, it stops within all bytes
-pub fed_up_to : (m : Message) (old new : List ℕ → List ℕ → Type 0) (front more : List ℕ) (sink : Port) (stop : Stop)
-    → FeedsAll m old new front sink (Err stop) → FeedsAll m old new (front ++ more) sink (Err stop)
+pub fed_up_to : (m : Message) (old new : List ℕ → List ℕ → Type 0) (front more : List ℕ) (sink : Port)
+    (stop : Interruption)
+    → IsFeedAllAnswer m old new front sink (Err stop) → IsFeedAllAnswer m old new (front ++ more) sink (Err stop)
 fed_up_to m old new front more sink stop fed bytes text held = grind (arith, append_assoc, starts_longer)
 
 -- ---- a read
@@ -99,8 +103,8 @@ fed_up_to m old new front more sink stop fed bytes text held = grind (arith, app
 -- what a read answers if the source failed
 pub read_failed : (m : Message) (new : List ℕ → List ℕ → Type 0) (bytes text : List ℕ) (room : ℕ)
     (had has took : Option (List ℕ)) (a c d : Bool)
-    → Held m new bytes text → length bytes + room ≤ read_limit → Keeps had has → c ≡ (a || true)
-    → IsRead m new bytes text room (over had has a c) (over took took d d) (Err stops.Device)
+    → HasReadSoFar m new bytes text → length bytes + room ≤ read_limit → Keeps had has → c ≡ (a || true)
+    → IsChunkRead m new bytes text room (port_over had has a c) (port_over took took d d) (Err stops.Device)
 read_failed m new bytes text room had has took a c d held few kept up =
     grind (
       arith,
@@ -114,11 +118,12 @@ read_failed m new bytes text room had has took a c d held few kept up =
 
 -- what a read answers if feeding its bytes stopped
 pub read_stopped : (m : Message) (old new : List ℕ → List ℕ → Type 0) (bytes text more : List ℕ) (room : ℕ)
-    (had has took wrote : Option (List ℕ)) (a c d f : Bool) (stop : Stop)
-    → Held m old bytes text → length bytes + room ≤ read_limit → length more ≤ room → Consumes had has more
+    (had has took wrote : Option (List ℕ)) (a c d f : Bool) (stop : Interruption)
+    → HasReadSoFar m old bytes text → length bytes + room ≤ read_limit → length more ≤ room → Consumes had has more
     → c ≡ (a || false)
-    → FeedsAll m old new more (over took wrote d f) (Err stop) → f ≡ (d || stops_at_device {T = Unit {0}} (Err stop))
-    → IsRead m new bytes text room (over had has a c) (over took wrote d f) (Err stop)
+    → IsFeedAllAnswer m old new more (port_over took wrote d f) (Err stop)
+    → f ≡ (d || is_device_interruption {T = Unit {0}} (Err stop))
+    → IsChunkRead m new bytes text room (port_over had has a c) (port_over took wrote d f) (Err stop)
 read_stopped m old new bytes text more room had has took wrote a c d f stop held few inside given well fed up =
     grind (arith, InFeeding, well_now)
 
@@ -132,8 +137,8 @@ pub record SoFar (m : Message) (holds : List ℕ → List ℕ → Type 0) (sourc
   pub within : count ≤ read_limit
   pub given : Consumes source.had source.has read
   pub written : Appends sink.had sink.has text
-  pub held : Held m holds read text
-  pub well : IsWell source × IsWell sink
+  pub held : HasReadSoFar m holds read text
+  pub well : HasNotFailed source × HasNotFailed sink
 
 pub SoFar-room : (m : Message) (holds : List ℕ → List ℕ → Type 0) (source sink : Port) (count room : ℕ) → SoFar m holds
     source sink count
@@ -141,30 +146,34 @@ pub SoFar-room : (m : Message) (holds : List ℕ → List ℕ → Type 0) (sourc
 SoFar-room m holds source sink count room before few = grind arith
 
 -- the answer when a read stops, if neither port had failed before this read
-stopped : (m : Message) (new : List ℕ → List ℕ → Type 0) (read text : List ℕ)
-    (had has next took taken wrote : Option (List ℕ)) (a b c d e f : Bool) (stop : Stop)
+IsStreamAnswer-stopped : (m : Message) (new : List ℕ → List ℕ → Type 0) (read text : List ℕ)
+    (had has next took taken wrote : Option (List ℕ)) (a b c d e f : Bool) (stop : Interruption)
     → b ≡ a → e ≡ d → length read ≤ read_limit
-    → IsStopped m new (over has next b c) (over taken wrote e f) read text stop
-    → Answers m (over had next a c) (over took wrote d f) read text (Err (fault_of stop))
-stopped m new read text had has next took taken wrote a b c d e f stop p q few (AtSource open' fails is) = grind arith
-stopped m new read text had has next took taken wrote a b c d e f (stops.Refused fault) p q few (InFeeding is well up) =
-    Stands fault few (subst (λ b. m.stands b fault) (append-nil read) (is.stands []))
+    → IsReadStopped m new (port_over has next b c) (port_over taken wrote e f) read text stop
+    → IsStreamAnswer m (port_over had next a c) (port_over took wrote d f) read text (Err (fault_of_interruption stop))
+IsStreamAnswer-stopped m new read text had has next took taken wrote a b c d e f stop p q few
+    (AtSource open' fails is) = grind arith
+IsStreamAnswer-stopped m new read text had has next took taken wrote a b c d e f (stops.Refused fault) p q few
+    (InFeeding is well up) =
+    FaultForGood fault few (subst (λ b. m.stands b fault) (append-nil read) (is.stands []))
     (subst (λ b. m.before (Some fault) b text) (append-nil read) (is.written [])) (well ∙ p, well_now e f up ∙ q) refl
-stopped m new read text had has next took taken wrote a b c d e f stops.Device p q few (InFeeding is well up) =
+IsStreamAnswer-stopped m new read text had has next took taken wrote a b c d e f stops.Device p q few
+    (InFeeding is well up) =
     SinkFails is.due few (ByThen is.front is.of_bytes is.open_yet) is.of_due
     (record { failed = failed_now e f up; well = well ∙ p }) refl
 
 -- One more read: the ports at the start, before this read, and after it.
 module _ (m : Message) (old new : List ℕ → List ℕ → Type 0) (had has next took taken wrote : Option (List ℕ))
     (a b c d e f : Bool) (count room : ℕ)
-    (before : SoFar m old (over had has a b) (over took taken d e) count) (space : room ≡ read_limit - count) where
-  pub SoFar-read : (n : ℕ) → ReadsNext m old new room (over has next b c) (over taken wrote e f) (Ok n)
-      → SoFar m new (over had next a c) (over took wrote d f) (count + n) × (n ≡ 0 → IsAtEnd next)
+    (before : SoFar m old (port_over had has a b) (port_over took taken d e) count)
+    (space : room ≡ read_limit - count) where
+  pub SoFar-read : (n : ℕ) → IsReadNextAnswer m old new room (port_over has next b c) (port_over taken wrote e f) (Ok n)
+      → SoFar m new (port_over had next a c) (port_over took wrote d f) (count + n) × (n ≡ 0 → IsAtEnd next)
   SoFar-read n reads = grind (arith, length-append {A = ℕ}, Consumes-trans, Appends-trans)
 
-  pub IsStreamed-stopped : (stop : Stop) (fault : FormFault) → fault ≡ fault_of stop
-      → ReadsNext m old new room (over has next b c) (over taken wrote e f) (Err stop)
-      → IsStreamed m (over had next a c) (over took wrote d f) (Err fault)
+  pub IsStreamed-stopped : (stop : Interruption) (fault : FormFault) → fault ≡ fault_of_interruption stop
+      → IsReadNextAnswer m old new room (port_over has next b c) (port_over taken wrote e f) (Err stop)
+      → IsStreamed m (port_over had next a c) (port_over took wrote d f) (Err fault)
   IsStreamed-stopped stop fault is reads =
       let step = reads before.read before.text before.held (omega (arith, before.counted, before.within, space)) in
       record {
@@ -172,7 +181,8 @@ module _ (m : Message) (old new : List ℕ → List ℕ → Type 0) (had has nex
         text = before.text ++ step.made;
         given = Consumes-trans had has next before.read step.more before.given step.given;
         written = Appends-trans took taken wrote before.text step.made before.written step.written;
-        answers = rw is (stopped m new _ _ had has next took taken wrote a b c d e f stop before.well.0 before.well.1
+        answers = rw is (IsStreamAnswer-stopped m new _ _ had has next took taken wrote a b c d e f stop
+            before.well.0 before.well.1
             (omega (arith, length-append before.read step.more, before.counted, before.within, space, step.within))
             step.read);
       }
@@ -182,27 +192,29 @@ module _ (m : Message) (old new : List ℕ → List ℕ → Type 0) (had has nex
 -- if the sink took only a prefix of the rest of a message, closing stops at the device
 pub closed_in_part : (m : Message) (old : List ℕ → List ℕ → Type 0) (made : List ℕ) (took wrote : Option (List ℕ))
     (d f : Bool) (answer : Result (Unit {0}) FormFault)
-    → MessageEnds m old made answer → TakesFront took wrote made
-    → ClosesAt m old (over took wrote d f) (Err stops.Device)
+    → MessageEnds m old made answer → TakesPrefix took wrote made
+    → IsFinishAnswer m old (port_over took wrote d f) (Err stops.Device)
 closed_in_part m old made took wrote d f answer ends part bytes text held = grind (arith, short_of)
 
-closed : (m : Message) (holds : List ℕ → List ℕ → Type 0) (read text made : List ℕ) (source : Port)
+IsStreamAnswer-closed : (m : Message) (holds : List ℕ → List ℕ → Type 0) (read text made : List ℕ) (source : Port)
     (took taken wrote : Option (List ℕ)) (d e f : Bool)
-    (told : Result (Unit {0}) Stop) → Held m holds read text → length read ≤ read_limit → IsAtEnd source.has
-    → IsWell source → e ≡ d → EndsIn m read (text ++ made) told → f ≡ (e || stops_at_device told)
-    → Answers m source (over took wrote d f) read (text ++ made) (answer_to told)
-closed m holds read text made source took taken wrote d e f (Ok done) held few ended well same ends up =
-    Whole few ended ends (well, well_now e f up ∙ same) refl
-closed m holds read text made source took taken wrote d e f
+    (told : Result (Unit {0}) Interruption) → HasReadSoFar m holds read text → length read ≤ read_limit
+    → IsAtEnd source.has
+    → HasNotFailed source → e ≡ d → HasBeenEnded m read (text ++ made) told → f ≡ (e || is_device_interruption told)
+    → IsStreamAnswer m source (port_over took wrote d f) read (text ++ made) (answer_with_fault told)
+IsStreamAnswer-closed m holds read text made source took taken wrote d e f (Ok done) held few ended well same ends up =
+    MessageComplete few ended ends (well, well_now e f up ∙ same) refl
+IsStreamAnswer-closed m holds read text made source took taken wrote d e f
     (Err (stops.Refused fault)) held few ended well same ends up =
-    AtEnd fault few ended held.open_yet.unrefused ends.0 ends.1 (well, well_now e f up ∙ same) refl
-closed m holds read text made source took taken wrote d e f (Err stops.Device) held few ended well same ends up =
+    FaultAtEnd fault few ended held.open_yet.unrefused ends.0 ends.1 (well, well_now e f up ∙ same) refl
+IsStreamAnswer-closed m holds read text made source took taken wrote d e f (Err stops.Device) held few ended well
+    same ends up =
     SinkFails ends.0 few (ByTheEnd ends.1 ended ends.2) ends.3 (record { failed = failed_now e f up; well = well }) refl
 
 pub IsStreamed-closed : (m : Message) (holds : List ℕ → List ℕ → Type 0) (source : Port)
     (took taken wrote : Option (List ℕ)) (d e f : Bool) (count : ℕ)
-    (answer : Result (Unit {0}) FormFault) → SoFar m holds source (over took taken d e) count × IsAtEnd source.has
-    → ClosesAs m holds (over taken wrote e f) answer → IsStreamed m source (over took wrote d f) answer
+    (answer : Result (Unit {0}) FormFault) → SoFar m holds source (port_over took taken d e) count × IsAtEnd source.has
+    → IsCloseAnswer m holds (port_over taken wrote e f) answer → IsStreamed m source (port_over took wrote d f) answer
 IsStreamed-closed m holds source took taken wrote d e f count answer (before, ended) closes =
     let one = closes.ended before.read before.text before.held in
     let few : length before.read ≤ read_limit = omega (arith, before.counted, before.within) in
@@ -212,26 +224,28 @@ IsStreamed-closed m holds source took taken wrote d e f count answer (before, en
       given = before.given;
       written = Appends-trans took taken wrote before.text one.made before.written one.written;
       answers =
-          subst (Answers m source (over took wrote d f) before.read (before.text ++ one.made)) (sym closes.answers)
-          (closed m holds before.read before.text one.made source took taken wrote d e f closes.told before.held few
+          subst (IsStreamAnswer m source (port_over took wrote d f) before.read (before.text ++ one.made))
+          (sym closes.answers)
+          (IsStreamAnswer-closed m holds before.read before.text one.made source took taken wrote d e f closes.told
+          before.held few
           ended before.well.0 before.well.1 one.ended closes.failed);
     }
 
 -- One more byte was asked for, and there is none.
 pub SoFar-ended : (m : Message) (holds : List ℕ → List ℕ → Type 0) (had has next : Option (List ℕ)) (sink : Port)
     (a b c : Bool) (count : ℕ)
-    → SoFar m holds (over had has a b) sink count → (end : Bool) → end ≡ true → Ends has next (Ok end)
-    → c ≡ (b || false) → SoFar m holds (over had next a c) sink count × IsAtEnd next
+    → SoFar m holds (port_over had has a b) sink count → (end : Bool) → end ≡ true → EndAgrees has next (Ok end)
+    → c ≡ (b || false) → SoFar m holds (port_over had next a c) sink count × IsAtEnd next
 SoFar-ended m holds had has next sink a b c count before end is ends well = grind arith
 
 -- -------- the lamps of a piece, and what was typed so far
 
 module _ (m : Parts) where
-  text_is : (t : Typist) (bytes text : List ℕ) → IsTypedTo m t bytes text → text ≡ cipher_text (physical_cipher m) bytes
+  text_is : (t : Typist) (bytes text : List ℕ) → HasTyped m t bytes text → text ≡ cipher_text (physical_cipher m) bytes
   text_is t bytes text typed = grind (arith, append-nil text, append-nil bytes, bytes)
 
-  pub typed_held : (t : Typist) (bytes text : List ℕ) → IsTypedTo m t bytes text
-      → Held (texts (physical_cipher m)) (IsTypedTo m t) bytes text
+  pub typed_held : (t : Typist) (bytes text : List ℕ) → HasTyped m t bytes text
+      → HasReadSoFar (text_message (physical_cipher m)) (HasTyped m t) bytes text
   typed_held t bytes text typed = record {
     is = typed;
     open_yet = record {
@@ -241,9 +255,9 @@ module _ (m : Parts) where
   }
 
   -- the bytes after the first one that isn't allowed make no difference
-  refused_there : (t : Typist) (front rest text : List ℕ) (byte : ℕ) → IsTypedTo m t front text
+  refused_there : (t : Typist) (front rest text : List ℕ) (byte : ℕ) → HasTyped m t front text
       → IsFalse (is_text_byte byte)
-      → IsRefused (texts (physical_cipher m)) (front ++ byte ∷ rest) text (BadByte (length front + 1))
+      → IsRefused (text_message (physical_cipher m)) (front ++ byte ∷ rest) text (BadByte (length front + 1))
   refused_there t front rest text byte typed bad =
       let stands : (more : List ℕ) → IsTextFault ((front ++ byte ∷ rest) ++ more) (BadByte (length front + 1)) = λ more.
       rw append_assoc (length front, bad_behind front (rest ++ more) byte typed.allowed bad, refl) in
@@ -255,10 +269,10 @@ module _ (m : Parts) where
 
   -- ---- one more piece
 
-  module _ (old new : Typist) (more lamps : List ℕ) (n : ℕ) (front : IsAllowedTo more n)
-      (lights : Lights old.engine new.engine (take n more) lamps) (counted : new.read ≡ old.read + n) where
-    typed_on : (bytes text : List ℕ) → IsTypedTo m old bytes text
-        → IsTypedTo m new (bytes ++ take n more) (text ++ lamps)
+  module _ (old new : Typist) (more lamps : List ℕ) (n : ℕ) (front : IsAllowedUpTo more n)
+      (lights : IsTypedChunk old.engine new.engine (take n more) lamps) (counted : new.read ≡ old.read + n) where
+    typed_on : (bytes text : List ℕ) → HasTyped m old bytes text
+        → HasTyped m new (bytes ++ take n more) (text ++ lamps)
     typed_on bytes text typed = record {
       counted =
           omega (arith, counted, typed.counted, length-append bytes (take n more), length-take-le n more front.within);
@@ -267,13 +281,15 @@ module _ (m : Parts) where
     }
 
     pub read_whole : (took wrote : Option (List ℕ)) (d f : Bool) → Appends took wrote lamps → length more ≤ n
-        → FeedsAll (texts (physical_cipher m)) (IsTypedTo m old) (IsTypedTo m new) more (over took wrote d f) (Ok tt)
+        → IsFeedAllAnswer (text_message (physical_cipher m)) (HasTyped m old) (HasTyped m new) more
+        (port_over took wrote d f) (Ok tt)
     read_whole took wrote d f wrote_all all bytes text held =
         let typed = typed_held new (bytes ++ take n more) (text ++ lamps) (typed_on bytes text held.is) in
         record { made = lamps; written = wrote_all; fed = rw (take_all n more all) at typed }
 
     pub read_refused : (took wrote : Option (List ℕ)) (d f : Bool) → Appends took wrote lamps → n < length more
-        → FeedsAll (texts (physical_cipher m)) (IsTypedTo m old) (IsTypedTo m new) more (over took wrote d f)
+        → IsFeedAllAnswer (text_message (physical_cipher m)) (HasTyped m old) (HasTyped m new) more
+        (port_over took wrote d f)
         (Err (stops.Refused (BadByte (new.read + 1))))
     read_refused took wrote d f wrote_all inside bytes text held =
         let typed = typed_on bytes text held.is in
@@ -283,8 +299,9 @@ module _ (m : Parts) where
         let joined = up_to more n in
         record { made = lamps; written = wrote_all; fed = grind (arith, fed, append_assoc, joined, typed.counted) }
 
-    pub read_in_part : (took wrote : Option (List ℕ)) (d f : Bool) → TakesFront took wrote lamps
-        → FeedsAll (texts (physical_cipher m)) (IsTypedTo m old) (IsTypedTo m new) more (over took wrote d f)
+    pub read_in_part : (took wrote : Option (List ℕ)) (d f : Bool) → TakesPrefix took wrote lamps
+        → IsFeedAllAnswer (text_message (physical_cipher m)) (HasTyped m old) (HasTyped m new) more
+        (port_over took wrote d f)
         (Err stops.Device)
     read_in_part took wrote d f part =
         fed_whole _ _ _ _ _ _ _ (take-append-drop n more)
@@ -292,5 +309,6 @@ module _ (m : Parts) where
         fed_in_part _ _ _ text lamps took wrote d f
         (typed_held new (bytes ++ take n more) (text ++ lamps) (typed_on bytes text held.is)) part))
 
-pub typed_ends : (m : Parts) (t : Typist) → MessageEnds (texts (physical_cipher m)) (IsTypedTo m t) (10 ∷ []) (Ok tt)
+pub typed_ends : (m : Parts) (t : Typist)
+    → MessageEnds (text_message (physical_cipher m)) (HasTyped m t) (10 ∷ []) (Ok tt)
 typed_ends m t bytes text held = (held.is.allowed, ap (λ l. l ++ 10 ∷ []) (text_is m t bytes text held.is))

@@ -1,7 +1,7 @@
 -- The text of each fault of a text, an order or a form.
 use Rattle.std.specs.Prelude.{decimal, ℕ, List, ◌++◌}
 use Rattle.kd_tables.specs.declared.refusal.Refusal.TheVariants as refusals
-use Rattle.kd_tables.specs.Refusals.{refusal_name, spaced}
+use Rattle.kd_tables.specs.Refusals.{refusal_name, word_after_space}
 use Rattle.kd_form.specs.declared.fault.FormFault.{FormFault}
 use Rattle.kd_form.specs.declared.fault.FormFault.TheVariants as faults
 
@@ -10,15 +10,16 @@ form_fault_text faults.NotReady = refusal_name refusals.NotReady
 form_fault_text faults.Device = refusal_name refusals.Device
 form_fault_text faults.NoMemory = refusal_name refusals.NoMemory
 form_fault_text faults.NotOnKey = refusal_name refusals.NotOnKey
-form_fault_text (faults.BadByte place) = refusal_name refusals.BadByte ++ spaced (decimal place)
+form_fault_text (faults.BadByte place) = refusal_name refusals.BadByte ++ word_after_space (decimal place)
 form_fault_text faults.EmptyText = refusal_name refusals.EmptyText
 form_fault_text (faults.PartKeys needed given) =
-    refusal_name refusals.PartKeys ++ spaced (decimal needed) ++ spaced (decimal given)
+    refusal_name refusals.PartKeys ++ word_after_space (decimal needed) ++ word_after_space (decimal given)
 form_fault_text faults.KeyNotOnWheel = refusal_name refusals.KeyNotOnWheel
-form_fault_text (faults.WrongGroup part) = refusal_name refusals.WrongGroup ++ spaced (decimal part)
-form_fault_text (faults.IndicatorSpent part) = refusal_name refusals.IndicatorSpent ++ spaced (decimal part)
-form_fault_text (faults.BadHeading part) = refusal_name refusals.BadHeading ++ spaced (decimal part)
-form_fault_text (faults.CountWrong part) = refusal_name refusals.PartCountWrong ++ spaced (decimal part)
-form_fault_text (faults.IndicatorsDiffer part) = refusal_name refusals.IndicatorsDiffer ++ spaced (decimal part)
+form_fault_text (faults.WrongGroup part) = refusal_name refusals.WrongGroup ++ word_after_space (decimal part)
+form_fault_text (faults.IndicatorSpent part) = refusal_name refusals.IndicatorSpent ++ word_after_space (decimal part)
+form_fault_text (faults.BadHeading part) = refusal_name refusals.BadHeading ++ word_after_space (decimal part)
+form_fault_text (faults.CountWrong part) = refusal_name refusals.PartCountWrong ++ word_after_space (decimal part)
+form_fault_text (faults.IndicatorsDiffer part) = refusal_name refusals.IndicatorsDiffer
+    ++ word_after_space (decimal part)
 form_fault_text faults.PartOrder = refusal_name refusals.PartOrder
 form_fault_text faults.ReadTooLong = refusal_name refusals.ReadTooLong

@@ -19,14 +19,14 @@ abbrev pub BeginsHeading : List ℕ → Type 0
 BeginsHeading bytes = IsTrue (begins_heading bytes)
 
 -- The first part of a form, and its other parts. After an LF that a heading line follows, a new part begins.
-abbrev pub cut : List ℕ → List ℕ × List (List ℕ)
-cut [] = ([], [])
-cut (byte ∷ bytes) =
-    if byte == 10 && begins_heading bytes then (byte ∷ [], (cut bytes).0 ∷ (cut bytes).1)
-    else (byte ∷ (cut bytes).0, (cut bytes).1)
+abbrev pub cut_at_headings : List ℕ → List ℕ × List (List ℕ)
+cut_at_headings [] = ([], [])
+cut_at_headings (byte ∷ bytes) =
+    if byte == 10 && begins_heading bytes then (byte ∷ [], (cut_at_headings bytes).0 ∷ (cut_at_headings bytes).1)
+    else (byte ∷ (cut_at_headings bytes).0, (cut_at_headings bytes).1)
 
 abbrev pub parts_of : List ℕ → List (List ℕ)
-parts_of form = (cut form).0 ∷ (cut form).1
+parts_of form = (cut_at_headings form).0 ∷ (cut_at_headings form).1
 
 -- ---- Which headings a part of the day can have, and the first line of a part.
 

@@ -8,30 +8,31 @@ use Rattle.kd_form.specs.declared.fault.FormFault.{FormFault}
 use Rattle.kd_form.specs.declared.fault.FormFault.TheVariants.{BadHeading, PartOrder}
 use Rattle.kd_form.specs.declared.heading.Heading.{Heading}
 use Rattle.kd_form.specs.declared.form_reader.FormReader.{FormReader}
-use Rattle.kd_form.specs.declared.form_reader.Stage.{Stage}
-use Rattle.kd_form.specs.declared.form_reader.Stage.TheVariants as stages
+use Rattle.kd_form.specs.declared.form_reader.FormStage.{FormStage}
+use Rattle.kd_form.specs.declared.form_reader.FormStage.TheVariants as stages
 use Rattle.kd_form.specs.declared.part_body.PartBody.{PartBody}
 use Rattle.kd_form.specs.Part.{heading_words}
 use Rattle.kd_form.specs.Sending.{letters_from}
-use Rattle.kd_form.specs.FormParts.{BeginsHeading, IsHeading, IsLineText, cut, parts_of}
-use Rattle.kd_form.specs.Receiving.{IsExpected, SaysBody}
-use Rattle.kd_form.specs.FormText.{Place, OfRest, ReadsTo, at_first, given_letters}
+use Rattle.kd_form.specs.FormParts.{BeginsHeading, IsHeading, IsLineText, cut_at_headings, parts_of}
+use Rattle.kd_form.specs.Receiving.{IsExpectedCount, IsBodyAnswer}
+use Rattle.kd_form.specs.FormText.{PartStart, PartsProperty, ReadsPartsTo, first_part_start, plaintext_bytes}
 
 -- ---- the last part
 
 -- The byte may be at this place of a heading line, which begins with `PART ` and a digit.
-abbrev pub FitsAt : ℕ → ℕ → Type 0
-FitsAt place byte = (place < 5 → byte ≡ slice_index (codes "PART ") place) × (place ≡ 5 → (48 ≤ byte) × (byte ≤ 57))
+abbrev pub FitsHeadingAt : ℕ → ℕ → Type 0
+FitsHeadingAt place byte = (place < 5 → byte ≡ slice_index (codes "PART ") place)
+    × (place ≡ 5 → (48 ≤ byte) × (byte ≤ 57))
 
 -- The bytes begin a heading line, or are a prefix of `PART `.
-abbrev pub HasBegun : List ℕ → Type 0
-HasBegun bytes = ((count : ℕ) × (count ≤ 5) × (bytes ≡ take count (codes "PART "))) ⊎ BeginsHeading bytes
+abbrev pub HasBegunHeading : List ℕ → Type 0
+HasBegunHeading bytes = ((count : ℕ) × (count ≤ 5) × (bytes ≡ take count (codes "PART "))) ⊎ BeginsHeading bytes
 
 -- `part` is a prefix of a heading line, without LF, and `held` has up to 64 bytes of it.
 pub record HoldsLine (held part : List ℕ) : Type 0 where
   pub kept : held ≡ take 64 part
   pub unbroken : IsWithout 10 part
-  pub begins : HasBegun part
+  pub begins : HasBegunHeading part
 
 -- `first` has up to 6 bytes of the last line of `body`, which may be incomplete. `line` is the line before
 -- `body`.
@@ -59,36 +60,38 @@ pub record HoldsPart (s : Day) (b : PartBody) (number : ℕ) (expected : Option 
   pub body : List ℕ
   pub holds : HoldsBody s b part body
   pub numbered : b.heading.part ≡ number
-  pub due : IsExpected expected b.heading.parts
+  pub due : IsExpectedCount expected b.heading.parts
 
-abbrev pub HoldsStage : Day → Stage → ℕ → Option ℕ → List ℕ → Type 0
+abbrev pub HoldsStage : Day → FormStage → ℕ → Option ℕ → List ℕ → Type 0
 HoldsStage s (stages.Heading line) number expected part = HoldsLine line.items part × (length part < 6 → number ≡ 1)
 HoldsStage s (stages.Body b) number expected part = HoldsPart s b number expected part
 
 -- `letters` are the body after this heading, and `made` is their text.
-abbrev pub IsBodyGiven : Day → Heading → List ℕ → List ℕ → Type 0
-IsBodyGiven s h letters made = (text : List ℕ) × SaysBody s h.part h letters (Ok text) × (made ≡ given_letters s text)
+abbrev pub IsBodyPlaintext : Day → Heading → List ℕ → List ℕ → Type 0
+IsBodyPlaintext s h letters made = (text : List ℕ) × IsBodyAnswer s h.part h letters (Ok text)
+    × (made ≡ plaintext_bytes s text)
 
 -- `h` was found. It is the heading of part `number`, with the expected number of parts.
-pub record IsHeadingDue (number : ℕ) (expected : Option ℕ) (found : Option Heading) (h : Heading) : Type 0 where
+pub record IsExpectedHeading (number : ℕ) (expected : Option ℕ) (found : Option Heading) (h : Heading) : Type 0 where
   pub is : found ≡ Some h
   pub numbered : h.part ≡ number
-  pub due : IsExpected expected h.parts
+  pub due : IsExpectedCount expected h.parts
 
 -- No heading was found, or the heading of another part, or one with another number of parts.
-pub data IsHeadingOff (number : ℕ) (expected : Option ℕ) (found : Option Heading) (fault : FormFault) : Type 0 where
-  Missing : found ≡ None → fault ≡ BadHeading number → IsHeadingOff number expected found fault
-  Other : (h : Heading) → found ≡ Some h → (h.part ≢ number) ⊎ (¬ (IsExpected expected h.parts)) → fault ≡ PartOrder
-      → IsHeadingOff number expected found fault
+pub data IsHeadingFault (number : ℕ) (expected : Option ℕ) (found : Option Heading) (fault : FormFault) : Type 0 where
+  HeadingMissing : found ≡ None → fault ≡ BadHeading number → IsHeadingFault number expected found fault
+  HeadingOfOther : (h : Heading) → found ≡ Some h → (h.part ≢ number) ⊎ (¬ (IsExpectedCount expected h.parts))
+      → fault ≡ PartOrder
+      → IsHeadingFault number expected found fault
 
 -- ---- the form
 
 -- the place of the part that the reader is in, after the bytes `front`
-abbrev pub place_of : FormReader → List ℕ → Place
-place_of r front = record { number = r.number; expected = r.expected; start = length front }
+abbrev pub reader_place : FormReader → List ℕ → PartStart
+reader_place r front = record { number = r.number; expected = r.expected; bytes_before = length front }
 
-abbrev pub IsAt : Place → OfRest
-IsAt q p parts = (p ≡ q) × (parts ≡ [])
+abbrev pub IsAtPartStart : PartStart → PartsProperty
+IsAtPartStart q p parts = (p ≡ q) × (parts ≡ [])
 
 -- The reader has read `form` and made `text`. It has deciphered the parts before the last one, and holds the
 -- last one. Further bytes don't change the parts before it.
@@ -99,10 +102,10 @@ pub record HoldsForm (s : Day) (r : FormReader) (form text : List ℕ) : Type 0 
   pub letters : List ℕ
   pub joined : form ≡ front ++ last
   pub cuts : (more : List ℕ) → parts_of (form ++ more) ≡ parts ++ parts_of (last ++ more)
-  pub alone : (cut last).1 ≡ []
+  pub alone : (cut_at_headings last).1 ≡ []
   pub begun : (front ≡ []) ⊎ BeginsHeading front
   pub first : r.number ≡ 1 → (front ≡ []) × (letters ≡ [])
-  pub read : ReadsTo s (IsAt (place_of r front)) at_first parts letters
-  pub is : text ≡ given_letters s letters
+  pub read : ReadsPartsTo s (IsAtPartStart (reader_place r front)) first_part_start parts letters
+  pub is : text ≡ plaintext_bytes s letters
   pub counted : r.position ≡ length form
   pub stage : HoldsStage s r.stage r.number r.expected last

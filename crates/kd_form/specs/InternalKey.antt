@@ -13,10 +13,11 @@ AreRising first end [] = Unit {0}
 AreRising first end (place ∷ places) = (first ≤ place) × (place < end) × AreRising (place + 1) end places
 
 -- The first list comes before the second in lexicographic order, or is equal to it.
-abbrev pub ComesFirst : List ℕ → List ℕ → Type 0
-ComesFirst [] others = Unit {0}
-ComesFirst (place ∷ places) [] = ⊥
-ComesFirst (place ∷ places) (other ∷ others) = (place < other) ⊎ ((place ≡ other) × ComesFirst places others)
+abbrev pub PrecedesOrEquals : List ℕ → List ℕ → Type 0
+PrecedesOrEquals [] others = Unit {0}
+PrecedesOrEquals (place ∷ places) [] = ⊥
+PrecedesOrEquals (place ∷ places) (other ∷ others) = (place < other)
+    ⊎ ((place ≡ other) × PrecedesOrEquals places others)
 
 -- `picked` are the letters at these rising places: six letters, the first on wheel 1, the second on wheel 2,
 -- and so on.
@@ -30,11 +31,11 @@ pub record ArePicked (letters places picked : List ℕ) : Type 0 where
 pub record IsInternalKey (letters key : List ℕ) : Type 0 where
   pub places : List ℕ
   pub picked : ArePicked letters places key
-  pub first : (others other : List ℕ) → ArePicked letters others other → ComesFirst places others
+  pub first : (others other : List ℕ) → ArePicked letters others other → PrecedesOrEquals places others
 
 -- The letters run out: there are no six places that `ArePicked` allows.
-abbrev pub HaveRunOut : List ℕ → Type 0
-HaveRunOut letters = (places picked : List ℕ) → ¬ (ArePicked letters places picked)
+abbrev pub HaveNoInternalKey : List ℕ → Type 0
+HaveNoInternalKey letters = (places picked : List ℕ) → ¬ (ArePicked letters places picked)
 
 -- `next` is `key` with the letter appended if the letter is on the next wheel, and otherwise `key`.
 pub data IsTakenInTurn (key : List ℕ) (letter : ℕ) (next : List ℕ) : Type 0 where

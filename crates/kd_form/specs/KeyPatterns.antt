@@ -8,16 +8,17 @@ use Rattle.kd_form.specs.Keys.{AreKeys}
 use Rattle.kd_form.specs.Order.{IsKeyLine}
 
 -- `number` places for letters
-abbrev pub places_for : ℕ → List ℕ
-places_for number = replicate number 95
+abbrev pub blank_places : ℕ → List ℕ
+blank_places number = replicate number 95
 
 -- the pattern of a line of keys: for a rotor machine with `slots` slots, for the Converter M-209, and for the
 -- day's model
 abbrev pub rotor_pattern : ℕ → List ℕ
-rotor_pattern slots = line_of (codes "PART" ∷ places_for slots ∷ places_for slots ∷ places_for 2 ∷ places_for 3 ∷ [])
+rotor_pattern slots = line_of (codes "PART" ∷ blank_places slots ∷ blank_places slots ∷ blank_places 2
+    ∷ blank_places 3 ∷ [])
 
 abbrev pub pin_pattern : List ℕ
-pin_pattern = line_of (codes "PART" ∷ places_for 1 ∷ places_for 6 ∷ [])
+pin_pattern = line_of (codes "PART" ∷ blank_places 1 ∷ blank_places 6 ∷ [])
 
 abbrev pub key_pattern : Day → List ℕ
 key_pattern (OfRotors s) = rotor_pattern (length s.wheels)
@@ -25,7 +26,7 @@ key_pattern (OfPins s) = pin_pattern
 
 -- the letters of the keys, in the line's order
 abbrev pub key_letters : Keys → List ℕ
-key_letters (Rotor k) = k.start ++ (k.key ++ (k.fillers ++ k.group))
+key_letters (Rotor k) = k.ground ++ (k.message_key ++ (k.fillers ++ k.group))
 key_letters (Pin k) = k.chosen ∷ k.external
 
 -- `bytes` are a line of keys of the day's model, and its end.
@@ -35,13 +36,13 @@ pub record IsAnyKeyLine (s : Day) (bytes : List ℕ) : Type 0 where
   pub keyed : IsKeyLine keys bytes
 
 -- The day is a rotor machine's, with `slots` slots, three or four.
-pub record HasSlots (s : Day) (slots : ℕ) : Type 0 where
+pub record IsRotorDayWith (s : Day) (slots : ℕ) : Type 0 where
   pub day : RotorDay
   pub is : s ≡ OfRotors day
   pub count : slots ≡ length day.wheels
   pub either : (slots ≡ 3) ⊎ (slots ≡ 4)
 
 -- The day is a Converter M-209's.
-pub record HasPins (s : Day) : Type 0 where
+pub record IsConverterDay (s : Day) : Type 0 where
   pub day : PinDay
   pub is : s ≡ OfPins day

@@ -2,8 +2,8 @@
 use Rattle.std.specs.Prelude.{◌≡◌, ◌⊎◌, ℕ, List, ◌++◌}
 use Rattle.kd_state.specs.SheetDay.{Day, IsLegalDay}
 use Rattle.kd_form.specs.declared.fault.FormFault.{FormFault}
-use Rattle.kd_form.specs.Sending.{IsFormOf, StandsInOrder, IsSendFault}
-use Rattle.kd_form.specs.FormText.{IsTextOf, IsRefusedForGood, IsReceiveFault, IsGivenOf}
+use Rattle.kd_form.specs.Sending.{IsFormOf, IsOrderFaultForGood, IsSendFault}
+use Rattle.kd_form.specs.FormText.{IsTextOf, IsRefusedForGood, IsReceiveFault, IsPlaintextOf}
 
 -- An order becomes at most one form.
 abbrev pub OrdersBecomeOneForm : Type 0
@@ -28,7 +28,7 @@ OrderIsAnswered s order = ((form : List ℕ) × IsFormOf s order form) ⊎ ((fau
 -- A fault that stands in an order stays its fault, whatever bytes follow.
 abbrev pub OrdersStayRefused : Type 0
 OrdersStayRefused =
-    (s : Day) (order more : List ℕ) (fault : FormFault) → StandsInOrder s order fault
+    (s : Day) (order more : List ℕ) (fault : FormFault) → IsOrderFaultForGood s order fault
     → IsSendFault s (order ++ more) fault
 
 -- A form becomes at most one text.
@@ -59,10 +59,11 @@ FormIsAnswered s form = ((text : List ℕ) × IsTextOf s form text) ⊎ ((fault 
 
 -- An order that becomes a form has a text to give back.
 abbrev pub OrdersGiveLetters : Type 0
-OrdersGiveLetters = (s : Day) (order form : List ℕ) → IsFormOf s order form → (given : List ℕ) × IsGivenOf s order given
+OrdersGiveLetters = (s : Day) (order form : List ℕ) → IsFormOf s order form → (given : List ℕ)
+    × IsPlaintextOf s order given
 
 -- The form of an order becomes the text that the order has to give back.
 abbrev pub FormsGiveTheirOrders : Type 0
 FormsGiveTheirOrders =
-    (s : Day) (order form given : List ℕ) → IsLegalDay s → IsFormOf s order form → IsGivenOf s order given
+    (s : Day) (order form given : List ℕ) → IsLegalDay s → IsFormOf s order form → IsPlaintextOf s order given
     → IsTextOf s form given

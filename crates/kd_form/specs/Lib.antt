@@ -19,4 +19,4 @@ pub mod StreamSteps
 pub mod SendStream
 pub mod SendSteps
 pub mod Typing
-pub mod Steps
+pub mod FirstFaults

@@ -2,7 +2,7 @@
 -- Code: one engine.
 use Rattle.std.specs.Prelude.{◌≡◌, ℕ, ◌-◌, ◌%◌, List, [], ◌∷◌, ◌++◌, length, Option, Some, None, replicate}
 use Rattle.kd_state.specs.Machine.{AreOnWheels}
-use Rattle.kd_state.specs.SheetDay.{Day, OfRotors, OfPins, AreOfAGroup}
+use Rattle.kd_state.specs.SheetDay.{Day, OfRotors, OfPins, AreOneOfGroups}
 use Rattle.kd_state.specs.TwoCiphers.{EngineKey, cipher, key_with_window, sheet_key}
 use Rattle.kd_form.specs.declared.keys.Keys.{Keys}
 use Rattle.kd_form.specs.declared.keys.Keys.TheVariants.{Rotor, Pin}
@@ -43,11 +43,11 @@ part_of part parts indicator letters = record {
 
 -- the ground, and the message key, enciphered from the ground
 abbrev pub indicator_of : Day → RotorKeys → Indicator
-indicator_of s k = record { start = k.start; key = cipher_from s k.start k.key }
+indicator_of s k = record { ground = k.ground; enciphered_key = cipher_from s k.ground k.message_key }
 
 -- the fillers, the group, and the text, enciphered from the message key
 abbrev pub rotor_letters : Day → RotorKeys → List ℕ → List ℕ
-rotor_letters s k text = k.fillers ++ k.group ++ cipher_from s k.key text
+rotor_letters s k text = k.fillers ++ k.group ++ cipher_from s k.message_key text
 
 -- ---- A part's letters on the Converter M-209: indicators, enciphered text, and the indicators again.
 -- Source: War Department TM 11-380
@@ -62,32 +62,35 @@ abbrev pub pin_indicators : Day → PinKeys → List ℕ
 pin_indicators s k = k.chosen ∷ k.chosen ∷ k.external ++ list_letters s
 
 -- the text, filled with X to whole groups of five
-abbrev pub filled : List ℕ → List ℕ
-filled text = text ++ replicate ((5 - length text % 5) % 5) 23
+abbrev pub fill_last_group : List ℕ → List ℕ
+fill_last_group text = text ++ replicate ((5 - length text % 5) % 5) 23
 
 -- the indicators, the filled text enciphered from the internal key, and the indicators again
 abbrev pub pin_letters : Day → PinKeys → List ℕ → List ℕ → List ℕ
-pin_letters s k internal text = pin_indicators s k ++ cipher_from s internal (filled text) ++ pin_indicators s k
+pin_letters s k internal text = pin_indicators s k ++ cipher_from s internal (fill_last_group text)
+    ++ pin_indicators s k
 
 -- ---- Which keys suit a day, and the part of a form that a text becomes with them.
 -- Test: orders_are_sent
 
 -- The keys suit the day. On a rotor machine, their group is one of the day's. On the Converter M-209, the
 -- external letters are on their wheels, and there is an internal key.
-abbrev pub Suits : Day → Keys → Type 0
-Suits (OfRotors s) (Rotor k) = AreOfAGroup s.groups k.group
-Suits (OfPins s) (Pin k) =
+abbrev pub KeysSuitDay : Day → Keys → Type 0
+KeysSuitDay (OfRotors s) (Rotor k) = AreOneOfGroups s.groups k.group
+KeysSuitDay (OfPins s) (Pin k) =
     AreOnWheels k.external × ((internal : List ℕ) × IsInternalKey (enciphered_choice (OfPins s) k) internal)
-Suits (OfRotors s) (Pin k) = ⊥
-Suits (OfPins s) (Rotor k) = ⊥
+KeysSuitDay (OfRotors s) (Pin k) = ⊥
+KeysSuitDay (OfPins s) (Rotor k) = ⊥
 
 -- `made` is part `part` of `parts`: `text`, enciphered with these keys.
-abbrev pub IsMade : Day → ℕ → ℕ → Keys → List ℕ → Part → Type 0
-IsMade s part parts (Rotor k) text made = made ≡ part_of part parts (Some (indicator_of s k)) (rotor_letters s k text)
-IsMade s part parts (Pin k) text made =
+abbrev pub IsPartMade : Day → ℕ → ℕ → Keys → List ℕ → Part → Type 0
+IsPartMade s part parts (Rotor k) text made = made
+    ≡ part_of part parts (Some (indicator_of s k)) (rotor_letters s k text)
+IsPartMade s part parts (Pin k) text made =
     (internal : List ℕ) × IsInternalKey (enciphered_choice s k) internal
     × (made ≡ part_of part parts None (pin_letters s k internal text))
 
 -- `bytes` are part `part` of `parts` as it is written.
-abbrev pub IsMadeText : Day → ℕ → ℕ → Keys → List ℕ → List ℕ → Type 0
-IsMadeText s part parts keys text bytes = (made : Part) × IsMade s part parts keys text made × (bytes ≡ part_text made)
+abbrev pub IsPartTextMade : Day → ℕ → ℕ → Keys → List ℕ → List ℕ → Type 0
+IsPartTextMade s part parts keys text bytes = (made : Part) × IsPartMade s part parts keys text made
+    × (bytes ≡ part_text made)

@@ -9,7 +9,7 @@ use Rattle.kd_form.specs.declared.fault.FormFault.{FormFault}
 use Rattle.kd_form.specs.declared.fault.FormFault.TheVariants.{NotReady, NoMemory, NotOnKey}
 
 -- The machine is ready and on the day's key.
-pub record IsOnKey (m : Parts) (s : Day) : Type 0 where
+pub record IsReadyOnKey (m : Parts) (s : Day) : Type 0 where
   pub ready : IsReady m
   pub on_key : OnKey m s
 
@@ -18,14 +18,14 @@ abbrev pub IsKeyFault : Parts → Day → FormFault → Type 0
 IsKeyFault m s fault = (¬ (IsReady m) × (fault ≡ NotReady)) ⊎ (IsReady m × ¬ (OnKey m s) × (fault ≡ NotOnKey))
 
 -- The fault satisfies `is_fault`; or it is `NoMemory`, and the call takes memory.
-abbrev pub IsRefusal : (FormFault → Type 0) → Type 0 → FormFault → Type 0
-IsRefusal is_fault takes_memory fault = (takes_memory × (fault ≡ NoMemory)) ⊎ is_fault fault
+abbrev pub IsFaultOrNoMemory : (FormFault → Type 0) → Type 0 → FormFault → Type 0
+IsFaultOrNoMemory is_fault takes_memory fault = (takes_memory × (fault ≡ NoMemory)) ⊎ is_fault fault
 
 -- A machine that isn't ready or isn't on the key is refused. Otherwise the answer satisfies `is_due`, or is a
--- fault by `IsRefusal`.
-pub data AnswersOnKey {X : Type 0} (m : Parts) (s : Day) (is_due : X → Type 0) (is_fault : FormFault → Type 0)
+-- fault by `IsFaultOrNoMemory`.
+pub data IsAnswerOnKey {X : Type 0} (m : Parts) (s : Day) (is_due : X → Type 0) (is_fault : FormFault → Type 0)
     (takes_memory : Type 0) (answer : Result X FormFault) : Type 0 where
   OffKey : (fault : FormFault) → IsKeyFault m s fault → answer ≡ Err fault
-      → AnswersOnKey m s is_due is_fault takes_memory answer
-  WithKey : IsOnKey m s → MatchResult answer is_due (IsRefusal is_fault takes_memory)
-      → AnswersOnKey m s is_due is_fault takes_memory answer
+      → IsAnswerOnKey m s is_due is_fault takes_memory answer
+  WithKey : IsReadyOnKey m s → MatchResult answer is_due (IsFaultOrNoMemory is_fault takes_memory)
+      → IsAnswerOnKey m s is_due is_fault takes_memory answer

@@ -6,16 +6,16 @@ use Rattle.kd_state.specs.Words.{line_of}
 use Rattle.kd_state.specs.SheetDay.{Day}
 use Rattle.kd_form.specs.declared.keys.Keys.{Keys}
 use Rattle.kd_form.specs.declared.pattern_line.Unread.{Unread}
-use Rattle.kd_form.specs.declared.pattern_line.Unread.TheVariants.{Open, Off}
+use Rattle.kd_form.specs.declared.pattern_line.Unread.TheVariants.{Incomplete, Mismatch}
 use Rattle.kd_form.specs.Keys.{key_words, AreKeys}
 
 -- `bytes` are the line and its end: LF, or CR and LF.
-abbrev pub IsEnded : List ℕ → List ℕ → Type 0
-IsEnded line bytes = (bytes ≡ line ++ 10 ∷ []) ⊎ (bytes ≡ line ++ 13 ∷ 10 ∷ [])
+abbrev pub IsLineWithEnd : List ℕ → List ℕ → Type 0
+IsLineWithEnd line bytes = (bytes ≡ line ++ 10 ∷ []) ⊎ (bytes ≡ line ++ 13 ∷ 10 ∷ [])
 
 -- `bytes` are the line of these keys, and its end.
 abbrev pub IsKeyLine : Keys → List ℕ → Type 0
-IsKeyLine keys bytes = IsEnded (line_of (key_words keys)) bytes
+IsKeyLine keys bytes = IsLineWithEnd (line_of (key_words keys)) bytes
 
 -- The bytes begin with the lines of these keys, which are of the day's model. The rest satisfies `Holds`.
 abbrev pub BeginsWithKeys : Day → List Keys → (List ℕ → Type 0) → List ℕ → Type 0
@@ -25,31 +25,32 @@ BeginsWithKeys s (keys ∷ more) Holds bytes =
     × (bytes ≡ line ++ rest)
 
 -- `bytes` are the head of an order: at most 99 lines of keys, and the line TEXT.
-pub record IsHead (s : Day) (keys : List Keys) (bytes : List ℕ) : Type 0 where
-  pub lines : BeginsWithKeys s keys (IsEnded (codes "TEXT")) bytes
+pub record IsOrderHead (s : Day) (keys : List Keys) (bytes : List ℕ) : Type 0 where
+  pub lines : BeginsWithKeys s keys (IsLineWithEnd (codes "TEXT")) bytes
   pub few : length keys ≤ 99
 
 -- `bytes` are the head of an order, with some keys.
-abbrev pub IsAnyHead : Day → List ℕ → Type 0
-IsAnyHead s bytes = (keys : List Keys) × IsHead s keys bytes
+abbrev pub IsAnyOrderHead : Day → List ℕ → Type 0
+IsAnyOrderHead s bytes = (keys : List Keys) × IsOrderHead s keys bytes
 
 -- The order has this head with these keys, and then this text.
 pub record IsOrder (s : Day) (order : List ℕ) (keys : List Keys) (head text : List ℕ) : Type 0 where
   pub joined : order ≡ head ++ text
-  pub is_head : IsHead s keys head
+  pub is_head : IsOrderHead s keys head
 
--- `Open`: the bytes begin something that satisfies `Is`, and more has to follow. `Off`: nothing that satisfies
+-- `Incomplete`: the bytes begin something that satisfies `Is`, and more has to follow. `Mismatch`: nothing that
+-- satisfies
 -- `Is` begins with these bytes.
-abbrev pub BreaksOff : (List ℕ → Type 0) → List ℕ → Unread → Type 0
-BreaksOff Is bytes Open = (more : List ℕ) × (more ≢ []) × Is (bytes ++ more)
-BreaksOff Is bytes Off = (more : List ℕ) → ¬ (Is (bytes ++ more))
+abbrev pub IsUnread : (List ℕ → Type 0) → List ℕ → Unread → Type 0
+IsUnread Is bytes Incomplete = (more : List ℕ) × (more ≢ []) × Is (bytes ++ more)
+IsUnread Is bytes Mismatch = (more : List ℕ) → ¬ (Is (bytes ++ more))
 
 -- The position of the byte that breaks the head. The bytes before it begin a head but aren't a whole one, and
 -- with this byte no head begins. If the order ends in its head, the position is one past its last byte.
-pub record IsHeadFault (s : Day) (order : List ℕ) (position : ℕ) : Type 0 where
+pub record IsOrderHeadFault (s : Day) (order : List ℕ) (position : ℕ) : Type 0 where
   pub before : List ℕ
   pub rest : List ℕ
   pub joined : order ≡ before ++ rest
   pub size : position ≡ length before + 1
-  pub begins : BreaksOff (IsAnyHead s) before Open
-  pub stops : (byte : ℕ) (after more : List ℕ) → rest ≡ byte ∷ after → ¬ (IsAnyHead s (before ++ byte ∷ more))
+  pub begins : IsUnread (IsAnyOrderHead s) before Incomplete
+  pub stops : (byte : ℕ) (after more : List ℕ) → rest ≡ byte ∷ after → ¬ (IsAnyOrderHead s (before ++ byte ∷ more))

@@ -14,33 +14,33 @@ abbrev pub pieces : ℕ → List ℕ → List (List ℕ)
 pieces size letters = first_chunks size (div_ceil (length letters) size) letters
 
 -- the number of a part and the number of all parts, as in `2/5`
-abbrev pub fraction : ℕ → ℕ → List ℕ
-fraction part parts = decimal part ++ codes "/" ++ decimal parts
+abbrev pub fraction_text : ℕ → ℕ → List ℕ
+fraction_text part parts = decimal part ++ codes "/" ++ decimal parts
 
 -- the ground and the enciphered message key, as words
 abbrev pub indicator_words : Option Indicator → List (List ℕ)
-indicator_words (Some indicator) = letters_text indicator.start ∷ letters_text indicator.key ∷ []
+indicator_words (Some indicator) = letters_text indicator.ground ∷ letters_text indicator.enciphered_key ∷ []
 indicator_words None = []
 
 -- the words of a heading line
 abbrev pub heading_words : Heading → List (List ℕ)
-heading_words h = codes "PART" ∷ fraction h.part h.parts ∷ decimal h.letters ∷ indicator_words h.indicator
+heading_words h = codes "PART" ∷ fraction_text h.part h.parts ∷ decimal h.letters ∷ indicator_words h.indicator
 
 -- words, each after a space
-abbrev pub behind_spaces : List (List ℕ) → List ℕ
-behind_spaces words = flat_map (λ word. 32 ∷ word) words
+abbrev pub words_after_spaces : List (List ℕ) → List ℕ
+words_after_spaces words = flat_map (λ word. 32 ∷ word) words
 
 -- the line of these words, with LF at its end, and then `rest`
-abbrev pub with_line : List (List ℕ) → List ℕ → List ℕ
-with_line words rest = line_of words ++ 10 ∷ rest
+abbrev pub line_then : List (List ℕ) → List ℕ → List ℕ
+line_then words rest = line_of words ++ 10 ∷ rest
 
 -- the words of a body's line: groups of five letters
-abbrev pub groups_of : List ℕ → List (List ℕ)
-groups_of letters = map letters_text (pieces 5 letters)
+abbrev pub letter_groups : List ℕ → List (List ℕ)
+letter_groups letters = map letters_text (pieces 5 letters)
 
 -- the lines of a body, with ten groups each
 abbrev pub body_text : List ℕ → List ℕ
-body_text letters = flat_map (λ line. with_line (groups_of line) []) (pieces 50 letters)
+body_text letters = flat_map (λ line. line_then (letter_groups line) []) (pieces 50 letters)
 
 -- A part: its heading and the letters of its body.
 pub record Part : Type 0 where
@@ -48,4 +48,4 @@ pub record Part : Type 0 where
   pub body : List ℕ
 
 abbrev pub part_text : Part → List ℕ
-part_text part = with_line (heading_words part.heading) (body_text part.body)
+part_text part = line_then (heading_words part.heading) (body_text part.body)

@@ -2,24 +2,24 @@
 use Rattle.std.specs.Prelude.{◌≡◌, ℕ, ◌+◌, ◌-◌, ◌==◌, ◌++◌, ◌&&◌, nat_le, Bool, List, [], ◌∷◌, drop, slice_index}
 use Rattle.std.specs.Prelude.{if◌then◌else◌}
 use Rattle.kd_state.specs.Machine.{AreLetters}
-use Rattle.kd_form.specs.Order.{IsEnded}
+use Rattle.kd_form.specs.Order.{IsLineWithEnd}
 
 -- the pattern, with `letters` in place of its `_`, in order
-abbrev pub filled_in : List ℕ → List ℕ → List ℕ
-filled_in [] letters = []
-filled_in (mark ∷ pattern) letters =
-    if mark == 95 then (slice_index letters 0 + 65) ∷ filled_in pattern (drop 1 letters)
-    else mark ∷ filled_in pattern letters
+abbrev pub filled_pattern : List ℕ → List ℕ → List ℕ
+filled_pattern [] letters = []
+filled_pattern (mark ∷ pattern) letters =
+    if mark == 95 then (slice_index letters 0 + 65) ∷ filled_pattern pattern (drop 1 letters)
+    else mark ∷ filled_pattern pattern letters
 
 -- how many letters the pattern takes
-abbrev pub blanks : List ℕ → ℕ
-blanks [] = 0
-blanks (mark ∷ pattern) = if mark == 95 then blanks pattern + 1 else blanks pattern
+abbrev pub blank_count : List ℕ → ℕ
+blank_count [] = 0
+blank_count (mark ∷ pattern) = if mark == 95 then blank_count pattern + 1 else blank_count pattern
 
 -- `bytes` are the line of the pattern with these letters, and its end.
 pub record IsFilledLine (pattern letters bytes : List ℕ) : Type 0 where
-  pub are_letters : AreLetters (blanks pattern) letters
-  pub ended : IsEnded (filled_in pattern letters) bytes
+  pub are_letters : AreLetters (blank_count pattern) letters
+  pub ended : IsLineWithEnd (filled_pattern pattern letters) bytes
 
 -- `bytes` are the line of the pattern with some letters, and its end.
 abbrev pub IsPatternLine : List ℕ → List ℕ → Type 0
@@ -28,13 +28,13 @@ IsPatternLine pattern bytes = (letters : List ℕ) × IsFilledLine pattern lette
 -- ---- one byte
 
 -- whether the byte fits the mark
-abbrev pub fits : ℕ → ℕ → Bool
-fits mark byte = if mark == 95 then nat_le 65 byte && nat_le byte 90 else byte == mark
+abbrev pub fits_mark : ℕ → ℕ → Bool
+fits_mark mark byte = if mark == 95 then nat_le 65 byte && nat_le byte 90 else byte == mark
 
 -- the letter that the byte gives, if the mark is `_`
-abbrev pub letters_at : ℕ → ℕ → List ℕ
-letters_at mark byte = if mark == 95 then (byte - 65) ∷ [] else []
+abbrev pub letters_for_mark : ℕ → ℕ → List ℕ
+letters_for_mark mark byte = if mark == 95 then (byte - 65) ∷ [] else []
 
 -- `bytes` are a line of the pattern, and `new` is `old` with the line's letters appended.
-abbrev pub AreAppended : List ℕ → List ℕ → List ℕ → List ℕ → Type 0
-AreAppended pattern bytes old new = (more : List ℕ) × IsFilledLine pattern more bytes × (new ≡ old ++ more)
+abbrev pub AreLettersAppended : List ℕ → List ℕ → List ℕ → List ℕ → Type 0
+AreLettersAppended pattern bytes old new = (more : List ℕ) × IsFilledLine pattern more bytes × (new ≡ old ++ more)

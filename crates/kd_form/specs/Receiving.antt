@@ -9,9 +9,9 @@ use Rattle.kd_form.specs.declared.fault.FormFault.{FormFault}
 use Rattle.kd_form.specs.declared.fault.FormFault.TheVariants.{BadByte, BadHeading, CountWrong, PartOrder}
 use Rattle.kd_form.specs.declared.heading.Heading.{Heading}
 use Rattle.kd_form.specs.Part.{heading_words}
-use Rattle.kd_form.specs.Sending.{letters_from, IsBadAt}
-use Rattle.kd_form.specs.Steps.{Answer, IsJudged}
-use Rattle.kd_form.specs.Reading.{SaysLetters}
+use Rattle.kd_form.specs.Sending.{letters_from, IsFirstBadByteAt}
+use Rattle.kd_form.specs.FirstFaults.{Answer, DemandsThen}
+use Rattle.kd_form.specs.Reading.{IsLettersAnswer}
 use Rattle.kd_form.specs.FormParts.{IsHeading, HasFirstLine}
 
 -- `h` is the heading in the part's first line, and `body` follows this line.
@@ -21,9 +21,9 @@ pub record HasHeading (s : Day) (part : List ℕ) (h : Heading) (body : List ℕ
 
 -- The answer is `CountWrong` if the body hasn't as many letters as its heading says. Otherwise its letters are
 -- read.
-abbrev pub SaysBody : Day → ℕ → Heading → List ℕ → Answer → Type 0
-SaysBody s number h letters =
-    IsJudged (length letters ≡ h.letters) (Err (CountWrong number)) (SaysLetters s number h.indicator letters)
+abbrev pub IsBodyAnswer : Day → ℕ → Heading → List ℕ → Answer → Type 0
+IsBodyAnswer s number h letters =
+    DemandsThen (length letters ≡ h.letters) (Err (CountWrong number)) (IsLettersAnswer s number h.indicator letters)
 
 -- The part is part `number` of `parts`, and its body becomes `text`.
 pub record IsPartRead (s : Day) (number parts : ℕ) (part text : List ℕ) : Type 0 where
@@ -33,12 +33,12 @@ pub record IsPartRead (s : Day) (number parts : ℕ) (part text : List ℕ) : Ty
   pub numbered : heading.part ≡ number
   pub so_many : heading.parts ≡ parts
   pub allowed : All (λ b. IsTrue (is_text_byte b)) body
-  pub read : SaysBody s number heading (letters_from None body) (Ok text)
+  pub read : IsBodyAnswer s number heading (letters_from None body) (Ok text)
 
 -- `parts` is the expected number of parts, if one is expected.
-abbrev pub IsExpected : Option ℕ → ℕ → Type 0
-IsExpected None parts = Unit {0}
-IsExpected (Some first) parts = first ≡ parts
+abbrev pub IsExpectedCount : Option ℕ → ℕ → Type 0
+IsExpectedCount None parts = Unit {0}
+IsExpectedCount (Some first) parts = first ≡ parts
 
 -- The first fault that shows before the part ends. It has no heading; or it is another part, or has another
 -- number of parts; or a byte of its body isn't allowed. The form has `start` bytes before the part.
@@ -47,10 +47,10 @@ pub data IsEarlyFault (s : Day) (number : ℕ) (expected : Option ℕ) (start : 
   InHeading : ((h : Heading) (body : List ℕ) → ¬ (HasHeading s part h body)) → fault ≡ BadHeading number
       → IsEarlyFault s number expected start part fault
   InNumber : (h : Heading) (body : List ℕ) → HasHeading s part h body
-      → (h.part ≢ number) ⊎ (¬ (IsExpected expected h.parts)) → fault ≡ PartOrder
+      → (h.part ≢ number) ⊎ (¬ (IsExpectedCount expected h.parts)) → fault ≡ PartOrder
       → IsEarlyFault s number expected start part fault
   InBody : (h : Heading) (body : List ℕ) (place : ℕ) → HasHeading s part h body → h.part ≡ number
-      → IsExpected expected h.parts → IsBadAt body place
+      → IsExpectedCount expected h.parts → IsFirstBadByteAt body place
       → fault ≡ BadByte (start + (length part - length body) + place + 1)
       → IsEarlyFault s number expected start part fault
 
@@ -60,9 +60,9 @@ pub record IsLateFault (s : Day) (number : ℕ) (expected : Option ℕ) (part : 
   pub body : List ℕ
   pub has : HasHeading s part heading body
   pub numbered : heading.part ≡ number
-  pub due : IsExpected expected heading.parts
+  pub due : IsExpectedCount expected heading.parts
   pub allowed : All (λ b. IsTrue (is_text_byte b)) body
-  pub found : SaysBody s number heading (letters_from None body) (Err fault)
+  pub found : IsBodyAnswer s number heading (letters_from None body) (Err fault)
 
 -- The part has this fault, and it is its first one.
 abbrev pub IsPartFault : Day → ℕ → Option ℕ → ℕ → List ℕ → FormFault → Type 0

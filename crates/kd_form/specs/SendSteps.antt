@@ -11,64 +11,64 @@ use Rattle.kd_form.specs.declared.order_reader.head.HeadStep.TheVariants.{Open, 
 use Rattle.kd_form.specs.declared.pattern_line.Unread.TheVariants as unread
 use Rattle.kd_form.specs.declared.order_reader.parts.PartWriter.{PartWriter}
 use Rattle.kd_form.specs.declared.order_reader.OrderReader.{OrderReader}
-use Rattle.kd_form.specs.declared.order_reader.Stage.{Stage}
-use Rattle.kd_form.specs.declared.order_reader.Stage.TheVariants as stages
+use Rattle.kd_form.specs.declared.order_reader.OrderStage.{OrderStage}
+use Rattle.kd_form.specs.declared.order_reader.OrderStage.TheVariants as stages
 use Rattle.kd_form.specs.Keys.{AreKeys}
 use Rattle.kd_form.specs.Part.{pieces}
-use Rattle.kd_form.specs.Making.{Suits, part_size}
-use Rattle.kd_form.specs.Order.{BeginsWithKeys, BreaksOff, IsEnded, IsHeadFault, IsOrder}
+use Rattle.kd_form.specs.Making.{KeysSuitDay, part_size}
+use Rattle.kd_form.specs.Order.{BeginsWithKeys, IsUnread, IsLineWithEnd, IsOrderHeadFault, IsOrder}
 use Rattle.kd_form.specs.KeyPatterns.{IsAnyKeyLine}
-use Rattle.kd_form.specs.Sending.{text_letters, parts_needed, AreMadeTexts, IsSendable}
-use Rattle.kd_form.specs.SendStream.{CanBeWritten}
+use Rattle.kd_form.specs.Sending.{text_letters, parts_needed, ArePartTextsMade, IsSendable}
+use Rattle.kd_form.specs.SendStream.{IsWritableCount}
 
 -- After `count` lines of keys, the line is another line of keys, or the line TEXT.
 abbrev pub IsHeadLine : Day → ℕ → List ℕ → Type 0
-IsHeadLine s count line = (IsAnyKeyLine s line × (count < 99)) ⊎ IsEnded (codes "TEXT") line
+IsHeadLine s count line = (IsAnyKeyLine s line × (count < 99)) ⊎ IsLineWithEnd (codes "TEXT") line
 
 -- The order has a line for each of these keys, and then `line`, the incomplete next line of the head.
-pub record IsHeadRead (s : Day) (keys : List Keys) (line order : List ℕ) : Type 0 where
+pub record IsHeadBegun (s : Day) (keys : List Keys) (line order : List ℕ) : Type 0 where
   pub lines : BeginsWithKeys s keys (λ rest. rest ≡ line) order
   pub few : length keys ≤ 99
-  pub begins : BreaksOff (IsHeadLine s (length keys)) line unread.Open
+  pub begins : IsUnread (IsHeadLine s (length keys)) line unread.Incomplete
 
-abbrev pub HeadIsRead : Day → List Keys → List ℕ → List ℕ → HeadStep → Type 0
-HeadIsRead s keys line order Open = IsHeadRead s keys line order
-HeadIsRead s keys line order Text = IsOrder s order keys order []
-HeadIsRead s keys line order Bad = IsHeadFault s order (length order)
+abbrev pub IsHeadStep : Day → List Keys → List ℕ → List ℕ → HeadStep → Type 0
+IsHeadStep s keys line order Open = IsHeadBegun s keys line order
+IsHeadStep s keys line order Text = IsOrder s order keys order []
+IsHeadStep s keys line order Bad = IsOrderHeadFault s order (length order)
 
 -- There are at most 99 keys of the day's model, and all suit the day.
 pub record AreSuitedKeys (s : Day) (keys : List Keys) : Type 0 where
   pub of_the_day : All (AreKeys s) keys
-  pub suited : All (Suits s) keys
+  pub suited : All (KeysSuitDay s) keys
   pub few : length keys ≤ 99
 
 -- All parts of these letters that can be written were made, with keys that suit the day. The writer keeps the
 -- next letters, at most as many as a part has.
-pub record AreTaken (s : Day) (keys : List Keys) (w : PartWriter) (letters sent : List ℕ) : Type 0 where
+pub record AreLettersTaken (s : Day) (keys : List Keys) (w : PartWriter) (letters sent : List ℕ) : Type 0 where
   pub suited : AreSuitedKeys s keys
   pub counted : w.count ≡ length letters
-  pub written : CanBeWritten (part_size s) (length keys) (length letters) w.written
+  pub written : IsWritableCount (part_size s) (length keys) (length letters) w.written
   pub kept : w.letters.items ≡ take (part_size s) (drop (part_size s * w.written) letters)
-  pub made : AreMadeTexts s 1 (length keys) (take w.written keys)
+  pub made : ArePartTextsMade s 1 (length keys) (take w.written keys)
       (pieces (part_size s) (take (part_size s * w.written) letters)) sent
 
 -- Why a text with these letters can't be sent: there are none; or they need more or fewer parts than there are
 -- keys.
-abbrev pub IsEndRefusal : Day → List Keys → List ℕ → FormFault → Type 0
-IsEndRefusal s keys letters fault =
+abbrev pub IsTextEndFault : Day → List Keys → List ℕ → FormFault → Type 0
+IsTextEndFault s keys letters fault =
     ((letters ≡ []) × (fault ≡ EmptyText))
     ⊎ ((letters ≢ []) × (parts_needed s (length letters) ≢ length keys)
     × (fault ≡ PartKeys (parts_needed s (length letters)) (length keys)))
 
 -- At the end of the text, the last part was made, or the text is refused.
-abbrev pub IsLastTaken : Day → List Keys → List ℕ → List ℕ → List ℕ → Result (Unit {0}) FormFault → Type 0
-IsLastTaken s keys letters sent made (Ok _) =
+abbrev pub IsTextEndAnswer : Day → List Keys → List ℕ → List ℕ → List ℕ → Result (Unit {0}) FormFault → Type 0
+IsTextEndAnswer s keys letters sent made (Ok _) =
     (letters ≢ []) × (parts_needed s (length letters) ≡ length keys)
-    × AreMadeTexts s 1 (length keys) keys (pieces (part_size s) letters) (sent ++ made)
-IsLastTaken s keys letters sent made (Err fault) = (made ≡ []) × IsEndRefusal s keys letters fault
+    × ArePartTextsMade s 1 (length keys) keys (pieces (part_size s) letters) (sent ++ made)
+IsTextEndAnswer s keys letters sent made (Err fault) = (made ≡ []) × IsTextEndFault s keys letters fault
 
 -- The writer has taken no letter yet.
-pub record IsFresh (w : PartWriter) : Type 0 where
+pub record IsFreshWriter (w : PartWriter) : Type 0 where
   pub none : w.count ≡ 0
   pub unwritten : w.written ≡ 0
   pub empty : w.letters.items ≡ []
@@ -78,10 +78,10 @@ pub record IsTextRead (s : Day) (keys : List Keys) (w : PartWriter) (order sent 
   pub head : List ℕ
   pub text : List ℕ
   pub sendable : IsSendable s order keys head text
-  pub taken : AreTaken s keys w (text_letters s text) sent
+  pub taken : AreLettersTaken s keys w (text_letters s text) sent
 
-abbrev pub IsStageRead : Day → Stage → HeadReader → PartWriter → List ℕ → List ℕ → Type 0
-IsStageRead s stages.Head h w order sent = IsHeadRead s h.keys.items h.line.items order × (sent ≡ []) × IsFresh w
+abbrev pub IsStageRead : Day → OrderStage → HeadReader → PartWriter → List ℕ → List ℕ → Type 0
+IsStageRead s stages.Head h w order sent = IsHeadBegun s h.keys.items h.line.items order × (sent ≡ []) × IsFreshWriter w
 IsStageRead s stages.Text h w order sent = IsTextRead s h.keys.items w order sent
 
 pub record IsOrderRead (s : Day) (r : OrderReader) (order sent : List ℕ) : Type 0 where

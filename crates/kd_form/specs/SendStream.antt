@@ -5,13 +5,13 @@ use Rattle.kd_tables.specs.Text.{is_text_byte}
 use Rattle.kd_state.specs.SheetDay.{Day}
 use Rattle.kd_form.specs.declared.keys.Keys.{Keys}
 use Rattle.kd_form.specs.Part.{pieces}
-use Rattle.kd_form.specs.Making.{Suits, part_size}
+use Rattle.kd_form.specs.Making.{KeysSuitDay, part_size}
 use Rattle.kd_form.specs.Order.{IsOrder}
-use Rattle.kd_form.specs.Sending.{text_letters, StandsInOrder, IsSendFault, AreMadeTexts, IsFormOf}
+use Rattle.kd_form.specs.Sending.{text_letters, IsOrderFaultForGood, IsSendFault, ArePartTextsMade, IsFormOf}
 use Rattle.kd_form.specs.Streams.{Message}
 
 -- `front` is the prefix of the text before the first byte that isn't allowed.
-pub record IsAllowedFront (text front : List ℕ) : Type 0 where
+pub record IsAllowedPrefix (text front : List ℕ) : Type 0 where
   pub rest : List ℕ
   pub joined : text ≡ front ++ rest
   pub allowed : All (λ b. IsTrue (is_text_byte b)) front
@@ -19,26 +19,27 @@ pub record IsAllowedFront (text front : List ℕ) : Type 0 where
 
 -- Of `parts` parts, `written` can be written once `letters` letters have come. A part has at most `size`
 -- letters, and can be written once a letter of the next part has come.
-pub record CanBeWritten (size parts letters written : ℕ) : Type 0 where
+pub record IsWritableCount (size parts letters written : ℕ) : Type 0 where
   pub due : (written ≡ 0) ⊎ ((written < parts) × (size * written < letters))
   pub most : (other : ℕ) → other < parts → size * other < letters → other ≤ written
 
 -- What is written of an order before its end. If its text hasn't begun, or its keys don't suit the day, it is
 -- nothing. Otherwise it is the parts that can be written.
 pub data IsSentBefore (s : Day) (order sent : List ℕ) : Type 0 where
-  NotYet : ((keys : List Keys) (head text : List ℕ) → IsOrder s order keys head text → ¬ (All (Suits s) keys))
+  NothingSent : ((keys : List Keys) (head text : List ℕ) → IsOrder s order keys head text
+      → ¬ (All (KeysSuitDay s) keys))
       → sent ≡ [] → IsSentBefore s order sent
-  InText : (keys : List Keys) (head text front : List ℕ) (written : ℕ) → IsOrder s order keys head text
-      → All (Suits s) keys
-      → IsAllowedFront text front → CanBeWritten (part_size s) (length keys) (length (text_letters s front)) written
-      → AreMadeTexts s 1 (length keys) (take written keys)
+  TextBegun : (keys : List Keys) (head text front : List ℕ) (written : ℕ) → IsOrder s order keys head text
+      → All (KeysSuitDay s) keys
+      → IsAllowedPrefix text front → IsWritableCount (part_size s) (length keys) (length (text_letters s front)) written
+      → ArePartTextsMade s 1 (length keys) (take written keys)
       (pieces (part_size s) (take (part_size s * written) (text_letters s front))) sent
       → IsSentBefore s order sent
 
 -- orders, as a kind of message
-abbrev pub orders : Day → Message
-orders s = record {
-  stands = StandsInOrder s;
+abbrev pub order_message : Day → Message
+order_message s = record {
+  stands = IsOrderFaultForGood s;
   refused = IsSendFault s;
   becomes = IsFormOf s;
   before = λ reason order sent. IsSentBefore s order sent;

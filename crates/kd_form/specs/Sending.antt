@@ -4,16 +4,16 @@ use Rattle.std.specs.Prelude.{IsTrue, IsFalse, Option, Some, None, if◌then◌e
 use Rattle.std.specs.Int.{div_ceil}
 use Rattle.kd_tables.specs.Text.{is_capital, is_text_byte}
 use Rattle.kd_state.specs.Machine.{AreOnWheels}
-use Rattle.kd_state.specs.SheetDay.{Day, OfRotors, OfPins, AreOfAGroup}
+use Rattle.kd_state.specs.SheetDay.{Day, OfRotors, OfPins, AreOneOfGroups}
 use Rattle.kd_form.specs.declared.fault.FormFault.{FormFault}
 use Rattle.kd_form.specs.declared.fault.FormFault.TheVariants.{BadByte, EmptyText, PartKeys, KeyNotOnWheel, WrongGroup}
 use Rattle.kd_form.specs.declared.fault.FormFault.TheVariants.{IndicatorSpent}
 use Rattle.kd_form.specs.declared.keys.Keys.{Keys}
 use Rattle.kd_form.specs.declared.keys.Keys.TheVariants.{Rotor, Pin}
-use Rattle.kd_form.specs.InternalKey.{HaveRunOut}
+use Rattle.kd_form.specs.InternalKey.{HaveNoInternalKey}
 use Rattle.kd_form.specs.Part.{pieces}
-use Rattle.kd_form.specs.Making.{Suits, IsMadeText, enciphered_choice, part_size}
-use Rattle.kd_form.specs.Order.{IsOrder, IsHeadFault}
+use Rattle.kd_form.specs.Making.{KeysSuitDay, IsPartTextMade, enciphered_choice, part_size}
+use Rattle.kd_form.specs.Order.{IsOrder, IsOrderHeadFault}
 
 -- ---- The letters that an order's text gives, and how many parts they need.
 -- Test: orders_are_sent
@@ -36,7 +36,7 @@ abbrev pub text_letters : Day → List ℕ → List ℕ
 text_letters s text = letters_from (blank_of s) text
 
 -- `place` is the index of the first byte of the text that isn't allowed.
-pub record IsBadAt (text : List ℕ) (place : ℕ) : Type 0 where
+pub record IsFirstBadByteAt (text : List ℕ) (place : ℕ) : Type 0 where
   pub before : List ℕ
   pub byte : ℕ
   pub rest : List ℕ
@@ -54,10 +54,10 @@ parts_needed s letters = div_ceil letters (part_size s)
 
 -- Why the keys of part `part` don't suit the day.
 abbrev pub IsKeysFault : Day → ℕ → Keys → FormFault → Type 0
-IsKeysFault (OfRotors s) part (Rotor k) fault = ¬ (AreOfAGroup s.groups k.group) × (fault ≡ WrongGroup part)
+IsKeysFault (OfRotors s) part (Rotor k) fault = ¬ (AreOneOfGroups s.groups k.group) × (fault ≡ WrongGroup part)
 IsKeysFault (OfPins s) part (Pin k) fault =
     (¬ (AreOnWheels k.external) × (fault ≡ KeyNotOnWheel))
-    ⊎ (AreOnWheels k.external × HaveRunOut (enciphered_choice (OfPins s) k) × (fault ≡ IndicatorSpent part))
+    ⊎ (AreOnWheels k.external × HaveNoInternalKey (enciphered_choice (OfPins s) k) × (fault ≡ IndicatorSpent part))
 IsKeysFault (OfRotors s) part (Pin k) fault = ⊥
 IsKeysFault (OfPins s) part (Rotor k) fault = ⊥
 
@@ -67,50 +67,52 @@ pub record IsFirstKeysFault (s : Day) (keys : List Keys) (fault : FormFault) : T
   pub unsuited : Keys
   pub others : List Keys
   pub joined : keys ≡ before ++ unsuited ∷ others
-  pub suited : All (Suits s) before
+  pub suited : All (KeysSuitDay s) before
   pub is : IsKeysFault s (length before + 1) unsuited fault
 
 -- The order has no fault that stands: its keys suit the day, and each byte of its text is allowed.
 pub record IsSendable (s : Day) (order : List ℕ) (keys : List Keys) (head text : List ℕ) : Type 0 where
   pub is_order : IsOrder s order keys head text
-  pub suited : All (Suits s) keys
+  pub suited : All (KeysSuitDay s) keys
   pub allowed : All (λ b. IsTrue (is_text_byte b)) text
 
 -- The fault that an order has whatever bytes follow: in its head, in its keys, or in a byte of its text.
-pub data StandsInOrder (s : Day) (order : List ℕ) (fault : FormFault) : Type 0 where
-  InHead : (position : ℕ) → IsHeadFault s order position → position ≤ length order → fault ≡ BadByte position
-      → StandsInOrder s order fault
+pub data IsOrderFaultForGood (s : Day) (order : List ℕ) (fault : FormFault) : Type 0 where
+  InHead : (position : ℕ) → IsOrderHeadFault s order position → position ≤ length order → fault ≡ BadByte position
+      → IsOrderFaultForGood s order fault
   InKeys : (keys : List Keys) (head text : List ℕ) → IsOrder s order keys head text → IsFirstKeysFault s keys fault
-      → StandsInOrder s order fault
-  InText : (keys : List Keys) (head text : List ℕ) (place : ℕ) → IsOrder s order keys head text → All (Suits s) keys
-      → IsBadAt text place → fault ≡ BadByte (length head + place + 1) → StandsInOrder s order fault
+      → IsOrderFaultForGood s order fault
+  InText : (keys : List Keys) (head text : List ℕ) (place : ℕ) → IsOrder s order keys head text
+      → All (KeysSuitDay s) keys
+      → IsFirstBadByteAt text place → fault ≡ BadByte (length head + place + 1) → IsOrderFaultForGood s order fault
 
 -- The fault that an order has only at its end: it ends in its head, it has no letter, or it needs more or fewer
 -- parts than it has lines of keys.
-pub data EndsOrder (s : Day) (order : List ℕ) (fault : FormFault) : Type 0 where
-  Cut : IsHeadFault s order (length order + 1) → fault ≡ BadByte (length order + 1) → EndsOrder s order fault
+pub data IsOrderFaultAtEnd (s : Day) (order : List ℕ) (fault : FormFault) : Type 0 where
+  HeadCutShort : IsOrderHeadFault s order (length order + 1) → fault ≡ BadByte (length order + 1)
+      → IsOrderFaultAtEnd s order fault
   NoLetter : (keys : List Keys) (head text : List ℕ) → IsSendable s order keys head text → text_letters s text ≡ []
-      → fault ≡ EmptyText → EndsOrder s order fault
+      → fault ≡ EmptyText → IsOrderFaultAtEnd s order fault
   InParts : (keys : List Keys) (head text : List ℕ) → IsSendable s order keys head text → text_letters s text ≢ []
       → parts_needed s (length (text_letters s text)) ≢ length keys
-      → fault ≡ PartKeys (parts_needed s (length (text_letters s text))) (length keys) → EndsOrder s order fault
+      → fault ≡ PartKeys (parts_needed s (length (text_letters s text))) (length keys) → IsOrderFaultAtEnd s order fault
 
 -- The order has this fault, and it is its first one.
 abbrev pub IsSendFault : Day → List ℕ → FormFault → Type 0
-IsSendFault s order fault = StandsInOrder s order fault ⊎ EndsOrder s order fault
+IsSendFault s order fault = IsOrderFaultForGood s order fault ⊎ IsOrderFaultAtEnd s order fault
 
 -- ---- The form that an order becomes.
 -- Test: long_texts_are_sent_and_received
 
 -- The bytes are parts of a form, from `part` on, of `parts` parts in all. Each is made from its piece of text
 -- with its keys.
-abbrev pub AreMadeTexts : Day → ℕ → ℕ → List Keys → List (List ℕ) → List ℕ → Type 0
-AreMadeTexts s part parts [] [] bytes = bytes ≡ []
-AreMadeTexts s part parts (k ∷ keys) (piece ∷ pieces) bytes =
-    (one more : List ℕ) × IsMadeText s part parts k piece one × AreMadeTexts s (part + 1) parts keys pieces more
+abbrev pub ArePartTextsMade : Day → ℕ → ℕ → List Keys → List (List ℕ) → List ℕ → Type 0
+ArePartTextsMade s part parts [] [] bytes = bytes ≡ []
+ArePartTextsMade s part parts (k ∷ keys) (piece ∷ pieces) bytes =
+    (one more : List ℕ) × IsPartTextMade s part parts k piece one × ArePartTextsMade s (part + 1) parts keys pieces more
     × (bytes ≡ one ++ more)
-AreMadeTexts s part parts [] (piece ∷ pieces) bytes = ⊥
-AreMadeTexts s part parts (k ∷ keys) [] bytes = ⊥
+ArePartTextsMade s part parts [] (piece ∷ pieces) bytes = ⊥
+ArePartTextsMade s part parts (k ∷ keys) [] bytes = ⊥
 
 -- The order has no fault, and `form` is its form, in which all parts but the last are full.
 pub record IsFormOf (s : Day) (order form : List ℕ) : Type 0 where
@@ -120,4 +122,4 @@ pub record IsFormOf (s : Day) (order form : List ℕ) : Type 0 where
   pub sendable : IsSendable s order keys head text
   pub some : text_letters s text ≢ []
   pub counted : parts_needed s (length (text_letters s text)) ≡ length keys
-  pub made : AreMadeTexts s 1 (length keys) keys (pieces (part_size s) (text_letters s text)) form
+  pub made : ArePartTextsMade s 1 (length keys) keys (pieces (part_size s) (text_letters s text)) form

@@ -3,12 +3,12 @@ use Rattle.std.specs.Prelude.{◌≡◌, ◌≢◌, ℕ, ◌≤◌, Bool, true, 
 use Rattle.std.specs.Prelude.{Result, Ok, Err, MatchResult}
 use Rattle.std.specs.Io.{StartsWith}
 use Rattle.std.specs.Io.KnownBytes.{Appends, Consumes, IsAtEnd}
-use Rattle.kd_tables.specs.Ports.{read_limit, Port, IsWell, FailsAlone}
+use Rattle.kd_tables.specs.Ports.{read_limit, Port, HasNotFailed, FailsAlone}
 use Rattle.kd_state.specs.declared.machine.parts.Parts.{Parts}
 use Rattle.kd_state.specs.SheetDay.{Day}
 use Rattle.kd_form.specs.declared.fault.FormFault.{FormFault}
 use Rattle.kd_form.specs.declared.fault.FormFault.TheVariants.{NotReady, Device, NotOnKey, ReadTooLong}
-use Rattle.kd_form.specs.OnTheKey.{IsOnKey, IsKeyFault}
+use Rattle.kd_form.specs.OnTheKey.{IsReadyOnKey, IsKeyFault}
 
 -- A kind of message, by its bytes: which fault stands; which fault the whole message has; what the message
 -- becomes; and what is written before a fault, or, without one, before more bytes are read.
@@ -30,8 +30,8 @@ pub record IsRefused (m : Message) (bytes text : List ℕ) (fault : FormFault) :
   pub written : (more : List ℕ) → m.before (Some fault) (bytes ++ more) text
 
 -- The bytes are the whole message. It becomes `text`, or it has a fault, before which `text` is written.
-abbrev pub Closes : Message → List ℕ → List ℕ → Result (Unit {0}) FormFault → Type 0
-Closes m bytes text answer =
+abbrev pub IsMessageAnswer : Message → List ℕ → List ℕ → Result (Unit {0}) FormFault → Type 0
+IsMessageAnswer m bytes text answer =
     MatchResult answer (λ _. m.becomes bytes text) (λ fault. m.refused bytes fault × m.before (Some fault) bytes text)
 
 -- ---- What a call answers, reads and writes for a message.
@@ -41,12 +41,12 @@ Closes m bytes text answer =
 -- `text` has to be written: once a prefix of `read` has come, or at the end of the source.
 pub data IsDue (m : Message) (source : Port) (read text : List ℕ) : Type 0 where
   ByThen : (front : List ℕ) → StartsWith read front → IsOpen m front text → IsDue m source read text
-  ByTheEnd : (answer : Result (Unit {0}) FormFault) → IsAtEnd source.has → Closes m read text answer
+  ByTheEnd : (answer : Result (Unit {0}) FormFault) → IsAtEnd source.has → IsMessageAnswer m read text answer
       → IsDue m source read text
 
 -- Neither port failed in the call.
-abbrev pub AreWell : Port → Port → Type 0
-AreWell source sink = IsWell source × IsWell sink
+abbrev pub HaveNotFailed : Port → Port → Type 0
+HaveNotFailed source sink = HasNotFailed source × HasNotFailed sink
 
 -- `text` is a proper prefix of `due`.
 pub record FallsShort (due text : List ℕ) : Type 0 where
@@ -54,35 +54,36 @@ pub record FallsShort (due text : List ℕ) : Type 0 where
   pub some : missing ≢ []
   pub joined : due ≡ text ++ missing
 
--- What was read, up to the limit, and what was written, by the answer. `Whole`: the message is complete.
--- `Stands`: a fault stands, whatever bytes follow. `AtEnd`: no fault stands, but the whole message has one.
+-- What was read, up to the limit, and what was written, by the answer. `MessageComplete`: the message is complete.
+-- `FaultForGood`: a fault stands, whatever bytes follow. `FaultAtEnd`: no fault stands, but the whole message has one.
 -- `TooLong`: one byte more than the limit came. `SourceFails`: all that was due by then is written.
 -- `SinkFails`: less than what was due is written.
-pub data Answers (m : Message) (source sink : Port) (read text : List ℕ)
+pub data IsStreamAnswer (m : Message) (source sink : Port) (read text : List ℕ)
     (answer : Result (Unit {0}) FormFault) : Type 0 where
-  Whole : length read ≤ read_limit → IsAtEnd source.has → m.becomes read text → AreWell source sink → answer ≡ Ok tt
-      → Answers m source sink read text answer
-  Stands : (fault : FormFault) → length read ≤ read_limit → m.stands read fault → m.before (Some fault) read text
-      → AreWell source sink → answer ≡ Err fault → Answers m source sink read text answer
-  AtEnd : (fault : FormFault) → length read ≤ read_limit → IsAtEnd source.has
+  MessageComplete : length read ≤ read_limit → IsAtEnd source.has → m.becomes read text → HaveNotFailed source sink
+      → answer ≡ Ok tt
+      → IsStreamAnswer m source sink read text answer
+  FaultForGood : (fault : FormFault) → length read ≤ read_limit → m.stands read fault → m.before (Some fault) read text
+      → HaveNotFailed source sink → answer ≡ Err fault → IsStreamAnswer m source sink read text answer
+  FaultAtEnd : (fault : FormFault) → length read ≤ read_limit → IsAtEnd source.has
       → ((other : FormFault) → ¬ (m.stands read other))
-      → m.refused read fault → m.before (Some fault) read text → AreWell source sink → answer ≡ Err fault
-      → Answers m source sink read text answer
+      → m.refused read fault → m.before (Some fault) read text → HaveNotFailed source sink → answer ≡ Err fault
+      → IsStreamAnswer m source sink read text answer
   TooLong : (front : List ℕ) (byte : ℕ) → read ≡ front ++ byte ∷ [] → length front ≡ read_limit → IsOpen m front text
-      → AreWell source sink → answer ≡ Err ReadTooLong → Answers m source sink read text answer
+      → HaveNotFailed source sink → answer ≡ Err ReadTooLong → IsStreamAnswer m source sink read text answer
   SourceFails : length read ≤ read_limit → IsOpen m read text → FailsAlone source sink → answer ≡ Err Device
-      → Answers m source sink read text answer
+      → IsStreamAnswer m source sink read text answer
   SinkFails : (due : List ℕ) → length read ≤ read_limit → IsDue m source read due → FallsShort due text
       → FailsAlone sink source
-      → answer ≡ Err Device → Answers m source sink read text answer
+      → answer ≡ Err Device → IsStreamAnswer m source sink read text answer
 
--- The call took `read` from the source and put `text` into the sink, and they satisfy `Answers`.
+-- The call took `read` from the source and put `text` into the sink, and they satisfy `IsStreamAnswer`.
 pub record IsStreamed (m : Message) (source sink : Port) (answer : Result (Unit {0}) FormFault) : Type 0 where
   pub read : List ℕ
   pub text : List ℕ
   pub given : Consumes source.had source.has read
   pub written : Appends sink.had sink.has text
-  pub answers : Answers m source sink read text answer
+  pub answers : IsStreamAnswer m source sink read text answer
 
 -- whether the answer is that a device failed
 abbrev pub is_device : Result (Unit {0}) FormFault → Bool
@@ -99,18 +100,20 @@ is_off_key (Err NotOnKey) = true
 is_off_key _ = false
 
 -- The port is as it was, and didn't fail.
-pub record IsLeft (p : Port) : Type 0 where
+pub record IsUntouched (p : Port) : Type 0 where
   pub has : p.has ≡ p.had
-  pub well : IsWell p
+  pub well : HasNotFailed p
 
 -- If there is a fault beforehand, it is the answer, and both ports are left as they were. Otherwise the message
 -- is read and written.
-pub data StreamsUnless (is_fault : FormFault → Type 0) (may : Type 0) (message : Message) (source sink : Port)
+pub data StreamsUnlessFault (is_fault : FormFault → Type 0) (may : Type 0) (message : Message) (source sink : Port)
     (answer : Result (Unit {0}) FormFault) : Type 0 where
-  Off : (fault : FormFault) → is_fault fault → answer ≡ Err fault → IsLeft source → IsLeft sink
-      → StreamsUnless is_fault may message source sink answer
-  On : may → IsStreamed message source sink answer → StreamsUnless is_fault may message source sink answer
+  FaultBefore : (fault : FormFault) → is_fault fault → answer ≡ Err fault → IsUntouched source → IsUntouched sink
+      → StreamsUnlessFault is_fault may message source sink answer
+  NoFaultBefore : may → IsStreamed message source sink answer
+      → StreamsUnlessFault is_fault may message source sink answer
 
--- `StreamsUnless`, for the fault that the machine isn't ready or isn't on the key.
+-- `StreamsUnlessFault`, for the fault that the machine isn't ready or isn't on the key.
 abbrev pub StreamsOnKey : Parts → Day → Message → Port → Port → Result (Unit {0}) FormFault → Type 0
-StreamsOnKey m s message source sink answer = StreamsUnless (IsKeyFault m s) (IsOnKey m s) message source sink answer
+StreamsOnKey m s message source sink answer = StreamsUnlessFault (IsKeyFault m s) (IsReadyOnKey m s) message source
+    sink answer

@@ -7,13 +7,13 @@ use Rattle.std.specs.Prelude.{IsFalse, None, Result}
 use Rattle.kd_tables.specs.Text.{is_text_byte, letters_text}
 use Rattle.kd_tables.specs.Ports.{Port}
 use Rattle.kd_state.specs.declared.machine.parts.Parts.{Parts}
-use Rattle.kd_state.specs.TwoCiphers.{EngineKey, IsReady, cipher, key_left, physical_cipher}
+use Rattle.kd_state.specs.TwoCiphers.{EngineKey, IsReady, cipher, engine_key_after, physical_cipher}
 use Rattle.kd_form.specs.declared.fault.FormFault.{FormFault}
 use Rattle.kd_form.specs.declared.fault.FormFault.TheVariants.{NotReady, BadByte}
 use Rattle.kd_form.specs.declared.typing.Typist.{Typist}
-use Rattle.kd_form.specs.Sending.{letters_from, IsBadAt}
-use Rattle.kd_form.specs.SendStream.{IsAllowedFront}
-use Rattle.kd_form.specs.Streams.{Message, StreamsUnless}
+use Rattle.kd_form.specs.Sending.{letters_from, IsFirstBadByteAt}
+use Rattle.kd_form.specs.SendStream.{IsAllowedPrefix}
+use Rattle.kd_form.specs.Streams.{Message, StreamsUnlessFault}
 
 -- the letters in the bytes; a space gives none
 abbrev pub typed_letters : List ℕ → List ℕ
@@ -25,39 +25,39 @@ cipher_text enciphers bytes = letters_text (enciphers (typed_letters bytes))
 
 -- The fault is `BadByte`, with the position of the first byte that isn't allowed, counted from 1.
 abbrev pub IsTextFault : List ℕ → FormFault → Type 0
-IsTextFault bytes fault = (place : ℕ) × IsBadAt bytes place × (fault ≡ BadByte (place + 1))
+IsTextFault bytes fault = (place : ℕ) × IsFirstBadByteAt bytes place × (fault ≡ BadByte (place + 1))
 
 -- texts, as a kind of message: each letter before the first byte that isn't allowed lights its lamp
-abbrev pub texts : (List ℕ → List ℕ) → Message
-texts enciphers = record {
+abbrev pub text_message : (List ℕ → List ℕ) → Message
+text_message enciphers = record {
   stands = IsTextFault;
   refused = IsTextFault;
   becomes = λ bytes text. All (λ b. IsTrue (is_text_byte b)) bytes × (text ≡ cipher_text enciphers bytes ++ 10 ∷ []);
-  before = λ reason bytes text. (front : List ℕ) × IsAllowedFront bytes front × (text ≡ cipher_text enciphers front);
+  before = λ reason bytes text. (front : List ℕ) × IsAllowedPrefix bytes front × (text ≡ cipher_text enciphers front);
 }
 
 -- A machine that isn't ready is refused. On a ready machine, the text is typed.
 abbrev pub TypesIfReady : Parts → Port → Port → Result (Unit {0}) FormFault → Type 0
 TypesIfReady m source sink answer =
-    StreamsUnless (λ fault. ¬ (IsReady m) × (fault ≡ NotReady)) (IsReady m)
-    (texts (physical_cipher m)) source sink answer
+    StreamsUnlessFault (λ fault. ¬ (IsReady m) × (fault ≡ NotReady)) (IsReady m)
+    (text_message (physical_cipher m)) source sink answer
 
 -- ---- What the code holds. No public contract cites these definitions.
 
 -- `lamps` is the ciphertext of the letters in `bytes`, and `left` is the key after as many steps.
-pub record Lights (key left : EngineKey) (bytes lamps : List ℕ) : Type 0 where
+pub record IsTypedChunk (key left : EngineKey) (bytes lamps : List ℕ) : Type 0 where
   pub cipher : lamps ≡ cipher_text (cipher key) bytes
-  pub after : left ≡ key_left key (length (typed_letters bytes))
+  pub after : left ≡ engine_key_after key (length (typed_letters bytes))
 
 -- The first `front` bytes are allowed, and the next one, if there is one, isn't.
-pub record IsAllowedTo (bytes : List ℕ) (front : ℕ) : Type 0 where
+pub record IsAllowedUpTo (bytes : List ℕ) (front : ℕ) : Type 0 where
   pub within : front ≤ length bytes
   pub allowed : All (λ b. IsTrue (is_text_byte b)) (take front bytes)
   pub next : front < length bytes → IsFalse (is_text_byte (slice_index bytes front))
 
 -- All of `bytes` are allowed and were typed. `text` is their ciphertext, and the engine enciphers the bytes
 -- after them.
-pub record IsTypedTo (m : Parts) (t : Typist) (bytes text : List ℕ) : Type 0 where
+pub record HasTyped (m : Parts) (t : Typist) (bytes text : List ℕ) : Type 0 where
   pub counted : t.read ≡ length bytes
   pub allowed : All (λ b. IsTrue (is_text_byte b)) bytes
   pub behind : (more : List ℕ)

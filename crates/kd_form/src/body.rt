@@ -2,7 +2,7 @@
 ghost use Rattle.std.specs.Prelude.{◌≡◌, ◌+◌, ◌*◌, ◌≤◌, [], ◌∷◌, ◌++◌, length};
 ghost use Rattle.arrayvec.specs.ArrayString.{array_string_len};
 ghost use Rattle.kd_tables.specs.Text.{letters_text};
-ghost use Rattle.kd_form.specs.Part.{behind_spaces, body_text, groups_of, pieces, with_line};
+ghost use Rattle.kd_form.specs.Part.{words_after_spaces, body_text, letter_groups, pieces, line_then};
 
 use arrayvec::ArrayString;
 use kd_state::push_letter;
@@ -18,16 +18,16 @@ pub(crate) fn push_body<const N: usize>(text: &mut ArrayString<N>, letters: &[Le
         return;
     }
     let (line, rest) = first_piece(letters, 50);
-    push_line(text, line);
+    push_group_line(text, line);
     push_body(text, rest);
 }
 
 /// Appends `letters` as one line: groups of five, with a space between them.
 #[tactic(auto, using(crate::proofs::MadeParts::in_groups))]
-fn push_line<const N: usize>(text: &mut ArrayString<N>, letters: &[Letter])
+fn push_group_line<const N: usize>(text: &mut ArrayString<N>, letters: &[Letter])
     requires some { 1 ≤ length letters.now }
     requires room { array_string_len text.old + 2 * length letters.now ≤ N }
-    ensures bytes { text.new.bytes ≡ text.old.bytes ++ with_line (groups_of letters.now) [] }
+    ensures bytes { text.new.bytes ≡ text.old.bytes ++ line_then (letter_groups letters.now) [] }
     ensures len { array_string_len text.new ≤ array_string_len text.old + 2 * length letters.now }
 {
     let (group, rest) = first_piece(letters, 5);
@@ -39,7 +39,7 @@ fn push_line<const N: usize>(text: &mut ArrayString<N>, letters: &[Letter])
 /// Appends `letters` in groups of five, each after a space.
 fn push_groups<const N: usize>(text: &mut ArrayString<N>, letters: &[Letter])
     requires { array_string_len text.old + 2 * length letters.now ≤ N }
-    ensures bytes { text.new.bytes ≡ text.old.bytes ++ behind_spaces (groups_of letters.now) }
+    ensures bytes { text.new.bytes ≡ text.old.bytes ++ words_after_spaces (letter_groups letters.now) }
     ensures len { array_string_len text.new ≤ array_string_len text.old + 2 * length letters.now }
 {
     if letters.is_empty() {

@@ -2,16 +2,16 @@
 ghost use Rattle.std.specs.Prelude.{codes, ◌≡◌, ◌≢◌, ◌⊎◌, ◌↔◌, ◌+◌, ◌≤◌, ℕ, List, [], ◌∷◌, ◌++◌};
 ghost use Rattle.std.specs.Prelude.{length, take, IsTrue, MatchResult};
 ghost use Rattle.kd_form.specs.declared.heading.Heading.{Heading};
-ghost use Rattle.kd_form.specs.Receiving.{IsExpected, IsPartFault};
+ghost use Rattle.kd_form.specs.Receiving.{IsExpectedCount, IsPartFault};
 ghost use Rattle.kd_form.specs.FormText.{form_message};
-ghost use Rattle.kd_form.specs.FormReading.{FitsAt, IsHeadingDue, IsHeadingOff, HoldsLine, HoldsForm};
+ghost use Rattle.kd_form.specs.FormReading.{FitsHeadingAt, IsExpectedHeading, IsHeadingFault, HoldsLine, HoldsForm};
 
+use super::bounded_list::push_if_room;
 use super::fault::FormFault;
 use super::heading::Heading;
 use super::heading_line::{heading_of_ended, heading_of_open};
-use super::keeping::keep;
 use super::part_body::{PartBody, head_byte};
-use super::stream::reader::{Made, MessageReader};
+use super::stream::reader::{MessageReader, PartText};
 use super::text::is_text_byte;
 use arrayvec::ArrayVec;
 use kd_state::SheetDay;
@@ -29,12 +29,12 @@ pub(crate) struct FormReader {
     /// How many parts the form has, once its first part has been read.
     pub(crate) expected: Option<u8>,
     /// Whether the next byte is in the heading line or in the body of the current part.
-    pub(crate) stage: Stage,
+    pub(crate) stage: FormStage,
 }
 
 /// Whether the next byte is in a heading line or in a body, with what is held of it so far.
 #[derive(Drop)]
-pub(crate) enum Stage {
+pub(crate) enum FormStage {
     /// In the heading line; its first `LINE` bytes are held.
     Heading(ArrayVec<u8, LINE>),
     /// In the body.
@@ -51,52 +51,57 @@ impl MessageReader for FormReader {
             position: 0,
             number: 1,
             expected: None,
-            stage: Stage::Heading(ArrayVec::new()),
+            stage: FormStage::Heading(ArrayVec::new()),
         }
     }
 
-    fn feed(&mut self, day: &SheetDay, byte: u8, made: &mut Made) -> Result<(), FormFault> {
+    fn feed(&mut self, day: &SheetDay, byte: u8, output: &mut PartText) -> Result<(), FormFault> {
         self.position += 1;
         match &mut self.stage {
-            Stage::Heading(line) => {
+            FormStage::Heading(line) => {
                 if !may_follow(line.as_slice(), byte) {
                     return Err(FormFault::BadHeading(self.number));
                 }
                 if byte != b'\n' {
-                    keep(line, byte);
+                    push_if_room(line, byte);
                     return Ok(());
                 }
                 let heading = heading_of_ended(day, line.as_slice());
                 let heading = check_heading(self.number, self.expected, heading)?;
-                self.stage = Stage::Body(PartBody::new(heading));
+                self.stage = FormStage::Body(PartBody::new(heading));
                 Ok(())
             }
-            Stage::Body(body) => {
-                if !body.ends_before(byte) {
+            FormStage::Body(body) => {
+                if !body.is_next_heading_digit(byte) {
                     if !is_text_byte(byte) {
                         return Err(FormFault::BadByte(self.position));
                     }
                     body.push(byte);
                     return Ok(());
                 }
-                body.give(day, 4, made)?;
+                body.decipher_into(day, 4, output)?;
                 self.expected = Some(body.heading.parts);
                 self.number += 1;
-                self.stage = Stage::Heading(heading_from(byte));
+                self.stage = FormStage::Heading(heading_from(byte));
                 Ok(())
             }
         }
     }
 
-    fn end(&mut self, day: &SheetDay, made: &mut Made) -> Result<(), FormFault> {
+    fn end(&mut self, day: &SheetDay, output: &mut PartText) -> Result<(), FormFault> {
         match &self.stage {
-            Stage::Heading(line) => Err(fault_in_heading(day, self.number, self.expected, line)),
-            Stage::Body(body) => {
-                body.give(day, 0, made)?;
+            FormStage::Heading(line) => Err(fault_in_heading(
+                day,
+                self.number,
+                self.expected,
+                line,
+            )),
+            FormStage::Body(body) => {
+                body.decipher_into(day, 0, output)?;
                 if body.heading.parts != self.number {
                     return Err(FormFault::PartOrder);
                 }
-                made.push(b'\n');
+                output.push(b'\n');
                 Ok(())
             }
         }
@@ -126,7 +131,7 @@ fn fault_in_heading(
 ///
 /// Tests only `PART ` and the digit after it. The rest is tested when the line has ended.
 fn may_follow(line: &[u8], byte: u8) -> bool
-    ensures { IsTrue result ↔ FitsAt (length line.now) byte }
+    ensures { IsTrue result ↔ FitsHeadingAt (length line.now) byte }
 {
     match head_byte(line.len()) {
         Some(due) => byte == due,
@@ -153,8 +158,8 @@ fn check_heading(
     heading: Option<Heading>,
 ) -> Result<Heading, FormFault>
     ensures { MatchResult result
-        (IsHeadingDue number expected heading)
-        (IsHeadingOff number expected heading) }
+        (IsExpectedHeading number expected heading)
+        (IsHeadingFault number expected heading) }
 {
     let Some(heading) = heading else {
         return Err(FormFault::BadHeading(number));
@@ -167,7 +172,7 @@ fn check_heading(
 
 /// Whether `parts` is the number in the form's first heading, or there was no heading yet.
 fn is_expected(expected: Option<u8>, parts: u8) -> bool
-    ensures { IsTrue result ↔ IsExpected expected parts }
+    ensures { IsTrue result ↔ IsExpectedCount expected parts }
 {
     match expected {
         Some(first) => first == parts,

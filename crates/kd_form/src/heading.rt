@@ -1,7 +1,7 @@
 //! The heading of a part of a form, and how it is written.
 ghost use Rattle.std.specs.Prelude.{◌≡◌, ◌+◌, ◌≤◌, [], ◌++◌};
 ghost use Rattle.arrayvec.specs.ArrayString.{array_string_len};
-ghost use Rattle.kd_form.specs.Part.{heading_words, indicator_words, behind_spaces, with_line};
+ghost use Rattle.kd_form.specs.Part.{heading_words, indicator_words, words_after_spaces, line_then};
 
 use super::body::push_letters;
 use arrayvec::ArrayString;
@@ -26,16 +26,16 @@ pub(crate) struct Heading {
 #[derive(Clone, Copy)]
 pub(crate) struct Indicator {
     /// The ground: the letters in the windows before the message key is deciphered.
-    pub(crate) start: PerSlot<Letter>,
+    pub(crate) ground: PerSlot<Letter>,
     /// The enciphered message key.
-    pub(crate) key: PerSlot<Letter>,
+    pub(crate) enciphered_key: PerSlot<Letter>,
 }
 
 /// Appends `heading` as a line.
 #[tactic(auto, using(crate::proofs::MadeParts::heading_line))]
 pub(crate) fn push_heading<const N: usize>(text: &mut ArrayString<N>, heading: &Heading)
     requires { array_string_len text.old + 50 ≤ N }
-    ensures bytes { text.new.bytes ≡ text.old.bytes ++ with_line (heading_words heading.now) [] }
+    ensures bytes { text.new.bytes ≡ text.old.bytes ++ line_then (heading_words heading.now) [] }
     ensures len { array_string_len text.new ≤ array_string_len text.old + 50 }
 {
     let mut buffer = Buffer::new();
@@ -53,13 +53,19 @@ pub(crate) fn push_heading<const N: usize>(text: &mut ArrayString<N>, heading: &
 fn push_indicator<const N: usize>(text: &mut ArrayString<N>, indicator: &Option<Indicator>)
     requires { array_string_len text.old + 10 ≤ N }
     ensures bytes { text.new.bytes
-        ≡ text.old.bytes ++ behind_spaces (indicator_words indicator.now) }
+        ≡ text.old.bytes ++ words_after_spaces (indicator_words indicator.now) }
     ensures len { array_string_len text.new ≤ array_string_len text.old + 10 }
 {
-    if let Some(Indicator { start, key }) = indicator {
+    if let Some(
+        Indicator {
+            ground,
+            enciphered_key,
+        },
+    ) = indicator
+    {
         text.push_str(" ");
-        push_letters(text, start.as_slice());
+        push_letters(text, ground.as_slice());
         text.push_str(" ");
-        push_letters(text, key.as_slice());
+        push_letters(text, enciphered_key.as_slice());
     }
 }

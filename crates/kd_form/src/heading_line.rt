@@ -5,7 +5,7 @@ ghost use Rattle.kd_tables.specs.Text.{letters_text};
 ghost use Rattle.kd_state.specs.Machine.{AreLetters};
 ghost use Rattle.kd_state.specs.Words.{line_of, IsWithout};
 ghost use Rattle.kd_form.specs.declared.heading.Heading.{Heading};
-ghost use Rattle.kd_form.specs.Part.{fraction, indicator_words, heading_words};
+ghost use Rattle.kd_form.specs.Part.{fraction_text, indicator_words, heading_words};
 ghost use Rattle.kd_form.specs.FormParts.{IsFraction, AreFewLetters, IsLetterCount, IsHeading};
 ghost use Rattle.kd_form.specs.FormParts.{AreHeadingWords, IsLineText};
 ghost use Rattle.kd_form.specs.Reading.{HasIndicator};
@@ -21,8 +21,8 @@ use kd_tables::Letter;
 /// Reads a word such as `2/5`: the part's number, and the number of parts, at most 99.
 fn read_fraction(word: &[u8]) -> Option<(u8, u8)>
     ensures { MatchOption result
-        ((part parts : ℕ) → IsFraction part parts → fraction part parts ≢ word.now)
-        (λ found. IsFraction found.0 found.1 × (fraction found.0 found.1 ≡ word.now)) }
+        ((part parts : ℕ) → IsFraction part parts → fraction_text part parts ≢ word.now)
+        (λ found. IsFraction found.0 found.1 × (fraction_text found.0 found.1 ≡ word.now)) }
 {
     let (part, parts) = split_once(word, b'/')?;
     let part = number_of_text(part)?;
@@ -35,7 +35,7 @@ fn read_fraction(word: &[u8]) -> Option<(u8, u8)>
 
 /// Reads `word` as a number of letters that a body of the day's model can have.
 #[tactic(auto, using(crate::proofs::Headings::same_count))]
-fn read_count(day: &SheetDay, word: &[u8]) -> Option<u16>
+fn read_letter_count(day: &SheetDay, word: &[u8]) -> Option<u16>
     ensures { MatchOption result
         ((count : ℕ) → IsLetterCount day.now count → decimal count ≢ word.now)
         (λ count. IsLetterCount day.now count × (decimal count ≡ word.now)) }
@@ -49,7 +49,7 @@ fn read_count(day: &SheetDay, word: &[u8]) -> Option<u16>
 
 /// Reads `word` as capital letters, at most four.
 #[tactic(auto, using(crate::proofs::Headings::spelling))]
-fn read_letters(word: &[u8]) -> Option<ArrayVec<Letter, 4>>
+fn read_few_letters(word: &[u8]) -> Option<ArrayVec<Letter, 4>>
     ensures { MatchOption result
         ((letters : List ℕ) → AreFewLetters letters → letters_text letters ≢ word.now)
         (λ letters. All (λ letter. letter < 26) letters.items
@@ -72,7 +72,7 @@ fn read_slots(slots: usize, word: &[u8]) -> Option<PerSlot<Letter>>
         ((letters : List ℕ) → AreLetters slots letters → letters_text letters ≢ word.now)
         (λ letters. AreLetters slots letters × (letters_text letters ≡ word.now)) }
 {
-    let letters = read_letters(word)?;
+    let letters = read_few_letters(word)?;
     if letters.len() != slots {
         return None;
     }
@@ -89,10 +89,13 @@ fn read_indicator(day: &SheetDay, words: &[&[u8]]) -> Option<Option<Indicator>>
 {
     match (slots_of(day), words) {
         (None, []) => Some(None),
-        (Some(slots), [start, key]) => {
-            let start = read_slots(slots, start)?;
-            let key = read_slots(slots, key)?;
-            Some(Some(Indicator { start, key }))
+        (Some(slots), [ground, enciphered_key]) => {
+            let ground = read_slots(slots, ground)?;
+            let enciphered_key = read_slots(slots, enciphered_key)?;
+            Some(Some(Indicator {
+                ground,
+                enciphered_key,
+            }))
         }
         _ => None,
     }
@@ -119,7 +122,7 @@ fn heading_of_words(day: &SheetDay, words: &[&[u8]]) -> Option<Heading>
         return None;
     }
     let (part, parts) = read_fraction(fraction)?;
-    let count = read_count(day, count)?;
+    let count = read_letter_count(day, count)?;
     let indicator = read_indicator(day, indicator)?;
     let letters = usize::from(count);
     Some(Heading {

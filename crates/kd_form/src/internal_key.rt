@@ -1,7 +1,7 @@
 //! Picks the internal key of the Converter M-209 from twelve enciphered letters.
 ghost use Rattle.std.specs.Prelude.{◌≡◌, ◌≤◌, ◌<◌, ◌+◌, ◌++◌, ◌∷◌, MatchOption};
 ghost use Rattle.kd_state.specs.TwoCiphers.{sheet_key, IsWindow};
-ghost use Rattle.kd_form.specs.InternalKey.{IsInternalKey, HaveRunOut, IsTakenInTurn};
+ghost use Rattle.kd_form.specs.InternalKey.{IsInternalKey, HaveNoInternalKey, IsTakenInTurn};
 ghost use Rattle.kd_form.specs.Making.{enciphered_choice};
 
 use super::keys::PinKeys;
@@ -14,21 +14,21 @@ pub(crate) fn internal_key_of(own: &mut OwnMachine, keys: &PinKeys) -> Option<Ar
     requires { IsWindow (sheet_key own.old) keys.now.external }
     ensures day { own.new ≡ own.old }
     ensures key { MatchOption result
-        (HaveRunOut (enciphered_choice own.old keys.now))
+        (HaveNoInternalKey (enciphered_choice own.old keys.now))
         (λ internal. IsInternalKey (enciphered_choice own.old keys.now) internal.items) }
 {
     let mut letters = [keys.chosen; 12];
     own.encipher(&keys.external, &mut letters);
-    internal_key(&letters)
+    pick_internal_key(&letters)
 }
 
 /// Picks a letter for each of the six wheels, in order; `None` if `letters` run out.
 ///
 /// A letter that isn't on the next wheel is skipped.
 #[tactic(auto, using(crate::proofs::MadeParts::picking_none, crate::proofs::MadeParts::picking_more))]
-fn internal_key(letters: &[Letter]) -> Option<ArrayVec<Letter, 6>>
+fn pick_internal_key(letters: &[Letter]) -> Option<ArrayVec<Letter, 6>>
     ensures { MatchOption result
-        (HaveRunOut letters.now)
+        (HaveNoInternalKey letters.now)
         (λ key. IsInternalKey letters.now key.items) }
 {
     let mut key = ArrayVec::new();

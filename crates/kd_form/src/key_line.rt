@@ -2,8 +2,8 @@
 ghost use Rattle.std.specs.Prelude.{◌≡◌, ◌≤◌, ◌+◌, ◌⊎◌, ◌++◌, ◌∷◌, length, MatchOption};
 ghost use Rattle.kd_state.specs.Machine.{AreLetters};
 ghost use Rattle.kd_form.specs.Keys.{AreKeys, AreRotorKeys, ArePinKeys};
-ghost use Rattle.kd_form.specs.Patterns.{blanks};
-ghost use Rattle.kd_form.specs.KeyPatterns.{key_pattern, key_letters, HasSlots, HasPins};
+ghost use Rattle.kd_form.specs.Patterns.{blank_count};
+ghost use Rattle.kd_form.specs.KeyPatterns.{key_pattern, key_letters, IsRotorDayWith, IsConverterDay};
 
 use super::keys::{Keys, PinKeys, RotorKeys};
 use kd_state::{Entry, PerSlot, SheetDay};
@@ -12,7 +12,7 @@ use kd_tables::Letter;
 /// The pattern of a line of keys, with `_` for each letter.
 pub(crate) fn key_pattern(day: &SheetDay) -> &'static [u8]
     ensures pattern { result.now ≡ key_pattern day.now }
-    ensures few { blanks (key_pattern day.now) ≤ 13 }
+    ensures few { blank_count (key_pattern day.now) ≤ 13 }
     ensures short { length (key_pattern day.now) ≤ 21 }
 {
     match slots_of(day) {
@@ -25,8 +25,8 @@ pub(crate) fn key_pattern(day: &SheetDay) -> &'static [u8]
 /// How many slots the day's machine has; `None` for the Converter M-209.
 pub(crate) fn slots_of(day: &SheetDay) -> Option<usize>
     ensures { MatchOption result
-        (HasPins day.now)
-        (HasSlots day.now) }
+        (IsConverterDay day.now)
+        (IsRotorDayWith day.now) }
 {
     match day.entry() {
         Entry::Rotor(entry) => Some(entry.wheels.as_slice().len()),
@@ -36,7 +36,7 @@ pub(crate) fn slots_of(day: &SheetDay) -> Option<usize>
 
 /// Makes keys from the letters of a line, in the line's order.
 pub(crate) fn keys_of(day: &SheetDay, letters: &[Letter]) -> Keys
-    requires { AreLetters (blanks (key_pattern day.now)) letters.now }
+    requires { AreLetters (blank_count (key_pattern day.now)) letters.now }
     ensures letters { key_letters result ≡ letters.now }
     ensures keys { AreKeys day.now result }
 {
@@ -51,19 +51,19 @@ fn rotor_keys(slots: usize, letters: &[Letter]) -> RotorKeys
     requires slots { (slots ≡ 3) ⊎ (slots ≡ 4) }
     requires letters { AreLetters (slots + slots + 5) letters.now }
     ensures letters { letters.now
-        ≡ result.start ++ (result.key ++ (result.fillers ++ result.group)) }
+        ≡ result.ground ++ (result.message_key ++ (result.fillers ++ result.group)) }
     ensures keys { AreRotorKeys slots result }
 {
-    let (start, rest) = letters.split_at(slots);
-    let (key, rest) = rest.split_at(slots);
+    let (ground, rest) = letters.split_at(slots);
+    let (message_key, rest) = rest.split_at(slots);
     let (fillers, group) = rest.split_at(2);
-    let start = PerSlot::new(start).unwrap();
-    let key = PerSlot::new(key).unwrap();
+    let ground = PerSlot::new(ground).unwrap();
+    let message_key = PerSlot::new(message_key).unwrap();
     let fillers = <[Letter; 2]>::try_from(fillers).unwrap();
     let group = <[Letter; 3]>::try_from(group).unwrap();
     RotorKeys {
-        start,
-        key,
+        ground,
+        message_key,
         fillers,
         group,
     }

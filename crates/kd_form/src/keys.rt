@@ -13,9 +13,9 @@ pub(crate) enum Keys {
 #[derive(Clone, Copy)]
 pub(crate) struct RotorKeys {
     /// The ground: the letters in the windows before the message key is enciphered.
-    pub(crate) start: PerSlot<Letter>,
+    pub(crate) ground: PerSlot<Letter>,
     /// The message key: the letters in the windows before the text is enciphered.
-    pub(crate) key: PerSlot<Letter>,
+    pub(crate) message_key: PerSlot<Letter>,
     /// Two letters of the sender's choice, written before the group.
     pub(crate) fillers: [Letter; 2],
     /// The letters of one of the day's groups, in any order.

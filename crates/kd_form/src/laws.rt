@@ -9,7 +9,7 @@ ghost use Rattle.kd_form.specs.Laws.{OrdersGiveLetters, FormsGiveTheirOrders};
 
 use super::form_reader::FormReader;
 use super::order_reader::OrderReader;
-use super::stream::whole::judge;
+use super::stream::whole_message::check_message;
 use kd_state::SheetDay;
 
 /// An order becomes at most one form, has at most one fault, and never both.
@@ -23,7 +23,7 @@ pub fn orders_have_one_answer()
 pub fn orders_have_an_answer(day: &SheetDay, order: &[u8])
     ensures { OrderIsAnswered day.now order.now }
 {
-    let _answer = judge::<OrderReader>(day, order);
+    let _answer = check_message::<OrderReader>(day, order);
 }
 
 /// A fault that an order shows before its end stays its fault, whatever bytes follow.
@@ -47,7 +47,7 @@ pub fn forms_stay_refused()
 pub fn forms_have_an_answer(day: &SheetDay, form: &[u8])
     ensures { FormIsAnswered day.now form.now }
 {
-    let _answer = judge::<FormReader>(day, form);
+    let _answer = check_message::<FormReader>(day, form);
 }
 
 /// The form of an order gives back the letters of the order's text.

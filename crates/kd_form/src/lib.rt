@@ -2,13 +2,13 @@
 #![tactic(auto)]
 
 mod body;
+mod bounded_list;
 mod fault;
 mod form_reader;
-mod given;
 mod heading;
 mod heading_line;
 mod internal_key;
-mod keeping;
+mod key_checks;
 mod key_line;
 mod keys;
 pub mod laws;
@@ -18,10 +18,10 @@ mod own_machine;
 mod part_body;
 mod part_letters;
 mod pattern_line;
+mod plaintext;
 mod receiving;
 mod sending;
 mod stream;
-mod suiting;
 mod text;
 mod typing;
 

@@ -3,15 +3,15 @@ ghost use Rattle.std.specs.Prelude.{◌≡◌, ◌≤◌, ℕ, List, length};
 ghost use Rattle.kd_form.specs.InternalKey.{IsInternalKey};
 ghost use Rattle.kd_form.specs.Keys.{AreKeys};
 ghost use Rattle.kd_form.specs.Part.{part_text};
-ghost use Rattle.kd_form.specs.Making.{Suits, IsMadeText, part_of, part_size};
+ghost use Rattle.kd_form.specs.Making.{KeysSuitDay, IsPartTextMade, part_of, part_size};
 ghost use Rattle.kd_form.specs.Making.{indicator_of, rotor_letters, enciphered_choice};
-ghost use Rattle.kd_form.specs.Making.{pin_indicators, pin_letters, filled};
+ghost use Rattle.kd_form.specs.Making.{pin_indicators, pin_letters, fill_last_group};
 
 use super::body::push_body;
 use super::heading::{Heading, Indicator, push_heading};
 use super::internal_key::internal_key_of;
 use super::keys::{Keys, PinKeys, RotorKeys};
-use super::own_machine::{OwnMachine, push_letters};
+use super::own_machine::{OwnMachine, append_letters};
 use arrayvec::{ArrayString, ArrayVec};
 use kd_state::{PerSlot, SheetDay};
 use kd_tables::Letter;
@@ -28,26 +28,26 @@ pub(crate) fn make_part(
     text: &[Letter],
 ) -> ArrayString<LONGEST>
     requires keys { AreKeys day.now keys.now }
-    requires suits { Suits day.now keys.now }
+    requires suits { KeysSuitDay day.now keys.now }
     requires few { length text.now ≤ part_size day.now }
-    ensures { IsMadeText day.now part parts keys.now text.now result.bytes }
+    ensures { IsPartTextMade day.now part parts keys.now text.now result.bytes }
 {
     let mut own = OwnMachine::new(day);
     match keys {
         Keys::Rotor(keys) => {
             let indicator = indicator_of(&mut own, keys);
             let letters = rotor_letters(&mut own, keys, text);
-            text_of(part, parts, Some(indicator), letters.as_slice())
+            part_text(part, parts, Some(indicator), letters.as_slice())
         }
         Keys::Pin(keys) => {
             let letters = pin_letters(&mut own, keys, text);
-            text_of(part, parts, None, letters.as_slice())
+            part_text(part, parts, None, letters.as_slice())
         }
     }
 }
 
 /// Writes part `part` of `parts`: its heading, and `letters` as its body.
-fn text_of(
+fn part_text(
     part: u8,
     parts: u8,
     indicator: Option<Indicator>,
@@ -75,11 +75,14 @@ fn indicator_of(own: &mut OwnMachine, keys: &RotorKeys) -> Indicator
     ensures day { own.new ≡ own.old }
     ensures value { result ≡ indicator_of own.old keys.now }
 {
-    prove!(keys.key.as_slice().len() <= 4);
-    let key = own.enciphered::<4>(keys.start.as_slice(), keys.key.as_slice());
+    prove!(keys.message_key.as_slice().len() <= 4);
+    let enciphered_key = own.encipher_text::<4>(
+        keys.ground.as_slice(),
+        keys.message_key.as_slice(),
+    );
     Indicator {
-        start: keys.start,
-        key: PerSlot::new(key.as_slice()).unwrap(),
+        ground: keys.ground,
+        enciphered_key: PerSlot::new(enciphered_key.as_slice()).unwrap(),
     }
 }
 
@@ -90,11 +93,11 @@ fn rotor_letters(own: &mut OwnMachine, keys: &RotorKeys, text: &[Letter]) -> Arr
     ensures value { result.items ≡ rotor_letters own.old keys.now text.now }
     ensures few { length result.items ≤ 520 }
 {
-    let enciphered = own.enciphered::<245>(keys.key.as_slice(), text);
+    let enciphered = own.encipher_text::<245>(keys.message_key.as_slice(), text);
     let mut letters = ArrayVec::new();
-    push_letters(&mut letters, &keys.fillers);
-    push_letters(&mut letters, &keys.group);
-    push_letters(&mut letters, enciphered.as_slice());
+    append_letters(&mut letters, &keys.fillers);
+    append_letters(&mut letters, &keys.group);
+    append_letters(&mut letters, enciphered.as_slice());
     letters
 }
 
@@ -102,7 +105,7 @@ fn rotor_letters(own: &mut OwnMachine, keys: &RotorKeys, text: &[Letter]) -> Arr
 #[tactic(auto, using(crate::proofs::MadeParts::has_internal))]
 fn pin_letters(own: &mut OwnMachine, keys: &PinKeys, text: &[Letter]) -> ArrayVec<Letter, 520>
     requires keys { AreKeys own.old (Keys.Pin keys.now) }
-    requires suits { Suits own.old (Keys.Pin keys.now) }
+    requires suits { KeysSuitDay own.old (Keys.Pin keys.now) }
     requires few { length text.now ≤ 500 }
     ensures value { (internal : List ℕ)
         × IsInternalKey (enciphered_choice own.old keys.now) internal
@@ -110,13 +113,13 @@ fn pin_letters(own: &mut OwnMachine, keys: &PinKeys, text: &[Letter]) -> ArrayVe
     ensures few { length result.items ≤ 520 }
 {
     let internal = internal_key_of(own, keys).unwrap();
-    let text = filled(text);
-    let enciphered = own.enciphered::<500>(internal.as_slice(), text.as_slice());
+    let text = fill_last_group(text);
+    let enciphered = own.encipher_text::<500>(internal.as_slice(), text.as_slice());
     let indicators = indicators_of(own.day, keys);
     let mut letters = ArrayVec::new();
-    push_letters(&mut letters, indicators.as_slice());
-    push_letters(&mut letters, enciphered.as_slice());
-    push_letters(&mut letters, indicators.as_slice());
+    append_letters(&mut letters, indicators.as_slice());
+    append_letters(&mut letters, enciphered.as_slice());
+    append_letters(&mut letters, indicators.as_slice());
     letters
 }
 
@@ -130,20 +133,20 @@ pub(crate) fn indicators_of(day: &SheetDay, keys: &PinKeys) -> ArrayVec<Letter, 
     let mut indicators = ArrayVec::new();
     indicators.push(keys.chosen);
     indicators.push(keys.chosen);
-    push_letters(&mut indicators, &keys.external);
-    push_letters(&mut indicators, &list);
+    append_letters(&mut indicators, &keys.external);
+    append_letters(&mut indicators, &list);
     indicators
 }
 
 /// `text`, filled with X to whole groups of five.
-fn filled(text: &[Letter]) -> ArrayVec<Letter, 500>
+fn fill_last_group(text: &[Letter]) -> ArrayVec<Letter, 500>
     requires { length text.now ≤ 500 }
-    ensures { result.items ≡ filled text.now }
+    ensures { result.items ≡ fill_last_group text.now }
 {
     let filler = Letter::from_byte(b'X').unwrap();
     let missing = (5 - text.len() % 5) % 5;
     let mut letters = ArrayVec::new();
-    push_letters(&mut letters, text);
+    append_letters(&mut letters, text);
     for _ in 0..missing {
         letters.push(filler);
     }

@@ -5,8 +5,8 @@ pub(crate) mod head;
 pub(crate) mod parts;
 
 use crate::fault::FormFault;
-use crate::stream::reader::{Made, MessageReader};
-use crate::suiting::check_keys;
+use crate::key_checks::check_keys;
+use crate::stream::reader::{MessageReader, PartText};
 use crate::text::is_text_byte;
 use head::{HeadReader, HeadStep};
 use kd_state::SheetDay;
@@ -17,14 +17,14 @@ use parts::PartWriter;
 pub(crate) struct OrderReader {
     /// How many bytes of the order were read.
     read: usize,
-    stage: Stage,
+    stage: OrderStage,
     head: HeadReader,
     parts: PartWriter,
 }
 
 /// The section of an order that its next byte belongs to.
 #[derive(Clone, Copy)]
-pub(crate) enum Stage {
+pub(crate) enum OrderStage {
     /// The head: the lines of keys and the line TEXT.
     Head,
     /// The text.
@@ -32,47 +32,47 @@ pub(crate) enum Stage {
 }
 
 impl MessageReader for OrderReader {
-    ghost use Rattle.kd_form.specs.SendStream.{orders};
+    ghost use Rattle.kd_form.specs.SendStream.{order_message};
     ghost use Rattle.kd_form.specs.SendSteps.{IsOrderRead};
 
-    ghost message = { λ day. orders day };
+    ghost message = { λ day. order_message day };
 
     ghost holds = { λ day reader order sent. IsOrderRead day reader order sent };
 
     fn start(_day: &SheetDay) -> Self {
         OrderReader {
             read: 0,
-            stage: Stage::Head,
+            stage: OrderStage::Head,
             head: HeadReader::new(),
             parts: PartWriter::new(),
         }
     }
 
-    fn feed(&mut self, day: &SheetDay, byte: u8, made: &mut Made) -> Result<(), FormFault> {
+    fn feed(&mut self, day: &SheetDay, byte: u8, output: &mut PartText) -> Result<(), FormFault> {
         self.read += 1;
         match self.stage {
-            Stage::Head => match self.head.take(day, byte) {
+            OrderStage::Head => match self.head.take(day, byte) {
                 HeadStep::Open => Ok(()),
                 HeadStep::Bad => Err(FormFault::BadByte(self.read)),
                 HeadStep::Text => {
-                    self.stage = Stage::Text;
+                    self.stage = OrderStage::Text;
                     check_keys(day, self.head.keys())
                 }
             },
-            Stage::Text => {
+            OrderStage::Text => {
                 if !is_text_byte(byte) {
                     return Err(FormFault::BadByte(self.read));
                 }
-                self.parts.take(day, self.head.keys(), byte, made);
+                self.parts.take(day, self.head.keys(), byte, output);
                 Ok(())
             }
         }
     }
 
-    fn end(&mut self, day: &SheetDay, made: &mut Made) -> Result<(), FormFault> {
+    fn end(&mut self, day: &SheetDay, output: &mut PartText) -> Result<(), FormFault> {
         match self.stage {
-            Stage::Head => Err(FormFault::BadByte(self.read + 1)),
-            Stage::Text => self.parts.end(day, self.head.keys(), made),
+            OrderStage::Head => Err(FormFault::BadByte(self.read + 1)),
+            OrderStage::Text => self.parts.end(day, self.head.keys(), output),
         }
     }
 }

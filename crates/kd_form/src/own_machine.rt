@@ -1,4 +1,4 @@
-//! OwnMachine: a machine set as the day says, with any letters in its windows; and `push_letters`.
+//! OwnMachine: a machine set as the day says, with any letters in its windows; and `append_letters`.
 ghost use Rattle.std.specs.Prelude.{◌≡◌, ◌↔◌, ◌≤◌, ◌+◌, ◌<◌, ◌++◌, length, All, IsTrue};
 ghost use Rattle.std.specs.Bool.{OnTrue};
 ghost use Rattle.kd_state.specs.TwoCiphers.{sheet_key, IsWindow};
@@ -66,7 +66,7 @@ impl<'day> OwnMachine<'day> {
 
     /// `text`, enciphered or deciphered with the letters of `window` showing first.
     #[tactic(auto, using(crate::proofs::MadeParts::stay_letters))]
-    pub(crate) fn enciphered<const N: usize>(
+    pub(crate) fn encipher_text<const N: usize>(
         &mut self,
         window: &[Letter],
         text: &[Letter],
@@ -78,14 +78,14 @@ impl<'day> OwnMachine<'day> {
         ensures letters { All (λ letter. letter < 26) result.items }
     {
         let mut letters = ArrayVec::new();
-        push_letters(&mut letters, text);
+        append_letters(&mut letters, text);
         self.encipher(window, letters.as_mut_slice());
         letters
     }
 }
 
 /// Appends `more` to `letters`, which must have room.
-pub(crate) fn push_letters<const N: usize>(letters: &mut ArrayVec<Letter, N>, more: &[Letter])
+pub(crate) fn append_letters<const N: usize>(letters: &mut ArrayVec<Letter, N>, more: &[Letter])
     requires { length letters.old.items + length more.now ≤ N }
     ensures { letters.new.items ≡ letters.old.items ++ more.now }
 {

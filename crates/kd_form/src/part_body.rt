@@ -5,19 +5,19 @@ ghost use Rattle.std.specs.Prelude.{OnOk};
 ghost use Rattle.std.specs.Option.{option_to_list};
 ghost use Rattle.kd_tables.specs.Text.{is_text_byte};
 ghost use Rattle.kd_state.specs.Words.{line_of};
-ghost use Rattle.kd_form.specs.Order.{IsEnded};
+ghost use Rattle.kd_form.specs.Order.{IsLineWithEnd};
 ghost use Rattle.kd_form.specs.Part.{heading_words};
 ghost use Rattle.kd_form.specs.Sending.{letters_from};
 ghost use Rattle.kd_form.specs.FormParts.{IsHeading};
-ghost use Rattle.kd_form.specs.Receiving.{SaysBody};
-ghost use Rattle.kd_form.specs.FormReading.{HoldsBody, IsBodyGiven};
+ghost use Rattle.kd_form.specs.Receiving.{IsBodyAnswer};
+ghost use Rattle.kd_form.specs.FormReading.{HoldsBody, IsBodyPlaintext};
 
+use super::bounded_list::push_if_room;
 use super::fault::FormFault;
-use super::given::given_letters;
 use super::heading::Heading;
-use super::keeping::keep;
 use super::part_letters::read_body;
-use super::stream::reader::Made;
+use super::plaintext::plaintext_bytes;
+use super::stream::reader::PartText;
 use super::text::{is_text, letter_of_byte};
 use arrayvec::ArrayVec;
 use kd_state::SheetDay;
@@ -58,7 +58,7 @@ impl PartBody {
     }
 
     /// Whether `byte` is the first digit of the next heading line.
-    pub(crate) fn ends_before(&self, byte: u8) -> bool
+    pub(crate) fn is_next_heading_digit(&self, byte: u8) -> bool
         ensures { IsTrue result ↔ ((self.now.line.items ≡ codes "PART ") × (48 ≤ byte) × (byte ≤ 57)) }
     {
         is_text(self.line.as_slice(), b"PART ") && byte.is_ascii_digit()
@@ -75,15 +75,15 @@ impl PartBody {
         keep_byte(&mut self.line, byte);
     }
 
-    /// Deciphers the body into `made`, without its last `others` letters, which belong to the next heading.
+    /// Deciphers the body into `output`, without its last `others` letters, which belong to the next heading.
     ///
     /// Not inlined: otherwise every byte read would pay for this frame.
     #[inline(never)]
-    pub(crate) fn give(
+    pub(crate) fn decipher_into(
         &self,
         day: &SheetDay,
         others: usize,
-        made: &mut Made,
+        output: &mut PartText,
     ) -> Result<(), FormFault>
         requires heading { IsHeading day.now self.now.heading }
         requires some { others ≤ length self.now.letters.items }
@@ -91,15 +91,15 @@ impl PartBody {
         ensures given { (letters more : List ℕ) → length more ≡ others
             → self.now.letters.items ≡ take 525 (letters ++ more)
             → MatchResult result
-            (λ _. IsBodyGiven day.now self.now.heading letters made.new.items)
-            (λ fault. SaysBody day.now self.now.heading.part self.now.heading letters (Err fault)) }
-        ensures few { OnOk result (length made.new.items ≤ 500) }
-        ensures unchanged { OnErr result (made.new ≡ made.old) }
+            (λ _. IsBodyPlaintext day.now self.now.heading letters output.new.items)
+            (λ fault. IsBodyAnswer day.now self.now.heading.part self.now.heading letters (Err fault)) }
+        ensures few { OnOk result (length output.new.items ≤ 500) }
+        ensures unchanged { OnErr result (output.new ≡ output.old) }
     {
         let letters = self.letters.as_slice();
         let (letters, _) = letters.split_at(letters.len() - others);
         let letters = read_body(day, &self.heading, letters)?;
-        *made = given_letters(day, letters.as_slice());
+        *output = plaintext_bytes(day, letters.as_slice());
         Ok(())
     }
 }
@@ -110,7 +110,7 @@ fn keep_letter(letters: &mut ArrayVec<Letter, KEPT>, letter: Option<Letter>)
         → letters.new.items ≡ take 525 (letters.old.items ++ option_to_list letter) }
 {
     if let Some(letter) = letter {
-        keep(letters, letter);
+        push_if_room(letters, letter);
     }
 }
 
@@ -124,7 +124,7 @@ fn keep_byte(line: &mut ArrayVec<u8, FIRST>, byte: u8)
     if byte == b'\n' {
         line.clear();
     } else {
-        keep(line, byte);
+        push_if_room(line, byte);
     }
 }
 

@@ -1,11 +1,11 @@
 //! Reads the letters of a part's body: tests indicators and group, and deciphers the rest.
 ghost use Rattle.std.specs.Prelude.{◌≡◌, ◌+◌, ◌^◌, ◌<◌, ◌≤◌, ◌↔◌, Some, length, IsTrue};
 ghost use Rattle.std.specs.Prelude.{MatchResult};
-ghost use Rattle.kd_form.specs.Reading.{HasIndicator, SaysRotor, SaysPin};
-ghost use Rattle.kd_form.specs.Reading.{HasIndicatorsAround, keys_in};
-ghost use Rattle.kd_form.specs.KeyPatterns.{HasPins};
+ghost use Rattle.kd_form.specs.Reading.{HasIndicator, IsRotorAnswer, IsPinAnswer};
+ghost use Rattle.kd_form.specs.Reading.{HasIndicatorsAround, keys_of_body};
+ghost use Rattle.kd_form.specs.KeyPatterns.{IsConverterDay};
 ghost use Rattle.kd_form.specs.FormParts.{IsHeading};
-ghost use Rattle.kd_form.specs.Receiving.{SaysBody};
+ghost use Rattle.kd_form.specs.Receiving.{IsBodyAnswer};
 
 use super::fault::FormFault;
 use super::heading::{Heading, Indicator};
@@ -29,17 +29,20 @@ fn read_rotor_letters(
     requires some { 5 ≤ length letters.now }
     requires few { length letters.now ≤ 250 }
     ensures { MatchResult result
-        (λ text. SaysRotor day.now part indicator.now letters.now (Ok text.items))
-        (λ fault. SaysRotor day.now part indicator.now letters.now (Err fault)) }
+        (λ text. IsRotorAnswer day.now part indicator.now letters.now (Ok text.items))
+        (λ fault. IsRotorAnswer day.now part indicator.now letters.now (Err fault)) }
 {
-    prove!(indicator.key.as_slice().len() <= 4);
+    prove!(indicator.enciphered_key.as_slice().len() <= 4);
     let group = <[Letter; 3]>::try_from(&letters[2..5]).unwrap();
     if !day.has_group(group) {
         return Err(FormFault::WrongGroup(part));
     }
     let mut own = OwnMachine::new(day);
-    let key = own.enciphered::<4>(indicator.start.as_slice(), indicator.key.as_slice());
-    Ok(own.enciphered(key.as_slice(), &letters[5..]))
+    let message_key = own.encipher_text::<4>(
+        indicator.ground.as_slice(),
+        indicator.enciphered_key.as_slice(),
+    );
+    Ok(own.encipher_text(message_key.as_slice(), &letters[5..]))
 }
 
 /// Whether the last ten letters repeat the first ten, and the first two letters are equal.
@@ -52,9 +55,9 @@ fn has_indicators_around(letters: &[Letter]) -> bool
 }
 
 /// The keys in the indicators at the start of `letters`.
-fn keys_in(letters: &[Letter]) -> PinKeys
+fn keys_of_body(letters: &[Letter]) -> PinKeys
     requires { 20 ≤ length letters.now }
-    ensures { result ≡ keys_in letters.now }
+    ensures { result ≡ keys_of_body letters.now }
 {
     let chosen = letters[1];
     let external = <[Letter; 6]>::try_from(&letters[2..8]).unwrap();
@@ -67,17 +70,17 @@ fn read_pin_letters(
     part: u8,
     letters: &[Letter],
 ) -> Result<ArrayVec<Letter, 500>, FormFault>
-    requires pins { HasPins day.now }
+    requires pins { IsConverterDay day.now }
     requires some { 20 ≤ length letters.now }
     requires few { length letters.now ≤ 520 }
     ensures { MatchResult result
-        (λ text. SaysPin day.now part letters.now (Ok text.items))
-        (λ fault. SaysPin day.now part letters.now (Err fault)) }
+        (λ text. IsPinAnswer day.now part letters.now (Ok text.items))
+        (λ fault. IsPinAnswer day.now part letters.now (Err fault)) }
 {
     if !has_indicators_around(letters) {
         return Err(FormFault::IndicatorsDiffer(part));
     }
-    let keys = keys_in(letters);
+    let keys = keys_of_body(letters);
     let mut own = OwnMachine::new(day);
     if !own.can_show(&keys.external) {
         return Err(FormFault::KeyNotOnWheel);
@@ -88,7 +91,7 @@ fn read_pin_letters(
     }
     let text = &letters[10..letters.len() - 10];
     match internal_key_of(&mut own, &keys) {
-        Some(internal) => Ok(own.enciphered(internal.as_slice(), text)),
+        Some(internal) => Ok(own.encipher_text(internal.as_slice(), text)),
         None => Err(FormFault::IndicatorSpent(part)),
     }
 }
@@ -103,8 +106,8 @@ pub(crate) fn read_body(
 ) -> Result<ArrayVec<Letter, 500>, FormFault>
     requires { IsHeading day.now heading.now }
     ensures { MatchResult result
-        (λ text. SaysBody day.now heading.now.part heading.now letters.now (Ok text.items))
-        (λ fault. SaysBody day.now heading.now.part heading.now letters.now (Err fault)) }
+        (λ text. IsBodyAnswer day.now heading.now.part heading.now letters.now (Ok text.items))
+        (λ fault. IsBodyAnswer day.now heading.now.part heading.now letters.now (Err fault)) }
 {
     if letters.len() != heading.letters {
         return Err(FormFault::CountWrong(heading.part));

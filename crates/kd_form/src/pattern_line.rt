@@ -2,8 +2,9 @@
 ghost use Rattle.std.specs.Prelude.{◌≡◌, ◌≤◌, ◌<◌, [], ◌+◌, ◌++◌, MatchResult};
 ghost use Rattle.std.specs.Bool.{OnTrue, OnFalse};
 ghost use Rattle.arrayvec.specs.ArrayVec.{array_vec_len};
-ghost use Rattle.kd_form.specs.Order.{BreaksOff, IsEnded};
-ghost use Rattle.kd_form.specs.Patterns.{blanks, fits, letters_at, IsFilledLine, IsPatternLine, AreAppended};
+ghost use Rattle.kd_form.specs.Order.{IsUnread, IsLineWithEnd};
+ghost use Rattle.kd_form.specs.Patterns.{blank_count, fits_mark, letters_for_mark, IsFilledLine, IsPatternLine};
+ghost use Rattle.kd_form.specs.Patterns.{AreLettersAppended};
 
 use arrayvec::ArrayVec;
 use kd_tables::Letter;
@@ -15,52 +16,52 @@ const MOST: usize = 13;
 #[derive(Clone, Copy)]
 pub(crate) enum Unread {
     /// The line is incomplete: the bytes are a prefix of a line that fits.
-    Open,
+    Incomplete,
     /// No line that fits begins with the bytes.
-    Off,
+    Mismatch,
 }
 
 /// Reads `bytes` as a line of `pattern` with its line end; returns the letters for each `_`.
 pub(crate) fn read_pattern(pattern: &[u8], bytes: &[u8]) -> Result<ArrayVec<Letter, MOST>, Unread>
-    requires { blanks pattern.now ≤ 13 }
+    requires { blank_count pattern.now ≤ 13 }
     ensures { MatchResult result
         (λ letters. IsFilledLine pattern.now letters.items bytes.now)
-        (BreaksOff (IsPatternLine pattern.now) bytes.now) }
+        (IsUnread (IsPatternLine pattern.now) bytes.now) }
 {
     let mut letters = ArrayVec::new();
-    read_letters(pattern, bytes, &mut letters)?;
+    read_pattern_letters(pattern, bytes, &mut letters)?;
     Ok(letters)
 }
 
 /// Reads `bytes` as a line of `pattern` with its line end, and appends the letters for each `_`.
 #[tactic(auto, using(crate::proofs::Lines::line_open, crate::proofs::Lines::line_off, crate::proofs::Lines::line_on, crate::proofs::Lines::line_ends))]
-fn read_letters(
+fn read_pattern_letters(
     pattern: &[u8],
     bytes: &[u8],
     letters: &mut ArrayVec<Letter, MOST>,
 ) -> Result<(), Unread>
-    requires { array_vec_len letters.old + blanks pattern.now ≤ 13 }
+    requires { array_vec_len letters.old + blank_count pattern.now ≤ 13 }
     ensures { MatchResult result
-        (λ _. AreAppended pattern.now bytes.now letters.old.items letters.new.items)
-        (BreaksOff (IsPatternLine pattern.now) bytes.now) }
+        (λ _. AreLettersAppended pattern.now bytes.now letters.old.items letters.new.items)
+        (IsUnread (IsPatternLine pattern.now) bytes.now) }
 {
     let Some((mark, marks)) = pattern.split_first() else {
         return read_end(bytes);
     };
     let Some((byte, rest)) = bytes.split_first() else {
-        return Err(Unread::Open);
+        return Err(Unread::Incomplete);
     };
-    if !take_letter(letters, *mark, *byte) {
-        return Err(Unread::Off);
+    if !take_marked_letter(letters, *mark, *byte) {
+        return Err(Unread::Mismatch);
     }
-    read_letters(marks, rest, letters)
+    read_pattern_letters(marks, rest, letters)
 }
 
 /// Whether `byte` fits `mark`; if `mark` is `_`, appends the byte's letter.
-fn take_letter(letters: &mut ArrayVec<Letter, MOST>, mark: u8, byte: u8) -> bool
+fn take_marked_letter(letters: &mut ArrayVec<Letter, MOST>, mark: u8, byte: u8) -> bool
     requires { mark ≡ 95 → array_vec_len letters.old < 13 }
-    ensures fits { result ≡ fits mark byte }
-    ensures taken { OnTrue result (letters.new.items ≡ letters.old.items ++ letters_at mark byte) }
+    ensures fits { result ≡ fits_mark mark byte }
+    ensures taken { OnTrue result (letters.new.items ≡ letters.old.items ++ letters_for_mark mark byte) }
     ensures unchanged { OnFalse result (letters.new.items ≡ letters.old.items) }
 {
     if mark != b'_' {
@@ -79,14 +80,14 @@ fn take_letter(letters: &mut ArrayVec<Letter, MOST>, mark: u8, byte: u8) -> bool
 #[tactic(auto, using(crate::proofs::Lines::end_open, crate::proofs::Lines::end_off))]
 fn read_end(bytes: &[u8]) -> Result<(), Unread>
     ensures { MatchResult result
-        (λ _. IsEnded [] bytes.now)
-        (BreaksOff (IsEnded []) bytes.now) }
+        (λ _. IsLineWithEnd [] bytes.now)
+        (IsUnread (IsLineWithEnd []) bytes.now) }
 {
     match bytes {
         [b'\n'] => Ok(()),
         [b'\r', b'\n'] => Ok(()),
-        [] => Err(Unread::Open),
-        [b'\r'] => Err(Unread::Open),
-        _ => Err(Unread::Off),
+        [] => Err(Unread::Incomplete),
+        [b'\r'] => Err(Unread::Incomplete),
+        _ => Err(Unread::Mismatch),
     }
 }

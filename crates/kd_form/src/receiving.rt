@@ -1,16 +1,16 @@
 //! Receives a form: `receive` returns its text, and `receive_stream` writes it to a sink.
 ghost use Rattle.std.specs.Prelude.{◌≡◌, ℕ, List, IsTrue};
-ghost use Rattle.kd_tables.specs.Ports.{Fail, port};
+ghost use Rattle.kd_tables.specs.Ports.{FailureAgrees, port};
 ghost use Rattle.kd_form.specs.FormText.{form_message, IsTextOf, IsReceiveFault};
-ghost use Rattle.kd_form.specs.OnTheKey.{AnswersOnKey};
+ghost use Rattle.kd_form.specs.OnTheKey.{IsAnswerOnKey};
 ghost use Rattle.kd_form.specs.Streams.{StreamsOnKey, is_device, is_off_key};
 
 use super::fault::FormFault;
 use super::form_reader::FormReader;
 use super::sending::check_machine;
 use super::stream::reader::MessageReader;
-use super::stream::stream;
-use super::stream::whole::bytes_of;
+use super::stream::stream_message;
+use super::stream::whole_message::message_result;
 use kd_state::{Machine, SheetDay};
 use kd_tables::{Sink, Source};
 use std::alloc::Global;
@@ -27,12 +27,12 @@ pub fn receive(
     day: &SheetDay,
     form: &[u8],
 ) -> Result<Vec<u8>, FormFault>
-    ensures { AnswersOnKey machine.now day.now
+    ensures { IsAnswerOnKey machine.now day.now
         (λ text. IsTextOf day.now form.now text.items)
         (IsReceiveFault day.now form.now) ((text : List ℕ) × IsTextOf day.now form.now text) result }
 {
     check_machine(machine, day)?;
-    bytes_of::<FormReader>(alloc, day, form)
+    message_result::<FormReader>(alloc, day, form)
 }
 
 /// Reads a form from `source`, and writes its text to `sink`, part by part.
@@ -54,9 +54,9 @@ pub fn receive_stream<R: Source, W: Sink>(
         (port W.taken W.has_failed sink.old sink.new) result }
     ensures untouched { IsTrue (is_off_key result)
         → (source.new ≡ source.old) × (sink.new ≡ sink.old) }
-    ensures failed { Fail (port R.remaining R.has_failed source.old source.new)
+    ensures failed { FailureAgrees (port R.remaining R.has_failed source.old source.new)
         (port W.taken W.has_failed sink.old sink.new) (is_device result) }
 {
     check_machine(machine, day)?;
-    stream(day, &mut FormReader::start(day), source, sink)
+    stream_message(day, &mut FormReader::start(day), source, sink)
 }

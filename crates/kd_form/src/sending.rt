@@ -1,17 +1,17 @@
 //! Sends an order: `send` returns its form, and `send_stream` writes it to a sink.
 ghost use Rattle.std.specs.Prelude.{◌≡◌, ◌≤◌, ℕ, List, IsTrue, MatchResult};
-ghost use Rattle.kd_tables.specs.Ports.{Fail, port};
+ghost use Rattle.kd_tables.specs.Ports.{FailureAgrees, port};
 ghost use Rattle.kd_form.specs.Making.{part_size};
 ghost use Rattle.kd_form.specs.Sending.{IsSendFault, IsFormOf};
-ghost use Rattle.kd_form.specs.SendStream.{orders};
+ghost use Rattle.kd_form.specs.SendStream.{order_message};
 ghost use Rattle.kd_form.specs.Streams.{StreamsOnKey, is_device, is_off_key};
-ghost use Rattle.kd_form.specs.OnTheKey.{IsOnKey, IsKeyFault, AnswersOnKey};
+ghost use Rattle.kd_form.specs.OnTheKey.{IsReadyOnKey, IsKeyFault, IsAnswerOnKey};
 
 use super::fault::FormFault;
 use super::order_reader::OrderReader;
 use super::stream::reader::MessageReader;
-use super::stream::stream;
-use super::stream::whole::bytes_of;
+use super::stream::stream_message;
+use super::stream::whole_message::message_result;
 use kd_state::{Machine, SheetDay};
 use kd_tables::{Sink, Source};
 use std::alloc::Global;
@@ -26,12 +26,12 @@ pub fn send(
     day: &SheetDay,
     order: &[u8],
 ) -> Result<Vec<u8>, FormFault>
-    ensures { AnswersOnKey machine.now day.now
+    ensures { IsAnswerOnKey machine.now day.now
         (λ form. IsFormOf day.now order.now form.items)
         (IsSendFault day.now order.now) ((form : List ℕ) × IsFormOf day.now order.now form) result }
 {
     check_machine(machine, day)?;
-    bytes_of::<OrderReader>(alloc, day, order)
+    message_result::<OrderReader>(alloc, day, order)
 }
 
 /// Reads an order from `source`, and writes its form to `sink`, part by part.
@@ -48,16 +48,16 @@ pub fn send_stream<R: Source, W: Sink>(
     source: &mut R,
     sink: &mut W,
 ) -> Result<(), FormFault>
-    ensures streamed { StreamsOnKey machine.now day.now (orders day.now)
+    ensures streamed { StreamsOnKey machine.now day.now (order_message day.now)
         (port R.remaining R.has_failed source.old source.new)
         (port W.taken W.has_failed sink.old sink.new) result }
     ensures untouched { IsTrue (is_off_key result)
         → (source.new ≡ source.old) × (sink.new ≡ sink.old) }
-    ensures failed { Fail (port R.remaining R.has_failed source.old source.new)
+    ensures failed { FailureAgrees (port R.remaining R.has_failed source.old source.new)
         (port W.taken W.has_failed sink.old sink.new) (is_device result) }
 {
     check_machine(machine, day)?;
-    stream(day, &mut OrderReader::start(day), source, sink)
+    stream_message(day, &mut OrderReader::start(day), source, sink)
 }
 
 /// How many letters of text a part has at most.
@@ -75,7 +75,7 @@ pub(crate) fn part_size(day: &SheetDay) -> usize
 /// Refuses a machine that isn't ready, or not on the day's key.
 pub(crate) fn check_machine(machine: &Machine, day: &SheetDay) -> Result<(), FormFault>
     ensures { MatchResult result
-        (λ _. IsOnKey machine.now day.now)
+        (λ _. IsReadyOnKey machine.now day.now)
         (IsKeyFault machine.now day.now) }
 {
     if !machine.is_ready() {

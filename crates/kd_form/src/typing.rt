@@ -1,19 +1,19 @@
 //! Types a text on a machine.
 ghost use Rattle.std.specs.Prelude.{◌≡◌, IsTrue};
-ghost use Rattle.kd_tables.specs.Ports.{Fail, port};
+ghost use Rattle.kd_tables.specs.Ports.{FailureAgrees, port};
 ghost use Rattle.kd_form.specs.Streams.{is_device, is_off_key};
 ghost use Rattle.kd_form.specs.Typing.{TypesIfReady};
 
-mod piece;
+mod chunk;
 
 use super::fault::FormFault;
-use super::stream::reader::{PIECE, PieceReader};
-use super::stream::stop::Stop;
-use super::stream::stream;
+use super::stream::interruption::Interruption;
+use super::stream::reader::{CHUNK, ChunkReader};
+use super::stream::stream_message;
 use arrayvec::ArrayVec;
+use chunk::type_chunk;
 use kd_state::{Engine, Machine};
 use kd_tables::{Letter, Sink, Source, put_all};
-use piece::type_piece;
 
 /// Types the text from `source` on `machine`, and writes the lamps as capital letters, then LF.
 ///
@@ -30,7 +30,7 @@ pub fn type_stream<R: Source, W: Sink>(
         (port W.taken W.has_failed sink.old sink.new) result }
     ensures untouched { IsTrue (is_off_key result)
         → (source.new ≡ source.old) × (sink.new ≡ sink.old) }
-    ensures failed { Fail (port R.remaining R.has_failed source.old source.new)
+    ensures failed { FailureAgrees (port R.remaining R.has_failed source.old source.new)
         (port W.taken W.has_failed sink.old sink.new) (is_device result) }
 {
     let engine = machine.engine()?;
@@ -40,7 +40,7 @@ pub fn type_stream<R: Source, W: Sink>(
         letters: ArrayVec::new(),
         lamps: ArrayVec::new(),
     };
-    stream(machine, &mut typist, source, sink)
+    stream_message(machine, &mut typist, source, sink)
 }
 
 /// A reader that types a text.
@@ -52,31 +52,36 @@ pub(crate) struct Typist {
     /// The letters of the current piece.
     ///
     /// `letters` and `lamps` are reused, so that their places are filled only once.
-    letters: ArrayVec<Letter, PIECE>,
+    letters: ArrayVec<Letter, CHUNK>,
     /// The lamps that lit up, as capital letters.
-    lamps: ArrayVec<u8, PIECE>,
+    lamps: ArrayVec<u8, CHUNK>,
 }
 
-impl PieceReader<Machine> for Typist {
+impl ChunkReader<Machine> for Typist {
     ghost use Rattle.kd_state.specs.TwoCiphers.{physical_cipher};
-    ghost use Rattle.kd_form.specs.Typing.{texts, IsTypedTo};
+    ghost use Rattle.kd_form.specs.Typing.{text_message, HasTyped};
 
-    ghost message = { λ machine. texts (physical_cipher machine) };
+    ghost message = { λ machine. text_message (physical_cipher machine) };
 
-    ghost holds = { IsTypedTo };
+    ghost holds = { HasTyped };
 
     #[tactic(auto, using(crate::proofs::Streaming::read_whole))]
-    fn read<W: Sink>(&mut self, _on: &Machine, bytes: &[u8], sink: &mut W) -> Result<(), Stop> {
-        let front = type_piece(&mut self.engine, bytes, &mut self.letters, &mut self.lamps);
+    fn read_chunk<W: Sink>(
+        &mut self,
+        _context: &Machine,
+        bytes: &[u8],
+        sink: &mut W,
+    ) -> Result<(), Interruption> {
+        let front = type_chunk(&mut self.engine, bytes, &mut self.letters, &mut self.lamps);
         self.read += front;
         put_all(sink, &self.lamps)?;
         if front < bytes.len() {
-            return Err(Stop::Refused(FormFault::BadByte(self.read + 1)));
+            return Err(Interruption::Refused(FormFault::BadByte(self.read + 1)));
         }
         Ok(())
     }
 
-    fn finish<W: Sink>(&mut self, _on: &Machine, sink: &mut W) -> Result<(), Stop> {
+    fn finish<W: Sink>(&mut self, _context: &Machine, sink: &mut W) -> Result<(), Interruption> {
         put_all(sink, b"\n")?;
         Ok(())
     }

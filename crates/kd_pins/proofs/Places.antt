@@ -1,7 +1,7 @@
 -- Places on a pin wheel: turning on from a place, and turning all the way round.
 use Rattle.std.proofs.Common.{ℕ, ◌+◌, ◌-◌, ◌<◌, ◌≡◌, arith, sym, ap, ◌∙◌}
 use Rattle.std.proofs.Math.Nat.{add-mod_right, mod-add-mod, mod-eq_of_lt, mod-lt}
-use Rattle.kd_pins.specs.PinWheel.{ActsAt, place_past, place_shown}
+use Rattle.kd_pins.specs.PinWheel.{ActsAt, place_past, shown_place_at_acting}
 
 -- Two turns that add up to a whole one lead back to the place.
 once_round : (size place way rest : ℕ) → place < size → way + rest ≡ size
@@ -12,10 +12,10 @@ once_round size place way rest lt round =
 -- The pin `offset` places past a place acts while the letter at this place shows.
 pub acts_past : (size place offset acting : ℕ) → place < size → offset < size
     → acting ≡ place_past size place offset
-    → ActsAt size acting offset × (place_shown size acting offset ≡ place)
+    → ActsAt size acting offset × (shown_place_at_acting size acting offset ≡ place)
 acts_past size place offset acting lt inside e =
     let round = once_round size place offset (size - offset) lt (omega arith) in
-    let shows = ap (λ p. place_shown size p offset) e ∙ round in (
+    let shows = ap (λ p. shown_place_at_acting size p offset) e ∙ round in (
       record {
         inside = inside;
         there = rw e (mod-lt (place + offset) (omega arith));
@@ -27,8 +27,8 @@ acts_past size place offset acting lt inside e =
 -- The next pin acts while the next letter shows.
 pub acts_next : (size acting offset next : ℕ) → ActsAt size acting offset → next ≡ place_past size acting 1
     → ActsAt size next offset
-    × (place_shown size next offset ≡ place_past size (place_shown size acting offset) 1)
+    × (shown_place_at_acting size next offset ≡ place_past size (shown_place_at_acting size acting offset) 1)
 acts_next size acting offset next h e =
-    let shown = place_shown size acting offset in
+    let shown = shown_place_at_acting size acting offset in
     acts_past size (place_past size shown 1) offset next (mod-lt (shown + 1) (omega (arith, h.inside))) h.inside
     (grind (arith, e, h.past, mod-add-mod (shown + offset) size 1, mod-add-mod (shown + 1) size offset))

@@ -4,11 +4,12 @@ use Rattle.std.proofs.Common.{All, List, [], arith, eqb, inl, inr, subst, sym, t
 use Rattle.std.proofs.lemmas.{Bool.{eqb-true, false≢true, or_cases}, Map.Steps.length-le_from_distinct_below}
 
 -- A number that is one of some letters is below 26.
-among : (letters : List ℕ) (q : ℕ) → All (λ letter. letter < 26) letters → list_any (eqb q) letters ≡ true → q < 26
-among [] q h e = absurd (false≢true e)
-among (letter ∷ letters) q h e =
+list_any-below_26 : (letters : List ℕ) (q : ℕ) → All (λ letter. letter < 26) letters
+    → list_any (eqb q) letters ≡ true → q < 26
+list_any-below_26 [] q h e = absurd (false≢true e)
+list_any-below_26 (letter ∷ letters) q h e =
     at (or_cases (eqb q letter) (list_any (eqb q) letters) e)
-    (among letters q (All-tail (λ l. l < 26) letter letters h))
+    (list_any-below_26 letters q (All-tail (λ l. l < 26) letter letters h))
   where
     at : (eqb q letter ≡ true) ⊎ (list_any (eqb q) letters ≡ true) → (list_any (eqb q) letters ≡ true → q < 26) → q < 26
     at (inl same) _ = subst (λ n. n < 26) (sym (eqb-true q letter same)) (All-head (λ l. l < 26) letter letters h)
@@ -16,4 +17,9 @@ among (letter ∷ letters) q h e =
 
 pub at_most_all : (size : ℕ) (letters : List ℕ) → IsRing size letters → size ≤ 26
 at_most_all size letters ring =
-    omega (arith, ring.full, length-le_from_distinct_below letters 26 ring.differ (λ q. among letters q ring.within))
+    omega (
+      arith,
+      ring.full,
+      length-le_from_distinct_below letters 26 ring.differ
+          (λ q. list_any-below_26 letters q ring.within),
+    )

@@ -33,25 +33,25 @@ abbrev pub letter_shown : TurnedWheel → ℕ
 letter_shown wheel = slice_index wheel.ring wheel.place
 
 -- whether the acting pin is effective
-abbrev pub pin_acting : ℕ → TurnedWheel → Bool
-pin_acting size wheel = is_effective wheel.pins (place_past size wheel.place wheel.offset)
+abbrev pub is_acting_pin_effective : ℕ → TurnedWheel → Bool
+is_acting_pin_effective size wheel = is_effective wheel.pins (place_past size wheel.place wheel.offset)
 
 -- the wheel turned so that it shows the letter at `place`
-abbrev pub turned_to : TurnedWheel → ℕ → TurnedWheel
-turned_to wheel place = record wheel { place = place }
+abbrev pub wheel_at_place : TurnedWheel → ℕ → TurnedWheel
+wheel_at_place wheel place = record wheel { place = place }
 
 -- the wheel turned so that it shows `letter`; unchanged if the wheel lacks the letter
-abbrev pub with_shown : TurnedWheel → ℕ → TurnedWheel
-with_shown wheel letter = turned_to wheel (unwrap_or (place_on wheel.ring letter) wheel.place)
+abbrev pub wheel_showing : TurnedWheel → ℕ → TurnedWheel
+wheel_showing wheel letter = wheel_at_place wheel (unwrap_or (place_on wheel.ring letter) wheel.place)
 
 -- ---- What the code keeps. No public contract cites these definitions.
 
 -- the place of the shown letter, `offset` places before the acting pin at `acting`
-abbrev pub place_shown : ℕ → ℕ → ℕ → ℕ
-place_shown size acting offset = place_past size acting (size - offset)
+abbrev pub shown_place_at_acting : ℕ → ℕ → ℕ → ℕ
+shown_place_at_acting size acting offset = place_past size acting (size - offset)
 
 -- The acting pin is at `acting`, `offset` places past the shown letter.
 pub record ActsAt (size acting offset : ℕ) : Type 0 where
   pub inside : offset < size
   pub there : acting < size
-  pub past : place_past size (place_shown size acting offset) offset ≡ acting
+  pub past : place_past size (shown_place_at_acting size acting offset) offset ≡ acting

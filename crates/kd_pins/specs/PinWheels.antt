@@ -11,12 +11,12 @@ abbrev pub pin_wheels : List ℕ
 pin_wheels = range_with_len 1 6
 
 -- how many places a wheel's acting pin is past the shown letter
-abbrev pub offset_of : ℕ → ℕ
-offset_of wheel = slice_index (15 ∷ 14 ∷ 13 ∷ 12 ∷ 11 ∷ 10 ∷ []) (wheel - 1)
+abbrev pub acting_offset : ℕ → ℕ
+acting_offset wheel = slice_index (15 ∷ 14 ∷ 13 ∷ 12 ∷ 11 ∷ 10 ∷ []) (wheel - 1)
 
 -- how many letters a wheel has, and as many pins
-abbrev pub size_of : ℕ → ℕ
-size_of wheel = length (ring_of wheel)
+abbrev pub pin_wheel_size : ℕ → ℕ
+pin_wheel_size wheel = length (ring_of wheel)
 
 -- which pins are effective, wheel by wheel
 abbrev pub pins_of : PinSet → List (List Bool)

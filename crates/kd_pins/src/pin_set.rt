@@ -20,7 +20,7 @@ pub struct PinSet {
 
 impl PinSet {
     /// Whether the two sets have the same effective pins.
-    pub fn same(&self, other: &PinSet) -> bool
+    pub fn has_same_pins(&self, other: &PinSet) -> bool
         ensures { IsTrue result ↔ (self.now ≡ other.now) }
     {
         *self == *other

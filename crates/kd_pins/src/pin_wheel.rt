@@ -2,7 +2,8 @@
 ghost use Rattle.std.specs.Prelude.{◌≡◌, ◌↔◌, ◌<◌, ◌≤◌, ◌+◌, ◌%◌, IsOk, IsTrue, OnOk, Contains};
 ghost use Rattle.kd_tables.specs.Refusals.{refusal_name};
 ghost use Rattle.kd_tables.specs.Rings.{IsRing};
-ghost use Rattle.kd_pins.specs.PinWheel.{IsWheel, letter_shown, pin_acting, place_past, turned_to, with_shown};
+ghost use Rattle.kd_pins.specs.PinWheel.{IsWheel, letter_shown, is_acting_pin_effective, place_past, wheel_at_place};
+ghost use Rattle.kd_pins.specs.PinWheel.{wheel_showing};
 
 use kd_tables::{Letter, Refusal, Ring, Text};
 use std::marker::Model;
@@ -37,7 +38,7 @@ pub struct PinWheel<const N: usize> {
 impl<const N: usize> Model for PinWheel<N> {
     ghost use Rattle.std.specs.Prelude.{◌≤◌};
     ghost use Rattle.kd_tables.specs.Rings.{IsRing};
-    ghost use Rattle.kd_pins.specs.PinWheel.{ActsAt, TurnedWheel, place_past, place_shown};
+    ghost use Rattle.kd_pins.specs.PinWheel.{ActsAt, TurnedWheel, place_past, shown_place_at_acting};
 
     ghost Value = { TurnedWheel };
 
@@ -45,7 +46,7 @@ impl<const N: usize> Model for PinWheel<N> {
       ring = w.ring;
       offset = w.offset;
       pins = w.pins;
-      place = place_shown N w.acting w.offset;
+      place = shown_place_at_acting N w.acting w.offset;
     } };
 
     ghost invariant = { λ w. IsRing N w.ring × ActsAt N w.acting w.offset × (N ≤ 26) };
@@ -87,7 +88,7 @@ impl<const N: usize> PinWheel<N> {
 
     /// Whether the acting pin is effective.
     pub fn acting(&self) -> bool
-        ensures { result ≡ pin_acting N self.now }
+        ensures { result ≡ is_acting_pin_effective N self.now }
     {
         let PinWheel { pins, acting, .. } = self;
         pins[*acting]
@@ -95,7 +96,7 @@ impl<const N: usize> PinWheel<N> {
 
     /// Turns the wheel by one place, to the next letter in its order; the first comes after the last.
     pub fn advance(&mut self)
-        ensures next { self.new ≡ turned_to self.old (place_past N self.old.place 1) }
+        ensures next { self.new ≡ wheel_at_place self.old (place_past N self.old.place 1) }
         ensures wheel { IsWheel N self.new }
     {
         self.acting = next_place(self.acting, N);
@@ -111,7 +112,7 @@ impl<const N: usize> PinWheel<N> {
 
     /// Turns the wheel so that it shows `letter`; does nothing if the letter isn't on the wheel.
     pub fn show(&mut self, letter: Letter)
-        ensures turned { self.new ≡ with_shown self.old letter }
+        ensures turned { self.new ≡ wheel_showing self.old letter }
         ensures shows { Contains self.old.ring letter → letter_shown self.new ≡ letter }
         ensures wheel { IsWheel N self.new }
     {
@@ -123,7 +124,7 @@ impl<const N: usize> PinWheel<N> {
     /// Turns the wheel so that it shows `letter`; refuses and does nothing if the letter isn't on the wheel.
     pub fn set(&mut self, letter: Letter) -> Result<(), NotOnWheel>
         ensures ok { IsOk result ↔ Contains self.old.ring letter }
-        ensures turned { self.new ≡ with_shown self.old letter }
+        ensures turned { self.new ≡ wheel_showing self.old letter }
         ensures shows { OnOk result (letter_shown self.new ≡ letter) }
         ensures wheel { IsWheel N self.new }
     {
@@ -152,7 +153,7 @@ impl<const N: usize> PinWheel<N> {
     /// Turns the wheel so that it shows the letter at `place`, counted from 0.
     fn turn(&mut self, place: usize)
         requires { place < N }
-        ensures turned { self.new ≡ turned_to self.old place }
+        ensures turned { self.new ≡ wheel_at_place self.old place }
         ensures wheel { IsWheel N self.new }
     {
         self.acting = (place + self.offset) % N;

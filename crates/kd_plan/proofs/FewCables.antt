@@ -32,18 +32,22 @@ put_within number m s none few (suc place) letter within h =
           let free = none (suc place) above in
           let bound = h free in
           let all = all_first m.cables (suc place) within
-          (λ k low. at_place m (suc k) k refl ∙ none (suc k) (omega arith)) in
-          absurd (omega (arith, one_spare m.cables place (omega arith) (at_place m (suc place) place refl ∙ free)))
+          (λ k low. is_spare_at-cable_at m (suc k) k refl ∙ none (suc k) (omega arith)) in
+          absurd (omega (
+            arith,
+            one_spare m.cables place (omega arith)
+                (is_spare_at-cable_at m (suc place) place refl ∙ free),
+          ))
       | inr fits ↦ omega arith
     ]
 
 -- A legal PUT names a cable that exists. A legal PULL names one that is in use.
 put_there : (m : RotorParts) (cable letter : ℕ) → why_refused (Rotor m) (Put cable letter) ≡ None
-    → is_none (numbered m.cables cable) ≡ false
+    → is_none (numbered_item m.cables cable) ≡ false
 put_there m cable letter h = grind arith
 
 pull_there : (m : RotorParts) (cable letter : ℕ) → why_refused (Rotor m) (Pull cable letter) ≡ None
-    → (is_none (numbered m.cables cable) ≡ false) × (has_letter (cable_letters (cable_at m cable)) letter ≡ true)
+    → (is_none (numbered_item m.cables cable) ≡ false) × (has_letter (cable_letters (cable_at m cable)) letter ≡ true)
 pull_there m cable letter h = (grind arith, grind arith)
 
 in_use : (cable : Cable) (letter : ℕ) → has_letter (cable_letters cable) letter ≡ true → is_spare cable ≡ false
@@ -52,36 +56,36 @@ in_use _ letter h = refl
 
 -- A change of a cable up to `number` leaves the cables above it spare.
 set_within : (number : ℕ) (m : RotorParts) (cable : ℕ) (ends : Cable) → UsesNoneAbove number (Rotor m) → cable ≤ number
-    → is_none (numbered m.cables cable) ≡ false
+    → is_none (numbered_item m.cables cable) ≡ false
     → UsesNoneAbove number (Rotor (record m { cables = set m.cables (cable - 1) ends }))
 set_within number m cable ends none within there other above =
-    let same = numbered_other m.cables cable other ends (stands m.cables cable (None, None) there).first
+    let same = numbered_other m.cables cable other ends (IsNumbered-not_none m.cables cable (None, None) there).first
     (omega arith) in
     ap (λ ends. is_spare (unwrap_or ends (None, None))) same ∙ none other above
 
 -- If each legal setting keeps a property of the machine, so does a list of settings.
-carried : (Keeps : Parts → Type 0) (Bound Says : Setting → Type 0)
-    → ((m : Parts) (x : Setting) → Keeps m → Bound x → why_refused m x ≡ None → Says x × Keeps (changed m x))
+settings_keep : (Keeps : Parts → Type 0) (Bound Says : Setting → Type 0)
+    → ((m : Parts) (x : Setting) → Keeps m → Bound x → why_refused m x ≡ None → Says x × Keeps (machine_after m x))
     → (settings : List Setting) (m n : Parts) → Keeps m → AllByRecursion Bound settings → Leads m settings n
     → All Says settings × Keeps n
-carried Keeps Bound Says step [] m n now bounds leads = (All-nil Says, rw leads now)
-carried Keeps Bound Says step (x ∷ settings) m n now bounds (between, carries, leads) =
+settings_keep Keeps Bound Says step [] m n now bounds leads = (All-nil Says, rw leads now)
+settings_keep Keeps Bound Says step (x ∷ settings) m n now bounds (between, carries, leads) =
     let one = step m x now bounds.0 carries.allowed in
-    let rest = carried Keeps Bound Says step settings between n (rw carries.made one.1) bounds.1 leads in
+    let rest = settings_keep Keeps Bound Says step settings between n (rw carries.made one.1) bounds.1 leads in
     (All-cons Says x settings one.0 rest.0, rest.1)
 
 -- A rotor machine with `count` cables, none of which is in use above `number`.
-abbrev HasFew : ℕ → ℕ → Parts → Type 0
-HasFew number count (Rotor m) = (length m.cables ≡ count) × UsesNoneAbove number (Rotor m)
-HasFew number count (Pin m) = ⊥
+abbrev HasFewInUse : ℕ → ℕ → Parts → Type 0
+HasFewInUse number count (Rotor m) = (length m.cables ≡ count) × UsesNoneAbove number (Rotor m)
+HasFewInUse number count (Pin m) = ⊥
 
 module _ (number : ℕ) (start : RotorParts) (s : RotorDay) (none : UsesNoneAbove number (Rotor start))
     (few : length s.pairs ≤ number) where
-  step : (m : Parts) (x : Setting) → HasFew number (length start.cables) m → LeavesSpares start s x
-      → why_refused m x ≡ None → NamesNoneAbove number x × HasFew number (length start.cables) (changed m x)
+  step : (m : Parts) (x : Setting) → HasFewInUse number (length start.cables) m → LeavesSpares start s x
+      → why_refused m x ≡ None → NamesNoneAbove number x × HasFewInUse number (length start.cables) (machine_after m x)
   step (Rotor m) (Put cable letter) now bound allowed =
       let there = put_there m cable letter allowed in
-      let last = (stands m.cables cable (None, None) there).last in
+      let last = (IsNumbered-not_none m.cables cable (None, None) there).last in
       let within = put_within number start s none few cable letter (omega (arith, last, now.0)) bound in
       (within, (rw length-set now.0, set_within number m cable _ now.1 within there))
   step (Rotor m) (Pull cable letter) now bound allowed =
@@ -96,12 +100,12 @@ module _ (number : ℕ) (start : RotorParts) (s : RotorDay) (none : UsesNoneAbov
   step (Pin m) x now bound allowed = absurd now
 
 -- A Converter M-209, which has no cables.
-abbrev IsPin : Parts → Type 0
-IsPin (Rotor m) = ⊥
-IsPin (Pin m) = Unit {0}
+abbrev IsConverter : Parts → Type 0
+IsConverter (Rotor m) = ⊥
+IsConverter (Pin m) = Unit {0}
 
-pin_step : (number : ℕ) (m : Parts) (x : Setting) → IsPin m → why_refused m x ≡ None
-    → NamesNoneAbove number x × IsPin (changed m x)
+pin_step : (number : ℕ) (m : Parts) (x : Setting) → IsConverter m → why_refused m x ≡ None
+    → NamesNoneAbove number x × IsConverter (machine_after m x)
 pin_step number (Pin m) (Put cable letter) pin allowed = absurd (cc)
 pin_step number (Pin m) (Pull cable letter) pin allowed = absurd (cc)
 pin_step number (Pin m) x pin allowed = (tt, tt)
@@ -116,23 +120,24 @@ all_leave : (m : RotorParts) (s : RotorDay) (settings : List Setting) → Spares
     → All (LeavesSpares m s) settings
 all_leave m s settings h k d lt = leaves_at m s settings h _ (k, lt, get_or_default settings k _ d lt)
 
-uses_none : (number count : ℕ) (n : Parts) → HasFew number count n → UsesNoneAbove number n
-uses_none number count (Rotor n) few = few.1
-uses_none number count (Pin n) few = absurd few
+HasFewInUse-UsesNoneAbove : (number count : ℕ) (n : Parts) → HasFewInUse number count n → UsesNoneAbove number n
+HasFewInUse-UsesNoneAbove number count (Rotor n) few = few.1
+HasFewInUse-UsesNoneAbove number count (Pin n) few = absurd few
 
-pins_use_none : (number : ℕ) (n : Parts) → IsPin n → UsesNoneAbove number n
+pins_use_none : (number : ℕ) (n : Parts) → IsConverter n → UsesNoneAbove number n
 pins_use_none number (Rotor n) pin = absurd pin
 pins_use_none number (Pin n) pin = tt
 
 pub few_cables_serve : FewCablesServe
 few_cables_serve number (Rotor m) n (OfRotors s) settings none few spares leads =
     let bounds = recursion_from_All (LeavesSpares m s) settings (all_leave m s settings spares) in
-    let so = carried (HasFew number (length m.cables)) (LeavesSpares m s) (NamesNoneAbove number)
+    let so = settings_keep (HasFewInUse number (length m.cables)) (LeavesSpares m s) (NamesNoneAbove number)
     (step number m s none few) settings (Rotor m) n (refl, none) bounds leads in
-    (so.0, uses_none number (length m.cables) n so.1)
+    (so.0, HasFewInUse-UsesNoneAbove number (length m.cables) n so.1)
 few_cables_serve number (Pin m) n (OfPins s) settings none few spares leads =
     let bounds = recursion_from_All (λ x. Unit {0}) settings (λ k d lt. tt) in
-    let so = carried IsPin (λ x. Unit {0}) (NamesNoneAbove number) (λ m x pin bound. pin_step number m x pin)
+    let so = settings_keep IsConverter (λ x. Unit {0}) (NamesNoneAbove number)
+    (λ m x pin bound. pin_step number m x pin)
     settings (Pin m) n tt bounds leads in
     (so.0, pins_use_none number n so.1)
 few_cables_serve number m n s settings none few spares leads = absurd spares

@@ -1,13 +1,13 @@
 //! Plans a card: settings for loose things, and a minimum-cost assignment for cables or bars.
 ghost use Rattle.std.specs.Prelude.{◌≡◌, ◌≢◌, ◌<◌, IfOk, IsErr, IfSome, MatchOption, ◌↔◌};
-ghost use Rattle.kd_plan.specs.Planned.{IsPlanned, Plans};
+ghost use Rattle.kd_plan.specs.Planned.{IsPlannedCard, IsProvedPlannedCard};
 ghost use Rattle.kd_plan.specs.Spares.{SparesStayFree};
 ghost use Rattle.kd_state.specs.SheetDay.{OfRotors, OfPins, IsLegalDay, day_model};
 ghost use Rattle.kd_state.specs.{Entry.{rotor_values, pin_values}, Machine.{IsMachine, model_of}};
 
-use super::card_prices::prices_due;
+use super::card_prices::prices_or_zeros;
 use super::other_model::OtherModel;
-use super::paired::{pin_lines, rotor_lines};
+use super::planned_lines::{planned_pin_lines, planned_rotor_lines};
 use super::spares::keep_spares_free;
 use kd_assign::{Solution, assign};
 use kd_card::{Card, Prices, Version};
@@ -20,11 +20,11 @@ use kd_state::{
 ///
 /// If several cards do, no promise says which one it is, nor which prices prove it. If cables and bars cost
 /// nothing, all prices are 0.
-#[tactic(auto, using(crate::proofs::Planning::plans))]
+#[tactic(auto, using(crate::proofs::Planning::planned_card_is_proved))]
 pub fn plan(machine: &Machine, day: &SheetDay) -> Result<Card, OtherModel>
     ensures refused { IsErr result ↔ (model_of machine.now ≢ day_model day.now) }
     ensures card { IfOk result (λ card.
-        Plans machine.now day.now card.settings.items card.prices) }
+        IsProvedPlannedCard machine.now day.now card.settings.items card.prices) }
 {
     let card = planned_card(machine, day).ok_or(OtherModel)?;
     prove!(matches!(&card.prices.version(), Version::ByNumber));
@@ -35,7 +35,7 @@ pub fn plan(machine: &Machine, day: &SheetDay) -> Result<Card, OtherModel>
 fn planned_card(machine: &Machine, day: &SheetDay) -> Option<Card>
     ensures planned { MatchOption result
         (model_of machine.now ≢ day_model day.now)
-        (λ card. IsPlanned machine.now day.now card.settings.items card.prices) }
+        (λ card. IsPlannedCard machine.now day.now card.settings.items card.prices) }
     ensures spares { IfSome result (λ card. SparesStayFree machine.now day.now card.settings.items) }
     ensures machine { IsMachine machine.now }
     ensures legal { IsLegalDay day.now }
@@ -47,14 +47,14 @@ fn planned_card(machine: &Machine, day: &SheetDay) -> Option<Card>
 }
 
 /// Plans the card of a rotor machine. `parts` are the parts of `machine`.
-#[tactic(auto, using(crate::proofs::Planning::planned, crate::proofs::Planning::four_at_most, crate::proofs::Planning::all_within))]
+#[tactic(auto, using(crate::proofs::Planning::is_planned_card, crate::proofs::Planning::four_at_most, crate::proofs::Planning::all_within))]
 fn rotor_card(machine: &Machine, parts: &RotorParts, entry: &RotorEntry) -> Card
     requires parts { machine.now ≡ Parts.Rotor parts.now }
     requires model { parts.now.model ≡ entry.now.model }
     requires machine { IsMachine (Parts.Rotor parts.now) }
     requires legal { IsLegalDay (OfRotors (rotor_values entry.now)) }
     ensures planned { let day = OfRotors (rotor_values entry.now) in
-        IsPlanned (Parts.Rotor parts.now) day result.settings.items result.prices }
+        IsPlannedCard (Parts.Rotor parts.now) day result.settings.items result.prices }
     ensures spares { let day = OfRotors (rotor_values entry.now) in
         SparesStayFree (Parts.Rotor parts.now) day result.settings.items }
 {
@@ -68,16 +68,16 @@ fn rotor_card(machine: &Machine, parts: &RotorParts, entry: &RotorEntry) -> Card
         ..
     } = assign(&costs);
     keep_spares_free(&parts.cables, pairs, &mut to);
-    let prices = Prices::cables(prices_due(total, row), prices_due(total, col)).unwrap();
-    let settings = rotor_lines(machine, parts, entry, &to);
+    let prices = Prices::cables(prices_or_zeros(total, row), prices_or_zeros(total, col)).unwrap();
+    let settings = planned_rotor_lines(machine, parts, entry, &to);
     Card { settings, prices }
 }
 
 /// Plans the card of a Converter M-209.
-#[tactic(auto, using(crate::proofs::Planning::planned, crate::proofs::Planning::two_at_most, crate::proofs::Planning::all_within))]
+#[tactic(auto, using(crate::proofs::Planning::is_planned_card, crate::proofs::Planning::two_at_most, crate::proofs::Planning::all_within))]
 fn pin_card(parts: &PinParts, entry: &PinEntry) -> Card
     ensures { let day = OfPins (pin_values entry.now) in
-        IsPlanned (Parts.Pin parts.now) day result.settings.items result.prices }
+        IsPlannedCard (Parts.Pin parts.now) day result.settings.items result.prices }
 {
     let costs = bar_costs(&parts.bars, &entry.rows);
     let Solution {
@@ -87,7 +87,7 @@ fn pin_card(parts: &PinParts, entry: &PinEntry) -> Card
         total,
         ..
     } = assign(&costs);
-    let prices = Prices::bars(prices_due(total, row), prices_due(total, col)).unwrap();
-    let settings = pin_lines(parts, entry, &to);
+    let prices = Prices::bars(prices_or_zeros(total, row), prices_or_zeros(total, col)).unwrap();
+    let settings = planned_pin_lines(parts, entry, &to);
     Card { settings, prices }
 }

@@ -1,7 +1,7 @@
 //! Gives pairs to cables in use before spare cables, which have no letter.
 ghost use Rattle.std.specs.Prelude.{◌≡◌, ℕ, ◌<◌, ◌≤◌, length, slice_index, IsTrue, MatchOption};
 ghost use Rattle.kd_assign.specs.Assignment.{IsOneToOne, assignment_cost};
-ghost use Rattle.kd_plan.specs.{Spares.{is_spare}, ComeLast.{comes_before, SparesComeLast}};
+ghost use Rattle.kd_plan.specs.{Spares.{is_spare}, SparesLast.{comes_before, SparesComeLast}};
 ghost use Rattle.kd_state.specs.Costs.{cable_costs};
 
 use kd_state::Cable;
@@ -21,7 +21,7 @@ pub(crate) fn keep_spares_free(cables: &[Cable; 13], pairs: &[(Letter, Letter)],
 {
     for spare in (0..13).rev() {
         if is_spare(&cables[spare]) && usize::from(to[spare]) < pairs.len() {
-            match left_out_before(spare, cables, pairs.len(), to) {
+            match find_left_out(spare, cables, pairs.len(), to) {
                 Some(place) => to.swap(spare, place),
                 None => return,
             }
@@ -32,7 +32,7 @@ pub(crate) fn keep_spares_free(cables: &[Cable; 13], pairs: &[(Letter, Letter)],
 /// Finds the first cable that comes before the spare one, but becomes a nothing.
 ///
 /// A cable comes before the spare one if it is in use or has a lower number. Places are counted from 0.
-fn left_out_before(spare: usize, cables: &[Cable; 13], pairs: usize, to: &[u8; 13]) -> Option<usize>
+fn find_left_out(spare: usize, cables: &[Cable; 13], pairs: usize, to: &[u8; 13]) -> Option<usize>
     ensures { MatchOption result
         ((place : ℕ) → place < 13 → IsTrue (comes_before cables.now place spare)
         → slice_index to.now place < pairs)

@@ -4,15 +4,15 @@ use Rattle.{kd_state.specs.Setting.has_letter, std.specs.List.IsDistinct}
 use Rattle.kd_prices.proofs.Prelude.{size_of, tests_tell_letters, nat_tests, unwrap_or, ◌≡◌, ◌⊎◌, ℕ, zero, suc, ◌<◌}
 use Rattle.kd_prices.proofs.Prelude.{◌≤◌, false, eqb, inl, inr, List, [], ◌∷◌, length, get_or, Option, Some, None}
 use Rattle.kd_prices.proofs.Prelude.{MatchOption, slice_get, refl, sym, ap, ◌∙◌, subst, arith, ℤ, All, AllByRecursion}
-use Rattle.kd_prices.proofs.Prelude.{eqb-false, get_or-map, length-map, All-get_or, slice_get-get_or, One, in_order}
-use Rattle.kd_prices.proofs.Prelude.{letters_plugged, NoLetterTwice, Parts, Rotor, Pin, cable_letters, IsMachine, Day}
-use Rattle.kd_prices.proofs.Prelude.{OfRotors, OfPins, IsLegalDay, SameLetters, columns_of, columns_are_the_pairs, Look}
-use Rattle.kd_prices.proofs.Prelude.{Cable, Pair, Bar, Row, look_name, look_rank, AreEnds, IsInForm, PriceParts}
-use Rattle.kd_prices.proofs.Prelude.{ByNumber, version_of, row_kinds, column_kinds, row_prices, column_prices, how_many}
-use Rattle.kd_prices.proofs.Prelude.{price_at, ArePrices, group_of, price_count, row_name, column_name, row_looks}
-use Rattle.kd_prices.proofs.Prelude.{column_looks, pair_in_order, look_at, Expanded, ranks_tell_looks, StandAlike}
-use Rattle.kd_prices.proofs.Prelude.{ReadAlike, AreOfOneModel, CanBeByKind, AreByKind, AreAlikePriced, AreThings}
-use Rattle.kd_prices.proofs.Prelude.{AreOfGroup, ◌↔◌, map}
+use Rattle.kd_prices.proofs.Prelude.{eqb-false, get_or-map, length-map, All-get_or, slice_get-get_or, One}
+use Rattle.kd_prices.proofs.Prelude.{smaller_first, letters_in_pairs, NoLetterTwice, Parts, Rotor, Pin, cable_letters}
+use Rattle.kd_prices.proofs.Prelude.{IsMachine, Day, OfRotors, OfPins, IsLegalDay, HaveSameLetters, columns_of}
+use Rattle.kd_prices.proofs.Prelude.{columns_are_the_pairs, Look, Cable, Pair, Bar, Row, look_name, look_rank, AreEnds}
+use Rattle.kd_prices.proofs.Prelude.{IsInForm, PriceParts, ByNumber, version_of, row_kinds, column_kinds, row_prices}
+use Rattle.kd_prices.proofs.Prelude.{column_prices, table_rows, price_at, ArePrices, group_of, price_count, row_name}
+use Rattle.kd_prices.proofs.Prelude.{column_name, row_looks, column_looks, pair_in_order, look_at, Expanded}
+use Rattle.kd_prices.proofs.Prelude.{ranks_tell_looks, StandAlike, ReadAlike, AreOfOneModel, CanBeByKind, AreByKind}
+use Rattle.kd_prices.proofs.Prelude.{AreAlikePriced, AreThings, AreOfGroup, ◌↔◌, map}
 use Rattle.kd_prices.proofs.Things.{pair_look, rows_are_things, groups_meet, columns_are_things}
 
 -- ---- cables with the same letters
@@ -25,8 +25,8 @@ ends_told (a, b) (c, d) form form' same =
 
 -- ---- equal pairs are at one place
 
-away : (p : ℕ × ℕ) (pairs : List (ℕ × ℕ)) (k : ℕ) → AllByRecursion (λ y. eqb p.0 y ≡ false) (letters_plugged pairs)
-    → pair_in_order (slice_get pairs k) ≡ Some (in_order p.0 p.1) → ⊥
+away : (p : ℕ × ℕ) (pairs : List (ℕ × ℕ)) (k : ℕ) → AllByRecursion (λ y. eqb p.0 y ≡ false) (letters_in_pairs pairs)
+    → pair_in_order (slice_get pairs k) ≡ Some (smaller_first p.0 p.1) → ⊥
 away p [] k h e = cc
 away p (q ∷ pairs) zero h e = grind (arith, eqb-false)
 away p (q ∷ pairs) (suc k) h e = away p pairs k h.1.1 e
@@ -80,7 +80,8 @@ rows_told (Rotor m) machine =
     (StandAlike (Rotor m))
     (λ i k inside within e.
     let same : cable i ≡ cable k = cc in
-    inl (subst (λ ends. SameLetters (cable_letters (cable i)) (cable_letters ends)) same (λ letter. (λ h. h, λ h. h))))
+    inl (subst (λ ends. HaveSameLetters (cable_letters (cable i)) (cable_letters ends)) same
+    (λ letter. (λ h. h, λ h. h))))
     (λ i k form form' same. ends_told (cable i) (cable k) form form'
     ((tests_tell_letters (cable_letters (cable i)) (cable_letters (cable k))).0 same))
 rows_told (Pin m) machine =
@@ -124,17 +125,17 @@ module _ (m : Parts) (s : Day) (prices : PriceParts) (machine : IsMachine m) (le
   columns_of_group = rw (one.group, ← groups_meet m s machine legal one.model) (columns_are_things s legal)
 
   rows_iff : AreAlikePriced (row_looks m) (row_prices prices)
-      ↔ ((i k : ℕ) → i < how_many prices → k < how_many prices → StandAlike m i k
+      ↔ ((i k : ℕ) → i < table_rows prices → k < table_rows prices → StandAlike m i k
       → price_at (row_prices prices) i ≡ price_at (row_prices prices) k)
   rows_iff =
-      priced_alike (row_looks m) (StandAlike m) (row_prices prices) (how_many prices) (rows_told m machine)
+      priced_alike (row_looks m) (StandAlike m) (row_prices prices) (table_rows prices) (rows_told m machine)
       (rows_of_group.count ∙ size_of prices)
 
   columns_iff : AreAlikePriced (column_looks s) (column_prices prices)
-      ↔ ((i k : ℕ) → i < how_many prices → k < how_many prices → ReadAlike s i k
+      ↔ ((i k : ℕ) → i < table_rows prices → k < table_rows prices → ReadAlike s i k
       → price_at (column_prices prices) i ≡ price_at (column_prices prices) k)
   columns_iff =
-      priced_alike (column_looks s) (ReadAlike s) (column_prices prices) (how_many prices) (columns_told s legal)
+      priced_alike (column_looks s) (ReadAlike s) (column_prices prices) (table_rows prices) (columns_told s legal)
       (columns_of_group.count ∙ size_of prices)
 
   pub by_kind_told : (r : Option PriceParts)

@@ -4,16 +4,17 @@ use Rattle.kd_prices.proofs.Prelude.{no_rotors, proving_prices_are_tight, ◌≡
 use Rattle.kd_prices.proofs.Prelude.{unwrap_or, slice_get, sym, ap, ◌∙◌, arith, ints, get_or-map, unwrap_or-slice_get}
 use Rattle.kd_prices.proofs.Prelude.{slice_get_past, One, Rotor, Pin, cable_letters, Day, OfRotors, OfPins}
 use Rattle.kd_prices.proofs.Prelude.{tests_tell_letters, thirteen_columns, columns_are_the_pairs, cable_cost, bar_cost}
-use Rattle.kd_prices.proofs.Prelude.{columns_of, PriceParts, Cables, Bars, how_many, cost_at, Fits, AreTight, Parts}
-use Rattle.kd_prices.proofs.Prelude.{StandAlike, ReadAlike, AlikePricesAreEqual, AreEqualWhereAlike, map}
+use Rattle.kd_prices.proofs.Prelude.{columns_of, PriceParts, Cables, Bars, table_rows, cost_at, PricesFit}
+use Rattle.kd_prices.proofs.Prelude.{ArePricesTight, Parts, StandAlike, ReadAlike, AlikePricesAreEqual}
+use Rattle.kd_prices.proofs.Prelude.{AreEqualWhereAlike, map}
 
 -- Prices that fit a table of costs, each of which is tight somewhere.
 module _ {A B : Type 0} (cost : A → B → ℕ) (rows : List A) (columns : List B) (a : A) (b : B) (m : Parts) (s : Day)
     (prices : PriceParts)
-    (many_rows : length rows ≡ how_many prices) (many_columns : length columns ≡ how_many prices)
-    (fits : Fits (map (λ row. map (cost row) columns) rows) prices)
-    (tight : AreTight (map (λ row. map (cost row) columns) rows) prices) where
-  at : (i j : ℕ) → i < how_many prices → j < how_many prices
+    (many_rows : length rows ≡ table_rows prices) (many_columns : length columns ≡ table_rows prices)
+    (fits : PricesFit (map (λ row. map (cost row) columns) rows) prices)
+    (tight : ArePricesTight (map (λ row. map (cost row) columns) rows) prices) where
+  at : (i j : ℕ) → i < table_rows prices → j < table_rows prices
       → cost_at (map (λ row. map (cost row) columns) rows) i j ≡ cost (get_or rows i a) (get_or columns j b)
   at i j lt lt' = grind (arith, get_or-map)
 
@@ -22,7 +23,7 @@ module _ {A B : Type 0} (cost : A → B → ℕ) (rows : List A) (columns : List
       → ((j k : ℕ) → ReadAlike s j k → get_or columns j b ≡ get_or columns k b) → AreEqualWhereAlike m s prices
   equal_where_alike stand read = record {
     rows = λ i k lt lt' alike.
-        let same = λ (j : ℕ) (within : j < how_many prices). at i j lt within ∙ stand i k alike (get_or columns j b)
+        let same = λ (j : ℕ) (within : j < table_rows prices). at i j lt within ∙ stand i k alike (get_or columns j b)
         ∙ sym (at k j lt' within) in
         let here = tight.column_of i lt in
         let there = tight.column_of k lt' in
@@ -37,7 +38,7 @@ module _ {A B : Type 0} (cost : A → B → ℕ) (rows : List A) (columns : List
           same there.0 there.1,
         );
     columns = λ j k lt lt' alike.
-        let same = λ (i : ℕ) (within : i < how_many prices). at i j within lt
+        let same = λ (i : ℕ) (within : i < table_rows prices). at i j within lt
         ∙ ap (cost (get_or rows i a)) (read j k alike) ∙ sym (at i k within lt') in
         let here = tight.row_of j lt in
         let there = tight.row_of k lt' in

@@ -1,12 +1,15 @@
 -- A card that proves itself has no doubt, and a card has at most one.
 use Rattle.kd_prices.proofs.Prelude.{◌≡◌, ℕ, List, [], ◌∷◌, ◌++◌, length, refl, sym, ap, ◌∙◌, subst, arith, ◌↔◌}
 use Rattle.kd_prices.proofs.Prelude.{cases_order, false≢true, Parts, Setting, Why, why_refused, Leads, Day, cost_table}
-use Rattle.kd_prices.proofs.Prelude.{leads_to_one, PriceParts, AreNeeded, Proves, IllegalAt, NeedlessLine}
-use Rattle.kd_prices.proofs.Prelude.{IsFirstWithout, IsFirstNeedless, Result, Ok, Err, IsOk, IfErr, Found, IsOnly}
-use Rattle.kd_prices.proofs.Prelude.{only_then, only_finds, only_demands, passed}
+use Rattle.kd_prices.proofs.Prelude.{leads_to_one, PriceParts, AreSettingsNeeded, Proves, IllegalAt, NeedlessLine}
+use Rattle.kd_prices.proofs.Prelude.{IsFirstWithout, IsFirstNeedless, Result, Ok, Err, IsOk, IfErr, GoesOn}
+use Rattle.kd_prices.proofs.Prelude.{HasOneAnswer, HasOneAnswer-ThenNext, HasOneAnswer-Finds, HasOneAnswer-Demands}
+use Rattle.kd_prices.proofs.Prelude.{ThenNext-Ok}
 use Rattle.{kd_state.specs.Setting.IsFirstIllegal, kd_prices.proofs.Leading.needed_at}
-use Rattle.kd_prices.proofs.{Leading.not_refused, Meaning.are_numbered, Meaning.of_one_model, Meaning.one_expansion}
-use Rattle.kd_prices.specs.{declared.doubt.Doubt.Doubt, Doubt.{SaysCarried, SaysFits, SaysNeeded, SaysChecked, IsDoubt}}
+use Rattle.kd_prices.proofs.{Leading.Leads-not_refused, Meaning.are_numbered, Meaning.of_one_model}
+use Rattle.kd_prices.proofs.{Meaning.one_expansion}
+use Rattle.kd_prices.specs.{declared.doubt.Doubt.Doubt}
+use Rattle.kd_prices.specs.{Doubt.{IsCarriedAnswer, IsFitsAnswer, IsNeededAnswer, IsCheckedAnswer, IsDoubt}}
 
 -- A list has only one longest good prefix: with the next item it isn't the prefix of any good list.
 one_front : {X : Type 0} (Good : List X → Type 0) (front other after behind : List X) (x y : X)
@@ -25,35 +28,40 @@ one_front {X = X} Good (z ∷ front) (w ∷ other) after behind x y e good fine 
     (subst (λ (v : X). (rest : List X) → ¬ (Good (v ∷ (other ++ y ∷ rest)))) same worse) in
     (cc, tails.1)
 
-one_place : (Holds : ℕ → ℕ → Type 0) (number row column i j : ℕ) → IsFirstWithout Holds number row column
+IsFirstWithout-one : (Holds : ℕ → ℕ → Type 0) (number row column i j : ℕ) → IsFirstWithout Holds number row column
     → IsFirstWithout Holds number i j → (row ≡ i) × (column ≡ j)
-one_place Holds number row column i j h k = grind (arith, cases_order, h.here, k.before, k.here, h.before)
+IsFirstWithout-one Holds number row column i j h k = grind (arith, cases_order, h.here, k.before, k.here, h.before)
 
 -- ---- prices by number
 
 -- A setting that the machine refuses after those before it is in no list that leads on.
-refused : {m : Parts} {settings : List Setting} {line : ℕ} {why : Why} (h : IsFirstIllegal m settings line why)
+IsFirstIllegal-not_Leads : {m : Parts} {settings : List Setting} {line : ℕ} {why : Why}
+    (h : IsFirstIllegal m settings line why)
     (n : Parts)
     (rest : List Setting) → ¬ (Leads m (h.front ++ h.setting ∷ rest) n)
-refused {m} h n rest leads = not_refused m h.between n h.front rest h.setting _ h.leads h.refused leads
+IsFirstIllegal-not_Leads {m} h n rest leads = Leads-not_refused m h.between n h.front rest h.setting _ h.leads
+    h.refused leads
 
 -- A needless setting is in no list of needed ones.
-wanted : {m : Parts} {s : Day} {settings : List Setting} {line : ℕ} (h : IsFirstNeedless m s settings line)
-    (rest : List Setting) → ¬ (AreNeeded m s (h.front ++ h.setting ∷ rest))
-wanted {m} {s} h rest needed = h.needless (needed_at m h.between s h.front rest h.setting h.leads needed)
+IsFirstNeedless-not_needed : {m : Parts} {s : Day} {settings : List Setting} {line : ℕ}
+    (h : IsFirstNeedless m s settings line)
+    (rest : List Setting) → ¬ (AreSettingsNeeded m s (h.front ++ h.setting ∷ rest))
+IsFirstNeedless-not_needed {m} {s} h rest needed = h.needless
+    (needed_at m h.between s h.front rest h.setting h.leads needed)
 
 module _ (m : Parts) (settings : List Setting) where
-  only_carried : IsOnly (SaysCarried m settings)
+  only_carried : HasOneAnswer (IsCarriedAnswer m settings)
   only_carried (Ok n) (Ok o) a b = ap Ok (leads_to_one m n o settings a b)
   only_carried (Ok n) (Err (IllegalAt line why)) a b =
-      absurd (refused b n b.rest (subst (λ xs. Leads m xs n) b.split a))
+      absurd (IsFirstIllegal-not_Leads b n b.rest (subst (λ xs. Leads m xs n) b.split a))
   only_carried (Err (IllegalAt line why)) (Ok n) a b =
-      absurd (refused a n a.rest (subst (λ xs. Leads m xs n) a.split b))
+      absurd (IsFirstIllegal-not_Leads a n a.rest (subst (λ xs. Leads m xs n) a.split b))
   only_carried (Err (IllegalAt line why)) (Err (IllegalAt other reason)) a b =
       let same =
       one_front (λ xs. (n : Parts) × Leads m xs n) a.front b.front a.rest b.rest a.setting b.setting
-      (sym a.split ∙ b.split) (a.between, a.leads) (b.between, b.leads) (λ rest leads. refused a leads.0 rest leads.1)
-      (λ rest leads. refused b leads.0 rest leads.1) in
+      (sym a.split ∙ b.split) (a.between, a.leads) (b.between, b.leads)
+      (λ rest leads. IsFirstIllegal-not_Leads a leads.0 rest leads.1)
+      (λ rest leads. IsFirstIllegal-not_Leads b leads.0 rest leads.1) in
       let between = leads_to_one m a.between b.between b.front
       (subst (λ front. Leads m front a.between) same.0 a.leads) b.leads in
       let reasons : why_refused a.between a.setting ≡ why_refused b.between b.setting = cc in
@@ -66,19 +74,21 @@ module _ (m : Parts) (settings : List Setting) where
   only_carried v w a b = absurd (assumption)
 
 module _ (costs : List (List ℕ)) (prices : PriceParts) where
-  only_fits : IsOnly (SaysFits costs prices)
-  only_fits = grind (arith, one_place)
+  only_fits : HasOneAnswer (IsFitsAnswer costs prices)
+  only_fits = grind (arith, IsFirstWithout-one)
 
 module _ (m : Parts) (s : Day) (settings : List Setting) where
-  only_needed : IsOnly (SaysNeeded m s settings)
+  only_needed : HasOneAnswer (IsNeededAnswer m s settings)
   only_needed (Ok x) (Ok y) a b = refl
-  only_needed (Ok x) (Err (NeedlessLine line)) a b = absurd (wanted b b.rest (subst (AreNeeded m s) b.split a))
-  only_needed (Err (NeedlessLine line)) (Ok y) a b = absurd (wanted a a.rest (subst (AreNeeded m s) a.split b))
+  only_needed (Ok x) (Err (NeedlessLine line)) a b = absurd
+      (IsFirstNeedless-not_needed b b.rest (subst (AreSettingsNeeded m s) b.split a))
+  only_needed (Err (NeedlessLine line)) (Ok y) a b = absurd
+      (IsFirstNeedless-not_needed a a.rest (subst (AreSettingsNeeded m s) a.split b))
   only_needed (Err (NeedlessLine line)) (Err (NeedlessLine other)) a b =
       let same =
-      one_front (AreNeeded m s) a.front b.front a.rest b.rest a.setting b.setting
+      one_front (AreSettingsNeeded m s) a.front b.front a.rest b.rest a.setting b.setting
       (sym a.split ∙ b.split) a.needed b.needed
-      (wanted a) (wanted b) in
+      (IsFirstNeedless-not_needed a) (IsFirstNeedless-not_needed b) in
       let counts = ap length same.0 in
       let lines : line ≡ other = omega (arith, a.number, b.number) in
       ap (λ l. Err (NeedlessLine l)) lines
@@ -87,24 +97,26 @@ module _ (m : Parts) (s : Day) (settings : List Setting) where
 -- ---- the whole check
 
 module _ (m : Parts) (s : Day) (settings : List Setting) (prices : PriceParts) where
-  pub only_checked : IsOnly (SaysChecked m s settings prices)
+  pub only_checked : HasOneAnswer (IsCheckedAnswer m s settings prices)
   only_checked =
-      only_then (only_demands _ _) (λ same model. only_then (only_finds _ (one_expansion m s prices))
-      (λ numbered expands. only_then (only_carried m settings) (λ n leads. only_then (only_demands _ _)
-      (λ reads same. only_then (only_fits (cost_table m s) numbered)
-      (λ fits are. only_then (only_demands _ _) (λ sum is. only_needed m s settings))))))
+      HasOneAnswer-ThenNext (HasOneAnswer-Demands _ _)
+      (λ same model. HasOneAnswer-ThenNext (HasOneAnswer-Finds _ (one_expansion m s prices))
+      (λ numbered expands. HasOneAnswer-ThenNext (only_carried m settings)
+      (λ n leads. HasOneAnswer-ThenNext (HasOneAnswer-Demands _ _)
+      (λ reads same. HasOneAnswer-ThenNext (only_fits (cost_table m s) numbered)
+      (λ fits are. HasOneAnswer-ThenNext (HasOneAnswer-Demands _ _) (λ sum is. only_needed m s settings))))))
 
-  pub proving_says : Proves m s settings prices → SaysChecked m s settings prices (Ok tt)
+  pub proving_says : Proves m s settings prices → IsCheckedAnswer m s settings prices (Ok tt)
   proving_says h =
       let by = h.proves in
-      Found tt (of_one_model m s settings prices h) (Found h.numbered h.expands
-      (Found by.leads.0 by.leads.1 (Found tt by.leads.2 (Found tt by.fits (Found tt by.sum by.needed)))))
+      GoesOn tt (of_one_model m s settings prices h) (GoesOn h.numbered h.expands
+      (GoesOn by.leads.0 by.leads.1 (GoesOn tt by.leads.2 (GoesOn tt by.fits (GoesOn tt by.sum by.needed)))))
 
-  says_proving : SaysChecked m s settings prices (Ok tt) → Proves m s settings prices
-  says_proving says = grind (arith, passed, are_numbered)
+  says_proving : IsCheckedAnswer m s settings prices (Ok tt) → Proves m s settings prices
+  says_proving says = grind (arith, ThenNext-Ok, are_numbered)
 
   -- The result of the check says whether the card proves itself.
-  pub told : (answer : Result (Unit {0}) Doubt) → SaysChecked m s settings prices answer
+  pub told : (answer : Result (Unit {0}) Doubt) → IsCheckedAnswer m s settings prices answer
       → IsOk answer ↔ Proves m s settings prices
   told (Ok x) says = (λ ok. says_proving says, λ proves. refl)
   told (Err doubt) says = (
@@ -112,7 +124,7 @@ module _ (m : Parts) (s : Day) (settings : List Setting) (prices : PriceParts) w
     λ proves. absurd (let same = only_checked (Err doubt) (Ok tt) says (proving_says proves) in cc),
   )
 
-  pub doubted : (answer : Result (Unit {0}) Doubt) → SaysChecked m s settings prices answer
+  pub doubted : (answer : Result (Unit {0}) Doubt) → IsCheckedAnswer m s settings prices answer
       → IfErr answer (IsDoubt m s settings prices)
   doubted (Ok x) says = tt
   doubted (Err doubt) says = says

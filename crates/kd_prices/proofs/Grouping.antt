@@ -5,7 +5,7 @@ use Rattle.kd_prices.proofs.Prelude.{count_by, refl, sym, ap, ◌∙◌, subst, 
 use Rattle.kd_prices.proofs.Prelude.{cases_lt, lt-ltb, le-ltb, eq-eqb, nat_tests, All-nil, All-push, All-head, All-tail}
 use Rattle.kd_prices.proofs.Prelude.{All-get_or}
 use Rattle.kd_prices.proofs.Prelude.{All-from_get_or, length-append, Look, Pair, PricedKind, look_name, look_rank}
-use Rattle.kd_prices.proofs.Prelude.{counted, IsInForm, IsPricedKind, AreKinds, AreCalled, price_at, AreWithinReach}
+use Rattle.kd_prices.proofs.Prelude.{counted, IsInForm, IsPricedKind, AreKinds, AreCalled, price_at, ArePricesInRange}
 use Rattle.kd_prices.proofs.Prelude.{look_at, alike_count}
 use Rattle.kd_prices.proofs.Prelude.{HasPrice, IsPriced, HasCount, AreAlikePriced, IsKindAt, IsLowest, AreKindsOf}
 use Rattle.kd_prices.proofs.Prelude.{AreWithPrices}
@@ -142,7 +142,7 @@ grouped_none looks prices = record {
 
 -- One more kind of at most 27 things, all with valid looks and prices.
 module _ (looks : List Look) (prices : List ℤ) (few : length looks ≤ 27) (each : length prices ≡ length looks)
-    (form : All IsInForm looks) (reach : AreWithinReach prices)
+    (form : All IsInForm looks) (reach : ArePricesInRange prices)
     (floor place : ℕ) (kinds : List PricedKind) (kind : PricedKind) (lowest : IsLowest floor looks (length looks) place)
     (is : IsKindAt looks prices place kind)
     (so_far : AreGrouped looks prices floor kinds) where

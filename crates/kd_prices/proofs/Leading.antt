@@ -1,8 +1,9 @@
 -- Lists of settings that lead from one machine to another, split and joined.
 use Rattle.kd_prices.proofs.Prelude.{leads_next, ap, ◌∙◌, ◌≡◌, Some, ℕ, ◌+◌, ◌<◌, List, [], ◌∷◌, ◌++◌, length, get_or}
 use Rattle.kd_prices.proofs.Prelude.{sym, subst, arith, take, take-append-drop, Parts, Setting, Why, why_refused}
-use Rattle.kd_prices.proofs.Prelude.{changed, Leads, Day, IsNeeded, AreNeeded, Result, Ok, Err, NeedlessLine}
-use Rattle.{kd_card.specs.Proving.is_priced, kd_prices.specs.Doubt.SaysNeeded}
+use Rattle.kd_prices.proofs.Prelude.{machine_after, Leads, Day, IsSettingNeeded, AreSettingsNeeded, Result, Ok, Err}
+use Rattle.kd_prices.proofs.Prelude.{NeedlessLine}
+use Rattle.{kd_card.specs.Proving.is_priced_setting, kd_prices.specs.Doubt.IsNeededAnswer}
 use Rattle.{kd_prices.specs.declared.doubt.Doubt.Doubt, kd_state.specs.Costs.loose_count}
 use Rattle.{kd_card.proofs.Falling.model_of-changed, kd_state.specs.Machine.model_of, kd_state.specs.SheetDay.day_model}
 use Rattle.{kd_state.specs.Setting.Carries, std.proofs.Math.Seq.drop-cons, std.proofs.lemmas.List.length-take-le}
@@ -18,25 +19,27 @@ leads_on m between n (x ∷ front) rest first leads =
 
 -- One setting of a list of needed ones is needed.
 pub needed_at : (m between : Parts) (s : Day) (front rest : List Setting) (x : Setting) → Leads m front between
-    → AreNeeded m s (front ++ x ∷ rest) → IsNeeded between s x
-needed_at m between s [] rest x leads needed = subst (λ machine. IsNeeded machine s x) (sym leads) needed.0
+    → AreSettingsNeeded m s (front ++ x ∷ rest) → IsSettingNeeded between s x
+needed_at m between s [] rest x leads needed = subst (λ machine. IsSettingNeeded machine s x) (sym leads) needed.0
 needed_at m between s (y ∷ front) rest x leads needed =
-    needed_at (changed m y) between s front rest x
+    needed_at (machine_after m y) between s front rest x
     (subst (λ machine. Leads machine front between) leads.1.made leads.2) needed.1
 
 -- In a list that leads on, no setting is refused.
-pub not_refused : (m between n : Parts) (front rest : List Setting) (x : Setting) (why : Why) → Leads m front between
+pub Leads-not_refused : (m between n : Parts) (front rest : List Setting) (x : Setting) (why : Why)
+    → Leads m front between
     → why_refused between x ≡ Some why
     → Leads m (front ++ x ∷ rest) n → ⊥
-not_refused m between n front rest x why first refused leads = grind (arith, leads_on)
+Leads-not_refused m between n front rest x why first refused leads = grind (arith, leads_on)
 
 -- One more needed setting.
-needed_join : (m n : Parts) (s : Day) (front : List Setting) (x : Setting) → Leads m front n → AreNeeded m s front
-    → IsNeeded n s x → AreNeeded m s (front ++ x ∷ [])
-needed_join m n s [] x leads needed here = (subst (λ machine. IsNeeded machine s x) leads here, tt)
+needed_join : (m n : Parts) (s : Day) (front : List Setting) (x : Setting) → Leads m front n
+    → AreSettingsNeeded m s front
+    → IsSettingNeeded n s x → AreSettingsNeeded m s (front ++ x ∷ [])
+needed_join m n s [] x leads needed here = (subst (λ machine. IsSettingNeeded machine s x) leads here, tt)
 needed_join m n s (y ∷ front) x leads needed here =
     let behind = subst (λ between. Leads between front n) leads.1.made leads.2 in
-    (needed.0, needed_join (changed m y) n s front x behind needed.1 here)
+    (needed.0, needed_join (machine_after m y) n s front x behind needed.1 here)
 
 -- The settings before `place` have been carried out, and `needed` is the first of them that isn't needed, if
 -- any.
@@ -45,15 +48,17 @@ pub record IsWalked (m n : Parts) (s : Day) (xs : List Setting) (place loose : �
   pub leads : Leads m (take place xs) n
   pub model : model_of n ≡ day_model s
   pub loose_is : loose ≡ loose_count n s
-  pub judged : MatchResult needed (λ _. AreNeeded m s (take place xs)) (λ doubt. SaysNeeded m s xs (Err doubt))
+  pub judged : MatchResult needed (λ _. AreSettingsNeeded m s (take place xs))
+      (λ doubt. IsNeededAnswer m s xs (Err doubt))
 
 module _ (m n : Parts) (s : Day) (xs : List Setting) (place : ℕ) (x : Setting) (inside : place < length xs)
     (is : get_or xs place x ≡ x) (leads : Leads m (take place xs) n) where
   judged_on : (needed here : Result (Unit {0}) Doubt)
-      → MatchResult needed (λ _. AreNeeded m s (take place xs)) (λ doubt. SaysNeeded m s xs (Err doubt))
-      → MatchResult here (λ _. IsNeeded n s x) (λ doubt. (doubt ≡ NeedlessLine (place + 1)) × ¬ (IsNeeded n s x))
-      → MatchResult (result_and needed here) (λ _. AreNeeded m s (take (place + 1) xs))
-      (λ doubt. SaysNeeded m s xs (Err doubt))
+      → MatchResult needed (λ _. AreSettingsNeeded m s (take place xs)) (λ doubt. IsNeededAnswer m s xs (Err doubt))
+      → MatchResult here (λ _. IsSettingNeeded n s x)
+      (λ doubt. (doubt ≡ NeedlessLine (place + 1)) × ¬ (IsSettingNeeded n s x))
+      → MatchResult (result_and needed here) (λ _. AreSettingsNeeded m s (take (place + 1) xs))
+      (λ doubt. IsNeededAnswer m s xs (Err doubt))
   judged_on (Err doubt) here so_far tells = so_far
   judged_on (Ok all) (Ok one) so_far tells =
       grind (arith, take_more xs place x inside, inside, needed_join m n s (take place xs) x leads so_far tells)
@@ -72,8 +77,8 @@ pub walks_on : {m n o : Parts} {s : Day} {xs : List Setting} {place loose left :
     (here : Result (Unit {0}) Doubt) → place < length xs → get_or xs place x ≡ x → IsWalked m n s xs place loose needed
     → Carries n x o
     → left ≡ loose_count o s
-    → MatchResult here (λ _. IsFalse (is_priced x) → loose ≡ left + 1)
-    (λ doubt. (doubt ≡ NeedlessLine (place + 1)) × ¬ (IsFalse (is_priced x) → loose ≡ left + 1))
+    → MatchResult here (λ _. IsFalse (is_priced_setting x) → loose ≡ left + 1)
+    (λ doubt. (doubt ≡ NeedlessLine (place + 1)) × ¬ (IsFalse (is_priced_setting x) → loose ≡ left + 1))
     → IsWalked m o s xs (place + 1) left (result_and needed here)
 walks_on {m} {n} {o} {s} {xs} {place} {needed} x here inside is walked carries left tells = record {
   leads = leads_next m n o xs place x inside is walked.leads carries;

@@ -4,13 +4,13 @@ use Rattle.kd_prices.proofs.Prelude.{List, [], ◌∷◌, ◌++◌, length, get_
 use Rattle.kd_prices.proofs.Prelude.{Option, None, MatchOption, All-from_get_or, Pair, ext_get_or, get_or_default}
 use Rattle.kd_prices.proofs.Prelude.{Parts, Setting, Day, Look, PricedKind, PriceParts, Group, ByNumber, ByKind}
 use Rattle.kd_prices.proofs.Prelude.{look_rank, AreKinds, version_of, row_kinds, column_kinds, ArePrices, row_prices}
-use Rattle.kd_prices.proofs.Prelude.{column_prices, price_at, AreWithinReach, group_of, AreOfKind, row_looks}
+use Rattle.kd_prices.proofs.Prelude.{column_prices, price_at, ArePricesInRange, group_of, AreModelPrices, row_looks}
 use Rattle.kd_prices.proofs.Prelude.{column_looks, IsPriced, look_at, AreExpanded, Expands, Same, Expanded}
-use Rattle.kd_prices.proofs.Prelude.{group_of_machine, Proves, AreOfOneModel, AreNumbered, AreParted, ap}
+use Rattle.kd_prices.proofs.Prelude.{group_of_machine, Proves, AreOfOneModel, AreNumbered, AreTakenApart, ap}
 use Rattle.kd_state.specs.{Machine.{model_of}, SheetDay.{day_model}}
 use Rattle.kd_state.specs.declared.machine.one_model.OneModel.{OneModel}
 use Rattle.kd_state.specs.declared.machine.one_model.OneModel.TheVariants as both
-use Rattle.{std.proofs.lemmas.List.{get_or_append_left, get_or_at}, kd_card.specs.CardFault.numbered}
+use Rattle.{std.proofs.lemmas.List.{get_or_append_left, get_or_at}, kd_card.specs.CardFault.parts_by_number}
 
 above : (floor : ℕ) (kinds : List PricedKind) (look : Look) (price : ℤ) → AreKinds floor kinds
     → IsPriced look price kinds → floor ≤ look_rank look
@@ -53,18 +53,18 @@ one_expansion m s prices numbered other (Same by e) (Expanded also be group are 
     let both : ByNumber ≡ ByKind = sym by ∙ also in cc
 one_expansion m s prices numbered other (Expanded by be group are good rows columns) (Same also f) =
     let both : ByKind ≡ ByNumber = sym by ∙ also in cc
-one_expansion m s prices numbered other (Expanded by be group are good rows columns)
+one_expansion m s prices parts_by_number other (Expanded by be group are good rows columns)
     (Expanded also bee same fit fine more further) =
-    same_parts numbered other be bee (sym group ∙ same) (same_expansion _ _ _ _ are.row_kinds rows more)
+    same_parts parts_by_number other be bee (sym group ∙ same) (same_expansion _ _ _ _ are.row_kinds rows more)
     (same_expansion _ _ _ _ are.column_kinds columns further)
 
 -- ---- models
 
-group_is : (m : Parts) (prices : PriceParts) → AreOfKind m prices → group_of prices ≡ group_of_machine m
+group_is : (m : Parts) (prices : PriceParts) → AreModelPrices m prices → group_of prices ≡ group_of_machine m
 group_is m prices e = grind arith
 
 pub kind_is : (m : Parts) (prices : PriceParts) → version_of prices ≡ ByNumber → group_of prices ≡ group_of_machine m
-    → AreOfKind m prices
+    → AreModelPrices m prices
 kind_is m prices e d = grind arith
 
 same_group : (m : Parts) (s : Day) (prices numbered : PriceParts) → Expands m s prices numbered
@@ -80,7 +80,7 @@ pub are_numbered : (m : Parts) (s : Day) (prices numbered : PriceParts) → AreO
 are_numbered m s prices numbered model expands = grind (arith, same_group, kind_is)
 
 -- A machine and a day whose parts are taken together are of one model.
-pub one_model : (m : Parts) (s : Day) (both : OneModel) → AreParted m s both → model_of m ≡ day_model s
+pub one_model : (m : Parts) (s : Day) (both : OneModel) → AreTakenApart m s both → model_of m ≡ day_model s
 one_model m s (both.Rotor parts entry) h = ap model_of h.0 ∙ h.2 ∙ sym (ap day_model h.1)
 one_model m s (both.Pin parts entry) h = ap model_of h.0 ∙ sym (ap day_model h.1)
 
@@ -133,7 +133,7 @@ priced_within floor (kind ∷ kinds) look price are (inr later) =
     priced_within (look_rank kind.look + 1) kinds look price are.2 later
 
 pub expanded_within : (looks : List Look) (kinds : List PricedKind) (prices : List ℤ) → AreKinds 0 kinds
-    → AreExpanded looks kinds prices → AreWithinReach prices
+    → AreExpanded looks kinds prices → ArePricesInRange prices
 expanded_within looks kinds prices are e =
     let number = e.number in
     All-from_get_or (λ price. unsigned_abs price ≤ 9999) prices (pos 0)
@@ -142,15 +142,17 @@ expanded_within looks kinds prices are e =
 
 -- Prices by number of a group.
 pub numbered_is : (group : Group) (rows columns : List ℤ)
-    → (version_of (numbered group rows columns) ≡ ByNumber) × (group_of (numbered group rows columns) ≡ group)
-    × (row_prices (numbered group rows columns) ≡ rows) × (column_prices (numbered group rows columns) ≡ columns)
+    → (version_of (parts_by_number group rows columns) ≡ ByNumber)
+    × (group_of (parts_by_number group rows columns) ≡ group)
+    × (row_prices (parts_by_number group rows columns) ≡ rows)
+    × (column_prices (parts_by_number group rows columns) ≡ columns)
 numbered_is group rows columns = grind arith
 
 pub expands_kinds : (m : Parts) (s : Day) (prices : PriceParts) (rows columns : List ℤ) → version_of prices ≡ ByKind
     → ArePrices prices
-    → ArePrices (numbered (group_of prices) rows columns) → AreExpanded (row_looks m) (row_kinds prices) rows
+    → ArePrices (parts_by_number (group_of prices) rows columns) → AreExpanded (row_looks m) (row_kinds prices) rows
     → AreExpanded (column_looks s) (column_kinds prices) columns
-    → Expands m s prices (numbered (group_of prices) rows columns)
+    → Expands m s prices (parts_by_number (group_of prices) rows columns)
 expands_kinds m s prices rows columns by are also row column =
     let is = numbered_is (group_of prices) rows columns in
     Expanded by is.0 (sym is.1) are also (rw is.2 row) (rw is.3 column)

@@ -1,5 +1,6 @@
 -- The definitions and lemmas that most proofs of this crate use.
-pub use Rattle.kd_card.specs.Steps.{Found, IsOnly, Refused, only_demands, only_finds, only_then, passed}
+pub use Rattle.kd_card.specs.FirstFaults.{GoesOn, HasOneAnswer, HasFault, HasOneAnswer-Demands, HasOneAnswer-Finds}
+pub use Rattle.kd_card.specs.FirstFaults.{HasOneAnswer-ThenNext, ThenNext-Ok}
 pub use Rattle.std.proofs.Common.{Bool, Contains, FitsSigned, List, MatchOption, None, Option, SFits, Some, [], ap}
 pub use Rattle.std.proofs.Common.{append_assoc, arith, below_more, cond, count_by, eqb, false, get_or, inl, inr, length}
 pub use Rattle.std.proofs.Common.{length-append, length-drop, ltb, max, min, of_z, pos, refl, replicate, rules, set}
@@ -21,18 +22,19 @@ pub use Rattle.kd_card.specs.CardFault.{floor_behind}
 pub use Rattle.kd_card.specs.CardText.{column_name, group_of, price_count, row_name}
 pub use Rattle.kd_card.specs.Kinds.{AreCalled, AreEnds, AreKinds, IsInForm, IsPricedKind, counted, look_name, look_rank}
 pub use Rattle.kd_card.proofs.Shortest.{no_rotors, proving_cards_are_shortest, proving_prices_are_tight}
-pub use Rattle.kd_card.specs.Prices.{ArePrices, AreTight, AreWithinReach, Fits, column_kinds, column_prices, cost_at}
-pub use Rattle.kd_card.specs.Prices.{how_many, price_at, price_sum, row_kinds, row_prices, version_of}
-pub use Rattle.kd_card.specs.Proving.{AreExpanded, AreNeeded, AreOfKind, Expanded, Expands, HasCount, HasPrice}
-pub use Rattle.kd_card.specs.Proving.{IsNeeded, IsPriced, Proves, Same, alike_count, column_looks, group_of_machine}
-pub use Rattle.kd_card.specs.Proving.{look_at, pair_in_order, priced_count, row_looks}
+pub use Rattle.kd_card.specs.Prices.{ArePrices, ArePricesTight, ArePricesInRange, PricesFit, column_kinds}
+pub use Rattle.kd_card.specs.Prices.{column_prices, cost_at, table_rows, price_at, price_sum, row_kinds, row_prices}
+pub use Rattle.kd_card.specs.Prices.{version_of}
+pub use Rattle.kd_card.specs.Proving.{AreExpanded, AreSettingsNeeded, AreModelPrices, Expanded, Expands, HasCount}
+pub use Rattle.kd_card.specs.Proving.{HasPrice, IsSettingNeeded, IsPriced, Proves, Same, alike_count, column_looks}
+pub use Rattle.kd_card.specs.Proving.{group_of_machine, look_at, pair_in_order, priced_count, row_looks}
 pub use Rattle.kd_card.specs.declared.{group.Group.{Group, TheVariants.{OfBars, OfCables}}, kinds.PricedKind.PricedKind}
 pub use Rattle.kd_card.specs.declared.look.Look.{Look, TheVariants.{Bar, Cable, Pair, Row}}
 pub use Rattle.kd_card.specs.declared.prices.PriceParts.{PriceParts, TheVariants.{BarKinds, Bars, CableKinds, Cables}}
 pub use Rattle.kd_card.specs.declared.prices.Version.TheVariants.{ByKind, ByNumber}
-pub use Rattle.{kd_enigma.specs.Plugs.{NoLetterTwice, letters_plugged}, kd_prices.specs.Alike.{ReadAlike, StandAlike}}
+pub use Rattle.{kd_enigma.specs.Plugs.{NoLetterTwice, letters_in_pairs}, kd_prices.specs.Alike.{ReadAlike, StandAlike}}
 pub use Rattle.kd_prices.specs.Doubt.{AreNumbered, AreOfOneModel, IsFirstNeedless, IsFirstTooHigh, IsFirstWithout}
-pub use Rattle.kd_prices.specs.Fitting.{AreWithin, IsWithin}
+pub use Rattle.kd_prices.specs.Fitting.{ListsFitAt, FitsAtColumn}
 pub use Rattle.kd_prices.specs.KindCards.{AreAlikePriced, AreByKind, AreKindsOf, AreOfGroup, AreThings, AreWithPrices}
 pub use Rattle.kd_prices.specs.KindCards.{CanBeByKind, IsKindAt, IsLowest}
 pub use Rattle.kd_prices.specs.Laws.{AlikePricesAreEqual, AreEqualWhereAlike, RestIsShortest}
@@ -41,9 +43,10 @@ pub use Rattle.kd_prices.specs.declared.doubt.Doubt.TheVariants.{PriceMissing, P
 pub use Rattle.kd_state.specs.Costs.{bar_cost, cable_cost, columns_of, cost_table}
 pub use Rattle.kd_state.proofs.{Cables.tests_tell_letters, CostTable.{columns_are_the_pairs, thirteen_columns}}
 pub use Rattle.kd_state.proofs.Telling.Refusing.{leads_join, leads_next, leads_to_one, stops_at}
-pub use Rattle.kd_state.specs.Machine.{IsMachine, cable_letters, ordered, plugged_letters}
-pub use Rattle.kd_state.specs.{OnKey.{ReadsAs, SameLetters}, OneModel.AreParted, Setting.{Leads, changed, why_refused}}
+pub use Rattle.kd_state.specs.Machine.{IsMachine, cable_letters, cable_in_order, letters_in_cables}
+pub use Rattle.kd_state.specs.{OnKey.{ReadsAs, HaveSameLetters}, OneModel.AreTakenApart}
+pub use Rattle.kd_state.specs.{Setting.{Leads, machine_after, why_refused}}
 pub use Rattle.kd_state.specs.{SheetDay.{Day, IsLegalDay, OfPins, OfRotors}, declared.machine.parts.Parts.Parts}
 pub use Rattle.kd_state.specs.declared.{machine.parts.Parts.TheVariants.{Pin, Rotor}, setting.Setting.Setting}
-pub use Rattle.{kd_state.specs.declared.setting.why.Why.Why, kd_tables.specs.Places.{in_order, place_rank}}
+pub use Rattle.{kd_state.specs.declared.setting.why.Why.Why, kd_tables.specs.Places.{smaller_first, place_rank}}
 pub use Rattle.kd_tables.specs.declared.place.Place.TheVariants.{One}

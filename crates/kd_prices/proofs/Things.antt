@@ -5,21 +5,21 @@ use Rattle.std.specs.List.{IsDistinct}
 use Rattle.kd_prices.proofs.Prelude.{no_rotors, ◌≡◌, ℕ, zero, suc, ◌-◌, ◌<◌, false, eqb, List, [], ◌∷◌, ◌++◌, length}
 use Rattle.kd_prices.proofs.Prelude.{get_or, replicate, Option, Some, None, refl, sym, ap, ◌∙◌, arith, AllByRecursion}
 use Rattle.kd_prices.proofs.Prelude.{eqb-false, length-map, All-from_recursion, recursion_from_All, All-map}
-use Rattle.kd_prices.proofs.Prelude.{letters_plugged, NoLetterTwice, Parts, Rotor, Pin, plugged_letters, ordered}
-use Rattle.kd_prices.proofs.Prelude.{IsMachine, Day, OfRotors, OfPins, IsLegalDay, columns_of, thirteen_columns, Look}
-use Rattle.kd_prices.proofs.Prelude.{Cable, Pair, Bar, Row, look_name, IsInForm, All, nat_tests, Group, OfCables}
-use Rattle.kd_prices.proofs.Prelude.{OfBars, row_name, column_name, price_count, row_looks, column_looks, pair_in_order}
-use Rattle.kd_prices.proofs.Prelude.{group_of_machine, AreThings, map, subst}
+use Rattle.kd_prices.proofs.Prelude.{letters_in_pairs, NoLetterTwice, Parts, Rotor, Pin, letters_in_cables}
+use Rattle.kd_prices.proofs.Prelude.{cable_in_order, IsMachine, Day, OfRotors, OfPins, IsLegalDay, columns_of}
+use Rattle.kd_prices.proofs.Prelude.{thirteen_columns, Look, Cable, Pair, Bar, Row, look_name, IsInForm, All, nat_tests}
+use Rattle.kd_prices.proofs.Prelude.{Group, OfCables, OfBars, row_name, column_name, price_count, row_looks}
+use Rattle.kd_prices.proofs.Prelude.{column_looks, pair_in_order, group_of_machine, AreThings, map, subst}
 
 abbrev in_each_order : List (Option ℕ × Option ℕ) → List (Option ℕ × Option ℕ)
-in_each_order cables = map (λ cable. ordered cable.0 cable.1) cables
+in_each_order cables = map (λ cable. cable_in_order cable.0 cable.1) cables
 
-two_ordered : (a b : ℕ) → ordered (Some a) (Some b) ≡ (Some a, Some b) → eqb a b ≡ false → a < b
+two_ordered : (a b : ℕ) → cable_in_order (Some a) (Some b) ≡ (Some a, Some b) → eqb a b ≡ false → a < b
 two_ordered a b e apart = grind (arith, nat_tests)
 
 cables_in_form : (cables : List (Option ℕ × Option ℕ)) → in_each_order cables ≡ cables
-    → AllByRecursion (λ letter. letter < 26) (plugged_letters cables)
-    → IsDistinct eqb (plugged_letters cables) → AllByRecursion IsInForm (map (λ ends. Cable ends) cables)
+    → AllByRecursion (λ letter. letter < 26) (letters_in_cables cables)
+    → IsDistinct eqb (letters_in_cables cables) → AllByRecursion IsInForm (map (λ ends. Cable ends) cables)
 unfolding IsDistinct
 cables_in_form [] e within apart = tt
 cables_in_form ((None, None) ∷ cables) e within apart = (tt, cables_in_form cables (cc) within apart)
@@ -39,7 +39,7 @@ nothings_in_form : (n : ℕ) → AllByRecursion IsInForm (map pair_look (replica
 nothings_in_form zero = tt
 nothings_in_form (suc n) = (tt, nothings_in_form n)
 
-pairs_in_form : (n : ℕ) (pairs : List (ℕ × ℕ)) → AllByRecursion (λ letter. letter < 26) (letters_plugged pairs)
+pairs_in_form : (n : ℕ) (pairs : List (ℕ × ℕ)) → AllByRecursion (λ letter. letter < 26) (letters_in_pairs pairs)
     → NoLetterTwice pairs
     → AllByRecursion IsInForm (map pair_look (map Some pairs ++ replicate n None))
 unfolding IsDistinct
@@ -64,7 +64,7 @@ rows_are_things (Rotor m) machine =
     let cables = machine.legal.cables in
     things (λ ends. Cable ends) m.cables (row_name OfCables) 13 (λ x. refl) cables.count
     (All-from_recursion IsInForm (row_looks (Rotor m)) (cables_in_form m.cables (ap cables_of machine.cables)
-    (recursion_from_All (λ letter. letter < 26) (plugged_letters m.cables) cables.within) cables.apart))
+    (recursion_from_All (λ letter. letter < 26) (letters_in_cables m.cables) cables.within) cables.apart))
 rows_are_things (Pin m) machine =
     things (λ standing. Bar standing) m.bars (row_name OfBars) 27 (λ x. refl) machine.legal.bars
     (All-map IsInForm (λ standing. Bar standing) m.bars machine.legal.apart)
@@ -88,7 +88,7 @@ columns_are_things (OfRotors s) legal =
     let pairs = legal.pairs in
     things pair_look (columns_of s.pairs) (column_name OfCables) 13 (λ x. refl) (thirteen_columns s.pairs pairs.few)
     (All-from_recursion IsInForm (column_looks (OfRotors s)) (pairs_in_form (13 - length s.pairs) s.pairs
-    (recursion_from_All (λ letter. letter < 26) (letters_plugged s.pairs) pairs.within) pairs.apart))
+    (recursion_from_All (λ letter. letter < 26) (letters_in_pairs s.pairs) pairs.within) pairs.apart))
 columns_are_things (OfPins s) legal =
     things (λ numbers. Row numbers) s.rows (column_name OfBars) 27 (λ x. refl) legal.count
     (All-map IsInForm (λ numbers. Row numbers) s.rows legal.rows)

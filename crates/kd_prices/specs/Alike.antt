@@ -4,12 +4,12 @@ use Rattle.kd_state.specs.declared.machine.parts.Parts.{Parts}
 use Rattle.kd_state.specs.declared.machine.parts.Parts.TheVariants.{Rotor, Pin}
 use Rattle.kd_state.specs.Machine.{cable_letters}
 use Rattle.kd_state.specs.SheetDay.{Day, OfRotors, OfPins}
-use Rattle.kd_state.specs.OnKey.{SameLetters}
+use Rattle.kd_state.specs.OnKey.{HaveSameLetters}
 
 -- The cables at the two places have the same letters, or the bars at these places stand alike.
 abbrev pub StandAlike : Parts → ℕ → ℕ → Type 0
 StandAlike (Rotor m) place other =
-    SameLetters
+    HaveSameLetters
     (cable_letters (slice_index_or m.cables place (None, None)))
     (cable_letters (slice_index_or m.cables other (None, None)))
 StandAlike (Pin m) place other = slice_get m.bars place ≡ slice_get m.bars other

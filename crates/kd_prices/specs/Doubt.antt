@@ -9,10 +9,11 @@ use Rattle.kd_state.specs.SheetDay.{Day, day_model}
 use Rattle.kd_state.specs.OnKey.{ReadsAs}
 use Rattle.kd_state.specs.Costs.{cost_table}
 use Rattle.kd_card.specs.declared.prices.PriceParts.{PriceParts}
-use Rattle.kd_card.specs.Steps.{Says, ◌>>=◌, Finds, Demands}
-use Rattle.kd_card.specs.Prices.{Fits, FitsAt, how_many, price_sum}
+use Rattle.kd_card.specs.FirstFaults.{AnswerRule, ◌>>=◌, Finds, Demands}
+use Rattle.kd_card.specs.Prices.{PricesFit, PricesFitAt, table_rows, price_sum}
 use Rattle.kd_card.specs.CardText.{group_of}
-use Rattle.kd_card.specs.Proving.{AreOfKind, Expands, group_of_machine, IsNeeded, AreNeeded, priced_count}
+use Rattle.kd_card.specs.Proving.{AreModelPrices, Expands, group_of_machine, IsSettingNeeded, AreSettingsNeeded}
+use Rattle.kd_card.specs.Proving.{priced_count}
 use Rattle.kd_prices.specs.declared.doubt.Doubt.{Doubt}
 use Rattle.kd_prices.specs.declared.doubt.Doubt.TheVariants.{OtherModel, PriceMissing, IllegalAt, NotTheSheet}
 use Rattle.kd_prices.specs.declared.doubt.Doubt.TheVariants.{PriceTooHigh, SumDiffers, NeedlessLine}
@@ -25,7 +26,7 @@ pub record AreOfOneModel (m : Parts) (s : Day) (prices : PriceParts) : Type 0 wh
 -- Machine, day and prices are of one model, and the prices are by number.
 pub record AreNumbered (m : Parts) (s : Day) (prices : PriceParts) : Type 0 where
   pub model : model_of m ≡ day_model s
-  pub kind : AreOfKind m prices
+  pub kind : AreModelPrices m prices
 
 -- Row `i` and column `j` come before `row` and `column`, by row and then by column.
 abbrev pub ComesBefore : ℕ → ℕ → ℕ → ℕ → Type 0
@@ -41,7 +42,7 @@ pub record IsFirstWithout (Holds : ℕ → ℕ → Type 0) (number row column : 
 
 -- The prices of `row` and `column` are the first that are together too high.
 abbrev pub IsFirstTooHigh : List (List ℕ) → PriceParts → ℕ → ℕ → Type 0
-IsFirstTooHigh costs prices row column = IsFirstWithout (FitsAt costs prices) (how_many prices) row column
+IsFirstTooHigh costs prices row column = IsFirstWithout (PricesFitAt costs prices) (table_rows prices) row column
 
 -- Line `line`, counted from 1, is the first setting that isn't needed.
 pub record IsFirstNeedless (m : Parts) (s : Day) (settings : List Setting) (line : ℕ) : Type 0 where
@@ -52,45 +53,45 @@ pub record IsFirstNeedless (m : Parts) (s : Day) (settings : List Setting) (line
   pub split : settings ≡ front ++ setting ∷ rest
   pub number : line ≡ length front + 1
   pub leads : Leads m front between
-  pub needed : AreNeeded m s front
-  pub needless : ¬ (IsNeeded between s setting)
+  pub needed : AreSettingsNeeded m s front
+  pub needless : ¬ (IsSettingNeeded between s setting)
 
 -- The machine to which the settings lead, or the first setting that is refused.
-abbrev pub SaysCarried : Parts → List Setting → Says Doubt Parts
-SaysCarried m settings (Ok n) = Leads m settings n
-SaysCarried m settings (Err (IllegalAt line why)) = IsFirstIllegal m settings line why
-SaysCarried m settings (Err doubt) = ⊥
+abbrev pub IsCarriedAnswer : Parts → List Setting → AnswerRule Doubt Parts
+IsCarriedAnswer m settings (Ok n) = Leads m settings n
+IsCarriedAnswer m settings (Err (IllegalAt line why)) = IsFirstIllegal m settings line why
+IsCarriedAnswer m settings (Err doubt) = ⊥
 
 -- Prices that fit the table of costs, or the first place where they don't.
-abbrev pub SaysFits : List (List ℕ) → PriceParts → Says Doubt (Unit {0})
-SaysFits costs prices (Ok fits) = Fits costs prices
-SaysFits costs prices (Err (PriceTooHigh i j)) =
+abbrev pub IsFitsAnswer : List (List ℕ) → PriceParts → AnswerRule Doubt (Unit {0})
+IsFitsAnswer costs prices (Ok fits) = PricesFit costs prices
+IsFitsAnswer costs prices (Err (PriceTooHigh i j)) =
     (row : ℕ) × (column : ℕ) × (i ≡ row + 1) × (j ≡ column + 1) × IsFirstTooHigh costs prices row column
-SaysFits costs prices (Err doubt) = ⊥
+IsFitsAnswer costs prices (Err doubt) = ⊥
 
 -- Settings that are all needed, or the first that isn't.
-abbrev pub SaysNeeded : Parts → Day → List Setting → Says Doubt (Unit {0})
-SaysNeeded m s settings (Ok all) = AreNeeded m s settings
-SaysNeeded m s settings (Err (NeedlessLine line)) = IsFirstNeedless m s settings line
-SaysNeeded m s settings (Err doubt) = ⊥
+abbrev pub IsNeededAnswer : Parts → Day → List Setting → AnswerRule Doubt (Unit {0})
+IsNeededAnswer m s settings (Ok all) = AreSettingsNeeded m s settings
+IsNeededAnswer m s settings (Err (NeedlessLine line)) = IsFirstNeedless m s settings line
+IsNeededAnswer m s settings (Err doubt) = ⊥
 
 -- Settings that prices by number prove shortest, or the first doubt about them.
-abbrev pub SaysByNumber : Parts → Day → List Setting → PriceParts → Says Doubt (Unit {0})
-SaysByNumber m s settings prices = do
-  n ← SaysCarried m settings
+abbrev pub IsByNumberAnswer : Parts → Day → List Setting → PriceParts → AnswerRule Doubt (Unit {0})
+IsByNumberAnswer m s settings prices = do
+  n ← IsCarriedAnswer m settings
   _ ← Demands (ReadsAs n s) NotTheSheet
-  _ ← SaysFits (cost_table m s) prices
+  _ ← IsFitsAnswer (cost_table m s) prices
   _ ← Demands (price_sum prices ≡ pos (priced_count settings)) SumDiffers
-  SaysNeeded m s settings
+  IsNeededAnswer m s settings
 
 -- Settings that prove themselves by prices of either version, or their first doubt. Prices by kind are expanded
 -- first.
-abbrev pub SaysChecked : Parts → Day → List Setting → PriceParts → Says Doubt (Unit {0})
-SaysChecked m s settings prices = do
+abbrev pub IsCheckedAnswer : Parts → Day → List Setting → PriceParts → AnswerRule Doubt (Unit {0})
+IsCheckedAnswer m s settings prices = do
   _ ← Demands (AreOfOneModel m s prices) OtherModel
   numbered ← Finds (λ numbered. Expands m s prices numbered) PriceMissing
-  SaysByNumber m s settings numbered
+  IsByNumberAnswer m s settings numbered
 
 -- `doubt` is the first doubt about the card.
 abbrev pub IsDoubt : Parts → Day → List Setting → PriceParts → Doubt → Type 0
-IsDoubt m s settings prices doubt = SaysChecked m s settings prices (Err doubt)
+IsDoubt m s settings prices doubt = IsCheckedAnswer m s settings prices (Err doubt)

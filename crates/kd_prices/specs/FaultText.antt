@@ -1,7 +1,7 @@
 -- The text of the first doubt about a card.
 use Rattle.std.specs.Prelude.{decimal, ℕ, List, ◌++◌}
 use Rattle.kd_tables.specs.declared.refusal.Refusal.TheVariants as refusals
-use Rattle.kd_tables.specs.Refusals.{refusal_name, spaced}
+use Rattle.kd_tables.specs.Refusals.{refusal_name, word_after_space}
 use Rattle.kd_state.specs.FaultText.{illegal_at_text}
 use Rattle.kd_prices.specs.declared.doubt.Doubt.{Doubt}
 use Rattle.kd_prices.specs.declared.doubt.Doubt.TheVariants.{OtherModel, PriceMissing, IllegalAt, NotTheSheet}
@@ -12,6 +12,7 @@ doubt_text OtherModel = refusal_name refusals.OtherModel
 doubt_text PriceMissing = refusal_name refusals.PriceMissing
 doubt_text (IllegalAt line why) = illegal_at_text (record { line = line; why = why })
 doubt_text NotTheSheet = refusal_name refusals.NotTheSheet
-doubt_text (PriceTooHigh i j) = refusal_name refusals.PriceTooHigh ++ spaced (decimal i) ++ spaced (decimal j)
+doubt_text (PriceTooHigh i j) = refusal_name refusals.PriceTooHigh ++ word_after_space (decimal i)
+    ++ word_after_space (decimal j)
 doubt_text SumDiffers = refusal_name refusals.SumDiffers
-doubt_text (NeedlessLine line) = refusal_name refusals.NeedlessLine ++ spaced (decimal line)
+doubt_text (NeedlessLine line) = refusal_name refusals.NeedlessLine ++ word_after_space (decimal line)

@@ -4,12 +4,12 @@ use Rattle.std.specs.Prelude.{ℕ, ◌<◌, List, slice_index, ℤ, pos, ◌+ℤ
 use Rattle.kd_card.specs.Prices.{cost_at, price_at}
 
 -- The prices of row `i` and column `j` are together at most the cost where they meet.
-abbrev pub AreWithin : List (List ℕ) → List ℤ → List ℤ → ℕ → ℕ → Type 0
-AreWithin costs rows columns i j = (price_at rows i +ℤ price_at columns j) ≤ℤ pos (cost_at costs i j)
+abbrev pub ListsFitAt : List (List ℕ) → List ℤ → List ℤ → ℕ → ℕ → Type 0
+ListsFitAt costs rows columns i j = (price_at rows i +ℤ price_at columns j) ≤ℤ pos (cost_at costs i j)
 
 -- `price` and the price of column `j` are together at most the cost in one row of the table.
-abbrev pub IsWithin : List ℕ → ℤ → List ℤ → ℕ → Type 0
-IsWithin costs price columns j = (price +ℤ price_at columns j) ≤ℤ pos (slice_index costs j)
+abbrev pub FitsAtColumn : List ℕ → ℤ → List ℤ → ℕ → Type 0
+FitsAtColumn costs price columns j = (price +ℤ price_at columns j) ≤ℤ pos (slice_index costs j)
 
 -- `place` is the first of `number` places, counted from 0, for which `Holds` is false.
 pub record IsFirstPlaceWithout (Holds : ℕ → Type 0) (number place : ℕ) : Type 0 where

@@ -6,7 +6,7 @@ use Rattle.kd_state.specs.Machine.{IsMachine}
 use Rattle.kd_state.specs.Setting.{Leads}
 use Rattle.kd_state.specs.SheetDay.{Day, IsLegalDay}
 use Rattle.kd_card.specs.declared.prices.PriceParts.{PriceParts}
-use Rattle.kd_card.specs.Prices.{row_prices, column_prices, how_many, price_at, ArePrices}
+use Rattle.kd_card.specs.Prices.{row_prices, column_prices, table_rows, price_at, ArePrices}
 use Rattle.kd_card.specs.Proving.{LeadsToTheDay, ProvesByNumber, Proves, IsShortest}
 use Rattle.kd_prices.specs.declared.doubt.Doubt.{Doubt}
 use Rattle.kd_prices.specs.Doubt.{IsDoubt}
@@ -41,10 +41,10 @@ RestIsShortest =
 -- Cables or bars that stand alike have equal prices, and so have nothings, and rows with one reading.
 pub record AreEqualWhereAlike (m : Parts) (s : Day) (prices : PriceParts) : Type 0 where
   pub rows :
-      (place other : ℕ) → place < how_many prices → other < how_many prices → StandAlike m place other
+      (place other : ℕ) → place < table_rows prices → other < table_rows prices → StandAlike m place other
       → price_at (row_prices prices) place ≡ price_at (row_prices prices) other
   pub columns :
-      (place other : ℕ) → place < how_many prices → other < how_many prices → ReadAlike s place other
+      (place other : ℕ) → place < table_rows prices → other < table_rows prices → ReadAlike s place other
       → price_at (column_prices prices) place ≡ price_at (column_prices prices) other
 
 -- In a card by number that proves itself, equal things have equal prices.

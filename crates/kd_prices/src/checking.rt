@@ -2,14 +2,14 @@
 ghost use Rattle.std.specs.Prelude.{◌≡◌, ◌↔◌, ◌≤◌, length, IsOk, IfErr, MatchOption};
 ghost use Rattle.kd_state.specs.Costs.{cost_table};
 ghost use Rattle.kd_state.specs.{Machine.{model_of}, SheetDay.{day_model}};
-ghost use Rattle.kd_card.specs.Prices.{Fits, how_many};
+ghost use Rattle.kd_card.specs.Prices.{PricesFit, table_rows};
 ghost use Rattle.kd_card.specs.Proving.{Proves, priced_count};
-ghost use Rattle.kd_prices.specs.Doubt.{AreOfOneModel, IsFirstTooHigh, SaysChecked, SaysByNumber, IsDoubt};
+ghost use Rattle.kd_prices.specs.Doubt.{AreOfOneModel, IsFirstTooHigh, IsCheckedAnswer, IsByNumberAnswer, IsDoubt};
 
 use super::doubt::Doubt;
 use super::expanding::expanded;
 use super::fitting::{Cell, first_too_high};
-use super::walking::{is_priced, walked};
+use super::walking::{is_priced_setting, walk_settings};
 use kd_card::{Card, Group, Prices};
 use kd_state::{Machine, OneModel, Setting, SheetDay, bar_costs, cable_costs};
 
@@ -23,12 +23,12 @@ pub fn check(machine: &Machine, day: &SheetDay, card: &Card) -> Result<(), Doubt
     ensures doubt { IfErr result
         (IsDoubt machine.now day.now card.now.settings.items card.now.prices) }
 {
-    judged(machine, day, card)
+    check_any_card(machine, day, card)
 }
 
 /// Finds the first doubt, if there is one: models first, then the card by its table of costs.
-fn judged(machine: &Machine, day: &SheetDay, card: &Card) -> Result<(), Doubt>
-    ensures { SaysChecked machine.now day.now card.now.settings.items card.now.prices result }
+fn check_any_card(machine: &Machine, day: &SheetDay, card: &Card) -> Result<(), Doubt>
+    ensures { IsCheckedAnswer machine.now day.now card.now.settings.items card.now.prices result }
 {
     let Some(one_model) = machine.of_one_model(day) else {
         return Err(Doubt::OtherModel);
@@ -36,18 +36,18 @@ fn judged(machine: &Machine, day: &SheetDay, card: &Card) -> Result<(), Doubt>
     match (one_model, card.prices.group()) {
         (OneModel::Rotor(parts, entry), Group::OfCables) => {
             let costs = cable_costs(&parts.cables, entry.pairs.as_slice());
-            judged_by_costs(machine, day, card, &costs)
+            check_by_costs(machine, day, card, &costs)
         }
         (OneModel::Pin(parts, entry), Group::OfBars) => {
             let costs = bar_costs(&parts.bars, &entry.rows);
-            judged_by_costs(machine, day, card, &costs)
+            check_by_costs(machine, day, card, &costs)
         }
         _ => Err(Doubt::OtherModel),
     }
 }
 
 /// Finds the first doubt about a card whose machine, day and prices are of one model.
-fn judged_by_costs<const N: usize>(
+fn check_by_costs<const N: usize>(
     machine: &Machine,
     day: &SheetDay,
     card: &Card,
@@ -55,17 +55,17 @@ fn judged_by_costs<const N: usize>(
 ) -> Result<(), Doubt>
     requires model { AreOfOneModel machine.now day.now card.now.prices }
     requires costs { costs.now ≡ cost_table machine.now day.now }
-    requires size { how_many card.now.prices ≡ N }
-    ensures { SaysChecked machine.now day.now card.now.settings.items card.now.prices result }
+    requires size { table_rows card.now.prices ≡ N }
+    ensures { IsCheckedAnswer machine.now day.now card.now.settings.items card.now.prices result }
 {
     let Some(numbered) = expanded(machine, day, &card.prices) else {
         return Err(Doubt::PriceMissing);
     };
-    judged_by_number(machine, day, card.settings.as_slice(), costs, &numbered)
+    check_by_number(machine, day, card.settings.as_slice(), costs, &numbered)
 }
 
 /// Finds the first doubt about settings with prices by number.
-fn judged_by_number<const N: usize>(
+fn check_by_number<const N: usize>(
     machine: &Machine,
     day: &SheetDay,
     settings: &[Setting],
@@ -74,15 +74,15 @@ fn judged_by_number<const N: usize>(
 ) -> Result<(), Doubt>
     requires model { model_of machine.now ≡ day_model day.now }
     requires costs { costs.now ≡ cost_table machine.now day.now }
-    requires size { how_many prices.now ≡ N }
+    requires size { table_rows prices.now ≡ N }
     requires few { length settings.now ≤ 192 }
-    ensures { SaysByNumber machine.now day.now settings.now prices.now result }
+    ensures { IsByNumberAnswer machine.now day.now settings.now prices.now result }
 {
-    let walk = walked(machine, day, settings)?;
+    let walk = walk_settings(machine, day, settings)?;
     if !walk.reached.reads_as(day) {
         return Err(Doubt::NotTheSheet);
     }
-    if let Some(cell) = too_high(costs, prices) {
+    if let Some(cell) = find_too_high(costs, prices) {
         return Err(Doubt::PriceTooHigh(cell.row as u8 + 1, cell.column as u8 + 1));
     }
     if prices.sum() != priced_count(settings) as i32 {
@@ -92,10 +92,10 @@ fn judged_by_number<const N: usize>(
 }
 
 /// Finds the first row and column whose prices are together above the cost where they meet.
-fn too_high<const N: usize>(costs: &[[u8; N]; N], prices: &Prices) -> Option<Cell>
-    requires { how_many prices.now ≡ N }
+fn find_too_high<const N: usize>(costs: &[[u8; N]; N], prices: &Prices) -> Option<Cell>
+    requires { table_rows prices.now ≡ N }
     ensures { MatchOption result
-        (Fits costs.now prices.now)
+        (PricesFit costs.now prices.now)
         (λ cell. IsFirstTooHigh costs.now prices.now cell.row cell.column) }
 {
     let rows = prices.row_prices();
@@ -108,5 +108,8 @@ fn priced_count(settings: &[Setting]) -> usize
     ensures value { result ≡ priced_count settings.now }
     ensures few { result ≤ length settings.now }
 {
-    settings.iter().filter(|setting| is_priced(setting)).count()
+    settings
+        .iter()
+        .filter(|setting| is_priced_setting(setting))
+        .count()
 }

@@ -40,12 +40,12 @@ impl Doubt {
             Doubt::PriceMissing => Refusal::PriceMissing.text(),
             Doubt::IllegalAt(line, why) => IllegalAt { line, why }.text(),
             Doubt::NotTheSheet => Refusal::NotTheSheet.text(),
-            Doubt::PriceTooHigh(i, j) => Refusal::PriceTooHigh.at_both(
+            Doubt::PriceTooHigh(i, j) => Refusal::PriceTooHigh.text_at_both(
                 usize::from(i),
                 usize::from(j),
             ),
             Doubt::SumDiffers => Refusal::SumDiffers.text(),
-            Doubt::NeedlessLine(line) => Refusal::NeedlessLine.at(line),
+            Doubt::NeedlessLine(line) => Refusal::NeedlessLine.text_at(line),
         }
     }
 }

@@ -3,7 +3,7 @@ ghost use Rattle.std.specs.Prelude.{◌≡◌, ◌↔◌, ◌≤◌, length, ℤ
 ghost use Rattle.std.specs.List.{AllByRecursion};
 ghost use Rattle.kd_card.specs.declared.prices.Version.{Version};
 ghost use Rattle.kd_card.specs.Kinds.{AreKinds};
-ghost use Rattle.kd_card.specs.Prices.{version_of, ArePrices, AreWithinReach};
+ghost use Rattle.kd_card.specs.Prices.{version_of, ArePrices, ArePricesInRange};
 ghost use Rattle.kd_card.specs.Proving as proving;
 ghost use Rattle.kd_card.specs.Proving.{IsPriced, HasCount, AreExpanded, Expands};
 ghost use Rattle.kd_prices.specs.Doubt.{AreOfOneModel};
@@ -57,7 +57,7 @@ pub(crate) fn priced(looks: &[Look], kinds: &[PricedKind]) -> Option<ArrayVec<i1
     requires kinds { AreKinds 0 kinds.now }
     ensures { MatchOption result
         ((prices : List ℤ) → ¬ (AreExpanded looks.now kinds.now prices))
-        (λ prices. AreExpanded looks.now kinds.now prices.items × AreWithinReach prices.items) }
+        (λ prices. AreExpanded looks.now kinds.now prices.items × ArePricesInRange prices.items) }
 {
     if !are_counted(looks, kinds) {
         return None;

@@ -1,7 +1,7 @@
 //! Finds the first place where prices don't fit a table of costs.
 ghost use Rattle.std.specs.Prelude.{◌≡◌, ◌↔◌, ℕ, ◌<◌, length, MatchOption, IsTrue};
 ghost use Rattle.kd_prices.specs.Doubt.{IsFirstWithout};
-ghost use Rattle.kd_prices.specs.Fitting.{AreWithin, IsWithin, IsFirstPlaceWithout};
+ghost use Rattle.kd_prices.specs.Fitting.{ListsFitAt, FitsAtColumn, IsFirstPlaceWithout};
 
 /// A cell of a table of costs: its row and its column, counted from 0.
 #[derive(Clone, Copy)]
@@ -19,8 +19,8 @@ pub(crate) fn first_too_high<const N: usize>(
     requires rows { length rows.now ≡ N }
     requires columns { length columns.now ≡ N }
     ensures { MatchOption result
-        ((i j : ℕ) → i < N → j < N → AreWithin costs.now rows.now columns.now i j)
-        (λ cell. IsFirstWithout (AreWithin costs.now rows.now columns.now) N cell.row cell.column) }
+        ((i j : ℕ) → i < N → j < N → ListsFitAt costs.now rows.now columns.now i j)
+        (λ cell. IsFirstWithout (ListsFitAt costs.now rows.now columns.now) N cell.row cell.column) }
 {
     for (row, price) in rows.iter().enumerate() {
         if let Some(column) = first_column_too_high(&costs[row], *price, columns) {
@@ -34,11 +34,11 @@ pub(crate) fn first_too_high<const N: usize>(
 fn first_column_too_high(costs: &[u8], price: i16, columns: &[i16]) -> Option<usize>
     requires { length costs.now ≡ length columns.now }
     ensures { MatchOption result
-        ((j : ℕ) → j < length columns.now → IsWithin costs.now price columns.now j)
-        (IsFirstPlaceWithout (IsWithin costs.now price columns.now) (length columns.now)) }
+        ((j : ℕ) → j < length columns.now → FitsAtColumn costs.now price columns.now j)
+        (IsFirstPlaceWithout (FitsAtColumn costs.now price columns.now) (length columns.now)) }
 {
     for column in 0..columns.len() {
-        if !is_within(costs, price, columns, column) {
+        if !fits_at_column(costs, price, columns, column) {
             return Some(column);
         }
     }
@@ -46,10 +46,10 @@ fn first_column_too_high(costs: &[u8], price: i16, columns: &[i16]) -> Option<us
 }
 
 /// Whether `price` and the price of `column` are together at most the cost there.
-fn is_within(costs: &[u8], price: i16, columns: &[i16], column: usize) -> bool
+fn fits_at_column(costs: &[u8], price: i16, columns: &[i16], column: usize) -> bool
     requires inside { column < length columns.now }
     requires each { length costs.now ≡ length columns.now }
-    ensures { IsTrue result ↔ IsWithin costs.now price columns.now column }
+    ensures { IsTrue result ↔ FitsAtColumn costs.now price columns.now column }
 {
     i32::from(price) + i32::from(columns[column]) <= i32::from(costs[column])
 }

@@ -2,7 +2,7 @@
 ghost use Rattle.std.specs.Prelude.{◌≡◌, ◌↔◌, ℕ, ◌<◌, ◌≤◌, length, All};
 ghost use Rattle.std.specs.Prelude.{IfSome, IsSome, MatchOption};
 ghost use Rattle.kd_card.specs.Kinds.{look_rank, IsInForm};
-ghost use Rattle.kd_card.specs.Prices.{AreWithinReach};
+ghost use Rattle.kd_card.specs.Prices.{ArePricesInRange};
 ghost use Rattle.kd_card.specs.CardText.{row_name, column_name, price_count};
 ghost use Rattle.kd_card.specs.Proving.{look_at, AreExpanded};
 ghost use Rattle.kd_prices.specs.KindCards.{CanBeByKind, IsByKind, AreByKind, AreAlikePriced};
@@ -62,8 +62,8 @@ fn of_group(
     requires columns { AreThings (column_name group) (price_count group) columns.now }
     requires row_prices { length row_prices.now ≡ price_count group }
     requires column_prices { length column_prices.now ≡ price_count group }
-    requires row_reach { AreWithinReach row_prices.now }
-    requires column_reach { AreWithinReach column_prices.now }
+    requires row_reach { ArePricesInRange row_prices.now }
+    requires column_reach { ArePricesInRange column_prices.now }
     ensures { MatchOption result
         (¬ (AreAlikePriced rows.now row_prices.now × AreAlikePriced columns.now column_prices.now))
         (AreOfGroup group rows.now columns.now row_prices.now column_prices.now) }
@@ -80,7 +80,7 @@ fn kinds_of(looks: &[Look], prices: &[i16]) -> Option<ArrayVec<PricedKind, 27>>
     requires few { length looks.now ≤ 27 }
     requires each { length prices.now ≡ length looks.now }
     requires form { All IsInForm looks.now }
-    requires reach { AreWithinReach prices.now }
+    requires reach { ArePricesInRange prices.now }
     ensures { MatchOption result
         (¬ (AreAlikePriced looks.now prices.now))
         (λ kinds. AreWithPrices looks.now prices.now kinds.items) }
@@ -98,7 +98,7 @@ fn first_kinds(looks: &[Look], prices: &[i16]) -> ArrayVec<PricedKind, 27>
     requires few { length looks.now ≤ 27 }
     requires each { length prices.now ≡ length looks.now }
     requires form { All IsInForm looks.now }
-    requires reach { AreWithinReach prices.now }
+    requires reach { ArePricesInRange prices.now }
     ensures kinds { AreKindsOf looks.now result.items }
     ensures expanded { AreAlikePriced looks.now prices.now
         → AreExpanded looks.now result.items prices.now }

@@ -4,7 +4,7 @@ ghost use Rattle.kd_state.specs.Machine.{model_of};
 ghost use Rattle.kd_state.specs.Setting.{Leads};
 ghost use Rattle.kd_state.specs.SheetDay.{day_model};
 ghost use Rattle.kd_card.specs.Proving as proving;
-ghost use Rattle.kd_prices.specs.Doubt.{SaysCarried, SaysNeeded};
+ghost use Rattle.kd_prices.specs.Doubt.{IsCarriedAnswer, IsNeededAnswer};
 
 use super::doubt::Doubt;
 use kd_card::loose_count;
@@ -19,11 +19,15 @@ pub(crate) struct Walk {
 
 /// Carries out `settings` in turn, and compares the number of loose things before and after each.
 #[tactic(auto, using(kd_state::proofs::Telling::Refusing::stops_at))]
-pub(crate) fn walked(machine: &Machine, day: &SheetDay, settings: &[Setting]) -> Result<Walk, Doubt>
+pub(crate) fn walk_settings(
+    machine: &Machine,
+    day: &SheetDay,
+    settings: &[Setting],
+) -> Result<Walk, Doubt>
     requires { model_of machine.now ≡ day_model day.now }
     ensures leads { IfOk result (λ walk. Leads machine.now settings.now walk.reached) }
-    ensures needed { IfOk result (λ walk. SaysNeeded machine.now day.now settings.now walk.needed) }
-    ensures refused { IfErr result (λ doubt. SaysCarried machine.now settings.now (Err doubt)) }
+    ensures needed { IfOk result (λ walk. IsNeededAnswer machine.now day.now settings.now walk.needed) }
+    ensures refused { IfErr result (λ doubt. IsCarriedAnswer machine.now settings.now (Err doubt)) }
 {
     let mut reached = *machine;
     let mut loose = loose_count(machine, day);
@@ -33,20 +37,20 @@ pub(crate) fn walked(machine: &Machine, day: &SheetDay, settings: &[Setting]) ->
             return Err(Doubt::IllegalAt(place + 1, illegal.why));
         }
         let left = loose_count(&reached, day);
-        needed = needed.and(judged(setting, place + 1, loose, left));
+        needed = needed.and(check_needed(setting, place + 1, loose, left));
         loose = left;
     }
     Ok(Walk { reached, needed })
 }
 
 /// Whether the setting changes a cable or a bar, or one thing less is loose after it.
-fn judged(setting: &Setting, line: usize, before: usize, after: usize) -> Result<(), Doubt>
+fn check_needed(setting: &Setting, line: usize, before: usize, after: usize) -> Result<(), Doubt>
     requires { after ≤ 137 }
-    ensures { let is_needed = IsFalse (proving.is_priced setting.now) → before ≡ after + 1 in
+    ensures { let is_needed = IsFalse (proving.is_priced_setting setting.now) → before ≡ after + 1 in
         MatchResult result (λ _. is_needed)
         (λ doubt. (doubt ≡ Doubt.NeedlessLine line) × ¬ is_needed) }
 {
-    if is_priced(setting) || before == after + 1 {
+    if is_priced_setting(setting) || before == after + 1 {
         Ok(())
     } else {
         Err(Doubt::NeedlessLine(line))
@@ -54,8 +58,8 @@ fn judged(setting: &Setting, line: usize, before: usize, after: usize) -> Result
 }
 
 /// Whether the setting changes a cable or a bar.
-pub(crate) fn is_priced(setting: &Setting) -> bool
-    ensures { result ≡ proving.is_priced setting.now }
+pub(crate) fn is_priced_setting(setting: &Setting) -> bool
+    ensures { result ≡ proving.is_priced_setting setting.now }
 {
     matches!(
         *setting,

@@ -6,23 +6,25 @@ unfoldable pub use Described.*
 -- ---- arrays of texts
 
 -- an array of these texts
-abbrev pub texts : List (List ℕ) → Data
-texts ts = array (items_of (map string ts))
+abbrev pub array_of_texts : List (List ℕ) → Data
+array_of_texts ts = array (items_of (map string ts))
 
-pub texts_read : (key : Key) (ts : List (List ℕ)) → items_in key (texts ts) ≡ Ok (map string ts)
+pub texts_read : (key : Key) (ts : List (List ℕ)) → items_in key (array_of_texts ts) ≡ Ok (map string ts)
 texts_read key ts = ap Ok (list_of-items_of (map string ts))
 
 -- an array of `count` texts, or of at most `count`, is read as `things` if each text is read as its thing
 module _ {X : Type 0} (key : Key) (count : ℕ) (text_of : X → List ℕ) (things : List X)
     (reading : List X → Data → Result X SheetFault)
     (each : (k : ℕ) (x : X) → slice_get things k ≡ Some x → reading (take k things) (string (text_of x)) ≡ Ok x) where
-  pub each_at_again : (table : Members) → value_at key table ≡ Ok (texts (map text_of things)) → length things ≡ count
-      → each_at key count reading table ≡ Ok things
+  pub each_at_again : (table : Members) → value_at key table ≡ Ok (array_of_texts (map text_of things))
+      → length things ≡ count
+      → read_each key count reading table ≡ Ok things
   each_at_again table there counted =
       let read = again reading text_of things each in
-      grind (arith, common_steps, eq-eqb, then_read, items_at, list_of-items_of, passing)
+      grind (arith, common_steps, eq-eqb, then_read, items_at, list_of-items_of, demand-passes)
 
-  pub up_to_again : length things ≤ count → up_to key count reading (texts (map text_of things)) ≡ Ok things
+  pub up_to_again : length things ≤ count
+      → read_up_to key count reading (array_of_texts (map text_of things)) ≡ Ok things
   up_to_again few =
       let read = again reading text_of things each in
       let items = map string (map text_of things) in
@@ -54,12 +56,12 @@ unfolding reflector_by_name
 reflector_again model reflector e = grind arith
 
 -- an array at `key` may have this seat: only a machine file leaves slots empty
-abbrev pub MayStand : Key → Option Wheel → Type 0
-MayStand key None = may_be_empty key ≡ true
-MayStand key (Some wheel) = Unit {0}
+abbrev pub MayBeSeated : Key → Option Wheel → Type 0
+MayBeSeated key None = may_be_empty key ≡ true
+MayBeSeated key (Some wheel) = Unit {0}
 
-seat_again : (key : Key) (model : Model) (slots : List (Option Wheel)) (seat : Option Wheel) → MayStand key seat
-    → AreAllowed model slots → AreApart slots → (k : ℕ) → slice_get slots k ≡ Some seat
+seat_again : (key : Key) (model : Model) (slots : List (Option Wheel)) (seat : Option Wheel) → MayBeSeated key seat
+    → AreWheelsAllowed model slots → AreSeatedOnce slots → (k : ℕ) → slice_get slots k ≡ Some seat
     → seat_of_item key model (take k slots) (string (seat_text seat)) ≡ Ok seat
 unfolding seat_of_item seat_for wheel_for
 seat_again key model slots None may allowed apart k at = rw may refl
@@ -75,23 +77,25 @@ seat_again key model slots (Some wheel) may allowed apart k at =
     rw (named, and-false, wheel_by_name-text wheel, among_them, free) refl
 
 pub seats_in_again : (key : Key) (model : Model) (table : Members) (slots : List (Option Wheel))
-    → value_at key table ≡ Ok (texts (map seat_text slots)) → All (MayStand key) slots → AreSeated model slots
+    → value_at key table ≡ Ok (array_of_texts (map seat_text slots)) → All (MayBeSeated key) slots
+    → AreLegalSeats model slots
     → seats_in key model table ≡ Ok slots
 unfolding seats_in
 seats_in_again key model table slots there may seated =
     each_at_again key (slots_of model) seat_text slots (seat_of_item key model) (λ k seat at.
-    seat_again key model slots seat (held (MayStand key) slots k seat may at) seated.allowed seated.apart k at)
+    seat_again key model slots seat (All-slice_get (MayBeSeated key) slots k seat may at) seated.allowed seated.apart
+    k at)
     table there seated.count
 
 -- ---- cables and pairs
 
 -- the cable with a single letter in its first end, as reading makes it
 abbrev pub single_first : Option ℕ × Option ℕ → Option ℕ × Option ℕ
-single_first cable = cable_of (cable_letters cable)
+single_first cable = cable_with_ends (cable_letters cable)
 
 -- with a single letter first, cables have the same letters and the same texts
 pub same_cables : (cables : List (Option ℕ × Option ℕ))
-    → (plugged_letters (map single_first cables) ≡ plugged_letters cables)
+    → (letters_in_cables (map single_first cables) ≡ letters_in_cables cables)
     × (map cable_text (map single_first cables) ≡ map cable_text cables)
 same_cables [] = (refl, refl)
 same_cables (cable ∷ cables) = grind (arith, same_cables cables)
@@ -100,16 +104,16 @@ abbrev HasSingleFirst : Option ℕ × Option ℕ → Type 0
 HasSingleFirst cable = single_first cable ≡ cable
 
 pub cables_again : (cables : List (Option ℕ × Option ℕ)) → AreCables cables
-    → up_to keys.Cables 13 cable_for (texts (map cable_text cables)) ≡ Ok (map single_first cables)
-unfolding cable_for letters_in_cable
+    → read_up_to keys.Cables 13 cable_for (array_of_texts (map cable_text cables)) ≡ Ok (map single_first cables)
+unfolding cable_for cable_letters_of_text
 cables_again cables are =
     let read = map single_first cables in
     let same = (same_cables cables).0 in
     let free : AreFree cable_letters read = record { within = rw same are.within; apart = rw same are.apart } in
     let all : All HasSingleFirst read = All-map HasSingleFirst single_first cables (λ k d within. grind arith) in
-    ap (λ ts. up_to keys.Cables 13 cable_for (texts ts)) (sym (same_cables cables).1)
+    ap (λ ts. read_up_to keys.Cables 13 cable_for (array_of_texts ts)) (sym (same_cables cables).1)
     ∙ up_to_again keys.Cables 13 cable_text read cable_for (λ k cable at.
-    let is = held HasSingleFirst read k cable all at in
+    let is = All-slice_get HasSingleFirst read k cable all at in
     let new = free_at cable_letters read k cable free at in
     grind (arith, letters_spelled, recursion_from_All, new))
     (omega (arith, are.count, length-map cables single_first))
@@ -117,14 +121,14 @@ cables_again cables are =
 -- ---- pins and bars
 
 pub pins_in_again : (table : Members) (pins : PinSet)
-    → value_at keys.Pins table ≡ Ok (texts (pin_texts pins)) → HasAllPins pins → pins_in table ≡ Ok pins
+    → value_at keys.Pins table ≡ Ok (array_of_texts (pin_texts pins)) → HasAllPins pins → pins_in table ≡ Ok pins
 unfolding pins_in pins_of_item
 pins_in_again table pins there fit = grind (arith, pins_back, fit, then_read, items_at, texts_read)
 
 -- ---- wheels
 
 wheels_again : (wheels : List SheetWheel)
-    → sheet_wheels (seats wheels) (map (λ w. w.ring) wheels) (map (λ w. w.letter) wheels) ≡ wheels
+    → sheet_wheels (seats_of_wheels wheels) (map (λ w. w.ring) wheels) (map (λ w. w.letter) wheels) ≡ wheels
 wheels_again [] = refl
 wheels_again (w ∷ wheels) = ap (λ rest. w ∷ rest) (wheels_again wheels)
 
@@ -132,19 +136,21 @@ wheels_again (w ∷ wheels) = ap (λ rest. w ∷ rest) (wheels_again wheels)
 
 abbrev rotor_day_table : RotorDay → Members
 rotor_day_table s =
-    member (key_name keys.Day) (integer (pos s.day)) (member (key_name keys.Groups) (texts (map letters_text s.groups))
+    member (key_name keys.Day) (integer (pos s.day))
+    (member (key_name keys.Groups) (array_of_texts (map letters_text s.groups))
     (member (key_name keys.Model) (string (model_text s.model))
-    (member (key_name keys.Plugs) (texts (map (λ pair. letters_text (pair_letters pair)) s.pairs))
+    (member (key_name keys.Plugs) (array_of_texts (map (λ pair. letters_text (pair_letters pair)) s.pairs))
     (member (key_name keys.Reflector) (string (reflector_text s.reflector))
     (member (key_name keys.Rings) (string (letters_text (map (λ w. w.ring) s.wheels)))
-    (member (key_name keys.Wheels) (texts (map seat_text (seats s.wheels)))
+    (member (key_name keys.Wheels) (array_of_texts (map seat_text (seats_of_wheels s.wheels)))
     (member (key_name keys.Window) (string (letters_text (map (λ w. w.letter) s.wheels))) no_members)))))))
 
 abbrev pin_day_table : PinDay → Members
 pin_day_table s =
     member (key_name keys.Day) (integer (pos s.day)) (member (key_name keys.List) (string (letters_text s.list))
-    (member (key_name keys.Model) (string (model_text M209)) (member (key_name keys.Pins) (texts (pin_texts s.pins))
-    (member (key_name keys.Rows) (texts (map reading_text s.rows))
+    (member (key_name keys.Model) (string (model_text M209))
+    (member (key_name keys.Pins) (array_of_texts (pin_texts s.pins))
+    (member (key_name keys.Rows) (array_of_texts (map reading_text s.rows))
     (member (key_name keys.Window) (string (letters_text s.window)) no_members)))))
 
 day_by_model : (number : ℕ) (model : Model) (reflector : Reflector) (table : Members) (day : Day)
@@ -165,22 +171,22 @@ groups_in_again : (s : RotorDay) → IsLegalRotorDay s → groups_in (rotor_day_
 unfolding groups_in group_of_item
 groups_in_again s legal =
     up_to_again keys.Groups 4 letters_text s.groups group_for (λ k group at.
-    rw (capitals_again 3 group (held (AreLetters 3) s.groups k group legal.groups at)) refl) legal.few_groups
+    rw (capitals_again 3 group (All-slice_get (AreLetters 3) s.groups k group legal.groups at)) refl) legal.few_groups
 
 -- the rings, or the window letters, of a legal day's wheels are letters of the alphabet, one for each slot
 parts_are : (s : RotorDay) → IsLegalRotorDay s → (part : SheetWheel → ℕ)
-    → ((w : SheetWheel) → HasLetters w → part w < 26) → AreLetters (slots_of s.model) (map part s.wheels)
+    → ((w : SheetWheel) → HasWheelLetters w → part w < 26) → AreLetters (slots_of s.model) (map part s.wheels)
 parts_are s legal part low = record {
   count = length-map s.wheels _ ∙ sym (length-map s.wheels _) ∙ legal.wheels.count;
-  within = All-map (λ letter. letter < 26) _ s.wheels (All-weaker HasLetters _ low s.wheels legal.letters);
+  within = All-map (λ letter. letter < 26) _ s.wheels (All-weaker HasWheelLetters _ low s.wheels legal.letters);
 }
 
 rotor_again : (s : RotorDay) → IsLegalRotorDay s → rotor_day_in s.day s.model (rotor_day_table s) ≡ Ok (OfRotors s)
 unfolding rotor_day_in reflector_in rings_in letters_at
 rotor_again s legal =
     let has = (has_reflector-Decides (reflectors_of s.model) s.reflector).1 legal.reflector in
-    let wheels = seats_in_again keys.Wheels s.model (rotor_day_table s) (seats s.wheels) refl
-    (All-map (MayStand keys.Wheels) _ s.wheels (λ k d within. tt)) legal.wheels in
+    let wheels = seats_in_again keys.Wheels s.model (rotor_day_table s) (seats_of_wheels s.wheels) refl
+    (All-map (MayBeSeated keys.Wheels) _ s.wheels (λ k d within. tt)) legal.wheels in
     let rings = capitals_again _ _ (parts_are s legal (λ w. w.ring) (λ w has. has.ring)) in
     let letters = capitals_again _ _ (parts_are s legal (λ w. w.letter) (λ w has. has.letter)) in
     grind (arith, then_read, reflector_again, pairs_in_again, groups_in_again, wheels_again)
@@ -189,11 +195,11 @@ rows_in_again : (s : PinDay) → IsLegalPinDay s → rows_in (pin_day_table s) �
 unfolding rows_in row_of_text
 rows_in_again s legal =
     each_at_again keys.Rows 27 reading_text s.rows row_for (λ k row at.
-    let is = held IsReading s.rows k row legal.rows at in
+    let is = All-slice_get IsReading s.rows k row legal.rows at in
     grind (arith, le-leb, cases_eq, eq-eqb, is.equal, or-true, ne_eqb)) (pin_day_table s) refl legal.count
 
 pin_again : (s : PinDay) → IsLegalPinDay s → pin_day_in s.day (pin_day_table s) ≡ Ok (OfPins s)
-unfolding pin_day_in shown_in letters_at
+unfolding pin_day_in shown_letters_in letters_at
 pin_again s legal = grind (arith, then_read, rows_in_again, pins_in_again, window_again, capitals_again)
 
 pub legal_is_described : (day : Day) → IsLegalDay day → (table : Members) × (day_in [] table ≡ Ok day)
@@ -234,7 +240,7 @@ unfolding escaped quotes_after needs_escape
 escaped_plain [] plain = refl
 escaped_plain (byte ∷ text) plain = grind (arith, nat_tests, is_other, escaped_plain text)
 
-quoted_is : (text : List ℕ) → IsPlain text → quoted text ≡ string_text text
+quoted_is : (text : List ℕ) → IsPlain text → quoted_text text ≡ string_text text
 unfolding string_text encoding_of
 quoted_is text plain = grind (arith, nat_tests, none_of, is_other, escaped_plain)
 
@@ -249,17 +255,17 @@ plain_low [] plain = refl
 plain_low (byte ∷ text) plain = grind (arith, nat_tests, plain_low text)
 
 -- a line of a file: the key, its value, and the text of the value
-abbrev pub Entry : Type 0
-Entry = Key × Data × List ℕ
+abbrev pub FileEntry : Type 0
+FileEntry = Key × Data × List ℕ
 
-abbrev pub text_entry : Key → List ℕ → Entry
-text_entry key text = (key, string text, quoted text)
+abbrev pub text_entry : Key → List ℕ → FileEntry
+text_entry key text = (key, string text, quoted_text text)
 
-abbrev pub texts_entry : Key → List (List ℕ) → Entry
-texts_entry key ts = (key, texts ts, listed ts)
+abbrev pub texts_entry : Key → List (List ℕ) → FileEntry
+texts_entry key ts = (key, array_of_texts ts, array_text ts)
 
 -- the text is one of the value's texts in TOML, and the parser takes it
-pub record IsWritten (entry : Entry) : Type 0 where
+pub record IsWritten (entry : FileEntry) : Type 0 where
   pub writes : IsValueText false entry.1 entry.2
   pub shallow : depth entry.1 ≤ 80
   pub dated : has_valid_dates entry.1 ≡ true
@@ -270,7 +276,7 @@ text_written key text plain = grind (arith, quoted_is, list_all-append, plain_lo
 
 -- the rest of an array's text after its first item
 abbrev rest_text : List (List ℕ) → List ℕ
-rest_text ts = flat_map (λ text. codes ", " ++ quoted text) ts
+rest_text ts = flat_map (λ text. codes ", " ++ quoted_text text) ts
 
 record AreWritten (ts : List (List ℕ)) : Type 0 where
   writes : IsItemsText false false false (items_of (map string ts)) (rest_text ts ++ codes "]")
@@ -287,16 +293,16 @@ pub texts_written : (key : Key) (ts : List (List ℕ)) → AllByRecursion IsPlai
 texts_written key [] plain = grind arith
 texts_written key (text ∷ ts) plain =
     let rest = are_written ts plain.1 in
-    let writes : IsItemsText false false true (items_of (map string (text ∷ ts))) (quoted text ++
+    let writes : IsItemsText false false true (items_of (map string (text ∷ ts))) (quoted_text text ++
     (rest_text ts ++ codes "]")) = (
-      quoted text,
+      quoted_text text,
       rest_text ts ++ codes "]",
       refl,
       quoted_is text plain.0,
       rest.writes,
     ) in
     record {
-      writes = grind (arith, append_assoc, quoted);
+      writes = grind (arith, append_assoc, quoted_text);
       shallow = rw rest.shallow (omega arith);
       dated = rest.dated;
       low = simp (list_all-append, plain_low text plain.0, rest.low);
@@ -304,10 +310,10 @@ texts_written key (text ∷ ts) plain =
 
 -- ---- the file
 
-abbrev pub line_of : Entry → List ℕ
+abbrev pub line_of : FileEntry → List ℕ
 line_of entry = key_line entry.0 entry.2
 
-abbrev pub expression_of : Entry → Expression
+abbrev pub expression_of : FileEntry → Expression
 expression_of entry = (([], key_name entry.0), key_value entry.1)
 
 key_bare : (key : Key) → key_text (key_name key) ≡ key_name key
@@ -318,7 +324,7 @@ key_low : (key : Key) → list_all is_low (key_name key) ≡ true
 key_low key = grind arith
 
 -- the lines are the text of the entries in TOML, the parser takes them, and their bytes are ASCII
-lines_text : (started : Bool) (entries : List Entry) → AllByRecursion IsWritten entries
+lines_text : (started : Bool) (entries : List FileEntry) → AllByRecursion IsWritten entries
     → IsLinesText false started (map expression_of entries) (concat (map line_of entries))
     × AllPrinted (map expression_of entries) × (list_all is_low (concat (map line_of entries)) ≡ true)
 lines_text started [] all = (refl, tt, refl)
@@ -329,7 +335,7 @@ no_mark : (text : List ℕ) → list_all is_low text ≡ true → skip_bom text 
 unfolding skip_bom
 no_mark text e = grind (arith, ltb-true, ne_eqb)
 
-pub file_read : (entries : List Entry) (table : Members) → AllByRecursion IsWritten entries
+pub file_read : (entries : List FileEntry) (table : Members) → AllByRecursion IsWritten entries
     → option_map (λ doc. close doc.0) (run (no_nodes, []) (map expression_of entries)) ≡ Some table
     → document_of (concat (map line_of entries)) ≡ Ok table
 unfolding parse_document
@@ -363,7 +369,7 @@ seats_plain : (slots : List (Option Wheel)) → AllByRecursion IsPlain (map seat
 seats_plain [] = tt
 seats_plain (seat ∷ slots) = grind (arith, seats_plain slots)
 
-cables_plain : (cables : List (Option ℕ × Option ℕ)) → AllByRecursion (λ letter. letter < 26) (plugged_letters cables)
+cables_plain : (cables : List (Option ℕ × Option ℕ)) → AllByRecursion (λ letter. letter < 26) (letters_in_cables cables)
     → AllByRecursion IsPlain (map cable_text cables)
 cables_plain [] within = tt
 cables_plain (cable ∷ cables) within = grind (arith, all_parts, letters_plain, cables_plain cables)
@@ -380,14 +386,14 @@ bars_plain (bar ∷ bars) = grind (arith, list_all-append, bars_plain bars)
 
 -- ---- version and model
 
-abbrev version_entry : Model → Entry
-version_entry model = (keys.Version, integer (pos (version_of model)), figure (version_of model))
+abbrev version_entry : Model → FileEntry
+version_entry model = (keys.Version, integer (pos (file_version model)), digit_text (file_version model))
 
 version_written : (model : Model) → IsWritten (version_entry model)
 unfolding digits
 version_written model = grind arith
 
-version_again : (model : Model) → number_to 2 (integer (pos (version_of model))) ≡ Some (version_of model)
+version_again : (model : Model) → number_up_to 2 (integer (pos (file_version model))) ≡ Some (file_version model)
 version_again model = grind arith
 
 ruleset are_plain = (
@@ -404,20 +410,21 @@ ruleset are_plain = (
 )
 
 -- a table whose version, model and parts are read is read as the machine of these parts
-machine_in-parts : (model : Model) (table : Members) (m : Parts) → version_in table ≡ Ok (version_of model)
+machine_in-parts : (model : Model) (table : Members) (m : Parts) → version_in table ≡ Ok (file_version model)
     → model_in table ≡ Ok model → parts_in model table ≡ Ok m → machine_in table ≡ Ok m
 unfolding machine_in known_model_in
-machine_in-parts model table m version is parts = grind (arith, then_read, passing)
+machine_in-parts model table m version is parts = grind (arith, then_read, demand-passes)
 
 -- ---- a rotor machine
 
 -- putting a single letter first keeps the order of each cable's letters
 same_order : (cables : List (Option ℕ × Option ℕ))
-    → map (λ cable. ordered cable.0 cable.1) (map single_first cables) ≡ map (λ cable. ordered cable.0 cable.1) cables
+    → map (λ cable. cable_in_order cable.0 cable.1) (map single_first cables)
+    ≡ map (λ cable. cable_in_order cable.0 cable.1) cables
 same_order [] = refl
 same_order (cable ∷ cables) = grind (arith, same_order cables)
 
-abbrev rotor_entries : RotorParts → List Entry
+abbrev rotor_entries : RotorParts → List FileEntry
 rotor_entries m =
     version_entry m.model ∷ text_entry keys.Model (model_text m.model)
     ∷ text_entry keys.Reflector (reflector_text m.reflector) ∷ texts_entry keys.Slots (map seat_text m.slots)
@@ -426,13 +433,13 @@ rotor_entries m =
 
 abbrev rotor_table : RotorParts → Members
 rotor_table m =
-    member (key_name keys.Cables) (texts (map cable_text m.cables))
+    member (key_name keys.Cables) (array_of_texts (map cable_text m.cables))
     (member (key_name keys.Letters) (string (letters_text m.letters))
     (member (key_name keys.Model) (string (model_text m.model))
     (member (key_name keys.Reflector) (string (reflector_text m.reflector))
     (member (key_name keys.Rings) (string (letters_text m.rings))
-    (member (key_name keys.Slots) (texts (map seat_text m.slots))
-    (member (key_name keys.Version) (integer (pos (version_of m.model))) no_members))))))
+    (member (key_name keys.Slots) (array_of_texts (map seat_text m.slots))
+    (member (key_name keys.Version) (integer (pos (file_version m.model))) no_members))))))
 
 rotor_read : (m : RotorParts) → IsLegalRotor m → document_of (machine_text (Rotor m)) ≡ Ok (rotor_table m)
 unfolding machine_text define along_header along_dots at_key
@@ -452,23 +459,24 @@ rotor_parts_again m legal =
 
 by_model : (model : Model) (reflector : Reflector) (table : Members) (m : RotorParts)
     → has_reflector (reflectors_of model) reflector ≡ true → rotor_parts_in model table ≡ Ok m
-    → parts_in model table ≡ Ok (cables_ordered (Rotor m))
+    → parts_in model table ≡ Ok (with_cables_in_order (Rotor m))
 unfolding parts_in
 by_model model reflector table m e d = grind arith
 
 -- ---- a Converter
 
-abbrev pin_entries : PinParts → List Entry
+abbrev pin_entries : PinParts → List FileEntry
 pin_entries m =
     version_entry M209 ∷ text_entry keys.Model (model_text M209) ∷ text_entry keys.Letters (letters_text m.letters)
     ∷ texts_entry keys.Pins (pin_texts m.pins) ∷ texts_entry keys.Bars (map standing_text m.bars) ∷ []
 
 abbrev pin_table : PinParts → Members
 pin_table m =
-    member (key_name keys.Bars) (texts (map standing_text m.bars))
+    member (key_name keys.Bars) (array_of_texts (map standing_text m.bars))
     (member (key_name keys.Letters) (string (letters_text m.letters))
-    (member (key_name keys.Model) (string (model_text M209)) (member (key_name keys.Pins) (texts (pin_texts m.pins))
-    (member (key_name keys.Version) (integer (pos (version_of M209))) no_members))))
+    (member (key_name keys.Model) (string (model_text M209))
+    (member (key_name keys.Pins) (array_of_texts (pin_texts m.pins))
+    (member (key_name keys.Version) (integer (pos (file_version M209))) no_members))))
 
 pin_read : (m : PinParts) → IsLegalPin m → document_of (machine_text (Pin m)) ≡ Ok (pin_table m)
 unfolding machine_text define along_header along_dots at_key
@@ -483,11 +491,11 @@ bars_again : (m : PinParts) → IsLegalPin m → bars_in (pin_table m) ≡ Ok m.
 unfolding bars_in
 bars_again m legal =
     each_at_again keys.Bars 27 standing_text m.bars standing_for (λ k bar at.
-    rw (standing_again bar (held (λ bar. IsBefore bar.0 bar.1) m.bars k bar legal.apart at)) refl)
+    rw (standing_again bar (All-slice_get (λ bar. IsBefore bar.0 bar.1) m.bars k bar legal.apart at)) refl)
     (pin_table m) refl legal.bars
 
 pin_parts_again : (m : PinParts) → IsLegalPin m → pin_parts_in (pin_table m) ≡ Ok m
-unfolding pin_parts_in shown_in
+unfolding pin_parts_in shown_letters_in
 pin_parts_again m legal = grind (arith, then_read, window_again, pins_in_again, bars_again)
 
 -- ---- each machine

@@ -4,9 +4,9 @@ use Rattle.std.specs.Prelude.{ℕ, ◌+◌, ◌-◌, ◌==◌, ◌&&◌, ◌||�
 use Rattle.std.specs.Prelude.{None, Result, ok_or, if◌then◌else◌}
 use Rattle.std.specs.Option.{option_and_then}
 use Rattle.toml.specs.Data.{Data, Members, as_str}
-use Rattle.kd_tables.specs.Places.{in_order}
+use Rattle.kd_tables.specs.Places.{smaller_first}
 use Rattle.kd_tables.specs.declared.place.Place.{Place}
-use Rattle.kd_sheet.specs.Document.{each_at}
+use Rattle.kd_sheet.specs.Document.{read_each}
 use Rattle.kd_sheet.specs.Names.{standing_by_text}
 use Rattle.kd_sheet.specs.declared.key.Key.TheVariants as keys
 use Rattle.kd_sheet.specs.declared.fault.SheetFault.{SheetFault}
@@ -19,21 +19,21 @@ standing_for earlier item = ok_or (option_and_then standing_by_text (as_str item
 
 -- the standings of the 27 bars, from an item for each
 unfoldable pub bars_in : Members → Result (List (Place × Place)) SheetFault
-bars_in table = each_at keys.Bars 27 standing_for table
+bars_in table = read_each keys.Bars 27 standing_for table
 
 -- whether the byte is a digit from 0 to 6
-abbrev pub is_figure : ℕ → Bool
-is_figure byte = nat_le 48 byte && nat_le byte 54
+abbrev pub is_reading_digit : ℕ → Bool
+is_reading_digit byte = nat_le 48 byte && nat_le byte 54
 
 -- whether a bar can read as these two digits: they differ, or both are 0
-abbrev pub may_read : ℕ → ℕ → Bool
-may_read one other = not (one == other) || one == 48
+abbrev pub can_read_as : ℕ → ℕ → Bool
+can_read_as one other = not (one == other) || one == 48
 
 -- the reading that a text gives: two digits with `-` between them, in either order
 unfoldable pub row_of_text : List ℕ → Option (ℕ × ℕ)
 row_of_text (one ∷ dash ∷ other ∷ []) =
-    if ((is_figure one && dash == 45) && is_figure other) && may_read one other
-    then Some (in_order (one - 48) (other - 48)) else None
+    if ((is_reading_digit one && dash == 45) && is_reading_digit other) && can_read_as one other
+    then Some (smaller_first (one - 48) (other - 48)) else None
 row_of_text _ = None
 
 -- The reading that an item gives, for the row after the rows of `earlier`. A fault has the row's number,
@@ -43,4 +43,4 @@ row_for earlier item = ok_or (option_and_then row_of_text (as_str item)) (BadRow
 
 -- the readings of the 27 rows, from an item for each
 unfoldable pub rows_in : Members → Result (List (ℕ × ℕ)) SheetFault
-rows_in table = each_at keys.Rows 27 row_for table
+rows_in table = read_each keys.Rows 27 row_for table

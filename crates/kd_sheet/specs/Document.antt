@@ -25,17 +25,17 @@ abbrev pub ◌>>◌ : {B : Type 0} → Result (Unit {0}) SheetFault → Result B
 test >> reading = test >>= (λ _. reading)
 
 -- The values of the items, in order, or the first fault. Each item is read with the values before it.
-abbrev pub in_turn : {A : Type 0} → (List A → Data → Result A SheetFault) → List Data → Result (List A) SheetFault
-in_turn reading [] = Ok []
-in_turn reading (first ∷ rest) = do
+abbrev pub read_items : {A : Type 0} → (List A → Data → Result A SheetFault) → List Data → Result (List A) SheetFault
+read_items reading [] = Ok []
+read_items reading (first ∷ rest) = do
   value ← reading [] first
-  values ← in_turn (λ earlier. reading (value ∷ earlier)) rest
+  values ← read_items (λ earlier. reading (value ∷ earlier)) rest
   Ok (value ∷ values)
 
 -- `answer` is `meant`, or memory ran out.
-abbrev pub Answers : {A : Type 0} → Result A SheetFault → Result A SheetFault → Type 0
-Answers (Err NoMemory) meant = ⊤
-Answers answer meant = answer ≡ meant
+abbrev pub AgreesOrNoMemory : {A : Type 0} → Result A SheetFault → Result A SheetFault → Type 0
+AgreesOrNoMemory (Err NoMemory) meant = ⊤
+AgreesOrNoMemory answer meant = answer ≡ meant
 
 -- `answer`, with `view` applied to its value
 abbrev pub result_map : {A B : Type 0} → (A → B) → Result A SheetFault → Result B SheetFault
@@ -58,29 +58,30 @@ abbrev pub text_at : Key → Members → Result (List ℕ) SheetFault
 text_at key table = value_at key table >>= (λ value. ok_or (as_str value) (BadValue key))
 
 -- the items of an array, in order
-abbrev pub list_of : Items → List Data
-list_of no_items = []
-list_of (item first rest) = first ∷ list_of rest
+abbrev pub items_list : Items → List Data
+items_list no_items = []
+items_list (item first rest) = first ∷ items_list rest
 
 -- the items of `value`, or `BadValue` if it isn't an array
 abbrev pub items_in : Key → Data → Result (List Data) SheetFault
-items_in key value = ok_or (option_map list_of (as_array value)) (BadValue key)
+items_in key value = ok_or (option_map items_list (as_array value)) (BadValue key)
 
 -- the items of the array at `key`
 abbrev pub items_at : Key → Members → Result (List Data) SheetFault
 items_at key table = value_at key table >>= items_in key
 
 -- the values of the array at `key`, which has to have exactly `count` items
-abbrev pub each_at : {A : Type 0} → Key → ℕ → (List A → Data → Result A SheetFault) → Members
+abbrev pub read_each : {A : Type 0} → Key → ℕ → (List A → Data → Result A SheetFault) → Members
     → Result (List A) SheetFault
-each_at key count reading table = do
+read_each key count reading table = do
   items ← items_at key table
   demand (length items == count) (BadValue key)
-  in_turn reading items
+  read_items reading items
 
 -- the values of an array, which may have at most `count` items
-abbrev pub up_to : {A : Type 0} → Key → ℕ → (List A → Data → Result A SheetFault) → Data → Result (List A) SheetFault
-up_to key count reading value = do
+abbrev pub read_up_to : {A : Type 0} → Key → ℕ → (List A → Data → Result A SheetFault) → Data
+    → Result (List A) SheetFault
+read_up_to key count reading value = do
   items ← items_in key value
   demand (nat_le (length items) count) (BadValue key)
-  in_turn reading items
+  read_items reading items

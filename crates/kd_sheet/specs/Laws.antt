@@ -3,7 +3,7 @@ use Rattle.std.specs.Prelude.{◌≡◌, ◌↔◌, ℕ, List, [], Contains, Opt
 use Rattle.toml.specs.Data as toml
 use Rattle.toml.specs.Data.{Data, Members}
 use Rattle.kd_state.specs.declared.machine.parts.Parts.{Parts}
-use Rattle.kd_state.specs.Machine.{IsLegal, IsMachine, cables_ordered}
+use Rattle.kd_state.specs.Machine.{IsLegal, IsMachine, with_cables_in_order}
 use Rattle.kd_state.specs.SheetDay.{Day, IsLegalDay, day_number}
 use Rattle.kd_sheet.specs.Document.{items_at}
 use Rattle.kd_sheet.specs.MachineFile.{machine_of}
@@ -14,7 +14,7 @@ use Rattle.kd_sheet.specs.declared.key.Key.TheVariants as keys
 
 -- The file of legal parts is read back as their machine, with each cable's letters in order.
 abbrev pub LegalPartsAreReadBack : Type 0
-LegalPartsAreReadBack = (m : Parts) → IsLegal m → machine_of (machine_text m) ≡ Ok (cables_ordered m)
+LegalPartsAreReadBack = (m : Parts) → IsLegal m → machine_of (machine_text m) ≡ Ok (with_cables_in_order m)
 
 -- The file of a machine is read back as this machine.
 abbrev pub WrittenFilesAreReadBack : Type 0

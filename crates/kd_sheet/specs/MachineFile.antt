@@ -6,7 +6,7 @@ use Rattle.kd_tables.specs.Tables.{box_of}
 use Rattle.kd_tables.specs.declared.model.Model.{Model}
 use Rattle.kd_tables.specs.declared.model.Model.TheVariants.{M4, M209}
 use Rattle.kd_tables.specs.declared.reflector.Reflector.{Reflector}
-use Rattle.kd_state.specs.Machine.{cables_ordered}
+use Rattle.kd_state.specs.Machine.{with_cables_in_order}
 use Rattle.kd_state.specs.declared.machine.rotor_parts.RotorParts.{RotorParts}
 use Rattle.kd_state.specs.declared.machine.pin_parts.PinParts.{PinParts}
 use Rattle.kd_state.specs.declared.machine.parts.Parts.{Parts}
@@ -16,8 +16,8 @@ use Rattle.kd_sheet.specs.Document.{◌>>=◌, ◌>>◌, demand, document_of, va
 use Rattle.kd_sheet.specs.Bars.{bars_in}
 use Rattle.kd_sheet.specs.Letters.{letters_at}
 use Rattle.kd_sheet.specs.Names.{model_by_name, reflector_by_name}
-use Rattle.kd_sheet.specs.Numbers.{number_to}
-use Rattle.kd_sheet.specs.PinWheels.{shown_in, pins_in}
+use Rattle.kd_sheet.specs.Numbers.{number_up_to}
+use Rattle.kd_sheet.specs.PinWheels.{shown_letters_in, pins_in}
 use Rattle.kd_sheet.specs.Seats.{seats_in}
 use Rattle.kd_sheet.specs.declared.key.Key.TheVariants as keys
 use Rattle.kd_sheet.specs.declared.fault.SheetFault.{SheetFault}
@@ -27,7 +27,7 @@ use Rattle.kd_sheet.specs.declared.fault.SheetFault.TheVariants.{UnknownModel, B
 unfoldable pub version_in : Members → Result ℕ SheetFault
 version_in table = do
   value ← value_at keys.Version table
-  ok_or (number_to 2 value) (BadValue keys.Version)
+  ok_or (number_up_to 2 value) (BadValue keys.Version)
 
 -- the model with the name that a file gives
 unfoldable pub model_in : Members → Result Model SheetFault
@@ -36,15 +36,15 @@ model_in table = do
   ok_or (model_by_name name) UnknownModel
 
 -- whether a file of `version` may describe a `model`: an M4 needs version 2
-abbrev pub knows : ℕ → Model → Bool
-knows version M4 = version == 2
-knows version _ = true
+abbrev pub is_known_in : ℕ → Model → Bool
+is_known_in version M4 = version == 2
+is_known_in version _ = true
 
 -- the model of a machine file of `version`
 unfoldable pub known_model_in : ℕ → Members → Result Model SheetFault
 known_model_in version table = do
   model ← model_in table
-  demand (knows version model) UnknownModel
+  demand (is_known_in version model) UnknownModel
   Ok model
 
 -- the reflector with the name that a file gives, if it is one of the model's
@@ -66,7 +66,7 @@ rotor_parts_in model table = do
 -- the parts of a Converter M-209
 unfoldable pub pin_parts_in : Members → Result PinParts SheetFault
 pin_parts_in table = do
-  letters ← shown_in keys.Letters table
+  letters ← shown_letters_in keys.Letters table
   pins ← pins_in table
   bars ← bars_in table
   Ok (record { pins = pins; letters = letters; bars = bars })
@@ -74,7 +74,7 @@ pin_parts_in table = do
 -- the parts of a machine of `model`, with each cable's letters in alphabetical order
 unfoldable pub parts_in : Model → Members → Result Parts SheetFault
 parts_in M209 table = pin_parts_in table >>= (λ parts. Ok (Pin parts))
-parts_in model table = rotor_parts_in model table >>= (λ parts. Ok (cables_ordered (Rotor parts)))
+parts_in model table = rotor_parts_in model table >>= (λ parts. Ok (with_cables_in_order (Rotor parts)))
 
 -- the machine that a file's table describes, or its first fault
 unfoldable pub machine_in : Members → Result Parts SheetFault

@@ -3,7 +3,7 @@
 use Rattle.std.specs.Prelude.{codes, ℕ, ◌+◌, Bool, List, [], ◌∷◌, ◌++◌, map, zip, Option, if◌then◌else◌}
 use Rattle.std.specs.List.{concat, flat_map, join_by}
 use Rattle.std.specs.Option.{option_map_or}
-use Rattle.kd_tables.specs.Places.{figure, standing_text}
+use Rattle.kd_tables.specs.Places.{digit_text, standing_text}
 use Rattle.kd_tables.specs.Rings.{ring_of}
 use Rattle.kd_tables.specs.Tables.{model_text, reflector_text, wheel_text}
 use Rattle.kd_tables.specs.declared.model.Model.{Model}
@@ -21,21 +21,21 @@ use Rattle.kd_sheet.specs.declared.key.Key.{Key}
 use Rattle.kd_sheet.specs.declared.key.Key.TheVariants as keys
 
 -- `text` in double quotes
-abbrev pub quoted : List ℕ → List ℕ
-quoted text = codes "\"" ++ text ++ codes "\""
+abbrev pub quoted_text : List ℕ → List ℕ
+quoted_text text = codes "\"" ++ text ++ codes "\""
 
 -- an array of texts in brackets, with a comma and a space between them
-abbrev pub listed : List (List ℕ) → List ℕ
-listed texts = codes "[" ++ join_by quoted (codes ", ") texts ++ codes "]"
+abbrev pub array_text : List (List ℕ) → List ℕ
+array_text texts = codes "[" ++ join_by quoted_text (codes ", ") texts ++ codes "]"
 
 -- the line of a key and its value
 abbrev pub key_line : Key → List ℕ → List ℕ
 key_line key value = key_name key ++ codes " = " ++ value ++ codes "\n"
 
 -- the version of a file that is written for `model`
-abbrev pub version_of : Model → ℕ
-version_of M4 = 2
-version_of _ = 1
+abbrev pub file_version : Model → ℕ
+file_version M4 = 2
+file_version _ = 1
 
 -- the name of the wheel in a slot, or the empty text if the slot is empty
 abbrev pub seat_text : Option Wheel → List ℕ
@@ -46,12 +46,12 @@ abbrev pub cable_text : Option ℕ × Option ℕ → List ℕ
 cable_text cable = letters_text (cable_letters cable)
 
 -- the letter of an effective pin; nothing for another pin
-abbrev pub pin_text : ℕ → Bool → List ℕ
-pin_text letter effective = if effective then (letter + 65) ∷ [] else []
+abbrev pub effective_pin_text : ℕ → Bool → List ℕ
+effective_pin_text letter effective = if effective then (letter + 65) ∷ [] else []
 
 -- the letters of a wheel's effective pins, in the wheel's own order
 abbrev pub pins_text : List ℕ → List Bool → List ℕ
-pins_text ring pins = flat_map (λ (pin : ℕ × Bool). pin_text pin.0 pin.1) (zip ring pins)
+pins_text ring pins = flat_map (λ (pin : ℕ × Bool). effective_pin_text pin.0 pin.1) (zip ring pins)
 
 -- the letters of the effective pins, wheel by wheel
 abbrev pub pin_texts : PinSet → List (List ℕ)
@@ -60,29 +60,29 @@ pin_texts pins =
     ∷ pins_text (ring_of 4) pins.w4 ∷ pins_text (ring_of 5) pins.w5 ∷ pins_text (ring_of 6) pins.w6 ∷ []
 
 -- the first two lines of a file: the version and the model
-abbrev pub head_lines : Model → List (List ℕ)
-head_lines model =
-    key_line keys.Version (figure (version_of model)) ∷ key_line keys.Model (quoted (model_text model)) ∷ []
+abbrev pub head_file_lines : Model → List (List ℕ)
+head_file_lines model =
+    key_line keys.Version (digit_text (file_version model)) ∷ key_line keys.Model (quoted_text (model_text model)) ∷ []
 
 -- the other lines of a rotor machine's file
-abbrev pub rotor_lines : RotorParts → List (List ℕ)
-rotor_lines m =
-    key_line keys.Reflector (quoted (reflector_text m.reflector))
-    ∷ key_line keys.Slots (listed (map seat_text m.slots))
-    ∷ key_line keys.Rings (quoted (letters_text m.rings))
-    ∷ key_line keys.Letters (quoted (letters_text m.letters))
-    ∷ key_line keys.Cables (listed (map cable_text m.cables))
+abbrev pub rotor_file_lines : RotorParts → List (List ℕ)
+rotor_file_lines m =
+    key_line keys.Reflector (quoted_text (reflector_text m.reflector))
+    ∷ key_line keys.Slots (array_text (map seat_text m.slots))
+    ∷ key_line keys.Rings (quoted_text (letters_text m.rings))
+    ∷ key_line keys.Letters (quoted_text (letters_text m.letters))
+    ∷ key_line keys.Cables (array_text (map cable_text m.cables))
     ∷ []
 
 -- the other lines of a Converter's file
-abbrev pub pin_lines : PinParts → List (List ℕ)
-pin_lines m =
-    key_line keys.Letters (quoted (letters_text m.letters))
-    ∷ key_line keys.Pins (listed (pin_texts m.pins))
-    ∷ key_line keys.Bars (listed (map standing_text m.bars))
+abbrev pub converter_file_lines : PinParts → List (List ℕ)
+converter_file_lines m =
+    key_line keys.Letters (quoted_text (letters_text m.letters))
+    ∷ key_line keys.Pins (array_text (pin_texts m.pins))
+    ∷ key_line keys.Bars (array_text (map standing_text m.bars))
     ∷ []
 
 -- the text of a machine's file
 unfoldable pub machine_text : Parts → List ℕ
-machine_text (Rotor m) = concat (head_lines m.model ++ rotor_lines m)
-machine_text (Pin m) = concat (head_lines M209 ++ pin_lines m)
+machine_text (Rotor m) = concat (head_file_lines m.model ++ rotor_file_lines m)
+machine_text (Pin m) = concat (head_file_lines M209 ++ converter_file_lines m)

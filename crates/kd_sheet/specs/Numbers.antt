@@ -7,16 +7,16 @@ use Rattle.std.specs.Option.{option_map}
 use Rattle.toml.specs.Data.{Data, integer}
 
 -- the value, if it is a whole number from 1 to `last`
-abbrev pub number_to : ℕ → Data → Option ℕ
-number_to last (integer (pos number)) = if nat_le 1 number && nat_le number last then Some number else None
-number_to last _ = None
+abbrev pub number_up_to : ℕ → Data → Option ℕ
+number_up_to last (integer (pos number)) = if nat_le 1 number && nat_le number last then Some number else None
+number_up_to last _ = None
 
 -- the letter with a number from 1 to 26, where 1 is A
-abbrev pub numbered_letter : Data → Option ℕ
-numbered_letter item = option_map (λ number. number - 1) (number_to 26 item)
+abbrev pub letter_of_number : Data → Option ℕ
+letter_of_number item = option_map (λ number. number - 1) (number_up_to 26 item)
 
 -- the letters of the items, if these are exactly `count` numbers from 1 to 26
-abbrev pub numbered_letters : ℕ → List Data → Option (List ℕ)
-numbered_letters count items =
-    if length items == count && list_all (λ item. is_some (numbered_letter item)) items
-    then Some (filter_map numbered_letter items) else None
+abbrev pub letters_of_numbers : ℕ → List Data → Option (List ℕ)
+letters_of_numbers count items =
+    if length items == count && list_all (λ item. is_some (letter_of_number item)) items
+    then Some (filter_map letter_of_number items) else None

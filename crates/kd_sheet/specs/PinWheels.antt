@@ -9,7 +9,7 @@ use Rattle.kd_tables.specs.Rings.{ring_of}
 use Rattle.kd_pins.specs.declared.pin_set.PinSet.{PinSet}
 use Rattle.kd_state.specs.Pins.{pin_set}
 use Rattle.kd_state.specs.Setting.{has_letter}
-use Rattle.kd_sheet.specs.Document.{◌>>=◌, each_at, text_at}
+use Rattle.kd_sheet.specs.Document.{◌>>=◌, read_each, text_at}
 use Rattle.kd_sheet.specs.Letters.{capital_letters}
 use Rattle.kd_sheet.specs.declared.key.Key.{Key}
 use Rattle.kd_sheet.specs.declared.key.Key.TheVariants as keys
@@ -26,14 +26,14 @@ letters_on_wheels text =
     option_and_then (λ letters. if are_on_wheels letters then Some letters else None) (capital_letters 6 text)
 
 -- the letters that the six wheels show, read from the text at `key`
-unfoldable pub shown_in : Key → Members → Result (List ℕ) SheetFault
-shown_in key table = do
+unfoldable pub shown_letters_in : Key → Members → Result (List ℕ) SheetFault
+shown_letters_in key table = do
   text ← text_at key table
   ok_or (letters_on_wheels text) (BadValue key)
 
 -- whether the byte is a capital letter of the wheel
-abbrev pub is_on : List ℕ → ℕ → Bool
-is_on ring byte = list_any (λ letter. letter + 65 == byte) ring
+abbrev pub is_letter_of : List ℕ → ℕ → Bool
+is_letter_of ring byte = list_any (λ letter. letter + 65 == byte) ring
 
 -- whether the text has the byte exactly once
 abbrev pub stands_once : List ℕ → ℕ → Bool
@@ -41,7 +41,7 @@ stands_once text byte = count_by (λ other. other == byte) text == 1
 
 -- whether the text has only letters of the wheel, none of them twice
 abbrev pub is_pin_text : List ℕ → List ℕ → Bool
-is_pin_text ring text = list_all (λ byte. is_on ring byte && stands_once text byte) text
+is_pin_text ring text = list_all (λ byte. is_letter_of ring byte && stands_once text byte) text
 
 -- whether the text has this letter
 abbrev pub has_capital : List ℕ → ℕ → Bool
@@ -56,9 +56,9 @@ unfoldable pub pins_of_item : List ℕ → Data → Result (List Bool) SheetFaul
 pins_of_item ring item = ok_or (option_and_then (pins_of_text ring) (as_str item)) (BadValue keys.Pins)
 
 -- the pins of the wheel after the wheels of `earlier`, from an item
-abbrev pub pins_behind : List (List Bool) → Data → Result (List Bool) SheetFault
-pins_behind earlier item = pins_of_item (ring_of (length earlier + 1)) item
+abbrev pub pins_for : List (List Bool) → Data → Result (List Bool) SheetFault
+pins_for earlier item = pins_of_item (ring_of (length earlier + 1)) item
 
 -- the pins of the six wheels, from an item for each
 unfoldable pub pins_in : Members → Result PinSet SheetFault
-pins_in table = each_at keys.Pins 6 pins_behind table >>= (λ pins. Ok (pin_set pins))
+pins_in table = read_each keys.Pins 6 pins_for table >>= (λ pins. Ok (pin_set pins))

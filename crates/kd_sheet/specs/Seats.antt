@@ -8,8 +8,8 @@ use Rattle.toml.specs.Data.{Data, Members, as_str}
 use Rattle.kd_tables.specs.Tables.{slots_of, wheels_for}
 use Rattle.kd_tables.specs.declared.model.Model.{Model}
 use Rattle.kd_tables.specs.declared.wheel.Wheel.{Wheel}
-use Rattle.kd_state.specs.ToldApart.{same_wheel, has_wheel}
-use Rattle.kd_sheet.specs.Document.{◌>>=◌, ◌>>◌, demand, each_at}
+use Rattle.kd_state.specs.SameParts.{same_wheel, has_wheel}
+use Rattle.kd_sheet.specs.Document.{◌>>=◌, ◌>>◌, demand, read_each}
 use Rattle.kd_sheet.specs.Names.{wheel_by_name}
 use Rattle.kd_sheet.specs.declared.key.Key.{Key}
 use Rattle.kd_sheet.specs.declared.key.Key.TheVariants as keys
@@ -22,12 +22,12 @@ may_be_empty keys.Slots = true
 may_be_empty _ = false
 
 -- whether the slot holds this wheel
-abbrev pub holds : Wheel → Option Wheel → Bool
-holds wheel seat = option_map_or (same_wheel wheel) seat false
+abbrev pub holds_wheel : Wheel → Option Wheel → Bool
+holds_wheel wheel seat = option_map_or (same_wheel wheel) seat false
 
 -- whether one of the slots holds this wheel
 unfoldable pub is_seated : List (Option Wheel) → Wheel → Bool
-is_seated slots wheel = list_any (holds wheel) slots
+is_seated slots wheel = list_any (holds_wheel wheel) slots
 
 -- The wheel with this name, or a fault. It has to be allowed in the slot right of `slots`, and may be in none
 -- of these.
@@ -53,4 +53,4 @@ seat_of_item key model slots item = do
 
 -- the wheels in the model's slots, from an item for each
 unfoldable pub seats_in : Key → Model → Members → Result (List (Option Wheel)) SheetFault
-seats_in key model table = each_at key (slots_of model) (seat_of_item key model) table
+seats_in key model table = read_each key (slots_of model) (seat_of_item key model) table

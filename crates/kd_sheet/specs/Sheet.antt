@@ -4,7 +4,7 @@
 use Rattle.std.specs.Prelude.{◌≡◌, ℕ, ◌==◌, List, length, map, find, Option, Some}
 use Rattle.std.specs.List.{range_with_len}
 use Rattle.std.specs.Option.{option_and_then}
-use Rattle.kd_state.specs.ToldApart.{numbered}
+use Rattle.kd_state.specs.SameParts.{numbered_item}
 use Rattle.kd_state.specs.SheetDay.{Day, day_number}
 
 -- for each number from 1 to 31, the first of `days` with this number
@@ -13,7 +13,7 @@ month_of days = map (λ number. find (λ day. day_number day == number) days) (r
 
 -- day `number` of the month, counted from 1, if it has an entry
 abbrev pub day_of : List (Option Day) → ℕ → Option Day
-day_of month number = option_and_then (λ day. day) (numbered month number)
+day_of month number = option_and_then (λ day. day) (numbered_item month number)
 
 -- The month has 31 places, and each day is at its own number.
 pub record IsMonth (month : List (Option Day)) : Type 0 where

@@ -11,13 +11,14 @@ use Rattle.kd_tables.specs.declared.wheel.Wheel.{Wheel}
 use Rattle.kd_state.specs.SheetDay.{Day, OfRotors, OfPins, day_number}
 use Rattle.kd_state.specs.declared.sheet_day.rotor_entry.SheetWheel.{SheetWheel}
 use Rattle.kd_sheet.specs.Cables.{pairs_in}
-use Rattle.kd_sheet.specs.Document.{◌>>=◌, ◌>>◌, demand, document_of, in_turn, value_at, list_of, items_at, up_to}
+use Rattle.kd_sheet.specs.Document.{◌>>=◌, ◌>>◌, demand, document_of, read_items, value_at, items_list, items_at}
+use Rattle.kd_sheet.specs.Document.{read_up_to}
 use Rattle.kd_sheet.specs.Bars.{rows_in}
 use Rattle.kd_sheet.specs.Key.{key_name}
 use Rattle.kd_sheet.specs.Letters.{capital_letters, letters_at}
 use Rattle.kd_sheet.specs.MachineFile.{model_in, reflector_in}
-use Rattle.kd_sheet.specs.Numbers.{number_to, numbered_letters}
-use Rattle.kd_sheet.specs.PinWheels.{shown_in, pins_in}
+use Rattle.kd_sheet.specs.Numbers.{number_up_to, letters_of_numbers}
+use Rattle.kd_sheet.specs.PinWheels.{shown_letters_in, pins_in}
 use Rattle.kd_sheet.specs.Seats.{seats_in}
 use Rattle.kd_sheet.specs.Sheet.{month_of}
 use Rattle.kd_sheet.specs.declared.key.Key.TheVariants as keys
@@ -28,7 +29,7 @@ use Rattle.kd_sheet.specs.declared.fault.SheetFault.TheVariants.{BadValue, DayTw
 unfoldable pub number_in : Members → Result ℕ SheetFault
 number_in table = do
   value ← value_at keys.Day table
-  ok_or (number_to 31 value) (BadValue keys.Day)
+  ok_or (number_up_to 31 value) (BadValue keys.Day)
 
 -- the number of a day, if none of `days` has it
 unfoldable pub new_number_in : List Day → Members → Result ℕ SheetFault
@@ -40,7 +41,7 @@ new_number_in days table = do
 -- exactly `count` rings, from a text of capital letters, or from an array of numbers where 1 is A
 abbrev pub rings_of : ℕ → Data → Option (List ℕ)
 rings_of count (string text) = capital_letters count text
-rings_of count (array items) = numbered_letters count (list_of items)
+rings_of count (array items) = letters_of_numbers count (items_list items)
 rings_of count _ = None
 
 -- the rings for the model's slots
@@ -59,7 +60,7 @@ group_for earlier item = ok_or (group_of_item item) (BadValue keys.Groups)
 
 -- the groups, at most four; there are none if the key is missing
 unfoldable pub groups_in : Members → Result (List (List ℕ)) SheetFault
-groups_in table = option_map_or (up_to keys.Groups 4 group_for) (get_member (key_name keys.Groups) table) (Ok [])
+groups_in table = option_map_or (read_up_to keys.Groups 4 group_for) (get_member (key_name keys.Groups) table) (Ok [])
 
 -- the wheels of the slots, each with its ring and its window letter
 abbrev pub sheet_wheels : List (Option Wheel) → List ℕ → List ℕ → List SheetWheel
@@ -90,7 +91,7 @@ unfoldable pub pin_day_in : ℕ → Members → Result Day SheetFault
 pin_day_in number table = do
   rows ← rows_in table
   pins ← pins_in table
-  window ← shown_in keys.Window table
+  window ← shown_letters_in keys.Window table
   list ← letters_at keys.List 2 table
   Ok (OfPins (record { day = number; rows = rows; pins = pins; window = window; list = list }))
 
@@ -116,7 +117,7 @@ day_for days item = do
 unfoldable pub sheet_in : Members → Result (List (Option Day)) SheetFault
 sheet_in table = do
   items ← items_at keys.Day table
-  days ← in_turn day_for items
+  days ← read_items day_for items
   Ok (month_of days)
 
 -- the month that a sheet's bytes describe, or the first fault

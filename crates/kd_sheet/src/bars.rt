@@ -1,7 +1,8 @@
 //! Reads the bars' standings in a machine file, and the bars' readings in a key sheet.
 ghost use Rattle.std.specs.{Prelude.{◌≡◌, ◌+◌, is_some, IfSome}, Option.{option_and_then}};
 ghost use Rattle.toml.specs.{Data.{as_str}, View.{view, table_view}};
-ghost use Rattle.kd_sheet.specs.Bars.{standing_for, bars_in, is_figure, may_read, row_of_text, row_for, rows_in};
+ghost use Rattle.kd_sheet.specs.Bars.{standing_for, bars_in, is_reading_digit, can_read_as, row_of_text, row_for};
+ghost use Rattle.kd_sheet.specs.Bars.{rows_in};
 ghost use Rattle.kd_sheet.specs.Names.{standing_by_text};
 
 use super::fault::SheetFault;
@@ -24,7 +25,7 @@ fn standing_of_item(item: &Value) -> Option<Standing>
 impl FromItem<()> for Standing {
     ghost reading = { λ _. standing_for };
 
-    fn read(_given: &(), before: &[Self], item: &Value) -> Result<Self, SheetFault> {
+    fn read_item(_given: &(), before: &[Self], item: &Value) -> Result<Self, SheetFault> {
         standing_of_item(item).ok_or(SheetFault::BadRow(before.len() as u8 + 1))
     }
 }
@@ -41,7 +42,7 @@ pub fn bars_in(table: &Table) -> Result<[Standing; BARS], SheetFault>
 /// The value of a digit from 0 to 6.
 fn digit_value(byte: u8) -> Option<u8>
     ensures value { IfSome result (λ number. byte ≡ number + 48) }
-    ensures exists { is_some result ≡ is_figure byte }
+    ensures exists { is_some result ≡ is_reading_digit byte }
 {
     match byte {
         b'0'..=b'6' => Some(byte - b'0'),
@@ -64,7 +65,7 @@ fn row_of_item(item: &Value) -> Option<Reading>
 impl FromItem<()> for Reading {
     ghost reading = { λ _. row_for };
 
-    fn read(_given: &(), before: &[Self], item: &Value) -> Result<Self, SheetFault> {
+    fn read_item(_given: &(), before: &[Self], item: &Value) -> Result<Self, SheetFault> {
         row_of_item(item).ok_or(SheetFault::BadRow(before.len() as u8 + 1))
     }
 }

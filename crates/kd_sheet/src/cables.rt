@@ -3,7 +3,8 @@ ghost use Rattle.std.specs.Prelude.{◌≡◌, ◌≤◌, Some, None, length, If
 ghost use Rattle.std.specs.{List.{flat_map}, Option.{option_map, option_and_then}};
 ghost use Rattle.toml.specs.{Data.{as_str}, View.{view, table_view}};
 ghost use Rattle.kd_state.specs.{Machine.{cable_letters}, Setting.{has_letter}};
-ghost use Rattle.kd_sheet.specs.Cables.{letters_in_cable, cable_of, cable_for, thirteen, cables_in};
+ghost use Rattle.kd_sheet.specs.Cables.{cable_letters_of_text, cable_with_ends, cable_for, filled_to_thirteen};
+ghost use Rattle.kd_sheet.specs.Cables.{cables_in};
 ghost use Rattle.kd_sheet.specs.{Cables.{pair_letters, pair_for, pairs_in}, Document.{result_map}};
 
 use super::document::{find_at, value_at};
@@ -12,7 +13,7 @@ use super::items::{FromItem, read_up_to};
 use super::key::Key;
 use super::letters::{capital_letters, letters_of_item};
 use arrayvec::ArrayVec;
-use kd_state::{Cable, is_new};
+use kd_state::{Cable, are_new_letters};
 use kd_tables::Letter;
 use toml::{Table, Value};
 
@@ -26,12 +27,12 @@ type Pair = (Letter, Letter);
 pub type Pairs = ArrayVec<Pair, CABLES>;
 
 /// Reads the letters in one cable: at most two.
-#[tactic(auto, unfolding(crate::specs::Cables::letters_in_cable))]
+#[tactic(auto, unfolding(crate::specs::Cables::cable_letters_of_text))]
 fn cable_of_item(item: &Value) -> Option<Cable>
     ensures value { result
-        ≡ option_map cable_of (option_and_then letters_in_cable (as_str (view item.now))) }
+        ≡ option_map cable_with_ends (option_and_then cable_letters_of_text (as_str (view item.now))) }
     ensures letters { IfSome result (λ cable.
-        option_and_then letters_in_cable (as_str (view item.now)) ≡ Some (cable_letters cable)) }
+        option_and_then cable_letters_of_text (as_str (view item.now)) ≡ Some (cable_letters cable)) }
 {
     let text = item.as_str()?.as_bytes();
     if text.len() > 2 {
@@ -47,9 +48,9 @@ impl FromItem<()> for Cable {
     ghost reading = { λ _. cable_for };
 
     #[tactic(auto, unfolding(crate::specs::Cables::cable_for))]
-    fn read(_given: &(), before: &[Self], item: &Value) -> Result<Self, SheetFault> {
+    fn read_item(_given: &(), before: &[Self], item: &Value) -> Result<Self, SheetFault> {
         let cable = cable_of_item(item).ok_or(SheetFault::BadValue(Key::Cables))?;
-        if !is_new(&cable, before) {
+        if !are_new_letters(&cable, before) {
             return Err(SheetFault::LetterTwice);
         }
         Ok(cable)
@@ -57,9 +58,9 @@ impl FromItem<()> for Cable {
 }
 
 /// `cables`, followed by empty ones up to 13.
-fn fill_up(cables: &[Cable]) -> [Cable; CABLES]
+fn fill_up_cables(cables: &[Cable]) -> [Cable; CABLES]
     requires { length cables.now ≤ 13 }
-    ensures { result ≡ thirteen cables.now }
+    ensures { result ≡ filled_to_thirteen cables.now }
 {
     let mut all = [(None, None); CABLES];
     all[..cables.len()].copy_from_slice(cables);
@@ -75,16 +76,16 @@ pub fn cables_in(table: &Table) -> Result<[Cable; CABLES], SheetFault>
         Some(value) => read_up_to(value, Key::Cables)?,
         None => ArrayVec::new(),
     };
-    Ok(fill_up(cables.as_slice()))
+    Ok(fill_up_cables(cables.as_slice()))
 }
 
 /// Whether `letter` is in one of `pairs`.
-fn is_plugged(pairs: &[Pair], letter: Letter) -> bool
+fn is_in_pairs(pairs: &[Pair], letter: Letter) -> bool
     ensures { result ≡ has_letter (flat_map pair_letters pairs.now) letter }
 {
     match pairs {
         [(one, other), rest @ ..] => {
-            *one == letter || *other == letter || is_plugged(rest, letter)
+            *one == letter || *other == letter || is_in_pairs(rest, letter)
         }
         [] => false,
     }
@@ -95,9 +96,9 @@ impl FromItem<()> for Pair {
     ghost reading = { λ _. pair_for };
 
     #[tactic(auto, unfolding(crate::specs::Cables::pair_for))]
-    fn read(_given: &(), before: &[Self], item: &Value) -> Result<Self, SheetFault> {
+    fn read_item(_given: &(), before: &[Self], item: &Value) -> Result<Self, SheetFault> {
         let [one, other] = letters_of_item::<2>(item).ok_or(SheetFault::BadValue(Key::Plugs))?;
-        if one == other || is_plugged(before, one) || is_plugged(before, other) {
+        if one == other || is_in_pairs(before, one) || is_in_pairs(before, other) {
             return Err(SheetFault::LetterTwice);
         }
         Ok((one, other))

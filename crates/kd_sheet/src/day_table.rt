@@ -13,9 +13,9 @@ use super::document::{find_at, text_at, value_at};
 use super::fault::SheetFault;
 use super::items::{FromItem, read_up_to};
 use super::key::Key;
-use super::letters::{letters_of_item, letters_of_text, numbered_slots, slot_letters};
+use super::letters::{letters_of_item, letters_of_text, slot_letters, slots_of_numbers};
 use super::machine_file::reflector_in;
-use super::pin_wheels::{pins_in, shown_in};
+use super::pin_wheels::{pins_in, shown_letters_in};
 use super::seats::seats_in;
 use arrayvec::ArrayVec;
 use kd_state::{PerSlot, SheetDay, SheetWheel};
@@ -29,7 +29,7 @@ fn rings_of(value: &Value, model: Model) -> Option<PerSlot<Letter>>
 {
     match value {
         Value::String(text) => slot_letters(model, text.as_bytes()),
-        Value::Array(items) => numbered_slots(model, items.as_slice()),
+        Value::Array(items) => slots_of_numbers(model, items.as_slice()),
         _ => None,
     }
 }
@@ -58,7 +58,7 @@ impl FromItem<()> for [Letter; 3] {
     ghost reading = { λ _. group_for };
 
     #[tactic(auto, unfolding(crate::specs::SheetFile::group_of_item))]
-    fn read(_given: &(), _before: &[Self], item: &Value) -> Result<Self, SheetFault> {
+    fn read_item(_given: &(), _before: &[Self], item: &Value) -> Result<Self, SheetFault> {
         letters_of_item(item).ok_or(SheetFault::BadValue(Key::Groups))
     }
 }
@@ -145,7 +145,7 @@ fn pin_day_in(table: &Table, day: u8) -> Result<SheetDay, SheetFault>
 {
     let rows = rows_in(table)?;
     let pins = pins_in(table)?;
-    let window = shown_in(table, Key::Window)?;
+    let window = shown_letters_in(table, Key::Window)?;
     let list = list_in(table)?;
     Ok(SheetDay::pin(day, rows, pins, window, list).unwrap())
 }

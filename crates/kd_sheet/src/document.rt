@@ -1,7 +1,8 @@
 //! Parses a TOML document, and finds values, texts and arrays in its table.
 ghost use Rattle.std.specs.Prelude.{◌≡◌, map, option_map};
 ghost use Rattle.toml.specs.{Data.{get_member}, View.{view, table_view}};
-ghost use Rattle.kd_sheet.specs.Document.{Answers, result_map, document_of, value_at, text_at, items_in, items_at};
+ghost use Rattle.kd_sheet.specs.Document.{AgreesOrNoMemory, result_map, document_of, value_at, text_at, items_in};
+ghost use Rattle.kd_sheet.specs.Document.{items_at};
 ghost use Rattle.kd_sheet.specs.Key.{key_name};
 
 use super::fault::SheetFault;
@@ -12,8 +13,8 @@ use toml::{Table, Value};
 
 /// Parses `bytes` as a TOML document.
 #[tactic(auto, using(crate::proofs::ReadBack::Described::Values::InTurn::document_parsed, crate::proofs::ReadBack::Described::Values::InTurn::document_refused))]
-pub fn document(alloc: Global, bytes: &[u8]) -> Result<Table, SheetFault>
-    ensures { Answers (result_map table_view result) (document_of bytes.now) }
+pub fn parse_table(alloc: Global, bytes: &[u8]) -> Result<Table, SheetFault>
+    ensures { AgreesOrNoMemory (result_map table_view result) (document_of bytes.now) }
 {
     match toml::table_from_slice(alloc, bytes) {
         Ok(table) => Ok(table),

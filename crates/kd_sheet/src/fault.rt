@@ -44,13 +44,13 @@ impl SheetFault {
         match *self {
             SheetFault::NotToml => Refusal::NotToml.text(),
             SheetFault::UnknownModel => Refusal::UnknownModel.text(),
-            SheetFault::Missing(key) => Refusal::Missing.with_word(key.name()),
-            SheetFault::BadValue(key) => Refusal::BadValue.with_word(key.name()),
+            SheetFault::Missing(key) => Refusal::Missing.text_with_word(key.name()),
+            SheetFault::BadValue(key) => Refusal::BadValue.text_with_word(key.name()),
             SheetFault::LetterTwice => Refusal::LetterTwice.text(),
             SheetFault::WheelTwice => Refusal::WheelTwice.text(),
             SheetFault::WheelNotAllowed => Refusal::WheelNotAllowed.text(),
-            SheetFault::BadRow(number) => Refusal::BadRow.at(usize::from(number)),
-            SheetFault::DayTwice(day) => Refusal::DayTwice.at(usize::from(day)),
+            SheetFault::BadRow(number) => Refusal::BadRow.text_at(usize::from(number)),
+            SheetFault::DayTwice(day) => Refusal::DayTwice.text_at(usize::from(day)),
             SheetFault::NoMemory => Refusal::NoMemory.text(),
         }
     }

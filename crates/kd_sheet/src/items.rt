@@ -1,7 +1,7 @@
 //! Reads the items of an array one after another. How an item is read may depend on the items before it.
 ghost use Rattle.std.specs.Prelude.{◌≡◌, ◌<◌, ◌≤◌, List, Result, IfOk, map, length};
 ghost use Rattle.toml.specs.{Data.{Data}, View.{view, table_view}};
-ghost use Rattle.kd_sheet.specs.Document.{in_turn, each_at, up_to, result_map};
+ghost use Rattle.kd_sheet.specs.Document.{read_items, read_each, read_up_to, result_map};
 ghost use Rattle.kd_sheet.specs.declared.fault.SheetFault.{SheetFault};
 
 use super::document::{items_at, items_in};
@@ -16,7 +16,7 @@ pub trait FromItem<Given> {
     ghost reading: { Given → List Self → Data → Result Self SheetFault };
 
     /// Reads `item`, which comes after the items `before`.
-    fn read(given: &Given, before: &[Self], item: &Value) -> Result<Self, SheetFault>
+    fn read_item(given: &Given, before: &[Self], item: &Value) -> Result<Self, SheetFault>
         requires { length before.now < 27 }
         ensures { result ≡ reading given.now before.now (view item.now) };
 }
@@ -28,12 +28,12 @@ fn read_items<T: FromItem<G> + Copy + Default, G, const N: usize>(
 ) -> Result<ArrayVec<T, N>, SheetFault>
     requires { (length items.now ≤ N) × (N ≤ 27) }
     ensures value { result_map (λ values. values.items) result
-        ≡ in_turn (T.reading given.now) (map view items.now) }
+        ≡ read_items (T.reading given.now) (map view items.now) }
     ensures count { IfOk result (λ values. length values.items ≡ length items.now) }
 {
     let mut values = ArrayVec::new();
     for item in items {
-        let value = T::read(given, values.as_slice(), item)?;
+        let value = T::read_item(given, values.as_slice(), item)?;
         values.push(value);
     }
     Ok(values)
@@ -48,7 +48,7 @@ pub fn read_each<T: FromItem<G> + Copy + Default, G, const N: usize>(
 ) -> Result<ArrayVec<T, N>, SheetFault>
     requires { (count ≤ N) × (N ≤ 27) }
     ensures value { result_map (λ values. values.items) result
-        ≡ each_at key count (T.reading given.now) (table_view table.now) }
+        ≡ read_each key count (T.reading given.now) (table_view table.now) }
     ensures count { IfOk result (λ values. length values.items ≡ count) }
 {
     let items = items_at(table, key)?;
@@ -65,7 +65,7 @@ pub fn read_up_to<T: FromItem<()> + Copy + Default, const N: usize>(
 ) -> Result<ArrayVec<T, N>, SheetFault>
     requires { N ≤ 27 }
     ensures { result_map (λ values. values.items) result
-        ≡ up_to key N (T.reading tt) (view value.now) }
+        ≡ read_up_to key N (T.reading tt) (view value.now) }
 {
     let items = items_in(value, key)?;
     if items.len() > N {

@@ -2,9 +2,9 @@
 ghost use Rattle.std.specs.{Prelude.{◌≡◌, ◌<◌, ◌≤◌, length, map, IfSome, option_map}, Option.{option_and_then}};
 ghost use Rattle.toml.specs.{Data.{as_str}, View.{view}};
 ghost use Rattle.kd_tables.specs.Tables.{slots_of};
-ghost use Rattle.kd_sheet.specs.{Letters.{capital_letters}, Numbers.{numbered_letter, numbered_letters}};
+ghost use Rattle.kd_sheet.specs.{Letters.{capital_letters}, Numbers.{letter_of_number, letters_of_numbers}};
 
-use super::numbers::number_to;
+use super::numbers::number_up_to;
 use arrayvec::ArrayVec;
 use kd_state::PerSlot;
 use kd_tables::{Letter, Model};
@@ -54,23 +54,23 @@ pub fn slot_letters(model: Model, text: &[u8]) -> Option<PerSlot<Letter>>
 }
 
 /// Reads a number from 1 to 26 as a letter. 1 is A.
-fn numbered_letter(item: &Value) -> Option<Letter>
-    ensures { result ≡ numbered_letter (view item.now) }
+fn letter_of_number(item: &Value) -> Option<Letter>
+    ensures { result ≡ letter_of_number (view item.now) }
 {
-    Letter::new(number_to(item, 26)? - 1)
+    Letter::new(number_up_to(item, 26)? - 1)
 }
 
 /// Reads an array that has a number from 1 to 26 for each slot of `model`. 1 is A.
-pub fn numbered_slots(model: Model, items: &[Value]) -> Option<PerSlot<Letter>>
+pub fn slots_of_numbers(model: Model, items: &[Value]) -> Option<PerSlot<Letter>>
     requires { 0 < slots_of model }
-    ensures { result ≡ numbered_letters (slots_of model) (map view items.now) }
+    ensures { result ≡ letters_of_numbers (slots_of model) (map view items.now) }
 {
     if items.len() != usize::from(model.slots()) {
         return None;
     }
     let mut letters = ArrayVec::<Letter, 4>::new();
     for item in items {
-        letters.push(numbered_letter(item)?);
+        letters.push(letter_of_number(item)?);
     }
     PerSlot::new(letters.as_slice())
 }

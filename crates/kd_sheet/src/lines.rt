@@ -1,17 +1,17 @@
 //! Writes the lines of a machine file: a key, `=` and a value.
 ghost use Rattle.std.specs.{Prelude.{codes, ◌≡◌, ◌+◌, ◌*◌, ◌≤◌, ◌++◌, map, length}, List.{flat_map, join_by}};
 ghost use Rattle.arrayvec.specs.ArrayString.{array_string_len};
-ghost use Rattle.kd_sheet.specs.{Key.{key_name}, MachineText.{quoted, listed, key_line}};
+ghost use Rattle.kd_sheet.specs.{Key.{key_name}, MachineText.{quoted_text, array_text, key_line}};
 
 use super::item_text::ItemText;
 use super::key::Key;
 use arrayvec::ArrayString;
 
 /// The text of a machine file, shorter than 2048 bytes.
-pub type Text = ArrayString<2048>;
+pub type FileText = ArrayString<2048>;
 
 /// Appends `key` and ` = `.
-fn push_key(text: &mut Text, key: Key)
+fn push_key(text: &mut FileText, key: Key)
     requires { array_string_len text.old + 12 ≤ 2048 }
     ensures bytes { text.new.bytes ≡ text.old.bytes ++ (key_name key ++ codes " = ") }
     ensures len { array_string_len text.new ≤ array_string_len text.old + 12 }
@@ -21,9 +21,9 @@ fn push_key(text: &mut Text, key: Key)
 }
 
 /// Appends `value` in double quotes.
-fn push_quoted(text: &mut Text, value: &str)
+fn push_quoted(text: &mut FileText, value: &str)
     requires { array_string_len text.old + length value.now + 2 ≤ 2048 }
-    ensures bytes { text.new.bytes ≡ text.old.bytes ++ quoted value.now }
+    ensures bytes { text.new.bytes ≡ text.old.bytes ++ quoted_text value.now }
     ensures len { array_string_len text.new ≡ array_string_len text.old + length value.now + 2 }
 {
     text.push_str("\"");
@@ -32,7 +32,7 @@ fn push_quoted(text: &mut Text, value: &str)
 }
 
 /// Appends a line whose value is a number of one digit.
-pub fn push_figure_line(text: &mut Text, key: Key, value: &str)
+pub fn push_digit_line(text: &mut FileText, key: Key, value: &str)
     requires { array_string_len text.old + length value.now + 13 ≤ 2048 }
     ensures bytes { text.new.bytes ≡ text.old.bytes ++ key_line key value.now }
     ensures len { array_string_len text.new ≤ array_string_len text.old + length value.now + 13 }
@@ -43,9 +43,9 @@ pub fn push_figure_line(text: &mut Text, key: Key, value: &str)
 }
 
 /// Appends a line whose value is a text.
-pub fn push_text_line(text: &mut Text, key: Key, value: &str)
+pub fn push_text_line(text: &mut FileText, key: Key, value: &str)
     requires { array_string_len text.old + length value.now + 15 ≤ 2048 }
-    ensures bytes { text.new.bytes ≡ text.old.bytes ++ key_line key (quoted value.now) }
+    ensures bytes { text.new.bytes ≡ text.old.bytes ++ key_line key (quoted_text value.now) }
     ensures len { array_string_len text.new ≤ array_string_len text.old + length value.now + 15 }
 {
     push_key(text, key);
@@ -54,37 +54,37 @@ pub fn push_text_line(text: &mut Text, key: Key, value: &str)
 }
 
 /// Appends items, each with a comma and a space before it.
-fn push_rest<T: ItemText>(text: &mut Text, items: &[T])
+fn push_more_items<T: ItemText>(text: &mut FileText, items: &[T])
     requires { array_string_len text.old + 36 * length items.now ≤ 2048 }
     ensures bytes { text.new.bytes ≡ text.old.bytes ++ flat_map
-        (λ text. codes ", " ++ quoted text) (map T.item_text items.now) }
+        (λ text. codes ", " ++ quoted_text text) (map T.item_text items.now) }
     ensures len { array_string_len text.new ≤ array_string_len text.old + 36 * length items.now }
 {
     if let [first, rest @ ..] = items {
         text.push_str(", ");
         push_quoted(text, first.item_text().as_str());
-        push_rest(text, rest);
+        push_more_items(text, rest);
     }
 }
 
 /// Appends items with a comma and a space between them.
-fn push_items<T: ItemText>(text: &mut Text, items: &[T])
+fn push_items<T: ItemText>(text: &mut FileText, items: &[T])
     requires { array_string_len text.old + 36 * length items.now ≤ 2048 }
     ensures bytes { text.new.bytes
-        ≡ text.old.bytes ++ join_by quoted (codes ", ") (map T.item_text items.now) }
+        ≡ text.old.bytes ++ join_by quoted_text (codes ", ") (map T.item_text items.now) }
     ensures len { array_string_len text.new ≤ array_string_len text.old + 36 * length items.now }
 {
     if let [first, rest @ ..] = items {
         push_quoted(text, first.item_text().as_str());
-        push_rest(text, rest);
+        push_more_items(text, rest);
     }
 }
 
 /// Appends a line whose value is an array of texts.
-pub fn push_list_line<T: ItemText>(text: &mut Text, key: Key, items: &[T])
+pub fn push_list_line<T: ItemText>(text: &mut FileText, key: Key, items: &[T])
     requires { array_string_len text.old + 36 * length items.now + 15 ≤ 2048 }
     ensures bytes { text.new.bytes
-        ≡ text.old.bytes ++ key_line key (listed (map T.item_text items.now)) }
+        ≡ text.old.bytes ++ key_line key (array_text (map T.item_text items.now)) }
     ensures len { array_string_len text.new ≤ array_string_len text.old + 36 * length items.now + 15 }
 {
     push_key(text, key);

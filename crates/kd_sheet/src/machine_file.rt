@@ -2,7 +2,7 @@
 ghost use Rattle.std.specs.Prelude.{◌≡◌, ◌≤◌, ◌<◌, length};
 ghost use Rattle.toml.specs.View.{table_view};
 ghost use Rattle.kd_tables.specs.Tables.{box_of, slots_of};
-ghost use Rattle.kd_sheet.specs.Document.{Answers};
+ghost use Rattle.kd_sheet.specs.Document.{AgreesOrNoMemory};
 ghost use Rattle.kd_sheet.specs.{Letters.{letters_at}, Names.{reflector_by_name}};
 ghost use Rattle.kd_sheet.specs.MachineFile.{model_in, reflector_in, rotor_parts_in, pin_parts_in, parts_in};
 ghost use Rattle.kd_sheet.specs.MachineFile.{machine_in};
@@ -10,12 +10,12 @@ ghost use Rattle.kd_sheet.specs.MachineFile.{machine_of};
 
 use super::bars::bars_in;
 use super::cables::cables_in;
-use super::document::{document, text_at};
+use super::document::{parse_table, text_at};
 use super::fault::SheetFault;
 use super::key::Key;
 use super::letters::capital_letters;
 use super::numbers::number_at;
-use super::pin_wheels::{pins_in, shown_in};
+use super::pin_wheels::{pins_in, shown_letters_in};
 use super::seats::seats_in;
 use kd_state::{Machine, PerWheel, PinParts, RotorParts};
 use kd_tables::{Letter, Model, Reflector};
@@ -91,7 +91,7 @@ fn pin_parts_in(table: &Table) -> Result<PinParts, SheetFault>
     ensures { result ≡ pin_parts_in (table_view table.now) }
 {
     Ok(PinParts {
-        letters: shown_in(table, Key::Letters)?,
+        letters: shown_letters_in(table, Key::Letters)?,
         pins: pins_in(table)?,
         bars: bars_in(table)?,
     })
@@ -127,7 +127,7 @@ fn machine_in(table: &Table) -> Result<Machine, SheetFault>
 /// `NoMemory` may come instead of any other answer. Only parsing the document allocates memory, but the
 /// contract doesn't say that memory really ran out.
 pub fn read_machine(alloc: Global, bytes: &[u8]) -> Result<Machine, SheetFault>
-    ensures { Answers result (machine_of bytes.now) }
+    ensures { AgreesOrNoMemory result (machine_of bytes.now) }
 {
-    machine_in(&document(alloc, bytes)?)
+    machine_in(&parse_table(alloc, bytes)?)
 }

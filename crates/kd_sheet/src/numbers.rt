@@ -3,7 +3,7 @@ ghost use Rattle.std.specs.Prelude.{◌≡◌, ◌≤◌, ok_or, IfOk, IfSome};
 ghost use Rattle.toml.specs.View.{view, table_view};
 ghost use Rattle.kd_sheet.specs.Document.{◌>>=◌ as ◌followed_by◌, value_at};
 ghost use Rattle.kd_sheet.specs.declared.fault.SheetFault.TheVariants as faults;
-ghost use Rattle.kd_sheet.specs.Numbers.{number_to};
+ghost use Rattle.kd_sheet.specs.Numbers.{number_up_to};
 
 use super::document::value_at;
 use super::fault::SheetFault;
@@ -11,8 +11,8 @@ use super::key::Key;
 use toml::{Table, Value};
 
 /// Reads `value` as a whole number from 1 to `last`.
-pub fn number_to(value: &Value, last: u8) -> Option<u8>
-    ensures value { result ≡ number_to last (view value.now) }
+pub fn number_up_to(value: &Value, last: u8) -> Option<u8>
+    ensures value { result ≡ number_up_to last (view value.now) }
     ensures within { IfSome result (λ number. (1 ≤ number) × (number ≤ last)) }
 {
     let number = u8::try_from(value.as_integer()?).ok()?;
@@ -22,8 +22,8 @@ pub fn number_to(value: &Value, last: u8) -> Option<u8>
 /// Reads the whole number from 1 to `last` at `key`.
 pub fn number_at(table: &Table, key: Key, last: u8) -> Result<u8, SheetFault>
     ensures value { result ≡ (value_at key (table_view table.now)
-        followed_by (λ value. ok_or (number_to last value) (faults.BadValue key))) }
+        followed_by (λ value. ok_or (number_up_to last value) (faults.BadValue key))) }
     ensures within { IfOk result (λ number. (1 ≤ number) × (number ≤ last)) }
 {
-    number_to(value_at(table, key)?, last).ok_or(SheetFault::BadValue(key))
+    number_up_to(value_at(table, key)?, last).ok_or(SheetFault::BadValue(key))
 }

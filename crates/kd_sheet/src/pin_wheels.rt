@@ -4,9 +4,9 @@ ghost use Rattle.std.specs.{List.{enumerate_from, list_all}, Option.{option_and_
 ghost use Rattle.toml.specs.{Data.{as_str}, View.{view, table_view}};
 ghost use Rattle.kd_tables.specs.Rings.{ring_of};
 ghost use Rattle.kd_state.specs.{Pins.{pin_set}, Setting.{has_letter}};
-ghost use Rattle.kd_sheet.specs.Document.{◌>>=◌ as ◌followed_by◌, in_turn};
-ghost use Rattle.kd_sheet.specs.PinWheels.{letters_on_wheels, shown_in, is_on, stands_once};
-ghost use Rattle.kd_sheet.specs.PinWheels.{is_pin_text, has_capital, pins_of_text, pins_behind, pins_in};
+ghost use Rattle.kd_sheet.specs.Document.{◌>>=◌ as ◌followed_by◌, read_items};
+ghost use Rattle.kd_sheet.specs.PinWheels.{letters_on_wheels, shown_letters_in, is_letter_of, stands_once};
+ghost use Rattle.kd_sheet.specs.PinWheels.{is_pin_text, has_capital, pins_of_text, pins_for, pins_in};
 ghost use Rattle.kd_sheet.specs.declared.fault.SheetFault.TheVariants as faults;
 ghost use Rattle.kd_sheet.specs.declared.key.Key.TheVariants as keys;
 
@@ -43,16 +43,16 @@ fn letters_on_wheels(text: &[u8]) -> Option<[Letter; 6]>
 }
 
 /// Reads the letters that the six wheels show.
-#[tactic(auto, unfolding(crate::specs::PinWheels::shown_in))]
-pub fn shown_in(table: &Table, key: Key) -> Result<[Letter; 6], SheetFault>
-    ensures { result ≡ shown_in key (table_view table.now) }
+#[tactic(auto, unfolding(crate::specs::PinWheels::shown_letters_in))]
+pub fn shown_letters_in(table: &Table, key: Key) -> Result<[Letter; 6], SheetFault>
+    ensures { result ≡ shown_letters_in key (table_view table.now) }
 {
     letters_on_wheels(text_at(table, key)?.as_bytes()).ok_or(SheetFault::BadValue(key))
 }
 
 /// Whether `byte` is a capital letter of `ring`.
 fn is_letter_of(ring: &[Letter], byte: u8) -> bool
-    ensures { result ≡ is_on ring.now byte }
+    ensures { result ≡ is_letter_of ring.now byte }
 {
     for letter in ring {
         if letter.byte() == byte {
@@ -82,7 +82,7 @@ fn is_pin_text(ring: &[Letter], text: &[u8]) -> bool
 }
 
 /// For each of `letters`, whether `text` has it.
-fn letters_in<const N: usize>(letters: &[Letter; N], text: &[u8]) -> [bool; N]
+fn pins_of_letters<const N: usize>(letters: &[Letter; N], text: &[u8]) -> [bool; N]
     ensures { result ≡ map (has_capital text.now) letters.now }
 {
     let mut found = [false; N];
@@ -99,7 +99,7 @@ fn pins_of_item<const N: usize>(ring: &Ring<N>, item: &Value) -> Option<[bool; N
 {
     let text = item.as_str()?.as_bytes();
     let letters = ring.letters();
-    is_pin_text(&letters, text).then_some(letters_in(&letters, text))
+    is_pin_text(&letters, text).then_some(pins_of_letters(&letters, text))
 }
 
 /// Reads the effective pins of the six wheels, an item for each.
@@ -124,7 +124,7 @@ fn pins_of_six(
     five: &Value,
     six: &Value,
 ) -> Option<PinSet>
-    ensures { ok_or result (faults.BadValue keys.Pins) ≡ (in_turn pins_behind
+    ensures { ok_or result (faults.BadValue keys.Pins) ≡ (read_items pins_for
         (view one.now ∷ view two.now ∷ view three.now ∷ view four.now ∷ view five.now ∷ view six.now ∷ [])
         followed_by (λ pins. Ok (pin_set pins))) }
 {

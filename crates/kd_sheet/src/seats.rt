@@ -46,7 +46,7 @@ impl FromItem<(Key, Model)> for Option<Wheel> {
     ghost reading = { λ given. seat_of_item given.0 given.1 };
 
     #[tactic(auto, unfolding(crate::specs::Seats::seat_of_item, crate::specs::Seats::seat_for))]
-    fn read(given: &(Key, Model), before: &[Self], item: &Value) -> Result<Self, SheetFault> {
+    fn read_item(given: &(Key, Model), before: &[Self], item: &Value) -> Result<Self, SheetFault> {
         let (key, model) = *given;
         let name = item.as_str().ok_or(SheetFault::BadValue(key))?;
         if matches!(key, Key::Slots) && name.is_empty() {

@@ -2,11 +2,11 @@
 ghost use Rattle.std.specs.Prelude.{◌≡◌, map, List, IfOk};
 ghost use Rattle.toml.specs.View.{view, table_view};
 ghost use Rattle.kd_state.specs.SheetDay.{Day, IsDayNumber};
-ghost use Rattle.kd_sheet.specs.{Document.{Answers, in_turn, result_map}, Sheet.{month_of}};
+ghost use Rattle.kd_sheet.specs.{Document.{AgreesOrNoMemory, read_items, result_map}, Sheet.{month_of}};
 ghost use Rattle.kd_sheet.specs.SheetFile.{new_number_in, day_for, sheet_of};
 
 use super::day_table::model_day_in;
-use super::document::{document, items_at};
+use super::document::{items_at, parse_table};
 use super::fault::SheetFault;
 use super::key::Key;
 use super::machine_file::model_in;
@@ -17,7 +17,7 @@ use std::alloc::Global;
 use toml::{Table, Value};
 
 /// Reads a day's number. The fault is `DayTwice` if `sheet` has this day already.
-#[tactic(auto, using(crate::proofs::ReadBack::Described::taken), unfolding(crate::specs::SheetFile::new_number_in, crate::specs::SheetFile::number_in))]
+#[tactic(auto, using(crate::proofs::ReadBack::Described::day_of_is_some), unfolding(crate::specs::SheetFile::new_number_in, crate::specs::SheetFile::number_in))]
 fn new_number_in(sheet: &Sheet, table: &Table) -> Result<u8, SheetFault>
     ensures value { (days : List Day) → sheet.now ≡ month_of days
         → result ≡ new_number_in days (table_view table.now) }
@@ -43,7 +43,7 @@ fn day_for(sheet: &Sheet, item: &Value) -> Result<SheetDay, SheetFault>
 /// Reads `items` as the days of a sheet.
 #[tactic(auto, using(crate::proofs::ReadBack::Described::first_month, crate::proofs::ReadBack::Described::Values::InTurn::on_all))]
 fn month_of_items(items: &[Value]) -> Result<Sheet, SheetFault>
-    ensures { result ≡ result_map month_of (in_turn day_for (map view items.now)) }
+    ensures { result ≡ result_map month_of (read_items day_for (map view items.now)) }
 {
     let mut sheet = Sheet::new();
     for item in items {
@@ -59,8 +59,8 @@ fn month_of_items(items: &[Value]) -> Result<Sheet, SheetFault>
 /// contract doesn't say that memory really ran out.
 #[tactic(auto, unfolding(crate::specs::SheetFile::sheet_in))]
 pub fn read_sheet(alloc: Global, bytes: &[u8]) -> Result<Sheet, SheetFault>
-    ensures { Answers result (sheet_of bytes.now) }
+    ensures { AgreesOrNoMemory result (sheet_of bytes.now) }
 {
-    let table = document(alloc, bytes)?;
+    let table = parse_table(alloc, bytes)?;
     month_of_items(items_at(&table, Key::Day)?)
 }

@@ -1,14 +1,15 @@
 //! Writes machine files, of rotor machines and of the Converter M-209.
 ghost use Rattle.std.specs.{Prelude.{◌≡◌, ◌+◌, ◌<◌, ◌≤◌, ◌||◌, ◌++◌, map, length, is_err, Ok}, List.{concat}};
 ghost use Rattle.arrayvec.specs.ArrayString.{array_string_len};
-ghost use Rattle.kd_tables.specs.{Places.{figure}, Writing.{Writes}, Text.{letters_text}};
+ghost use Rattle.kd_tables.specs.{Places.{digit_text}, Writing.{Writes}, Text.{letters_text}};
 ghost use Rattle.kd_state.specs.Machine.{IsLegalRotor, IsLegalPin};
-ghost use Rattle.kd_sheet.specs.{MachineFile.{machine_of}, MachineText.{quoted, key_line, version_of, pins_text}};
-ghost use Rattle.kd_sheet.specs.MachineText.{pin_texts, head_lines, machine_text};
+ghost use Rattle.kd_sheet.specs.{MachineFile.{machine_of}};
+ghost use Rattle.kd_sheet.specs.{MachineText.{quoted_text, key_line, file_version, pins_text}};
+ghost use Rattle.kd_sheet.specs.MachineText.{pin_texts, head_file_lines, machine_text};
 
 use super::item_text::Item;
 use super::key::Key;
-use super::lines::{Text, push_figure_line, push_list_line, push_text_line};
+use super::lines::{FileText, push_digit_line, push_list_line, push_text_line};
 use kd_pins::PinSet;
 use kd_state::{Machine, Parts, PinParts, RotorParts, push_letter};
 use kd_tables::{
@@ -28,18 +29,18 @@ fn letters_text(letters: &[Letter]) -> Item
 }
 
 /// Appends a line whose value is a text of letters.
-fn push_letters_line(text: &mut Text, key: Key, letters: &[Letter])
+fn push_letters_line(text: &mut FileText, key: Key, letters: &[Letter])
     requires room { array_string_len text.old + 47 ≤ 2048 }
     requires few { length letters.now ≤ 32 }
     ensures bytes { text.new.bytes
-        ≡ text.old.bytes ++ key_line key (quoted (letters_text letters.now)) }
+        ≡ text.old.bytes ++ key_line key (quoted_text (letters_text letters.now)) }
     ensures len { array_string_len text.new ≤ array_string_len text.old + 47 }
 {
     push_text_line(text, key, letters_text(letters).as_str());
 }
 
 /// Appends the letters whose pins are effective.
-fn push_pins(text: &mut Item, letters: &[Letter], pins: &[bool])
+fn push_pin_letters(text: &mut Item, letters: &[Letter], pins: &[bool])
     requires room { array_string_len text.old + length letters.now ≤ 32 }
     requires pins { length pins.now ≡ length letters.now }
     ensures { text.new.bytes ≡ text.old.bytes ++ pins_text letters.now pins.now }
@@ -48,7 +49,7 @@ fn push_pins(text: &mut Item, letters: &[Letter], pins: &[bool])
         if *effective {
             push_letter(text, *letter);
         }
-        push_pins(text, letters, pins);
+        push_pin_letters(text, letters, pins);
     }
 }
 
@@ -59,7 +60,7 @@ fn pins_text<const N: usize>(ring: &Ring<N>, pins: &[bool; N]) -> Item
 {
     let mut text = Item::new();
     let letters = ring.letters();
-    push_pins(&mut text, &letters, pins);
+    push_pin_letters(&mut text, &letters, pins);
     text
 }
 
@@ -78,8 +79,8 @@ fn pin_texts(pins: &PinSet) -> [Item; 6]
 }
 
 /// The version in which a file of `model` is written, as a digit.
-fn version_of(model: Model) -> &'static str
-    ensures value { result.now ≡ figure (version_of model) }
+fn file_version(model: Model) -> &'static str
+    ensures value { result.now ≡ digit_text (file_version model) }
 {
     match model {
         Model::M4 => "2",
@@ -88,19 +89,19 @@ fn version_of(model: Model) -> &'static str
 }
 
 /// Writes the first two lines: the version and the model.
-fn head_text(model: Model) -> Text
-    ensures bytes { result.bytes ≡ concat (head_lines model) }
+fn head_text(model: Model) -> FileText
+    ensures bytes { result.bytes ≡ concat (head_file_lines model) }
     ensures len { array_string_len result ≤ 40 }
 {
-    let mut text = Text::new();
-    push_figure_line(&mut text, Key::Version, version_of(model));
+    let mut text = FileText::new();
+    push_digit_line(&mut text, Key::Version, file_version(model));
     push_text_line(&mut text, Key::Model, model.text().as_str());
     text
 }
 
 /// Writes the file of a rotor machine.
 #[tactic(auto, unfolding(crate::specs::MachineText::machine_text))]
-fn rotor_text(parts: &RotorParts) -> Text
+fn rotor_text(parts: &RotorParts) -> FileText
     requires { IsLegalRotor parts.now }
     ensures { result.bytes ≡ machine_text (Parts.Rotor parts.now) }
 {
@@ -115,7 +116,7 @@ fn rotor_text(parts: &RotorParts) -> Text
 
 /// Writes the file of a Converter M-209.
 #[tactic(auto, unfolding(crate::specs::MachineText::machine_text))]
-fn pin_machine_text(parts: &PinParts) -> Text
+fn pin_machine_text(parts: &PinParts) -> FileText
     requires { IsLegalPin parts.now }
     ensures { result.bytes ≡ machine_text (Parts.Pin parts.now) }
 {

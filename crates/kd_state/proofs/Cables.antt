@@ -1,16 +1,17 @@
 -- Lemmas on the letters in cables, and on cables that join exactly a day's pairs.
-use Rattle.kd_state.proofs.Prelude.{common_steps, NoLetterTwice, letters_plugged, AreCables, cable_letters, ordered}
-use Rattle.kd_state.proofs.Prelude.{plugged_letters, AreTheLetters, AreThePairs, IsJoined, IsPaired, Joins, SameLetters}
-use Rattle.kd_state.proofs.Prelude.{are_new, cable_with, cable_without, has_letter, both_ends, and_from, and_parts}
-use Rattle.kd_state.proofs.Prelude.{cond_both, eq-eqb, eqb-false, le-leb, leb-false, not-true, or_from, or_parts}
-use Rattle.kd_state.proofs.Prelude.{true≢false, nat_tests, append_assoc, drop_more, All-contains, All-from_recursion}
-use Rattle.kd_state.proofs.Prelude.{Contains-append_right, recursion_from_All, IsPermutation-append}
-use Rattle.kd_state.proofs.Prelude.{IsPermutation-append_comm, IsPermutation-append_left, IsPermutation-append_right}
-use Rattle.kd_state.proofs.Prelude.{IsPermutation-refl, IsPermutation-trans, none-some, same_Some, slice_get-get_or}
-use Rattle.kd_state.proofs.Prelude.{All, AllByRecursion, is_none, option_map_or, Contains, List, None, Option, Some, []}
-use Rattle.kd_state.proofs.Prelude.{ap, arith, drop, false, filter_map, get_or, length, map, nat_eq, not, refl, rules}
-use Rattle.kd_state.proofs.Prelude.{set, slice_get, suc, true, zero, ℕ, ◌++◌, ◌+◌, ◌<◌, ◌↔◌, ◌∙◌, ◌∷◌, ◌≡◌, ◌≢◌}
-use Rattle.kd_state.proofs.Prelude.{IsDistinct, IsPermutation, TestsTellLetters, both_ways, sym, ◌&&◌}
+use Rattle.kd_state.proofs.Prelude.{common_steps, NoLetterTwice, letters_in_pairs, AreCables, cable_letters}
+use Rattle.kd_state.proofs.Prelude.{cable_in_order, letters_in_cables, AreLettersOfPair, AreThePairs, IsPairJoined}
+use Rattle.kd_state.proofs.Prelude.{IsCablePaired, HasPairLetters, HaveSameLetters, are_new_letters, cable_with}
+use Rattle.kd_state.proofs.Prelude.{cable_without, has_letter, pair_of_ends, and_from, and_parts, cond_both, eq-eqb}
+use Rattle.kd_state.proofs.Prelude.{eqb-false, le-leb, leb-false, not-true, or_from, or_parts, true≢false, nat_tests}
+use Rattle.kd_state.proofs.Prelude.{append_assoc, drop_more, All-contains, All-from_recursion, Contains-append_right}
+use Rattle.kd_state.proofs.Prelude.{recursion_from_All, IsPermutation-append, IsPermutation-append_comm}
+use Rattle.kd_state.proofs.Prelude.{IsPermutation-append_left, IsPermutation-append_right, IsPermutation-refl}
+use Rattle.kd_state.proofs.Prelude.{IsPermutation-trans, none-some, same_Some, slice_get-get_or, All, AllByRecursion}
+use Rattle.kd_state.proofs.Prelude.{is_none, option_map_or, Contains, List, None, Option, Some, [], ap, arith, drop}
+use Rattle.kd_state.proofs.Prelude.{false, filter_map, get_or, length, map, nat_eq, not, refl, rules, set, slice_get}
+use Rattle.kd_state.proofs.Prelude.{suc, true, zero, ℕ, ◌++◌, ◌+◌, ◌<◌, ◌↔◌, ◌∙◌, ◌∷◌, ◌≡◌, ◌≢◌, IsDistinct}
+use Rattle.kd_state.proofs.Prelude.{IsPermutation, TestsTellLetters, both_ways, sym, ◌&&◌}
 use Rattle.{kd_state.proofs.Slots.has_letter-Decides, std.proofs.Common.Any}
 use Rattle.kd_enigma.specs.Plugs as plugs
 
@@ -18,10 +19,11 @@ pub eqb_flips : (x y : ℕ) → nat_eq x y ≡ nat_eq y x
 eqb_flips x y = grind (arith, nat_tests)
 
 -- a letter isn't among the letters exactly if it equals none of them
-pub free_tells : (letters : List ℕ) (letter : ℕ)
+pub has_letter-AllByRecursion : (letters : List ℕ) (letter : ℕ)
     → (has_letter letters letter ≡ false) ↔ AllByRecursion (λ other. nat_eq letter other ≡ false) letters
-free_tells [] letter = (λ _. tt, λ _. refl)
-free_tells (other ∷ letters) letter = grind (arith, or_parts, or_from, eqb_flips, free_tells letters letter)
+has_letter-AllByRecursion [] letter = (λ _. tt, λ _. refl)
+has_letter-AllByRecursion (other ∷ letters) letter = grind
+    (arith, or_parts, or_from, eqb_flips, has_letter-AllByRecursion letters letter)
 
 -- two lists have the same letters exactly if each letter is in both or in neither
 pub tests_tell_letters : TestsTellLetters
@@ -33,47 +35,50 @@ tests_tell_letters xs ys = (
   ),
 )
 
--- letters before others are all different exactly if `are_new` says so and the others are all different
+-- letters before others are all different exactly if `are_new_letters` says so and the others are all different
 pub new_tells : (letters others : List ℕ)
-    → IsDistinct nat_eq (letters ++ others) ↔ ((are_new letters others ≡ true) × IsDistinct nat_eq others)
+    → IsDistinct nat_eq (letters ++ others) ↔ ((are_new_letters letters others ≡ true) × IsDistinct nat_eq others)
 unfolding IsDistinct
 new_tells [] others = (λ h. (refl, h), λ h. h.1)
-new_tells (letter ∷ letters) others = grind (arith, and_parts, and_from, not-true, free_tells, new_tells letters others)
+new_tells (letter ∷ letters) others = grind
+    (arith, and_parts, and_from, not-true, has_letter-AllByRecursion, new_tells letters others)
 
-pub no_letters : IsDistinct nat_eq []
+pub IsDistinct-nil : IsDistinct nat_eq []
 unfolding IsDistinct
-no_letters = tt
+IsDistinct-nil = tt
 
 -- putting a cable in order permutes its letters
 pub ordered_moves : (one other : Option ℕ)
-    → IsPermutation (cable_letters (one, other)) (cable_letters (ordered one other))
+    → IsPermutation (cable_letters (one, other)) (cable_letters (cable_in_order one other))
 ordered_moves one other = grind (arith, cond_both, IsPermutation-append_comm)
 
 abbrev pub all_ordered : List (Option ℕ × Option ℕ) → List (Option ℕ × Option ℕ)
-all_ordered cables = map (λ cable. ordered cable.0 cable.1) cables
+all_ordered cables = map (λ cable. cable_in_order cable.0 cable.1) cables
 
 pub all_ordered_move : (cables : List (Option ℕ × Option ℕ))
-    → IsPermutation (plugged_letters cables) (plugged_letters (all_ordered cables))
+    → IsPermutation (letters_in_cables cables) (letters_in_cables (all_ordered cables))
 all_ordered_move [] = IsPermutation-refl []
-all_ordered_move (cable ∷ cables) = grind (arith, IsPermutation-append, ordered, ordered_moves, all_ordered_move cables)
+all_ordered_move (cable ∷ cables) = grind
+    (arith, IsPermutation-append, cable_in_order, ordered_moves, all_ordered_move cables)
 
 -- the cable is in order
-IsOrdered : Option ℕ × Option ℕ → Type 0
-IsOrdered cable = ordered cable.0 cable.1 ≡ cable
+IsCableOrdered : Option ℕ × Option ℕ → Type 0
+IsCableOrdered cable = cable_in_order cable.0 cable.1 ≡ cable
 
-pub ordered_again : (one other : Option ℕ) → ordered (ordered one other).0 (ordered one other).1 ≡ ordered one other
-unfolding IsOrdered
-ordered_again one other = grind (arith, cond_both, IsOrdered, le-leb, leb-false)
+pub ordered_again : (one other : Option ℕ)
+    → cable_in_order (cable_in_order one other).0 (cable_in_order one other).1 ≡ cable_in_order one other
+unfolding IsCableOrdered
+ordered_again one other = grind (arith, cond_both, IsCableOrdered, le-leb, leb-false)
 
 pub all_ordered_again : (cables : List (Option ℕ × Option ℕ)) → all_ordered (all_ordered cables) ≡ all_ordered cables
 all_ordered_again [] = refl
-all_ordered_again (cable ∷ cables) = grind (arith, ordered_again, ordered, all_ordered_again cables)
+all_ordered_again (cable ∷ cables) = grind (arith, ordered_again, cable_in_order, all_ordered_again cables)
 
 pub without_ordered : (letter : ℕ) (one other : Option ℕ)
-    → ordered (cable_without letter (one, other)).0 (cable_without letter (one, other)).1
+    → cable_in_order (cable_without letter (one, other)).0 (cable_without letter (one, other)).1
     ≡ cable_without letter (one, other)
-unfolding IsOrdered
-without_ordered letter one other = grind (arith, cond_both, IsOrdered)
+unfolding IsCableOrdered
+without_ordered letter one other = grind (arith, cond_both, IsCableOrdered)
 
 -- a letter taken out of its cable, and the letters that stay, are the cable's letters
 pub without_moves : (letter : ℕ) (one other : Option ℕ) → has_letter (cable_letters (one, other)) letter ≡ true
@@ -82,9 +87,11 @@ without_moves letter one other h =
     grind (arith, true≢false, eq-eqb, Some, IsPermutation-append_comm (cable_letters (one, None)) (letter ∷ []))
 
 -- a letter put into a cable with one letter joins this letter
-after_end : (letter end : ℕ) → IsPermutation (letter ∷ end ∷ []) (cable_letters (ordered (Some end) (Some letter)))
+after_end : (letter end : ℕ) → IsPermutation (letter ∷ end ∷ [])
+    (cable_letters (cable_in_order (Some end) (Some letter)))
 after_end letter end =
-    IsPermutation-trans (letter ∷ end ∷ []) (end ∷ letter ∷ []) (cable_letters (ordered (Some end) (Some letter)))
+    IsPermutation-trans (letter ∷ end ∷ []) (end ∷ letter ∷ [])
+    (cable_letters (cable_in_order (Some end) (Some letter)))
     (IsPermutation-append_comm (letter ∷ []) (end ∷ [])) (ordered_moves (Some end) (Some letter))
 
 pub with_moves : (letter : ℕ) (one other : Option ℕ) → (not (is_none one) && not (is_none other)) ≡ false
@@ -101,39 +108,40 @@ IsPermutation-append_swap first letters rest =
 pub set_moves : (out into : List ℕ) (cables : List (Option ℕ × Option ℕ)) (place : ℕ) (cable new : Option ℕ × Option ℕ)
     → slice_get cables place ≡ Some cable
     → IsPermutation (out ++ cable_letters cable) (into ++ cable_letters new)
-    → IsPermutation (out ++ plugged_letters cables) (into ++ plugged_letters (set cables place new))
+    → IsPermutation (out ++ letters_in_cables cables) (into ++ letters_in_cables (set cables place new))
 set_moves out into [] place cable new here moves = cc
 set_moves out into (first ∷ cables) zero cable new here moves =
     let e : first ≡ cable = cc in
     rw (
       e,
-      ← append_assoc out (cable_letters cable) (plugged_letters cables),
-      ← append_assoc into (cable_letters new) (plugged_letters cables),
+      ← append_assoc out (cable_letters cable) (letters_in_cables cables),
+      ← append_assoc into (cable_letters new) (letters_in_cables cables),
     )
-    (IsPermutation-append_left (plugged_letters cables) (out ++ cable_letters cable) (into ++ cable_letters new) moves)
+    (IsPermutation-append_left (letters_in_cables cables) (out ++ cable_letters cable) (into ++ cable_letters new)
+    moves)
 set_moves out into (first ∷ cables) (suc place) cable new here moves =
     let rest = set_moves out into cables place cable new here moves in
-    IsPermutation-trans _ _ _ (IsPermutation-append_swap out (cable_letters first) (plugged_letters cables))
+    IsPermutation-trans _ _ _ (IsPermutation-append_swap out (cable_letters first) (letters_in_cables cables))
     (IsPermutation-trans _ _ _ (IsPermutation-append_right (cable_letters first) _ _ rest)
-    (IsPermutation-append_swap (cable_letters first) into (plugged_letters (set cables place new))))
+    (IsPermutation-append_swap (cable_letters first) into (letters_in_cables (set cables place new))))
 
 -- the letters in the cables from `place` on are all different exactly if the letters of `cable` are new and
 -- the letters in the cables after it are all different
 pub distinct_from : (cables : List (Option ℕ × Option ℕ)) (place : ℕ) (cable : Option ℕ × Option ℕ)
     → place < length cables → cable ≡ get_or cables place cable
-    → IsDistinct nat_eq (plugged_letters (drop place cables))
-    ↔ ((are_new (cable_letters cable) (plugged_letters (drop (place + 1) cables)) ≡ true)
-    × IsDistinct nat_eq (plugged_letters (drop (place + 1) cables)))
+    → IsDistinct nat_eq (letters_in_cables (drop place cables))
+    ↔ ((are_new_letters (cable_letters cable) (letters_in_cables (drop (place + 1) cables)) ≡ true)
+    × IsDistinct nat_eq (letters_in_cables (drop (place + 1) cables)))
 distinct_from cables place cable within is = grind (arith, drop_more, new_tells)
 
 -- ---- the pairs that cables with two letters exchange
 
 abbrev pub pairs_of : List (Option ℕ × Option ℕ) → List (ℕ × ℕ)
-pairs_of cables = filter_map (λ cable. both_ends cable.0 cable.1) cables
+pairs_of cables = filter_map (λ cable. pair_of_ends cable.0 cable.1) cables
 
 letters_of_pairs : (cables : List (Option ℕ × Option ℕ))
     → AllByRecursion (λ cable. length (cable_letters cable) ≢ 1) cables
-    → plugged_letters cables ≡ letters_plugged (pairs_of cables)
+    → letters_in_cables cables ≡ letters_in_pairs (pairs_of cables)
 letters_of_pairs [] h = refl
 letters_of_pairs (cable ∷ cables) h = grind (arith, letters_of_pairs cables)
 
@@ -145,31 +153,32 @@ pub of_one : (a x : ℕ) → Contains (a ∷ []) x → x ≡ a
 of_one a x e = grind arith
 
 -- two letters that are the letters of a pair are the pair, in one order or the other
-pub same_two : (a b : ℕ) (pair : ℕ × ℕ) → SameLetters (a ∷ b ∷ []) (pair.0 ∷ pair.1 ∷ []) → AreTheLetters a b pair
+pub same_two : (a b : ℕ) (pair : ℕ × ℕ) → HaveSameLetters (a ∷ b ∷ []) (pair.0 ∷ pair.1 ∷ [])
+    → AreLettersOfPair a b pair
 same_two a b pair same =
     let tests = (tests_tell_letters (a ∷ b ∷ []) (pair.0 ∷ pair.1 ∷ [])).0 same in
     grind (arith, nat_tests, tests a, tests b, tests pair.0, tests pair.1)
 
 -- the letters of a day's pair differ
-apart_at : (pairs : List (ℕ × ℕ)) (k : ℕ) (d : ℕ × ℕ) → IsDistinct nat_eq (letters_plugged pairs) → k < length pairs
+apart_at : (pairs : List (ℕ × ℕ)) (k : ℕ) (d : ℕ × ℕ) → IsDistinct nat_eq (letters_in_pairs pairs) → k < length pairs
     → (get_or pairs k d).0 ≢ (get_or pairs k d).1
 unfolding IsDistinct
 apart_at [] k d h below = absurd (omega arith)
 apart_at (pair ∷ pairs) k d h below = grind (arith, common_steps, eqb-false, apart_at pairs)
 
-one_letter : (pairs : List (ℕ × ℕ)) (cable : Option ℕ × Option ℕ) (letter : ℕ) → NoLetterTwice pairs
-    → ((x : ℕ) → Contains (cable_letters cable) x → x ≡ letter) → Any (Joins cable) pairs → ⊥
-one_letter pairs cable letter apart only there =
+HasPairLetters-one_letter : (pairs : List (ℕ × ℕ)) (cable : Option ℕ × Option ℕ) (letter : ℕ) → NoLetterTwice pairs
+    → ((x : ℕ) → Contains (cable_letters cable) x → x ≡ letter) → Any (HasPairLetters cable) pairs → ⊥
+HasPairLetters-one_letter pairs cable letter apart only there =
     let pair = there.1 in
     let unequal = apart_at pairs there.0 pair apart there.2 in
     grind (arith, only pair.0, only pair.1, there.4.letters pair.0, there.4.letters pair.1, unequal)
 
-whole_cable : (pairs : List (ℕ × ℕ)) (cable : Option ℕ × Option ℕ) → NoLetterTwice pairs → IsPaired pairs cable
+whole_cable : (pairs : List (ℕ × ℕ)) (cable : Option ℕ × Option ℕ) → NoLetterTwice pairs → IsCablePaired pairs cable
     → length (cable_letters cable) ≢ 1
 whole_cable pairs (Some a, None) apart paired one =
-    one_letter pairs (Some a, None) a apart (of_one a) (paired.joins (λ none. cc))
+    HasPairLetters-one_letter pairs (Some a, None) a apart (of_one a) (paired.joins (λ none. cc))
 whole_cable pairs (None, Some a) apart paired one =
-    one_letter pairs (None, Some a) a apart (of_one a) (paired.joins (λ none. cc))
+    HasPairLetters-one_letter pairs (None, Some a) a apart (of_one a) (paired.joins (λ none. cc))
 whole_cable pairs cable apart paired one = omega (arith, one)
 
 pub whole_cables : (cables : List (Option ℕ × Option ℕ)) (pairs : List (ℕ × ℕ)) → NoLetterTwice pairs
@@ -192,23 +201,23 @@ both_plugged (None, None) letter whole there = absurd (omega (arith, there.1))
 both_plugged (Some one, Some other) letter whole there = ((one, other), refl)
 both_plugged cable letter whole there = absurd (whole refl)
 
-cable_pairs : (pairs : List (ℕ × ℕ)) (cables : List (Option ℕ × Option ℕ)) → AllByRecursion (IsPaired pairs) cables
-    → AllByRecursion (λ pair. plugs.Joins pairs pair.0 pair.1) (pairs_of cables)
+cable_pairs : (pairs : List (ℕ × ℕ)) (cables : List (Option ℕ × Option ℕ)) → AllByRecursion (IsCablePaired pairs) cables
+    → AllByRecursion (λ pair. plugs.HavePairOf pairs pair.0 pair.1) (pairs_of cables)
 cable_pairs pairs [] h = tt
 cable_pairs pairs ((Some a, Some b) ∷ cables) h = search (rules, pairs, same_two, cable_pairs pairs cables h.1)
 cable_pairs pairs (cable ∷ cables) h = cable_pairs pairs cables h.1
 
 module _ (cables : List (Option ℕ × Option ℕ)) (pairs : List (ℕ × ℕ))
     (whole : All (λ cable. length (cable_letters cable) ≢ 1) cables) (h : AreThePairs cables pairs) where
-  cable_pair : (x y : ℕ) → Contains (pairs_of cables) (x, y) → plugs.Joins pairs x y
+  cable_pair : (x y : ℕ) → Contains (pairs_of cables) (x, y) → plugs.HavePairOf pairs x y
   cable_pair x y there =
-      All-contains (λ (pair : ℕ × ℕ). plugs.Joins pairs pair.0 pair.1) (pairs_of cables) (x, y)
-      (All-from_recursion (λ (pair : ℕ × ℕ). plugs.Joins pairs pair.0 pair.1) (pairs_of cables)
-      (cable_pairs pairs cables (recursion_from_All (IsPaired pairs) cables h.pair))) there
+      All-contains (λ (pair : ℕ × ℕ). plugs.HavePairOf pairs pair.0 pair.1) (pairs_of cables) (x, y)
+      (All-from_recursion (λ (pair : ℕ × ℕ). plugs.HavePairOf pairs pair.0 pair.1) (pairs_of cables)
+      (cable_pairs pairs cables (recursion_from_All (IsCablePaired pairs) cables h.pair))) there
 
-  day_pair : (x y : ℕ) → Contains pairs (x, y) → plugs.Joins (pairs_of cables) x y
+  day_pair : (x y : ℕ) → Contains pairs (x, y) → plugs.HavePairOf (pairs_of cables) x y
   day_pair x y there =
-      let joined = (All-contains (IsJoined cables) pairs (x, y) h.cable there).joins in
+      let joined = (All-contains (IsPairJoined cables) pairs (x, y) h.cable there).joins in
       let cable = joined.1 in
       let at : slice_get cables joined.0 ≡ Some cable =
       slice_get-get_or cables joined.0 cable joined.2 ∙ ap Some joined.3 in
@@ -221,7 +230,7 @@ module _ (cables : List (Option ℕ × Option ℕ)) (pairs : List (ℕ × ℕ))
       let into = Contains-pairs_of cables joined.0 pair.0 pair.1 (at ∙ ap Some ends.1) in
       grind (arith, same, into)
 
-  pub pairs_joined : (x y : ℕ) → plugs.Joins (pairs_of cables) x y ↔ plugs.Joins pairs x y
+  pub pairs_joined : (x y : ℕ) → plugs.HavePairOf (pairs_of cables) x y ↔ plugs.HavePairOf pairs x y
   pairs_joined x y = grind (arith, cable_pair x y, cable_pair y x, day_pair x y, day_pair y x)
 
 -- ---- when a cable's letters are a pair's
@@ -229,14 +238,14 @@ module _ (cables : List (Option ℕ × Option ℕ)) (pairs : List (ℕ × ℕ))
 pub joined_by_tests : (cable : Option ℕ × Option ℕ) (pair : ℕ × ℕ) → has_letter (cable_letters cable) pair.0 ≡ true
     → has_letter (cable_letters cable) pair.1 ≡ true
     → option_map_or (has_letter (pair.0 ∷ pair.1 ∷ [])) cable.0 true ≡ true
-    → option_map_or (has_letter (pair.0 ∷ pair.1 ∷ [])) cable.1 true ≡ true → Joins cable pair
+    → option_map_or (has_letter (pair.0 ∷ pair.1 ∷ [])) cable.1 true ≡ true → HasPairLetters cable pair
 joined_by_tests cable pair a b c d =
     record {
       letters = (tests_tell_letters (cable_letters cable) (pair.0 ∷ pair.1 ∷ [])).1
           (λ letter. grind (arith, nat_tests, a, b, c, d));
     }
 
-pub tests_of_joined : (cable : Option ℕ × Option ℕ) (pair : ℕ × ℕ) → Joins cable pair
+pub tests_of_joined : (cable : Option ℕ × Option ℕ) (pair : ℕ × ℕ) → HasPairLetters cable pair
     → (has_letter (cable_letters cable) pair.0 ≡ true) × (has_letter (cable_letters cable) pair.1 ≡ true)
     × (option_map_or (has_letter (pair.0 ∷ pair.1 ∷ [])) cable.0 true ≡ true)
     × (option_map_or (has_letter (pair.0 ∷ pair.1 ∷ [])) cable.1 true ≡ true)

@@ -1,16 +1,18 @@
 -- Lemmas on costs: counting letters, the columns of a day, and the standings of a row.
 use Rattle.kd_state.proofs.Prelude.{All, All-map, All-nil, AllByRecursion, AllPass-from_list_all, Bool}
 use Rattle.kd_state.proofs.Prelude.{ColumnsAreThePairs, CostTablesAreSquare, IsBefore, IsDistinct, IsReading, List}
-use Rattle.kd_state.proofs.Prelude.{None, OfPins}
-use Rattle.kd_state.proofs.Prelude.{OfRotors, Option, Pin, Place, Rotor, Some, ThirteenColumns, [], alphabet, ap, arith}
-use Rattle.kd_state.proofs.Prelude.{bar_cost, cable_cost, cable_letters, cases_eq, column_letters, columns_of}
-use Rattle.kd_state.proofs.Prelude.{common_steps, count_by, differ, find, get_or, has_letter, inl, inr, le-leb, length}
-use Rattle.kd_state.proofs.Prelude.{length-append, length-map, length-replicate, letters_plugged, ltb-true, map, nat_eq}
-use Rattle.kd_state.proofs.Prelude.{nat_tests, option_to_list, range_with_len, recursion_from_All, refl, rules}
-use Rattle.kd_state.proofs.Prelude.{slice_get, suc, sum_by-cons, sum_by_more, sym, take, true, unwrap_or, zero, ℕ, ◌&&◌}
-use Rattle.kd_state.proofs.{Cables.free_tells, Prelude.{◌++◌, ◌+◌, ◌-◌, ◌<◌, ◌||◌, ◌∙◌, ◌∷◌, ◌≡◌, ◌≢◌, ◌≤◌}}
-use Rattle.kd_state.proofs.SortedAlike.{count_by-cons, once}
-use Rattle.kd_state.specs.Costs.{across, lugs_moved, nearest_standing, place_at, reads_as_row, standings_as}
+use Rattle.kd_state.proofs.Prelude.{None, OfPins, OfRotors, Option, Pin, Place, Rotor, Some, ThirteenColumns, []}
+use Rattle.kd_state.proofs.Prelude.{alphabet, ap, arith, bar_cost, cable_cost, cable_letters, cases_eq, column_letters}
+use Rattle.kd_state.proofs.Prelude.{columns_of, common_steps, count_by, exactly_one, find, get_or, has_letter, inl, inr}
+use Rattle.kd_state.proofs.Prelude.{le-leb, length, length-append, length-map, length-replicate, letters_in_pairs}
+use Rattle.kd_state.proofs.Prelude.{ltb-true, map, nat_eq, nat_tests, option_to_list, range_with_len}
+use Rattle.kd_state.proofs.Prelude.{recursion_from_All, refl, rules, slice_get, suc, sum_by-cons, sum_by_more, sym}
+use Rattle.kd_state.proofs.Prelude.{take, true, unwrap_or, zero, ℕ, ◌&&◌}
+use Rattle.kd_state.proofs.{Cables.has_letter-AllByRecursion}
+use Rattle.kd_state.proofs.{Prelude.{◌++◌, ◌+◌, ◌-◌, ◌<◌, ◌||◌, ◌∙◌, ◌∷◌, ◌≡◌, ◌≢◌, ◌≤◌}}
+use Rattle.kd_state.proofs.SortedAlike.{count_by-cons, one_if}
+use Rattle.kd_state.specs.Costs.{standing_across, lugs_moved, nearest_standing, place_of_pin_wheel, reads_as_row}
+use Rattle.kd_state.specs.Costs.{standings_as}
 use Rattle.kd_tables.specs.{Places.{place_rank, standings}, declared.place.Place.TheVariants.{ZeroLeft, ZeroRight}}
 use Rattle.std.{proofs.Common.{cond, fold, min, nat_lt, replicate, sum_by}, specs.Prelude.nat_le}
 use Rattle.std.proofs.lemmas.List.{Elements.{All-filter, filter_passes}, FromFn.get_or-range_with_len}
@@ -19,26 +21,26 @@ use Rattle.std.proofs.lemmas.List.{Elements.{All-filter, filter_passes}, FromFn.
 
 -- a letter is at most once in a range of numbers, and not at all if it is below the range
 count_by-range_at_most : (letter first number : ℕ)
-    → count_by (λ other. nat_eq letter other) (range_with_len first number) ≤ once (nat_le first letter)
+    → count_by (λ other. nat_eq letter other) (range_with_len first number) ≤ one_if (nat_le first letter)
 count_by-range_at_most letter first zero = omega arith
 count_by-range_at_most letter first (suc number) =
     grind (arith, common_steps, count_by-range_at_most letter (first + 1) number, count_by-cons)
 
 pub counted_more : (p : ℕ → Bool) (index cost more : ℕ) → index < 26 → cost ≡ count_by p (take index alphabet)
-    → more ≡ once (p index)
+    → more ≡ one_if (p index)
     → cost + more ≡ count_by p (take (index + 1) alphabet)
 counted_more p index cost more below e d =
-    let step = sum_by_more (λ x. once (p x)) alphabet index 0 below in
+    let step = sum_by_more (λ x. one_if (p x)) alphabet index 0 below in
     let there : get_or alphabet index 0 ≡ index = get_or-range_with_len 0 26 index 0 below ∙ omega arith in
-    omega (arith, step, e, d, ap (λ x. once (p x)) there)
+    omega (arith, step, e, d, ap (λ x. one_if (p x)) there)
 
 -- a combined test counts at most what its two tests count together
-joined_counts : (f : Bool → Bool → Bool) → ((a b : Bool) → once (f a b) ≤ once a + once b)
+joined_counts : (f : Bool → Bool → Bool) → ((a b : Bool) → one_if (f a b) ≤ one_if a + one_if b)
     → (p q : ℕ → Bool) (xs : List ℕ) → count_by (λ x. f (p x) (q x)) xs ≤ count_by p xs + count_by q xs
 joined_counts f fits p q [] = omega arith
 joined_counts f fits p q (x ∷ xs) = search (rules, count_by-cons, p, q, fits, joined_counts f fits p q xs)
 
-differ_fits : (a b : Bool) → once (differ a b) ≤ once a + once b
+differ_fits : (a b : Bool) → one_if (exactly_one a b) ≤ one_if a + one_if b
 differ_fits a b = grind arith
 
 -- at most as many letters of the alphabet are in a list as it is long
@@ -51,15 +53,16 @@ pub record AreProper (letters : List ℕ) : Type 0 where
   pub apart : IsDistinct nat_eq letters
   pub within : AllByRecursion (λ x. x < 26) letters
 
-pub proper : (letters : List ℕ) → IsDistinct nat_eq letters → All (λ x. x < 26) letters → AreProper letters
-proper letters apart within = record { apart = apart; within = recursion_from_All (λ x. x < 26) letters within }
+pub AreProper-distinct : (letters : List ℕ) → IsDistinct nat_eq letters → All (λ x. x < 26) letters → AreProper letters
+AreProper-distinct letters apart within = record
+    { apart = apart; within = recursion_from_All (λ x. x < 26) letters within }
 
 pub cable_parts : (cable : Option ℕ × Option ℕ) (letters : List ℕ) → AreProper (cable_letters cable ++ letters)
     → AreProper (cable_letters cable) × AreProper letters
 unfolding IsDistinct
 cable_parts cable letters h = grind arith
 
-pub pair_proper : (pairs : List (ℕ × ℕ)) (k : ℕ) → AreProper (letters_plugged pairs)
+pub pair_proper : (pairs : List (ℕ × ℕ)) (k : ℕ) → AreProper (letters_in_pairs pairs)
     → AreProper (column_letters (slice_get pairs k))
 unfolding IsDistinct
 pair_proper [] k h = h
@@ -83,12 +86,12 @@ pub counted_among : (p : ℕ → Bool) (xs : List ℕ) → AreProper xs
 unfolding IsDistinct
 counted_among p [] h = refl
 counted_among p (x ∷ xs) h =
-    let none = (free_tells xs x).1 h.apart.0 in
-    let first : count_by (λ y. nat_eq x y && p y) alphabet ≡ once (p x) =
+    let none = (has_letter-AllByRecursion xs x).1 h.apart.0 in
+    let first : count_by (λ y. nat_eq x y && p y) alphabet ≡ one_if (p x) =
     once_among p x 0 26 ∙ grind (arith, nat_tests, h.within.0) in
     let rest = counted_among p xs (record { apart = h.apart.1; within = h.within.1 }) in
-    let both = sums_add (λ y. once (nat_eq x y && p y)) (λ y. once (has_letter xs y && p y))
-    (λ y. once ((nat_eq x y || has_letter xs y) && p y)) (λ y. grind (arith, nat_tests)) alphabet in
+    let both = sums_add (λ y. one_if (nat_eq x y && p y)) (λ y. one_if (has_letter xs y && p y))
+    (λ y. one_if ((nat_eq x y || has_letter xs y) && p y)) (λ y. grind (arith, nat_tests)) alphabet in
     omega (arith, first, rest, both, count_by-cons p x xs)
 
 pub at_most_four : (cable : Option ℕ × Option ℕ) (column : Option (ℕ × ℕ)) → cable_cost cable column ≤ 4
@@ -133,7 +136,7 @@ cost_tables_are_square m s machine day = All-nil (λ row. length row ≡ 0)
 -- ---- the standings that read as each row
 
 pub no_zero : (row : ℕ × ℕ) → IsReading row → row.0 ≢ 0
-    → standings_as row ≡ across (place_at row.0) (place_at row.1) ∷ []
+    → standings_as row ≡ standing_across (place_of_pin_wheel row.0) (place_of_pin_wheel row.1) ∷ []
 unfolding standings_as
 no_zero (suc zero, suc (suc (suc (suc (suc (suc zero)))))) reading some = refl
 no_zero (suc (suc zero), suc (suc (suc (suc (suc (suc zero)))))) reading some = refl
@@ -142,13 +145,15 @@ no_zero (suc (suc (suc (suc zero))), suc (suc (suc (suc (suc (suc zero)))))) rea
 no_zero (suc (suc (suc (suc (suc zero)))), suc (suc (suc (suc (suc (suc zero)))))) reading some = refl
 no_zero row reading some = first_of (search rules, omega arith)
 
-pub zeros : (row : ℕ × ℕ) → row.0 ≤ row.1 → row.1 ≡ 0 → standings_as row ≡ across ZeroLeft ZeroRight ∷ []
+pub standings_of_zeros : (row : ℕ × ℕ) → row.0 ≤ row.1 → row.1 ≡ 0
+    → standings_as row ≡ standing_across ZeroLeft ZeroRight ∷ []
 unfolding standings_as
-zeros (zero, zero) ordered none = refl
-zeros row ordered none = absurd (omega arith)
+standings_of_zeros (zero, zero) ordered none = refl
+standings_of_zeros row ordered none = absurd (omega arith)
 
 pub one_zero : (row : ℕ × ℕ) → row.0 ≡ 0 → 1 ≤ row.1 → row.1 ≤ 6
-    → standings_as row ≡ across ZeroLeft (place_at row.1) ∷ across (place_at row.1) ZeroRight ∷ []
+    → standings_as row ≡ standing_across ZeroLeft (place_of_pin_wheel row.1)
+    ∷ standing_across (place_of_pin_wheel row.1) ZeroRight ∷ []
 unfolding standings_as
 one_zero (zero, suc (suc (suc (suc (suc (suc zero)))))) none first last = refl
 one_zero row none first last = first_of (search rules, omega arith)
@@ -166,10 +171,10 @@ pub bar_cost_at_most : (bar : Place × Place) (row : ℕ × ℕ) → bar_cost ba
 bar_cost_at_most bar row = omega (arith, least_at_most 2 (map (lugs_moved bar) (standings_as row)))
 
 -- the standing reads as the row
-abbrev pub IsOfRow : ℕ × ℕ → Place × Place → Type 0
-IsOfRow row x = IsBefore x.0 x.1 × (reads_as_row row x ≡ true)
+abbrev pub IsStandingOfRow : ℕ × ℕ → Place × Place → Type 0
+IsStandingOfRow row x = IsBefore x.0 x.1 × (reads_as_row row x ≡ true)
 
-of_row : (row : ℕ × ℕ) → All (IsOfRow row) (standings_as row)
+of_row : (row : ℕ × ℕ) → All (IsStandingOfRow row) (standings_as row)
 unfolding standings_as
 of_row row k d lt =
     let before = λ (x : Place × Place). nat_lt (place_rank x.0) (place_rank x.1) in
@@ -179,24 +184,26 @@ of_row row k d lt =
     )
 
 -- the nearest of one or two standings is found, costs the least, and satisfies what all of them satisfy
-nearest : (bar x : Place × Place) (more : Option (Place × Place)) (xs : List (Place × Place))
+nearest-found : (bar x : Place × Place) (more : Option (Place × Place)) (xs : List (Place × Place))
     (P : Place × Place → Type 0)
     → xs ≡ x ∷ option_to_list more → AllByRecursion P xs
     → let least = fold min 2 (map (lugs_moved bar) xs) in
     let target = unwrap_or (find (λ y. nat_eq (lugs_moved bar y) least) xs) bar in
     P target × (lugs_moved bar target ≡ least)
-nearest bar x None xs P e h = grind (arith, nat_tests, at_most_two bar x)
-nearest bar x (Some y) xs P e h = grind (arith, nat_tests, at_most_two bar x, at_most_two bar y)
+nearest-found bar x None xs P e h = grind (arith, nat_tests, at_most_two bar x)
+nearest-found bar x (Some y) xs P e h = grind (arith, nat_tests, at_most_two bar x, at_most_two bar y)
 
 pub nearest_is : (bar : Place × Place) (row : ℕ × ℕ) → IsReading row
     → let target = unwrap_or (nearest_standing bar row) bar in
-    IsOfRow row target × (lugs_moved bar target ≡ bar_cost bar row)
+    IsStandingOfRow row target × (lugs_moved bar target ≡ bar_cost bar row)
 nearest_is bar row h =
-    let all = recursion_from_All (IsOfRow row) (standings_as row) (of_row row) in
+    let all = recursion_from_All (IsStandingOfRow row) (standings_as row) (of_row row) in
     elim (cases_eq row.1 0) [
-      | inl e ↦ nearest bar _ None (standings_as row) (IsOfRow row) (zeros row h.ordered e) all
+      | inl e ↦ nearest-found bar _ None (standings_as row) (IsStandingOfRow row)
+          (standings_of_zeros row h.ordered e) all
       | inr some ↦ elim (cases_eq row.0 0) [
-        | inl e ↦ nearest bar _ (Some _) (standings_as row) (IsOfRow row) (one_zero row e (omega arith) h.within) all
-        | inr other ↦ nearest bar _ None (standings_as row) (IsOfRow row) (no_zero row h other) all
+        | inl e ↦ nearest-found bar _ (Some _) (standings_as row) (IsStandingOfRow row)
+            (one_zero row e (omega arith) h.within) all
+        | inr other ↦ nearest-found bar _ None (standings_as row) (IsStandingOfRow row) (no_zero row h other) all
       ]
     ]

@@ -5,12 +5,12 @@ use Rattle.kd_state.proofs.Prelude.{IsRotorOnKey, KeyInTurn, List, OfDrum, OfPin
 use Rattle.kd_state.proofs.Prelude.{OnKeyIsItsCipher, OnKeyIsReady, Parts, Pin, PinKey, PinParts, Place}
 use Rattle.kd_state.proofs.Prelude.{ReadingIsItsCipher, ReadingIsReady, Rotor, RotorDay, RotorParts, SheetWheel, Some}
 use Rattle.kd_state.proofs.Prelude.{TheDayDeciphersItself, TurnedEngineIsTheTurnedMachine, TurnedHasItsKey}
-use Rattle.kd_state.proofs.Prelude.{TurnedHasTheDaysCipher, TurnedIsOnKey, [], acts_after, ap, arith, bars_met, cipher}
-use Rattle.kd_state.proofs.Prelude.{common_steps, converter_cipher, count_by, enumerate_from, filter_map}
+use Rattle.kd_state.proofs.Prelude.{TurnedHasTheDaysCipher, TurnedIsOnKey, [], is_acting_after, ap, arith, bars_met}
+use Rattle.kd_state.proofs.Prelude.{cipher, common_steps, converter_cipher, count_by, enumerate_from, filter_map}
 use Rattle.kd_state.proofs.Prelude.{key_with_window, letter_at, map, physical_cipher, physical_key, pins_of}
 use Rattle.kd_state.proofs.Prelude.{plugged_pairs, reading_of, recursion_from_All, refl, ring_at, sheet_key}
 use Rattle.kd_enigma.proofs.Cables.{pairs_make_a_plugboard, same_pairs_exchange_alike}
-use Rattle.kd_state.{proofs.Cables.{no_letter_twice, pairs_joined, whole_cables}, specs.Lugs.{bars_moved, lug_is_met}}
+use Rattle.kd_state.{proofs.Cables.{no_letter_twice, pairs_joined, whole_cables}, specs.Lugs.{bars_moved, is_lug_met}}
 use Rattle.kd_state.proofs.Prelude.{sum_by-IsPermutation, sum_by-cons, sym, window_of, ℕ, ◌+◌, ◌-◌, ◌||◌, ◌∙◌, ◌∷◌, ◌≡◌}
 use Rattle.{kd_state.proofs.Seating.{all_seated, read_all, wheels_of_slots}, std.proofs.Common.{max, min, ◌%◌}}
 use Rattle.std.proofs.Math.{Bool.or_comm, Nat.{max-eq_left, max-eq_right, min-eq_left, min-eq_right}}
@@ -34,14 +34,15 @@ abbrev pin_key : PinParts → PinKey
 pin_key m = record { pins = pins_of m.pins; letters = m.letters; rows = map (λ bar. reading_of bar.0 bar.1) m.bars }
 
 bar_met : (m : PinParts) (count : ℕ) (bar : Place × Place)
-    → (lug_is_met m count bar.0 || lug_is_met m count bar.1)
-    ≡ (acts_after (pin_key m) count (reading_of bar.0 bar.1).0
-    || acts_after (pin_key m) count (reading_of bar.0 bar.1).1)
+    → (is_lug_met m count bar.0 || is_lug_met m count bar.1)
+    ≡ (is_acting_after (pin_key m) count (reading_of bar.0 bar.1).0
+    || is_acting_after (pin_key m) count (reading_of bar.0 bar.1).1)
 bar_met m count bar = grind (arith, or-min_max)
 
 moved_as_met : (m : PinParts) (count : ℕ) → bars_met (pin_key m) count ≡ bars_moved m count
 moved_as_met m count =
-    sym (count_by-map (λ (row : ℕ × ℕ). acts_after (pin_key m) count row.0 || acts_after (pin_key m) count row.1)
+    sym (count_by-map (λ (row : ℕ × ℕ). is_acting_after (pin_key m) count row.0
+    || is_acting_after (pin_key m) count row.1)
     (λ (bar : Place × Place). reading_of bar.0 bar.1) m.bars)
     ∙ (λ i. count_by (λ bar. sym (bar_met m count bar) i) m.bars)
 

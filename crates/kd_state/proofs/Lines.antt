@@ -1,19 +1,20 @@
 -- Lemmas on lines: a line determines its words, a setting's line the setting, and a list's text the list.
 use Rattle.kd_state.proofs.Prelude.{All, All-append, All-cons, All-from_get_or, All-from_recursion, All-nil, All-push}
-use Rattle.kd_state.proofs.Prelude.{All-weaker, AllByRecursion, AllPass-from_list_all, BeginsWith, BeginsWithLine}
-use Rattle.kd_state.proofs.Prelude.{BeginsWithNoLine, Bool, Decides, IsAscii-decimal, IsInRange, IsList, IsReadOff}
-use Rattle.kd_state.proofs.Prelude.{List, ListsHaveNoFault, Lug, MatchOption, None, One, OneListFault, Option}
-use Rattle.kd_state.proofs.Prelude.{ParsesUnsigned, Place, Reflector, Setting, Some, TextsTellLists, Wheel, [], ap}
-use Rattle.kd_state.proofs.Prelude.{append-nil, append_assoc, append_cancel_left, arith, common_steps}
-use Rattle.kd_state.proofs.Prelude.{decimal_injective, decimal_nonempty, digits_decimal, eq-eqb, eqb-true, false}
-use Rattle.kd_state.proofs.Prelude.{get_or, get_or_at, length, length-append, list_all, list_text, ltb-true, lug_text}
-use Rattle.kd_state.proofs.Prelude.{map, map_push, ne_eqb, parse-decimal, pin_text, place_text, places}
-use Rattle.kd_state.proofs.Prelude.{recursion_from_All, refl, reflector_text, rules, setting_line, setting_words}
-use Rattle.kd_state.proofs.Prelude.{slice_split, sym, then_some, true, wheel_text, ℕ, ◌++◌, ◌+◌, ◌<◌, ◌∷◌, ◌≡◌, ◌≢◌}
+use Rattle.kd_state.proofs.Prelude.{All-weaker, AllByRecursion, AllPass-from_list_all, BeginsWithSettingLines}
+use Rattle.kd_state.proofs.Prelude.{BeginsWithSettingLine, BeginsWithNoSetting, Bool, Decides, IsAscii-decimal}
+use Rattle.kd_state.proofs.Prelude.{IsSettingInRange, IsListText, IsSettingOfWords, List, ListsHaveNoFault, Lug}
+use Rattle.kd_state.proofs.Prelude.{MatchOption, None, One, OneListFault, Option, ParsesUnsigned, Place, Reflector}
+use Rattle.kd_state.proofs.Prelude.{Setting, Some, TextsTellLists, Wheel, [], ap, append-nil, append_assoc}
+use Rattle.kd_state.proofs.Prelude.{append_cancel_left, arith, common_steps, decimal_injective, decimal_nonempty}
+use Rattle.kd_state.proofs.Prelude.{digits_decimal, eq-eqb, eqb-true, false, get_or, get_or_at, length, length-append}
+use Rattle.kd_state.proofs.Prelude.{list_all, list_text, ltb-true, lug_text, map, map_push, ne_eqb, parse-decimal}
+use Rattle.kd_state.proofs.Prelude.{on_off_text, place_text, places, recursion_from_All, refl, reflector_text, rules}
+use Rattle.kd_state.proofs.Prelude.{setting_line, setting_words, slice_split, sym, then_some, true, wheel_text, ℕ, ◌++◌}
+use Rattle.kd_state.proofs.Prelude.{◌+◌, ◌<◌, ◌∷◌, ◌≡◌, ◌≢◌}
 use Rattle.kd_state.specs.Words.{IsFirstPart, IsWithout, IsWord, LettersAreWords, LinesSplitIntoWords, LinesTellWords}
 use Rattle.kd_state.specs.Words.{NumbersAreWords, PartsMakeLines, TextsTellFirstParts, WordsMakeOneLine, line_of}
 use Rattle.std.proofs.lemmas.List.Splits.{join_with_byte-slice_split, length-slice_split, slice_split_at}
-use Rattle.kd_state.proofs.{Prelude.◌≤◌, Wheels.{named, one_reflector, one_wheel, told}}
+use Rattle.kd_state.proofs.{Prelude.◌≤◌, Wheels.{named_or, one_reflector, one_wheel, name-injective}}
 use Rattle.kd_state.specs.{Words.words_of, declared.setting.list.ListFault.TheVariants.{BadLine, TooMany}}
 use Rattle.std.proofs.Common.{Bor, MatchResult, Result, eqb, ltb, ◌^◌}
 use Rattle.std.proofs.lemmas.List.{Concat.flat_map-append, Splits.slice_split_none}
@@ -74,9 +75,9 @@ words_make_one_line words a = one_line words (recursion_from_All IsWord words a)
 -- ---- splitting a line word by word
 
 -- appending a word to a list of borrowed words appends it to the words
-pub appended : (words more : List (Bor (List ℕ))) (word : Bor (List ℕ)) → more ≡ words ++ word ∷ []
+pub map_now-push : (words more : List (Bor (List ℕ))) (word : Bor (List ℕ)) → more ≡ words ++ word ∷ []
     → map (λ (w : Bor (List ℕ)). w.now) more ≡ map (λ (w : Bor (List ℕ)). w.now) words ++ word.now ∷ []
-appended words more word e = grind (arith, map_push)
+map_now-push words more word e = grind (arith, map_push)
 
 -- the words taken so far and the words of the rest are the words of the line
 pub record AreTaken (line rest : List ℕ) (taken : List (List ℕ)) : Type 0 where
@@ -105,13 +106,15 @@ word_by_bytes word filled a = grind (arith, All-weaker)
 pub word_by_test : (b : ℕ) (bs : List ℕ) → list_all (λ c. ltb 32 c) (b ∷ bs) ≡ true → IsWord (b ∷ bs)
 word_by_test b bs e = grind (arith, word_by_bytes, All-weaker, ltb-true, AllPass-from_list_all)
 
-pub figures : IsNumeralModel (λ ds. (i : ℕ) → i < length ds → IsFigure 48 57 (get_or ds i 0)) (digits_value 10)
-figures = numerals_by_value (λ ds. (i : ℕ) → i < length ds → IsFigure 48 57 (get_or ds i 0)) tells_by_index
+pub IsNumeralModel-digits : IsNumeralModel (λ ds. (i : ℕ) → i < length ds → IsFigure 48 57 (get_or ds i 0))
+    (digits_value 10)
+IsNumeralModel-digits = numerals_by_value (λ ds. (i : ℕ) → i < length ds → IsFigure 48 57 (get_or ds i 0))
+    tells_by_index
 
 pub numbers_are_words : NumbersAreWords
 numbers_are_words number small =
     let filled = decimal_nonempty number small in
-    let digits = digits_decimal figures number small in
+    let digits = digits_decimal IsNumeralModel-digits number small in
     let above = All-from_get_or (λ b. 32 < b) (decimal number) 0 in
     grind (arith, word_by_bytes, filled, above, digits, ap (length {A = ℕ}))
 
@@ -120,10 +123,10 @@ letters_are_words letter = grind (arith, word_by_bytes, All-from_recursion)
 
 -- ---- numbers from their texts
 
-pub no_text : {S E : Type 0} (bs : List ℕ) (r : Result S E) (P : S → Type 0) (Q : E → Type 0)
+pub decimal-not_text : {S E : Type 0} (bs : List ℕ) (r : Result S E) (P : S → Type 0) (Q : E → Type 0)
     → MatchResult r P (λ e. ¬ (IsUtf8 bs) × Q e) → result_ok r ≡ None → (number : ℕ) → number < 2 ^ 16
     → decimal number ≢ bs
-no_text bs r P Q e d number g = grind (arith, IsUtf8-from_ascii, IsAscii-decimal)
+decimal-not_text bs r P Q e d number g = grind (arith, IsUtf8-from_ascii, IsAscii-decimal)
 
 -- the value of an `Ok` satisfies what the contract says of it
 pub ok_part : {S E : Type 0} (r : Result S E) (s : S) (P : S → Type 0) (Q : E → Type 0) → MatchResult r P Q
@@ -142,14 +145,14 @@ pub only_number : {E : Type 0} (bs : List ℕ) (r : Result ℕ E) (m : ℕ) (tes
 only_number bs r m true h some d = d.0 refl
 only_number bs r m false h some d = λ number small e. grind (arith, parse-decimal 16 number bs r small, d)
 
-pub ruleset splitting = (common_steps, eqb-true, more_words, appended, one_more_taken, last_taken)
+pub ruleset splitting = (common_steps, eqb-true, more_words, map_now-push, one_more_taken, last_taken)
 
 -- ---- names: each is a word, and different things have different names
 
 pub same_place : (x y : Place) → place_text x ≡ place_text y → x ≡ y
 same_place =
-    told place_text (named place_text places One)
-    (λ x. elim x as (λ p. named place_text places One (place_text p) ≡ p) [ One ↦ refl | _ ↦ refl ])
+    name-injective place_text (named_or place_text places One)
+    (λ x. elim x as (λ p. named_or place_text places One (place_text p) ≡ p) [ One ↦ refl | _ ↦ refl ])
 
 wheel_is_word : (x : Wheel) → IsWord (wheel_text x)
 wheel_is_word x = grind (arith, word_by_test)
@@ -163,7 +166,7 @@ place_is_word x = grind (arith, word_by_test)
 lug_is_word : (x : Lug) → IsWord (lug_text x)
 lug_is_word x = grind (arith, word_by_test)
 
-pin_is_word : (x : Bool) → IsWord (pin_text x)
+pin_is_word : (x : Bool) → IsWord (on_off_text x)
 pin_is_word x = grind (arith, word_by_test)
 
 byte_is_word : (n : ℕ) → n < 2 ^ 8 → IsWord (decimal n)
@@ -171,7 +174,7 @@ byte_is_word n small = numbers_are_words n (omega arith)
 
 -- ---- settings
 
-words_are_words : (x : Setting) → IsInRange x → AllByRecursion IsWord (setting_words x)
+words_are_words : (x : Setting) → IsSettingInRange x → AllByRecursion IsWord (setting_words x)
 words_are_words x r =
     grind (
       arith,
@@ -185,10 +188,11 @@ words_are_words x r =
       place_is_word,
     )
 
-pub setting_words_are_words : (x : Setting) → IsInRange x → All IsWord (setting_words x)
+pub setting_words_are_words : (x : Setting) → IsSettingInRange x → All IsWord (setting_words x)
 setting_words_are_words x r = All-from_recursion IsWord (setting_words x) (words_are_words x r)
 
-pub same_settings : (x y : Setting) → IsInRange x → IsInRange y → setting_words x ≡ setting_words y → x ≡ y
+pub same_settings : (x y : Setting) → IsSettingInRange x → IsSettingInRange y → setting_words x ≡ setting_words y
+    → x ≡ y
 same_settings x y e d g = grind (arith, decimal_injective, one_wheel, one_reflector, same_place)
 
 -- ---- the number of words of a setting's line
@@ -198,21 +202,24 @@ setting_has_words x = grind arith
 
 -- ---- the words of a setting's line
 
-words_of_line : (x : Setting) (text : List ℕ) → IsInRange x → setting_line x ≡ text → setting_words x ≡ words_of text
+words_of_line : (x : Setting) (text : List ℕ) → IsSettingInRange x → setting_line x ≡ text
+    → setting_words x ≡ words_of text
 words_of_line x text r e = grind (arith, setting_has_words, lines_split_into_words, setting_words_are_words)
 
-pub too_many_words : (text : List ℕ) → 4 < length (words_of text) → (x : Setting) → IsInRange x → setting_line x ≢ text
+pub too_many_words : (text : List ℕ) → 4 < length (words_of text) → (x : Setting) → IsSettingInRange x
+    → setting_line x ≢ text
 too_many_words text many x r e = grind (arith, setting_has_words, words_of_line)
 
 pub read_by_words : (text : List ℕ) (words : List (List ℕ)) (r : Option Setting) → words ≡ words_of text
-    → IsReadOff words r
-    → MatchOption r ((x : Setting) → IsInRange x → setting_line x ≢ text) (λ x. setting_line x ≡ text)
+    → IsSettingOfWords words r
+    → MatchOption r ((x : Setting) → IsSettingInRange x → setting_line x ≢ text) (λ x. setting_line x ≡ text)
 read_by_words text words r e d = grind (arith, words_of_line, parts_make_lines)
 
-pub line_has_no_break : (x : Setting) → IsInRange x → IsWithout 10 (setting_line x)
+pub line_has_no_break : (x : Setting) → IsSettingInRange x → IsWithout 10 (setting_line x)
 line_has_no_break x r = words_make_one_line (setting_words x) (setting_words_are_words x r)
 
-pub lines_tell_settings : (x y : Setting) → IsInRange x → IsInRange y → setting_line x ≡ setting_line y → x ≡ y
+pub lines_tell_settings : (x y : Setting) → IsSettingInRange x → IsSettingInRange y → setting_line x ≡ setting_line y
+    → x ≡ y
 lines_tell_settings x y r s e = search (rules, same_settings, lines_tell_words, setting_words_are_words)
 
 -- ---- a text determines its list of settings; any other text has exactly one fault
@@ -221,11 +228,11 @@ pub text_of_more : (x : Setting) (xs : List Setting) (rest : List ℕ)
     → list_text (x ∷ xs) ++ rest ≡ setting_line x ++ 10 ∷ (list_text xs ++ rest)
 text_of_more x xs rest = grind (arith, append_assoc)
 
-BeginsWithNoLine-empty : BeginsWithNoLine []
-BeginsWithNoLine-empty x rest r e = grind (arith, length-append, ap length e)
+BeginsWithNoSetting-empty : BeginsWithNoSetting []
+BeginsWithNoSetting-empty x rest r e = grind (arith, length-append, ap length e)
 
 -- equal texts that begin with a setting's line begin with the same setting
-same_first : (x y : Setting) (xs ys : List Setting) (rest more : List ℕ) → IsInRange x → IsInRange y
+same_first : (x y : Setting) (xs ys : List Setting) (rest more : List ℕ) → IsSettingInRange x → IsSettingInRange y
     → list_text (x ∷ xs) ++ rest ≡ list_text (y ∷ ys) ++ more
     → (x ≡ y) × (list_text xs ++ rest ≡ list_text ys ++ more)
 same_first x y xs ys rest more r s e =
@@ -234,19 +241,20 @@ same_first x y xs ys rest more r s e =
     grind (arith, parts, line_has_no_break x, line_has_no_break y, text_of_more, lines_tell_settings x y)
 
 -- two lists are equal if the same text begins with their lines, and no setting's line follows either of them
-same_lists : (xs ys : List Setting) (rest more : List ℕ) → AllByRecursion IsInRange xs → AllByRecursion IsInRange ys
+same_lists : (xs ys : List Setting) (rest more : List ℕ) → AllByRecursion IsSettingInRange xs
+    → AllByRecursion IsSettingInRange ys
     → list_text xs ++ rest ≡ list_text ys ++ more
-    → BeginsWithNoLine rest → BeginsWithNoLine more → (xs ≡ ys) × (rest ≡ more)
+    → BeginsWithNoSetting rest → BeginsWithNoSetting more → (xs ≡ ys) × (rest ≡ more)
 same_lists [] [] rest more r s e none nor = (refl, e)
 same_lists [] (y ∷ ys) rest more r s e none nor = grind (arith, none, text_of_more)
 same_lists (x ∷ xs) [] rest more r s e none nor = grind (arith, nor, text_of_more)
 same_lists (x ∷ xs) (y ∷ ys) rest more r s e none nor = grind (arith, same_first, same_lists xs ys rest more r.1 s.1)
 
 -- in one text, no list of lines is longer than a list that no setting's line follows
-length-same_lines : (xs ys : List Setting) (rest more : List ℕ) → AllByRecursion IsInRange xs
-    → AllByRecursion IsInRange ys
+length-same_lines : (xs ys : List Setting) (rest more : List ℕ) → AllByRecursion IsSettingInRange xs
+    → AllByRecursion IsSettingInRange ys
     → list_text xs ++ rest ≡ list_text ys ++ more
-    → BeginsWithNoLine rest → length ys ≤ length xs
+    → BeginsWithNoSetting rest → length ys ≤ length xs
 length-same_lines xs [] rest more r s e none = omega arith
 length-same_lines [] (y ∷ ys) rest more r s e none = grind (arith, none, text_of_more)
 length-same_lines (x ∷ xs) (y ∷ ys) rest more r s e none =
@@ -255,43 +263,51 @@ length-same_lines (x ∷ xs) (y ∷ ys) rest more r s e none =
 -- ---- reading line by line
 
 pub one_more : (bytes : List ℕ) (xs : List Setting) (rest : List ℕ) (x : Setting) (after : List ℕ)
-    → BeginsWith bytes xs rest → BeginsWithLine rest x after
-    → BeginsWith bytes (xs ++ x ∷ []) after
+    → BeginsWithSettingLines bytes xs rest → BeginsWithSettingLine rest x after
+    → BeginsWithSettingLines bytes (xs ++ x ∷ []) after
 one_more bytes xs rest x after b l = grind (arith, common_steps, text_of_more, append_assoc, flat_map-append, All-push)
 
-pub no_line_without_break : (bytes : List ℕ) → IsWithout 10 bytes → BeginsWithNoLine bytes
+pub no_line_without_break : (bytes : List ℕ) → IsWithout 10 bytes → BeginsWithNoSetting bytes
 no_line_without_break bytes without x rest r e =
     grind (arith, common_steps, length-append, get_or_at, without (length (setting_line x)) 0)
 
 pub no_line_by_first : (bytes line rest : List ℕ) → IsFirstPart 10 bytes line rest
-    → ((x : Setting) → IsInRange x → setting_line x ≢ line) → BeginsWithNoLine bytes
+    → ((x : Setting) → IsSettingInRange x → setting_line x ≢ line) → BeginsWithNoSetting bytes
 no_line_by_first bytes line rest first none x other r e = grind (arith, texts_tell_first_parts, line_has_no_break, none)
 
 -- ---- laws
 
-BeginsWith-IsList : (bytes : List ℕ) (xs : List Setting) → IsList bytes xs → BeginsWith bytes xs []
-BeginsWith-IsList bytes xs l = grind (arith, append-nil)
+BeginsWithSettingLines-IsListText : (bytes : List ℕ) (xs : List Setting) → IsListText bytes xs
+    → BeginsWithSettingLines bytes xs []
+BeginsWithSettingLines-IsListText bytes xs l = grind (arith, append-nil)
 
-pub same_end : (bytes : List ℕ) (xs ys : List Setting) (rest more : List ℕ) → BeginsWith bytes xs rest
-    → BeginsWith bytes ys more
-    → BeginsWithNoLine rest → BeginsWithNoLine more → (xs ≡ ys) × (rest ≡ more)
+pub same_end : (bytes : List ℕ) (xs ys : List Setting) (rest more : List ℕ) → BeginsWithSettingLines bytes xs rest
+    → BeginsWithSettingLines bytes ys more
+    → BeginsWithNoSetting rest → BeginsWithNoSetting more → (xs ≡ ys) × (rest ≡ more)
 same_end bytes xs ys rest more a b = grind (arith, same_lists, recursion_from_All)
 
-pub not_longer : (bytes : List ℕ) (xs ys : List Setting) (rest more : List ℕ) → BeginsWith bytes xs rest
-    → BeginsWith bytes ys more
-    → BeginsWithNoLine rest → length ys ≤ length xs
+pub not_longer : (bytes : List ℕ) (xs ys : List Setting) (rest more : List ℕ) → BeginsWithSettingLines bytes xs rest
+    → BeginsWithSettingLines bytes ys more
+    → BeginsWithNoSetting rest → length ys ≤ length xs
 not_longer bytes xs ys rest more a b = grind (arith, length-same_lines, recursion_from_All)
 
 pub texts_tell_lists : TextsTellLists
 texts_tell_lists bytes xs ys a b =
-    (same_end bytes xs ys [] [] (BeginsWith-IsList bytes xs a)
-    (BeginsWith-IsList bytes ys b) BeginsWithNoLine-empty BeginsWithNoLine-empty).0
+    (same_end bytes xs ys [] [] (BeginsWithSettingLines-IsListText bytes xs a)
+    (BeginsWithSettingLines-IsListText bytes ys b) BeginsWithNoSetting-empty BeginsWithNoSetting-empty).0
 
 pub lists_have_no_fault : ListsHaveNoFault
 lists_have_no_fault bytes xs (BadLine line) a f =
-    f.5 (sym (same_end bytes xs f.0 [] f.1 (BeginsWith-IsList bytes xs a) f.2 BeginsWithNoLine-empty f.6).1)
+    f.5 (sym (same_end bytes xs f.0 [] f.1 (BeginsWithSettingLines-IsListText bytes xs a) f.2
+    BeginsWithNoSetting-empty f.6).1)
 lists_have_no_fault bytes xs TooMany a f =
-    omega (arith, not_longer bytes xs f.0 [] f.1 (BeginsWith-IsList bytes xs a) f.2 BeginsWithNoLine-empty, a.few, f.3)
+    omega (
+      arith,
+      not_longer bytes xs f.0 [] f.1 (BeginsWithSettingLines-IsListText bytes xs a) f.2
+          BeginsWithNoSetting-empty,
+      a.few,
+      f.3,
+    )
 
 pub one_list_fault : OneListFault
 one_list_fault bytes (BadLine line) (BadLine other) f g =

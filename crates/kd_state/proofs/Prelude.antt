@@ -1,10 +1,12 @@
 -- Names from other crates, and of this crate's definitions, that the proofs of this crate use.
-pub use Rattle.kd_drum.specs.Converter.{OnWheels, PinKey, acts_after, bars_met, converter_cipher}
-pub use Rattle.kd_enigma.specs.Plugs.{NoLetterTwice, letters_plugged}
-pub use Rattle.kd_state.specs.ToldApart.{has_reflector, has_wheel, numbered, place_in_box, same_reflector, same_wheel}
-pub use Rattle.kd_state.specs.Changes.{IsKept, IsSeatOf, Makes, MovesLug, Seats, SetsOnly, TheBar, TheCable, TheLetter}
-pub use Rattle.kd_state.specs.Changes.{ThePin, TheReflector, TheRing, TheShown, TheSlot, Thing, Turns, letters_in}
-pub use Rattle.kd_state.specs.Costs.{bar_cost, cable_cost, column_letters, columns_of, differ, lies_in_one}
+pub use Rattle.kd_drum.specs.Converter.{IsEachOnItsWheel, PinKey, is_acting_after, bars_met, converter_cipher}
+pub use Rattle.kd_enigma.specs.Plugs.{NoLetterTwice, letters_in_pairs}
+pub use Rattle.kd_state.specs.SameParts.{has_reflector, has_wheel, numbered_item, place_in_box, same_reflector}
+pub use Rattle.kd_state.specs.SameParts.{same_wheel}
+pub use Rattle.kd_state.specs.Changes.{IsKept, IsSeatOf, ChangesTo, MovesLug, SeatsWheel, SetsOnly, TheBar, TheCable}
+pub use Rattle.kd_state.specs.Changes.{TheLetter, ThePin, TheReflector, TheRing, TheShown, TheSlot, Thing, TurnsWheel}
+pub use Rattle.kd_state.specs.Changes.{letters_at_cable}
+pub use Rattle.kd_state.specs.Costs.{bar_cost, cable_cost, column_letters, columns_of, exactly_one, lies_in_exactly_one}
 pub use Rattle.kd_state.specs.Laws.{AllowedWheelsLieInTheBox, CipherInTurn, ColumnsAreThePairs, CostTablesAreSquare}
 pub use Rattle.kd_state.specs.Laws.{DaysWheelsHaveTheirPlaces, EngineIsTheMachine, EquallySetDecipher, KeyInTurn}
 pub use Rattle.kd_state.specs.Laws.{ListsHaveNoFault, MachinesCanBeTurned, OnKeyIsItsCipher, OnKeyIsReady, OneListFault}
@@ -13,23 +15,25 @@ pub use Rattle.kd_state.specs.Laws.{SettingsAreTold, SettingsKeepMachines, Telli
 pub use Rattle.kd_state.specs.Laws.{TextsTellLists, TheDayDeciphersItself, ThirteenColumns}
 pub use Rattle.kd_state.specs.Laws.{TurnedEngineIsTheTurnedMachine, TurnedHasItsKey, TurnedHasTheDaysCipher}
 pub use Rattle.kd_state.specs.Laws.{TurnedIsOnKey}
-pub use Rattle.kd_state.specs.Line.{BeginsWith, BeginsWithLine, BeginsWithNoLine, IsInRange, IsList, IsReadOff}
-pub use Rattle.kd_state.specs.Line.{list_text, pin_text, setting_line, setting_words}
-pub use Rattle.kd_state.specs.Machine.{AreAllowed, AreApart, AreCables, AreLetters, AreOnWheels, HasAllPins, IsLegalPin}
-pub use Rattle.kd_state.specs.Machine.{IsLegalRotor, IsMachine, StandsAt, cable_in, cable_letters, cables_ordered}
-pub use Rattle.kd_state.specs.Machine.{letter_at, letter_in, model_of, ordered, plugged_letters, ring_at, ring_in}
-pub use Rattle.kd_state.specs.Machine.{slot_in, standing_in}
-pub use Rattle.kd_state.specs.OnKey.{AreTheLetters, AreThePairs, IsJoined, IsPaired, IsPinOnKey, IsRotorOnKey, Joins}
-pub use Rattle.kd_state.specs.OnKey.{OnKey, SameLetters, ShowsWindow}
+pub use Rattle.kd_state.specs.Line.{BeginsWithSettingLines, BeginsWithSettingLine, BeginsWithNoSetting}
+pub use Rattle.kd_state.specs.Line.{IsSettingInRange, IsListText, IsSettingOfWords, list_text, on_off_text}
+pub use Rattle.kd_state.specs.Line.{setting_line, setting_words}
+pub use Rattle.kd_state.specs.Machine.{AreWheelsAllowed, AreSeatedOnce, AreCables, AreLetters, AreOnWheels, HasAllPins}
+pub use Rattle.kd_state.specs.Machine.{IsLegalPin, IsLegalRotor, IsMachine, IsSeatedAt, machine_cable, cable_letters}
+pub use Rattle.kd_state.specs.Machine.{with_cables_in_order, letter_at, machine_letter, model_of, cable_in_order}
+pub use Rattle.kd_state.specs.Machine.{letters_in_cables, ring_at, machine_ring, machine_slot, machine_standing}
+pub use Rattle.kd_state.specs.OnKey.{AreLettersOfPair, AreThePairs, IsPairJoined, IsCablePaired, IsPinOnKey}
+pub use Rattle.kd_state.specs.OnKey.{IsRotorOnKey, HasPairLetters, OnKey, HaveSameLetters, ShowsWindow}
 pub use Rattle.kd_state.specs.Pins.{pin_at, pin_set, wheel_pins, with_pin}
-pub use Rattle.kd_state.specs.Setting.{Carries, Leads, Stands, are_new, cable_at, cable_with, cable_without, changed}
-pub use Rattle.kd_state.specs.Setting.{has_letter, is_at, is_plugged, lies_beyond, lug_place, other_lug, reasons}
-pub use Rattle.kd_state.specs.Setting.{why_refused, with_letter, with_lug, with_lug_at, without}
-pub use Rattle.kd_state.specs.SheetDay.{Day, HasLetters, IsLegalDay, IsLegalRotorDay, OfPins, OfRotors, PinDay}
-pub use Rattle.kd_state.specs.SheetDay.{RotorDay, seats}
-pub use Rattle.kd_state.specs.TwoCiphers.{EngineKey, IsRotorReady, OfDrum, OfWheels, both_ends, cipher, key_with_window}
-pub use Rattle.kd_state.specs.TwoCiphers.{physical_cipher, physical_key, plugged_pairs, seated_wheels, sheet_key}
-pub use Rattle.kd_state.specs.TwoCiphers.{window_of}
+pub use Rattle.kd_state.specs.Setting.{Carries, Leads, HasLugsInOrder, are_new_letters, cable_at, cable_with}
+pub use Rattle.kd_state.specs.Setting.{cable_without, machine_after, has_letter, is_same_place, has_both_ends}
+pub use Rattle.kd_state.specs.Setting.{lies_beyond, lug_place, other_lug, refusal_reasons, why_refused, letters_with}
+pub use Rattle.kd_state.specs.Setting.{with_lug, bars_with_lug, seat_without}
+pub use Rattle.kd_state.specs.SheetDay.{Day, HasWheelLetters, IsLegalDay, IsLegalRotorDay, OfPins, OfRotors, PinDay}
+pub use Rattle.kd_state.specs.SheetDay.{RotorDay, seats_of_wheels}
+pub use Rattle.kd_state.specs.TwoCiphers.{EngineKey, IsRotorReady, OfDrum, OfWheels, pair_of_ends, cipher}
+pub use Rattle.kd_state.specs.TwoCiphers.{key_with_window, physical_cipher, physical_key, plugged_pairs, seated_wheels}
+pub use Rattle.kd_state.specs.TwoCiphers.{sheet_key, window_of}
 pub use Rattle.kd_state.specs.declared.machine.parts.Parts.{Parts, TheVariants.Pin, TheVariants.Rotor}
 pub use Rattle.kd_state.specs.declared.machine.{pin_parts.PinParts.PinParts, rotor_parts.RotorParts.RotorParts}
 pub use Rattle.kd_state.specs.declared.{setting.Setting.Setting, setting.why.Why.Why}
@@ -41,8 +45,8 @@ pub use Rattle.kd_state.specs.declared.setting.why.Why.TheVariants.{SocketTaken,
 pub use Rattle.kd_state.specs.declared.sheet_day.rotor_entry.SheetWheel.{SheetWheel}
 pub use Rattle.kd_tables.specs.{Permutation.alphabet, Permutation.exchange, Rings.place_on}
 pub use Rattle.kd_tables.specs.Places.{IsBefore, IsReading, lug_text, place_number, place_text, places, reading_of}
-pub use Rattle.kd_tables.specs.Tables.{IsAllowed, box_of, lies_in, reflector_text, reflectors_of, slots_of, wheel_text}
-pub use Rattle.kd_tables.specs.Tables.{wheels_for}
+pub use Rattle.kd_tables.specs.Tables.{IsAllowed, box_of, is_from_to, reflector_text, reflectors_of, slots_of}
+pub use Rattle.kd_tables.specs.Tables.{wheel_text, wheels_for}
 pub use Rattle.kd_tables.specs.declared.{lug.Lug.Lug, lug.Lug.TheVariants.Left, model.Model.Model, place.Place.Place}
 pub use Rattle.kd_tables.specs.declared.{model.Model.TheVariants.M209, place.Place.TheVariants.One}
 pub use Rattle.kd_tables.specs.declared.{reflector.Reflector.Reflector, wheel.Wheel.Wheel}

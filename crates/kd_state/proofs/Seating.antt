@@ -1,49 +1,50 @@
 -- Lemmas on the wheels in the slots: their rings and letters, and turning them to any window.
-use Rattle.kd_state.proofs.Prelude.{place_in_box, MachinesCanBeTurned, AreApart, AreLetters, IsLegalRotor, StandsAt}
-use Rattle.kd_state.proofs.Prelude.{letter_at, ring_at, seats, IsRotorReady, OfWheels, physical_key, plugged_pairs}
-use Rattle.kd_state.proofs.Prelude.{seated_wheels, Pin, Rotor, RotorParts, SheetWheel, exchange, box_of, Model, Wheel}
-use Rattle.kd_state.proofs.Prelude.{false≢true, get_or-map, length-map, All-map, recursion_from_All, none-some}
-use Rattle.kd_state.proofs.Prelude.{slice_get-get_or, All, AllByRecursion, cons_option, IsSome, Contains, List}
-use Rattle.kd_state.proofs.Prelude.{None, Option, Some, [], ap, arith, filter_map, get_or, length, map}
-use Rattle.kd_state.proofs.Prelude.{refl, set, slice_get, subst, suc, sym, zero, ℕ, ◌+◌, ◌<◌, ◌∙◌, ◌∷◌, ◌≡◌, ◌≢◌}
+use Rattle.kd_state.proofs.Prelude.{place_in_box, MachinesCanBeTurned, AreSeatedOnce, AreLetters, IsLegalRotor}
+use Rattle.kd_state.proofs.Prelude.{IsSeatedAt, letter_at, ring_at, seats_of_wheels, IsRotorReady, OfWheels}
+use Rattle.kd_state.proofs.Prelude.{physical_key, plugged_pairs, seated_wheels, Pin, Rotor, RotorParts, SheetWheel}
+use Rattle.kd_state.proofs.Prelude.{exchange, box_of, Model, Wheel, false≢true, get_or-map, length-map, All-map}
+use Rattle.kd_state.proofs.Prelude.{recursion_from_All, none-some, slice_get-get_or, All, AllByRecursion, cons_option}
+use Rattle.kd_state.proofs.Prelude.{IsSome, Contains, List, None, Option, Some, [], ap, arith, filter_map, get_or}
+use Rattle.kd_state.proofs.Prelude.{length, map, refl, set, slice_get, subst, suc, sym, zero, ℕ, ◌+◌, ◌<◌, ◌∙◌, ◌∷◌}
+use Rattle.kd_state.proofs.Prelude.{◌≡◌, ◌≢◌}
 use Rattle.kd_state.proofs.{Telling.Refusing.Changing.{letters_set, with_letters}, Slots.set_here, Slots.set_other}
-use Rattle.kd_state.proofs.Wheels.{place_within, placed, places_tell_wheels}
-use Rattle.kd_state.specs.Seated.{key_of_wheels, seated_wheel, wheel_with}
+use Rattle.kd_state.proofs.Wheels.{place_within, IsAllowed-IsPlaced, places_tell_wheels}
+use Rattle.kd_state.specs.Seated.{key_of_wheels, wheel_in_seat, wheel_with_letters}
 
 -- `wheels` are in the slots, with the machine's rings and letters
 pub record AreSeats (m : RotorParts) (seated : List (Option Wheel)) (wheels : List SheetWheel) : Type 0 where
-  pub slots : seated ≡ seats wheels
+  pub slots : seated ≡ seats_of_wheels wheels
   pub rings : AllByRecursion (λ w. ring_at m w.wheel ≡ Some w.ring) wheels
   pub letters : AllByRecursion (λ w. letter_at m w.wheel ≡ Some w.letter) wheels
 
-record IsSeat (m : RotorParts) (seat : Option Wheel) (w : SheetWheel) : Type 0 where
+record IsSeatWith (m : RotorParts) (seat : Option Wheel) (w : SheetWheel) : Type 0 where
   wheel : seat ≡ Some w.wheel
   ring : ring_at m w.wheel ≡ Some w.ring
   letter : letter_at m w.wheel ≡ Some w.letter
 
-with_both : (wheel : Wheel) (ring letter : Option ℕ) (w : SheetWheel) → Some w ≡ wheel_with wheel ring letter
+with_both : (wheel : Wheel) (ring letter : Option ℕ) (w : SheetWheel) → Some w ≡ wheel_with_letters wheel ring letter
     → (wheel ≡ w.wheel) × (ring ≡ Some w.ring) × (letter ≡ Some w.letter)
 with_both wheel ring letter w e = grind arith
 
-is_seat : (m : RotorParts) (seat : Option Wheel) (w : SheetWheel) → Some w ≡ seated_wheel m seat → IsSeat m seat w
+is_seat : (m : RotorParts) (seat : Option Wheel) (w : SheetWheel) → Some w ≡ wheel_in_seat m seat → IsSeatWith m seat w
 is_seat m None w e = absurd (none-some w (sym e))
 is_seat m (Some wheel) w e =
     let both = with_both wheel (ring_at m wheel) (letter_at m wheel) w e in
     record { wheel = ap Some both.0; ring = rw both.0 at both.1; letter = rw both.0 at both.2 }
 
 pub are_seats : (m : RotorParts) (slots : List (Option Wheel)) (wheels : List SheetWheel)
-    → map Some wheels ≡ map (seated_wheel m) slots → AreSeats m slots wheels
+    → map Some wheels ≡ map (wheel_in_seat m) slots → AreSeats m slots wheels
 are_seats m [] [] e = record { slots = refl; rings = tt; letters = tt }
 are_seats m (seat ∷ slots) (w ∷ wheels) e = grind (arith, is_seat, are_seats m slots wheels)
 are_seats m slots wheels e = cc
 
 -- taking the wheels out of filled slots gives the wheels
 pub wheels_seated : (wheels : List SheetWheel)
-    → filter_map (λ (seated : Option Wheel). seated) (seats wheels) ≡ map (λ w. w.wheel) wheels
+    → filter_map (λ (seated : Option Wheel). seated) (seats_of_wheels wheels) ≡ map (λ w. w.wheel) wheels
 wheels_seated [] = refl
 wheels_seated (w ∷ wheels) = grind (arith, filter_map, wheels_seated wheels)
 
-pub all_seated : (slots : List (Option Wheel)) (wheels : List SheetWheel) → slots ≡ seats wheels
+pub all_seated : (slots : List (Option Wheel)) (wheels : List SheetWheel) → slots ≡ seats_of_wheels wheels
     → All (λ seated. IsSome seated) slots
 all_seated slots wheels e =
     subst (All (λ (seated : Option Wheel). IsSome seated)) (sym e)
@@ -57,7 +58,7 @@ pub read_all : (f : Wheel → Option ℕ) (view : SheetWheel → ℕ) (wheels : 
 read_all f view [] h = refl
 read_all f view (w ∷ wheels) h = grind (arith, filter_map, read_all f view wheels h.1)
 
-pub wheels_of_slots : (m : RotorParts) (wheels : List SheetWheel) → m.slots ≡ seats wheels
+pub wheels_of_slots : (m : RotorParts) (wheels : List SheetWheel) → m.slots ≡ seats_of_wheels wheels
     → seated_wheels m ≡ map (λ w. w.wheel) wheels
 wheels_of_slots m wheels e = grind (arith, wheels_seated)
 
@@ -66,7 +67,7 @@ pub key_of_seats : (m : RotorParts) (wheels : List SheetWheel) → AreSeats m m.
 key_of_seats m wheels h = grind (arith, wheels_of_slots, filter_map, read_all)
 
 -- the machine's key is the key of its wheels, and no slot is empty
-pub of_seated : (m : RotorParts) (wheels : List SheetWheel) → map Some wheels ≡ map (seated_wheel m) m.slots
+pub of_seated : (m : RotorParts) (wheels : List SheetWheel) → map Some wheels ≡ map (wheel_in_seat m) m.slots
     → (physical_key (Rotor m) ≡ OfWheels (key_of_wheels wheels m.reflector (exchange (plugged_pairs m))))
     × All (λ seated. IsSome seated) m.slots
 of_seated m wheels e =
@@ -75,23 +76,24 @@ of_seated m wheels e =
 
 -- a wheel in a slot of a legal machine has a ring and a letter
 filled_seat : (m : RotorParts) → IsLegalRotor m → (place : ℕ) (seat : Option Wheel)
-    → slice_get m.slots place ≡ Some seat → IsSome seat → seated_wheel m seat ≢ None
+    → slice_get m.slots place ≡ Some seat → IsSome seat → wheel_in_seat m seat ≢ None
 filled_seat m legal place None at there none = false≢true there
 filled_seat m legal place (Some wheel) at there none =
     let box = place_in_box m.model wheel in
-    let within = place_within m.model wheel (placed m.model (place + 1) wheel (legal.allowed place wheel at)).in_box in
+    let within = place_within m.model wheel
+    (IsAllowed-IsPlaced m.model (place + 1) wheel (legal.allowed place wheel at)).in_box in
     let ring : ring_at m wheel ≡ Some (get_or m.rings box 0) =
     slice_get-get_or m.rings box 0 (omega (arith, within, legal.rings.count)) in
     let letter : letter_at m wheel ≡ Some (get_or m.letters box 0) =
     slice_get-get_or m.letters box 0 (omega (arith, within, legal.letters.count)) in
     none-some _ (sym (rw (ring, letter) at none))
 
-pub not_ready : (m : RotorParts) → IsLegalRotor m → Contains (map (seated_wheel m) m.slots) None → IsRotorReady m → ⊥
+pub not_ready : (m : RotorParts) → IsLegalRotor m → Contains (map (wheel_in_seat m) m.slots) None → IsRotorReady m → ⊥
 not_ready m legal h ready =
     let k = h.0 in
-    let within : k < length m.slots = omega (arith, h.1, length-map m.slots (seated_wheel m)) in
+    let within : k < length m.slots = omega (arith, h.1, length-map m.slots (wheel_in_seat m)) in
     filled_seat m legal k (get_or m.slots k None) (slice_get-get_or m.slots k None within) (ready.slots k None within)
-    (sym (get_or-map (seated_wheel m) m.slots k None None within) ∙ h.2)
+    (sym (get_or-map (wheel_in_seat m) m.slots k None None within) ∙ h.2)
 
 -- writing a letter for each wheel at the wheel's own place
 module _ (place : Wheel → ℕ) where
@@ -136,13 +138,13 @@ module _ (place : Wheel → ℕ) where
 
 -- what holds of the wheel in each slot holds of all wheels in the slots
 each_standing : (Q : Wheel → Type 0) (slots : List (Option Wheel))
-    → ((k : ℕ) (wheel : Wheel) → StandsAt slots k wheel → Q wheel)
+    → ((k : ℕ) (wheel : Wheel) → IsSeatedAt slots k wheel → Q wheel)
     → AllByRecursion Q (filter_map (λ seated. seated) slots)
 each_standing Q [] h = tt
 each_standing Q (seat ∷ slots) h = grind (arith, filter_map, each_standing Q slots (λ k. h (suc k)), h zero)
 
-places_apart : (model : Model) (slots : List (Option Wheel)) → AreApart slots
-    → ((k : ℕ) (wheel : Wheel) → StandsAt slots k wheel → Contains (box_of model) wheel)
+places_apart : (model : Model) (slots : List (Option Wheel)) → AreSeatedOnce slots
+    → ((k : ℕ) (wheel : Wheel) → IsSeatedAt slots k wheel → Contains (box_of model) wheel)
     → HavePlaces (place_in_box model) (filter_map (λ seated. seated) slots)
 places_apart model [] apart boxed = tt
 places_apart model (None ∷ slots) apart boxed =
@@ -152,7 +154,7 @@ places_apart model (Some wheel ∷ slots) apart boxed = (
       (λ k other at e. omega (
         arith,
         apart zero (suc k) wheel refl
-            (subst (StandsAt slots k) (places_tell_wheels model other wheel (boxed (suc k) other at)
+            (subst (IsSeatedAt slots k) (places_tell_wheels model other wheel (boxed (suc k) other at)
             (boxed zero wheel refl) e) at),
       )),
   places_apart model slots (λ j k other a b. omega (arith, apart (suc j) (suc k) other a b)) (λ k. boxed (suc k)),
@@ -164,8 +166,8 @@ can_be_turned (Rotor m) window machine ready are =
     let place = place_in_box m.model in
     let wheels = seated_wheels m in
     let letters = put place wheels window m.letters in
-    let boxed : (k : ℕ) (wheel : Wheel) → StandsAt m.slots k wheel → Contains (box_of m.model) wheel =
-    λ k wheel at. (placed m.model (k + 1) wheel (legal.allowed k wheel at)).in_box in
+    let boxed : (k : ℕ) (wheel : Wheel) → IsSeatedAt m.slots k wheel → Contains (box_of m.model) wheel =
+    λ k wheel at. (IsAllowed-IsPlaced m.model (k + 1) wheel (legal.allowed k wheel at)).in_box in
     let below =
     each_standing (λ wheel. place wheel < length (box_of m.model)) m.slots
     (λ k wheel at. place_within m.model wheel (boxed k wheel at)) in

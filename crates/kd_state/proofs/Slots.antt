@@ -1,27 +1,28 @@
 -- Lemmas on elements counted from 1: slots, and the letters and pins of the pin wheels.
-use Rattle.kd_state.proofs.Prelude.{OnWheels, numbered, AreAllowed, AreOnWheels, HasAllPins, has_letter, place_on}
-use Rattle.kd_state.proofs.Prelude.{box_of, Model, Wheel, cases_Bool, eqb-true, le-ltb, lt-ltb, Decides-eqb}
-use Rattle.kd_state.proofs.Prelude.{Decides-like, position-Some, is_member-Decides, get_or_from_slice_get, gets}
-use Rattle.kd_state.proofs.Prelude.{slice_get-get_or, slice_get_within, Decides, is_none, is_some, unwrap_or, PinSet}
-use Rattle.kd_state.proofs.Prelude.{ring_of, Contains, List, Option, Some, arith, false, length, nat_eq, refl, set}
-use Rattle.kd_state.proofs.Prelude.{slice_get, sym, ℕ, ◌+◌, ◌-◌, ◌<◌, ◌∙◌, ◌≡◌, ◌≢◌, ◌≤◌, common_steps}
-use Rattle.{std.proofs.Common.add-one, kd_state.proofs.Wheels.{placed, first_within, first_nowhere}}
+use Rattle.kd_state.proofs.Prelude.{IsEachOnItsWheel, numbered_item, AreWheelsAllowed, AreOnWheels, HasAllPins}
+use Rattle.kd_state.proofs.Prelude.{has_letter, place_on, box_of, Model, Wheel, cases_Bool, eqb-true, le-ltb, lt-ltb}
+use Rattle.kd_state.proofs.Prelude.{Decides-eqb, Decides-like, position-Some, is_member-Decides, get_or_from_slice_get}
+use Rattle.kd_state.proofs.Prelude.{gets, slice_get-get_or, slice_get_within, Decides, is_none, is_some, unwrap_or}
+use Rattle.kd_state.proofs.Prelude.{PinSet, ring_of, Contains, List, Option, Some, arith, false, length, nat_eq, refl}
+use Rattle.kd_state.proofs.Prelude.{set, slice_get, sym, ℕ, ◌+◌, ◌-◌, ◌<◌, ◌∙◌, ◌≡◌, ◌≢◌, ◌≤◌, common_steps}
+use Rattle.{std.proofs.Common.add-one, kd_state.proofs.Wheels.{IsAllowed-IsPlaced, first_within, first_nowhere}}
 
 -- `x` is element `number`, counted from 1: it is at place `number - 1`
 pub record IsNumbered {X : Type 0} (xs : List X) (number : ℕ) (x : X) : Type 0 where
   pub first : 1 ≤ number
   pub last : number ≤ length xs
   pub here : slice_get xs (number - 1) ≡ Some x
-  pub is : numbered xs number ≡ Some x
+  pub is : numbered_item xs number ≡ Some x
 
-pub is_numbered : {X : Type 0} (xs : List X) (number : ℕ) (x : X) → numbered xs number ≡ Some x → IsNumbered xs number x
+pub is_numbered : {X : Type 0} (xs : List X) (number : ℕ) (x : X) → numbered_item xs number ≡ Some x
+    → IsNumbered xs number x
 is_numbered xs number x e = grind (arith, slice_get_within)
 
-pub stands : {X : Type 0} (xs : List X) (number : ℕ) (d : X) → is_none (numbered xs number) ≡ false
-    → IsNumbered xs number (unwrap_or (numbered xs number) d)
-stands xs number d some = grind (arith, is_numbered)
+pub IsNumbered-not_none : {X : Type 0} (xs : List X) (number : ℕ) (d : X) → is_none (numbered_item xs number) ≡ false
+    → IsNumbered xs number (unwrap_or (numbered_item xs number) d)
+IsNumbered-not_none xs number d some = grind (arith, is_numbered)
 
-pub numbered_at : {X : Type 0} (xs : List X) (place : ℕ) → numbered xs (place + 1) ≡ slice_get xs place
+pub numbered_at : {X : Type 0} (xs : List X) (place : ℕ) → numbered_item xs (place + 1) ≡ slice_get xs place
 numbered_at xs place = rw add-one refl
 
 -- after a write, the written place has the new value, and the other places keep their values
@@ -34,19 +35,20 @@ pub set_other : {X : Type 0} (xs : List X) (place at : ℕ) (x : X) → at ≢ p
 set_other xs place at x h = grind (arith, common_steps, gets)
 
 pub numbered_here : {X : Type 0} (xs : List X) (number : ℕ) (x : X) → 1 ≤ number → number ≤ length xs
-    → numbered (set xs (number - 1) x) number ≡ Some x
+    → numbered_item (set xs (number - 1) x) number ≡ Some x
 numbered_here xs number x e d = grind (arith, set_here)
 
 pub numbered_other : {X : Type 0} (xs : List X) (number other : ℕ) (x : X) → 1 ≤ number → other ≢ number
-    → numbered (set xs (number - 1) x) other ≡ numbered xs other
+    → numbered_item (set xs (number - 1) x) other ≡ numbered_item xs other
 numbered_other xs number other x e d = grind (arith, set_other)
 
 -- a wheel in a slot is one of the box
-pub seated_in_box : (model : Model) (slots : List (Option Wheel)) (slot : ℕ) (wheel : Wheel) → AreAllowed model slots
-    → numbered slots slot ≡ Some (Some wheel) → Contains (box_of model) wheel
+pub seated_in_box : (model : Model) (slots : List (Option Wheel)) (slot : ℕ) (wheel : Wheel)
+    → AreWheelsAllowed model slots
+    → numbered_item slots slot ≡ Some (Some wheel) → Contains (box_of model) wheel
 seated_in_box model slots slot wheel allowed e =
     let at = is_numbered slots slot (Some wheel) e in
-    (placed model (slot - 1 + 1) wheel (allowed (slot - 1) wheel at.here)).in_box
+    (IsAllowed-IsPlaced model (slot - 1 + 1) wheel (allowed (slot - 1) wheel at.here)).in_box
 
 -- `has_letter` decides whether a letter is among the letters
 pub has_letter-Decides : (letters : List ℕ) (letter : ℕ) → Decides (has_letter letters letter) (Contains letters letter)
@@ -69,7 +71,7 @@ only_place letters letter other place e f =
 
 -- ---- six letters, each on its wheel
 
-pub are_on_wheels : (letters : List ℕ) → length letters ≡ 6 → OnWheels letters → AreOnWheels letters
+pub are_on_wheels : (letters : List ℕ) → length letters ≡ 6 → IsEachOnItsWheel letters → AreOnWheels letters
 are_on_wheels letters six on = grind (arith, is_numbered, get_or_from_slice_get, on)
 
 -- pins in arrays of these lengths are all pins
@@ -78,7 +80,7 @@ pub all_pins : (pins : PinSet) → length pins.w1 ≡ 26 → length pins.w2 ≡ 
 unfolding ring_of
 all_pins pins e d g h o q = grind arith
 
-pub stand_on_wheels : (letters : List ℕ) → AreOnWheels letters → OnWheels letters
+pub stand_on_wheels : (letters : List ℕ) → AreOnWheels letters → IsEachOnItsWheel letters
 stand_on_wheels letters e = grind (arith, slice_get-get_or)
 
 pub ruleset on_wheels = (has_letter-Decides, is_some-place_on)

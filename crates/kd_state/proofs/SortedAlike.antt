@@ -6,12 +6,13 @@ use Rattle.kd_state.proofs.Prelude.{suc, sym, true, ℕ, ◌+◌, ◌<◌, ◌�
 use Rattle.std.specs.Prelude.{if◌then◌else◌, slice_index_or, IsSortedBy}
 
 -- 1 for true, 0 for false
-abbrev pub once : Bool → ℕ
-once holds = if holds then 1 else 0
+abbrev pub one_if : Bool → ℕ
+one_if holds = if holds then 1 else 0
 
 -- one more element adds 1 to the count if it passes
-pub count_by-cons : {X : Type 0} (p : X → Bool) (x : X) (xs : List X) → count_by p (x ∷ xs) ≡ once (p x) + count_by p xs
-count_by-cons p x xs = sum_by-cons (λ y. once (p y)) x xs
+pub count_by-cons : {X : Type 0} (p : X → Bool) (x : X) (xs : List X)
+    → count_by p (x ∷ xs) ≡ one_if (p x) + count_by p xs
+count_by-cons p x xs = sum_by-cons (λ y. one_if (p y)) x xs
 
 -- if no element passes, the count is 0
 count_by-none : {X : Type 0} (p : X → Bool) (xs : List X)
@@ -19,8 +20,8 @@ count_by-none : {X : Type 0} (p : X → Bool) (xs : List X)
 count_by-none p xs none =
     omega (
       arith,
-      sum_by-le (λ x. once (p x)) 0 xs
-          (λ k d below. let zero : once (p (slice_index_or xs k d)) ≡ 0 = ap once (none k d below) in omega arith),
+      sum_by-le (λ x. one_if (p x)) 0 xs
+          (λ k d below. let zero : one_if (p (slice_index_or xs k d)) ≡ 0 = ap one_if (none k d below) in omega arith),
     )
 
 module _ {X : Type 0} (lt : X → X → Bool) (order : IsStrictWeakOrder lt)
@@ -35,7 +36,7 @@ module _ {X : Type 0} (lt : X → X → Bool) (order : IsStrictWeakOrder lt)
   not_before x xs y ys rising counts = false_from_ne_true (lt x y) (λ is.
       let p : X → Bool = λ z. lt z y in
       let none : count_by p (y ∷ ys) ≡ 0 = count_by-none p (y ∷ ys) (λ k d below. rising 0 k d (omega arith) below) in
-      let here : once (lt x y) ≡ 1 = ap once is in
+      let here : one_if (lt x y) ≡ 1 = ap one_if is in
       omega (arith, count_by-cons p x xs, counts p, none, here))
 
   pub sorted_alike : (xs ys : List X) → IsRising xs → IsRising ys → ((p : X → Bool) → count_by p xs ≡ count_by p ys)
@@ -50,7 +51,7 @@ module _ {X : Type 0} (lt : X → X → Bool) (order : IsStrictWeakOrder lt)
       same x y (not_before x xs y ys rising counts) (not_before y ys x xs up (λ p. sym (counts p))) in
       let rest : xs ≡ ys = sorted_alike xs ys (λ i j d le below. up (suc i) (suc j) d (omega arith) (omega arith))
       (λ i j d le below. rising (suc i) (suc j) d (omega arith) (omega arith))
-      (λ p. omega (arith, counts p, count_by-cons p x xs, count_by-cons p y ys, ap (λ z. once (p z)) first)) in
+      (λ p. omega (arith, counts p, count_by-cons p x xs, count_by-cons p y ys, ap (λ z. one_if (p z)) first)) in
       cc
 
   -- lists are permutations of each other exactly if sorting makes them equal
@@ -67,5 +68,5 @@ module _ {X : Type 0} (lt : X → X → Bool) (order : IsStrictWeakOrder lt)
             IsPermutation-trans up xs rising (IsPermutation-sym xs up moved)
             (IsPermutation-trans xs ys rising same other) in
             is ∙ decided.1 (sorted_alike up rising (sorted_far lt order up sorted) (sorted_far lt order rising rises)
-            (λ p. sym (sum_by-IsPermutation (λ y. once (p y)) up rising across))),
+            (λ p. sym (sum_by-IsPermutation (λ y. one_if (p y)) up rising across))),
       )

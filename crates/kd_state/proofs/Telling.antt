@@ -1,9 +1,10 @@
 -- The readers show all of a machine, so what they show of a change determines the machine that it makes.
 pub mod Refusing
 unfoldable pub use Refusing.*
-use Rattle.kd_state.proofs.Prelude.{Seats, TheRing, TheShown, Turns, letters_in, TellingIsMaking, cable_in, letter_in}
-use Rattle.kd_state.proofs.Prelude.{model_of, slot_in, standing_in, SameLetters, are_new, leb-true, nat_tests}
-use Rattle.kd_state.proofs.Prelude.{get_or-map, slice_get_cases, slice_get_past, range_with_len, M209, get_or}
+use Rattle.kd_state.proofs.Prelude.{SeatsWheel, TheRing, TheShown, TurnsWheel, letters_at_cable, TellingIsMaking}
+use Rattle.kd_state.proofs.Prelude.{machine_cable, machine_letter, model_of, machine_slot, machine_standing}
+use Rattle.kd_state.proofs.Prelude.{HaveSameLetters, are_new_letters, leb-true, nat_tests, get_or-map, slice_get_cases}
+use Rattle.kd_state.proofs.Prelude.{slice_get_past, range_with_len, M209, get_or}
 use Rattle.kd_state.proofs.{Cables.{new_tells, tests_tell_letters}}
 use Rattle.std.proofs.{Common.IfSome, lemmas.List.FromFn.get_or-map-range_with_len}
 
@@ -14,7 +15,8 @@ same_slices [] [] same = refl
 same_slices (x ∷ xs) (y ∷ ys) same = grind (arith, same 0, same_slices xs ys (λ place. same (suc place)))
 same_slices xs ys same = grind (arith, same 0)
 
-same_numbered : {X : Type 0} (xs ys : List X) → ((number : ℕ) → numbered xs number ≡ numbered ys number) → xs ≡ ys
+same_numbered : {X : Type 0} (xs ys : List X) → ((number : ℕ) → numbered_item xs number ≡ numbered_item ys number)
+    → xs ≡ ys
 same_numbered xs ys same = same_slices xs ys (λ place. same (suc place))
 
 -- lists with a value for each thing are equal if each thing has the same value, and its own place, in both
@@ -116,36 +118,36 @@ same_sizes : {X : Type 0} (xs ys : List X) (place : ℕ) → length xs ≡ lengt
 same_sizes xs ys place same = grind (arith, slice_get_cases xs place, slice_get_cases ys place)
 
 -- the letters in the cable are in order, and are new before the letters `rest`
-record IsInOrder (cable : Option ℕ × Option ℕ) : Type 0 where
-  ordered : ordered cable.0 cable.1 ≡ cable
+record IsCableInOrder (cable : Option ℕ × Option ℕ) : Type 0 where
+  ordered : cable_in_order cable.0 cable.1 ≡ cable
   rest : List ℕ
-  new : are_new (cable_letters cable) rest ≡ true
+  new : are_new_letters (cable_letters cable) rest ≡ true
 
 cables_in_order : (cables : List (Option ℕ × Option ℕ)) (place : ℕ) → all_ordered cables ≡ cables
-    → IsDistinct nat_eq (plugged_letters cables) → IfSome (slice_get cables place) IsInOrder
+    → IsDistinct nat_eq (letters_in_cables cables) → IfSome (slice_get cables place) IsCableInOrder
 cables_in_order [] place same apart = tt
 cables_in_order (cable ∷ cables) zero same apart =
-    grind (arith, (new_tells (cable_letters cable) (plugged_letters cables)).0 apart)
+    grind (arith, (new_tells (cable_letters cable) (letters_in_cables cables)).0 apart)
 cables_in_order (cable ∷ cables) (suc place) same apart =
-    grind (arith, cables_in_order cables place, (new_tells (cable_letters cable) (plugged_letters cables)).0 apart)
+    grind (arith, cables_in_order cables place, (new_tells (cable_letters cable) (letters_in_cables cables)).0 apart)
 
-in_turn : (x y : ℕ) → ordered (Some x) (Some y) ≡ (Some x, Some y) → x ≤ y
-in_turn x y is = grind (arith, cases_Bool, leb-true, same_Some)
+cable_in_order-le : (x y : ℕ) → cable_in_order (Some x) (Some y) ≡ (Some x, Some y) → x ≤ y
+cable_in_order-le x y is = grind (arith, cases_Bool, leb-true, same_Some)
 
-first_is_some : (x : ℕ) → ordered None (Some x) ≡ (None, Some x) → ⊥
+first_is_some : (x : ℕ) → cable_in_order None (Some x) ≡ (None, Some x) → ⊥
 first_is_some x is = none-some x (sym (ap (λ (cable : Option ℕ × Option ℕ). cable.0) is))
 
-same_cable : (cable other : Option ℕ × Option ℕ) → IsInOrder cable → IsInOrder other
+same_cable : (cable other : Option ℕ × Option ℕ) → IsCableInOrder cable → IsCableInOrder other
     → ((letter : ℕ) → has_letter (cable_letters cable) letter ≡ has_letter (cable_letters other) letter) → cable ≡ other
 same_cable (None, Some x) other one two same = absurd (first_is_some x one.ordered)
 same_cable cable (None, Some y) one two same = absurd (first_is_some y two.ordered)
 same_cable (None, None) (Some y, end) one two same = let at = same y in absurd (grind (arith, nat_tests))
 same_cable (Some x, end) (None, None) one two same = let at = same x in absurd (grind (arith, nat_tests))
-same_cable cable other one two same = grind (arith, common_steps, in_turn, same)
+same_cable cable other one two same = grind (arith, common_steps, cable_in_order-le, same)
 
-by_found : (found other : Option (Option ℕ × Option ℕ)) → is_none found ≡ is_none other → IfSome found IsInOrder
-    → IfSome other IsInOrder
-    → SameLetters (option_map_or cable_letters found []) (option_map_or cable_letters other []) → found ≡ other
+by_found : (found other : Option (Option ℕ × Option ℕ)) → is_none found ≡ is_none other → IfSome found IsCableInOrder
+    → IfSome other IsCableInOrder
+    → HaveSameLetters (option_map_or cable_letters found []) (option_map_or cable_letters other []) → found ≡ other
 by_found (Some cable) (Some other) size one two same =
     ap Some (same_cable cable other one two ((tests_tell_letters _ _).0 same))
 by_found found other size one two same = grind arith
@@ -155,35 +157,37 @@ no_converter m l e =
     let none = subst (λ model. Contains (reflectors_of model) m.reflector) e l.reflector in omega (arith, none.1)
 
 cable_alike : (m n : Parts) (cable : ℕ) → IsMachine m → IsMachine n → model_of n ≡ model_of m
-    → SameLetters (letters_in n cable) (letters_in m cable) → cable_in n cable ≡ cable_in m cable
-cable_alike m n cable e d g h = grind (arith, by_found, same_sizes, cables_in_order, in_their_order, no_converter)
+    → HaveSameLetters (letters_at_cable n cable) (letters_at_cable m cable)
+    → machine_cable n cable ≡ machine_cable m cable
+cable_alike m n cable e d g h = grind (arith, by_found, same_sizes, cables_in_order, all_ordered-same, no_converter)
 
 -- ---- two machines that a setting makes are alike, as the readers show them
 
-kept_model : (m n : Parts) (x : Setting) → Makes m x n → model_of n ≡ model_of m
+kept_model : (m n : Parts) (x : Setting) → ChangesTo m x n → model_of n ≡ model_of m
 kept_model m n x e = grind arith
 
 -- the slot holds the wheel, or it doesn't
 cases_held : (wheel : Wheel) (held : Option (Option Wheel)) → (held ≡ Some (Some wheel)) ⊎ (held ≢ Some (Some wheel))
 cases_held wheel held = grind (arith, cases_wheel)
 
-seats_alike : (m n o : Parts) (slot : ℕ) (wheel : Wheel) → Seats m slot wheel n → Seats m slot wheel o
+seats_alike : (m n o : Parts) (slot : ℕ) (wheel : Wheel) → SeatsWheel m slot wheel n → SeatsWheel m slot wheel o
     → (thing : Thing) → IsKept o n thing
 seats_alike m n o slot wheel one two (TheSlot other) =
     let same = kept_alike m n o (TheSlot other) in
     let first = one.others.others (TheSlot other) in
     let second = two.others.others (TheSlot other) in
-    let cases = cases_held wheel (slot_in m other) in
+    let cases = cases_held wheel (machine_slot m other) in
     grind (arith, cases_eq other slot, cases, one.left other, two.left other, same, first, second)
 seats_alike m n o slot wheel one two thing =
     grind (arith, kept_alike m n o thing, one.others.others thing, two.others.others thing)
 
-turns_alike : (m n o : Parts) (slot letter : ℕ) → Turns m slot letter n → Turns m slot letter o → (thing : Thing)
+turns_alike : (m n o : Parts) (slot letter : ℕ) → TurnsWheel m slot letter n → TurnsWheel m slot letter o
+    → (thing : Thing)
     → IsKept o n thing
 turns_alike (Rotor m) n o slot letter (wheel, at, shows, keeps) (other, there, showing, keeping) =
     let same : other ≡ wheel = same_Some _ _ (same_Some _ _ (sym there ∙ at)) in
     alike_but (TheLetter wheel) (Rotor m) n o keeps (subst (λ w. SetsOnly (TheLetter w) (Rotor m) o) same keeping)
-    (shows ∙ sym (subst (λ w. letter_in o w ≡ Some letter) same showing))
+    (shows ∙ sym (subst (λ w. machine_letter o w ≡ Some letter) same showing))
 turns_alike (Pin m) n o wheel letter one two = alike_but (TheShown wheel) (Pin m) n o one.1 two.1 (one.0 ∙ sym two.0)
 
 bar_alike : (lug : Lug) (bar other : Option (Place × Place))
@@ -194,7 +198,8 @@ bar_alike lug bar other moved stays = grind (arith, same_Some)
 both_ways_same : {A B C : Type 0} → A ↔ B → C ↔ B → A ↔ C
 both_ways_same one two = grind arith
 
-made_alike : (m n o : Parts) (x : Setting) → IsMachine n → IsMachine o → Makes m x n → Makes m x o → (thing : Thing)
+made_alike : (m n o : Parts) (x : Setting) → IsMachine n → IsMachine o → ChangesTo m x n → ChangesTo m x o
+    → (thing : Thing)
     → IsKept o n thing
 made_alike m n o (Pull cable letter) h k one two =
     alike_but (TheCable cable) m n o one.1 two.1 (cable_alike o n cable k h (one.1.model
@@ -205,14 +210,15 @@ made_alike m n o (Put cable letter) h k one two =
 made_alike m n o (Seat slot wheel) h k one two = seats_alike m n o slot wheel one two
 made_alike m n o (Turn slot letter) h k one two = turns_alike m n o slot letter one two
 made_alike m n o (LugTo bar lug place) h k one two =
-    alike_but (TheBar bar) m n o one.1 two.1 (bar_alike lug (standing_in n bar) (standing_in o bar) (one.0.moved
+    alike_but (TheBar bar) m n o one.1 two.1
+    (bar_alike lug (machine_standing n bar) (machine_standing o bar) (one.0.moved
     ∙ sym two.0.moved) (one.0.other ∙ sym two.0.other))
 made_alike m n o x h k one two = alike_but _ m n o one.1 two.1 (one.0 ∙ sym two.0)
 
 pub telling_is_making : TellingIsMaking
 telling_is_making m n x h k r allows made =
     let allowed = (refusals_are_told m x h).1 allows in
-    let o = changed m x in
+    let o = machine_after m x in
     let carried : Carries m x o = record { allowed = allowed; made = refl } in
     let told = settings_are_told m o x h carried in
     let kept = settings_keep_machines m o x h r carried in

@@ -1,26 +1,27 @@
 -- Lemmas on wheels and reflectors by their names, and on the slots and places that wheels have.
 use Rattle.kd_state.proofs.Prelude.{has_reflector, has_wheel, place_in_box, same_reflector, same_wheel}
-use Rattle.kd_state.proofs.Prelude.{AllowedWheelsLieInTheBox, DaysWheelsHaveTheirPlaces, PlacesTellWheels, StandsAt}
+use Rattle.kd_state.proofs.Prelude.{AllowedWheelsLieInTheBox, DaysWheelsHaveTheirPlaces, PlacesTellWheels, IsSeatedAt}
 use Rattle.kd_state.proofs.Prelude.{ShowsWindow, Day, OfPins, PinDay, AllByRecursion, All-from_recursion}
-use Rattle.kd_state.proofs.Prelude.{recursion_from_All, seats, Parts, Pin, PinParts, SheetWheel, IsAllowed, box_of}
-use Rattle.kd_state.proofs.Prelude.{lies_in, reflector_text, slots_of, wheel_text, wheels_for, Model, Reflector, Wheel}
-use Rattle.kd_state.proofs.Prelude.{I, cases_Bool, eqb-true, false_from_ne_true, leb-true, Decides-like}
-use Rattle.kd_state.proofs.Prelude.{Contains-append_left, Contains-append_right, Contains-get_or, passes_at_first}
-use Rattle.kd_state.proofs.Prelude.{position_or_len_is, is_member-Decides, same_Some, slice_get-get_or, slice_get-map}
-use Rattle.kd_state.proofs.Prelude.{Decides, pointwise_decides, All, list_any, position_or_len, option_eq, unwrap_or}
-use Rattle.kd_state.proofs.Prelude.{Bool, Contains, List, Option, [], ap, arith, false, find, get_or, length, refl}
-use Rattle.kd_state.proofs.Prelude.{rules, sym, true, ℕ, ◌<◌, ◌↔◌, ◌∙◌, ◌∷◌, ◌≡◌, ◌≢◌, ◌≤◌, pointwise}
+use Rattle.kd_state.proofs.Prelude.{recursion_from_All, seats_of_wheels, Parts, Pin, PinParts, SheetWheel, IsAllowed}
+use Rattle.kd_state.proofs.Prelude.{box_of, is_from_to, reflector_text, slots_of, wheel_text, wheels_for, Model}
+use Rattle.kd_state.proofs.Prelude.{Reflector, Wheel, I, cases_Bool, eqb-true, false_from_ne_true, leb-true}
+use Rattle.kd_state.proofs.Prelude.{Decides-like, Contains-append_left, Contains-append_right, Contains-get_or}
+use Rattle.kd_state.proofs.Prelude.{passes_at_first, position_or_len_is, is_member-Decides, same_Some, slice_get-get_or}
+use Rattle.kd_state.proofs.Prelude.{slice_get-map, Decides, pointwise_decides, All, list_any, position_or_len}
+use Rattle.kd_state.proofs.Prelude.{option_eq, unwrap_or, Bool, Contains, List, Option, [], ap, arith, false, find}
+use Rattle.kd_state.proofs.Prelude.{get_or, length, refl, rules, sym, true, ℕ, ◌<◌, ◌↔◌, ◌∙◌, ◌∷◌, ◌≡◌, ◌≢◌, ◌≤◌}
+use Rattle.kd_state.proofs.Prelude.{pointwise}
 use Rattle.{kd_tables.specs.contracts.wheel.Wheel.the_type, kd_tables.specs.declared.model.Model.TheVariants.M4}
 use Rattle.{std.proofs.Common.{cond, ◌==◌}, std.proofs.lemmas.Slice.Eq.bytes_eq-Decides, std.specs.Str.bytes_eq}
 use denote.Enum.Bare.{sameb, same_true, same_false}
 
 -- the thing in `all` with this name, or `d`
-abbrev pub named : {T : Type 0} → (T → List ℕ) → List T → T → List ℕ → T
-named name all d text = unwrap_or (find (λ x. bytes_eq (name x) text) all) d
+abbrev pub named_or : {T : Type 0} → (T → List ℕ) → List T → T → List ℕ → T
+named_or name all d text = unwrap_or (find (λ x. bytes_eq (name x) text) all) d
 
-pub told : {T : Type 0} (name : T → List ℕ) (back : List ℕ → T) → ((x : T) → back (name x) ≡ x) → (x y : T)
+pub name-injective : {T : Type 0} (name : T → List ℕ) (back : List ℕ → T) → ((x : T) → back (name x) ≡ x) → (x y : T)
     → name x ≡ name y → x ≡ y
-told name back undone x y e = grind (arith, undone)
+name-injective name back undone x y e = grind (arith, undone)
 
 pub one_wheel : (x y : Wheel) → wheel_text x ≡ wheel_text y → x ≡ y
 one_wheel x y e = grind arith
@@ -72,7 +73,7 @@ in_some : (b : Bool) (wheels : List Wheel) (wheel : Wheel) → Contains (cond b 
     → (b ≡ true) × Contains wheels wheel
 in_some b wheels wheel e = grind arith
 
-lies_in_both : (first last number : ℕ) → lies_in first last number ≡ true → (first ≤ number) × (number ≤ last)
+lies_in_both : (first last number : ℕ) → is_from_to first last number ≡ true → (first ≤ number) × (number ≤ last)
 lies_in_both first last number e = grind (arith, leb-true)
 
 pub record IsPlaced (model : Model) (slot : ℕ) (wheel : Wheel) : Type 0 where
@@ -81,14 +82,15 @@ pub record IsPlaced (model : Model) (slot : ℕ) (wheel : Wheel) : Type 0 where
   pub in_box : Contains (box_of model) wheel
 
 placed_in_m4 : (first : Bool) (slot : ℕ) (wheel : Wheel) → (slot == 1) ≡ first
-    → Contains (cond first (wheels_for M4 1) (cond (lies_in 2 4 slot) (wheels_for M4 2) [])) wheel
+    → Contains (cond first (wheels_for M4 1) (cond (is_from_to 2 4 slot) (wheels_for M4 2) [])) wheel
     → IsPlaced M4 slot wheel
 placed_in_m4 true slot wheel e h = search (rules, eqb-true, Contains-append_right)
 placed_in_m4 false slot wheel e h = grind (arith, in_some, lies_in_both, Contains-append_left)
 
-pub placed : (model : Model) (slot : ℕ) (wheel : Wheel) → IsAllowed model slot wheel → IsPlaced model slot wheel
-placed M4 slot wheel h = placed_in_m4 (slot == 1) slot wheel refl h
-placed model slot wheel h = grind (arith, in_some, lies_in_both)
+pub IsAllowed-IsPlaced : (model : Model) (slot : ℕ) (wheel : Wheel) → IsAllowed model slot wheel
+    → IsPlaced model slot wheel
+IsAllowed-IsPlaced M4 slot wheel h = placed_in_m4 (slot == 1) slot wheel refl h
+IsAllowed-IsPlaced model slot wheel h = grind (arith, in_some, lies_in_both)
 
 pub lacks_wheel : (wheels : List Wheel) (wheel : Wheel) → ¬ (Contains wheels wheel) → has_wheel wheels wheel ≡ false
 lacks_wheel wheels wheel h = grind (arith, false_from_ne_true, has_wheel-Decides)
@@ -108,7 +110,7 @@ found_in_box model wheel place within before here =
 -- ---- each wheel of the box, and so of a day, has its own place
 
 pub allowed_in_box : AllowedWheelsLieInTheBox
-allowed_in_box model slot wheel h = (placed model slot wheel h).in_box
+allowed_in_box model slot wheel h = (IsAllowed-IsPlaced model slot wheel h).in_box
 
 -- the wheel at a wheel's place is this wheel
 at_its_place : (model : Model) (wheel : Wheel) → Contains (box_of model) wheel
@@ -119,13 +121,13 @@ pub places_tell_wheels : PlacesTellWheels
 places_tell_wheels model wheel other h k e =
     at_its_place model wheel h ∙ ap (λ place. get_or (box_of model) place I) e ∙ sym (at_its_place model other k)
 
-seated : (wheels : List SheetWheel) (i : ℕ) (d : SheetWheel) → i < length wheels
-    → StandsAt (seats wheels) i (get_or wheels i d).wheel
-seated wheels i d lt = grind (arith, slice_get-map, slice_get-get_or)
+IsSeatedAt-seats : (wheels : List SheetWheel) (i : ℕ) (d : SheetWheel) → i < length wheels
+    → IsSeatedAt (seats_of_wheels wheels) i (get_or wheels i d).wheel
+IsSeatedAt-seats wheels i d lt = grind (arith, slice_get-map, slice_get-get_or)
 
 pub days_wheels_have_their_places : DaysWheelsHaveTheirPlaces
 days_wheels_have_their_places model wheels h i j d before within same =
-    grind (arith, seated, places_tell_wheels, allowed_in_box, h.allowed, h.apart)
+    grind (arith, IsSeatedAt-seats, places_tell_wheels, allowed_in_box, h.allowed, h.apart)
 
 seat_Decides : (one other : Option Wheel) → Decides (option_eq (sameb the_type) one other) (one ≡ other)
 seat_Decides one other = grind (arith, same_true, same_false, same_Some)

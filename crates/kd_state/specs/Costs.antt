@@ -14,18 +14,18 @@ use Rattle.kd_state.specs.declared.machine.rotor_parts.RotorParts.{RotorParts}
 use Rattle.kd_state.specs.declared.machine.pin_parts.PinParts.{PinParts}
 use Rattle.kd_state.specs.declared.machine.parts.Parts.{Parts}
 use Rattle.kd_state.specs.declared.machine.parts.Parts.TheVariants.{Rotor, Pin}
-use Rattle.kd_state.specs.ToldApart.{same_wheel, same_reflector}
+use Rattle.kd_state.specs.SameParts.{same_wheel, same_reflector}
 use Rattle.kd_state.specs.Machine.{cable_letters, ring_at, letter_at}
-use Rattle.kd_state.specs.Setting.{has_letter, is_at}
+use Rattle.kd_state.specs.Setting.{has_letter, is_same_place}
 use Rattle.kd_state.specs.SheetDay.{RotorDay, PinDay, Day, OfRotors, OfPins}
 
 -- whether exactly one of the two holds
-abbrev pub differ : Bool → Bool → Bool
-differ a b = if a then not b else b
+abbrev pub exactly_one : Bool → Bool → Bool
+exactly_one a b = if a then not b else b
 
 -- 0 if the test holds, else 1
-abbrev pub unless_same : Bool → ℕ
-unless_same same = if same then 0 else 1
+abbrev pub one_unless : Bool → ℕ
+one_unless same = if same then 0 else 1
 
 -- the letters of a column's pair; none if the column has no pair
 abbrev pub column_letters : Option (ℕ × ℕ) → List ℕ
@@ -33,17 +33,18 @@ column_letters None = []
 column_letters (Some pair) = pair.0 ∷ pair.1 ∷ []
 
 -- whether the letter is in the cable or in the column's pair, but not in both
-abbrev pub lies_in_one : Option ℕ × Option ℕ → Option (ℕ × ℕ) → ℕ → Bool
-lies_in_one cable column letter =
-    differ (has_letter (cable_letters cable) letter) (has_letter (column_letters column) letter)
+abbrev pub lies_in_exactly_one : Option ℕ × Option ℕ → Option (ℕ × ℕ) → ℕ → Bool
+lies_in_exactly_one cable column letter =
+    exactly_one (has_letter (cable_letters cable) letter) (has_letter (column_letters column) letter)
 
 -- the cost of giving a cable the column's pair, or emptying it: how many letters only one of the two has
 abbrev pub cable_cost : Option ℕ × Option ℕ → Option (ℕ × ℕ) → ℕ
-cable_cost cable column = count_by (lies_in_one cable column) alphabet
+cable_cost cable column = count_by (lies_in_exactly_one cable column) alphabet
 
 -- how many lugs move from one standing to the other
 abbrev pub lugs_moved : Place × Place → Place × Place → ℕ
-lugs_moved standing other = unless_same (is_at standing.0 other.0) + unless_same (is_at standing.1 other.1)
+lugs_moved standing other = one_unless (is_same_place standing.0 other.0)
+    + one_unless (is_same_place standing.1 other.1)
 
 -- whether the standing reads as this row
 abbrev pub reads_as_row : ℕ × ℕ → Place × Place → Bool
@@ -55,12 +56,12 @@ unfoldable pub standings_as : ℕ × ℕ → List (Place × Place)
 standings_as row = filter (reads_as_row row) standings
 
 -- the place of this pin wheel; for 0, the left place that has no wheel
-abbrev pub place_at : ℕ → Place
-place_at wheel = slice_index_or (ZeroLeft ∷ One ∷ Two ∷ Three ∷ Four ∷ Five ∷ Six ∷ []) wheel Six
+abbrev pub place_of_pin_wheel : ℕ → Place
+place_of_pin_wheel wheel = slice_index_or (ZeroLeft ∷ One ∷ Two ∷ Three ∷ Four ∷ Five ∷ Six ∷ []) wheel Six
 
 -- the standing with its lugs at these two places
-abbrev pub across : Place → Place → Place × Place
-across one other = if nat_lt (place_rank one) (place_rank other) then (one, other) else (other, one)
+abbrev pub standing_across : Place → Place → Place × Place
+standing_across one other = if nat_lt (place_rank one) (place_rank other) then (one, other) else (other, one)
 
 -- The cost of making a bar read as this row: the least number of lugs to move, at most 2.
 abbrev pub bar_cost : Place × Place → ℕ × ℕ → ℕ
@@ -99,7 +100,7 @@ loose_slots m s = count_by (λ slot. not (option_map_or (same_wheel slot.1.wheel
 
 -- 1 if the reflector isn't the day's, else 0
 abbrev pub loose_reflector : RotorParts → RotorDay → ℕ
-loose_reflector m s = unless_same (same_reflector m.reflector s.reflector)
+loose_reflector m s = one_unless (same_reflector m.reflector s.reflector)
 
 -- How many of the day's wheels have a ring that isn't the day's, and how many a letter that isn't. Wheels in
 -- the box count too.
@@ -112,7 +113,7 @@ loose_letters m s = count_by (λ w. not (option_map_or (nat_eq w.letter) (letter
 -- how many pins differ from the day's, and how many shown letters
 abbrev pub loose_pins : PinParts → PinDay → ℕ
 loose_pins m s =
-    sum (map (λ wheel. count_by (λ pin. differ pin.0 pin.1) (zip wheel.0 wheel.1))
+    sum (map (λ wheel. count_by (λ pin. exactly_one pin.0 pin.1) (zip wheel.0 wheel.1))
     (zip (pins_of m.pins) (pins_of s.pins)))
 
 abbrev pub loose_pin_letters : PinParts → PinDay → ℕ

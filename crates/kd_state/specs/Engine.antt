@@ -11,7 +11,7 @@ mechanism_key (FourWheels key) = OfWheels key
 mechanism_key (Drum key) = OfDrum key
 
 -- The key has as many wheels as the mechanism's variant says.
-abbrev pub HasItsWheels : Mechanism → Type 0
-HasItsWheels (ThreeWheels key) = length key.wheels ≡ 3
-HasItsWheels (FourWheels key) = length key.wheels ≡ 4
-HasItsWheels (Drum key) = Unit {0}
+abbrev pub HasKeyWheelCount : Mechanism → Type 0
+HasKeyWheelCount (ThreeWheels key) = length key.wheels ≡ 3
+HasKeyWheelCount (FourWheels key) = length key.wheels ≡ 4
+HasKeyWheelCount (Drum key) = Unit {0}

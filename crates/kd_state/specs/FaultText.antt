@@ -1,7 +1,7 @@
 -- The name of each reason, and the text of each fault of a setting or a list.
 use Rattle.std.specs.Prelude.{codes, decimal, ℕ, List, ◌++◌}
 use Rattle.kd_tables.specs.declared.refusal.Refusal.TheVariants as refusals
-use Rattle.kd_tables.specs.Refusals.{refusal_name, spaced}
+use Rattle.kd_tables.specs.Refusals.{refusal_name, word_after_space}
 use Rattle.kd_state.specs.declared.setting.carrying.IllegalAt.{IllegalAt}
 use Rattle.kd_state.specs.declared.setting.list.ListFault.{ListFault}
 use Rattle.kd_state.specs.declared.setting.list.ListFault.TheVariants.{BadLine, TooMany}
@@ -23,11 +23,12 @@ why_name whys.PlaceTaken = codes "PlaceTaken"
 why_name whys.WouldPass = codes "WouldPass"
 
 abbrev pub illegal_text : Illegal → List ℕ
-illegal_text fault = refusal_name refusals.Illegal ++ spaced (why_name fault.why)
+illegal_text fault = refusal_name refusals.Illegal ++ word_after_space (why_name fault.why)
 
 abbrev pub illegal_at_text : IllegalAt → List ℕ
-illegal_at_text fault = refusal_name refusals.IllegalAt ++ spaced (decimal fault.line) ++ spaced (why_name fault.why)
+illegal_at_text fault = refusal_name refusals.IllegalAt ++ word_after_space (decimal fault.line)
+    ++ word_after_space (why_name fault.why)
 
 abbrev pub list_fault_text : ListFault → List ℕ
-list_fault_text (BadLine line) = refusal_name refusals.BadLine ++ spaced (decimal line)
+list_fault_text (BadLine line) = refusal_name refusals.BadLine ++ word_after_space (decimal line)
 list_fault_text TooMany = refusal_name refusals.TooMany

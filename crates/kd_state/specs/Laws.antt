@@ -13,17 +13,17 @@ use Rattle.kd_state.specs.declared.setting.Setting.{Setting}
 use Rattle.kd_state.specs.declared.setting.Setting.TheVariants.{Seat, SeatReflector, RingTo}
 use Rattle.kd_state.specs.declared.setting.list.ListFault.{ListFault}
 use Rattle.kd_state.specs.declared.sheet_day.rotor_entry.SheetWheel.{SheetWheel}
-use Rattle.kd_state.specs.ToldApart.{same_wheel, same_reflector, place_in_box}
+use Rattle.kd_state.specs.SameParts.{same_wheel, same_reflector, place_in_box}
 use Rattle.kd_state.specs.Machine.{IsMachine}
 use Rattle.kd_state.specs.Setting.{has_letter, why_refused, Carries, Leads}
-use Rattle.kd_state.specs.Changes.{Makes, Allows}
+use Rattle.kd_state.specs.Changes.{ChangesTo, AllowsSetting}
 use Rattle.kd_state.specs.Words.{IsWord}
-use Rattle.kd_state.specs.Line.{setting_words, setting_line, IsInRange, IsList, IsListFault}
-use Rattle.kd_state.specs.SheetDay.{seats, AreSeated, Day, IsLegalDay}
-use Rattle.kd_state.specs.OnKey.{SameLetters, OnKey, ReadsAs}
+use Rattle.kd_state.specs.Line.{setting_words, setting_line, IsSettingInRange, IsListText, IsListFault}
+use Rattle.kd_state.specs.SheetDay.{seats_of_wheels, AreLegalSeats, Day, IsLegalDay}
+use Rattle.kd_state.specs.OnKey.{HaveSameLetters, OnKey, ReadsAs}
 use Rattle.kd_state.specs.Costs.{columns_of, cable_cost, cost_table}
-use Rattle.kd_state.specs.TwoCiphers.{EngineKey, cipher, key_left, key_with_window, IsWindow, IsReady, window_of}
-use Rattle.kd_state.specs.TwoCiphers.{physical_key, physical_cipher, sheet_key, sheet_cipher, IsTurned}
+use Rattle.kd_state.specs.TwoCiphers.{EngineKey, cipher, engine_key_after, key_with_window, IsWindow, IsReady}
+use Rattle.kd_state.specs.TwoCiphers.{window_of, physical_key, physical_cipher, sheet_key, sheet_cipher, IsTurnedTo}
 
 -- Different wheels have different names, and so have different reflectors.
 abbrev pub NamesTellWheels : Type 0
@@ -47,17 +47,18 @@ PlacesTellWheels = (model : Model) (wheel other : Wheel) → Contains (box_of mo
 
 -- Two wheels of a day have different places in the box.
 abbrev pub DaysWheelsHaveTheirPlaces : Type 0
-DaysWheelsHaveTheirPlaces = (model : Model) (wheels : List SheetWheel) → AreSeated model (seats wheels)
+DaysWheelsHaveTheirPlaces = (model : Model) (wheels : List SheetWheel) → AreLegalSeats model (seats_of_wheels wheels)
     → AllPairs (λ (w other : SheetWheel). place_in_box model w.wheel ≢ place_in_box model other.wheel) wheels
 
 -- ---- The laws of settings: each is refused or has one result, which is just the change that the readers show.
 
 -- A machine stays a machine when a setting or a list of settings is carried out.
 abbrev pub SettingsKeepMachines : Type 0
-SettingsKeepMachines = (m n : Parts) (x : Setting) → IsMachine m → IsInRange x → Carries m x n → IsMachine n
+SettingsKeepMachines = (m n : Parts) (x : Setting) → IsMachine m → IsSettingInRange x → Carries m x n → IsMachine n
 
 abbrev pub ListsKeepMachines : Type 0
-ListsKeepMachines = (m n : Parts) (xs : List Setting) → IsMachine m → All IsInRange xs → Leads m xs n → IsMachine n
+ListsKeepMachines = (m n : Parts) (xs : List Setting) → IsMachine m → All IsSettingInRange xs → Leads m xs n
+    → IsMachine n
 
 -- A machine refuses a setting or carries it out, and never both. A setting has one result, and so has a list.
 abbrev pub RefusesOrCarries : Type 0
@@ -73,16 +74,17 @@ LeadsToOne = (m n o : Parts) (xs : List Setting) → Leads m xs n → Leads m xs
 
 -- A setting that is carried out makes its change and no other, as the readers show it.
 abbrev pub SettingsAreTold : Type 0
-SettingsAreTold = (m n : Parts) (x : Setting) → IsMachine m → Carries m x n → Makes m x n
+SettingsAreTold = (m n : Parts) (x : Setting) → IsMachine m → Carries m x n → ChangesTo m x n
 
 -- If a setting is allowed, and the readers show its change and no other, then it was carried out.
 abbrev pub TellingIsMaking : Type 0
 TellingIsMaking =
-    (m n : Parts) (x : Setting) → IsMachine m → IsMachine n → IsInRange x → Allows m x → Makes m x n → Carries m x n
+    (m n : Parts) (x : Setting) → IsMachine m → IsMachine n → IsSettingInRange x → AllowsSetting m x
+    → ChangesTo m x n → Carries m x n
 
 -- A setting is refused exactly if it isn't allowed by what the readers show.
 abbrev pub RefusalsAreTold : Type 0
-RefusalsAreTold = (m : Parts) (x : Setting) → IsMachine m → (why_refused m x ≡ None) ↔ Allows m x
+RefusalsAreTold = (m : Parts) (x : Setting) → IsMachine m → (why_refused m x ≡ None) ↔ AllowsSetting m x
 
 -- A machine refuses a wheel, a reflector or a ring exactly if the tables don't allow it.
 abbrev pub SeatsAreByTheTables : Type 0
@@ -104,19 +106,19 @@ RingsAreByTheTables =
 
 -- The parts of a setting's line are words.
 abbrev pub SettingsHaveWords : Type 0
-SettingsHaveWords = (x : Setting) → IsInRange x → All IsWord (setting_words x)
+SettingsHaveWords = (x : Setting) → IsSettingInRange x → All IsWord (setting_words x)
 
 -- Different settings have different lines.
 abbrev pub LinesTellSettings : Type 0
-LinesTellSettings = (x y : Setting) → IsInRange x → IsInRange y → setting_line x ≡ setting_line y → x ≡ y
+LinesTellSettings = (x y : Setting) → IsSettingInRange x → IsSettingInRange y → setting_line x ≡ setting_line y → x ≡ y
 
 -- Bytes are the text of at most one list. A list's text has no fault, and no text has two faults.
 abbrev pub TextsTellLists : Type 0
-TextsTellLists = (bytes : List ℕ) (xs ys : List Setting) → IsList bytes xs → IsList bytes ys → xs ≡ ys
+TextsTellLists = (bytes : List ℕ) (xs ys : List Setting) → IsListText bytes xs → IsListText bytes ys → xs ≡ ys
 
 abbrev pub ListsHaveNoFault : Type 0
 ListsHaveNoFault =
-    (bytes : List ℕ) (xs : List Setting) (fault : ListFault) → IsList bytes xs → ¬ (IsListFault bytes fault)
+    (bytes : List ℕ) (xs : List Setting) (fault : ListFault) → IsListText bytes xs → ¬ (IsListFault bytes fault)
 
 abbrev pub OneListFault : Type 0
 OneListFault =
@@ -131,7 +133,7 @@ abbrev pub EngineIsTheMachine : Type 0
 EngineIsTheMachine = (m : Parts) (text : List ℕ) → cipher (physical_key m) text ≡ physical_cipher m text
 
 abbrev pub TurnedEngineIsTheTurnedMachine : Type 0
-TurnedEngineIsTheTurnedMachine = (m n : Parts) (window text : List ℕ) → IsTurned m window n
+TurnedEngineIsTheTurnedMachine = (m n : Parts) (window text : List ℕ) → IsTurnedTo m window n
     → cipher (key_with_window (physical_key m) window) text ≡ physical_cipher n text
 
 -- A machine that reads as the day is ready, and enciphers as the day asks.
@@ -154,14 +156,14 @@ OnKeyIsItsCipher = (m : Parts) (s : Day) (text : List ℕ) → IsMachine m → I
 -- A machine on the day's key that is turned to other letters enciphers as the day asks, from these letters.
 abbrev pub TurnedHasTheDaysCipher : Type 0
 TurnedHasTheDaysCipher =
-    (m n : Parts) (s : Day) (window text : List ℕ) → IsMachine m → IsLegalDay s → OnKey m s → IsTurned m window n
+    (m n : Parts) (s : Day) (window text : List ℕ) → IsMachine m → IsLegalDay s → OnKey m s → IsTurnedTo m window n
     → physical_cipher n text ≡ cipher (key_with_window (sheet_key s) window) text
 
 -- A ready machine can be turned to each window.
 abbrev pub MachinesCanBeTurned : Type 0
 MachinesCanBeTurned =
     (m : Parts) (window : List ℕ) → IsMachine m → IsReady m → IsWindow (physical_key m) window
-    → (n : Parts) × IsTurned m window n × IsMachine n
+    → (n : Parts) × IsTurnedTo m window n × IsMachine n
 
 -- If two machines on the day's key show the same letters, each deciphers what the other enciphers.
 abbrev pub EquallySetDecipher : Type 0
@@ -177,26 +179,27 @@ TheDayDeciphersItself = (s : Day) (window text : List ℕ) → IsLegalDay s → 
 -- A machine on the day's key stays on it when it is turned to other letters, and its key changes only in its
 -- letters.
 abbrev pub TurnedIsOnKey : Type 0
-TurnedIsOnKey = (m n : Parts) (s : Day) (window : List ℕ) → IsTurned m window n → OnKey m s → OnKey n s
+TurnedIsOnKey = (m n : Parts) (s : Day) (window : List ℕ) → IsTurnedTo m window n → OnKey m s → OnKey n s
 
 abbrev pub TurnedHasItsKey : Type 0
 TurnedHasItsKey =
-    (m n : Parts) (window : List ℕ) → IsTurned m window n → physical_key n ≡ key_with_window (physical_key m) window
+    (m n : Parts) (window : List ℕ) → IsTurnedTo m window n → physical_key n ≡ key_with_window (physical_key m) window
 
 -- A text can be enciphered in two pieces, the second with the key that the first leaves.
 abbrev pub CipherInTurn : Type 0
 CipherInTurn =
     (key : EngineKey) (first rest : List ℕ)
-    → cipher key (first ++ rest) ≡ cipher key first ++ cipher (key_left key (length first)) rest
+    → cipher key (first ++ rest) ≡ cipher key first ++ cipher (engine_key_after key (length first)) rest
 
 abbrev pub KeyInTurn : Type 0
-KeyInTurn = (key : EngineKey) (m n : ℕ) → key_left (key_left key m) n ≡ key_left key (m + n)
+KeyInTurn = (key : EngineKey) (m n : ℕ) → engine_key_after (engine_key_after key m) n ≡ engine_key_after key (m + n)
 
 -- ---- The laws of columns and costs.
 
 -- Two lists have the same letters exactly if `has_letter` gives the same answer for both, whatever the letter.
 abbrev pub TestsTellLetters : Type 0
-TestsTellLetters = (xs ys : List ℕ) → SameLetters xs ys ↔ ((letter : ℕ) → has_letter xs letter ≡ has_letter ys letter)
+TestsTellLetters = (xs ys : List ℕ) → HaveSameLetters xs ys
+    ↔ ((letter : ℕ) → has_letter xs letter ≡ has_letter ys letter)
 
 -- A day has 13 columns: its pairs in their order, and then columns without a pair.
 abbrev pub ThirteenColumns : Type 0

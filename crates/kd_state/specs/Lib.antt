@@ -1,6 +1,6 @@
 pub mod Slots
 pub mod Wheels
-pub mod ToldApart
+pub mod SameParts
 pub mod Pins
 pub mod Machine
 pub mod Setting

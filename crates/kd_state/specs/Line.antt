@@ -13,9 +13,9 @@ use Rattle.kd_state.specs.declared.setting.list.ListFault.{ListFault}
 use Rattle.kd_state.specs.declared.setting.list.ListFault.TheVariants.{BadLine, TooMany}
 
 -- `ON` for an effective pin, `OFF` for another
-abbrev pub pin_text : Bool → List ℕ
-pin_text true = codes "ON"
-pin_text false = codes "OFF"
+abbrev pub on_off_text : Bool → List ℕ
+on_off_text true = codes "ON"
+on_off_text false = codes "OFF"
 
 -- the words of a setting's line
 abbrev pub setting_words : Setting → List (List ℕ)
@@ -26,7 +26,7 @@ setting_words (SeatReflector reflector) = codes "REFLECTOR" ∷ reflector_text r
 setting_words (RingTo wheel letter) = codes "RING" ∷ wheel_text wheel ∷ letter_text letter ∷ []
 setting_words (Turn slot letter) = codes "TURN" ∷ decimal slot ∷ letter_text letter ∷ []
 setting_words (PinTo wheel letter effective) =
-    codes "PIN" ∷ decimal wheel ∷ letter_text letter ∷ pin_text effective ∷ []
+    codes "PIN" ∷ decimal wheel ∷ letter_text letter ∷ on_off_text effective ∷ []
 setting_words (LugTo bar lug place) = codes "LUG" ∷ decimal bar ∷ lug_text lug ∷ place_text place ∷ []
 
 -- the line of a setting without LF: its words, with single spaces between them
@@ -34,21 +34,21 @@ abbrev pub setting_line : Setting → List ℕ
 setting_line x = line_of (setting_words x)
 
 -- The setting's number is a byte, and its letter is below 26.
-abbrev pub IsInRange : Setting → Type 0
-IsInRange (Pull cable letter) = (cable < 2 ^ 8) × (letter < 26)
-IsInRange (Put cable letter) = (cable < 2 ^ 8) × (letter < 26)
-IsInRange (Seat slot wheel) = slot < 2 ^ 8
-IsInRange (SeatReflector reflector) = Unit {0}
-IsInRange (RingTo wheel letter) = letter < 26
-IsInRange (Turn slot letter) = (slot < 2 ^ 8) × (letter < 26)
-IsInRange (PinTo wheel letter effective) = (wheel < 2 ^ 8) × (letter < 26)
-IsInRange (LugTo bar lug place) = bar < 2 ^ 8
+abbrev pub IsSettingInRange : Setting → Type 0
+IsSettingInRange (Pull cable letter) = (cable < 2 ^ 8) × (letter < 26)
+IsSettingInRange (Put cable letter) = (cable < 2 ^ 8) × (letter < 26)
+IsSettingInRange (Seat slot wheel) = slot < 2 ^ 8
+IsSettingInRange (SeatReflector reflector) = Unit {0}
+IsSettingInRange (RingTo wheel letter) = letter < 26
+IsSettingInRange (Turn slot letter) = (slot < 2 ^ 8) × (letter < 26)
+IsSettingInRange (PinTo wheel letter effective) = (wheel < 2 ^ 8) × (letter < 26)
+IsSettingInRange (LugTo bar lug place) = bar < 2 ^ 8
 
 -- `result` is the setting with these words, or `None` if no setting has them.
-abbrev pub IsReadOff : List (List ℕ) → Option Setting → Type 0
-IsReadOff words result =
-    MatchOption result ((x : Setting) → IsInRange x → setting_words x ≢ words)
-    (λ x. (setting_words x ≡ words) × IsInRange x)
+abbrev pub IsSettingOfWords : List (List ℕ) → Option Setting → Type 0
+IsSettingOfWords words result =
+    MatchOption result ((x : Setting) → IsSettingInRange x → setting_words x ≢ words)
+    (λ x. (setting_words x ≡ words) × IsSettingInRange x)
 
 -- ---- The text of a list of settings, and its first fault.
 -- Test: kd_trials/src/state/list.rt
@@ -58,37 +58,37 @@ abbrev pub list_text : List Setting → List ℕ
 list_text settings = flat_map (λ x. setting_line x ++ 10 ∷ []) settings
 
 -- `bytes` are the lines of `settings`, and then `rest`.
-pub record BeginsWith (bytes : List ℕ) (settings : List Setting) (rest : List ℕ) : Type 0 where
+pub record BeginsWithSettingLines (bytes : List ℕ) (settings : List Setting) (rest : List ℕ) : Type 0 where
   pub lines : bytes ≡ list_text settings ++ rest
-  pub in_range : All IsInRange settings
+  pub in_range : All IsSettingInRange settings
 
 -- `bytes` are the line of setting `x`, LF, and then `rest`.
-pub record BeginsWithLine (bytes : List ℕ) (x : Setting) (rest : List ℕ) : Type 0 where
+pub record BeginsWithSettingLine (bytes : List ℕ) (x : Setting) (rest : List ℕ) : Type 0 where
   pub line : bytes ≡ setting_line x ++ 10 ∷ rest
-  pub in_range : IsInRange x
+  pub in_range : IsSettingInRange x
 
 -- The bytes don't begin with a setting's line and its LF.
-abbrev pub BeginsWithNoLine : List ℕ → Type 0
-BeginsWithNoLine bytes = (x : Setting) (rest : List ℕ) → IsInRange x → bytes ≢ setting_line x ++ 10 ∷ rest
+abbrev pub BeginsWithNoSetting : List ℕ → Type 0
+BeginsWithNoSetting bytes = (x : Setting) (rest : List ℕ) → IsSettingInRange x → bytes ≢ setting_line x ++ 10 ∷ rest
 
 -- `bytes` are the lines of at most 192 settings, and then `rest`, which begins with no setting's line.
-pub record BeginsWithSettings (bytes : List ℕ) (settings : List Setting) (rest : List ℕ) : Type 0 where
-  pub lines : BeginsWith bytes settings rest
+pub record BeginsWithAllSettings (bytes : List ℕ) (settings : List Setting) (rest : List ℕ) : Type 0 where
+  pub lines : BeginsWithSettingLines bytes settings rest
   pub few : length settings ≤ 192
-  pub none_more : BeginsWithNoLine rest
+  pub none_more : BeginsWithNoSetting rest
 
 -- The first fault of bytes that are no list: the first line that is no setting's, counted from 1; or a 193rd
 -- setting.
 abbrev pub IsListFault : List ℕ → ListFault → Type 0
 IsListFault bytes (BadLine line) =
     (settings : List Setting) × (rest : List ℕ)
-    × BeginsWith bytes settings rest × (length settings ≤ 192) × (line ≡ length settings + 1)
-    × (rest ≢ []) × BeginsWithNoLine rest
+    × BeginsWithSettingLines bytes settings rest × (length settings ≤ 192) × (line ≡ length settings + 1)
+    × (rest ≢ []) × BeginsWithNoSetting rest
 IsListFault bytes TooMany =
-    (settings : List Setting) × (rest : List ℕ) × BeginsWith bytes settings rest × (length settings ≡ 193)
+    (settings : List Setting) × (rest : List ℕ) × BeginsWithSettingLines bytes settings rest × (length settings ≡ 193)
 
 -- `bytes` are the text of the list `settings`, which has at most 192.
-pub record IsList (bytes : List ℕ) (settings : List Setting) : Type 0 where
+pub record IsListText (bytes : List ℕ) (settings : List Setting) : Type 0 where
   pub text : bytes ≡ list_text settings
-  pub in_range : All IsInRange settings
+  pub in_range : All IsSettingInRange settings
   pub few : length settings ≤ 192

@@ -9,27 +9,27 @@ use Rattle.kd_tables.specs.declared.place.Place.{Place}
 use Rattle.kd_tables.specs.Places.{place_number}
 use Rattle.kd_tables.specs.Rings.{ring_of, place_on}
 use Rattle.kd_pins.specs.PinWheel.{is_effective, place_past}
-use Rattle.kd_pins.specs.PinWheels.{pins_of, pins_on, offset_of, size_of}
+use Rattle.kd_pins.specs.PinWheels.{pins_of, pins_on, acting_offset, pin_wheel_size}
 use Rattle.kd_state.specs.declared.machine.pin_parts.PinParts.{PinParts}
 
 -- the place, on the wheel, of the letter that it shows at the start
-abbrev pub place_shown : PinParts → ℕ → ℕ
-place_shown m wheel = unwrap_or (place_on (ring_of wheel) (slice_index m.letters (wheel - 1))) 0
+abbrev pub shown_place_in_parts : PinParts → ℕ → ℕ
+shown_place_in_parts m wheel = unwrap_or (place_on (ring_of wheel) (slice_index m.letters (wheel - 1))) 0
 
 -- whether the wheel's acting pin is effective after `count` letters of the text
 abbrev pub pin_acts : PinParts → ℕ → ℕ → Bool
 pin_acts m count wheel =
     is_effective (pins_on (pins_of m.pins) wheel)
-    (place_past (size_of wheel) (place_shown m wheel + count) (offset_of wheel))
+    (place_past (pin_wheel_size wheel) (shown_place_in_parts m wheel + count) (acting_offset wheel))
 
 -- Whether a lug at this place moves its bar after `count` letters: the place has a wheel, and this wheel's
 -- acting pin is effective.
-abbrev pub lug_is_met : PinParts → ℕ → Place → Bool
-lug_is_met m count place = nat_lt 0 (place_number place) && pin_acts m count (place_number place)
+abbrev pub is_lug_met : PinParts → ℕ → Place → Bool
+is_lug_met m count place = nat_lt 0 (place_number place) && pin_acts m count (place_number place)
 
 -- how many bars one of their lugs, or both, move after `count` letters
 abbrev pub bars_moved : PinParts → ℕ → ℕ
-bars_moved m count = count_by (λ bar. lug_is_met m count bar.0 || lug_is_met m count bar.1) m.bars
+bars_moved m count = count_by (λ bar. is_lug_met m count bar.0 || is_lug_met m count bar.1) m.bars
 
 -- The ciphertext of `text`: each letter at its place in the reversed alphabet, moved on by the number of bars
 -- that move.

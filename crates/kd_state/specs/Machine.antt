@@ -18,28 +18,29 @@ use Rattle.kd_state.specs.declared.machine.rotor_parts.RotorParts.{RotorParts}
 use Rattle.kd_state.specs.declared.machine.pin_parts.PinParts.{PinParts}
 use Rattle.kd_state.specs.declared.machine.parts.Parts.{Parts}
 use Rattle.kd_state.specs.declared.machine.parts.Parts.TheVariants.{Rotor, Pin}
-use Rattle.kd_state.specs.ToldApart.{place_in_box, numbered}
+use Rattle.kd_state.specs.SameParts.{place_in_box, numbered_item}
 
 -- the letters in a cable
 abbrev pub cable_letters : Option ℕ × Option ℕ → List ℕ
 cable_letters cable = option_to_list cable.0 ++ option_to_list cable.1
 
 -- the letters in all cables
-abbrev pub plugged_letters : List (Option ℕ × Option ℕ) → List ℕ
-plugged_letters cables = flat_map cable_letters cables
+abbrev pub letters_in_cables : List (Option ℕ × Option ℕ) → List ℕ
+letters_in_cables cables = flat_map cable_letters cables
 
 -- The slot at index `place`, counted from 0 from the left, holds the wheel.
-abbrev pub StandsAt : List (Option Wheel) → ℕ → Wheel → Type 0
-StandsAt slots place wheel = slice_get slots place ≡ Some (Some wheel)
+abbrev pub IsSeatedAt : List (Option Wheel) → ℕ → Wheel → Type 0
+IsSeatedAt slots place wheel = slice_get slots place ≡ Some (Some wheel)
 
 -- Each wheel is allowed in its slot.
-abbrev pub AreAllowed : Model → List (Option Wheel) → Type 0
-AreAllowed model slots = (place : ℕ) (wheel : Wheel) → StandsAt slots place wheel → IsAllowed model (place + 1) wheel
+abbrev pub AreWheelsAllowed : Model → List (Option Wheel) → Type 0
+AreWheelsAllowed model slots = (place : ℕ) (wheel : Wheel) → IsSeatedAt slots place wheel
+    → IsAllowed model (place + 1) wheel
 
 -- No wheel is in two slots.
-abbrev pub AreApart : List (Option Wheel) → Type 0
-AreApart slots =
-    (place other : ℕ) (wheel : Wheel) → StandsAt slots place wheel → StandsAt slots other wheel → place ≡ other
+abbrev pub AreSeatedOnce : List (Option Wheel) → Type 0
+AreSeatedOnce slots =
+    (place other : ℕ) (wheel : Wheel) → IsSeatedAt slots place wheel → IsSeatedAt slots other wheel → place ≡ other
 
 -- There are `number` letters, each below 26.
 pub record AreLetters (number : ℕ) (letters : List ℕ) : Type 0 where
@@ -49,13 +50,13 @@ pub record AreLetters (number : ℕ) (letters : List ℕ) : Type 0 where
 -- There are 13 cables. Their letters are below 26, and none is in two places.
 pub record AreCables (cables : List (Option ℕ × Option ℕ)) : Type 0 where
   pub count : length cables ≡ 13
-  pub within : All (λ letter. letter < 26) (plugged_letters cables)
-  pub apart : IsDistinct nat_eq (plugged_letters cables)
+  pub within : All (λ letter. letter < 26) (letters_in_cables cables)
+  pub apart : IsDistinct nat_eq (letters_in_cables cables)
 
 -- There are six letters, each on its wheel.
 pub record AreOnWheels (letters : List ℕ) : Type 0 where
   pub count : length letters ≡ 6
-  pub each : (wheel letter : ℕ) → numbered letters wheel ≡ Some letter → Contains (ring_of wheel) letter
+  pub each : (wheel letter : ℕ) → numbered_item letters wheel ≡ Some letter → Contains (ring_of wheel) letter
 
 -- Each wheel has a pin for each of its letters.
 abbrev pub HasAllPins : PinSet → Type 0
@@ -69,8 +70,8 @@ HasAllPins pins = (wheel : ℕ) → length (wheel_pins pins wheel) ≡ length (r
 -- The parts make a rotor machine.
 pub record IsLegalRotor (m : RotorParts) : Type 0 where
   pub slots : length m.slots ≡ slots_of m.model
-  pub allowed : AreAllowed m.model m.slots
-  pub apart : AreApart m.slots
+  pub allowed : AreWheelsAllowed m.model m.slots
+  pub apart : AreSeatedOnce m.slots
   pub reflector : Contains (reflectors_of m.model) m.reflector
   pub rings : AreLetters (length (box_of m.model)) m.rings
   pub letters : AreLetters (length (box_of m.model)) m.letters
@@ -88,21 +89,21 @@ IsLegal (Rotor m) = IsLegalRotor m
 IsLegal (Pin m) = IsLegalPin m
 
 -- a cable with these letters in alphabetical order; a single letter is first
-abbrev pub ordered : Option ℕ → Option ℕ → Option ℕ × Option ℕ
-ordered None other = (other, None)
-ordered (Some letter) None = (Some letter, None)
-ordered (Some letter) (Some other) =
+abbrev pub cable_in_order : Option ℕ → Option ℕ → Option ℕ × Option ℕ
+cable_in_order None other = (other, None)
+cable_in_order (Some letter) None = (Some letter, None)
+cable_in_order (Some letter) (Some other) =
     if nat_le letter other then (Some letter, Some other) else (Some other, Some letter)
 
 -- the machine with the letters of each cable in order, since a cable is a set of letters
-abbrev pub cables_ordered : Parts → Parts
-cables_ordered (Rotor m) = Rotor (record m { cables = map (λ cable. ordered cable.0 cable.1) m.cables })
-cables_ordered (Pin m) = Pin m
+abbrev pub with_cables_in_order : Parts → Parts
+with_cables_in_order (Rotor m) = Rotor (record m { cables = map (λ cable. cable_in_order cable.0 cable.1) m.cables })
+with_cables_in_order (Pin m) = Pin m
 
 -- The parts are a machine's: legal, with the letters of each cable in order.
 pub record IsMachine (m : Parts) : Type 0 where
   pub legal : IsLegal m
-  pub cables : cables_ordered m ≡ m
+  pub cables : with_cables_in_order m ≡ m
 
 -- ---- What the readers of a machine show; `None` for a thing that the machine lacks.
 -- Test: kd_trials/src/state/reading.rt
@@ -120,39 +121,39 @@ abbrev pub letter_at : RotorParts → Wheel → Option ℕ
 letter_at m wheel = slice_get m.letters (place_in_box m.model wheel)
 
 -- what the slot holds, if the machine has the slot
-abbrev pub slot_in : Parts → ℕ → Option (Option Wheel)
-slot_in (Rotor m) slot = numbered m.slots slot
-slot_in (Pin m) slot = None
+abbrev pub machine_slot : Parts → ℕ → Option (Option Wheel)
+machine_slot (Rotor m) slot = numbered_item m.slots slot
+machine_slot (Pin m) slot = None
 
 -- the reflector, if the machine has one
-abbrev pub reflector_in : Parts → Option Reflector
-reflector_in (Rotor m) = Some m.reflector
-reflector_in (Pin m) = None
+abbrev pub machine_reflector : Parts → Option Reflector
+machine_reflector (Rotor m) = Some m.reflector
+machine_reflector (Pin m) = None
 
 -- the ring and the window letter of a wheel, if it is in the machine's box
-abbrev pub ring_in : Parts → Wheel → Option ℕ
-ring_in (Rotor m) wheel = ring_at m wheel
-ring_in (Pin m) wheel = None
+abbrev pub machine_ring : Parts → Wheel → Option ℕ
+machine_ring (Rotor m) wheel = ring_at m wheel
+machine_ring (Pin m) wheel = None
 
-abbrev pub letter_in : Parts → Wheel → Option ℕ
-letter_in (Rotor m) wheel = letter_at m wheel
-letter_in (Pin m) wheel = None
+abbrev pub machine_letter : Parts → Wheel → Option ℕ
+machine_letter (Rotor m) wheel = letter_at m wheel
+machine_letter (Pin m) wheel = None
 
 -- the letters in the cable, if the machine has the cable
-abbrev pub cable_in : Parts → ℕ → Option (Option ℕ × Option ℕ)
-cable_in (Rotor m) cable = numbered m.cables cable
-cable_in (Pin m) cable = None
+abbrev pub machine_cable : Parts → ℕ → Option (Option ℕ × Option ℕ)
+machine_cable (Rotor m) cable = numbered_item m.cables cable
+machine_cable (Pin m) cable = None
 
 -- whether a pin is effective; which letter a pin wheel shows; where a bar's lugs are; `None` if the machine
 -- lacks the pin, the wheel or the bar
-abbrev pub pin_in : Parts → ℕ → ℕ → Option Bool
-pin_in (Rotor m) wheel letter = None
-pin_in (Pin m) wheel letter = pin_at m.pins wheel letter
+abbrev pub machine_pin : Parts → ℕ → ℕ → Option Bool
+machine_pin (Rotor m) wheel letter = None
+machine_pin (Pin m) wheel letter = pin_at m.pins wheel letter
 
-abbrev pub shown_in : Parts → ℕ → Option ℕ
-shown_in (Rotor m) wheel = None
-shown_in (Pin m) wheel = numbered m.letters wheel
+abbrev pub machine_pin_letter : Parts → ℕ → Option ℕ
+machine_pin_letter (Rotor m) wheel = None
+machine_pin_letter (Pin m) wheel = numbered_item m.letters wheel
 
-abbrev pub standing_in : Parts → ℕ → Option (Place × Place)
-standing_in (Rotor m) bar = None
-standing_in (Pin m) bar = numbered m.bars bar
+abbrev pub machine_standing : Parts → ℕ → Option (Place × Place)
+machine_standing (Rotor m) bar = None
+machine_standing (Pin m) bar = numbered_item m.bars bar

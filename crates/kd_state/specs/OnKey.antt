@@ -9,37 +9,37 @@ use Rattle.kd_state.specs.declared.machine.pin_parts.PinParts.{PinParts}
 use Rattle.kd_state.specs.declared.machine.parts.Parts.{Parts}
 use Rattle.kd_state.specs.declared.machine.parts.Parts.TheVariants.{Rotor, Pin}
 use Rattle.kd_state.specs.Machine.{cable_letters, ring_at, letter_at}
-use Rattle.kd_state.specs.SheetDay.{RotorDay, PinDay, Day, OfRotors, OfPins, seats}
+use Rattle.kd_state.specs.SheetDay.{RotorDay, PinDay, Day, OfRotors, OfPins, seats_of_wheels}
 
 -- The two lists have the same letters.
-abbrev pub SameLetters : List ℕ → List ℕ → Type 0
-SameLetters xs ys = (letter : ℕ) → Contains xs letter ↔ Contains ys letter
+abbrev pub HaveSameLetters : List ℕ → List ℕ → Type 0
+HaveSameLetters xs ys = (letter : ℕ) → Contains xs letter ↔ Contains ys letter
 
 -- The two letters are the letters of the pair, in either order.
-abbrev pub AreTheLetters : ℕ → ℕ → ℕ × ℕ → Type 0
-AreTheLetters one other pair = ((one ≡ pair.0) × (other ≡ pair.1)) ⊎ ((other ≡ pair.0) × (one ≡ pair.1))
+abbrev pub AreLettersOfPair : ℕ → ℕ → ℕ × ℕ → Type 0
+AreLettersOfPair one other pair = ((one ≡ pair.0) × (other ≡ pair.1)) ⊎ ((other ≡ pair.0) × (one ≡ pair.1))
 
 -- The cable's letters are the letters of the pair.
-pub record Joins (cable : Option ℕ × Option ℕ) (pair : ℕ × ℕ) : Type 0 where
-  pub letters : SameLetters (cable_letters cable) (pair.0 ∷ pair.1 ∷ [])
+pub record HasPairLetters (cable : Option ℕ × Option ℕ) (pair : ℕ × ℕ) : Type 0 where
+  pub letters : HaveSameLetters (cable_letters cable) (pair.0 ∷ pair.1 ∷ [])
 
 -- The cable is empty, or joins one of the pairs.
-pub record IsPaired (pairs : List (ℕ × ℕ)) (cable : Option ℕ × Option ℕ) : Type 0 where
-  pub joins : cable_letters cable ≢ [] → Any (Joins cable) pairs
+pub record IsCablePaired (pairs : List (ℕ × ℕ)) (cable : Option ℕ × Option ℕ) : Type 0 where
+  pub joins : cable_letters cable ≢ [] → Any (HasPairLetters cable) pairs
 
 -- One of the cables joins the pair.
-pub record IsJoined (cables : List (Option ℕ × Option ℕ)) (pair : ℕ × ℕ) : Type 0 where
-  pub joins : Any (λ cable. Joins cable pair) cables
+pub record IsPairJoined (cables : List (Option ℕ × Option ℕ)) (pair : ℕ × ℕ) : Type 0 where
+  pub joins : Any (λ cable. HasPairLetters cable pair) cables
 
 -- Each cable is empty or joins a pair, and each pair is joined by a cable. No order matters.
 pub record AreThePairs (cables : List (Option ℕ × Option ℕ)) (pairs : List (ℕ × ℕ)) : Type 0 where
-  pub pair : All (IsPaired pairs) cables
-  pub cable : All (IsJoined cables) pairs
+  pub pair : All (IsCablePaired pairs) cables
+  pub cable : All (IsPairJoined cables) pairs
 
 -- Each slot has the day's wheel with the day's ring. Reflector and cables are the day's.
 pub record IsRotorOnKey (m : RotorParts) (s : RotorDay) : Type 0 where
   pub model : m.model ≡ s.model
-  pub slots : m.slots ≡ seats s.wheels
+  pub slots : m.slots ≡ seats_of_wheels s.wheels
   pub rings : All (λ w. ring_at m w.wheel ≡ Some w.ring) s.wheels
   pub reflector : m.reflector ≡ s.reflector
   pub cables : AreThePairs m.cables s.pairs

@@ -10,8 +10,8 @@ use Rattle.kd_state.specs.Entry.{rotor_values, pin_values}
 
 -- The value has the machine's parts and the day's entry: both of one rotor model, or both of the Converter
 -- M-209.
-abbrev pub AreParted : Parts → Day → OneModel → Type 0
-AreParted m s (Rotor m_parts entry) =
+abbrev pub AreTakenApart : Parts → Day → OneModel → Type 0
+AreTakenApart m s (Rotor m_parts entry) =
     (m ≡ parts.Rotor m_parts.now) × (s ≡ OfRotors (rotor_values entry.now))
     × (m_parts.now.model ≡ entry.now.model)
-AreParted m s (Pin m_parts entry) = (m ≡ parts.Pin m_parts.now) × (s ≡ OfPins (pin_values entry.now))
+AreTakenApart m s (Pin m_parts entry) = (m ≡ parts.Pin m_parts.now) × (s ≡ OfPins (pin_values entry.now))

@@ -4,11 +4,11 @@ use Rattle.std.specs.Option.{option_and_then}
 use Rattle.kd_tables.specs.Rings.{ring_of, place_on}
 use Rattle.kd_pins.specs.declared.pin_set.PinSet.{PinSet}
 use Rattle.kd_pins.specs.PinWheels.{pins_of}
-use Rattle.kd_state.specs.ToldApart.{numbered}
+use Rattle.kd_state.specs.SameParts.{numbered_item}
 
 -- the pins of a wheel, in its own order; none for a number that no wheel has
 abbrev pub wheel_pins : PinSet → ℕ → List Bool
-wheel_pins pins wheel = unwrap_or (numbered (pins_of pins) wheel) []
+wheel_pins pins wheel = unwrap_or (numbered_item (pins_of pins) wheel) []
 
 -- whether the pin at a letter of a wheel is effective, if the wheel has the letter
 abbrev pub pin_at : PinSet → ℕ → ℕ → Option Bool

@@ -8,14 +8,14 @@ use Rattle.kd_state.specs.declared.sheet_day.rotor_entry.SheetWheel.{SheetWheel}
 use Rattle.kd_state.specs.Machine.{ring_at, letter_at}
 
 -- the wheel with its ring and its letter, if it has both
-abbrev pub wheel_with : Wheel → Option ℕ → Option ℕ → Option SheetWheel
-wheel_with wheel (Some ring) (Some letter) = Some (record { wheel = wheel; ring = ring; letter = letter })
-wheel_with wheel _ _ = None
+abbrev pub wheel_with_letters : Wheel → Option ℕ → Option ℕ → Option SheetWheel
+wheel_with_letters wheel (Some ring) (Some letter) = Some (record { wheel = wheel; ring = ring; letter = letter })
+wheel_with_letters wheel _ _ = None
 
 -- the wheel in a slot with its ring and its window letter, if the slot holds one
-abbrev pub seated_wheel : RotorParts → Option Wheel → Option SheetWheel
-seated_wheel m None = None
-seated_wheel m (Some wheel) = wheel_with wheel (ring_at m wheel) (letter_at m wheel)
+abbrev pub wheel_in_seat : RotorParts → Option Wheel → Option SheetWheel
+wheel_in_seat m None = None
+wheel_in_seat m (Some wheel) = wheel_with_letters wheel (ring_at m wheel) (letter_at m wheel)
 
 -- the key of a rotor machine with these wheels
 abbrev pub key_of_wheels : List SheetWheel → Reflector → List ℕ → RotorKey

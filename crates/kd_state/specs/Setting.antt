@@ -24,29 +24,30 @@ use Rattle.kd_state.specs.declared.setting.why.Why.{Why}
 use Rattle.kd_state.specs.declared.setting.why.Why.TheVariants.{OtherModel, NoSuchCable, NotThere, NoLooseEnd}
 use Rattle.kd_state.specs.declared.setting.why.Why.TheVariants.{SocketTaken, WheelNotAllowed, SlotEmpty, NotOnWheel}
 use Rattle.kd_state.specs.declared.setting.why.Why.TheVariants.{NoSuchBar, PlaceTaken, WouldPass}
-use Rattle.kd_state.specs.ToldApart.{same_wheel, has_wheel, has_reflector, place_in_box, numbered}
-use Rattle.kd_state.specs.Machine.{cable_letters, plugged_letters, ordered}
+use Rattle.kd_state.specs.SameParts.{same_wheel, has_wheel, has_reflector, place_in_box, numbered_item}
+use Rattle.kd_state.specs.Machine.{cable_letters, letters_in_cables, cable_in_order}
 
 -- whether the letter is in the list
 abbrev pub has_letter : List ℕ → ℕ → Bool
 has_letter letters letter = list_any (λ other. nat_eq other letter) letters
 
 -- whether the letters differ from each other and from all of `others`
-abbrev pub are_new : List ℕ → List ℕ → Bool
-are_new [] others = true
-are_new (letter ∷ letters) others = not (has_letter (letters ++ others) letter) && are_new letters others
+abbrev pub are_new_letters : List ℕ → List ℕ → Bool
+are_new_letters [] others = true
+are_new_letters (letter ∷ letters) others = not (has_letter (letters ++ others) letter)
+    && are_new_letters letters others
 
 -- cable `cable`, counted from 1; an empty one for a number that no cable has
 abbrev pub cable_at : RotorParts → ℕ → Option ℕ × Option ℕ
-cable_at m cable = unwrap_or (numbered m.cables cable) (None, None)
+cable_at m cable = unwrap_or (numbered_item m.cables cable) (None, None)
 
 -- the wheel in the slot; `None` if the slot is empty, or the machine lacks it
-abbrev pub seated_in : RotorParts → ℕ → Option Wheel
-seated_in m slot = unwrap_or (numbered m.slots slot) None
+abbrev pub wheel_in_slot : RotorParts → ℕ → Option Wheel
+wheel_in_slot m slot = unwrap_or (numbered_item m.slots slot) None
 
 -- whether both ends of the cable have letters
-abbrev pub is_plugged : Option ℕ × Option ℕ → Bool
-is_plugged cable = not (is_none cable.0) && not (is_none cable.1)
+abbrev pub has_both_ends : Option ℕ × Option ℕ → Bool
+has_both_ends cable = not (is_none cable.0) && not (is_none cable.1)
 
 -- the place of this lug of the bar
 abbrev pub lug_place : Lug → Place × Place → Place
@@ -58,8 +59,8 @@ other_lug Left = Right
 other_lug Right = Left
 
 -- whether the two places are equal
-abbrev pub is_at : Place → Place → Bool
-is_at place other = nat_eq (place_rank place) (place_rank other)
+abbrev pub is_same_place : Place → Place → Bool
+is_same_place place other = nat_eq (place_rank place) (place_rank other)
 
 -- whether `place` is on the wrong side, for this lug, of the other lug at `other`
 abbrev pub lies_beyond : Lug → Place → Place → Bool
@@ -68,45 +69,45 @@ lies_beyond Right place other = nat_lt (place_rank place) (place_rank other)
 
 -- the place of the bar's other lug
 abbrev pub other_place : PinParts → ℕ → Lug → Option Place
-other_place m bar lug = option_map (lug_place (other_lug lug)) (numbered m.bars bar)
+other_place m bar lug = option_map (lug_place (other_lug lug)) (numbered_item m.bars bar)
 
 -- The reasons to refuse a setting, in the order of testing, each with whether it holds.
-abbrev pub reasons : Parts → Setting → List (Bool × Why)
-reasons (Rotor m) (Pull cable letter) =
-    (is_none (numbered m.cables cable), NoSuchCable)
+abbrev pub refusal_reasons : Parts → Setting → List (Bool × Why)
+refusal_reasons (Rotor m) (Pull cable letter) =
+    (is_none (numbered_item m.cables cable), NoSuchCable)
     ∷ (not (has_letter (cable_letters (cable_at m cable)) letter), NotThere)
     ∷ []
-reasons (Rotor m) (Put cable letter) =
-    (is_none (numbered m.cables cable), NoSuchCable)
-    ∷ (is_plugged (cable_at m cable), NoLooseEnd)
-    ∷ (has_letter (plugged_letters m.cables) letter, SocketTaken)
+refusal_reasons (Rotor m) (Put cable letter) =
+    (is_none (numbered_item m.cables cable), NoSuchCable)
+    ∷ (has_both_ends (cable_at m cable), NoLooseEnd)
+    ∷ (has_letter (letters_in_cables m.cables) letter, SocketTaken)
     ∷ []
-reasons (Rotor m) (Seat slot wheel) = (not (has_wheel (wheels_for m.model slot) wheel), WheelNotAllowed) ∷ []
-reasons (Rotor m) (SeatReflector reflector) =
+refusal_reasons (Rotor m) (Seat slot wheel) = (not (has_wheel (wheels_for m.model slot) wheel), WheelNotAllowed) ∷ []
+refusal_reasons (Rotor m) (SeatReflector reflector) =
     (not (has_reflector (reflectors_of m.model) reflector), WheelNotAllowed) ∷ []
-reasons (Rotor m) (RingTo wheel letter) = (not (has_wheel (box_of m.model) wheel), WheelNotAllowed) ∷ []
-reasons (Rotor m) (Turn slot letter) = (is_none (seated_in m slot), SlotEmpty) ∷ []
-reasons (Rotor m) (PinTo wheel letter effective) = (true, OtherModel) ∷ []
-reasons (Rotor m) (LugTo bar lug place) = (true, OtherModel) ∷ []
-reasons (Pin m) (Pull cable letter) = (true, OtherModel) ∷ []
-reasons (Pin m) (Put cable letter) = (true, OtherModel) ∷ []
-reasons (Pin m) (Seat slot wheel) = (true, OtherModel) ∷ []
-reasons (Pin m) (SeatReflector reflector) = (true, OtherModel) ∷ []
-reasons (Pin m) (RingTo wheel letter) = (true, OtherModel) ∷ []
-reasons (Pin m) (Turn wheel letter) =
-    (is_none (numbered m.letters wheel), SlotEmpty)
+refusal_reasons (Rotor m) (RingTo wheel letter) = (not (has_wheel (box_of m.model) wheel), WheelNotAllowed) ∷ []
+refusal_reasons (Rotor m) (Turn slot letter) = (is_none (wheel_in_slot m slot), SlotEmpty) ∷ []
+refusal_reasons (Rotor m) (PinTo wheel letter effective) = (true, OtherModel) ∷ []
+refusal_reasons (Rotor m) (LugTo bar lug place) = (true, OtherModel) ∷ []
+refusal_reasons (Pin m) (Pull cable letter) = (true, OtherModel) ∷ []
+refusal_reasons (Pin m) (Put cable letter) = (true, OtherModel) ∷ []
+refusal_reasons (Pin m) (Seat slot wheel) = (true, OtherModel) ∷ []
+refusal_reasons (Pin m) (SeatReflector reflector) = (true, OtherModel) ∷ []
+refusal_reasons (Pin m) (RingTo wheel letter) = (true, OtherModel) ∷ []
+refusal_reasons (Pin m) (Turn wheel letter) =
+    (is_none (numbered_item m.letters wheel), SlotEmpty)
     ∷ (not (has_letter (ring_of wheel) letter), NotOnWheel)
     ∷ []
-reasons (Pin m) (PinTo wheel letter effective) = (not (has_letter (ring_of wheel) letter), NotOnWheel) ∷ []
-reasons (Pin m) (LugTo bar lug place) =
-    (is_none (numbered m.bars bar), NoSuchBar)
-    ∷ (option_map_or (is_at place) (other_place m bar lug) false, PlaceTaken)
+refusal_reasons (Pin m) (PinTo wheel letter effective) = (not (has_letter (ring_of wheel) letter), NotOnWheel) ∷ []
+refusal_reasons (Pin m) (LugTo bar lug place) =
+    (is_none (numbered_item m.bars bar), NoSuchBar)
+    ∷ (option_map_or (is_same_place place) (other_place m bar lug) false, PlaceTaken)
     ∷ (option_map_or (lies_beyond lug place) (other_place m bar lug) false, WouldPass)
     ∷ []
 
 -- the first reason that holds, for which the machine refuses the setting
 abbrev pub why_refused : Parts → Setting → Option Why
-why_refused m x = option_map (λ reason. reason.1) (find (λ reason. reason.0) (reasons m x))
+why_refused m x = option_map (λ reason. reason.1) (find (λ reason. reason.0) (refusal_reasons m x))
 
 -- ---- What a setting makes of a machine.
 -- Code: the machine is changed in place.
@@ -116,16 +117,16 @@ abbrev pub cable_without : ℕ → Option ℕ × Option ℕ → Option ℕ × Op
 cable_without letter cable = if option_map_or (nat_eq letter) cable.0 false then (cable.1, None) else (cable.0, None)
 
 abbrev pub cable_with : ℕ → Option ℕ × Option ℕ → Option ℕ × Option ℕ
-cable_with letter cable = ordered (option_or cable.0 cable.1) (Some letter)
+cable_with letter cable = cable_in_order (option_or cable.0 cable.1) (Some letter)
 
 -- what a slot holds after `wheel` was taken out, if it was there
-abbrev pub without : Wheel → Option Wheel → Option Wheel
-without wheel seated = if option_map_or (same_wheel wheel) seated false then None else seated
+abbrev pub seat_without : Wheel → Option Wheel → Option Wheel
+seat_without wheel seated = if option_map_or (same_wheel wheel) seated false then None else seated
 
 -- the window letters, with `letter` for the wheel if there is one
-abbrev pub with_letter : RotorParts → Option Wheel → ℕ → List ℕ
-with_letter m None letter = m.letters
-with_letter m (Some wheel) letter = slice_set m.letters (place_in_box m.model wheel) letter
+abbrev pub letters_with : RotorParts → Option Wheel → ℕ → List ℕ
+letters_with m None letter = m.letters
+letters_with m (Some wheel) letter = slice_set m.letters (place_in_box m.model wheel) letter
 
 -- the standing, with this lug at the place
 abbrev pub with_lug : Lug → Place → Place × Place → Place × Place
@@ -133,37 +134,38 @@ with_lug Left place bar = (place, bar.1)
 with_lug Right place bar = (bar.0, place)
 
 -- The left lug is left of the right lug.
-abbrev pub Stands : Place × Place → Type 0
-Stands bar = IsBefore bar.0 bar.1
+abbrev pub HasLugsInOrder : Place × Place → Type 0
+HasLugsInOrder bar = IsBefore bar.0 bar.1
 
 -- the bars, with this lug of bar `bar` at the place
-abbrev pub with_lug_at : PinParts → ℕ → Lug → Place → List (Place × Place)
-with_lug_at m bar lug place =
-    option_map_or (λ standing. slice_set m.bars (bar - 1) (with_lug lug place standing)) (numbered m.bars bar) m.bars
+abbrev pub bars_with_lug : PinParts → ℕ → Lug → Place → List (Place × Place)
+bars_with_lug m bar lug place =
+    option_map_or (λ standing. slice_set m.bars (bar - 1) (with_lug lug place standing)) (numbered_item m.bars bar)
+    m.bars
 
 -- The machine that a setting makes of a machine that doesn't refuse it. A wheel that is put into a slot leaves
 -- its old slot, and the wheel that was there goes to the box. Wheels keep their rings and window letters.
-abbrev pub changed : Parts → Setting → Parts
-changed (Rotor m) (Pull cable letter) =
+abbrev pub machine_after : Parts → Setting → Parts
+machine_after (Rotor m) (Pull cable letter) =
     Rotor (record m { cables = slice_set m.cables (cable - 1) (cable_without letter (cable_at m cable)) })
-changed (Rotor m) (Put cable letter) =
+machine_after (Rotor m) (Put cable letter) =
     Rotor (record m { cables = slice_set m.cables (cable - 1) (cable_with letter (cable_at m cable)) })
-changed (Rotor m) (Seat slot wheel) =
-    Rotor (record m { slots = slice_set (map (without wheel) m.slots) (slot - 1) (Some wheel) })
-changed (Rotor m) (SeatReflector reflector) = Rotor (record m { reflector = reflector })
-changed (Rotor m) (RingTo wheel letter) =
+machine_after (Rotor m) (Seat slot wheel) =
+    Rotor (record m { slots = slice_set (map (seat_without wheel) m.slots) (slot - 1) (Some wheel) })
+machine_after (Rotor m) (SeatReflector reflector) = Rotor (record m { reflector = reflector })
+machine_after (Rotor m) (RingTo wheel letter) =
     Rotor (record m { rings = slice_set m.rings (place_in_box m.model wheel) letter })
-changed (Rotor m) (Turn slot letter) = Rotor (record m { letters = with_letter m (seated_in m slot) letter })
-changed (Rotor m) (PinTo wheel letter effective) = Rotor m
-changed (Rotor m) (LugTo bar lug place) = Rotor m
-changed (Pin m) (Turn wheel letter) = Pin (record m { letters = slice_set m.letters (wheel - 1) letter })
-changed (Pin m) (PinTo wheel letter effective) = Pin (record m { pins = with_pin m.pins wheel letter effective })
-changed (Pin m) (LugTo bar lug place) = Pin (record m { bars = with_lug_at m bar lug place })
-changed (Pin m) (Pull cable letter) = Pin m
-changed (Pin m) (Put cable letter) = Pin m
-changed (Pin m) (Seat slot wheel) = Pin m
-changed (Pin m) (SeatReflector reflector) = Pin m
-changed (Pin m) (RingTo wheel letter) = Pin m
+machine_after (Rotor m) (Turn slot letter) = Rotor (record m { letters = letters_with m (wheel_in_slot m slot) letter })
+machine_after (Rotor m) (PinTo wheel letter effective) = Rotor m
+machine_after (Rotor m) (LugTo bar lug place) = Rotor m
+machine_after (Pin m) (Turn wheel letter) = Pin (record m { letters = slice_set m.letters (wheel - 1) letter })
+machine_after (Pin m) (PinTo wheel letter effective) = Pin (record m { pins = with_pin m.pins wheel letter effective })
+machine_after (Pin m) (LugTo bar lug place) = Pin (record m { bars = bars_with_lug m bar lug place })
+machine_after (Pin m) (Pull cable letter) = Pin m
+machine_after (Pin m) (Put cable letter) = Pin m
+machine_after (Pin m) (Seat slot wheel) = Pin m
+machine_after (Pin m) (SeatReflector reflector) = Pin m
+machine_after (Pin m) (RingTo wheel letter) = Pin m
 
 -- ---- Settings carried out one after another, and the first that is refused.
 -- Code: a loop that stops there.
@@ -172,12 +174,12 @@ changed (Pin m) (RingTo wheel letter) = Pin m
 -- Machine `m` doesn't refuse setting `x`, which makes machine `n` of it.
 pub record Carries (m : Parts) (x : Setting) (n : Parts) : Type 0 where
   pub allowed : why_refused m x ≡ None
-  pub made : n ≡ changed m x
+  pub made : n ≡ machine_after m x
 
 -- The answer to a setting: the machine carries it out, or refuses it for the first reason that holds and stays
 -- as it was.
-abbrev pub Answers : Parts → Setting → Parts → Result ⊤ Why → Type 0
-Answers m x n answer = MatchResult answer (λ _. Carries m x n) (λ why. (why_refused m x ≡ Some why) × (n ≡ m))
+abbrev pub IsCarryAnswer : Parts → Setting → Parts → Result ⊤ Why → Type 0
+IsCarryAnswer m x n answer = MatchResult answer (λ _. Carries m x n) (λ why. (why_refused m x ≡ Some why) × (n ≡ m))
 
 -- The settings, carried out in order, lead from machine `m` to machine `n`.
 abbrev pub Leads : Parts → List Setting → Parts → Type 0

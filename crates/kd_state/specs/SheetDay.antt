@@ -9,10 +9,10 @@ use Rattle.kd_tables.specs.declared.reflector.Reflector.{Reflector}
 use Rattle.kd_tables.specs.Places.{IsReading}
 use Rattle.kd_tables.specs.Tables.{slots_of, reflectors_of}
 use Rattle.kd_pins.specs.declared.pin_set.PinSet.{PinSet}
-use Rattle.kd_enigma.specs.Plugs.{letters_plugged, NoLetterTwice}
+use Rattle.kd_enigma.specs.Plugs.{letters_in_pairs, NoLetterTwice}
 use Rattle.kd_state.specs.declared.sheet_day.rotor_entry.SheetWheel.{SheetWheel}
-use Rattle.kd_state.specs.ToldApart.{numbered}
-use Rattle.kd_state.specs.Machine.{AreAllowed, AreApart, AreLetters, AreOnWheels, HasAllPins}
+use Rattle.kd_state.specs.SameParts.{numbered_item}
+use Rattle.kd_state.specs.Machine.{AreWheelsAllowed, AreSeatedOnce, AreLetters, AreOnWheels, HasAllPins}
 
 -- The values of a day of a rotor machine. From the left, each slot has a wheel with its ring and its window
 -- letter. `pairs` are the plugged pairs, and `groups` the groups for the day's messages.
@@ -49,30 +49,30 @@ pub record IsDayNumber (number : ℕ) : Type 0 where
 -- There are at most 13 pairs of letters below 26, and no letter is in two places.
 pub record ArePairs (pairs : List (ℕ × ℕ)) : Type 0 where
   pub few : length pairs ≤ 13
-  pub within : All (λ letter. letter < 26) (letters_plugged pairs)
+  pub within : All (λ letter. letter < 26) (letters_in_pairs pairs)
   pub apart : NoLetterTwice pairs
 
 -- The wheel's ring and its window letter are below 26.
-pub record HasLetters (wheel : SheetWheel) : Type 0 where
+pub record HasWheelLetters (wheel : SheetWheel) : Type 0 where
   pub ring : wheel.ring < 26
   pub letter : wheel.letter < 26
 
 -- the wheels without rings and letters, each in its slot
-abbrev pub seats : List SheetWheel → List (Option Wheel)
-seats wheels = map (λ w. Some w.wheel) wheels
+abbrev pub seats_of_wheels : List SheetWheel → List (Option Wheel)
+seats_of_wheels wheels = map (λ w. Some w.wheel) wheels
 
 -- The wheels fill the model's slots. Each is allowed in its slot, and none is in two.
-pub record AreSeated (model : Model) (slots : List (Option Wheel)) : Type 0 where
+pub record AreLegalSeats (model : Model) (slots : List (Option Wheel)) : Type 0 where
   pub count : length slots ≡ slots_of model
-  pub allowed : AreAllowed model slots
-  pub apart : AreApart slots
+  pub allowed : AreWheelsAllowed model slots
+  pub apart : AreSeatedOnce slots
 
 -- A key sheet can have a day with these values.
 pub record IsLegalRotorDay (s : RotorDay) : Type 0 where
   pub day : IsDayNumber s.day
   pub reflector : Contains (reflectors_of s.model) s.reflector
-  pub wheels : AreSeated s.model (seats s.wheels)
-  pub letters : All HasLetters s.wheels
+  pub wheels : AreLegalSeats s.model (seats_of_wheels s.wheels)
+  pub letters : All HasWheelLetters s.wheels
   pub pairs : ArePairs s.pairs
   pub few_groups : length s.groups ≤ 4
   pub groups : All (AreLetters 3) s.groups
@@ -111,20 +111,20 @@ pin_day (OfRotors s) = None
 pin_day (OfPins s) = Some s
 
 -- the wheel for a slot, with its ring and its window letter
-abbrev pub sheet_wheel : Day → ℕ → Option SheetWheel
-sheet_wheel (OfRotors s) slot = numbered s.wheels slot
-sheet_wheel (OfPins s) slot = None
+abbrev pub day_wheel : Day → ℕ → Option SheetWheel
+day_wheel (OfRotors s) slot = numbered_item s.wheels slot
+day_wheel (OfPins s) slot = None
 
 -- the day's letter for the window of a slot, or for a pin wheel
-abbrev pub shown_letter : Day → ℕ → Option ℕ
-shown_letter (OfRotors s) slot = option_map (λ w. w.letter) (numbered s.wheels slot)
-shown_letter (OfPins s) wheel = numbered s.window wheel
+abbrev pub day_window_letter : Day → ℕ → Option ℕ
+day_window_letter (OfRotors s) slot = option_map (λ w. w.letter) (numbered_item s.wheels slot)
+day_window_letter (OfPins s) wheel = numbered_item s.window wheel
 
 -- The letters are one of the groups, in any order.
-abbrev pub AreOfAGroup : List (List ℕ) → List ℕ → Type 0
-AreOfAGroup groups letters = Any (λ group. IsPermutation group letters) groups
+abbrev pub AreOneOfGroups : List (List ℕ) → List ℕ → Type 0
+AreOneOfGroups groups letters = Any (λ group. IsPermutation group letters) groups
 
 -- The letters are one of the day's groups, in any order. A Converter's day has no groups.
-abbrev pub AreOfADaysGroup : Day → List ℕ → Type 0
-AreOfADaysGroup (OfRotors s) letters = AreOfAGroup s.groups letters
-AreOfADaysGroup (OfPins s) letters = ⊥
+abbrev pub AreADaysGroup : Day → List ℕ → Type 0
+AreADaysGroup (OfRotors s) letters = AreOneOfGroups s.groups letters
+AreADaysGroup (OfPins s) letters = ⊥

@@ -10,9 +10,9 @@ slot_values (Three values) = values
 slot_values (Four values) = values
 
 -- There are as many values as the variant says.
-abbrev pub HasSlots : {T : Type 0} → Slots T → Type 0
-HasSlots (Three values) = length values ≡ 3
-HasSlots (Four values) = length values ≡ 4
+abbrev pub HasSlotCount : {T : Type 0} → Slots T → Type 0
+HasSlotCount (Three values) = length values ≡ 3
+HasSlotCount (Four values) = length values ≡ 4
 
 -- the values, as three if there are three, and otherwise as four
 abbrev pub slots_of_values : {T : Type 0} → List T → Slots T

@@ -26,9 +26,9 @@ abbrev pub cipher : EngineKey → List ℕ → List ℕ
 cipher (OfWheels key) text = enigma_cipher key text
 cipher (OfDrum key) text = converter_cipher key text
 
-abbrev pub key_left : EngineKey → ℕ → EngineKey
-key_left (OfWheels key) n = OfWheels (key_after key n)
-key_left (OfDrum key) n = OfDrum (pin_key_after key n)
+abbrev pub engine_key_after : EngineKey → ℕ → EngineKey
+engine_key_after (OfWheels key) n = OfWheels (key_after key n)
+engine_key_after (OfDrum key) n = OfDrum (pin_key_after key n)
 
 abbrev pub key_with_window : EngineKey → List ℕ → EngineKey
 key_with_window (OfWheels key) window = OfWheels (key_turned key window)
@@ -60,12 +60,12 @@ window_of (Rotor m) = filter_map (letter_at m) (seated_wheels m)
 window_of (Pin m) = m.letters
 
 -- the pair of letters that a cable exchanges, if it has two
-abbrev pub both_ends : Option ℕ → Option ℕ → Option (ℕ × ℕ)
-both_ends (Some letter) (Some other) = Some (letter, other)
-both_ends _ _ = None
+abbrev pub pair_of_ends : Option ℕ → Option ℕ → Option (ℕ × ℕ)
+pair_of_ends (Some letter) (Some other) = Some (letter, other)
+pair_of_ends _ _ = None
 
 abbrev pub plugged_pairs : RotorParts → List (ℕ × ℕ)
-plugged_pairs m = filter_map (λ cable. both_ends cable.0 cable.1) m.cables
+plugged_pairs m = filter_map (λ cable. pair_of_ends cable.0 cable.1) m.cables
 
 -- ---- The cipher of a machine as it stands, and the cipher that a day asks for, defined apart: the machine's
 -- by its slots, cables and lugs, the day's by the wheels, pairs and rows of its entry.
@@ -109,7 +109,7 @@ abbrev pub sheet_cipher : Day → List ℕ → List ℕ
 sheet_cipher s = cipher (sheet_key s)
 
 -- `n` is machine `m` turned to these letters; wheels in the box may have any letters.
-abbrev pub IsTurned : Parts → List ℕ → Parts → Type 0
-IsTurned (Rotor m) window (Rotor n) = (n ≡ record m { letters = n.letters }) × (window_of (Rotor n) ≡ window)
-IsTurned (Pin m) window (Pin n) = n ≡ record m { letters = window }
-IsTurned _ _ _ = ⊥
+abbrev pub IsTurnedTo : Parts → List ℕ → Parts → Type 0
+IsTurnedTo (Rotor m) window (Rotor n) = (n ≡ record m { letters = n.letters }) × (window_of (Rotor n) ≡ window)
+IsTurnedTo (Pin m) window (Pin n) = n ≡ record m { letters = window }
+IsTurnedTo _ _ _ = ⊥

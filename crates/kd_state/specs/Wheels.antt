@@ -11,10 +11,10 @@ wheel_values (Eight values) = values
 wheel_values (Ten values) = values
 
 -- There are as many values as the variant says.
-abbrev pub HasWheels : {T : Type 0} → Wheels T → Type 0
-HasWheels (Five values) = length values ≡ 5
-HasWheels (Eight values) = length values ≡ 8
-HasWheels (Ten values) = length values ≡ 10
+abbrev pub HasWheelCount : {T : Type 0} → Wheels T → Type 0
+HasWheelCount (Five values) = length values ≡ 5
+HasWheelCount (Eight values) = length values ≡ 8
+HasWheelCount (Ten values) = length values ≡ 10
 
 -- the values, as five or eight if there are five or eight, and otherwise as ten
 abbrev pub wheels_of_values : {T : Type 0} → List T → Wheels T

@@ -5,7 +5,7 @@ pub(crate) mod tables;
 ghost use Rattle.std.specs.Prelude.{◌≡◌, ◌≢◌, ◌≤◌, ◌∷◌, Some};
 ghost use Rattle.std.specs.Option.{option_to_list};
 ghost use Rattle.kd_tables.specs.Places.{place_rank};
-ghost use Rattle.kd_state.specs.Setting.{has_letter, is_at};
+ghost use Rattle.kd_state.specs.Setting.{has_letter, is_same_place};
 ghost use Rattle.kd_state.specs.Costs as costs;
 ghost use Rattle.kd_state.specs.Costs.{column_letters};
 
@@ -60,7 +60,7 @@ pub fn nearest_standing(standing: Standing, row: Reading) -> Standing
 }
 
 /// The standings that read as `row`, in order: two if exactly one of the row's numbers is 0, else one.
-#[tactic(auto, using(crate::proofs::CostTable::zeros, crate::proofs::CostTable::one_zero, crate::proofs::CostTable::no_zero))]
+#[tactic(auto, using(crate::proofs::CostTable::standings_of_zeros, crate::proofs::CostTable::one_zero, crate::proofs::CostTable::no_zero))]
 fn standings_of(row: Reading) -> (Standing, Option<Standing>)
     ensures { costs.standings_as row ≡ result.0 ∷ option_to_list result.1 }
 {
@@ -68,18 +68,21 @@ fn standings_of(row: Reading) -> (Standing, Option<Standing>)
     if larger == 0 {
         (standing_across(Place::ZeroLeft, Place::ZeroRight), None)
     } else if smaller == 0 {
-        let place = place_of(larger);
+        let place = place_of_pin_wheel(larger);
         let first = standing_across(Place::ZeroLeft, place);
         (first, Some(standing_across(place, Place::ZeroRight)))
     } else {
-        (standing_across(place_of(smaller), place_of(larger)), None)
+        (
+            standing_across(place_of_pin_wheel(smaller), place_of_pin_wheel(larger)),
+            None,
+        )
     }
 }
 
 /// The standing with its lugs at the places `one` and `other`.
 fn standing_across(one: Place, other: Place) -> Standing
     requires { place_rank one ≢ place_rank other }
-    ensures { result ≡ costs.across one other }
+    ensures { result ≡ costs.standing_across one other }
 {
     if one < other {
         Standing::new(one, other).unwrap()
@@ -89,9 +92,9 @@ fn standing_across(one: Place, other: Place) -> Standing
 }
 
 /// The place at which the pin wheel `number` acts.
-fn place_of(number: u8) -> Place
+fn place_of_pin_wheel(number: u8) -> Place
     requires { (1 ≤ number) × (number ≤ 6) }
-    ensures { result ≡ costs.place_at number }
+    ensures { result ≡ costs.place_of_pin_wheel number }
 {
     match number {
         1 => Place::One,
@@ -113,7 +116,7 @@ fn lugs_moved(standing: Standing, other: Standing) -> u8
 
 /// 1 if the places differ, else 0.
 fn lug_cost(place: Place, other: Place) -> u8
-    ensures value { result ≡ costs.unless_same (is_at place other) }
+    ensures value { result ≡ costs.one_unless (is_same_place place other) }
     ensures bound { result ≤ 1 }
 {
     if place == other { 0 } else { 1 }

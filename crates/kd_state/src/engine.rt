@@ -38,23 +38,23 @@ impl Model for Engine {
 
     ghost Value = { EngineKey };
 
-    ghost use Rattle.kd_state.specs.Engine.{mechanism_key, HasItsWheels};
+    ghost use Rattle.kd_state.specs.Engine.{mechanism_key, HasKeyWheelCount};
 
     ghost view = { λ e. mechanism_key e.mechanism };
 
-    ghost invariant = { λ e. HasItsWheels e.mechanism };
+    ghost invariant = { λ e. HasKeyWheelCount e.mechanism };
 }
 
 impl Engine {
     ghost use Rattle.std.specs.Prelude.{◌⊎◌, length};
     ghost use Rattle.kd_pins.specs.PinWheels.{pins_of};
     ghost use Rattle.kd_state.specs.Seated.{key_of_wheels};
-    ghost use Rattle.kd_state.specs.TwoCiphers.{OfWheels, OfDrum, cipher, key_left, key_with_window, IsWindow};
+    ghost use Rattle.kd_state.specs.TwoCiphers.{OfWheels, OfDrum, cipher, engine_key_after, key_with_window, IsWindow};
 
     /// Enciphers or deciphers `text` in place. The wheels step on with each letter.
     pub fn run(&mut self, text: &mut [Letter])
         ensures cipher { text.new ≡ cipher self.old text.old }
-        ensures after { self.new ≡ key_left self.old (length text.old) }
+        ensures after { self.new ≡ engine_key_after self.old (length text.old) }
     {
         match &mut self.mechanism {
             Mechanism::ThreeWheels(enigma) => enigma.run(text),

@@ -3,10 +3,10 @@
 //! They do nothing when the program runs.
 ghost use Rattle.std.specs.Prelude.{◌≡◌, ◌<◌, ◌^◌, All, length};
 ghost use Rattle.kd_tables.specs.Places.{IsBefore, IsReading};
-ghost use Rattle.kd_enigma.specs.Plugs.{letters_plugged};
-ghost use Rattle.kd_state.specs.Line.{IsInRange};
-ghost use Rattle.kd_state.specs.Machine.{cable_letters, plugged_letters, AreLetters, HasAllPins};
-ghost use Rattle.kd_state.specs.SheetDay.{HasLetters};
+ghost use Rattle.kd_enigma.specs.Plugs.{letters_in_pairs};
+ghost use Rattle.kd_state.specs.Line.{IsSettingInRange};
+ghost use Rattle.kd_state.specs.Machine.{cable_letters, letters_in_cables, AreLetters, HasAllPins};
+ghost use Rattle.kd_state.specs.SheetDay.{HasWheelLetters};
 
 use crate::machine::cable::Cable;
 use crate::setting::Setting;
@@ -25,7 +25,7 @@ pub(crate) fn learn_letters(letters: &[Letter])
 
 /// Shows that each letter of the pairs is below 26.
 pub(crate) fn learn_pair_letters(pairs: &[(Letter, Letter)])
-    ensures { All (λ letter. letter < 26) (letters_plugged pairs.now) }
+    ensures { All (λ letter. letter < 26) (letters_in_pairs pairs.now) }
 {
     for (one, other) in pairs {
         prove!(one.index() < 26 && other.index() < 26);
@@ -34,7 +34,7 @@ pub(crate) fn learn_pair_letters(pairs: &[(Letter, Letter)])
 
 /// Shows that each wheel's ring and window letter are below 26.
 pub(crate) fn learn_wheel_letters(wheels: &[SheetWheel])
-    ensures { All HasLetters wheels.now }
+    ensures { All HasWheelLetters wheels.now }
 {
     for wheel in wheels {
         prove!(wheel.ring.index() < 26 && wheel.letter.index() < 26);
@@ -72,7 +72,7 @@ pub(crate) fn learn_standings(bars: &[Standing; 27])
 /// Shows that each letter in the cables is below 26.
 pub(crate) fn learn_cable_letters(cables: &[Cable; 13])
     ensures count { length cables.now ≡ 13 }
-    ensures each { All (λ letter. letter < 26) (plugged_letters cables.now) }
+    ensures each { All (λ letter. letter < 26) (letters_in_cables cables.now) }
 {
     for cable in cables {
         learn_letters_of_cable(cable);
@@ -100,7 +100,7 @@ pub(crate) fn learn_pins(pins: PinSet)
 
 /// Shows that the setting's number is a byte and its letter is below 26.
 pub(crate) fn learn_setting_range(setting: &Setting)
-    ensures { IsInRange setting.now }
+    ensures { IsSettingInRange setting.now }
 {
     match *setting {
         Setting::Pull { cable, letter } | Setting::Put { cable, letter } => {

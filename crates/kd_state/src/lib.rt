@@ -2,11 +2,11 @@
 #![tactic(auto)]
 
 mod costs;
-mod counted;
 mod engine;
 mod facts;
 pub mod laws;
 mod machine;
+mod numbered_items;
 mod setting;
 mod sheet_day;
 mod words;
@@ -15,7 +15,7 @@ pub use costs::tables::{bar_costs, cable_costs, column_at};
 pub use costs::{bar_cost, cable_cost, lies_in_column, nearest_standing};
 pub use engine::{Engine, NotReady, own_engine};
 pub use machine::Machine;
-pub use machine::cable::{Cable, is_new, letters_in_order, lies_in};
+pub use machine::cable::{Cable, are_new_letters, letters_in_order, lies_in};
 pub use machine::one_model::OneModel;
 pub use machine::parts::Parts;
 pub use machine::per_slot::PerSlot;

@@ -40,7 +40,7 @@ impl std::marker::Model for Machine {
 
 impl Machine {
     ghost use Rattle.std.specs.Prelude.{◌≡◌, ◌↔◌, IsSome, IfSome, OnOk, OnErr, IfErr, Some};
-    ghost use Rattle.kd_state.specs.Machine.{IsLegalRotor, IsLegalPin, IsMachine, cables_ordered};
+    ghost use Rattle.kd_state.specs.Machine.{IsLegalRotor, IsLegalPin, IsMachine, with_cables_in_order};
     ghost use Rattle.kd_state.specs.Setting.{Carries, why_refused};
 
     /// Creates a rotor machine, or `None` if `parts` aren't legal.
@@ -50,13 +50,13 @@ impl Machine {
     /// cable's letters may come in either order.
     pub fn rotor(parts: RotorParts) -> Option<Machine>
         ensures exists { IsSome result ↔ IsLegalRotor parts }
-        ensures value { IfSome result (λ machine. machine ≡ cables_ordered (Parts.Rotor parts)) }
+        ensures value { IfSome result (λ machine. machine ≡ with_cables_in_order (Parts.Rotor parts)) }
     {
         if !parts.is_legal() {
             return None;
         }
         Some(Machine {
-            parts: Parts::Rotor(parts.in_order()),
+            parts: Parts::Rotor(parts.with_cables_in_order()),
         })
     }
 

@@ -4,8 +4,8 @@ pub(crate) mod entry;
 pub(crate) mod pin_entry;
 pub(crate) mod rotor_entry;
 
-use crate::counted::numbered;
 use crate::machine::per_slot::PerSlot;
+use crate::numbered_items::numbered_item;
 use arrayvec::ArrayVec;
 use entry::Entry;
 use kd_pins::PinSet;
@@ -34,8 +34,8 @@ impl SheetDay {
     ghost use Rattle.std.specs.Prelude.{◌≡◌, ◌↔◌, ◌≤◌, length, IsTrue, IfSome, MatchOption};
     ghost use Rattle.std.specs.Option.{option_copied, option_map};
     ghost use Rattle.kd_state.specs.SheetDay.{RotorDay, PinDay, OfRotors, OfPins, IsLegalDay, IsLegalRotorDay};
-    ghost use Rattle.kd_state.specs.SheetDay.{IsLegalPinDay, IsDayNumber, AreOfADaysGroup};
-    ghost use Rattle.kd_state.specs.SheetDay.{day_number, day_model, rotor_day, pin_day, sheet_wheel, shown_letter};
+    ghost use Rattle.kd_state.specs.SheetDay.{IsLegalPinDay, IsDayNumber, AreADaysGroup};
+    ghost use Rattle.kd_state.specs.SheetDay.{day_number, day_model, rotor_day, pin_day, day_wheel, day_window_letter};
     ghost use Rattle.kd_state.specs.Entry.{values_of};
 
     /// Creates a day of a rotor machine, or `None` if no key sheet can have these values.
@@ -140,25 +140,25 @@ impl SheetDay {
 
     /// The wheel in slot `slot`, counted from the left from 1. `None` on the Converter M-209.
     pub fn slot(&self, slot: u8) -> Option<Wheel>
-        ensures { result ≡ option_map (λ seated. seated.wheel) (sheet_wheel self.now slot) }
+        ensures { result ≡ option_map (λ seated. seated.wheel) (day_wheel self.now slot) }
     {
         Some(self.seated(slot)?.wheel)
     }
 
     /// The ring of the wheel in slot `slot`, counted from 1 from the left: 01 is A. `None` on the M-209.
     pub fn ring(&self, slot: u8) -> Option<Letter>
-        ensures { result ≡ option_map (λ seated. seated.ring) (sheet_wheel self.now slot) }
+        ensures { result ≡ option_map (λ seated. seated.ring) (day_wheel self.now slot) }
     {
         Some(self.seated(slot)?.ring)
     }
 
     /// The letter in the window of slot `slot`, counted from 1 from the left, or on pin wheel `slot`.
     pub fn window(&self, slot: u8) -> Option<Letter>
-        ensures { result ≡ shown_letter self.now slot }
+        ensures { result ≡ day_window_letter self.now slot }
     {
         match &self.entry {
-            Entry::Rotor(entry) => Some(numbered(entry.wheels.as_slice(), slot)?.letter),
-            Entry::Pin(entry) => numbered(&entry.window, slot),
+            Entry::Rotor(entry) => Some(numbered_item(entry.wheels.as_slice(), slot)?.letter),
+            Entry::Pin(entry) => numbered_item(&entry.window, slot),
         }
     }
 
@@ -196,7 +196,7 @@ impl SheetDay {
 
     /// Whether `letters` are one of the day's groups, in any order. Never on the Converter M-209.
     pub fn has_group(&self, letters: [Letter; 3]) -> bool
-        ensures { IsTrue result ↔ AreOfADaysGroup self.now letters }
+        ensures { IsTrue result ↔ AreADaysGroup self.now letters }
     {
         match &self.entry {
             Entry::Rotor(entry) => entry.has_group(letters),
@@ -236,10 +236,10 @@ impl SheetDay {
 
     /// The wheel in slot `slot` with its ring and window letter. `None` on the Converter M-209.
     fn seated(&self, slot: u8) -> Option<SheetWheel>
-        ensures { result ≡ sheet_wheel self.now slot }
+        ensures { result ≡ day_wheel self.now slot }
     {
         match &self.entry {
-            Entry::Rotor(entry) => numbered(entry.wheels.as_slice(), slot),
+            Entry::Rotor(entry) => numbered_item(entry.wheels.as_slice(), slot),
             Entry::Pin(_) => None,
         }
     }

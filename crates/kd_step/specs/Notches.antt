@@ -9,6 +9,6 @@ pub record IsNotchTable (wheel : Wheel) (table : List Bool) : Type 0 where
   pub each : (letter : ℕ) → letter < 26 → slice_index_or table letter false ≡ is_notch wheel letter
 
 -- `table` is the notch table of the wheel at `place`, counted from the right from 0.
-abbrev pub TellsNotches : List Wheel → ℕ → List Bool → Type 0
-TellsNotches wheels place table =
+abbrev pub IsNotchTableAt : List Wheel → ℕ → List Bool → Type 0
+IsNotchTableAt wheels place table =
     IsSomeAnd (slice_get wheels (length wheels - (place + 1))) (λ wheel. IsNotchTable wheel table)

@@ -25,17 +25,18 @@ stands_at_notch wheels window place =
     option_map_or (λ wheel. is_notch wheel (slice_index window slot)) (slice_get wheels slot) false
 
 -- `window` with each of its last `count` letters moved on by one
-abbrev pub moved : ℕ → List ℕ → List ℕ
-moved count window = take (length window - count) window ++ map next_letter (drop (length window - count) window)
+abbrev pub with_last_moved : ℕ → List ℕ → List ℕ
+with_last_moved count window = take (length window - count) window
+    ++ map next_letter (drop (length window - count) window)
 
 -- One step. If the middle wheel stands at a notch, the left, middle and right wheels move. Otherwise the middle
 -- and right wheels move if the right wheel stands at a notch, and else only the right wheel.
 pub record IsStep (wheels : List Wheel) (before after : List ℕ) : Type 0 where
-  pub from_middle_notch : IsTrue (stands_at_notch wheels before 1) → after ≡ moved 3 before
+  pub from_middle_notch : IsTrue (stands_at_notch wheels before 1) → after ≡ with_last_moved 3 before
   pub from_right_notch : IsFalse (stands_at_notch wheels before 1) → IsTrue (stands_at_notch wheels before 0)
-      → after ≡ moved 2 before
+      → after ≡ with_last_moved 2 before
   pub from_no_notch : IsFalse (stands_at_notch wheels before 1) → IsFalse (stands_at_notch wheels before 0)
-      → after ≡ moved 1 before
+      → after ≡ with_last_moved 1 before
 
 -- ---- Several steps: as a chain of steps, and as a function.
 -- Code: the window is moved in place.
@@ -49,8 +50,8 @@ LeadsInSteps wheels first (suc n) last =
 -- the window after one step
 abbrev pub next_window : List Wheel → List ℕ → List ℕ
 next_window wheels window =
-    if stands_at_notch wheels window 1 then moved 3 window
-    else (if stands_at_notch wheels window 0 then moved 2 window else moved 1 window)
+    if stands_at_notch wheels window 1 then with_last_moved 3 window
+    else (if stands_at_notch wheels window 0 then with_last_moved 2 window else with_last_moved 1 window)
 
 -- the window after `n` steps
 abbrev pub window_after : List Wheel → List ℕ → ℕ → List ℕ

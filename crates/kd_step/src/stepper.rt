@@ -1,6 +1,6 @@
 //! The wheels of a rotor machine, and how a key press moves them.
 ghost use Rattle.std.specs.Prelude.{◌≡◌, ◌<◌, ◌≤◌, length, map, slice_index};
-ghost use Rattle.kd_step.specs.Stepper.{IsStep, moved, next_letter, window_after};
+ghost use Rattle.kd_step.specs.Stepper.{IsStep, with_last_moved, next_letter, window_after};
 
 use super::notches::notches;
 use kd_tables::{Letter, Wheel};
@@ -20,14 +20,14 @@ pub struct Stepper<const S: usize> {
 impl<const S: usize> Model for Stepper<S> {
     ghost use Rattle.std.specs.Prelude.{◌≡◌, ◌≤◌};
     ghost use Rattle.kd_step.specs.Stepper.{Stepping};
-    ghost use Rattle.kd_step.specs.Notches.{TellsNotches};
+    ghost use Rattle.kd_step.specs.Notches.{IsNotchTableAt};
 
     ghost Value = { Stepping };
 
     ghost view = { λ s. record { wheels = s.wheels; window = s.window } };
 
     ghost invariant = { λ s. (3 ≤ S) × (S ≤ 4)
-        × TellsNotches s.wheels 1 s.middle × TellsNotches s.wheels 0 s.right };
+        × IsNotchTableAt s.wheels 1 s.middle × IsNotchTableAt s.wheels 0 s.right };
 }
 
 impl<const S: usize> Stepper<S> {
@@ -84,7 +84,7 @@ impl<const S: usize> Stepper<S> {
 /// Moves each of the last `count` letters on by one, Z to A.
 fn move_last(window: &mut [Letter], count: usize)
     requires { count ≤ length window.old }
-    ensures { window.new ≡ moved count window.old }
+    ensures { window.new ≡ with_last_moved count window.old }
 {
     let first = window.len() - count;
     advance(&mut window[first..]);

@@ -1,7 +1,8 @@
 -- Products, inverses and shifts of permutations, letter by letter.
 use Rattle.std.proofs.Common.{◌≡◌, ◌↔◌, ℕ, ◌+◌, ◌-◌, ◌<◌, ◌≤◌, ◌%◌, ◌==◌, List, length, slice_index, refl, sym, ap, ◌∙◌}
 use Rattle.std.proofs.Common.{arith}
-use Rattle.{kd_tables.proofs.Wirings.at_place, kd_tables.proofs.Wirings.place_within, std.proofs.lemmas.Bool.eq-eqb}
+use Rattle.{kd_tables.proofs.Wirings.slice_index-position_or_len, kd_tables.proofs.Wirings.place_within}
+use Rattle.{std.proofs.lemmas.Bool.eq-eqb}
 use Rattle.std.proofs.lemmas.{Bool.ne_eqb, List.Sums.position_or_len_is, List.get_or-map, List.length-map}
 use Rattle.std.specs.List.{position_or_len}
 use Rattle.std.proofs.lemmas.List.FromFn.{fill_by_all, get_or-map-range_with_len, length-map-range_with_len}
@@ -44,8 +45,9 @@ inverse_permutes p h = record {
   size = length-map-range_with_len (λ y. position_or_len (λ x. x == y) p) 0 26;
   each_once = record {
     within = λ k lt. rw (inverse-at p k lt) (place_within p k h lt);
-    apart = λ j k a b e. sym (at_place p j h a) ∙ ap (slice_index p) (sym (inverse-at p j a) ∙ e ∙ inverse-at p k b)
-        ∙ at_place p k h b;
+    apart = λ j k a b e. sym (slice_index-position_or_len p j h a)
+        ∙ ap (slice_index p) (sym (inverse-at p j a) ∙ e ∙ inverse-at p k b)
+        ∙ slice_index-position_or_len p k h b;
   };
 }
 
@@ -75,7 +77,7 @@ pub inverse_product : (p : List ℕ) → IsPermutation26 p → followed_by (inve
 inverse_product p h =
     same_as_alphabet (followed_by (inverse p) p) (product_permutes (inverse p) p (inverse_permutes p h) h).size
     (λ x lt. followed_by-at (inverse p) p x (omega (arith, (inverse_permutes p h).size))
-    ∙ ap (slice_index p) (inverse-at p x lt) ∙ at_place p x h lt)
+    ∙ ap (slice_index p) (inverse-at p x lt) ∙ slice_index-position_or_len p x h lt)
 
 -- A table that takes the letter at each place back to this place is the inverse.
 pub filled_is_inverse : (p filled : List ℕ) → IsPermutation26 p → length filled ≡ 26
@@ -83,7 +85,7 @@ pub filled_is_inverse : (p filled : List ℕ) → IsPermutation26 p → length f
 unfolding inverse
 filled_is_inverse p filled h size leads =
     fill_by_all (λ y. position_or_len (λ x. x == y) p) filled 26 0 size
-    (λ y lt. ap (slice_index filled) (sym (at_place p y h lt))
+    (λ y lt. ap (slice_index filled) (sym (slice_index-position_or_len p y h lt))
     ∙ leads (position_or_len (λ x. x == y) p) (place_within p y h lt))
 
 -- A permutation takes `x` to `y` exactly if its inverse takes `y` to `x`.
@@ -91,7 +93,7 @@ pub inverse_by_letter : (p : List ℕ) (x y : ℕ) → IsPermutation26 p → x <
     → (slice_index p x ≡ y) ↔ (slice_index (inverse p) y ≡ x)
 inverse_by_letter p x y h x_lt y_lt = (
   λ e. inverse-at p y y_lt ∙ ap (λ z. position_or_len (λ w. w == z) p) (sym e) ∙ place_of_at p x h x_lt,
-  λ e. ap (slice_index p) (sym e ∙ inverse-at p y y_lt) ∙ at_place p y h y_lt,
+  λ e. ap (slice_index p) (sym e ∙ inverse-at p y y_lt) ∙ slice_index-position_or_len p y h y_lt,
 )
 
 -- If `p` undoes `back` on each letter, `back` is the inverse of `p`.

@@ -1,6 +1,6 @@
 -- The places of a pin wheel's letters.
 use Rattle.std.proofs.Common.{◌≡◌, ◌≢◌, ℕ, ◌<◌, ◌==◌, ltb, List, [], length, slice_index, Some, None, refl, arith}
-use Rattle.kd_tables.{proofs.Wirings.one_place, specs.Rings.IsRing, specs.Rings.place_on, specs.Rings.ring_of}
+use Rattle.kd_tables.{proofs.Wirings.IsDistinct-index, specs.Rings.IsRing, specs.Rings.place_on, specs.Rings.ring_of}
 use Rattle.std.{proofs.lemmas.List.{Quantifiers.position-Some, Sums.position_or_len_is}, specs.List.position_or_len}
 use Rattle.std.proofs.lemmas.Bool.{cond-true, lt-ltb, eqb-true, eq-eqb, ne_eqb}
 
@@ -11,7 +11,7 @@ letter_leads_to_place size ring h place lt =
     position_or_len_is (λ other. other == slice_index ring place) ring place 0 (omega (arith, h.full))
     (λ k k_lt. ne_eqb (slice_index ring k) (slice_index ring place) (λ e. absurd (omega (
       arith,
-      one_place ring k place h.differ (omega (arith, h.full)) (omega (arith, h.full)) e,
+      IsDistinct-index ring k place h.differ (omega (arith, h.full)) (omega (arith, h.full)) e,
     ))))
     (λ _. eq-eqb (slice_index ring place) (slice_index ring place) refl) in
     rw first (cond-true (ltb place (length ring)) (Some place) None

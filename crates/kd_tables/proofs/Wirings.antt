@@ -24,9 +24,9 @@ by_order p j k h a b e (inr (inr lt)) =
     absurd (eqb-false (slice_index p k) (slice_index p j) (apart_from_distinct nat_eq p k j 0 h lt a) (sym e))
 
 -- In a list of different numbers, equal numbers are at one place.
-pub one_place : (p : List ℕ) (j k : ℕ) → IsDistinct nat_eq p → j < length p → k < length p
+pub IsDistinct-index : (p : List ℕ) (j k : ℕ) → IsDistinct nat_eq p → j < length p → k < length p
     → slice_index p j ≡ slice_index p k → j ≡ k
-one_place p j k h a b e = by_order p j k h a b e (cases_order j k)
+IsDistinct-index p j k h a b e = by_order p j k h a b e (cases_order j k)
 
 -- ---- permutations of the alphabet
 
@@ -72,15 +72,16 @@ pub place_within : (p : List ℕ) (y : ℕ) → IsPermutation26 p → y < 26 →
 place_within p y h lt = place_by_cases p y h lt (cases_lt (position_or_len (λ x. x == y) p) 26)
 
 -- The letter at the place of a letter is this letter.
-pub at_place : (p : List ℕ) (y : ℕ) → IsPermutation26 p → y < 26 → slice_index p (position_or_len (λ x. x == y) p) ≡ y
-at_place p y h lt =
+pub slice_index-position_or_len : (p : List ℕ) (y : ℕ) → IsPermutation26 p → y < 26
+    → slice_index p (position_or_len (λ x. x == y) p) ≡ y
+slice_index-position_or_len p y h lt =
     eqb-true (slice_index p (position_or_len (λ x. x == y) p)) y
     (passes_at_first (λ x. x == y) p 0 (omega (arith, h.size, place_within p y h lt)))
 
 -- ---- what the tests of a text say
 
-letters_within : (p : List ℕ) → are_distinct_letters p ≡ true → All (λ x. x < 26) p
-letters_within p h = grind (arith, All-weaker, ltb-true, AllPass-from_list_all)
+are_distinct_letters-within : (p : List ℕ) → are_distinct_letters p ≡ true → All (λ x. x < 26) p
+are_distinct_letters-within p h = grind (arith, All-weaker, ltb-true, AllPass-from_list_all)
 
 letters_differ : (p : List ℕ) → are_distinct_letters p ≡ true → IsDistinct nat_eq p
 letters_differ p h = grind (arith, IsDistinct-from_count, nat_eq_equiv, eqb-true)
@@ -92,8 +93,8 @@ test_permutes p h =
     record {
       size = size;
       each_once = record {
-        within = λ k lt. All-get_or (λ x. x < 26) p k 0 (omega arith) (letters_within p parts.1);
-        apart = λ j k a b e. one_place p j k (letters_differ p parts.1) (omega arith) (omega arith) e;
+        within = λ k lt. All-get_or (λ x. x < 26) p k 0 (omega arith) (are_distinct_letters-within p parts.1);
+        apart = λ j k a b e. IsDistinct-index p j k (letters_differ p parts.1) (omega arith) (omega arith) e;
       };
     }
 
@@ -103,27 +104,29 @@ text_makes_ring n text size h =
     let letters = (and_parts (are_capitals text) (are_distinct_letters (letters_of text)) h).1 in
     record {
       full = size;
-      within = letters_within (letters_of text) letters;
+      within = are_distinct_letters-within (letters_of text) letters;
       differ = letters_differ (letters_of text) letters;
     }
 
 -- A table that passes the test of a reflector exchanges letters in pairs.
-reflects : (p : List ℕ) → is_reflection p ≡ true
+is_reflection-reflects : (p : List ℕ) → is_reflection p ≡ true
     → All (λ x. (not (slice_index p x == x) && (slice_index p (slice_index p x) == x)) ≡ true) alphabet
-reflects p h =
+is_reflection-reflects p h =
     AllPass-from_list_all (λ x. not (slice_index p x == x) && (slice_index p (slice_index p x) == x)) alphabet h
 
 pub reflection_returns : (p : List ℕ) → is_reflection p ≡ true → IsOwnInverse p
 reflection_returns p h =
     All-weaker (λ x. (not (slice_index p x == x) && (slice_index p (slice_index p x) == x)) ≡ true)
     (λ x. slice_index p (slice_index p x) ≡ x) (λ x e. eqb-true (slice_index p (slice_index p x)) x
-    (and_parts (not (slice_index p x == x)) (slice_index p (slice_index p x) == x) e).1) alphabet (reflects p h)
+    (and_parts (not (slice_index p x == x)) (slice_index p (slice_index p x) == x) e).1) alphabet
+    (is_reflection-reflects p h)
 
 pub reflection_moves : (p : List ℕ) → is_reflection p ≡ true → MovesEachLetter p
 reflection_moves p h =
     All-weaker (λ x. (not (slice_index p x == x) && (slice_index p (slice_index p x) == x)) ≡ true)
     (λ x. slice_index p x ≢ x) (λ x e. eqb-false (slice_index p x) x (not-true (slice_index p x == x)
-    (and_parts (not (slice_index p x == x)) (slice_index p (slice_index p x) == x) e).0)) alphabet (reflects p h)
+    (and_parts (not (slice_index p x == x)) (slice_index p (slice_index p x) == x) e).0)) alphabet
+    (is_reflection-reflects p h)
 
 -- ---- the published tables
 

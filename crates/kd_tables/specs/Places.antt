@@ -69,14 +69,14 @@ abbrev pub standing_text : Place × Place → List ℕ
 standing_text standing = place_text standing.0 ++ codes "-" ++ place_text standing.1
 
 -- `left` and `right` name the places of the two lugs.
-abbrev pub AreNames : Place × Place → List ℕ → List ℕ → Type 0
-AreNames standing left right = (place_text standing.0 ≡ left) × (place_text standing.1 ≡ right)
+abbrev pub ArePlaceNames : Place × Place → List ℕ → List ℕ → Type 0
+ArePlaceNames standing left right = (place_text standing.0 ≡ left) × (place_text standing.1 ≡ right)
 
 -- ---- How a bar reads: the numbers of the wheels at its lugs' places, the smaller one first.
 
 -- the two numbers, the smaller one first
-abbrev pub in_order : ℕ → ℕ → ℕ × ℕ
-in_order a b = (min a b, max a b)
+abbrev pub smaller_first : ℕ → ℕ → ℕ × ℕ
+smaller_first a b = (min a b, max a b)
 
 -- Two numbers from 0 to 6 that differ or are both 0, the smaller one first.
 pub record IsReading (numbers : ℕ × ℕ) : Type 0 where
@@ -86,12 +86,12 @@ pub record IsReading (numbers : ℕ × ℕ) : Type 0 where
 
 -- the numbers at the two lugs' places, the smaller one first
 abbrev pub reading_of : Place → Place → ℕ × ℕ
-reading_of left right = in_order (place_number left) (place_number right)
+reading_of left right = smaller_first (place_number left) (place_number right)
 
 -- a number from 0 to 9 as a digit
-abbrev pub figure : ℕ → List ℕ
-figure number = (number + 48) ∷ []
+abbrev pub digit_text : ℕ → List ℕ
+digit_text number = (number + 48) ∷ []
 
 -- the smaller number, `-`, and the larger one
 abbrev pub reading_text : ℕ × ℕ → List ℕ
-reading_text numbers = figure numbers.0 ++ codes "-" ++ figure numbers.1
+reading_text numbers = digit_text numbers.0 ++ codes "-" ++ digit_text numbers.1

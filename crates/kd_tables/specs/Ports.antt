@@ -58,22 +58,22 @@ port bytes failed old new =
     record { had = bytes old; has = bytes new; had_failed = failed old; has_failed = failed new }
 
 -- The port didn't fail in the call, unless it had failed before.
-abbrev pub IsWell : Port → Type 0
-IsWell p = p.has_failed ≡ p.had_failed
+abbrev pub HasNotFailed : Port → Type 0
+HasNotFailed p = p.has_failed ≡ p.had_failed
 
 -- The port has failed, and the other one didn't fail during the call.
 pub record FailsAlone (p other : Port) : Type 0 where
   pub failed : IsTrue p.has_failed
-  pub well : IsWell other
+  pub well : HasNotFailed other
 
 -- What a call's answer tells of its two ports. The flag is `true` if the call returns `Device`. Then one port
 -- has failed, and the other didn't fail in the call. Otherwise neither port failed in the call.
-abbrev pub Fail : Port → Port → Bool → Type 0
-Fail source sink false = IsWell source × IsWell sink
-Fail source sink true = FailsAlone source sink ⊎ FailsAlone sink source
+abbrev pub FailureAgrees : Port → Port → Bool → Type 0
+FailureAgrees source sink false = HasNotFailed source × HasNotFailed sink
+FailureAgrees source sink true = FailsAlone source sink ⊎ FailsAlone sink source
 
 -- The answers of a test for the end: the source is at its end, or gave one byte, or failed.
-abbrev pub Ends : Option (List ℕ) → Option (List ℕ) → Result Bool Device → Type 0
-Ends had has (Ok true) = Consumes had has [] × IsAtEnd has
-Ends had has (Ok false) = (byte : ℕ) × Consumes had has (byte ∷ [])
-Ends had has (Err _) = Consumes had has []
+abbrev pub EndAgrees : Option (List ℕ) → Option (List ℕ) → Result Bool Device → Type 0
+EndAgrees had has (Ok true) = Consumes had has [] × IsAtEnd has
+EndAgrees had has (Ok false) = (byte : ℕ) × Consumes had has (byte ∷ [])
+EndAgrees had has (Err _) = Consumes had has []

@@ -49,5 +49,5 @@ refusal_name refusals.NoSuchDay = codes "39 NoSuchDay"
 refusal_name refusals.OtherDay = codes "40 OtherDay"
 
 -- a space and a word
-abbrev pub spaced : List ℕ → List ℕ
-spaced word = 32 ∷ word
+abbrev pub word_after_space : List ℕ → List ℕ
+word_after_space word = 32 ∷ word

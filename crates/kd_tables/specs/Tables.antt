@@ -99,17 +99,17 @@ slots_of M4 = 4
 slots_of M209 = 0
 
 -- whether `number` is from `first` to `last`
-abbrev pub lies_in : ℕ → ℕ → ℕ → Bool
-lies_in first last number = nat_le first number && nat_le number last
+abbrev pub is_from_to : ℕ → ℕ → ℕ → Bool
+is_from_to first last number = nat_le first number && nat_le number last
 
 -- The wheels that a slot allows. Slots are counted from 1, from the left. A slot that the model lacks allows
 -- none.
 abbrev pub wheels_for : Model → ℕ → List Wheel
-wheels_for EnigmaI slot = if lies_in 1 3 slot then I ∷ II ∷ III ∷ IV ∷ V ∷ [] else []
-wheels_for M3 slot = if lies_in 1 3 slot then I ∷ II ∷ III ∷ IV ∷ V ∷ VI ∷ VII ∷ VIII ∷ [] else []
+wheels_for EnigmaI slot = if is_from_to 1 3 slot then I ∷ II ∷ III ∷ IV ∷ V ∷ [] else []
+wheels_for M3 slot = if is_from_to 1 3 slot then I ∷ II ∷ III ∷ IV ∷ V ∷ VI ∷ VII ∷ VIII ∷ [] else []
 wheels_for M4 slot =
     if slot == 1 then Beta ∷ Gamma ∷ []
-    else (if lies_in 2 4 slot then I ∷ II ∷ III ∷ IV ∷ V ∷ VI ∷ VII ∷ VIII ∷ [] else [])
+    else (if is_from_to 2 4 slot then I ∷ II ∷ III ∷ IV ∷ V ∷ VI ∷ VII ∷ VIII ∷ [] else [])
 wheels_for M209 slot = []
 
 -- the wheels of a model's box, in box order: each wheel that one of its slots allows

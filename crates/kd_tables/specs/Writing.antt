@@ -4,10 +4,10 @@ use Rattle.std.specs.Prelude.{ℕ, ◌<◌, List, length, take, Option, Result, 
 use Rattle.std.specs.Io.KnownBytes.{Appends}
 
 -- A proper prefix of the text was taken.
-abbrev pub TakesFront : Option (List ℕ) → Option (List ℕ) → List ℕ → Type 0
-TakesFront old new text = (count : ℕ) × (count < length text) × Appends old new (take count text)
+abbrev pub TakesPrefix : Option (List ℕ) → Option (List ℕ) → List ℕ → Type 0
+TakesPrefix old new text = (count : ℕ) × (count < length text) × Appends old new (take count text)
 
 -- Without an error the whole text was taken, with an error a proper prefix of it.
 pub record Writes {T E : Type 0} (old new : Option (List ℕ)) (text : List ℕ) (answer : Result T E) : Type 0 where
   pub whole : OnOk answer (Appends old new text)
-  pub front : OnErr answer (TakesFront old new text)
+  pub front : OnErr answer (TakesPrefix old new text)

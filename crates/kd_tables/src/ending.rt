@@ -1,13 +1,13 @@
 //! `is_at_end`, which tests whether a source is at its end.
 ghost use Rattle.std.specs.Prelude.{◌≡◌, ◌||◌, is_err};
-ghost use Rattle.kd_tables.specs.Ports.{Ends};
+ghost use Rattle.kd_tables.specs.Ports.{EndAgrees};
 
 use super::source::Source;
 use super::writing::Device;
 
 /// Tries to read one more byte, and returns whether there is none.
 pub fn is_at_end<R: Source>(source: &mut R) -> Result<bool, Device>
-    ensures ends { Ends (R.remaining source.old) (R.remaining source.new) result }
+    ensures ends { EndAgrees (R.remaining source.old) (R.remaining source.new) result }
     ensures failed { R.has_failed source.new ≡ (R.has_failed source.old || is_err result) }
 {
     let mut buffer = [0; 1];

@@ -1,6 +1,6 @@
 //! Readings: what the bars of the Converter M-209 read as.
 ghost use Rattle.std.specs.Prelude.{codes, ◌≡◌, ◌≢◌, ◌↔◌, [], ◌∷◌, ◌++◌, MatchOption, IsSome, IfSome};
-ghost use Rattle.kd_tables.specs.Places.{IsReading, in_order, reading_text};
+ghost use Rattle.kd_tables.specs.Places.{IsReading, smaller_first, reading_text};
 
 use arrayvec::ArrayString;
 use std::marker::Model;
@@ -32,8 +32,8 @@ impl Reading {
     ///
     /// `None` if one is above 6, or if they are equal and above 0.
     pub fn new(a: u8, b: u8) -> Option<Self>
-        ensures exists { IsSome result ↔ IsReading (in_order a b) }
-        ensures value { IfSome result (λ reading. reading ≡ in_order a b) }
+        ensures exists { IsSome result ↔ IsReading (smaller_first a b) }
+        ensures value { IfSome result (λ reading. reading ≡ smaller_first a b) }
     {
         let (smaller, larger) = if a <= b { (a, b) } else { (b, a) };
         if larger > 6 || (smaller == larger && smaller > 0) {

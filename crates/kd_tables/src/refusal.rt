@@ -1,7 +1,7 @@
 //! The refusals: their numbers, their names and their texts.
 ghost use Rattle.std.specs.Prelude.{◌≡◌, ◌≤◌, ◌+◌, ◌++◌, decimal, length};
 ghost use Rattle.arrayvec.specs.ArrayString.{array_string_len};
-ghost use Rattle.kd_tables.specs.Refusals.{refusal_name, spaced};
+ghost use Rattle.kd_tables.specs.Refusals.{refusal_name, word_after_space};
 
 use arrayvec::ArrayString;
 use itoa::Buffer;
@@ -155,8 +155,8 @@ impl Refusal {
     }
 
     /// The text of a refusal at one place.
-    pub fn at(self, place: usize) -> Text
-        ensures bytes { result.bytes ≡ refusal_name self ++ spaced (decimal place) }
+    pub fn text_at(self, place: usize) -> Text
+        ensures bytes { result.bytes ≡ refusal_name self ++ word_after_space (decimal place) }
         ensures short { array_string_len result ≤ 41 }
     {
         let mut text = self.text();
@@ -165,18 +165,19 @@ impl Refusal {
     }
 
     /// The text of a refusal at two places.
-    pub fn at_both(self, one: usize, other: usize) -> Text
-        ensures { result.bytes ≡ refusal_name self ++ spaced (decimal one) ++ spaced (decimal other) }
+    pub fn text_at_both(self, one: usize, other: usize) -> Text
+        ensures { result.bytes ≡ refusal_name self ++ word_after_space (decimal one)
+            ++ word_after_space (decimal other) }
     {
-        let mut text = self.at(one);
+        let mut text = self.text_at(one);
         push_place(&mut text, other);
         text
     }
 
     /// The text of a refusal with the name of a key or a reason.
-    pub fn with_word(self, word: &str) -> Text
+    pub fn text_with_word(self, word: &str) -> Text
         requires { length word.now ≤ 22 }
-        ensures { result.bytes ≡ refusal_name self ++ spaced word.now }
+        ensures { result.bytes ≡ refusal_name self ++ word_after_space word.now }
     {
         let mut text = self.text();
         push_word(&mut text, word);
@@ -184,11 +185,11 @@ impl Refusal {
     }
 
     /// The text of a refusal at one place, with a reason.
-    pub fn at_with_word(self, place: usize, word: &str) -> Text
+    pub fn text_at_with_word(self, place: usize, word: &str) -> Text
         requires { length word.now ≤ 22 }
-        ensures { result.bytes ≡ refusal_name self ++ spaced (decimal place) ++ spaced word.now }
+        ensures { result.bytes ≡ refusal_name self ++ word_after_space (decimal place) ++ word_after_space word.now }
     {
-        let mut text = self.at(place);
+        let mut text = self.text_at(place);
         push_word(&mut text, word);
         text
     }
@@ -197,7 +198,7 @@ impl Refusal {
 /// Appends a space and a place.
 fn push_place(text: &mut Text, place: usize)
     requires { array_string_len text.old + 21 ≤ 64 }
-    ensures bytes { text.new.bytes ≡ text.old.bytes ++ spaced (decimal place) }
+    ensures bytes { text.new.bytes ≡ text.old.bytes ++ word_after_space (decimal place) }
     ensures short { array_string_len text.new ≤ array_string_len text.old + 21 }
 {
     let mut buffer = Buffer::new();
@@ -208,7 +209,7 @@ fn push_place(text: &mut Text, place: usize)
 /// Appends a space and the name of a key or a reason.
 fn push_word(text: &mut Text, word: &str)
     requires { array_string_len text.old + length word.now + 1 ≤ 64 }
-    ensures { text.new.bytes ≡ text.old.bytes ++ spaced word.now }
+    ensures { text.new.bytes ≡ text.old.bytes ++ word_after_space word.now }
 {
     text.push_str(" ");
     text.push_str(word);

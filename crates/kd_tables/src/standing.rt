@@ -1,7 +1,7 @@
 //! Standings: the places of a bar's two lugs.
 ghost use Rattle.std.specs.Prelude.{◌≡◌, ◌≢◌, ◌↔◌, ◌==◌, MatchOption, IsSome, IfSome};
 ghost use Rattle.std.specs.List.{position};
-ghost use Rattle.kd_tables.specs.Places.{IsBefore, reading_of, standing_text, AreNames};
+ghost use Rattle.kd_tables.specs.Places.{IsBefore, reading_of, standing_text, ArePlaceNames};
 
 use super::place::Place;
 use super::reading::Reading;
@@ -103,8 +103,8 @@ impl Standing {
     /// Parses the names of the two places.
     fn from_names(left: &[u8], right: &[u8]) -> Option<Self>
         ensures { MatchOption result
-            ((places : _) → IsBefore places.0 places.1 → AreNames places left.now right.now → ⊥)
-            (λ standing. AreNames standing left.now right.now) }
+            ((places : _) → IsBefore places.0 places.1 → ArePlaceNames places left.now right.now → ⊥)
+            (λ standing. ArePlaceNames standing left.now right.now) }
     {
         Standing::new(Place::from_text(left)?, Place::from_text(right)?)
     }

@@ -1,6 +1,6 @@
 //! Tests of minimum-cost assignments.
 ghost use Rattle.std.specs.Prelude.{◌≤◌};
-ghost use Rattle.kd_assign.specs.Prices.{CostsAtMost};
+ghost use Rattle.kd_assign.specs.Prices.{AreCostsAtMost};
 
 use kd_assign::assign;
 use std::process::Abort;
@@ -15,7 +15,7 @@ fn is_answered<const N: usize>(
 )
     requires some { 1 ≤ N }
     requires few { N ≤ 32 }
-    requires costs { CostsAtMost 4 cost.now }
+    requires costs { AreCostsAtMost 4 cost.now }
 {
     let solution = assign(cost);
     assert!(rt; solution.to == to);

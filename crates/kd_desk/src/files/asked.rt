@@ -14,9 +14,9 @@ pub struct Asked<'n> {
 
 impl<'n> Model for Asked<'n> {
     ghost use Rattle.std.specs.Prelude.{List, map};
-    ghost use Rattle.kd_desk.specs.Files.{Asking};
+    ghost use Rattle.kd_desk.specs.Files.{AskedName};
 
-    ghost Value = { List Asking };
+    ghost Value = { List AskedName };
 
     ghost view = { λ asked. map (λ one. (one.0.now, one.1)) asked.names.items };
 }

@@ -9,7 +9,7 @@ use std::alloc::Global;
 use std::marker::Model;
 
 /// The most bytes that are read at once.
-const PIECE: usize = 4096;
+const CHUNK: usize = 4096;
 
 /// The bytes of a file, at most 1,048,576.
 #[derive(Drop)]
@@ -54,9 +54,9 @@ pub fn read_whole<S: Source>(alloc: Global, source: &mut S) -> Result<Content, F
     ensures { IsReadWhole (port S.remaining S.has_failed source.old source.new) result }
 {
     let mut bytes = Vec::new(alloc);
-    let mut buffer = [0; PIECE];
+    let mut buffer = [0; CHUNK];
     while bytes.len() <= READ_LIMIT {
-        let room = (READ_LIMIT + 1 - bytes.len()).min(PIECE);
+        let room = (READ_LIMIT + 1 - bytes.len()).min(CHUNK);
         let front = &mut buffer[..room];
         match source.get(front) {
             Ok(0) => return Ok(Content { bytes }),

@@ -32,7 +32,7 @@ impl<'n> Files<'n> for HostFiles<'n> {
 
     ghost asked = { λ s. s.asked };
 
-    fn read(&mut self, alloc: Global, name: &'n str) -> Result<Content, FileFault> {
+    fn read_content(&mut self, alloc: Global, name: &'n str) -> Result<Content, FileFault> {
         let content = read_file(self.rt, alloc, name);
         self.asked.add(name, content.is_ok());
         content

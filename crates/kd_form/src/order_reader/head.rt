@@ -2,8 +2,8 @@
 ghost use Rattle.std.specs.Prelude.{◌≡◌, ◌<◌, ◌↔◌, IsTrue, slice_index, List, ℕ, [], ◌∷◌, ◌++◌};
 ghost use Rattle.std.specs.Prelude.{codes, MatchOption, MatchResult};
 ghost use Rattle.kd_form.specs.Keys.{AreKeys};
-ghost use Rattle.kd_form.specs.Order.{BreaksOff, IsEnded, IsKeyLine};
-ghost use Rattle.kd_form.specs.SendSteps.{HeadIsRead, IsHeadRead, IsHeadLine};
+ghost use Rattle.kd_form.specs.Order.{IsUnread, IsLineWithEnd, IsKeyLine};
+ghost use Rattle.kd_form.specs.SendSteps.{IsHeadStep, IsHeadBegun, IsHeadLine};
 
 use crate::key_line::{key_pattern, keys_of};
 use crate::keys::Keys;
@@ -58,9 +58,9 @@ impl HeadReader {
     #[inline(never)]
     #[tactic(auto, using(crate::proofs::OrderSteps::line_short))]
     pub(crate) fn take(&mut self, day: &SheetDay, byte: u8) -> HeadStep
-        requires { (order : List ℕ) × IsHeadRead day.now self.old.keys.items self.old.line.items order }
-        ensures { (order : List ℕ) → IsHeadRead day.now self.old.keys.items self.old.line.items order
-            → HeadIsRead day.now self.new.keys.items self.new.line.items (order ++ byte ∷ []) result }
+        requires { (order : List ℕ) × IsHeadBegun day.now self.old.keys.items self.old.line.items order }
+        ensures { (order : List ℕ) → IsHeadBegun day.now self.old.keys.items self.old.line.items order
+            → IsHeadStep day.now self.new.keys.items self.new.line.items (order ++ byte ∷ []) result }
     {
         prove!(key_pattern(day).len() <= 21);
         self.line.push(byte);
@@ -71,8 +71,8 @@ impl HeadReader {
                 HeadStep::Open
             }
             Ok(None) => HeadStep::Text,
-            Err(Unread::Open) => HeadStep::Open,
-            Err(Unread::Off) => HeadStep::Bad,
+            Err(Unread::Incomplete) => HeadStep::Open,
+            Err(Unread::Mismatch) => HeadStep::Bad,
         }
     }
 }
@@ -83,9 +83,9 @@ impl HeadReader {
 #[tactic(auto, using(crate::proofs::OrderSteps::next_text))]
 fn read_line(day: &SheetDay, count: usize, line: &[u8]) -> Result<Option<Keys>, Unread>
     ensures { MatchResult result
-        (λ found. MatchOption found (IsEnded (codes "TEXT") line.now)
+        (λ found. MatchOption found (IsLineWithEnd (codes "TEXT") line.now)
         (λ keys. AreKeys day.now keys × IsKeyLine keys line.now × (count < 99)))
-        (BreaksOff (IsHeadLine day.now count) line.now) }
+        (IsUnread (IsHeadLine day.now count) line.now) }
 {
     if count < 99 && is_key_line(line) {
         let letters = read_pattern(key_pattern(day), line)?;

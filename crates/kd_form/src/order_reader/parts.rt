@@ -2,15 +2,15 @@
 ghost use Rattle.std.specs.Prelude.{◌≡◌, ◌<◌, ◌≤◌, ◌+◌, ◌^◌, List, ℕ, [], ◌∷◌, ◌++◌, length, Some};
 ghost use Rattle.std.specs.Prelude.{slice_get};
 ghost use Rattle.kd_form.specs.declared.keys.Keys.{Keys};
-ghost use Rattle.kd_form.specs.Making.{IsMadeText, part_size};
+ghost use Rattle.kd_form.specs.Making.{IsPartTextMade, part_size};
 ghost use Rattle.kd_form.specs.Sending.{text_letters};
-ghost use Rattle.kd_form.specs.SendSteps.{AreSuitedKeys, AreTaken, IsLastTaken, IsFresh};
+ghost use Rattle.kd_form.specs.SendSteps.{AreSuitedKeys, AreLettersTaken, IsTextEndAnswer, IsFreshWriter};
 
 use crate::fault::FormFault;
 use crate::keys::Keys;
 use crate::making::make_part;
 use crate::sending::part_size;
-use crate::stream::reader::Made;
+use crate::stream::reader::PartText;
 use crate::text::{blank_of, letter_of_byte};
 use arrayvec::ArrayVec;
 use kd_state::SheetDay;
@@ -30,7 +30,7 @@ pub(crate) struct PartWriter {
 impl PartWriter {
     /// Creates a collector without letters.
     pub(crate) fn new() -> Self
-        ensures { IsFresh result }
+        ensures { IsFreshWriter result }
     {
         PartWriter {
             letters: ArrayVec::new(),
@@ -40,51 +40,51 @@ impl PartWriter {
     }
 
     /// Takes the next byte of the text, and the letter that it gives, if any.
-    pub(crate) fn take(&mut self, day: &SheetDay, keys: &[Keys], byte: u8, made: &mut Made)
-        requires taken { (letters sent : List ℕ) × AreTaken day.now keys.now self.old letters sent
+    pub(crate) fn take(&mut self, day: &SheetDay, keys: &[Keys], byte: u8, output: &mut PartText)
+        requires taken { (letters sent : List ℕ) × AreLettersTaken day.now keys.now self.old letters sent
             × (length letters < 2 ^ 63) }
-        requires empty { made.old.items ≡ [] }
-        ensures { (letters sent : List ℕ) → AreTaken day.now keys.now self.old letters sent
-            → AreTaken day.now keys.now self.new
-            (letters ++ text_letters day.now (byte ∷ [])) (sent ++ made.new.items) }
+        requires empty { output.old.items ≡ [] }
+        ensures { (letters sent : List ℕ) → AreLettersTaken day.now keys.now self.old letters sent
+            → AreLettersTaken day.now keys.now self.new
+            (letters ++ text_letters day.now (byte ∷ [])) (sent ++ output.new.items) }
     {
         if let Some(letter) = letter_of_byte(&blank_of(day), byte) {
-            self.take_letter(day, keys, letter, made);
+            self.take_letter(day, keys, letter, output);
         }
     }
 
-    /// Takes the next letter of the text; if the current part is full, first writes that part to `made`.
+    /// Takes the next letter of the text; if the current part is full, first writes that part to `output`.
     ///
     /// When the part for the last keys is full, further letters are only counted.
-    fn take_letter(&mut self, day: &SheetDay, keys: &[Keys], letter: Letter, made: &mut Made)
-        requires taken { (letters sent : List ℕ) × AreTaken day.now keys.now self.old letters sent
+    fn take_letter(&mut self, day: &SheetDay, keys: &[Keys], letter: Letter, output: &mut PartText)
+        requires taken { (letters sent : List ℕ) × AreLettersTaken day.now keys.now self.old letters sent
             × (length letters < 2 ^ 63) }
-        requires empty { made.old.items ≡ [] }
-        ensures { (letters sent : List ℕ) → AreTaken day.now keys.now self.old letters sent
-            → AreTaken day.now keys.now self.new (letters ++ letter ∷ []) (sent ++ made.new.items) }
+        requires empty { output.old.items ≡ [] }
+        ensures { (letters sent : List ℕ) → AreLettersTaken day.now keys.now self.old letters sent
+            → AreLettersTaken day.now keys.now self.new (letters ++ letter ∷ []) (sent ++ output.new.items) }
     {
         self.count += 1;
         if self.letters.len() < part_size(day) {
             self.letters.push(letter);
         } else if usize::from(self.written) + 1 < keys.len() {
-            self.write(day, keys, made);
+            self.write_part(day, keys, output);
             self.letters.push(letter);
         }
     }
 
-    /// Writes the last part to `made`, at the end of the text.
+    /// Writes the last part to `output`, at the end of the text.
     ///
     /// Refuses a text without letters, or one that needs more or fewer parts than there are keys.
     pub(crate) fn end(
         &mut self,
         day: &SheetDay,
         keys: &[Keys],
-        made: &mut Made,
+        output: &mut PartText,
     ) -> Result<(), FormFault>
-        requires taken { (letters sent : List ℕ) × AreTaken day.now keys.now self.old letters sent }
-        requires empty { made.old.items ≡ [] }
-        ensures { (letters sent : List ℕ) → AreTaken day.now keys.now self.old letters sent
-            → IsLastTaken day.now keys.now letters sent made.new.items result }
+        requires taken { (letters sent : List ℕ) × AreLettersTaken day.now keys.now self.old letters sent }
+        requires empty { output.old.items ≡ [] }
+        ensures { (letters sent : List ℕ) → AreLettersTaken day.now keys.now self.old letters sent
+            → IsTextEndAnswer day.now keys.now letters sent output.new.items result }
     {
         if self.count == 0 {
             return Err(FormFault::EmptyText);
@@ -94,19 +94,19 @@ impl PartWriter {
         if needed != given {
             return Err(FormFault::PartKeys { needed, given });
         }
-        self.write(day, keys, made);
+        self.write_part(day, keys, output);
         Ok(())
     }
 
-    /// Writes the next part to `made`, from the letters collected.
-    fn write(&mut self, day: &SheetDay, keys: &[Keys], made: &mut Made)
+    /// Writes the next part to `output`, from the letters collected.
+    fn write_part(&mut self, day: &SheetDay, keys: &[Keys], output: &mut PartText)
         requires keys { AreSuitedKeys day.now keys.now }
         requires another { self.old.written < length keys.now }
         requires few { length self.old.letters.items ≤ part_size day.now }
-        requires empty { made.old.items ≡ [] }
+        requires empty { output.old.items ≡ [] }
         ensures made { (k : Keys) × (slice_get keys.now self.old.written ≡ Some k)
-            × IsMadeText day.now (self.old.written + 1) (length keys.now) k
-            self.old.letters.items made.new.items }
+            × IsPartTextMade day.now (self.old.written + 1) (length keys.now) k
+            self.old.letters.items output.new.items }
         ensures letters { self.new.letters.items ≡ [] }
         ensures count { self.new.count ≡ self.old.count }
         ensures written { self.new.written ≡ self.old.written + 1 }
@@ -114,7 +114,8 @@ impl PartWriter {
         let part = self.written + 1;
         let own = &keys[usize::from(self.written)];
         let text = make_part(day, part, keys.len() as u8, own, self.letters.as_slice());
-        made.try_extend_from_slice(text.as_str().as_bytes())
+        output
+            .try_extend_from_slice(text.as_str().as_bytes())
             .unwrap();
         self.letters.clear();
         self.written = part;

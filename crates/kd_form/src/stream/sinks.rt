@@ -1,4 +1,4 @@
-//! Two sinks: `Kept` keeps all bytes in memory, and `Nowhere` keeps none.
+//! Two sinks: `BytesSink` keeps all bytes in memory, and `NullSink` keeps none.
 ghost use Rattle.std.specs.Prelude.{◌≡◌, [], false, Some, is_err};
 ghost use Rattle.kd_tables.specs.Ports.{Puts};
 
@@ -7,18 +7,18 @@ use std::alloc::Global;
 
 /// A sink that keeps all bytes, and fails if there is no memory.
 #[derive(Drop)]
-pub(crate) struct Kept {
+pub(crate) struct BytesSink {
     bytes: Vec<u8>,
     failed: bool,
 }
 
-impl Kept {
+impl BytesSink {
     /// Creates a sink without bytes.
     pub(crate) fn new(alloc: Global) -> Self
         ensures bytes { result.bytes.items ≡ [] }
         ensures failed { result.failed ≡ false }
     {
-        Kept {
+        BytesSink {
             bytes: Vec::new(alloc),
             failed: false,
         }
@@ -32,7 +32,7 @@ impl Kept {
     }
 }
 
-impl Sink for Kept {
+impl Sink for BytesSink {
     ghost taken = { λ s. Some s.bytes.items };
 
     ghost has_failed = { λ s. s.failed };
@@ -54,9 +54,9 @@ impl Sink for Kept {
 
 /// A sink that takes all bytes, and keeps none.
 #[derive(Drop)]
-pub(crate) struct Nowhere;
+pub(crate) struct NullSink;
 
-impl Sink for Nowhere {
+impl Sink for NullSink {
     ghost has_failed = { λ _. false };
 
     fn put(&mut self, bytes: &[u8]) -> Result<usize, Failed> {

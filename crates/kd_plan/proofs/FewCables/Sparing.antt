@@ -6,20 +6,20 @@ unfoldable pub use Exchanging.*
 
 -- If each cable in use and each of the first cables becomes a pair, these are at most as many as the cables
 -- that do.
-counted : (cables : List Cable) (to : List ℕ) (pairs first : ℕ) → length cables ≡ length to
+pairs-counted : (cables : List Cable) (to : List ℕ) (pairs first : ℕ) → length cables ≡ length to
     → ((k : ℕ) → k < length to → is_spare_at cables k ≡ false → get_or to k 0 < pairs)
     → ((k : ℕ) → k < length to → k < first → get_or to k 0 < pairs)
     → count_by (λ cable. not (is_spare cable)) cables + spare_count (take first cables)
     ≤ count_by (λ j. nat_lt j pairs) to
-counted [] to pairs zero size used low = omega arith
-counted [] to pairs (suc first) size used low = omega arith
-counted (cable ∷ cables) [] pairs first size used low = absurd (omega arith)
-counted (cable ∷ cables) (j ∷ to) pairs zero size used low =
-    let rest = counted cables to pairs zero (omega arith) (λ k lt e. used (suc k) (omega arith) e)
+pairs-counted [] to pairs zero size used low = omega arith
+pairs-counted [] to pairs (suc first) size used low = omega arith
+pairs-counted (cable ∷ cables) [] pairs first size used low = absurd (omega arith)
+pairs-counted (cable ∷ cables) (j ∷ to) pairs zero size used low =
+    let rest = pairs-counted cables to pairs zero (omega arith) (λ k lt e. used (suc k) (omega arith) e)
     (λ k lt e. absurd (omega arith)) in
     simp sum_by-cons (grind (arith, nat_tests, used zero (omega arith)))
-counted (cable ∷ cables) (j ∷ to) pairs (suc first) size used low =
-    let rest = counted cables to pairs first (omega arith) (λ k lt e. used (suc k) (omega arith) e)
+pairs-counted (cable ∷ cables) (j ∷ to) pairs (suc first) size used low =
+    let rest = pairs-counted cables to pairs first (omega arith) (λ k lt e. used (suc k) (omega arith) e)
     (λ k lt e. low (suc k) (omega arith) (omega arith)) in
     simp sum_by-cons (grind (arith, nat_tests, low zero (omega arith) (omega arith)))
 
@@ -43,7 +43,7 @@ few_spares : (cables : List Cable) (pairs : List (ℕ × ℕ)) (to : List ℕ) �
     → is_spare_at cables place ≡ true → spare_count (take number cables) ≤ spares_needed cables pairs
 few_spares cables pairs to many size once last number place next lt taken spare =
     let before = λ (k : ℕ) (lt' : k < 13). last place k lt spare taken lt' in
-    let all = counted cables to (length pairs) number (omega arith)
+    let all = pairs-counted cables to (length pairs) number (omega arith)
     (λ k lt' e. before k (omega arith) (grind (arith, nat_tests)))
     (λ k lt' low. elim (cases_eq k place) [
       | inl e ↦ omega (arith, ap (λ i. get_or to i 0) e)
@@ -55,16 +55,16 @@ few_spares cables pairs to many size once last number place next lt taken spare 
 -- ---- the settings
 put_lines : (P : Setting → Type 0) (number : ℕ) (cable : Cable) (column : Column)
     → ((pair : ℕ × ℕ) → column ≡ Some pair → (letter : ℕ) → P (Put number letter))
-    → All P (moves_of In number (cable, column))
+    → All P (cable_moves In number (cable, column))
 put_lines P number cable None h = All-nil P
 put_lines P number cable (Some pair) h =
-    All-map P (λ letter. Put number letter) (letters_apart (letters_due (Some pair)) (cable_letters cable))
+    All-map P (λ letter. Put number letter) (letters_outside (pair_letters_in_order (Some pair)) (cable_letters cable))
     (λ k d lt. h pair refl _)
 
 -- Letters are put only into cables that become pairs.
 all_put_lines : (P : Setting → Type 0) (pairs : List (ℕ × ℕ)) (cables : List Cable) (to : List ℕ) (number : ℕ)
     → ((k n : ℕ) → n ≡ number + k → k < length to → get_or to k 0 < length pairs → (letter : ℕ) → P (Put n letter))
-    → All P (lines_from (moves_of In) number (besides cables pairs to))
+    → All P (lines_from (cable_moves In) number (cables_with_columns cables pairs to))
 all_put_lines P pairs [] to number h = All-nil P
 all_put_lines P pairs (cable ∷ cables) [] number h = All-nil P
 all_put_lines P pairs (cable ∷ cables) (j ∷ to) number h =
@@ -76,21 +76,21 @@ all_put_lines P pairs (cable ∷ cables) (j ∷ to) number h =
 
 all_pull_lines : (P : Setting → Type 0) → ((cable letter : ℕ) → P (Pull cable letter))
     → (pairs : List (ℕ × ℕ)) (cables : List Cable) (to : List ℕ) (number : ℕ)
-    → All P (lines_from (moves_of Out) number (besides cables pairs to))
+    → All P (lines_from (cable_moves Out) number (cables_with_columns cables pairs to))
 all_pull_lines P h pairs [] to number = All-nil P
 all_pull_lines P h pairs (cable ∷ cables) [] number = All-nil P
 all_pull_lines P h pairs (cable ∷ cables) (j ∷ to) number =
     All-append P _ _ (All-map P (λ letter. Pull number letter)
-    (letters_apart (cable_letters cable) (column_letters (column_at pairs j))) (λ k d lt. h _ _))
+    (letters_outside (cable_letters cable) (column_letters (column_at pairs j))) (λ k d lt. h _ _))
     (all_pull_lines P h pairs cables to (number + 1))
 
 -- Settings none of which is priced.
-unpriced : (P : Setting → Type 0) → ((x : Setting) → is_priced x ≡ false → P x) → (xs : List Setting)
+All-unpriced : (P : Setting → Type 0) → ((x : Setting) → is_priced_setting x ≡ false → P x) → (xs : List Setting)
     → priced_count xs ≡ 0 → All P xs
-unpriced P h [] none = All-nil P
-unpriced P h (x ∷ xs) none =
-    let sum = sum_by-cons (λ y. cond {A = ℕ} (is_priced y) 1 0) x xs in
-    All-cons P x xs (h x (grind (arith, nat_tests))) (unpriced P h xs (omega arith))
+All-unpriced P h [] none = All-nil P
+All-unpriced P h (x ∷ xs) none =
+    let sum = sum_by-cons (λ y. cond {A = ℕ} (is_priced_setting y) 1 0) x xs in
+    All-cons P x xs (h x (grind (arith, nat_tests))) (All-unpriced P h xs (omega arith))
 
 -- what each setting satisfies
 abbrev pub LeavesSpares : RotorParts → RotorDay → Setting → Type 0
@@ -98,33 +98,34 @@ LeavesSpares m s (Put cable letter) = IsTrue (is_spare (cable_at m cable)) → s
     spares_needed m.cables s.pairs
 LeavesSpares m s _ = Unit {0}
 
-unpriced_leave : (m : RotorParts) (s : RotorDay) (x : Setting) → is_priced x ≡ false → LeavesSpares m s x
+unpriced_leave : (m : RotorParts) (s : RotorDay) (x : Setting) → is_priced_setting x ≡ false → LeavesSpares m s x
 unpriced_leave m s (Put cable letter) e = absurd (cc)
 unpriced_leave m s _ e = tt
 
-pub at_place : (m : RotorParts) (number place : ℕ) → number ≡ suc place
+pub is_spare_at-cable_at : (m : RotorParts) (number place : ℕ) → number ≡ suc place
     → is_spare_at m.cables place ≡ is_spare (cable_at m number)
-at_place m number place e = rw e (ap is_spare (sym (unwrap_or-slice_get m.cables place (None, None))))
+is_spare_at-cable_at m number place e = rw e (ap is_spare (sym (unwrap_or-slice_get m.cables place (None, None))))
 
 spares_stay_free : (m : RotorParts) (s : RotorDay) (to : List ℕ) → IsMachine (Rotor m) → IsLegalDay (OfRotors s)
     → m.model ≡ s.model
     → length to ≡ 13 → IsOneToOne to → SparesComeLast m.cables (length s.pairs) to
     → SparesStayFree (Rotor m) (OfRotors s) (planned_lines (Rotor m) (OfRotors s) to)
 spares_stay_free m s to machine legal same size once last cable letter (k, lt, e) =
-    let loose = unpriced (LeavesSpares m s) (unpriced_leave m s) (loose_lines (Rotor m) (OfRotors s))
+    let loose = All-unpriced (LeavesSpares m s) (unpriced_leave m s) (loose_lines (Rotor m) (OfRotors s))
     (all_counted (Rotor m) (OfRotors s) machine legal same).priced in
     let pulls = all_pull_lines (LeavesSpares m s) (λ cable letter. tt) s.pairs m.cables to 1 in
     let puts = all_put_lines (LeavesSpares m s) s.pairs m.cables to 1 (λ k n is lt taken letter spare.
     few_spares m.cables s.pairs to machine.legal.cables.count size once last n k (omega arith) (omega arith) taken
-    (at_place m n k (omega arith) ∙ spare)) in
+    (is_spare_at-cable_at m n k (omega arith) ∙ spare)) in
     let all = All-append (LeavesSpares m s) _ _ (All-append (LeavesSpares m s) _ _ loose pulls) puts in
     subst (LeavesSpares m s) e (all k (Put cable letter) lt)
 
-pub spared : (m : RotorParts) (s : RotorDay) (pairs : List (ℕ × ℕ)) (to : List ℕ) (settings : List Setting)
+pub SparesStayFree-planned : (m : RotorParts) (s : RotorDay) (pairs : List (ℕ × ℕ)) (to : List ℕ)
+    (settings : List Setting)
     → IsMachine (Rotor m) → IsLegalDay (OfRotors s) → m.model ≡ s.model → pairs ≡ s.pairs
     → length to ≡ 13 → IsOneToOne to → SparesComeLast m.cables (length pairs) to
     → settings ≡ planned_lines (Rotor m) (OfRotors s) to → SparesStayFree (Rotor m) (OfRotors s) settings
-spared m s pairs to settings machine legal same alike size once last lines =
+SparesStayFree-planned m s pairs to settings machine legal same alike size once last lines =
     rw lines
     (spares_stay_free m s to machine legal same size once
     (subst (λ all. SparesComeLast m.cables (length all) to) alike last))

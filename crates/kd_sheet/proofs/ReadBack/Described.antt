@@ -8,35 +8,37 @@ use Rattle.kd_state.{proofs.Telling.Refusing.Changing.ordered_parts, specs.Machi
 
 -- ---- reflectors
 
-reflector_there : (model : Model) (table : Members) → Gives (reflector_in model table) (Contains (reflectors_of model))
+reflector_there : (model : Model) (table : Members)
+    → SucceedsWith (reflector_in model table) (Contains (reflectors_of model))
 unfolding reflector_in reflector_by_name
-reflector_there model table reflector e = grind (arith, given, there_was, found_there)
+reflector_there model table reflector e = grind (arith, bind-Ok, there_was, found_there)
 
 -- ---- groups, rows and bars
 
 -- there are `count` elements, and each satisfies `P`
-abbrev Each : {A : Type 0} → (A → Type 0) → ℕ → List A → Type 0
-Each P count xs = (length xs ≡ count) × All P xs
+abbrev HasEach : {A : Type 0} → (A → Type 0) → ℕ → List A → Type 0
+HasEach P count xs = (length xs ≡ count) × All P xs
 
 groups_in_groups : (table : Members)
-    → Gives (groups_in table) (λ groups. (length groups ≤ 4) × All (AreLetters 3) groups)
+    → SucceedsWith (groups_in table) (λ groups. (length groups ≤ 4) × All (AreLetters 3) groups)
 unfolding groups_in group_of_item
 groups_in_groups table groups e =
     let read = some_read group_for (All (AreLetters 3)) (each_is group_for (AreLetters 3) (λ earlier item group e.
     grind (arith, there_was, capitals_are_letters, none-some))) keys.Groups 4 in
     grind (arith, read, All-nil (AreLetters 3))
 
-rows_in_rows : (table : Members) → Gives (rows_in table) (Each IsReading 27)
+rows_in_rows : (table : Members) → SucceedsWith (rows_in table) (HasEach IsReading 27)
 unfolding rows_in row_of_text
 rows_in_rows table = each_read row_for (All IsReading) (each_is row_for IsReading (λ earlier item row e.
     grind (arith, there_was, some_if, nat_tests, leb-true, none-some))) keys.Rows 27 table
 
-abbrev IsStanding : Place × Place → Type 0
-IsStanding bar = IsBefore bar.0 bar.1
+abbrev IsLegalStanding : Place × Place → Type 0
+IsLegalStanding bar = IsBefore bar.0 bar.1
 
-bars_in_bars : (table : Members) → Gives (bars_in table) (Each IsStanding 27)
+bars_in_bars : (table : Members) → SucceedsWith (bars_in table) (HasEach IsLegalStanding 27)
 unfolding bars_in
-bars_in_bars table = each_read standing_for (All IsStanding) (each_is standing_for IsStanding (λ earlier item bar e.
+bars_in_bars table = each_read standing_for (All IsLegalStanding)
+    (each_is standing_for IsLegalStanding (λ earlier item bar e.
     grind (arith, there_was, standing_read, none-some))) keys.Bars 27 table
 
 -- ---- pins, and the letters that pin wheels show
@@ -47,34 +49,35 @@ unfolding pins_of_item pins_of_text
 text_pins ring item pins e = grind (arith, common_steps, there_was, some_if, none-some)
 
 -- each wheel's list has a pin for each letter of the wheel
-abbrev Fit : List (List Bool) → Type 0
-Fit lists = (place : ℕ) (d : List Bool) → place < length lists
+abbrev FitWheels : List (List Bool) → Type 0
+FitWheels lists = (place : ℕ) (d : List Bool) → place < length lists
     → length (get_or lists place d) ≡ length (ring_of (place + 1))
 
-all_fit : (items : List Data) → Gives (in_turn pins_behind items) Fit
+all_fit : (items : List Data) → SucceedsWith (read_items pins_for items) FitWheels
 all_fit items lists e place d within =
-    grind (arith, as_many, read_at pins_behind items lists e place nothing d, length-take-le, text_pins)
+    grind (arith, as_many, read_at pins_for items lists e place no_item d, length-take-le, text_pins)
 
-pins_in_fit : (table : Members) → Gives (pins_in table) HasAllPins
+pins_in_fit : (table : Members) → SucceedsWith (pins_in table) HasAllPins
 unfolding pins_in ring_of
 pins_in_fit table =
-    after _ _ _ _ (each_read pins_behind Fit all_fit keys.Pins 6 table)
-    (λ lists all. done HasAllPins _ (grind (arith, all.1)))
+    SucceedsWith-bind _ _ _ _ (each_read pins_for FitWheels all_fit keys.Pins 6 table)
+    (λ lists all. SucceedsWith-Ok HasAllPins _ (grind (arith, all.1)))
 
-letters_shown : (key : Key) (table : Members) → Gives (shown_in key table) AreOnWheels
-unfolding shown_in letters_on_wheels
-letters_shown key table letters e = grind (arith, common_steps, there_was, some_if, on_wheels, capitals_are_letters)
+letters_shown : (key : Key) (table : Members) → SucceedsWith (shown_letters_in key table) AreOnWheels
+unfolding shown_letters_in letters_on_wheels
+letters_shown key table letters e = grind
+    (arith, common_steps, there_was, some_if, AreOnWheels-by_test, capitals_are_letters)
 
 -- ---- machines
 
-pub rotor_parts_legal : (model : Model) (table : Members) → Gives (rotor_parts_in model table) IsLegalRotor
+pub rotor_parts_legal : (model : Model) (table : Members) → SucceedsWith (rotor_parts_in model table) IsLegalRotor
 unfolding rotor_parts_in
 rotor_parts_legal model table =
-    after _ _ _ _ (reflector_there model table) (λ reflector there.
-    after _ _ _ _ (seats_in_fill keys.Slots model table) (λ slots fill.
-    after _ _ _ _ (letters_at_are keys.Rings (length (box_of model)) table) (λ rings are_rings.
-    after _ _ _ _ (letters_at_are keys.Letters (length (box_of model)) table) (λ letters are_letters.
-    after _ _ _ _ (are_cables table) (λ cables are. done IsLegalRotor _ (record {
+    SucceedsWith-bind _ _ _ _ (reflector_there model table) (λ reflector there.
+    SucceedsWith-bind _ _ _ _ (seats_in_fill keys.Slots model table) (λ slots fill.
+    SucceedsWith-bind _ _ _ _ (letters_at_are keys.Rings (length (box_of model)) table) (λ rings are_rings.
+    SucceedsWith-bind _ _ _ _ (letters_at_are keys.Letters (length (box_of model)) table) (λ letters are_letters.
+    SucceedsWith-bind _ _ _ _ (are_cables table) (λ cables are. SucceedsWith-Ok IsLegalRotor _ (record {
       slots = fill.0;
       allowed = fill.1.allowed;
       apart = fill.1.apart;
@@ -84,19 +87,19 @@ rotor_parts_legal model table =
       cables = are;
     }))))))
 
-pub pin_parts_legal : (table : Members) → Gives (pin_parts_in table) IsLegalPin
+pub pin_parts_legal : (table : Members) → SucceedsWith (pin_parts_in table) IsLegalPin
 unfolding pin_parts_in
 pin_parts_legal table =
-    after _ _ _ _ (letters_shown keys.Letters table) (λ letters shown.
-    after _ _ _ _ (pins_in_fit table) (λ pins fit.
-    after _ _ _ _ (bars_in_bars table) (λ bars are.
-    done IsLegalPin _ (record { pins = fit; letters = shown; bars = are.0; apart = are.1 }))))
+    SucceedsWith-bind _ _ _ _ (letters_shown keys.Letters table) (λ letters shown.
+    SucceedsWith-bind _ _ _ _ (pins_in_fit table) (λ pins fit.
+    SucceedsWith-bind _ _ _ _ (bars_in_bars table) (λ bars are.
+    SucceedsWith-Ok IsLegalPin _ (record { pins = fit; letters = shown; bars = are.0; apart = are.1 }))))
 
 -- ---- days
 
 -- the day is legal and has this number
-abbrev pub IsDay : ℕ → Day → Type 0
-IsDay number day = IsLegalDay day × (day_number day ≡ number)
+abbrev pub IsLegalDayNumbered : ℕ → Day → Type 0
+IsLegalDayNumbered number day = IsLegalDay day × (day_number day ≡ number)
 
 -- a constructor that fails only for illegal values gives a value for legal ones
 pub legal_is_some : {A P : Type 0} (Q : A → Type 0) (made : Option A) → MatchOption made (P → ⊥) Q → P → IsSome made
@@ -104,17 +107,17 @@ legal_is_some Q None none legal = absurd (none legal)
 legal_is_some Q (Some x) some legal = refl
 
 pub rotor_day : (number : ℕ) (model : Model) (table : Members) → IsDayNumber number
-    → Gives (rotor_day_in number model table) (IsDay number)
+    → SucceedsWith (rotor_day_in number model table) (IsLegalDayNumbered number)
 unfolding rotor_day_in
 rotor_day number model table is =
-    after _ _ _ _ (reflector_there model table) (λ reflector there.
-    after _ _ _ _ (seats_in_fill keys.Wheels model table) (λ slots fill.
-    after _ _ _ _ (rings_in_letters model table) (λ rings are_rings.
-    after _ _ _ _ (letters_at_are keys.Window (slots_of model) table) (λ window are_letters.
-    after _ _ _ _ (are_pairs table) (λ pairs are_pairs.
-    after _ _ _ _ (groups_in_groups table) (λ groups are_groups.
+    SucceedsWith-bind _ _ _ _ (reflector_there model table) (λ reflector there.
+    SucceedsWith-bind _ _ _ _ (seats_in_fill keys.Wheels model table) (λ slots fill.
+    SucceedsWith-bind _ _ _ _ (rings_in_letters model table) (λ rings are_rings.
+    SucceedsWith-bind _ _ _ _ (letters_at_are keys.Window (slots_of model) table) (λ window are_letters.
+    SucceedsWith-bind _ _ _ _ (are_pairs table) (λ pairs are_pairs.
+    SucceedsWith-bind _ _ _ _ (groups_in_groups table) (λ groups are_groups.
     let seated = seats-sheet_wheels slots rings window (recursion_from_All IsSome _ (fill.1.filled refl))
-    (are_rings.count ∙ sym fill.0) (are_letters.count ∙ sym fill.0) in done (IsDay number) _ (
+    (are_rings.count ∙ sym fill.0) (are_letters.count ∙ sym fill.0) in SucceedsWith-Ok (IsLegalDayNumbered number) _ (
       record {
         day = is;
         reflector = there;
@@ -127,12 +130,13 @@ rotor_day number model table is =
       refl,
     )))))))
 
-pub pin_day : (number : ℕ) (table : Members) → IsDayNumber number → Gives (pin_day_in number table) (IsDay number)
+pub pin_day : (number : ℕ) (table : Members) → IsDayNumber number
+    → SucceedsWith (pin_day_in number table) (IsLegalDayNumbered number)
 unfolding pin_day_in
-pin_day number table is day e = grind (arith, given, rows_in_rows, pins_in_fit, letters_shown, letters_at_are)
+pin_day number table is day e = grind (arith, bind-Ok, rows_in_rows, pins_in_fit, letters_shown, letters_at_are)
 
 model_day : (number : ℕ) (model : Model) (table : Members) → IsDayNumber number
-    → Gives (model_day_in number model table) (IsDay number)
+    → SucceedsWith (model_day_in number model table) (IsLegalDayNumbered number)
 unfolding model_day_in
 model_day number M209 table is = pin_day number table is
 model_day number model table is = rotor_day number model table is
@@ -149,41 +153,41 @@ pub record Tells (days : List Day) (table : Members) (day : Day) : Type 0 where
   pub free : list_any (λ other. day_number other == day_number day) days ≡ false
   pub alone : day_in [] table ≡ Ok day
 
-abbrev IsNew : List Day → ℕ → Type 0
-IsNew days number = list_any (λ other. day_number other == number) days ≡ false
+abbrev IsNewNumber : List Day → ℕ → Type 0
+IsNewNumber days number = list_any (λ other. day_number other == number) days ≡ false
 
 new_number : (days : List Day) (table : Members)
-    → Gives (new_number_in days table) (λ n. (number_in table ≡ Ok n) × IsDayNumber n × IsNew days n)
+    → SucceedsWith (new_number_in days table) (λ n. (number_in table ≡ Ok n) × IsDayNumber n × IsNewNumber days n)
 unfolding new_number_in
-new_number days table number e = grind (arith, given, day_number_within, not-true)
+new_number days table number e = grind (arith, bind-Ok, day_number_within, not-true)
 
-pub described : (days : List Day) (table : Members) (day : Day) → day_in days table ≡ Ok day → Tells days table day
+pub Tells-day_in : (days : List Day) (table : Members) (day : Day) → day_in days table ≡ Ok day → Tells days table day
 unfolding day_in
-described days table day e =
-    let number = given (new_number_in days table) _ day e in
-    let model = given (model_in table) _ day number.2 in
+Tells-day_in days table day e =
+    let number = bind-Ok (new_number_in days table) _ day e in
+    let model = bind-Ok (model_in table) _ day number.2 in
     let new = new_number days table number.0 number.1 in
     let is = model_day number.0 model.0 table new.1 day model.2 in
     let alone = day_again number.0 model.0 table day new.0 model.1 model.2 in
     record { legal = is.0; number = rw is.1 new.1; free = rw is.1 new.2; alone = alone }
 
 -- the day has this number
-abbrev has : ℕ → Day → Bool
-has number day = day_number day == number
+abbrev has_number : ℕ → Day → Bool
+has_number number day = day_number day == number
 
 -- ---- the days of a month, by their numbers
 
 month_size : (days : List Day) → length (month_of days) ≡ 31
-month_size days = length-map-range_with_len (λ n. find (has n) days) 1 31
+month_size days = length-map-range_with_len (λ n. find (has_number n) days) 1 31
 
 month_at : (days : List Day) (place : ℕ) (d : Option Day) → place < 31
-    → get_or (month_of days) place d ≡ find (has (suc place)) days
-month_at days place d within = get_or-map-range_with_len (λ n. find (has n) days) 1 31 place (suc place) d within
+    → get_or (month_of days) place d ≡ find (has_number (suc place)) days
+month_at days place d within = get_or-map-range_with_len (λ n. find (has_number n) days) 1 31 place (suc place) d within
     (omega arith)
 
 -- the month's day of a number is the first of `days` with this number
 pub day_of_month : (days : List Day) (number : ℕ) → IsDayNumber number
-    → day_of (month_of days) number ≡ find (has number) days
+    → day_of (month_of days) number ≡ find (has_number number) days
 day_of_month days zero is = let first = is.first in absurd (omega arith)
 day_of_month days (suc place) is =
     let last = is.last in
@@ -191,13 +195,13 @@ day_of_month days (suc place) is =
     ∙ month_at days place None (omega arith)
 
 -- a day with this number is found exactly if there is one
-any_found : (days : List Day) (number : ℕ) → is_some (find (has number) days) ≡ list_any (has number) days
+any_found : (days : List Day) (number : ℕ) → is_some (find (has_number number) days) ≡ list_any (has_number number) days
 any_found [] number = refl
-any_found (day ∷ days) number = grind (arith, cases_Bool, has, any_found days number)
+any_found (day ∷ days) number = grind (arith, cases_Bool, has_number, any_found days number)
 
-pub taken : (days : List Day) (number : ℕ) → IsDayNumber number
-    → is_some (day_of (month_of days) number) ≡ list_any (has number) days
-taken days number is = rw (day_of_month days number is) (any_found days number)
+pub day_of_is_some : (days : List Day) (number : ℕ) → IsDayNumber number
+    → is_some (day_of (month_of days) number) ≡ list_any (has_number number) days
+day_of_is_some days number is = rw (day_of_month days number is) (any_found days number)
 
 -- a month has days at the numbers from 1 to 31 only
 within_month : (days : List Day) (number : ℕ) (day : Day) → day_of (month_of days) number ≡ Some day
@@ -234,11 +238,13 @@ number_at month number place (Some day) is within same here = is.each number day
 
 -- after one more day with a new number, a search for this number finds the day; a search for another number
 -- finds what it found before
-found_more : (days : List Day) (new : Day) (number : ℕ) → list_any (has (day_number new)) days ≡ false
-    → find (has number) (days ++ new ∷ []) ≡ cond (nat_eq (day_number new) number) (Some new) (find (has number) days)
+found_more : (days : List Day) (new : Day) (number : ℕ) → list_any (has_number (day_number new)) days ≡ false
+    → find (has_number number) (days ++ new ∷ [])
+    ≡ cond (nat_eq (day_number new) number) (Some new) (find (has_number number) days)
 found_more days new number free = grind (arith, nat_tests, find-append, any_found days number)
 
-month_more : (days : List Day) (new : Day) → IsDayNumber (day_number new) → list_any (has (day_number new)) days ≡ false
+month_more : (days : List Day) (new : Day) → IsDayNumber (day_number new)
+    → list_any (has_number (day_number new)) days ≡ false
     → set (month_of days) (day_number new - 1) (Some new) ≡ month_of (days ++ new ∷ [])
 month_more days new is free =
     let at = day_number new - 1 in
@@ -266,16 +272,16 @@ record IsEntry (days : List Day) (item : Data) (day : Day) : Type 0 where
 entry_read : (days : List Day) (item : Data) (day : Day) → day_for days item ≡ Ok day → IsEntry days item day
 unfolding day_for
 entry_read days item day e =
-    let members = given (ok_or (as_table item) (BadValue keys.Day)) _ day e in
+    let members = bind-Ok (ok_or (as_table item) (BadValue keys.Day)) _ day e in
     record {
       entry = members.0;
       is = data_of_table item members.0 (there_was (as_table item) _ members.0 members.1);
-      tells = described days members.0 day members.2;
+      tells = Tells-day_in days members.0 day members.2;
     }
 
 -- an entry among the items describes the day of this number
-abbrev IsTold : List Data → ℕ → Day → Type 0
-IsTold items number day = (entry : Members) × Contains items (toml.table entry) × (day_in [] entry ≡ Ok day)
+abbrev TellsOneOf : List Data → ℕ → Day → Type 0
+TellsOneOf items number day = (entry : Members) × Contains items (toml.table entry) × (day_in [] entry ≡ Ok day)
     × (day_number day ≡ number)
 
 -- `find` finds the element at `k` if this element passes and no element before it does
@@ -286,43 +292,43 @@ first_found p (x ∷ xs) zero d within here none = rw here refl
 first_found p (x ∷ xs) (suc k) d within here none = grind (arith, nat_tests, first_found p xs k d)
 
 -- searching `days` for a number finds the day that an entry of `items` describes
-module _ (items : List Data) (days : List Day) (read : in_turn day_for items ≡ Ok days) where
+module _ (items : List Data) (days : List Day) (read : read_items day_for items ≡ Ok days) where
   day_at : (k : ℕ) (e : Data) (d : Day) → k < length days
       → (k < length items) × IsEntry (take k days) (get_or items k e) (get_or days k d)
   day_at k e d within =
       let left : k < length items = omega (arith, as_many day_for items days read) in
       (left, entry_read (take k days) (get_or items k e) (get_or days k d) (read_at day_for items days read k e d left))
 
-  found_told : (number : ℕ) (day : Day) → find (has number) days ≡ Some day → IsTold items number day
+  found_told : (number : ℕ) (day : Day) → find (has_number number) days ≡ Some day → TellsOneOf items number day
   found_told number day e =
-      let there = found_there (has number) days day e in
-      let here = day_at there.0 nothing day there.1 in (
+      let there = found_there (has_number number) days day e in
+      let here = day_at there.0 no_item day there.1 in (
         here.1.entry,
-        rw here.1.is at (Contains-get_or items there.0 nothing here.0),
+        rw here.1.is at (Contains-get_or items there.0 no_item here.0),
         rw there.2 at here.1.tells.alone,
-        eqb-true (day_number day) number (passes (has number) days day e),
+        eqb-true (day_number day) number (find-passes (has_number number) days day e),
       )
 
-  told_found : (number : ℕ) (day : Day) → IsTold items number day → find (has number) days ≡ Some day
+  told_found : (number : ℕ) (day : Day) → TellsOneOf items number day → find (has_number number) days ≡ Some day
   told_found number day told =
       let place = told.1.0 in
       let within : place < length days = omega (arith, as_many day_for items days read, told.1.1) in
       let here = (day_at place (toml.table told.0) day within).1 in
       let entry : told.0 ≡ here.entry = cc (told.1.2, here.is) in
       let same : day ≡ get_or days place day = same_found _ _ (sym told.2 ∙ ap (day_in []) entry ∙ here.tells.alone) in
-      first_found (has number) days place day within (eq-eqb _ _ (ap day_number (sym same) ∙ told.3))
+      first_found (has_number number) days place day within (eq-eqb _ _ (ap day_number (sym same) ∙ told.3))
       (rw (ap day_number (sym same) ∙ told.3) at here.tells.free) ∙ ap Some (sym same)
 
 pub days_are_the_entries : DaysAreTheEntries
 unfolding sheet_in
 days_are_the_entries members items month number day at e =
-    let all = given (items_at keys.Day members) _ month e in
-    let days = given (in_turn day_for all.0) _ month all.2 in
-    let read = subst (λ xs. in_turn day_for xs ≡ Ok days.0) (same_found _ _ (sym all.1 ∙ at)) days.1 in
+    let all = bind-Ok (items_at keys.Day members) _ month e in
+    let days = bind-Ok (read_items day_for all.0) _ month all.2 in
+    let read = subst (λ xs. read_items day_for xs ≡ Ok days.0) (same_found _ _ (sym all.1 ∙ at)) days.1 in
     let same : month ≡ month_of days.0 = same_found _ _ (sym days.2) in rw same (
       λ found. found_told items days.0 read number day
           (sym (day_of_month days.0 number (within_month days.0 number day found)) ∙ found),
-      λ told. day_of_month days.0 number (subst IsDayNumber told.3 (described [] told.0 day told.2).number)
+      λ told. day_of_month days.0 number (subst IsDayNumber told.3 (Tells-day_in [] told.0 day told.2).number)
           ∙ told_found items days.0 read number day told,
     )
 
@@ -331,7 +337,7 @@ days_are_the_entries members items month number day at e =
 -- the sheet has the days read so far; reading all items is reading the rest after these days
 pub record IsMonthOf (items : List Data) (sheet : List (Option Day)) (rest : List Data) : Type 0 where
   pub days : List Day
-  pub read : in_turn day_for items ≡ on day_for days rest
+  pub read : read_items day_for items ≡ on day_for days rest
   pub month : sheet ≡ month_of days
 
 pub first_month : (sheet : List (Option Day)) (items : List Data) → sheet ≡ month_of [] → IsMonthOf items sheet items
@@ -353,14 +359,16 @@ next_month sheet after items place item new left here so_far found put =
 
 -- ---- a machine file says a machine, and a sheet legal days
 
-parts_are_machine : (model : Model) (table : Members) → Gives (parts_in model table) IsMachine
+parts_are_machine : (model : Model) (table : Members) → SucceedsWith (parts_in model table) IsMachine
 unfolding parts_in
 parts_are_machine M209 table =
-    after _ _ _ _ (pin_parts_legal table) (λ parts legal. done IsMachine _ (record { legal = legal; cables = refl }))
+    SucceedsWith-bind _ _ _ _ (pin_parts_legal table)
+    (λ parts legal. SucceedsWith-Ok IsMachine _ (record { legal = legal; cables = refl }))
 parts_are_machine model table =
-    after _ _ _ _ (rotor_parts_legal model table) (λ parts legal. done IsMachine _ (ordered_parts parts legal))
+    SucceedsWith-bind _ _ _ _ (rotor_parts_legal model table)
+    (λ parts legal. SucceedsWith-Ok IsMachine _ (ordered_parts parts legal))
 
-pub machine_of-IsMachine : (bytes : List ℕ) → Gives (machine_of bytes) IsMachine
+pub machine_of-IsMachine : (bytes : List ℕ) → SucceedsWith (machine_of bytes) IsMachine
 unfolding machine_in
 machine_of-IsMachine bytes =
     after_any (document_of bytes) _ IsMachine (λ table. after_any (version_in table) _ IsMachine (λ version.
@@ -370,7 +378,7 @@ pub sheet_of-legal : (bytes : List ℕ) (month : List (Option Day)) (number : �
     → day_of month number ≡ Some day → IsLegalDay day
 unfolding sheet_in
 sheet_of-legal bytes month number day e found =
-    let table = given (document_of bytes) _ month e in
-    let items = given (items_at keys.Day table.0) _ month table.2 in
+    let table = bind-Ok (document_of bytes) _ month e in
+    let items = bind-Ok (items_at keys.Day table.0) _ month table.2 in
     let entry = (days_are_the_entries table.0 items.0 month number day items.1 table.2).0 found in
-    (described [] entry.0 day entry.2).legal
+    (Tells-day_in [] entry.0 day entry.2).legal

@@ -1,29 +1,29 @@
 -- What a machine refuses, as its readers show it. Then settings and lists, refused and carried out.
 pub mod Changing
 unfoldable pub use Changing.*
-pub use Rattle.kd_state.proofs.Prelude.{RefusalsAreTold, HasAllPins, Carries, Leads, Stands, has_letter, is_plugged}
-pub use Rattle.kd_state.proofs.Prelude.{NoLooseEnd, NoSuchBar, NoSuchCable, NotOnWheel, NotThere, OtherModel}
-pub use Rattle.kd_state.proofs.Prelude.{PlaceTaken, SlotEmpty, SocketTaken, WheelNotAllowed, IsAllowed, Reflector}
-pub use Rattle.kd_state.proofs.Prelude.{false_from_ne_true, false≢true, All-head, slice_get-get_or, take, get_or, ◌++◌}
-pub use Rattle.kd_state.proofs.Prelude.{Decides, IsSome}
+pub use Rattle.kd_state.proofs.Prelude.{RefusalsAreTold, HasAllPins, Carries, Leads, HasLugsInOrder, has_letter}
+pub use Rattle.kd_state.proofs.Prelude.{has_both_ends, NoLooseEnd, NoSuchBar, NoSuchCable, NotOnWheel, NotThere}
+pub use Rattle.kd_state.proofs.Prelude.{OtherModel, PlaceTaken, SlotEmpty, SocketTaken, WheelNotAllowed, IsAllowed}
+pub use Rattle.kd_state.proofs.Prelude.{Reflector, false_from_ne_true, false≢true, All-head, slice_get-get_or, take}
+pub use Rattle.kd_state.proofs.Prelude.{get_or, ◌++◌, Decides, IsSome}
 pub use Rattle.std.proofs.{Math.Seq.drop-cons, lemmas.List.{length-take-le, take-append-drop, take_more}}
 pub use Rattle.kd_state.proofs.{Prelude.is_some, Prelude.MatchOption, Prelude.not, Slots.is_some-place_on}
 pub use Rattle.kd_state.specs.Setting.{IsFirstIllegal}
 
-pub lists_keep_machines : (m n : Parts) (xs : List Setting) → IsMachine m → All IsInRange xs → Leads m xs n
+pub lists_keep_machines : (m n : Parts) (xs : List Setting) → IsMachine m → All IsSettingInRange xs → Leads m xs n
     → IsMachine n
 lists_keep_machines m n [] h r l = subst IsMachine (sym l) h
 lists_keep_machines m n (x ∷ xs) h r l =
-    lists_keep_machines l.0 n xs (settings_keep_machines m l.0 x h (All-head IsInRange x xs r) l.1)
-    (All-tail IsInRange x xs r) l.2
+    lists_keep_machines l.0 n xs (settings_keep_machines m l.0 x h (All-head IsSettingInRange x xs r) l.1)
+    (All-tail IsSettingInRange x xs r) l.2
 
-either : (m : Parts) (x : Setting) (why : Option Why) → why_refused m x ≡ why
+carries_or_refuses : (m : Parts) (x : Setting) (why : Option Why) → why_refused m x ≡ why
     → MatchOption why ((n : Parts) × Carries m x n) (λ why. (n : Parts) → ¬ (Carries m x n))
-either m x why e = grind (arith, changed, none-some)
+carries_or_refuses m x why e = grind (arith, machine_after, none-some)
 
 pub refuses_or_carries : (m : Parts) (x : Setting)
     → MatchOption (why_refused m x) ((n : Parts) × Carries m x n) (λ why. (n : Parts) → ¬ (Carries m x n))
-refuses_or_carries m x = either m x (why_refused m x) refl
+refuses_or_carries m x = carries_or_refuses m x (why_refused m x) refl
 
 pub carries_to_one : (m n o : Parts) (x : Setting) → Carries m x n → Carries m x o → n ≡ o
 carries_to_one m n o x one other = one.made ∙ sym other.made
@@ -81,18 +81,18 @@ pull_allowed : (found : Option (Option ℕ × Option ℕ)) (letter : ℕ)
     ↔ Contains (option_map_or cable_letters found []) letter
 pull_allowed found letter = grind (arith, none-some, by_one_test, has_letter-Decides)
 
-lies_somewhere : (cables : List (Option ℕ × Option ℕ)) (letter : ℕ) → Contains (plugged_letters cables) letter
+lies_somewhere : (cables : List (Option ℕ × Option ℕ)) (letter : ℕ) → Contains (letters_in_cables cables) letter
     → (place : ℕ) × Contains (option_map_or cable_letters (slice_get cables place) []) letter
 lies_somewhere [] letter lies = absurd (omega (arith, lies.1))
 lies_somewhere (cable ∷ cables) letter lies =
-    elim (Contains-append_cases (cable_letters cable) (plugged_letters cables) letter lies) [
+    elim (Contains-append_cases (cable_letters cable) (letters_in_cables cables) letter lies) [
       | inl here ↦ (0, here)
       | inr later ↦ let there = lies_somewhere cables letter later in (suc there.0, there.1)
     ]
 
 lies_in_all : (cables : List (Option ℕ × Option ℕ)) (number letter : ℕ)
-    → Contains (option_map_or cable_letters (numbered cables number) []) letter
-    → Contains (plugged_letters cables) letter
+    → Contains (option_map_or cable_letters (numbered_item cables number) []) letter
+    → Contains (letters_in_cables cables) letter
 lies_in_all cables zero letter lies = absurd (omega (arith, lies.1))
 lies_in_all cables (suc place) letter lies = lies_plugged cables place letter lies
 
@@ -102,7 +102,7 @@ loose_in : {P : Type 0} (cable : Option ℕ × Option ℕ) (taken : Bool) → De
 loose_in cable taken tells few = grind (arith, few, no_reason, false, false_from_ne_true, tells.0)
 
 put_allowed : {P : Type 0} (found : Option (Option ℕ × Option ℕ)) (taken : Bool) → Decides taken P
-    → (first_reason ((is_none found, NoSuchCable) ∷ (is_plugged (unwrap_or found (None, None)), NoLooseEnd)
+    → (first_reason ((is_none found, NoSuchCable) ∷ (has_both_ends (unwrap_or found (None, None)), NoLooseEnd)
     ∷ (taken, SocketTaken) ∷ []) ≡ None)
     ↔ (((held : Option ℕ × Option ℕ) × (found ≡ Some held) × (length (cable_letters held) < 2)) × ¬ P)
 put_allowed found taken e = grind (arith, none-some, loose_in, same_Some)
@@ -114,9 +114,9 @@ turn_allowed : {P : Type 0} (found : Option (Option Wheel)) → ¬ P
     ↔ (((wheel : Wheel) × (found ≡ Some (Some wheel))) ⊎ P)
 turn_allowed found e = grind (arith, none-some)
 
-shown : {P Q : Type 0} (found : Option ℕ) (on : Bool) → Decides on P → ¬ Q
+turn_reasons : {P Q : Type 0} (found : Option ℕ) (on : Bool) → Decides on P → ¬ Q
     → (first_reason ((is_none found, SlotEmpty) ∷ (not on, NotOnWheel) ∷ []) ≡ None) ↔ (Q ⊎ (IsSome found × P))
-shown found on e d = grind (arith, none-some, by_one_test)
+turn_reasons found on e d = grind (arith, none-some, by_one_test)
 
 pin_told : (m : PinParts) (wheel letter : ℕ) → HasAllPins m.pins
     → Decides (has_letter (ring_of wheel) letter) (IsSome (pin_at m.pins wheel letter))
@@ -130,22 +130,22 @@ pin_told m wheel letter all =
       λ some. grind (arith, is_some-place_on (ring_of wheel) letter),
     )
 
-apart_before : (lug : Lug) (place : Place) (bar : Place × Place) → Stands (with_lug lug place bar)
-    → (is_at place (lug_place (other_lug lug) bar) ≡ false)
+HasLugsInOrder-tests : (lug : Lug) (place : Place) (bar : Place × Place) → HasLugsInOrder (with_lug lug place bar)
+    → (is_same_place place (lug_place (other_lug lug) bar) ≡ false)
     × (lies_beyond lug place (lug_place (other_lug lug) bar) ≡ false)
-apart_before lug place bar e = grind arith
+HasLugsInOrder-tests lug place bar e = grind arith
 
 abbrev lug_reasons : Lug → Place → Option (Place × Place) → List (Bool × Why)
 lug_reasons lug place found =
     (is_none found, NoSuchBar)
-    ∷ (option_map_or (is_at place) (option_map (lug_place (other_lug lug)) found) false, PlaceTaken)
+    ∷ (option_map_or (is_same_place place) (option_map (lug_place (other_lug lug)) found) false, PlaceTaken)
     ∷ (option_map_or (lies_beyond lug place) (option_map (lug_place (other_lug lug)) found) false, WouldPass)
     ∷ []
 
 lug_allowed : (lug : Lug) (place : Place) (found : Option (Place × Place))
     → (first_reason (lug_reasons lug place found) ≡ None)
-    ↔ ((standing : Place × Place) × (found ≡ Some standing) × Stands (with_lug lug place standing))
-lug_allowed lug place found = grind (arith, none-some, no_reason, still_before, same_Some, apart_before)
+    ↔ ((standing : Place × Place) × (found ≡ Some standing) × HasLugsInOrder (with_lug lug place standing))
+lug_allowed lug place found = grind (arith, none-some, no_reason, still_before, same_Some, HasLugsInOrder-tests)
 
 -- ---- each setting
 
@@ -153,11 +153,11 @@ other_model_refused : {P : Type 0} → ¬ P → (first_reason ((true, OtherModel
 other_model_refused other = grind (arith, none-some)
 
 pub refusals_are_told : RefusalsAreTold
-refusals_are_told (Rotor m) (Pull cable letter) h = pull_allowed (numbered m.cables cable) letter
+refusals_are_told (Rotor m) (Pull cable letter) h = pull_allowed (numbered_item m.cables cable) letter
 refusals_are_told (Rotor m) (Put cable letter) h =
-    let plugged = plugged_letters m.cables in
+    let plugged = letters_in_cables m.cables in
     let by_found =
-    put_allowed (numbered m.cables cable) (has_letter plugged letter) (has_letter-Decides plugged letter) in (
+    put_allowed (numbered_item m.cables cable) (has_letter plugged letter) (has_letter-Decides plugged letter) in (
       λ e. let may = by_found.0 e in (may.0, λ other lies. may.1 (lies_in_all m.cables other letter lies)),
       λ may. by_found.1 (
         may.0,
@@ -167,9 +167,9 @@ refusals_are_told (Rotor m) (Put cable letter) h =
 refusals_are_told (Rotor m) (Seat slot wheel) h = seats_by_the_tables m slot wheel
 refusals_are_told (Rotor m) (SeatReflector reflector) h = reflectors_by_the_tables m reflector
 refusals_are_told (Rotor m) (RingTo wheel letter) h = rings_by_the_tables m wheel letter
-refusals_are_told (Rotor m) (Turn slot letter) h = turn_allowed (numbered m.slots slot) (λ may. false≢true may.0)
-refusals_are_told (Pin m) (Turn wheel letter) h = grind (arith, shown, has_letter-Decides, none-some)
+refusals_are_told (Rotor m) (Turn slot letter) h = turn_allowed (numbered_item m.slots slot) (λ may. false≢true may.0)
+refusals_are_told (Pin m) (Turn wheel letter) h = grind (arith, turn_reasons, has_letter-Decides, none-some)
 refusals_are_told (Pin m) (PinTo wheel letter effective) h =
     by_one_test _ NotOnWheel (pin_told m wheel letter h.legal.pins)
-refusals_are_told (Pin m) (LugTo bar lug place) h = lug_allowed lug place (numbered m.bars bar)
+refusals_are_told (Pin m) (LugTo bar lug place) h = lug_allowed lug place (numbered_item m.bars bar)
 refusals_are_told m x h = other_model_refused (λ may. grind arith)

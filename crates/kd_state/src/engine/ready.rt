@@ -7,8 +7,8 @@ ghost use Rattle.kd_tables.specs.Permutation.{exchange};
 ghost use Rattle.kd_tables.specs.Refusals.{refusal_name};
 ghost use Rattle.kd_tables.specs.Tables.{box_of};
 ghost use Rattle.kd_state.specs.Machine.{cable_letters, AreCables, IsLegalRotor};
-ghost use Rattle.kd_state.specs.Seated.{seated_wheel};
-ghost use Rattle.kd_state.specs.TwoCiphers.{both_ends, IsRotorReady, physical_key};
+ghost use Rattle.kd_state.specs.Seated.{wheel_in_seat};
+ghost use Rattle.kd_state.specs.TwoCiphers.{pair_of_ends, IsRotorReady, physical_key};
 
 use super::Engine;
 use crate::machine::Machine;
@@ -87,8 +87,8 @@ fn rotor_engine(parts: &RotorParts) -> Option<Engine>
 /// The wheels in the slots with their rings and letters, if no slot is empty.
 fn seated_wheels(parts: &RotorParts) -> Option<ArrayVec<SheetWheel, 4>>
     requires { IsLegalRotor parts.now }
-    ensures { MatchOption result (Contains (map (seated_wheel parts.now) parts.now.slots) None)
-        (λ wheels. map Some wheels.items ≡ map (seated_wheel parts.now) parts.now.slots) }
+    ensures { MatchOption result (Contains (map (wheel_in_seat parts.now) parts.now.slots) None)
+        (λ wheels. map Some wheels.items ≡ map (wheel_in_seat parts.now) parts.now.slots) }
 {
     let mut wheels = ArrayVec::new();
     let slots = parts.slots.as_slice();
@@ -102,7 +102,7 @@ fn seated_wheels(parts: &RotorParts) -> Option<ArrayVec<SheetWheel, 4>>
 fn seated_wheel(parts: &RotorParts, seated: Option<Wheel>) -> Option<SheetWheel>
     requires rings { length parts.now.rings ≡ length (box_of parts.now.model) }
     requires letters { length parts.now.letters ≡ length (box_of parts.now.model) }
-    ensures { result ≡ seated_wheel parts.now seated }
+    ensures { result ≡ wheel_in_seat parts.now seated }
 {
     let wheel = seated?;
     let ring = letter_of_wheel(parts.model, &parts.rings, wheel)?;
@@ -120,7 +120,7 @@ fn plugs_of(cables: &[Cable; 13]) -> Option<Plugs>
     requires { AreCables cables.now }
     ensures ready { IsSome result ↔ All (λ cable. length (cable_letters cable) ≢ 1) cables.now }
     ensures plugs { IfSome result
-        (λ plugs. plugs ≡ exchange (filter_map (λ cable. both_ends cable.0 cable.1) cables.now)) }
+        (λ plugs. plugs ≡ exchange (filter_map (λ cable. pair_of_ends cable.0 cable.1) cables.now)) }
 {
     if !have_no_single_letter(cables) {
         return None;
@@ -139,7 +139,7 @@ fn have_no_single_letter(cables: &[Cable; 13]) -> bool
 
 /// The pairs of letters in the cables that have two letters.
 fn plugged_pairs(cables: &[Cable; 13]) -> ArrayVec<(Letter, Letter), 13>
-    ensures { result.items ≡ filter_map (λ cable. both_ends cable.0 cable.1) cables.now }
+    ensures { result.items ≡ filter_map (λ cable. pair_of_ends cable.0 cable.1) cables.now }
 {
     let mut pairs = ArrayVec::new();
     for cable in cables {
@@ -152,7 +152,7 @@ fn plugged_pairs(cables: &[Cable; 13]) -> ArrayVec<(Letter, Letter), 13>
 fn push_pair(pairs: &mut ArrayVec<(Letter, Letter), 13>, cable: Cable)
     requires { array_vec_len pairs.old < 13 }
     ensures pairs { pairs.new.items
-        ≡ pairs.old.items ++ option_to_list (both_ends cable.0 cable.1) }
+        ≡ pairs.old.items ++ option_to_list (pair_of_ends cable.0 cable.1) }
     ensures at_most_one { array_vec_len pairs.new ≤ array_vec_len pairs.old + 1 }
 {
     if let (Some(one), Some(other)) = cable {

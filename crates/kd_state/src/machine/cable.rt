@@ -2,9 +2,9 @@
 ghost use Rattle.std.specs.Prelude.{◌≡◌, ◌↔◌, IsTrue, map, nat_eq};
 ghost use Rattle.std.specs.List.{IsDistinct};
 ghost use Rattle.std.specs.Option.{option_to_list};
-ghost use Rattle.kd_tables.specs.Places.{in_order};
-ghost use Rattle.kd_state.specs.Machine.{cable_letters, plugged_letters, ordered};
-ghost use Rattle.kd_state.specs.Setting.{has_letter, are_new, cable_without};
+ghost use Rattle.kd_tables.specs.Places.{smaller_first};
+ghost use Rattle.kd_state.specs.Machine.{cable_letters, letters_in_cables, cable_in_order};
+ghost use Rattle.kd_state.specs.Setting.{has_letter, are_new_letters, cable_without};
 
 use kd_tables::Letter;
 
@@ -12,8 +12,8 @@ use kd_tables::Letter;
 pub type Cable = (Option<Letter>, Option<Letter>);
 
 /// The cable with the letters `one` and `other` in alphabetical order, a single letter first.
-pub(crate) fn ordered(one: Option<Letter>, other: Option<Letter>) -> Cable
-    ensures { result ≡ ordered one other }
+pub(crate) fn cable_in_order(one: Option<Letter>, other: Option<Letter>) -> Cable
+    ensures { result ≡ cable_in_order one other }
 {
     match (one, other) {
         (None, _) => (other, None),
@@ -25,11 +25,11 @@ pub(crate) fn ordered(one: Option<Letter>, other: Option<Letter>) -> Cable
 
 /// Puts the letters of each cable in alphabetical order, a single letter first.
 pub(crate) fn put_in_order(cables: &mut [Cable])
-    ensures { cables.new ≡ map (λ cable. ordered cable.0 cable.1) cables.old }
+    ensures { cables.new ≡ map (λ cable. cable_in_order cable.0 cable.1) cables.old }
 {
     for cable in cables.iter_mut() {
         let (one, other) = *cable;
-        *cable = ordered(one, other);
+        *cable = cable_in_order(one, other);
     }
 }
 
@@ -49,7 +49,7 @@ fn is_letter(end: Option<Letter>, letter: Letter) -> bool
 
 /// Whether `letter` is in one of the cables.
 pub(crate) fn lies_in_any(cables: &[Cable], letter: Letter) -> bool
-    ensures { result ≡ has_letter (plugged_letters cables.now) letter }
+    ensures { result ≡ has_letter (letters_in_cables cables.now) letter }
 {
     for cable in cables {
         if lies_in(cable, letter) {
@@ -61,7 +61,7 @@ pub(crate) fn lies_in_any(cables: &[Cable], letter: Letter) -> bool
 
 /// `one` and `other` in alphabetical order.
 pub fn letters_in_order(one: Letter, other: Letter) -> (Letter, Letter)
-    ensures { result ≡ in_order one other }
+    ensures { result ≡ smaller_first one other }
 {
     if one.index() <= other.index() {
         (one, other)
@@ -71,7 +71,7 @@ pub fn letters_in_order(one: Letter, other: Letter) -> (Letter, Letter)
 }
 
 /// `cable` without `letter`.
-pub(crate) fn without(cable: &Cable, letter: Letter) -> Cable
+pub(crate) fn cable_without(cable: &Cable, letter: Letter) -> Cable
     ensures { result ≡ cable_without letter cable.now }
 {
     if is_letter(cable.0, letter) {
@@ -82,12 +82,12 @@ pub(crate) fn without(cable: &Cable, letter: Letter) -> Cable
 }
 
 /// Whether no letter is in two places of the cables.
-pub(crate) fn are_apart(cables: &[Cable]) -> bool
-    ensures { IsTrue result ↔ IsDistinct nat_eq (plugged_letters cables.now) }
+pub(crate) fn have_no_letter_twice(cables: &[Cable]) -> bool
+    ensures { IsTrue result ↔ IsDistinct nat_eq (letters_in_cables cables.now) }
 {
     for (place, cable) in cables.iter().enumerate() {
         let (_, later) = cables.split_at(place + 1);
-        if !is_new(cable, later) {
+        if !are_new_letters(cable, later) {
             return false;
         }
     }
@@ -95,8 +95,8 @@ pub(crate) fn are_apart(cables: &[Cable]) -> bool
 }
 
 /// Whether the letters of `cable` differ, and are in none of `others`.
-pub fn is_new(cable: &Cable, others: &[Cable]) -> bool
-    ensures { result ≡ are_new (cable_letters cable.now) (plugged_letters others.now) }
+pub fn are_new_letters(cable: &Cable, others: &[Cable]) -> bool
+    ensures { result ≡ are_new_letters (cable_letters cable.now) (letters_in_cables others.now) }
 {
     match *cable {
         (None, None) => true,

@@ -5,9 +5,9 @@ ghost use Rattle.std.specs.Option.{option_map_or};
 ghost use Rattle.kd_state.specs.Entry.{rotor_values};
 ghost use Rattle.kd_tables.specs.Tables.{box_of};
 ghost use Rattle.kd_state.specs.Machine.{IsLegalRotor};
-ghost use Rattle.kd_state.specs.OnKey.{IsRotorOnKey, AreThePairs, IsPaired, IsJoined, Joins};
+ghost use Rattle.kd_state.specs.OnKey.{IsRotorOnKey, AreThePairs, IsCablePaired, IsPairJoined, HasPairLetters};
 ghost use Rattle.kd_state.specs.Setting.{has_letter};
-ghost use Rattle.kd_state.specs.ToldApart.{place_in_box};
+ghost use Rattle.kd_state.specs.SameParts.{place_in_box};
 
 use crate::machine::Machine;
 use crate::machine::cable::{Cable, lies_in};
@@ -31,7 +31,7 @@ impl Machine {
         match (self.parts(), day.entry()) {
             (Parts::Rotor(parts), Entry::Rotor(entry)) => is_rotor_on_key(parts, entry),
             (Parts::Pin(parts), Entry::Pin(entry)) => {
-                parts.pins.same(&entry.pins)
+                parts.pins.has_same_pins(&entry.pins)
                     && are_same_readings(readings_of(&parts.bars), entry.rows)
             }
             _ => false,
@@ -51,7 +51,7 @@ impl Machine {
     {
         match (self.parts(), day.entry()) {
             (Parts::Rotor(parts), Entry::Rotor(entry)) => {
-                show_letters(parts.model, &parts.letters, entry.wheels.as_slice())
+                have_letters(parts.model, &parts.letters, entry.wheels.as_slice())
             }
             (Parts::Pin(parts), Entry::Pin(entry)) => parts.letters == entry.window,
             _ => false,
@@ -93,7 +93,7 @@ fn have_rings(model: Model, rings: &PerWheel<Letter>, wheels: &[SheetWheel]) -> 
 }
 
 /// Whether each of the day's wheels has its letter in `letters`, in a slot or in the box.
-fn show_letters(model: Model, letters: &PerWheel<Letter>, wheels: &[SheetWheel]) -> bool
+fn have_letters(model: Model, letters: &PerWheel<Letter>, wheels: &[SheetWheel]) -> bool
     requires { length letters.now ≡ length (box_of model) }
     ensures { IsTrue result
         ↔ AllByRecursion (λ w. slice_get letters.now (place_in_box model w.wheel) ≡ Some w.letter) wheels.now }
@@ -102,7 +102,7 @@ fn show_letters(model: Model, letters: &PerWheel<Letter>, wheels: &[SheetWheel])
         [] => true,
         [first, rest @ ..] => {
             letter_of_wheel(model, letters, first.wheel) == Some(first.letter)
-                && show_letters(model, letters, rest)
+                && have_letters(model, letters, rest)
         }
     }
 }
@@ -126,42 +126,42 @@ fn are_the_pairs(cables: &[Cable], pairs: &[(Letter, Letter)]) -> bool
 
 /// Whether each cable is empty or joins one of `pairs`.
 fn are_paired(cables: &[Cable], pairs: &[(Letter, Letter)]) -> bool
-    ensures { IsTrue result ↔ AllByRecursion (IsPaired pairs.now) cables.now }
+    ensures { IsTrue result ↔ AllByRecursion (IsCablePaired pairs.now) cables.now }
 {
     match cables {
         [] => true,
-        [first, rest @ ..] => is_paired(*first, pairs) && are_paired(rest, pairs),
+        [first, rest @ ..] => is_cable_paired(*first, pairs) && are_paired(rest, pairs),
     }
 }
 
 /// Whether each of `pairs` has a cable in `cables` that joins it.
 fn are_joined(pairs: &[(Letter, Letter)], cables: &[Cable]) -> bool
-    ensures { IsTrue result ↔ AllByRecursion (IsJoined cables.now) pairs.now }
+    ensures { IsTrue result ↔ AllByRecursion (IsPairJoined cables.now) pairs.now }
 {
     match pairs {
         [] => true,
-        [first, rest @ ..] => is_joined(cables, *first) && are_joined(rest, cables),
+        [first, rest @ ..] => is_pair_joined(cables, *first) && are_joined(rest, cables),
     }
 }
 
 /// Whether `cable` is empty or joins one of `pairs`.
-fn is_paired(cable: Cable, pairs: &[(Letter, Letter)]) -> bool
-    ensures { IsTrue result ↔ IsPaired pairs.now cable }
+fn is_cable_paired(cable: Cable, pairs: &[(Letter, Letter)]) -> bool
+    ensures { IsTrue result ↔ IsCablePaired pairs.now cable }
 {
-    cable == (None, None) || pairs.iter().any(|pair| joins(cable, *pair))
+    cable == (None, None) || pairs.iter().any(|pair| has_letters_of_pair(cable, *pair))
 }
 
 /// Whether one of `cables` joins `pair`.
-fn is_joined(cables: &[Cable], pair: (Letter, Letter)) -> bool
-    ensures { IsTrue result ↔ IsJoined cables.now pair }
+fn is_pair_joined(cables: &[Cable], pair: (Letter, Letter)) -> bool
+    ensures { IsTrue result ↔ IsPairJoined cables.now pair }
 {
-    cables.iter().any(|cable| joins(*cable, pair))
+    cables.iter().any(|cable| has_letters_of_pair(*cable, pair))
 }
 
 /// Whether `cable` has exactly the letters of `pair`, in either order.
 #[tactic(auto, using(crate::proofs::Cables::joined_by_tests, crate::proofs::Cables::tests_of_joined))]
-fn joins(cable: Cable, pair: (Letter, Letter)) -> bool
-    ensures { IsTrue result ↔ Joins cable pair }
+fn has_letters_of_pair(cable: Cable, pair: (Letter, Letter)) -> bool
+    ensures { IsTrue result ↔ HasPairLetters cable pair }
 {
     lies_in(&cable, pair.0)
         && lies_in(&cable, pair.1)

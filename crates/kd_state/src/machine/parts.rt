@@ -1,6 +1,6 @@
 //! The parts of a machine of any model.
 ghost use Rattle.kd_state.specs.Machine.{IsLegal};
-ghost use Rattle.kd_state.specs.Setting.{Answers};
+ghost use Rattle.kd_state.specs.Setting.{IsCarryAnswer};
 
 use crate::machine::pin_parts::PinParts;
 use crate::machine::rotor_parts::RotorParts;
@@ -20,7 +20,7 @@ impl Parts {
     /// Carries `setting` out, or refuses it for the first reason that holds.
     pub(crate) fn carry(&mut self, setting: Setting) -> Result<(), Why>
         requires { IsLegal self.old }
-        ensures { Answers self.old setting self.new result }
+        ensures { IsCarryAnswer self.old setting self.new result }
     {
         match self {
             Parts::Rotor(parts) => parts.carry(setting),

@@ -1,8 +1,8 @@
 //! A value for each slot of a rotor machine.
 ghost use Rattle.std.specs.Prelude.{◌≡◌, ◌⊎◌, ◌↔◌, ◌<◌, length, map, slice_set, IsSome, IfSome};
-ghost use Rattle.kd_state.specs.Setting.{without};
+ghost use Rattle.kd_state.specs.Setting.{seat_without};
 
-use crate::counted::set_at;
+use crate::numbered_items::set_item;
 use crate::sheet_day::rotor_entry::SheetWheel;
 use kd_tables::Wheel;
 use std::marker::Model;
@@ -24,11 +24,11 @@ impl<T> Model for PerSlot<T> {
 
     ghost Value = { List T };
 
-    ghost use Rattle.kd_state.specs.Slots.{slot_values, HasSlots, slots_of_values};
+    ghost use Rattle.kd_state.specs.Slots.{slot_values, HasSlotCount, slots_of_values};
 
     ghost view = { λ p. slot_values p.values };
 
-    ghost invariant = { λ p. HasSlots p.values };
+    ghost invariant = { λ p. HasSlotCount p.values };
 
     ghost inverse = { λ values. record { values = slots_of_values values } };
 }
@@ -63,8 +63,8 @@ impl<T: Copy> PerSlot<T> {
         ensures { self.new ≡ slice_set self.old place value }
     {
         match &mut self.values {
-            Slots::Three(values) => set_at(values, place, value),
-            Slots::Four(values) => set_at(values, place, value),
+            Slots::Three(values) => set_item(values, place, value),
+            Slots::Four(values) => set_item(values, place, value),
         }
     }
 }
@@ -72,24 +72,24 @@ impl<T: Copy> PerSlot<T> {
 impl PerSlot<Option<Wheel>> {
     /// Takes `wheel` out of its slot, if it is in one.
     pub(crate) fn take_out(&mut self, wheel: Wheel)
-        ensures { self.new ≡ map (without wheel) self.old }
+        ensures { self.new ≡ map (seat_without wheel) self.old }
     {
         match &mut self.values {
             Slots::Three(slots) => {
                 let [left, middle, right] = *slots;
                 *slots = [
-                    without_wheel(left, wheel),
-                    without_wheel(middle, wheel),
-                    without_wheel(right, wheel),
+                    seat_without(left, wheel),
+                    seat_without(middle, wheel),
+                    seat_without(right, wheel),
                 ];
             }
             Slots::Four(slots) => {
                 let [first, left, middle, right] = *slots;
                 *slots = [
-                    without_wheel(first, wheel),
-                    without_wheel(left, wheel),
-                    without_wheel(middle, wheel),
-                    without_wheel(right, wheel),
+                    seat_without(first, wheel),
+                    seat_without(left, wheel),
+                    seat_without(middle, wheel),
+                    seat_without(right, wheel),
                 ];
             }
         }
@@ -97,11 +97,11 @@ impl PerSlot<Option<Wheel>> {
 }
 
 impl PerSlot<SheetWheel> {
-    ghost use Rattle.kd_state.specs.SheetDay.{seats};
+    ghost use Rattle.kd_state.specs.SheetDay.{seats_of_wheels};
 
     /// The wheels without rings and letters, each in its slot.
     pub(crate) fn seats(&self) -> PerSlot<Option<Wheel>>
-        ensures { result ≡ seats self.now }
+        ensures { result ≡ seats_of_wheels self.now }
     {
         let values = match &self.values {
             Slots::Three([left, middle, right]) => Slots::Three([
@@ -121,8 +121,8 @@ impl PerSlot<SheetWheel> {
 }
 
 /// The wheel `seated`, or `None` if it is `wheel`.
-fn without_wheel(seated: Option<Wheel>, wheel: Wheel) -> Option<Wheel>
-    ensures { result ≡ without wheel seated }
+fn seat_without(seated: Option<Wheel>, wheel: Wheel) -> Option<Wheel>
+    ensures { result ≡ seat_without wheel seated }
 {
     if seated == Some(wheel) { None } else { seated }
 }

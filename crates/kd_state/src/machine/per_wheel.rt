@@ -1,7 +1,7 @@
 //! A value for each wheel of a rotor machine's box.
 ghost use Rattle.std.specs.Prelude.{◌≡◌, ◌⊎◌, ◌↔◌, ◌<◌, length, slice_set, IsSome, IfSome};
 
-use crate::counted::set_at;
+use crate::numbered_items::set_item;
 use std::marker::Model;
 
 /// Five, eight or ten values: one for each wheel of a rotor machine's box, in box order.
@@ -22,11 +22,11 @@ impl<T> Model for PerWheel<T> {
 
     ghost Value = { List T };
 
-    ghost use Rattle.kd_state.specs.Wheels.{wheel_values, HasWheels, wheels_of_values};
+    ghost use Rattle.kd_state.specs.Wheels.{wheel_values, HasWheelCount, wheels_of_values};
 
     ghost view = { λ p. wheel_values p.values };
 
-    ghost invariant = { λ p. HasWheels p.values };
+    ghost invariant = { λ p. HasWheelCount p.values };
 
     ghost inverse = { λ values. record { values = wheels_of_values values } };
 }
@@ -65,9 +65,9 @@ impl<T: Copy> PerWheel<T> {
         ensures { self.new ≡ slice_set self.old place value }
     {
         match &mut self.values {
-            Wheels::Five(values) => set_at(values, place, value),
-            Wheels::Eight(values) => set_at(values, place, value),
-            Wheels::Ten(values) => set_at(values, place, value),
+            Wheels::Five(values) => set_item(values, place, value),
+            Wheels::Eight(values) => set_item(values, place, value),
+            Wheels::Ten(values) => set_item(values, place, value),
         }
     }
 }

@@ -1,17 +1,17 @@
 //! Readers of a machine: its slots, rings, letters, cables, pins and lugs.
 ghost use Rattle.std.specs.Prelude.{◌≡◌, length, slice_get};
 ghost use Rattle.kd_tables.specs.Tables.{box_of};
-ghost use Rattle.kd_state.specs.ToldApart.{place_in_box};
-ghost use Rattle.kd_state.specs.Machine.{model_of, slot_in, reflector_in, ring_in, letter_in, cable_in, pin_in};
-ghost use Rattle.kd_state.specs.Machine.{shown_in, standing_in};
+ghost use Rattle.kd_state.specs.SameParts.{place_in_box};
+ghost use Rattle.kd_state.specs.Machine.{model_of, machine_slot, machine_reflector, machine_ring, machine_letter};
+ghost use Rattle.kd_state.specs.Machine.{machine_cable, machine_pin, machine_pin_letter, machine_standing};
 
 use super::Machine;
-use crate::counted::numbered;
 use crate::machine::cable::Cable;
 use crate::machine::parts::Parts;
 use crate::machine::per_wheel::PerWheel;
 use crate::machine::pin_rings::pin_at;
 use crate::machine::seats::place_in_box;
+use crate::numbered_items::numbered_item;
 use kd_tables::{Letter, Model, Reflector, Standing, Wheel};
 
 impl Machine {
@@ -27,17 +27,17 @@ impl Machine {
 
     /// The wheel in slot `slot`, counted from 1 from the left, or nothing. `None` if there is no such slot.
     pub fn slot(&self, slot: u8) -> Option<Option<Wheel>>
-        ensures { result ≡ slot_in self.now slot }
+        ensures { result ≡ machine_slot self.now slot }
     {
         match &self.parts {
-            Parts::Rotor(parts) => numbered(parts.slots.as_slice(), slot),
+            Parts::Rotor(parts) => numbered_item(parts.slots.as_slice(), slot),
             Parts::Pin(_) => None,
         }
     }
 
     /// The reflector. `None` on the Converter M-209.
     pub fn reflector(&self) -> Option<Reflector>
-        ensures { result ≡ reflector_in self.now }
+        ensures { result ≡ machine_reflector self.now }
     {
         match &self.parts {
             Parts::Rotor(parts) => Some(parts.reflector),
@@ -47,7 +47,7 @@ impl Machine {
 
     /// The ring of a wheel of the box, in a slot or not: 01 is A. `None` if the box lacks the wheel.
     pub fn ring(&self, wheel: Wheel) -> Option<Letter>
-        ensures { result ≡ ring_in self.now wheel }
+        ensures { result ≡ machine_ring self.now wheel }
     {
         match &self.parts {
             Parts::Rotor(parts) => letter_of_wheel(parts.model, &parts.rings, wheel),
@@ -57,7 +57,7 @@ impl Machine {
 
     /// The window letter of a wheel of the box, in a slot or not. `None` if the box lacks the wheel.
     pub fn letter(&self, wheel: Wheel) -> Option<Letter>
-        ensures { result ≡ letter_in self.now wheel }
+        ensures { result ≡ machine_letter self.now wheel }
     {
         match &self.parts {
             Parts::Rotor(parts) => letter_of_wheel(parts.model, &parts.letters, wheel),
@@ -69,10 +69,10 @@ impl Machine {
     ///
     /// They are in alphabetical order, a single letter first.
     pub fn cable(&self, cable: u8) -> Option<Cable>
-        ensures { result ≡ cable_in self.now cable }
+        ensures { result ≡ machine_cable self.now cable }
     {
         match &self.parts {
-            Parts::Rotor(parts) => numbered(&parts.cables, cable),
+            Parts::Rotor(parts) => numbered_item(&parts.cables, cable),
             Parts::Pin(_) => None,
         }
     }
@@ -81,7 +81,7 @@ impl Machine {
     ///
     /// Pin wheels are counted from 1.
     pub fn pin_at(&self, wheel: u8, letter: Letter) -> Option<bool>
-        ensures { result ≡ pin_in self.now wheel letter }
+        ensures { result ≡ machine_pin self.now wheel letter }
     {
         match &self.parts {
             Parts::Rotor(_) => None,
@@ -91,21 +91,21 @@ impl Machine {
 
     /// The letter that pin wheel `wheel`, counted from 1, shows. `None` if there is no such wheel.
     pub fn shown(&self, wheel: u8) -> Option<Letter>
-        ensures { result ≡ shown_in self.now wheel }
+        ensures { result ≡ machine_pin_letter self.now wheel }
     {
         match &self.parts {
             Parts::Rotor(_) => None,
-            Parts::Pin(parts) => numbered(&parts.letters, wheel),
+            Parts::Pin(parts) => numbered_item(&parts.letters, wheel),
         }
     }
 
     /// The places of the lugs of bar `bar`, counted from 1. `None` if there is no such bar.
     pub fn standing(&self, bar: u8) -> Option<Standing>
-        ensures { result ≡ standing_in self.now bar }
+        ensures { result ≡ machine_standing self.now bar }
     {
         match &self.parts {
             Parts::Rotor(_) => None,
-            Parts::Pin(parts) => numbered(&parts.bars, bar),
+            Parts::Pin(parts) => numbered_item(&parts.bars, bar),
         }
     }
 }

@@ -1,7 +1,7 @@
 //! The parts of a rotor machine.
 ghost use Rattle.std.specs.Prelude.{◌≡◌, ◌↔◌, IsTrue, length};
 ghost use Rattle.kd_tables.specs.Tables.{box_of};
-ghost use Rattle.kd_state.specs.Machine.{IsLegalRotor, AreLetters, cables_ordered};
+ghost use Rattle.kd_state.specs.Machine.{IsLegalRotor, AreLetters, with_cables_in_order};
 
 use crate::facts::{learn_cable_letters, learn_letters};
 use crate::machine::cable::{self, Cable};
@@ -32,16 +32,16 @@ impl RotorParts {
         ensures { IsTrue result ↔ IsLegalRotor self.now }
     {
         learn_cable_letters(&self.cables);
-        seats::are_legal(self.model, &self.slots)
+        seats::are_legal_seats(self.model, &self.slots)
             && allowed_reflector(self.model, self.reflector)
-            && fill_box(self.model, &self.rings)
-            && fill_box(self.model, &self.letters)
-            && cable::are_apart(&self.cables)
+            && is_box_filled(self.model, &self.rings)
+            && is_box_filled(self.model, &self.letters)
+            && cable::have_no_letter_twice(&self.cables)
     }
 
     /// The parts with each cable's letters in alphabetical order.
-    pub(crate) fn in_order(&self) -> RotorParts
-        ensures { Parts.Rotor result ≡ cables_ordered (Parts.Rotor self.now) }
+    pub(crate) fn with_cables_in_order(&self) -> RotorParts
+        ensures { Parts.Rotor result ≡ with_cables_in_order (Parts.Rotor self.now) }
     {
         let mut parts = *self;
         cable::put_in_order(&mut parts.cables);
@@ -50,7 +50,7 @@ impl RotorParts {
 }
 
 /// Whether `letters` has a letter for each wheel of the model's box.
-fn fill_box(model: Model, letters: &PerWheel<Letter>) -> bool
+fn is_box_filled(model: Model, letters: &PerWheel<Letter>) -> bool
     ensures { IsTrue result ↔ AreLetters (length (box_of model)) letters.now }
 {
     let letters = letters.as_slice();

@@ -2,8 +2,8 @@
 ghost use Rattle.std.specs.Prelude.{◌≡◌, ◌↔◌, ℕ, ◌≤◌, IsTrue, IfSome, Some, Contains, length};
 ghost use Rattle.std.specs.Option.{SomeIff};
 ghost use Rattle.kd_tables.specs.Tables.{box_of, slots_of, IsAllowed};
-ghost use Rattle.kd_state.specs.ToldApart.{place_in_box};
-ghost use Rattle.kd_state.specs.Machine.{AreAllowed, AreApart, StandsAt};
+ghost use Rattle.kd_state.specs.SameParts.{place_in_box};
+ghost use Rattle.kd_state.specs.Machine.{AreWheelsAllowed, AreSeatedOnce, IsSeatedAt};
 
 use crate::machine::per_slot::PerSlot;
 use kd_tables::{Model, Wheel, allowed};
@@ -21,19 +21,19 @@ pub(crate) fn place_in_box(model: Model, wheel: Wheel) -> Option<usize>
 }
 
 /// Whether `slots` are the model's, each wheel is allowed in its slot, and no wheel is in two.
-pub(crate) fn are_legal(model: Model, slots: &PerSlot<Option<Wheel>>) -> bool
-    ensures { IsTrue result ↔ (length slots.now ≡ slots_of model) × AreAllowed model slots.now
-        × AreApart slots.now }
+pub(crate) fn are_legal_seats(model: Model, slots: &PerSlot<Option<Wheel>>) -> bool
+    ensures { IsTrue result ↔ (length slots.now ≡ slots_of model) × AreWheelsAllowed model slots.now
+        × AreSeatedOnce slots.now }
 {
     let slots = slots.as_slice();
-    slots.len() == usize::from(model.slots()) && are_allowed(model, slots) && are_apart(slots)
+    slots.len() == usize::from(model.slots()) && are_allowed(model, slots) && are_seated_once(slots)
 }
 
 /// Whether each wheel is allowed in its slot.
 #[tactic(auto, using(crate::proofs::Prelude::gets, crate::proofs::Prelude::slice_get_within))]
 fn are_allowed(model: Model, slots: &[Option<Wheel>]) -> bool
     requires { length slots.now ≤ 4 }
-    ensures { IsTrue result ↔ AreAllowed model slots.now }
+    ensures { IsTrue result ↔ AreWheelsAllowed model slots.now }
 {
     for (place, seated) in slots.iter().enumerate() {
         if !may_stand(model, place as u8 + 1, *seated) {
@@ -54,8 +54,8 @@ fn may_stand(model: Model, slot: u8, seated: Option<Wheel>) -> bool
 }
 
 /// Whether no wheel is in two slots.
-fn are_apart(slots: &[Option<Wheel>]) -> bool
-    ensures { IsTrue result ↔ AreApart slots.now }
+fn are_seated_once(slots: &[Option<Wheel>]) -> bool
+    ensures { IsTrue result ↔ AreSeatedOnce slots.now }
 {
     for (place, seated) in slots.iter().enumerate() {
         if !is_alone(slots, place, *seated) {
@@ -68,7 +68,7 @@ fn are_apart(slots: &[Option<Wheel>]) -> bool
 /// Whether the wheel `seated` at `place`, if any, is in no other slot.
 fn is_alone(slots: &[Option<Wheel>], place: usize, seated: Option<Wheel>) -> bool
     ensures { IsTrue result ↔ IfSome seated
-        (λ wheel. (other : ℕ) → StandsAt slots.now other wheel → other ≡ place) }
+        (λ wheel. (other : ℕ) → IsSeatedAt slots.now other wheel → other ≡ place) }
 {
     for (other, wheel) in slots.iter().enumerate() {
         if other != place && seated.is_some() && *wheel == seated {

@@ -22,7 +22,7 @@ impl IllegalAt {
     pub fn text(&self) -> Text
         ensures { result.bytes ≡ illegal_at_text self.now }
     {
-        Refusal::IllegalAt.at_with_word(self.line, self.why.name())
+        Refusal::IllegalAt.text_at_with_word(self.line, self.why.name())
     }
 }
 

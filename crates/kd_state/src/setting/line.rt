@@ -3,7 +3,7 @@ ghost use Rattle.std.specs.Prelude.{◌≡◌, ◌≢◌, ◌<◌, ◌≤◌, []
 ghost use Rattle.arrayvec.specs.ArrayString.{array_string_len};
 ghost use Rattle.kd_state.specs.declared.setting.Setting.TheVariants.{SeatReflector, RingTo, LugTo};
 ghost use Rattle.kd_state.specs.Words.{letter_text};
-ghost use Rattle.kd_state.specs.Line.{setting_line, pin_text, IsInRange, IsReadOff};
+ghost use Rattle.kd_state.specs.Line.{setting_line, on_off_text, IsSettingInRange, IsSettingOfWords};
 
 use crate::facts::learn_setting_range;
 use crate::setting::Setting;
@@ -18,7 +18,7 @@ impl Setting {
     pub fn line(&self) -> ArrayString<24>
         ensures value { result.bytes ≡ setting_line self.now }
         ensures short { array_string_len result < 24 }
-        ensures in_range { IsInRange self.now }
+        ensures in_range { IsSettingInRange self.now }
     {
         learn_setting_range(self);
         match *self {
@@ -35,7 +35,7 @@ impl Setting {
                 line.push_str(reflector.text().as_str());
                 line
             }
-            Setting::RingTo { wheel, letter } => ring_line(wheel, letter),
+            Setting::RingTo { wheel, letter } => ring_setting_line(wheel, letter),
             Setting::Turn { slot, letter } => letter_line("TURN", slot, letter),
             Setting::PinTo {
                 wheel,
@@ -60,9 +60,9 @@ impl Setting {
     #[tactic(auto, using(crate::proofs::Lines::too_many_words, crate::proofs::Lines::read_by_words))]
     pub fn from_line(text: &[u8]) -> Option<Self>
         ensures value { MatchOption result
-            ((x : _) → IsInRange x → setting_line x ≢ text.now)
+            ((x : _) → IsSettingInRange x → setting_line x ≢ text.now)
             (λ x. setting_line x ≡ text.now) }
-        ensures in_range { IfSome result IsInRange }
+        ensures in_range { IfSome result IsSettingInRange }
     {
         let words = split_words::<4>(text)?;
         setting_of_words(words.as_slice())
@@ -95,7 +95,7 @@ fn letter_line(word: &str, number: u8, letter: Letter) -> ArrayString<24>
 }
 
 /// The line of a ring setting.
-fn ring_line(wheel: Wheel, letter: Letter) -> ArrayString<24>
+fn ring_setting_line(wheel: Wheel, letter: Letter) -> ArrayString<24>
     ensures value { result.bytes ≡ setting_line (RingTo wheel letter) }
     ensures short { array_string_len result < 24 }
 {
@@ -109,7 +109,7 @@ fn ring_line(wheel: Wheel, letter: Letter) -> ArrayString<24>
 
 /// Reads the words of a line as a setting.
 fn setting_of_words(words: &[&[u8]]) -> Option<Setting>
-    ensures { IsReadOff (map (λ word. word.now) words.now) result }
+    ensures { IsSettingOfWords (map (λ word. word.now) words.now) result }
 {
     match words {
         [keyword, value] => setting_of_two_words(keyword, value),
@@ -121,7 +121,7 @@ fn setting_of_words(words: &[&[u8]]) -> Option<Setting>
 
 /// Reads a line of two words as a setting.
 fn setting_of_two_words(keyword: &[u8], value: &[u8]) -> Option<Setting>
-    ensures { IsReadOff (keyword.now ∷ value.now ∷ []) result }
+    ensures { IsSettingOfWords (keyword.now ∷ value.now ∷ []) result }
 {
     if !is_word(keyword, "REFLECTOR") {
         return None;
@@ -133,7 +133,7 @@ fn setting_of_two_words(keyword: &[u8], value: &[u8]) -> Option<Setting>
 
 /// Reads a line of three words as a setting.
 fn setting_of_three_words(keyword: &[u8], first: &[u8], second: &[u8]) -> Option<Setting>
-    ensures { IsReadOff (keyword.now ∷ first.now ∷ second.now ∷ []) result }
+    ensures { IsSettingOfWords (keyword.now ∷ first.now ∷ second.now ∷ []) result }
 {
     if is_word(keyword, "RING") {
         return Some(Setting::RingTo {
@@ -176,7 +176,7 @@ fn setting_of_four_words(
     second: &[u8],
     third: &[u8],
 ) -> Option<Setting>
-    ensures { IsReadOff (keyword.now ∷ first.now ∷ second.now ∷ third.now ∷ []) result }
+    ensures { IsSettingOfWords (keyword.now ∷ first.now ∷ second.now ∷ third.now ∷ []) result }
 {
     let number = number_of_text(first)?;
     if is_word(keyword, "PIN") {
@@ -199,8 +199,8 @@ fn setting_of_four_words(
 /// Reads whether a pin is effective: `ON` or `OFF`.
 fn effective_of_text(text: &[u8]) -> Option<bool>
     ensures { MatchOption result
-        ((effective : _) → pin_text effective ≢ text.now)
-        (λ effective. pin_text effective ≡ text.now) }
+        ((effective : _) → on_off_text effective ≢ text.now)
+        (λ effective. on_off_text effective ≡ text.now) }
 {
     if is_word(text, "ON") {
         Some(true)

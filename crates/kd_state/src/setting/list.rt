@@ -1,7 +1,8 @@
 //! Lists of settings, one on each line.
 ghost use Rattle.std.specs.Prelude.{◌≡◌, MatchOption, MatchResult, Some};
 ghost use Rattle.kd_state.specs.FaultText.{list_fault_text};
-ghost use Rattle.kd_state.specs.Line.{BeginsWithLine, BeginsWithNoLine, BeginsWithSettings, IsList, IsListFault};
+ghost use Rattle.kd_state.specs.Line.{BeginsWithSettingLine, BeginsWithNoSetting, BeginsWithAllSettings, IsListText};
+ghost use Rattle.kd_state.specs.Line.{IsListFault};
 
 use crate::setting::Setting;
 use crate::words::split_once;
@@ -28,7 +29,7 @@ impl ListFault {
         ensures { result.bytes ≡ list_fault_text self.now }
     {
         match *self {
-            ListFault::BadLine(line) => Refusal::BadLine.at(line),
+            ListFault::BadLine(line) => Refusal::BadLine.text_at(line),
             ListFault::TooMany => Refusal::TooMany.text(),
         }
     }
@@ -45,7 +46,7 @@ impl fmt::Display for ListFault {
 /// Reads a list of settings: one on each line, with LF at its end, and at most 192.
 pub fn read_list(text: &[u8]) -> Result<Settings, ListFault>
     ensures { MatchResult result
-        (λ settings. IsList text.now settings.items)
+        (λ settings. IsListText text.now settings.items)
         (IsListFault text.now) }
 {
     let (settings, rest) = split_settings(text).ok_or(ListFault::TooMany)?;
@@ -62,7 +63,7 @@ pub fn read_list(text: &[u8]) -> Result<Settings, ListFault>
 pub fn split_settings(text: &[u8]) -> Option<(Settings, &[u8])>
     ensures { MatchOption result
         (IsListFault text.now ListFault.TooMany)
-        (λ found. BeginsWithSettings text.now found.0.items found.1.now) }
+        (λ found. BeginsWithAllSettings text.now found.0.items found.1.now) }
 {
     let mut settings = ArrayVec::new();
     let mut rest = text;
@@ -79,8 +80,8 @@ pub fn split_settings(text: &[u8]) -> Option<(Settings, &[u8])>
 /// Reads the first line of `text`, with its LF, as a setting; returns the setting and the rest of `text`.
 fn split_setting(text: &[u8]) -> Option<(Setting, &[u8])>
     ensures { MatchOption result
-        (BeginsWithNoLine text.now)
-        (λ found. BeginsWithLine text.now found.0 found.1.now) }
+        (BeginsWithNoSetting text.now)
+        (λ found. BeginsWithSettingLine text.now found.0 found.1.now) }
 {
     let (line, rest) = split_once(text, b'\n')?;
     Some((Setting::from_line(line)?, rest))

@@ -1,13 +1,13 @@
 //! Carries settings out on a Converter M-209.
 //!
 //! A setting that is refused changes nothing. The error is the first reason that holds.
-ghost use Rattle.kd_state.specs.Setting.{Answers, lug_place, other_lug, is_at, with_lug, Stands};
+ghost use Rattle.kd_state.specs.Setting.{IsCarryAnswer, lug_place, other_lug, is_same_place, with_lug, HasLugsInOrder};
 ghost use Rattle.std.specs.Prelude.{◌≡◌, ◌↔◌, IsSome, IfSome};
 
-use crate::counted::{numbered, set_numbered};
 use crate::machine::parts::Parts;
 use crate::machine::pin_parts::PinParts;
 use crate::machine::pin_rings::{is_on_wheel, set_pin};
+use crate::numbered_items::{numbered_item, set_numbered_item};
 use crate::setting::Setting;
 use crate::setting::why::Why;
 use kd_tables::{Letter, Lug, Place, Standing};
@@ -15,7 +15,7 @@ use kd_tables::{Letter, Lug, Place, Standing};
 impl PinParts {
     /// Carries `setting` out.
     pub(crate) fn carry(&mut self, setting: Setting) -> Result<(), Why>
-        ensures { Answers (Parts.Pin self.old) setting (Parts.Pin self.new) result }
+        ensures { IsCarryAnswer (Parts.Pin self.old) setting (Parts.Pin self.new) result }
     {
         match setting {
             Setting::Turn { slot, letter } => self.turn(slot, letter),
@@ -31,21 +31,21 @@ impl PinParts {
 
     /// Turns pin wheel `wheel` until `letter` shows.
     fn turn(&mut self, wheel: u8, letter: Letter) -> Result<(), Why>
-        ensures { Answers (Parts.Pin self.old) (Setting.Turn wheel letter)
+        ensures { IsCarryAnswer (Parts.Pin self.old) (Setting.Turn wheel letter)
             (Parts.Pin self.new) result }
     {
-        numbered(&self.letters, wheel).ok_or(Why::SlotEmpty)?;
+        numbered_item(&self.letters, wheel).ok_or(Why::SlotEmpty)?;
         if !is_on_wheel(wheel, letter) {
             return Err(Why::NotOnWheel);
         }
-        set_numbered(&mut self.letters, wheel, letter);
+        set_numbered_item(&mut self.letters, wheel, letter);
         Ok(())
     }
 
     /// Makes the pin at `letter` of pin wheel `wheel` effective, or not.
     #[tactic(auto, using(crate::proofs::Slots::on_wheels))]
     fn pin_to(&mut self, wheel: u8, letter: Letter, effective: bool) -> Result<(), Why>
-        ensures { Answers (Parts.Pin self.old) (Setting.PinTo wheel letter effective)
+        ensures { IsCarryAnswer (Parts.Pin self.old) (Setting.PinTo wheel letter effective)
             (Parts.Pin self.new) result }
     {
         if !is_on_wheel(wheel, letter) {
@@ -58,20 +58,20 @@ impl PinParts {
     /// Moves the lug `lug` of bar `bar` to `place`.
     #[tactic(auto, using(crate::proofs::Slots::is_numbered))]
     fn lug_to(&mut self, bar: u8, lug: Lug, place: Place) -> Result<(), Why>
-        ensures { Answers (Parts.Pin self.old) (Setting.LugTo bar lug place)
+        ensures { IsCarryAnswer (Parts.Pin self.old) (Setting.LugTo bar lug place)
             (Parts.Pin self.new) result }
     {
-        let Some(standing) = numbered(&self.bars, bar) else {
+        let Some(standing) = numbered_item(&self.bars, bar) else {
             return Err(Why::NoSuchBar);
         };
         let other = other_place(standing, lug);
-        if is_at(place, other) {
+        if is_same_place(place, other) {
             return Err(Why::PlaceTaken);
         }
         let Some(moved) = with_lug(standing, lug, place) else {
             return Err(Why::WouldPass);
         };
-        set_numbered(&mut self.bars, bar, moved);
+        set_numbered_item(&mut self.bars, bar, moved);
         Ok(())
     }
 }
@@ -87,15 +87,15 @@ fn other_place(standing: Standing, lug: Lug) -> Place
 }
 
 /// Whether the two places are the same.
-fn is_at(place: Place, other: Place) -> bool
-    ensures { result ≡ is_at place other }
+fn is_same_place(place: Place, other: Place) -> bool
+    ensures { result ≡ is_same_place place other }
 {
     place == other
 }
 
 /// `standing` with its lug `lug` at `place`; `None` if its left lug wouldn't be before its right lug.
 fn with_lug(standing: Standing, lug: Lug, place: Place) -> Option<Standing>
-    ensures exists { IsSome result ↔ Stands (with_lug lug place standing) }
+    ensures exists { IsSome result ↔ HasLugsInOrder (with_lug lug place standing) }
     ensures value { IfSome result (λ moved. moved ≡ with_lug lug place standing) }
 {
     match lug {

@@ -2,13 +2,13 @@
 //!
 //! A setting that is refused changes nothing. The error is the first reason that holds.
 ghost use Rattle.kd_state.specs.Machine.{IsLegalRotor};
-ghost use Rattle.kd_state.specs.Setting.{Answers};
+ghost use Rattle.kd_state.specs.Setting.{IsCarryAnswer};
 
-use crate::counted::{numbered, set_numbered};
-use crate::machine::cable::{lies_in, lies_in_any, ordered, without};
+use crate::machine::cable::{cable_in_order, cable_without, lies_in, lies_in_any};
 use crate::machine::parts::Parts;
 use crate::machine::rotor_parts::RotorParts;
 use crate::machine::seats::place_in_box;
+use crate::numbered_items::{numbered_item, set_numbered_item};
 use crate::setting::Setting;
 use crate::setting::why::Why;
 use kd_tables::{Letter, Reflector, Wheel, allowed, allowed_reflector};
@@ -17,7 +17,7 @@ impl RotorParts {
     /// Carries `setting` out.
     pub(crate) fn carry(&mut self, setting: Setting) -> Result<(), Why>
         requires { IsLegalRotor self.old }
-        ensures { Answers (Parts.Rotor self.old) setting (Parts.Rotor self.new) result }
+        ensures { IsCarryAnswer (Parts.Rotor self.old) setting (Parts.Rotor self.new) result }
     {
         match setting {
             Setting::Pull { cable, letter } => self.pull(cable, letter),
@@ -32,32 +32,32 @@ impl RotorParts {
 
     /// Takes `letter` out of cable `cable`.
     fn pull(&mut self, cable: u8, letter: Letter) -> Result<(), Why>
-        ensures { Answers (Parts.Rotor self.old) (Setting.Pull cable letter)
+        ensures { IsCarryAnswer (Parts.Rotor self.old) (Setting.Pull cable letter)
             (Parts.Rotor self.new) result }
     {
-        let ends = numbered(&self.cables, cable).ok_or(Why::NoSuchCable)?;
+        let ends = numbered_item(&self.cables, cable).ok_or(Why::NoSuchCable)?;
         if !lies_in(&ends, letter) {
             return Err(Why::NotThere);
         }
-        let rest = without(&ends, letter);
-        set_numbered(&mut self.cables, cable, rest);
+        let rest = cable_without(&ends, letter);
+        set_numbered_item(&mut self.cables, cable, rest);
         Ok(())
     }
 
     /// Puts `letter` into cable `cable`.
     fn put(&mut self, cable: u8, letter: Letter) -> Result<(), Why>
-        ensures { Answers (Parts.Rotor self.old) (Setting.Put cable letter)
+        ensures { IsCarryAnswer (Parts.Rotor self.old) (Setting.Put cable letter)
             (Parts.Rotor self.new) result }
     {
-        let ends = numbered(&self.cables, cable).ok_or(Why::NoSuchCable)?;
+        let ends = numbered_item(&self.cables, cable).ok_or(Why::NoSuchCable)?;
         if ends.0.is_some() && ends.1.is_some() {
             return Err(Why::NoLooseEnd);
         }
         if lies_in_any(&self.cables, letter) {
             return Err(Why::SocketTaken);
         }
-        let both = ordered(ends.0.or(ends.1), Some(letter));
-        set_numbered(&mut self.cables, cable, both);
+        let both = cable_in_order(ends.0.or(ends.1), Some(letter));
+        set_numbered_item(&mut self.cables, cable, both);
         Ok(())
     }
 
@@ -67,7 +67,7 @@ impl RotorParts {
     #[tactic(auto, using(crate::proofs::Wheels::lacks_wheel, std::proofs::lemmas::Bool::iff_false))]
     fn seat(&mut self, slot: u8, wheel: Wheel) -> Result<(), Why>
         requires { IsLegalRotor self.old }
-        ensures { Answers (Parts.Rotor self.old) (Setting.Seat slot wheel)
+        ensures { IsCarryAnswer (Parts.Rotor self.old) (Setting.Seat slot wheel)
             (Parts.Rotor self.new) result }
     {
         if !allowed(self.model, slot, wheel) {
@@ -80,7 +80,7 @@ impl RotorParts {
 
     /// Changes the reflector.
     fn seat_reflector(&mut self, reflector: Reflector) -> Result<(), Why>
-        ensures { Answers (Parts.Rotor self.old) (Setting.SeatReflector reflector)
+        ensures { IsCarryAnswer (Parts.Rotor self.old) (Setting.SeatReflector reflector)
             (Parts.Rotor self.new) result }
     {
         if !allowed_reflector(self.model, reflector) {
@@ -94,7 +94,7 @@ impl RotorParts {
     #[tactic(auto, using(crate::proofs::Wheels::lacks_wheel))]
     fn ring_to(&mut self, wheel: Wheel, letter: Letter) -> Result<(), Why>
         requires { IsLegalRotor self.old }
-        ensures { Answers (Parts.Rotor self.old) (Setting.RingTo wheel letter)
+        ensures { IsCarryAnswer (Parts.Rotor self.old) (Setting.RingTo wheel letter)
             (Parts.Rotor self.new) result }
     {
         let place = place_in_box(self.model, wheel).ok_or(Why::WheelNotAllowed)?;
@@ -105,10 +105,10 @@ impl RotorParts {
     /// Turns the wheel in slot `slot` until `letter` shows.
     fn turn(&mut self, slot: u8, letter: Letter) -> Result<(), Why>
         requires { IsLegalRotor self.old }
-        ensures { Answers (Parts.Rotor self.old) (Setting.Turn slot letter)
+        ensures { IsCarryAnswer (Parts.Rotor self.old) (Setting.Turn slot letter)
             (Parts.Rotor self.new) result }
     {
-        let Some(Some(wheel)) = numbered(self.slots.as_slice(), slot) else {
+        let Some(Some(wheel)) = numbered_item(self.slots.as_slice(), slot) else {
             return Err(Why::SlotEmpty);
         };
         let place = place_in_box(self.model, wheel).unwrap();

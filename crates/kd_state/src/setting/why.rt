@@ -66,6 +66,6 @@ impl Illegal {
     pub fn text(&self) -> Text
         ensures { result.bytes ≡ illegal_text self.now }
     {
-        Refusal::Illegal.with_word(self.why.name())
+        Refusal::Illegal.text_with_word(self.why.name())
     }
 }

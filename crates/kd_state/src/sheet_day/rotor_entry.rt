@@ -50,7 +50,7 @@ pub struct RotorEntry {
 }
 
 impl RotorEntry {
-    ghost use Rattle.kd_state.specs.SheetDay.{IsLegalRotorDay, AreOfAGroup};
+    ghost use Rattle.kd_state.specs.SheetDay.{IsLegalRotorDay, AreOneOfGroups};
     ghost use Rattle.kd_state.specs.Entry.{rotor_values};
 
     /// Whether a key sheet can have this day.
@@ -63,13 +63,13 @@ impl RotorEntry {
         learn_group_letters(groups);
         is_day_number(self.day)
             && allowed_reflector(self.model, self.reflector)
-            && seats::are_legal(self.model, &self.wheels.seats())
+            && seats::are_legal_seats(self.model, &self.wheels.seats())
             && Plugs::from_pairs(pairs).is_ok()
     }
 
     /// Whether `letters` are the letters of a group, in any order.
     pub(crate) fn has_group(&self, letters: [Letter; 3]) -> bool
-        ensures { IsTrue result ↔ AreOfAGroup self.now.groups.items letters }
+        ensures { IsTrue result ↔ AreOneOfGroups self.now.groups.items letters }
     {
         self.groups
             .as_slice()

@@ -1,6 +1,6 @@
 use Rattle.std.proofs.Common.{add-one, ◌+◌, ◌∙◌, count_by, is_some, None, set, false, w16, rules, arith}
 use Rattle.kd_assign.proofs.Counting.{scans_of_tree-grows, scans_of_tree-most}
-use Rattle.kd_assign.proofs.Growing.{IsSolvedTo-with_root, IsGrown-root_alone, IsGrown-with_end, outside-exists}
+use Rattle.kd_assign.proofs.Growing.{IsSolvedTo-with_root, IsGrownTree-root_alone, IsGrownTree-with_end, outside-exists}
 use Rattle.kd_assign.proofs.Places.{count-reached, count_at_most}
 use Rattle.kd_assign.proofs.Prelude.{common_steps, length-set, to_z-of_z, count_by-le-length}
 use Rattle.kd_assign.proofs.growth.assign_row.Goals as goal
@@ -12,7 +12,8 @@ loop-holders-init g c = record {
   ceilings = search rules;
   solved = search rules;
   grown =
-      IsGrown-root_alone c.requires.few c.requires.row c.requires.costs c.requires.solved (grind (arith, common_steps))
+      IsGrownTree-root_alone c.requires.few c.requires.row c.requires.costs c.requires.solved
+      (grind (arith, common_steps))
       (λ j. grind (arith, common_steps)) (search rules) c.new-nearest.ensures.far c.join.ensures.compared
       (grind (arith, common_steps)) (grind (arith, common_steps));
   scans = grind (arith, common_steps);
@@ -40,7 +41,7 @@ loop-holders-preserved g c =
       ceilings = search rules;
       solved = search rules;
       grown =
-          IsGrown-with_end so_far.solved so_far.grown c.column-column.ensures c.in-Some.is level
+          IsGrownTree-with_end so_far.solved so_far.grown c.column-column.ensures c.in-Some.is level
           c.join-in-Some.ensures.compared;
       scans = grind (arith, count-reached, set, count_by-le-length, length-set, add-one);
     }
@@ -49,7 +50,8 @@ pub returns-in-None-clause-solved : goal.returns-in-None-clause-solved
 returns-in-None-clause-solved g c =
     let so_far = c.loop-holders.invariant in
     let room = to_z-of_z w16 c.room-by.result (search rules) ∙ c.room-by.ensures in
-    IsSolvedTo-with_root so_far.solved so_far.grown c.column-column.ensures c.in-None.is room _ c.lower.ensures.lowered
+    IsSolvedTo-with_root so_far.solved so_far.grown c.column-column.ensures c.in-None.is room _
+    c.lower_prices.ensures.lowered
 
 pub returns-in-None-clause-least_scans : goal.returns-in-None-clause-least_scans
 returns-in-None-clause-least_scans g c =

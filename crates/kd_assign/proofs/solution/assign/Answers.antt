@@ -15,7 +15,8 @@ returns-clause-fits g c = grind (arith, fits)
 pub returns-clause-row_prices : goal.returns-clause-row_prices
 returns-clause-row_prices g c =
     rows_at_most _ _ (omega arith) c.loop-row.invariant.solved (omega arith) (omega arith) (omega arith) (omega arith)
-    c.columns_of-to.ensures.columns c.row_prices-row.ensures.prices c.requires.costs c.columns_of-to.ensures.one_to_one
+    c.columns_of_rows-to.ensures.columns c.row_prices-row.ensures.prices c.requires.costs
+    c.columns_of_rows-to.ensures.one_to_one
 
 pub returns-clause-col_prices : goal.returns-clause-col_prices
 returns-clause-col_prices g c = grind (arith, columns_at_most)
@@ -23,8 +24,8 @@ returns-clause-col_prices g c = grind (arith, columns_at_most)
 pub returns-clause-least : goal.returns-clause-least
 returns-clause-least g c =
     is_least _ _ (omega arith) c.loop-row.invariant.solved (omega arith) (omega arith) (omega arith) (omega arith)
-    c.columns_of-to.ensures.columns c.row_prices-row.ensures.prices c.columns_of-to.ensures.one_to_one
-    c.cost_of-total.ensures
+    c.columns_of_rows-to.ensures.columns c.row_prices-row.ensures.prices c.columns_of_rows-to.ensures.one_to_one
+    c.assignment_cost-total.ensures
 
 pub returns-clause-most_scans : goal.returns-clause-most_scans
 returns-clause-most_scans g c = grind (arith, scans_of_trees-all g.row.N)

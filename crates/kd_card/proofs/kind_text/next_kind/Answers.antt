@@ -1,6 +1,6 @@
-use Rattle.kd_card.proofs.Prelude.{◌∷◌, ◌∙◌, sym, refl, subst, eqb-true, nil_from_length, HasWords, AtOther}
-use Rattle.kd_card.proofs.Prelude.{common_steps, arith, option_copied, passed, words_behind}
-use Rattle.kd_card.proofs.Lines.{untrue, filled, no_line, stops}
+use Rattle.kd_card.proofs.Prelude.{◌∷◌, ◌∙◌, sym, refl, subst, eqb-true, nil_from_length, HasLineWords, AtOther}
+use Rattle.kd_card.proofs.Prelude.{common_steps, arith, option_copied, ThenNext-Ok, words_after_first}
+use Rattle.kd_card.proofs.Lines.{not_from_false, nonempty-by_length, no_line, MatchResult-err}
 use Rattle.kd_card.proofs.KindWords.{ends_at, unended, no_kind, words_are, low_next}
 use Rattle.kd_card.proofs.kind_text.next_kind.Goals as goal
 use Rattle.kd_card.proofs.kind_text.next_kind.Goals.{in_default-via-in-Some+else-floor-rank, in_default-via-in_default}
@@ -10,22 +10,23 @@ returns-then-is_empty c = grind (arith, common_steps, ends_at, nil_from_length, 
 
 pub returns-in_err-first : goal.returns-in_err-first
 returns-in_err-first c =
-    let some = filled c.is_empty.ensures c.if-is_empty.false in
+    let some = nonempty-by_length c.is_empty.ensures c.if-is_empty.false in
     let none = no_line some c.in_err-first.ensures in
-    stops _ _ _ _ c.from_residual.ensures.1 (unended c.args.floor some none.0, none.1)
+    MatchResult-err _ _ _ _ c.from_residual.ensures.1 (unended c.args.floor some none.0, none.1)
 
 pub returns-then-not-is_word : goal.returns-then-not-is_word
 returns-then-not-is_word c =
     ends_at c.args.floor
-    (AtOther c.in_ok-first.first.now (record { behind = _; rest = _; has = (passed c.in_ok-first.ensures).next })
-    (λ e. untrue c.is_word.ensures c.if-not-is_word.true (e ∙ sym c.text.ensures.value)))
+    (AtOther c.in_ok-first.first.now (record { behind = _; rest = _; has = (ThenNext-Ok c.in_ok-first.ensures).next })
+    (λ e. not_from_false c.is_word.ensures c.if-not-is_word.true (e ∙ sym c.text.ensures.value)))
 
 pub returns-in_default : goal.returns-in_default
 returns-in_default c =
     let word = c.is_word.ensures.0 c.if-not-is_word.false ∙ c.text.ensures.value in
     let has =
-    subst (λ w. HasWords c.args.text.now (w ∷ words_behind (option_copied c.in_ok-first.behind)) c.in_ok-first.rest.now)
-    word (passed c.in_ok-first.ensures).next in (
+    subst (λ w. HasLineWords c.args.text.now (w ∷ words_after_first (option_copied c.in_ok-first.behind))
+    c.in_ok-first.rest.now)
+    word (ThenNext-Ok c.in_ok-first.ensures).next in (
       no_kind c.args.floor (record { behind = _; rest = _; has = has }) (elim c.in_default.branch [
         | in_default-via-in-Some+else-floor-rank w ↦
             low_next has w.in-Some.ensures w.rank.ensures.value w.if-floor-rank.false

@@ -1,4 +1,4 @@
-use Rattle.kd_card.proofs.Prelude.{arith, ◌∙◌, refl, sym, ap, BadLine, PriceMissing, Refused, Found, Ok}
+use Rattle.kd_card.proofs.Prelude.{arith, ◌∙◌, refl, sym, ap, BadLine, PriceMissing, HasFault, GoesOn, Ok}
 use Rattle.kd_card.proofs.KindPrices.{all_read, has_room, reads_on}
 use Rattle.kd_card.proofs.kind_text.read_kinds.Goals as goal
 use Rattle.kd_card.proofs.kind_text.read_kinds.Goals.{then-total-number, else-total-number}
@@ -7,8 +7,8 @@ pub returns-in-Err : goal.returns-in-Err
 returns-in-Err c =
     let read = c.kind.invariant in
     let bad = c.in-Err.ensures.0 in
-    Found (read.read, c.kind.rest.now) (all_read read bad.none_more)
-    (Refused c.in-Err.fault ((λ same ends. bad.goes_on ends), c.in-Err.ensures.1 ∙ ap BadLine read.at_is) refl)
+    GoesOn (read.read, c.kind.rest.now) (all_read read bad.none_more)
+    (HasFault c.in-Err.fault ((λ same ends. bad.goes_on ends), c.in-Err.ensures.1 ∙ ap BadLine read.at_is) refl)
 
 pub kind-preserved : goal.kind-preserved
 kind-preserved c =
@@ -30,13 +30,13 @@ pub returns-then-total-number-2 : goal.returns-then-total-number-2
 returns-then-total-number-2 c =
     let read = c.kind.invariant in
     let end = rw c.in_default.is at c.in-Ok.ensures in
-    Found (read.read, c.kind.rest.now) (all_read read end.none_more)
-    (Found tt end.ends (Found tt (sym read.total_is ∙ c.if-total-number-2.true)
+    GoesOn (read.read, c.kind.rest.now) (all_read read end.none_more)
+    (GoesOn tt end.ends (GoesOn tt (sym read.total_is ∙ c.if-total-number-2.true)
     (ap (λ kinds. Ok (kinds, c.kind.rest.now)) (read.keeps (omega (arith, c.if-total-number-2.true))))))
 
 pub returns-else-total-number-2 : goal.returns-else-total-number-2
 returns-else-total-number-2 c =
     let read = c.kind.invariant in
     let end = rw c.in_default.is at c.in-Ok.ensures in
-    Found (read.read, c.kind.rest.now) (all_read read end.none_more) (Found tt end.ends
-    (Refused PriceMissing ((λ same count. c.if-total-number-2.false (read.total_is ∙ count)), refl) refl))
+    GoesOn (read.read, c.kind.rest.now) (all_read read end.none_more) (GoesOn tt end.ends
+    (HasFault PriceMissing ((λ same count. c.if-total-number-2.false (read.total_is ∙ count)), refl) refl))

@@ -1,8 +1,8 @@
-use Rattle.kd_card.proofs.{Prelude.{refl, Refused}, Lines.{stops, first_found, other_first}}
+use Rattle.kd_card.proofs.{Prelude.{refl, HasFault}, Lines.{MatchResult-err, first_found, other_first}}
 use Rattle.kd_card.proofs.price_text.first_group.Goals as goal
 
 pub returns-in_err-first : goal.returns-in_err-first
-returns-in_err-first c = stops _ _ _ _ c.from_residual.ensures.1 (Refused _ c.in_err-first.ensures refl)
+returns-in_err-first c = MatchResult-err _ _ _ _ c.from_residual.ensures.1 (HasFault _ c.in_err-first.ensures refl)
 
 pub returns-in-Some : goal.returns-in-Some
 returns-in-Some c = first_found _ c.in-Some.group c.in_ok-first.ensures c.in-Some.ensures

@@ -1,12 +1,12 @@
 use Rattle.kd_card.proofs.Prelude.{rules, ◌≡◌, ◌<◌, ◌≤◌, ◌∙◌, sym, ap, subst, unsigned_abs, Decides, w16, to_z, of_z}
 use Rattle.kd_card.proofs.Prelude.{arith, signed_decimal, then_some, to_z-of_z, ok_part}
-use Rattle.kd_card.proofs.Lines.{no_text, read_price, only_price}
+use Rattle.kd_card.proofs.Lines.{signed_decimal-not_text, read_price, only_price}
 use Rattle.kd_card.proofs.price_text.price_of_text.Goals as goal
 
 pub returns-in_err-ok : goal.returns-in_err-ok
 returns-in_err-ok c =
     rw c.from_residual.ensures
-    (no_text c.args.text.now c.from_utf8.result _ _ c.from_utf8.ensures.cases
+    (signed_decimal-not_text c.args.text.now c.from_utf8.result _ _ c.from_utf8.ensures.cases
     (sym c.ok.ensures.value ∙ c.in_err-ok.was))
 
 pub returns-in_err-price : goal.returns-in_err-price

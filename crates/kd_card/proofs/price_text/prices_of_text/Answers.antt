@@ -1,4 +1,4 @@
-use Rattle.kd_card.proofs.Prelude.{◌∙◌, Bor, List, ℕ, map, ap, sym, refl, arith, Found, rules}
+use Rattle.kd_card.proofs.Prelude.{◌∙◌, Bor, List, ℕ, map, ap, sym, refl, arith, GoesOn, rules}
 use Rattle.kd_card.proofs.Lines.{other_count, too_many, no_prices}
 use Rattle.kd_card.proofs.price_text.prices_of_text.Goals as goal
 
@@ -17,8 +17,8 @@ returns-in_default-prices_of_words c =
 pub returns-then-len-number : goal.returns-then-len-number
 returns-then-len-number c =
     let texts = ap (map (λ (word : Bor (List ℕ)). word.now)) c.as_slice.ensures.value ∙ c.in-Some.ensures in
-    Found _ (sym texts ∙ c.in-Some-prices_of_words.ensures.0, c.in-Some-prices_of_words.ensures.1)
-    (Found tt (sym c.len.ensures.value ∙ c.if-len-number.true) refl)
+    GoesOn _ (sym texts ∙ c.in-Some-prices_of_words.ensures.0, c.in-Some-prices_of_words.ensures.1)
+    (GoesOn tt (sym c.len.ensures.value ∙ c.if-len-number.true) refl)
 
 pub returns-else-len-number : goal.returns-else-len-number
 returns-else-len-number c =

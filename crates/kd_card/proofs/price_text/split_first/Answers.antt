@@ -1,10 +1,10 @@
-use Rattle.kd_card.proofs.Prelude.{◌∙◌, sym, refl, eqb-true, nil_from_length, PriceMissing, Refused, Found}
-use Rattle.kd_card.proofs.Lines.{filled, no_first_part, words_of_first, words_of_last}
+use Rattle.kd_card.proofs.Prelude.{◌∙◌, sym, refl, eqb-true, nil_from_length, PriceMissing, HasFault, GoesOn}
+use Rattle.kd_card.proofs.Lines.{nonempty-by_length, no_first_part, words_of_first, words_of_last}
 use Rattle.kd_card.proofs.price_text.split_first.Goals as goal
 
 pub returns-then-is_empty : goal.returns-then-is_empty
 returns-then-is_empty c =
-    Refused PriceMissing (
+    HasFault PriceMissing (
       (λ same some. some
           (nil_from_length c.args.text.now (eqb-true _ 0 (sym c.is_empty.ensures ∙ c.if-is_empty.true)))),
       refl,
@@ -12,12 +12,12 @@ returns-then-is_empty c =
 
 pub returns-in_default : goal.returns-in_default
 returns-in_default c =
-    Found tt (filled c.is_empty.ensures c.if-is_empty.false)
+    GoesOn tt (nonempty-by_length c.is_empty.ensures c.if-is_empty.false)
     ((λ found has. no_first_part has.first c.in_default.ensures), refl)
 
 pub returns-in-Some-split_once : goal.returns-in-Some-split_once
 returns-in-Some-split_once c =
-    Found tt (filled c.is_empty.ensures c.if-is_empty.false) (record {
+    GoesOn tt (nonempty-by_length c.is_empty.ensures c.if-is_empty.false) (record {
       line = c.in-Some.words.now;
       first = c.in-Some.ensures;
       parts = words_of_first c.in-Some-split_once.ensures;
@@ -25,7 +25,7 @@ returns-in-Some-split_once c =
 
 pub returns-in-None : goal.returns-in-None
 returns-in-None c =
-    Found tt (filled c.is_empty.ensures c.if-is_empty.false) (record {
+    GoesOn tt (nonempty-by_length c.is_empty.ensures c.if-is_empty.false) (record {
       line = c.in-Some.words.now;
       first = c.in-Some.ensures;
       parts = words_of_last c.in-Some.words.now c.in-None.ensures;

@@ -1,50 +1,50 @@
 use Rattle.kd_card.proofs.Prelude.{rules, ◌∙◌, sym, refl, w32, eqb-true, to_z-of_z, nil_from_length, BadHead, TooMany}
-use Rattle.kd_card.proofs.Prelude.{Trailing, Refused, Found}
-use Rattle.kd_card.proofs.{Lines.{filled, stops}, OneCard.{up_to_settings, card_said}}
+use Rattle.kd_card.proofs.Prelude.{Trailing, HasFault, GoesOn}
+use Rattle.kd_card.proofs.{Lines.{nonempty-by_length, MatchResult-err}, OneCard.{up_to_settings, card_said}}
 use Rattle.kd_card.proofs.read.read_card.Goals as goal
 
 pub returns-in_default : goal.returns-in_default
-returns-in_default c = Refused BadHead ((λ head begins. c.in_default.ensures head.0 head.1 head.2 begins), refl) refl
+returns-in_default c = HasFault BadHead ((λ head begins. c.in_default.ensures head.0 head.1 head.2 begins), refl) refl
 
 pub returns-in_default-split_settings : goal.returns-in_default-split_settings
 returns-in_default-split_settings c =
-    Found _ c.in-Some.ensures (Refused TooMany (c.in_default-split_settings.ensures, refl) refl)
+    GoesOn _ c.in-Some.ensures (HasFault TooMany (c.in_default-split_settings.ensures, refl) refl)
 
 pub returns-in_err-rest : goal.returns-in_err-rest
 returns-in_err-rest c =
-    stops _ _ _ _ c.from_residual.ensures.1
+    MatchResult-err _ _ _ _ c.from_residual.ensures.1
     (up_to_settings c.in-Some.ensures c.in-Some-split_settings.ensures c.len-count.ensures.value
-    (Refused _ c.in_err-rest.ensures refl))
+    (HasFault _ c.in_err-rest.ensures refl))
 
 pub returns-in_err-prices : goal.returns-in_err-prices
 returns-in_err-prices c =
-    stops _ _ _ _ c.from_residual-in_err-prices.ensures.1
+    MatchResult-err _ _ _ _ c.from_residual-in_err-prices.ensures.1
     (up_to_settings c.in-Some.ensures c.in-Some-split_settings.ensures c.len-count.ensures.value
-    (Found _ c.in_ok-rest.ensures (Refused _ c.in_err-prices.ensures refl)))
+    (GoesOn _ c.in_ok-rest.ensures (HasFault _ c.in_err-prices.ensures refl)))
 
 pub returns-in_err-rest-2 : goal.returns-in_err-rest-2
 returns-in_err-rest-2 c =
     let sum = to_z-of_z w32 c.sum.result (search rules) ∙ c.sum.ensures in
-    stops _ _ _ _ c.from_residual-in_err-rest-2.ensures.1
+    MatchResult-err _ _ _ _ c.from_residual-in_err-rest-2.ensures.1
     (up_to_settings c.in-Some.ensures c.in-Some-split_settings.ensures c.len-count.ensures.value
-    (Found _ c.in_ok-rest.ensures
-    (Found _ c.in_ok-prices.ensures (Refused _ (rw (sum, c.line_count.ensures.value) at c.in_err-rest-2.ensures)
+    (GoesOn _ c.in_ok-rest.ensures
+    (GoesOn _ c.in_ok-prices.ensures (HasFault _ (rw (sum, c.line_count.ensures.value) at c.in_err-rest-2.ensures)
     refl))))
 
 pub returns-then-not-is_empty : goal.returns-then-not-is_empty
 returns-then-not-is_empty c =
     let sum = to_z-of_z w32 c.sum.result (search rules) ∙ c.sum.ensures in
     up_to_settings c.in-Some.ensures c.in-Some-split_settings.ensures c.len-count.ensures.value
-    (Found _ c.in_ok-rest.ensures (Found _ c.in_ok-prices.ensures
-    (Found c.in_ok-rest-2.rest.now (rw (sum, c.line_count.ensures.value) at c.in_ok-rest-2.ensures)
-    (Refused Trailing ((λ same. filled c.is_empty.ensures c.if-not-is_empty.true), refl) refl))))
+    (GoesOn _ c.in_ok-rest.ensures (GoesOn _ c.in_ok-prices.ensures
+    (GoesOn c.in_ok-rest-2.rest.now (rw (sum, c.line_count.ensures.value) at c.in_ok-rest-2.ensures)
+    (HasFault Trailing ((λ same. nonempty-by_length c.is_empty.ensures c.if-not-is_empty.true), refl) refl))))
 
 pub returns : goal.returns
 returns c =
     let sum = to_z-of_z w32 c.sum.result (search rules) ∙ c.sum.ensures in
     card_said (c.in-Some.day, c.in-Some-split_settings.settings.items, c.in_ok-prices.prices)
     (up_to_settings c.in-Some.ensures c.in-Some-split_settings.ensures c.len-count.ensures.value
-    (Found _ c.in_ok-rest.ensures (Found _ c.in_ok-prices.ensures
-    (Found c.in_ok-rest-2.rest.now (rw (sum, c.line_count.ensures.value) at c.in_ok-rest-2.ensures)
-    (Found tt (nil_from_length c.in_ok-rest-2.rest.now
+    (GoesOn _ c.in_ok-rest.ensures (GoesOn _ c.in_ok-prices.ensures
+    (GoesOn c.in_ok-rest-2.rest.now (rw (sum, c.line_count.ensures.value) at c.in_ok-rest-2.ensures)
+    (GoesOn tt (nil_from_length c.in_ok-rest-2.rest.now
     (eqb-true _ 0 (sym c.is_empty.ensures ∙ c.if-not-is_empty.false))) refl)))))

@@ -1,28 +1,28 @@
-use Rattle.kd_card.proofs.Prelude.{◌∷◌, ◌++◌, ◌∙◌, refl, ap, subst, IsNumeral, Refused, Found}
-use Rattle.kd_card.proofs.Lines.{same_values, untrue, numeral_word, value_says}
+use Rattle.kd_card.proofs.Prelude.{◌∷◌, ◌++◌, ◌∙◌, refl, ap, subst, IsNumeral, HasFault, GoesOn}
+use Rattle.kd_card.proofs.Lines.{same_values, not_from_false, numeral_word, value_says}
 use Rattle.kd_card.proofs.read.read_value.Goals as goal
 
 pub returns-in_default : goal.returns-in_default
 returns-in_default c =
-    Refused _
+    HasFault _
     ((λ found is. c.in_default.ensures found.0 found.1 (numeral_word c.args.signed found.0 is.0).unbroken is.1), refl)
     refl
 
 pub returns-then-not-is_numeral : goal.returns-then-not-is_numeral
 returns-then-not-is_numeral c =
-    Refused _ (
+    HasFault _ (
       (λ found is.
           let free = (numeral_word c.args.signed found.0 is.0).unbroken in
           let same = same_values c.args.front.now free c.in-Some.ensures.1 is.1 c.in-Some.ensures.0 in
-          untrue c.is_numeral.ensures c.if-not-is_numeral.true (subst (IsNumeral c.args.signed) same.0 is.0)),
+          not_from_false c.is_numeral.ensures c.if-not-is_numeral.true (subst (IsNumeral c.args.signed) same.0 is.0)),
       refl,
     ) refl
 
 pub returns-then-not-is_word : goal.returns-then-not-is_word
 returns-then-not-is_word c =
-    Found (c.in-Some.number.now, c.in-Some.rest.now)
+    GoesOn (c.in-Some.number.now, c.in-Some.rest.now)
     (c.is_numeral.ensures.0 c.if-not-is_numeral.false, c.in-Some.ensures.0)
-    (Refused _ ((λ same. untrue c.is_word.ensures c.if-not-is_word.true), refl) refl)
+    (HasFault _ ((λ same. not_from_false c.is_word.ensures c.if-not-is_word.true), refl) refl)
 
 pub returns : goal.returns
 returns c =

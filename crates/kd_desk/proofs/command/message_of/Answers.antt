@@ -12,6 +12,6 @@ pub returns-clause-said : goal.returns-clause-said
 returns-clause-said c =
     let found = found_of c.args.words.now in
     let file =
-    ap (λ word. first_of word (rows_of found)) (sym c.word.ensures)
-    ∙ read_some found c.word.result.now c.get_str.result c.in_ok-file.file c.get_str.ensures (search rules) in
+    ap (λ word. first_of word (rows_of found)) (sym c.file_word.ensures)
+    ∙ read_some found c.file_word.result.now c.get_str.result c.in_ok-file.file c.get_str.ensures (search rules) in
     record { name = refl; words = (c.in_ok-sheet.ensures.said, file) }

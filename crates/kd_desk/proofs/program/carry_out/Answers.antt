@@ -9,7 +9,7 @@ returns-in-Type-clause-does g c =
       left = nothing_left;
       told = c.run_type.result;
       does = record { refused = run.refused; typed = run.typed };
-      answers = c.after.ensures;
+      answers = c.of_answer.ensures;
     })
 
 pub returns-in-Apply-clause-does : goal.returns-in-Apply-clause-does
@@ -19,7 +19,7 @@ returns-in-Apply-clause-does g c =
       left = nothing_left;
       told = c.run_apply.result;
       does = (record { refused = run.refused; applied = run.applied }, record { has = refl; well = refl });
-      answers = c.after-in-Apply.ensures;
+      answers = c.of_answer-in-Apply.ensures;
     })
 
 pub returns-clause-failed : goal.returns-clause-failed

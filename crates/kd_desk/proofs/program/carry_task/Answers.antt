@@ -1,4 +1,4 @@
-use Rattle.kd_desk.proofs.{Prelude.false, Prelude.opened, Runs.{nothing_left, refused_before}}
+use Rattle.kd_desk.proofs.{Prelude.false, Prelude.known_file, Runs.{nothing_left, refused_before}}
 use Rattle.kd_desk.proofs.program.carry_task.Goals as goal
 
 pub returns-in-Card-clause-does : goal.returns-in-Card-clause-does
@@ -8,7 +8,7 @@ returns-in-Card-clause-does g c =
       left = nothing_left;
       told = c.run_card.result;
       does = c.run_card.ensures.card;
-      answers = c.after.ensures;
+      answers = c.of_answer.ensures;
     })
 
 pub returns-in-Check-clause-does : goal.returns-in-Check-clause-does
@@ -18,26 +18,26 @@ returns-in-Check-clause-does g c =
       left = nothing_left;
       told = c.run_check.result;
       does = c.run_check.ensures.checks;
-      answers = c.after-in-Check.ensures;
+      answers = c.of_answer-in-Check.ensures;
     })
 
 pub returns-in-Message-clause-does : goal.returns-in-Message-clause-does
 returns-in-Message-clause-does g c =
     rw c.in-Message.is (record {
-      left = opened g.O.Source.remaining g.O.Source.has_failed c.carry_message-done.new.file;
+      left = known_file g.O.Source.remaining g.O.Source.has_failed c.carry_message-done.new.file;
       told = c.carry_message-done.result;
       does = c.carry_message-done.ensures.does;
-      answers = rw c.failed.ensures at c.after_file.ensures;
+      answers = rw c.failed.ensures at c.of_file_answer.ensures;
     })
 
 pub returns-in-Card-clause-untouched : goal.returns-in-Card-clause-untouched
 returns-in-Card-clause-untouched g c =
-    λ early. c.run_card.ensures.untouched (refused_before false _ _ c.after.ensures early)
+    λ early. c.run_card.ensures.untouched (refused_before false _ _ c.of_answer.ensures early)
 
 pub returns-in-Check-clause-untouched : goal.returns-in-Check-clause-untouched
 returns-in-Check-clause-untouched g c =
-    λ early. c.run_check.ensures.untouched (refused_before false _ _ c.after-in-Check.ensures early)
+    λ early. c.run_check.ensures.untouched (refused_before false _ _ c.of_answer-in-Check.ensures early)
 
 pub returns-in-Message-clause-untouched : goal.returns-in-Message-clause-untouched
 returns-in-Message-clause-untouched g c =
-    λ early. (c.carry_message-done.ensures.untouched (refused_before _ _ _ c.after_file.ensures early)).1
+    λ early. (c.carry_message-done.ensures.untouched (refused_before _ _ _ c.of_file_answer.ensures early)).1

@@ -1,4 +1,4 @@
-use Rattle.kd_desk.proofs.{Prelude.{arith, named}, Runs.{asked_all, asked_yet, said_command, done, unread}}
+use Rattle.kd_desk.proofs.{Prelude.{arith, unborrowed_command}, Runs.{asked_all, asked_yet, said_command, done, unread}}
 use Rattle.kd_desk.proofs.program.carry_words.Goals as goal
 
 pub returns-in_err-command-2-clause-carried : goal.returns-in_err-command-2-clause-carried
@@ -15,16 +15,16 @@ returns-clause-asked g c = grind (arith, said_command, asked_all)
 
 pub returns-in_err-command-2-clause-other_words : goal.returns-in_err-command-2-clause-other_words
 returns-in_err-command-2-clause-other_words g c =
-    λ none. absurd (none (named c.in_ok-command.command) c.in_ok-command.ensures.said)
+    λ none. absurd (none (unborrowed_command c.in_ok-command.command) c.in_ok-command.ensures.said)
 
 pub returns-in_err-command-2-clause-none_asked : goal.returns-in_err-command-2-clause-none_asked
 returns-in_err-command-2-clause-none_asked g c =
-    λ none. absurd (none (named c.in_ok-command.command) c.in_ok-command.ensures.said)
+    λ none. absurd (none (unborrowed_command c.in_ok-command.command) c.in_ok-command.ensures.said)
 
 pub returns-clause-other_words : goal.returns-clause-other_words
 returns-clause-other_words g c =
-    λ none. absurd (none (named c.in_ok-command.command) c.in_ok-command.ensures.said)
+    λ none. absurd (none (unborrowed_command c.in_ok-command.command) c.in_ok-command.ensures.said)
 
 pub returns-clause-none_asked : goal.returns-clause-none_asked
 returns-clause-none_asked g c =
-    λ none. absurd (none (named c.in_ok-command.command) c.in_ok-command.ensures.said)
+    λ none. absurd (none (unborrowed_command c.in_ok-command.command) c.in_ok-command.ensures.said)

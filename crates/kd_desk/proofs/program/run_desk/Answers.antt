@@ -14,5 +14,5 @@ returns g c =
         untouched = run.untouched;
         failed = run.failed;
       };
-      ends = c.end.ensures;
+      ends = c.end_program.ensures;
     }

@@ -1,5 +1,5 @@
-use Rattle.kd_desk.proofs.Prelude.{refl, rules, NoCard, Other, Doubtful, ◌≡◌}
-use Rattle.kd_desk.proofs.{Checking.told, Failing.err_is, Failing.in_part, Failing.in_whole}
+use Rattle.kd_desk.proofs.Prelude.{refl, rules, NoCard, ForOtherDay, Doubtful, ◌≡◌}
+use Rattle.kd_desk.proofs.{Checking.IsVerdictWritten-proved, Failing.err_is, Failing.in_part, Failing.in_whole}
 use Rattle.kd_desk.proofs.run_check.check_card.Goals as goal
 
 pub returns-in_err-dated-clause-checks : goal.returns-in_err-dated-clause-checks
@@ -7,7 +7,7 @@ returns-in_err-dated-clause-checks g c = NoCard _ c.in_err-dated.ensures (err_is
 
 pub returns-then-dated-number-clause-checks : goal.returns-then-dated-number-clause-checks
 returns-then-dated-number-clause-checks g c =
-    Other c.in_ok-dated.dated c.in_ok-dated.card.settings.items c.in_ok-dated.card.prices c.in_ok-dated.ensures
+    ForOtherDay c.in_ok-dated.dated c.in_ok-dated.card.settings.items c.in_ok-dated.card.prices c.in_ok-dated.ensures
     (search rules) refl
 
 pub returns-in_err-check-clause-checks : goal.returns-in_err-check-clause-checks
@@ -18,12 +18,12 @@ returns-in_err-check-clause-checks g c =
 
 pub returns-in_err-write_verdict-clause-checks : goal.returns-in_err-write_verdict-clause-checks
 returns-in_err-write_verdict-clause-checks g c =
-    told _ _ _ _ _ _ (search rules) (search rules)
+    IsVerdictWritten-proved _ _ _ _ _ _ (search rules) (search rules)
     _ _ _ c.len.result c.in_ok-dated.ensures (search rules) (c.in_ok-check.ensures.proves.0 refl) (search rules)
     (in_part _ _ _ c.in_err-write_verdict.ensures.text.front c.from_residual-in_err-write_verdict.ensures.1)
 
 pub returns-clause-checks : goal.returns-clause-checks
 returns-clause-checks g c =
-    told _ _ _ _ _ _ (search rules) (search rules)
+    IsVerdictWritten-proved _ _ _ _ _ _ (search rules) (search rules)
     _ _ _ c.len.result c.in_ok-dated.ensures (search rules) (c.in_ok-check.ensures.proves.0 refl) (search rules)
     (in_whole _ _ c.in_ok-write_verdict.ensures.text.whole)

@@ -1,4 +1,5 @@
-use Rattle.kd_desk.proofs.{Days.not_found, Days.on_day, Receiving.tell_of_orders, Streaming.{fails, off_key, passed_on}}
+use Rattle.kd_desk.proofs.{Days.not_found, Days.on_day, Receiving.tell_of_orders}
+use Rattle.kd_desk.proofs.{Streaming.{FailureAgrees-passed_on, off_key, passed_on}}
 use Rattle.kd_desk.proofs.run_receive.run_receive.Goals as goal
 
 pub returns-in_err-machine-clause-receives : goal.returns-in_err-machine-clause-receives
@@ -21,4 +22,5 @@ returns-clause-untouched g c =
     λ before. c.receive_stream.ensures.untouched (off_key _ _ (passed_on _ _ c.map_err.ensures.cases) before)
 
 pub returns-clause-failed : goal.returns-clause-failed
-returns-clause-failed g c = fails _ _ _ _ (passed_on _ _ c.map_err.ensures.cases) c.receive_stream.ensures.failed
+returns-clause-failed g c = FailureAgrees-passed_on _ _ _ _ (passed_on _ _ c.map_err.ensures.cases)
+    c.receive_stream.ensures.failed

@@ -1,4 +1,4 @@
-use Rattle.kd_desk.proofs.{Days.not_found, Days.on_day, Streaming.{fails, off_key, passed_on}}
+use Rattle.kd_desk.proofs.{Days.not_found, Days.on_day, Streaming.{FailureAgrees-passed_on, off_key, passed_on}}
 use Rattle.kd_desk.proofs.run_send.run_send.Goals as goal
 
 pub returns-in_err-machine-clause-sends : goal.returns-in_err-machine-clause-sends
@@ -19,4 +19,5 @@ returns-clause-untouched g c =
     λ before. c.send_stream.ensures.untouched (off_key _ _ (passed_on _ _ c.map_err.ensures.cases) before)
 
 pub returns-clause-failed : goal.returns-clause-failed
-returns-clause-failed g c = fails _ _ _ _ (passed_on _ _ c.map_err.ensures.cases) c.send_stream.ensures.failed
+returns-clause-failed g c = FailureAgrees-passed_on _ _ _ _ (passed_on _ _ c.map_err.ensures.cases)
+    c.send_stream.ensures.failed

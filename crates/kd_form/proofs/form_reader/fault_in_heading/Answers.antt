@@ -1,4 +1,5 @@
-use Rattle.kd_form.proofs.FormSteps.{off, [], inl, inr, refl, ◌∙◌, arith, IsTrue, All-nil, is_text_byte}
+use Rattle.kd_form.proofs.FormSteps.{IsHeadingFault-IsEarlyFault, [], inl, inr, refl, ◌∙◌, arith, IsTrue, All-nil}
+use Rattle.kd_form.proofs.FormSteps.{is_text_byte}
 use Rattle.kd_form.proofs.form_reader.fault_in_heading.Goals as goal
 
 pub returns-in-Ok : goal.returns-in-Ok
@@ -18,5 +19,6 @@ returns-in-Ok c = λ part held start.
 
 pub returns-in-Err : goal.returns-in-Err
 returns-in-Err c = λ part held start.
-    inl (off _ c.args.number _ start part _ _ (c.heading_of_open-heading.ensures part held.unbroken
+    inl (IsHeadingFault-IsEarlyFault _ c.args.number _ start part _ _
+    (c.heading_of_open-heading.ensures part held.unbroken
     (c.as_slice.ensures.value ∙ held.kept)) c.in-Err.ensures)

@@ -9,10 +9,15 @@ returns-in-Rotor c =
       _,
       refl,
       rw (c.indicator_of-indicator.ensures.value, shown, own, c.new-own.ensures)
-          at c.text_of.ensures,
+          at c.part_text.ensures,
     )
 
 pub returns-in-Pin : goal.returns-in-Pin
 returns-in-Pin c =
     let (internal, first, made) = rw c.new-own.ensures at c.pin_letters-letters.ensures.value in
-    rw c.in-Pin.is (_, (internal, first, refl), rw (c.as_slice-in-Pin.ensures.value, made) at c.text_of-in-Pin.ensures)
+    rw c.in-Pin.is (
+      _,
+      (internal, first, refl),
+      rw (c.as_slice-in-Pin.ensures.value, made) at
+          c.part_text-in-Pin.ensures,
+    )

@@ -1,30 +1,30 @@
 use Rattle.kd_form.proofs.MadeParts.{list_told, inl, inr, refl, ◌∙◌, ap, Ok}
-use Rattle.kd_form.proofs.Prelude.{list_in, sym}
+use Rattle.kd_form.proofs.Prelude.{list_of_body, sym}
 use Rattle.std.proofs.lemmas.{Bool.{Decides.Decides-eqb, not-false}, Slice.Eq.slice_eq-Decides}
 use Rattle.kd_form.proofs.part_letters.read_pin_letters.Goals as goal
 
 pub returns-in-Some : goal.returns-in-Some
 returns-in-Some c =
-    let keys = c.keys_in-keys.ensures in
+    let keys = c.keys_of_body-keys.ensures in
     let around = c.has_indicators_around.ensures.0 c.if-not-has_indicators_around.false in
     let on_wheels = rw (c.new-own.ensures, keys) at (c.can_show.ensures.window.0 c.if-not-can_show.false) in
-    let equal = slice_eq-Decides Decides-eqb (list_in c.args.letters.now) c.unwrap-due.result _ refl in
+    let equal = slice_eq-Decides Decides-eqb (list_of_body c.args.letters.now) c.unwrap-due.result _ refl in
     let listed =
     equal.0 (not-false _ (sym c.ne.ensures ∙ c.if-ne.false))
     ∙ list_told _ _ _ c.list.ensures c.unwrap-due.ensures in
     let own = c.can_show.ensures.day ∙ c.new-own.ensures in
     let first = rw (own, keys) at c.in-Some.ensures.key in
-    let is = rw (c.internal_key_of.ensures.day ∙ own, c.as_slice.ensures.value) at c.enciphered.ensures.text in
+    let is = rw (c.internal_key_of.ensures.day ∙ own, c.as_slice.ensures.value) at c.encipher_text.ensures.text in
     inr (around, inr (on_wheels, inr (listed, inr (c.in-Some.internal.items, first, ap Ok is))))
 
 pub returns-in-None : goal.returns-in-None
 returns-in-None c =
     let around = c.has_indicators_around.ensures.0 c.if-not-has_indicators_around.false in
     let on_wheels =
-    rw (c.new-own.ensures, c.keys_in-keys.ensures) at (c.can_show.ensures.window.0 c.if-not-can_show.false) in
-    let equal = slice_eq-Decides Decides-eqb (list_in c.args.letters.now) c.unwrap-due.result _ refl in
+    rw (c.new-own.ensures, c.keys_of_body-keys.ensures) at (c.can_show.ensures.window.0 c.if-not-can_show.false) in
+    let equal = slice_eq-Decides Decides-eqb (list_of_body c.args.letters.now) c.unwrap-due.result _ refl in
     let listed =
     equal.0 (not-false _ (sym c.ne.ensures ∙ c.if-ne.false))
     ∙ list_told _ _ _ c.list.ensures c.unwrap-due.ensures in
-    let spent = rw (c.can_show.ensures.day ∙ c.new-own.ensures, c.keys_in-keys.ensures) at c.in-None.ensures.key in
+    let spent = rw (c.can_show.ensures.day ∙ c.new-own.ensures, c.keys_of_body-keys.ensures) at c.in-None.ensures.key in
     inr (around, inr (on_wheels, inr (listed, inl (spent, refl))))

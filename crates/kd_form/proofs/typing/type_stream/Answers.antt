@@ -1,9 +1,10 @@
 use Rattle.kd_form.proofs.Streaming.{err_is, typed_held, [], refl, sym, ap, ◌∙◌, All-nil, IsTrue, is_text_byte}
-use Rattle.kd_form.proofs.Streaming.{letters_text, typed_letters, cipher, engine_cipher, false≢true, NotReady, Off}
+use Rattle.kd_form.proofs.Streaming.{letters_text, typed_letters, cipher, engine_cipher, false≢true, NotReady}
+use Rattle.kd_form.proofs.Streaming.{FaultBefore}
 use Rattle.kd_form.proofs.typing.type_stream.Goals as goal
 
-pub stream-requires : goal.stream-requires
-stream-requires g c =
+pub stream_message-requires : goal.stream_message-requires
+stream_message-requires g c =
     typed_held c.args.machine.now _ [] [] (record {
       counted = refl;
       allowed = All-nil (λ b. IsTrue (is_text_byte b));
@@ -14,5 +15,5 @@ stream-requires g c =
 pub returns-in_err-engine-clause-streamed : goal.returns-in_err-engine-clause-streamed
 returns-in_err-engine-clause-streamed g c =
     rw (err_is _ _ c.from_residual.ensures.1)
-    (Off NotReady (λ ready. false≢true (c.in_err-engine.ensures.ready.1 ready), refl) refl
+    (FaultBefore NotReady (λ ready. false≢true (c.in_err-engine.ensures.ready.1 ready), refl) refl
     (record { has = refl; well = refl }) (record { has = refl; well = refl }))

@@ -6,22 +6,23 @@ pub use Rattle.kd_card.specs.Loose.{loose_lines}
 pub use Rattle.kd_card.specs.Proving.{priced_count}
 pub use Rattle.kd_plan.proofs.Planning.Moving.Cables.{All, Cable, Column, In, IsMachine, List, None, OfPins, OfRotors}
 pub use Rattle.kd_plan.proofs.Planning.Moving.Cables.{Parts, Pin, PinParts, Put, Rotor, RotorDay, RotorParts, Setting}
-pub use Rattle.kd_plan.proofs.Planning.Moving.Cables.{[], ap, arith, besides, cable_letters, column_at, column_letters}
-pub use Rattle.kd_plan.proofs.Planning.Moving.Cables.{count_by, false, filter, is_priced, length, letters_apart}
-pub use Rattle.kd_plan.proofs.Planning.Moving.Cables.{letters_due, lines_from, moves_of, nat_lt, nat_tests, not}
-pub use Rattle.kd_plan.proofs.Planning.Moving.Cables.{planned_lines, refl, set, subst, suc, sum_by-cons, sym, true}
-pub use Rattle.kd_plan.proofs.Planning.Moving.Cables.{why_refused, zero, ℕ, ◌+◌, ◌-◌, ◌<◌, ◌∙◌, ◌∷◌, ◌≡◌, ◌≤◌}
-pub use Rattle.kd_plan.specs.ComeLast.{SparesComeLast, comes_before, is_spare_at}
+pub use Rattle.kd_plan.proofs.Planning.Moving.Cables.{[], ap, arith, cables_with_columns, cable_letters, column_at}
+pub use Rattle.kd_plan.proofs.Planning.Moving.Cables.{column_letters, count_by, false, filter, is_priced_setting}
+pub use Rattle.kd_plan.proofs.Planning.Moving.Cables.{length, letters_outside, pair_letters_in_order, lines_from}
+pub use Rattle.kd_plan.proofs.Planning.Moving.Cables.{cable_moves, nat_lt, nat_tests, not, planned_lines, refl, set}
+pub use Rattle.kd_plan.proofs.Planning.Moving.Cables.{subst, suc, sum_by-cons, sym, true, why_refused, zero, ℕ, ◌+◌}
+pub use Rattle.kd_plan.proofs.Planning.Moving.Cables.{◌-◌, ◌<◌, ◌∙◌, ◌∷◌, ◌≡◌, ◌≤◌}
+pub use Rattle.kd_plan.specs.SparesLast.{SparesComeLast, comes_before, is_spare_at}
 pub use Rattle.kd_plan.specs.FewCables.{FewCablesServe, NamesNoneAbove, UsesNoneAbove}
 pub use Rattle.kd_plan.specs.Spares.{SparesStayFree, is_spare, spare_count, spares_needed}
-pub use Rattle.kd_plan.specs.declared.cable_lines.Direction.TheVariants.{Out}
+pub use Rattle.kd_plan.specs.declared.cable_lines.CableMove.TheVariants.{Out}
 pub use Rattle.kd_state.proofs.CostTable.{columns_are_the_pairs}
-pub use Rattle.kd_state.proofs.Slots.{numbered_other, stands}
-pub use Rattle.kd_state.specs.Costs.{cable_cost, cable_costs, columns_of, differ, lies_in_one}
+pub use Rattle.kd_state.proofs.Slots.{numbered_other, IsNumbered-not_none}
+pub use Rattle.kd_state.specs.Costs.{cable_cost, cable_costs, columns_of, exactly_one, lies_in_exactly_one}
 pub use Rattle.kd_state.specs.Machine.{model_of}
-pub use Rattle.kd_state.specs.Setting.{Leads, cable_at, changed, has_letter}
+pub use Rattle.kd_state.specs.Setting.{Leads, cable_at, machine_after, has_letter}
 pub use Rattle.kd_state.specs.SheetDay.{Day, IsLegalDay, day_model}
-pub use Rattle.kd_state.specs.ToldApart.{numbered}
+pub use Rattle.kd_state.specs.SameParts.{numbered_item}
 pub use Rattle.kd_state.specs.declared.setting.Setting.TheVariants.{Pull}
 pub use Rattle.kd_tables.specs.Permutation.{alphabet}
 pub use Rattle.std.proofs.Common.{AllPairs, Bool, IsPermutation, Option, Some, cond, get_or, inl, inr, ltb-true, map}
@@ -67,19 +68,21 @@ sums_within : {X : Type 0} (f g h k : X → ℕ) → ((x : X) → f x + g x ≤ 
 sums_within f g h k e [] = omega arith
 sums_within f g h k e (x ∷ xs) = simp sum_by-cons (omega (arith, e x, sums_within f g h k e xs))
 
-one_letter : (p q : Bool)
-    → cond {A = ℕ} (differ false false) 1 0 + cond (differ p q) 1 0
-    ≤ cond (differ false q) 1 0 + cond (differ p false) 1 0
-one_letter p q = grind arith
+cond-exchanged : (p q : Bool)
+    → cond {A = ℕ} (exactly_one false false) 1 0 + cond (exactly_one p q) 1 0
+    ≤ cond (exactly_one false q) 1 0 + cond (exactly_one p false) 1 0
+cond-exchanged p q = grind arith
 
 -- The other cable becomes the pair of the spare one, and the spare one becomes a nothing.
-exchanged : (spare cable : Cable) (column : Column) → is_spare spare ≡ true
+cable_cost-exchanged : (spare cable : Cable) (column : Column) → is_spare spare ≡ true
     → cable_cost spare None + cable_cost cable column ≤ cable_cost spare column + cable_cost cable None
-exchanged (None, None) cable column h =
-    sums_within (λ y. cond (lies_in_one (None, None) None y) 1 0) (λ y. cond (lies_in_one cable column y) 1 0)
-    (λ y. cond (lies_in_one (None, None) column y) 1 0) (λ y. cond (lies_in_one cable None y) 1 0) (λ y. one_letter _ _)
+cable_cost-exchanged (None, None) cable column h =
+    sums_within (λ y. cond (lies_in_exactly_one (None, None) None y) 1 0)
+    (λ y. cond (lies_in_exactly_one cable column y) 1 0)
+    (λ y. cond (lies_in_exactly_one (None, None) column y) 1 0) (λ y. cond (lies_in_exactly_one cable None y) 1 0)
+    (λ y. cond-exchanged _ _)
     alphabet
-exchanged _ cable column h = absurd (cc)
+cable_cost-exchanged _ cable column h = absurd (cc)
 
 abbrev cable_of : List Cable → ℕ → Cable
 cable_of cables place = get_or cables place (None, None)
@@ -107,7 +110,7 @@ costs_no_more cables pairs xs ys spare place many size once swapped a b empty ta
     let low = once.in_range spare 0 (omega arith) in
     let high = once.in_range place 0 (omega arith) in
     let nothing : column_at pairs v ≡ None = columns_are_the_pairs pairs v ∙ slice_get_past pairs v none in
-    let gain = exchanged (cable_of cables spare) (cable_of cables place) (column_at pairs u) empty in
+    let gain = cable_cost-exchanged (cable_of cables spare) (cable_of cables place) (column_at pairs u) empty in
     let one = cost_is cables pairs spare u (omega arith) (omega arith) in
     let two = cost_is cables pairs spare v (omega arith) (omega arith) ∙ ap
     (λ column. cable_cost (cable_of cables spare) column) nothing in

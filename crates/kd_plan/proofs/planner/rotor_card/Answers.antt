@@ -1,9 +1,9 @@
-use Rattle.kd_plan.proofs.FewCables.Sparing.{spared}
+use Rattle.kd_plan.proofs.FewCables.Sparing.{SparesStayFree-planned}
 use Rattle.kd_plan.proofs.planner.rotor_card.Goals as goal
 
 pub returns-clause-spares : goal.returns-clause-spares
 returns-clause-spares c =
-    spared _ _ _ _ _ c.requires.machine c.requires.legal c.requires.model
+    SparesStayFree-planned _ _ _ _ _ c.requires.machine c.requires.legal c.requires.model
     c.as_slice-pairs.ensures.value c.keep_spares_free.array_long c.keep_spares_free.ensures.one_to_one
     c.keep_spares_free.ensures.spares
-    c.rotor_lines-settings.ensures
+    c.planned_rotor_lines-settings.ensures

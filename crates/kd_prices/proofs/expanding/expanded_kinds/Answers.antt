@@ -1,4 +1,5 @@
-use Rattle.{kd_card.specs.CardFault.numbered, kd_prices.proofs.Prelude.{ArePrices, Expands, group_of, subst, sym, ◌≡◌}}
+use Rattle.{kd_card.specs.CardFault.parts_by_number}
+use Rattle.{kd_prices.proofs.Prelude.{ArePrices, Expands, group_of, subst, sym, ◌≡◌}}
 use Rattle.kd_prices.proofs.{Meaning.expands_kinds, Things.{columns_are_things, groups_meet, rows_are_things}}
 use Rattle.kd_prices.proofs.expanding.expanded_kinds.Goals as goal
 
@@ -16,7 +17,7 @@ numbered-requires-clause-columns c =
 
 pub returns : goal.returns
 returns c =
-    let same : c.numbered.result ≡ numbered (group_of c.args.prices.now)
+    let same : c.numbered.result ≡ parts_by_number (group_of c.args.prices.now)
     c.in_ok-rows.rows.items c.in_ok-columns.columns.items = cc in
     subst (Expands c.args.machine.now c.args.day.now c.args.prices.now) (sym same)
     (expands_kinds _ _ _ _ _ c.requires.kinds c.requires.are_prices (subst ArePrices same c.numbered.ensures.are_prices)

@@ -37,9 +37,9 @@ found_there p xs x e =
     let at = sym (find_at p xs) ∙ e in
     (position_or_len p xs, slice_get_within xs _ x at, get_or_from_slice_get xs _ x x at)
 
-pub passes : {X : Type 0} (p : X → Bool) (xs : List X) (x : X) → find p xs ≡ Some x → p x ≡ true
-passes p [] x e = absurd (none-some x e)
-passes p (y ∷ xs) x e = grind (arith, cases_Bool, same_Some, passes p xs x)
+pub find-passes : {X : Type 0} (p : X → Bool) (xs : List X) (x : X) → find p xs ≡ Some x → p x ≡ true
+find-passes p [] x e = absurd (none-some x e)
+find-passes p (y ∷ xs) x e = grind (arith, cases_Bool, same_Some, find-passes p xs x)
 
 -- each standing is found by its text
 pub standing_again : (bar : Place × Place) → IsBefore bar.0 bar.1 → standing_by_text (standing_text bar) ≡ Some bar
@@ -59,7 +59,7 @@ unfolding standing_by_text
 no_standing text none None e = refl
 no_standing text none (Some bar) e =
     absurd (none bar (standing_read text bar e)
-    (grind (arith, bytes_eq-Decides, passes (λ s. bytes_eq (standing_text s) text) standings bar e)))
+    (grind (arith, bytes_eq-Decides, find-passes (λ s. bytes_eq (standing_text s) text) standings bar e)))
 
 pub standing_told : (text : List ℕ) (found : Option (Place × Place))
     → MatchOption found ((bar : Place × Place) → IsBefore bar.0 bar.1 → standing_text bar ≢ text)
@@ -70,13 +70,13 @@ standing_told text (Some bar) named before = sym (standing_again bar before) ∙
 
 -- ---- numbers and letters
 
-number_within : (last : ℕ) (value : Data) (number : ℕ) → number_to last value ≡ Some number
+number_within : (last : ℕ) (value : Data) (number : ℕ) → number_up_to last value ≡ Some number
     → (1 ≤ number) × (number ≤ last)
 number_within last value number e = grind (arith, some_if, leb-true, none-some)
 
-pub day_number_within : (table : Members) → Gives (number_in table) IsDayNumber
+pub day_number_within : (table : Members) → SucceedsWith (number_in table) IsDayNumber
 unfolding number_in
-day_number_within table number e = grind (arith, given, value_at, number_within, there_was)
+day_number_within table number e = grind (arith, bind-Ok, value_at, number_within, there_was)
 
 capitals_within : (text : List ℕ) → list_all is_capital text ≡ true
     → AllByRecursion (λ letter. letter < 26) (letters_of text)
@@ -91,20 +91,22 @@ pub capitals_are_letters : (count : ℕ) (text letters : List ℕ) → capital_l
     → AreLetters count letters
 capitals_are_letters count text letters e = grind (arith, some_if, eqb-true, letters_read)
 
-numbered_letters_within : (items : List Data) → list_all (λ item. is_some (numbered_letter item)) items ≡ true
-    → AllByRecursion (λ letter. letter < 26) (filter_map numbered_letter items)
-    × (length (filter_map numbered_letter items) ≡ length items)
+numbered_letters_within : (items : List Data) → list_all (λ item. is_some (letter_of_number item)) items ≡ true
+    → AllByRecursion (λ letter. letter < 26) (filter_map letter_of_number items)
+    × (length (filter_map letter_of_number items) ≡ length items)
 numbered_letters_within [] e = (tt, refl)
 numbered_letters_within (item ∷ items) e = grind (arith, nat_tests, number_within, numbered_letters_within items)
 
-pub rings_in_letters : (model : Model) (table : Members) → Gives (rings_in model table) (AreLetters (slots_of model))
+pub rings_in_letters : (model : Model) (table : Members)
+    → SucceedsWith (rings_in model table) (AreLetters (slots_of model))
 unfolding rings_in
 rings_in_letters model table rings e =
-    grind (arith, given, there_was, some_if, capitals_are_letters, numbered_letters_within, All-from_recursion)
+    grind (arith, bind-Ok, there_was, some_if, capitals_are_letters, numbered_letters_within, All-from_recursion)
 
-pub letters_at_are : (key : Key) (count : ℕ) (table : Members) → Gives (letters_at key count table) (AreLetters count)
+pub letters_at_are : (key : Key) (count : ℕ) (table : Members)
+    → SucceedsWith (letters_at key count table) (AreLetters count)
 unfolding letters_at
-letters_at_are key count table letters e = grind (arith, given, there_was, capitals_are_letters)
+letters_at_are key count table letters e = grind (arith, bind-Ok, there_was, capitals_are_letters)
 
 -- ---- one seat
 
@@ -113,8 +115,9 @@ pub is_seated-Decides : (slots : List (Option Wheel)) (wheel : Wheel)
     → Decides (is_seated slots wheel) (Contains slots (Some wheel))
 unfolding is_seated
 is_seated-Decides slots wheel =
-    Decides-contains slots (Some wheel) _ (Decides-by_or (holds wheel) (λ seat. seat ≡ Some wheel)
-    (list_any (holds wheel)) (λ s. grind (arith, Decides-like, same_Some, same_wheel-Decides)) refl (λ _ _. refl) slots)
+    Decides-contains slots (Some wheel) _ (Decides-by_or (holds_wheel wheel) (λ seat. seat ≡ Some wheel)
+    (list_any (holds_wheel wheel)) (λ s. grind (arith, Decides-like, same_Some, same_wheel-Decides)) refl
+    (λ _ _. refl) slots)
 
 pub not_seated : (slots : List (Option Wheel)) (wheel : Wheel) → ¬ Contains slots (Some wheel)
     → is_seated slots wheel ≡ false
@@ -127,17 +130,18 @@ record CanBeSeated (model : Model) (slots : List (Option Wheel)) (wheel : Wheel)
   free : ¬ Contains slots (Some wheel)
 
 wheel_read : (key : Key) (model : Model) (slots : List (Option Wheel)) (name : List ℕ)
-    → Gives (wheel_for key model slots name) (CanBeSeated model slots)
+    → SucceedsWith (wheel_for key model slots name) (CanBeSeated model slots)
 unfolding wheel_for
-wheel_read key model slots name wheel e = grind (arith, given, passed, has_wheel-Decides, is_seated-Decides, not-true)
+wheel_read key model slots name wheel e = grind
+    (arith, bind-Ok, demand-Ok, has_wheel-Decides, is_seated-Decides, not-true)
 
 -- what a reader ensures of a seat: its wheel may stand there, and it is empty only in a machine file
-record IsSeat (key : Key) (model : Model) (slots : List (Option Wheel)) (seat : Option Wheel) : Type 0 where
+record IsSeatRead (key : Key) (model : Model) (slots : List (Option Wheel)) (seat : Option Wheel) : Type 0 where
   free : IfSome seat (CanBeSeated model slots)
   filled : may_be_empty key ≡ false → IsSome seat
 
 seat_read : (key : Key) (model : Model) (slots : List (Option Wheel)) (item : Data) (seat : Option Wheel)
-    → seat_of_item key model slots item ≡ Ok seat → IsSeat key model slots seat
+    → seat_of_item key model slots item ≡ Ok seat → IsSeatRead key model slots seat
 unfolding seat_of_item seat_for
 seat_read key model slots item seat e = record { free = grind (arith, wheel_read); filled = grind (arith, none-some) }
 
@@ -145,30 +149,31 @@ seat_read key model slots item seat e = record { free = grind (arith, wheel_read
 
 -- each wheel of an array may stand in its slot, and stands in none before
 stands_free : (key : Key) (model : Model) (items : List Data) (slots : List (Option Wheel))
-    → in_turn (seat_of_item key model) items ≡ Ok slots → (place : ℕ) (wheel : Wheel) → StandsAt slots place wheel
+    → read_items (seat_of_item key model) items ≡ Ok slots → (place : ℕ) (wheel : Wheel) → IsSeatedAt slots place wheel
     → (place < length slots) × CanBeSeated model (take place slots) wheel
 stands_free key model items slots e place wheel stands =
     let within = slice_get_within slots place (Some wheel) stands in
     let here = get_or_from_slice_get slots place (Some wheel) (Some wheel) stands in (
       within,
-      (seat_read key model (take place slots) (get_or items place nothing) (Some wheel) (
-          rw here at (read_at _ items slots e place nothing (Some wheel) (omega (arith, as_many _ items slots e)))
+      (seat_read key model (take place slots) (get_or items place no_item) (Some wheel) (
+          rw here at (read_at _ items slots e place no_item (Some wheel) (omega (arith, as_many _ items slots e)))
           )).free,
     )
 
 -- a wheel that can be seated in a slot stands in no slot further left
-not_free : (model : Model) (slots : List (Option Wheel)) (place other : ℕ) (wheel : Wheel) → StandsAt slots place wheel
+not_free : (model : Model) (slots : List (Option Wheel)) (place other : ℕ) (wheel : Wheel)
+    → IsSeatedAt slots place wheel
     → CanBeSeated model (take other slots) wheel → other ≤ length slots → other ≤ place
 not_free model slots place other wheel stands free within = grind (arith, common_steps, gets, cases_lt place other)
 
 -- each wheel is allowed in its slot, none stands in two slots, and slots are empty only in a machine file
 pub record FillsSlots (key : Key) (model : Model) (slots : List (Option Wheel)) : Type 0 where
-  pub allowed : AreAllowed model slots
-  pub apart : AreApart slots
+  pub allowed : AreWheelsAllowed model slots
+  pub apart : AreSeatedOnce slots
   pub filled : may_be_empty key ≡ false → All IsSome slots
 
 fill_slots : (key : Key) (model : Model) (items : List Data)
-    → Gives (in_turn (seat_of_item key model) items) (FillsSlots key model)
+    → SucceedsWith (read_items (seat_of_item key model) items) (FillsSlots key model)
 fill_slots key model items slots e =
     let free = stands_free key model items slots e in
     record {
@@ -183,7 +188,7 @@ fill_slots key model items slots e =
     }
 
 pub seats_in_fill : (key : Key) (model : Model) (table : Members)
-    → Gives (seats_in key model table) (λ slots. (length slots ≡ slots_of model) × FillsSlots key model slots)
+    → SucceedsWith (seats_in key model table) (λ slots. (length slots ≡ slots_of model) × FillsSlots key model slots)
 unfolding seats_in
 seats_in_fill key model table = each_read _ (FillsSlots key model) (fill_slots key model) key (slots_of model) table
 
@@ -191,7 +196,8 @@ seats_in_fill key model table = each_read _ (FillsSlots key model) (fill_slots k
 
 -- the wheels of a day stand in its slots
 pub seats-sheet_wheels : (slots : List (Option Wheel)) (rings letters : List ℕ) → AllByRecursion IsSome slots
-    → length rings ≡ length slots → length letters ≡ length slots → seats (sheet_wheels slots rings letters) ≡ slots
+    → length rings ≡ length slots → length letters ≡ length slots
+    → seats_of_wheels (sheet_wheels slots rings letters) ≡ slots
 seats-sheet_wheels [] rings letters filled same equal = refl
 seats-sheet_wheels (Some w ∷ slots) (r ∷ rings) (l ∷ letters) filled same equal =
     ap (λ rest. Some w ∷ rest) (seats-sheet_wheels slots rings letters filled.1 (omega arith) (omega arith))
@@ -199,7 +205,7 @@ seats-sheet_wheels (seat ∷ slots) rings letters filled same equal = grind (ari
 
 pub wheels_have_letters : (slots : List (Option Wheel)) (rings letters : List ℕ)
     → AllByRecursion (λ letter. letter < 26) rings → AllByRecursion (λ letter. letter < 26) letters
-    → AllByRecursion HasLetters (sheet_wheels slots rings letters)
+    → AllByRecursion HasWheelLetters (sheet_wheels slots rings letters)
 wheels_have_letters (Some wheel ∷ slots) (ring ∷ rings) (letter ∷ letters) within also =
     (record { ring = within.0; letter = also.0 }, wheels_have_letters slots rings letters within.1 also.1)
 wheels_have_letters slots rings letters within also = tt
@@ -207,7 +213,7 @@ wheels_have_letters slots rings letters within also = tt
 -- ---- what is plugged, each with letters of its own
 
 pub apart_behind : (plugged letters : List ℕ) → IsDistinct nat_eq (plugged ++ letters)
-    ↔ ((are_new letters plugged ≡ true) × IsDistinct nat_eq plugged)
+    ↔ ((are_new_letters letters plugged ≡ true) × IsDistinct nat_eq plugged)
 apart_behind plugged letters = (
   λ apart. (new_tells letters plugged).0
       (IsDistinct-IsPermutation nat_eq eqb_flips _ _ (IsPermutation-append_comm plugged letters) apart),
@@ -223,7 +229,7 @@ all_parts P (x ∷ xs) ys all = let rest = all_parts P xs ys all.1 in ((all.0, r
 -- the letters of `x` are letters of the alphabet, and in nothing before it
 pub record IsFree {X : Type 0} (letters_in : X → List ℕ) (before : List X) (x : X) : Type 0 where
   pub within : All (λ letter. letter < 26) (letters_in x)
-  pub new : are_new (letters_in x) (flat_map letters_in before) ≡ true
+  pub new : are_new_letters (letters_in x) (flat_map letters_in before) ≡ true
 
 pub record AreFree {X : Type 0} (letters_in : X → List ℕ) (plugged : List X) : Type 0 where
   pub within : All (λ letter. letter < 26) (flat_map letters_in plugged)
@@ -244,10 +250,11 @@ module _ {X : Type 0} (letters_in : X → List ℕ) where
   pub all_free : (reading : List X → Data → Result X SheetFault)
       → ((before : List X) (item : Data) (x : X) → reading before item ≡ Ok x → IsFree letters_in before x)
       → (key : Key) (count : ℕ) (value : Data)
-      → Gives (up_to key count reading value) (λ plugged. (length plugged ≤ count) × AreFree letters_in plugged)
+      → SucceedsWith (read_up_to key count reading value)
+      (λ plugged. (length plugged ≤ count) × AreFree letters_in plugged)
   all_free reading free =
       some_read reading (AreFree letters_in) (keeps reading (AreFree letters_in)
-      (record { within = All-nil (λ letter. letter < 26); apart = no_letters })
+      (record { within = All-nil (λ letter. letter < 26); apart = IsDistinct-nil })
       (λ plugged item x so_far is. one_more plugged x so_far (free plugged item x is)))
 
   -- of things that share no letters, each is free of the letters before it
@@ -275,29 +282,30 @@ module _ {X : Type 0} (letters_in : X → List ℕ) where
 
 -- ---- cables
 
-pub two_letters : (letters : List ℕ) → length letters ≤ 2 → cable_letters (cable_of letters) ≡ letters
+pub two_letters : (letters : List ℕ) → length letters ≤ 2 → cable_letters (cable_with_ends letters) ≡ letters
 two_letters (one ∷ other ∷ third ∷ letters) few = absurd (omega arith)
 two_letters letters few = refl
 
-none_in : (n : ℕ) → plugged_letters (replicate n (None, None)) ≡ []
+none_in : (n : ℕ) → letters_in_cables (replicate n (None, None)) ≡ []
 none_in zero = refl
 none_in (suc n) = none_in n
 
 -- cables that share no letter are the cables of a machine, once empty ones fill them up to 13
 filled_up : (cables : List (Option ℕ × Option ℕ)) → length cables ≤ 13 → AreFree cable_letters cables
-    → AreCables (thirteen cables)
+    → AreCables (filled_to_thirteen cables)
 filled_up cables few free =
-    let letters : plugged_letters (thirteen cables) ≡ plugged_letters cables =
+    let letters : letters_in_cables (filled_to_thirteen cables) ≡ letters_in_cables cables =
     rw (flat_map-append, none_in _, append-nil) refl in
     record { count = grind (arith, common_steps); within = rw letters free.within; apart = rw letters free.apart }
 
-pub are_cables : (table : Members) → Gives (cables_in table) AreCables
-unfolding cables_in cable_for letters_in_cable
+pub are_cables : (table : Members) → SucceedsWith (cables_in table) AreCables
+unfolding cables_in cable_for cable_letters_of_text
 are_cables table =
-    after _ _ _ _ (if_there (get_member (key_name keys.Cables) table) _ _ _ (all_free cable_letters cable_for
+    SucceedsWith-bind _ _ _ _ (if_there (get_member (key_name keys.Cables) table) _ _ _
+    (all_free cable_letters cable_for
     (λ cables item cable e. grind (arith, some_if, letters_read, two_letters, leb-true, none-some)) keys.Cables 13)
-    (omega arith, record { within = All-nil (λ letter. letter < 26); apart = no_letters }))
-    (λ cables free. done AreCables _ (filled_up cables free.0 free.1))
+    (omega arith, record { within = All-nil (λ letter. letter < 26); apart = IsDistinct-nil }))
+    (λ cables free. SucceedsWith-Ok AreCables _ (filled_up cables free.0 free.1))
 
 -- ---- pairs
 
@@ -306,10 +314,10 @@ two_of : (letters : List ℕ) → AreLetters 2 letters
 two_of (one ∷ other ∷ []) are = refl
 two_of letters are = absurd (omega (arith, are.count))
 
-pub are_pairs : (table : Members) → Gives (pairs_in table) ArePairs
+pub are_pairs : (table : Members) → SucceedsWith (pairs_in table) ArePairs
 unfolding pairs_in pair_for
 are_pairs table =
-    after_any (value_at keys.Plugs table) (up_to keys.Plugs 13 pair_for) ArePairs (λ value pairs e.
+    after_any (value_at keys.Plugs table) (read_up_to keys.Plugs 13 pair_for) ArePairs (λ value pairs e.
     let free = all_free pair_letters pair_for (λ pairs item pair e.
     grind (arith, there_was, capitals_are_letters, two_of, none-some)) keys.Plugs 13 value pairs e in
     record { few = free.0; within = free.1.within; apart = free.1.apart })
@@ -320,8 +328,8 @@ abbrev is_own : ℕ × ℕ → Bool
 is_own numbered = has_letter (ring_of numbered.0) numbered.1
 
 -- if the test passes, the letters are on their wheels
-pub on_wheels : (letters : List ℕ) → length letters ≡ 6 → are_on_wheels letters ≡ true → AreOnWheels letters
-on_wheels letters long all =
+pub AreOnWheels-by_test : (letters : List ℕ) → length letters ≡ 6 → are_on_wheels letters ≡ true → AreOnWheels letters
+AreOnWheels-by_test letters long all =
     on_all_wheels letters long (λ wheel low high.
     let within : wheel - 1 < length letters = omega arith in
     let here = AllPass-from_list_all is_own (enumerate_from 1 letters) all (wheel - 1) (0, 0)
@@ -366,24 +374,24 @@ letter_there : (ring : List ℕ) (k d : ℕ) → k < length ring → has_letter 
 letter_there ring k d within = (has_letter-Decides ring (get_or ring k d)).1 (Contains-get_or ring k d within)
 
 -- how often the text has the letter
-abbrev counted : List ℕ → ℕ → ℕ
-counted text letter = count_by (λ byte. byte == letter + 65) text
+abbrev letter_count : List ℕ → ℕ → ℕ
+letter_count text letter = count_by (λ byte. byte == letter + 65) text
 
-has_counted : (text : List ℕ) (letter : ℕ) → has_capital text letter ≡ nat_lt 0 (counted text letter)
+has_counted : (text : List ℕ) (letter : ℕ) → has_capital text letter ≡ nat_lt 0 (letter_count text letter)
 has_counted [] letter = refl
 has_counted (byte ∷ text) letter =
-    let more : counted (byte ∷ text) letter
-    ≡ cond (byte == letter + 65) 1 0 + counted text letter = sum_by-cons _ byte text in
+    let more : letter_count (byte ∷ text) letter
+    ≡ cond (byte == letter + 65) 1 0 + letter_count text letter = sum_by-cons _ byte text in
     rw more (grind (arith, nat_tests, has_counted text letter))
 
 first_counted : (x : ℕ) (ring : List ℕ) (pin : Bool) (pins : List Bool) (letter : ℕ)
-    → counted (pins_text (x ∷ ring) (pin ∷ pins)) letter
-    ≡ cond (pin && x + 65 == letter + 65) 1 0 + counted (pins_text ring pins) letter
+    → letter_count (pins_text (x ∷ ring) (pin ∷ pins)) letter
+    ≡ cond (pin && x + 65 == letter + 65) 1 0 + letter_count (pins_text ring pins) letter
 first_counted x ring true pins letter = sum_by-cons _ (x + 65) (pins_text ring pins)
 first_counted x ring false pins letter = omega arith
 
 none_counted : (ring : List ℕ) (pins : List Bool) (letter : ℕ) → has_letter ring letter ≡ false
-    → counted (pins_text ring pins) letter ≡ 0
+    → letter_count (pins_text ring pins) letter ≡ 0
 none_counted [] pins letter absent = refl
 none_counted (x ∷ ring) [] letter absent = refl
 none_counted (x ∷ ring) (pin ∷ pins) letter absent =
@@ -392,7 +400,7 @@ none_counted (x ∷ ring) (pin ∷ pins) letter absent =
 -- the text of a wheel's pins has a letter once if its pin is effective, and else not
 once_counted : (ring : List ℕ) (pins : List Bool) (k d : ℕ) (e : Bool) → are_apart ring ≡ true
     → length pins ≡ length ring → k < length ring
-    → counted (pins_text ring pins) (get_or ring k d) ≡ cond (get_or pins k e) 1 0
+    → letter_count (pins_text ring pins) (get_or ring k d) ≡ cond (get_or pins k e) 1 0
 once_counted (x ∷ ring) (pin ∷ pins) zero d e apart same within =
     rw first_counted (grind (arith, nat_tests, none_counted ring pins x))
 once_counted (x ∷ ring) (pin ∷ pins) (suc k) d e apart same within =
@@ -408,7 +416,7 @@ all_of_pins test (x ∷ ring) [] same each = refl
 all_of_pins test (x ∷ ring) (pin ∷ pins) same each =
     grind (arith, nat_tests, each 0, all_of_pins test ring pins (omega arith) (λ k within. each (suc k) (omega arith)))
 
-is_on_ring : (ring : List ℕ) (letter : ℕ) → has_letter ring letter ≡ true → is_on ring (letter + 65) ≡ true
+is_on_ring : (ring : List ℕ) (letter : ℕ) → has_letter ring letter ≡ true → is_letter_of ring (letter + 65) ≡ true
 is_on_ring [] letter has = has
 is_on_ring (x ∷ ring) letter has = grind (arith, cases_Bool)
 
@@ -418,9 +426,11 @@ unfolding pins_of_text
 pins_back wheel pins same =
     let ring = ring_of wheel in
     let text = pins_text ring pins in
-    let once : (k d : ℕ) (e : Bool) → k < length ring → counted text (get_or ring k d) ≡ cond (get_or pins k e) 1 0 =
+    let once : (k d : ℕ) (e : Bool) → k < length ring
+    → letter_count text (get_or ring k d) ≡ cond (get_or pins k e) 1 0 =
     λ k d e. once_counted ring pins k d e (letters_apart wheel) same in
-    let proper = all_of_pins (λ byte. is_on ring byte && stands_once text byte) ring pins same (λ k within effective.
+    let proper = all_of_pins (λ byte. is_letter_of ring byte && stands_once text byte) ring pins same
+    (λ k within effective.
     rw (is_on_ring ring (get_or ring k 0) (letter_there ring k 0 within), once k 0 false within, effective) refl) in
     let read : map (has_capital text) ring ≡ pins = same_lists _ _ (length-map ring _ ∙ sym same) (λ k e within.
     let here : k < length ring = omega (arith, length-map ring (has_capital text)) in

@@ -1,10 +1,10 @@
-use Rattle.kd_sheet.proofs.ReadBack.Described.Values.InTurn.{drop, in_turn, length, map, on, view, ◌≡◌}
+use Rattle.kd_sheet.proofs.ReadBack.Described.Values.InTurn.{drop, read_items, length, map, on, view, ◌≡◌}
 use Rattle.kd_sheet.proofs.items.read_items.Given as goal
 
 -- reading all items gives the same as reading the rest after the values so far
 abbrev pub invariant-loop-item : goal.invariant-loop-item
 invariant-loop-item g l = record {
   count : length l.values.items ≡ l.item-index;
-  read : in_turn (g.T.FromItem.reading l.given) (map view l.items)
+  read : read_items (g.T.FromItem.reading l.given) (map view l.items)
       ≡ on (g.T.FromItem.reading l.given) l.values.items (drop l.item-index (map view l.items));
 }

@@ -1,15 +1,16 @@
 -- What a setting makes of a machine that carries it out: a machine, in which the readers show what was set and
 -- everything else as before.
-pub use Rattle.kd_state.proofs.Prelude.{numbered, place_in_box, IsKept, IsSeatOf, Makes, MovesLug, SetsOnly, TheBar}
-pub use Rattle.kd_state.proofs.Prelude.{TheCable, TheLetter, ThePin, TheReflector, TheSlot, Thing, SettingsAreTold}
-pub use Rattle.kd_state.proofs.Prelude.{SettingsKeepMachines, IsInRange, AreAllowed, AreApart, AreCables, AreLetters}
-pub use Rattle.kd_state.proofs.Prelude.{AreOnWheels, IsLegalPin, IsLegalRotor, IsMachine, StandsAt, cable_letters}
-pub use Rattle.kd_state.proofs.Prelude.{cables_ordered, letter_at, ordered, plugged_letters, pin_at, pin_set}
-pub use Rattle.kd_state.proofs.Prelude.{wheel_pins, with_pin, cable_at, cable_with, cable_without, changed, is_at}
-pub use Rattle.kd_state.proofs.Prelude.{lies_beyond, lug_place, other_lug, reasons, why_refused, with_letter, with_lug}
-pub use Rattle.kd_state.proofs.Prelude.{with_lug_at, without, Parts, Pin, Rotor, PinParts, RotorParts, Setting, LugTo}
-pub use Rattle.kd_state.proofs.Prelude.{PinTo, Pull, Put, RingTo, Seat, SeatReflector, Turn, Why, WouldPass, IsBefore}
-pub use Rattle.kd_state.proofs.Prelude.{place_on, box_of, reflectors_of, wheels_for, Lug, Model, Place, Wheel}
+pub use Rattle.kd_state.proofs.Prelude.{numbered_item, place_in_box, IsKept, IsSeatOf, ChangesTo, MovesLug, SetsOnly}
+pub use Rattle.kd_state.proofs.Prelude.{TheBar, TheCable, TheLetter, ThePin, TheReflector, TheSlot, Thing}
+pub use Rattle.kd_state.proofs.Prelude.{SettingsAreTold, SettingsKeepMachines, IsSettingInRange, AreWheelsAllowed}
+pub use Rattle.kd_state.proofs.Prelude.{AreSeatedOnce, AreCables, AreLetters, AreOnWheels, IsLegalPin, IsLegalRotor}
+pub use Rattle.kd_state.proofs.Prelude.{IsMachine, IsSeatedAt, cable_letters, with_cables_in_order, letter_at}
+pub use Rattle.kd_state.proofs.Prelude.{cable_in_order, letters_in_cables, pin_at, pin_set, wheel_pins, with_pin}
+pub use Rattle.kd_state.proofs.Prelude.{cable_at, cable_with, cable_without, machine_after, is_same_place, lies_beyond}
+pub use Rattle.kd_state.proofs.Prelude.{lug_place, other_lug, refusal_reasons, why_refused, letters_with, with_lug}
+pub use Rattle.kd_state.proofs.Prelude.{bars_with_lug, seat_without, Parts, Pin, Rotor, PinParts, RotorParts, Setting}
+pub use Rattle.kd_state.proofs.Prelude.{LugTo, PinTo, Pull, Put, RingTo, Seat, SeatReflector, Turn, Why, WouldPass}
+pub use Rattle.kd_state.proofs.Prelude.{IsBefore, place_on, box_of, reflectors_of, wheels_for, Lug, Model, Place, Wheel}
 pub use Rattle.kd_state.proofs.Prelude.{both_ways, cases_Bool, cases_eq, eqb-false, not-false, true_from_ne_false}
 pub use Rattle.kd_state.proofs.Prelude.{true≢false, length-map, length-set, map-set, All-cons, All-contains}
 pub use Rattle.kd_state.proofs.Prelude.{All-from_recursion, All-set, All-tail, Contains-append_cases}
@@ -21,12 +22,14 @@ pub use Rattle.kd_state.proofs.Prelude.{Contains, List, None, Option, Some, [], 
 pub use Rattle.kd_state.proofs.Prelude.{length, map, nat_eq, refl, rules, set, slice_get, subst, suc, sym, true, zero}
 pub use Rattle.kd_state.proofs.Prelude.{ℕ, ◌+◌, ◌-◌, ◌<◌, ◌↔◌, ◌∙◌, ◌∷◌, ◌≡◌, ◌≢◌, ◌≤◌, ◌⊎◌, common_steps, IsDistinct}
 pub use Rattle.kd_state.proofs.Slots.{numbered_here, numbered_other, seated_in_box, has_letter-Decides, place_there}
-pub use Rattle.kd_state.proofs.{Prelude.IsPermutation, Slots.{only_place, stands, set_here, set_other}}
+pub use Rattle.kd_state.proofs.{Prelude.IsPermutation, Slots.{only_place, IsNumbered-not_none, set_here, set_other}}
 pub use Rattle.std.proofs.lemmas.Map.Keys.{IsDistinct-IsPermutation, IsDistinct-head, IsDistinct-tail, IsDistinct-cons}
 pub use Rattle.kd_state.proofs.Cables.{all_ordered, all_ordered_move, all_ordered_again, ordered_again, without_ordered}
-pub use Rattle.kd_state.proofs.Cables.{without_moves, with_moves, set_moves, eqb_flips, free_tells, of_one}
+pub use Rattle.kd_state.proofs.Cables.{without_moves, with_moves, set_moves, eqb_flips, has_letter-AllByRecursion}
+pub use Rattle.kd_state.proofs.Cables.{of_one}
 pub use Rattle.kd_state.proofs.Wheels.{places_tell_wheels, has_wheel-Decides, has_reflector-Decides, same_wheel-Decides}
-pub use Rattle.kd_state.proofs.Wheels.{same_wheel_self, same_wheel_differs, placed, place_within, place_nowhere}
+pub use Rattle.kd_state.proofs.Wheels.{same_wheel_self, same_wheel_differs, IsAllowed-IsPlaced, place_within}
+pub use Rattle.kd_state.proofs.Wheels.{place_nowhere}
 unfoldable pub use Rattle.kd_state.proofs.Prelude.{ring_of}
 
 -- ---- reasons, and machines that differ in one thing
@@ -41,16 +44,16 @@ no_reason [] e = tt
 no_reason ((holds, why) ∷ rest) e = grind (arith, none-some, no_reason rest)
 
 -- the setting changes what it names, and makes a machine
-record IsCarried (m : Parts) (x : Setting) : Type 0 where
-  told : Makes m x (changed m x)
-  kept : IsInRange x → IsMachine (changed m x)
+record IsSoundlyCarried (m : Parts) (x : Setting) : Type 0 where
+  told : ChangesTo m x (machine_after m x)
+  kept : IsSettingInRange x → IsMachine (machine_after m x)
 
 -- a thing is the same, unless it is the one that is set
-abbrev Keeps : Thing → Parts → Parts → Thing → Type 0
-Keeps thing m n other = other ≢ thing → IsKept m n other
+abbrev KeepsBut : Thing → Parts → Parts → Thing → Type 0
+KeepsBut thing m n other = other ≢ thing → IsKept m n other
 
-pub in_their_order : (m : RotorParts) → cables_ordered (Rotor m) ≡ Rotor m → all_ordered m.cables ≡ m.cables
-in_their_order m e =
+pub all_ordered-same : (m : RotorParts) → with_cables_in_order (Rotor m) ≡ Rotor m → all_ordered m.cables ≡ m.cables
+all_ordered-same m e =
     let same : record m { cables = all_ordered m.cables } ≡ m = cc in ap (λ (k : RotorParts). k.cables) same
 
 rotor_machine : (m : RotorParts) → IsLegalRotor m → all_ordered m.cables ≡ m.cables → IsMachine (Rotor m)
@@ -62,33 +65,35 @@ pin_machine m legal = record { legal = legal; cables = refl }
 -- ---- cables
 
 -- the letters are all different and below 26
-record AreFree (letters : List ℕ) : Type 0 where
+record AreFreeLetters (letters : List ℕ) : Type 0 where
   within : All (λ letter. letter < 26) letters
   apart : IsDistinct nat_eq letters
 
-moved_free : (letters others : List ℕ) → IsPermutation letters others → AreFree letters → AreFree others
+moved_free : (letters others : List ℕ) → IsPermutation letters others → AreFreeLetters letters → AreFreeLetters others
 moved_free letters others moved h = search (rules, All-permutation, moved, IsDistinct-IsPermutation, eqb_flips)
 
 pub lies_plugged : (cables : List (Option ℕ × Option ℕ)) (place letter : ℕ)
     → Contains (option_map_or cable_letters (slice_get cables place) []) letter
-    → Contains (plugged_letters cables) letter
+    → Contains (letters_in_cables cables) letter
 lies_plugged [] place letter lies = lies
 lies_plugged (first ∷ cables) zero letter lies =
-    Contains-append_left (cable_letters first) (plugged_letters cables) letter lies
+    Contains-append_left (cable_letters first) (letters_in_cables cables) letter lies
 lies_plugged (first ∷ cables) (suc place) letter lies =
-    Contains-append_right (cable_letters first) (plugged_letters cables) letter (lies_plugged cables place letter lies)
+    Contains-append_right (cable_letters first) (letters_in_cables cables) letter
+    (lies_plugged cables place letter lies)
 
 keeps_cables : (m : RotorParts) (cable : ℕ) (new : Option ℕ × Option ℕ) → 1 ≤ cable
     → SetsOnly (TheCable cable) (Rotor m) (Rotor (record m { cables = set m.cables (cable - 1) new }))
 keeps_cables m cable new first = grind (arith, numbered_other)
 
-with_cable : (m : RotorParts) (cable : ℕ) (new : Option ℕ × Option ℕ) → IsMachine (Rotor m) → ordered new.0 new.1 ≡ new
-    → AreFree (plugged_letters (set m.cables (cable - 1) new))
+with_cable : (m : RotorParts) (cable : ℕ) (new : Option ℕ × Option ℕ) → IsMachine (Rotor m)
+    → cable_in_order new.0 new.1 ≡ new
+    → AreFreeLetters (letters_in_cables (set m.cables (cable - 1) new))
     → IsMachine (Rotor (record m { cables = set m.cables (cable - 1) new }))
-with_cable m cable new h o free = grind (arith, length-set, rotor_machine, map-set, ordered, in_their_order)
+with_cable m cable new h o free = grind (arith, length-set, rotor_machine, map-set, cable_in_order, all_ordered-same)
 
 -- legal parts make a machine once their cables are in order
-pub ordered_parts : (m : RotorParts) → IsLegalRotor m → IsMachine (cables_ordered (Rotor m))
+pub ordered_parts : (m : RotorParts) → IsLegalRotor m → IsMachine (with_cables_in_order (Rotor m))
 ordered_parts m l =
     let free =
     moved_free _ _ (all_ordered_move m.cables) (record { within = l.cables.within; apart = l.cables.apart }) in
@@ -96,23 +101,23 @@ ordered_parts m l =
 
 -- ---- slots
 
-numbered-map : {X Y : Type 0} (f : X → Y) (xs : List X) (number : ℕ)
-    → numbered (map f xs) number ≡ option_map f (numbered xs number)
-numbered-map f xs number = grind (arith, slice_get-map)
+numbered_item-map : {X Y : Type 0} (f : X → Y) (xs : List X) (number : ℕ)
+    → numbered_item (map f xs) number ≡ option_map f (numbered_item xs number)
+numbered_item-map f xs number = grind (arith, slice_get-map)
 
 -- taking a wheel out of a slot that doesn't hold it changes nothing
 not_held : (wheel : Wheel) (held : Option (Option Wheel)) → held ≢ Some (Some wheel)
-    → option_map (without wheel) held ≡ held
+    → option_map (seat_without wheel) held ≡ held
 not_held wheel held e = grind (arith, same_wheel_differs)
 
 left_standing : (wheel other : Wheel) (held : Option (Option Wheel))
-    → option_map (without wheel) held ≡ Some (Some other) → (held ≡ Some (Some other)) × (other ≢ wheel)
+    → option_map (seat_without wheel) held ≡ Some (Some other) → (held ≡ Some (Some other)) × (other ≢ wheel)
 left_standing wheel other held e = grind (arith, same_Some, cases_Bool, none-some, both_ways, same_wheel-Decides)
 
 -- after a wheel was put into a slot, a wheel in any slot is this wheel, or was there before
 seat_cases : (slots : List (Option Wheel)) (at : ℕ) (wheel : Wheel) (place : ℕ) (other : Wheel)
-    → StandsAt (set (map (without wheel) slots) at (Some wheel)) place other
-    → ((place ≡ at) × (other ≡ wheel)) ⊎ (StandsAt slots place other × (other ≢ wheel))
+    → IsSeatedAt (set (map (seat_without wheel) slots) at (Some wheel)) place other
+    → ((place ≡ at) × (other ≡ wheel)) ⊎ (IsSeatedAt slots place other × (other ≢ wheel))
 seat_cases slots at wheel place other stands =
     let cases = cases_eq place at in
     grind (arith, cases, slice_get_within, length-set, set_here, same_Some, left_standing, set_other, slice_get-map)
@@ -136,7 +141,7 @@ for_wheel model letters wheel letter boxed h =
 pub with_letters : (m : RotorParts) (rings letters : List ℕ) → IsMachine (Rotor m)
     → AreLetters (length (box_of m.model)) rings → AreLetters (length (box_of m.model)) letters
     → IsMachine (Rotor (record m { rings = rings; letters = letters }))
-with_letters m rings letters h are also = grind (arith, rotor_machine, in_their_order)
+with_letters m rings letters h are also = grind (arith, rotor_machine, all_ordered-same)
 
 keeps_letters : (m : RotorParts) (wheel : Wheel) (letters : List ℕ)
     → ((other : Wheel) → other ≢ wheel → slice_get letters (place_in_box m.model other) ≡ letter_at m other)
@@ -160,8 +165,9 @@ other_pin : (ring : List ℕ) (list : List Bool) (letter other place : ℕ) (eff
     → option_and_then (slice_get (set list place effective)) found ≡ option_and_then (slice_get list) found
 other_pin ring list letter other place effective found e d g = grind (arith, set_other, only_place)
 
-filled : (found : Option (List Bool)) (place : ℕ) → place < length (unwrap_or found []) → is_none found ≡ false
-filled found place within = grind arith
+is_none-nonempty : (found : Option (List Bool)) (place : ℕ) → place < length (unwrap_or found [])
+    → is_none found ≡ false
+is_none-nonempty found place within = grind arith
 
 -- a lug that is moved stands at its new place, and the bar's other lug where it stood
 lug_set : (lug : Lug) (place : Place) (bar : Place × Place)
@@ -170,7 +176,7 @@ lug_set : (lug : Lug) (place : Place) (bar : Place × Place)
 lug_set lug place bar = grind arith
 
 pub still_before : (lug : Lug) (place : Place) (bar : Place × Place)
-    → is_at place (lug_place (other_lug lug) bar) ≡ false
+    → is_same_place place (lug_place (other_lug lug) bar) ≡ false
     → lies_beyond lug place (lug_place (other_lug lug) bar) ≡ false
     → IsBefore (with_lug lug place bar).0 (with_lug lug place bar).1
 still_before lug place bar e d = grind arith
@@ -179,7 +185,7 @@ keeps_bars : (m : PinParts) (bar : ℕ) (new : Place × Place) → 1 ≤ bar
     → SetsOnly (TheBar bar) (Pin m) (Pin (record m { bars = set m.bars (bar - 1) new }))
 keeps_bars m bar new first = record {
   model = refl;
-  others = λ thing. elim thing as (Keeps (TheBar bar) (Pin m) (Pin (record m { bars = set m.bars (bar - 1) new }))) [
+  others = λ thing. elim thing as (KeepsBut (TheBar bar) (Pin m) (Pin (record m { bars = set m.bars (bar - 1) new }))) [
     | TheBar other ↦ λ free. numbered_other m.bars bar other new first (λ e. free (ap TheBar e))
     | _ ↦ λ _. refl
   ];
@@ -187,37 +193,39 @@ keeps_bars m bar new first = record {
 
 -- a lug that would end on the wrong side of the other lug is refused
 pub would_pass : (m : PinParts) (bar : ℕ) (lug : Lug) (place : Place) (standing : Place × Place)
-    → numbered m.bars bar ≡ Some standing
-    → is_at place (lug_place (other_lug lug) standing) ≡ false
+    → numbered_item m.bars bar ≡ Some standing
+    → is_same_place place (lug_place (other_lug lug) standing) ≡ false
     → ¬ (IsBefore (with_lug lug place standing).0 (with_lug lug place standing).1)
     → why_refused (Pin m) (LugTo bar lug place) ≡ Some WouldPass
 would_pass m bar lug place standing here apart not_before = grind (arith, true_from_ne_false, not_before, still_before)
 
 -- ---- each setting
 
-carried : (m : Parts) (x : Setting) → IsMachine m → AllByRecursion (λ reason. reason.0 ≡ false) (reasons m x)
-    → IsCarried m x
-carried (Rotor m) (Pull cable letter) h allowed =
+Carries-sound : (m : Parts) (x : Setting) → IsMachine m
+    → AllByRecursion (λ reason. reason.0 ≡ false) (refusal_reasons m x)
+    → IsSoundlyCarried m x
+Carries-sound (Rotor m) (Pull cable letter) h allowed =
     let old = cable_at m cable in
     let new = cable_without letter old in
     let left = set m.cables (cable - 1) new in
-    let at = stands m.cables cable (None, None) allowed.0 in
+    let at = IsNumbered-not_none m.cables cable (None, None) allowed.0 in
     let now = numbered_here m.cables cable new at.first at.last in
     let moved : IsPermutation (cable_letters old) (letter ∷ cable_letters new) =
     without_moves letter old.0 old.1 (not-false _ allowed.1.0) in
-    let moves : IsPermutation (plugged_letters m.cables) (letter ∷ plugged_letters left) =
+    let moves : IsPermutation (letters_in_cables m.cables) (letter ∷ letters_in_cables left) =
     set_moves [] (letter ∷ []) m.cables (cable - 1) old new at.here moved in
     let free = moved_free _ _ moves (record { within = h.legal.cables.within; apart = h.legal.cables.apart }) in
     let gone =
-    All-from_recursion (λ (l : ℕ). nat_eq letter l ≡ false) (plugged_letters left)
-    (IsDistinct-head nat_eq letter (plugged_letters left) free.apart) in
+    All-from_recursion (λ (l : ℕ). nat_eq letter l ≡ false) (letters_in_cables left)
+    (IsDistinct-head nat_eq letter (letters_in_cables left) free.apart) in
     let there = set_here m.cables (cable - 1) new (slice_get_within m.cables (cable - 1) old at.here) in
     let out : (other : ℕ) → Contains (cable_letters new) other
     ↔ (Contains (cable_letters old) other × (other ≢ letter)) = λ other. (
       λ lies. (
         Contains-permutation _ _ other (IsPermutation-sym _ _ moved)
             (Contains-append_right (letter ∷ []) (cable_letters new) other lies),
-        λ e. eqb-false letter other (All-contains (λ (l : ℕ). nat_eq letter l ≡ false) (plugged_letters left) other gone
+        λ e. eqb-false letter other (All-contains (λ (l : ℕ). nat_eq letter l ≡ false) (letters_in_cables left) other
+            gone
             (lies_plugged left (cable - 1) other (rw there lies))) (sym e),
       ),
       λ lay. Contains-tail letter (cable_letters new) other (λ e. lay.1 (sym e))
@@ -227,14 +235,14 @@ carried (Rotor m) (Pull cable letter) h allowed =
     record {
       told = (rw (now, at.is) out, keeps_cables m cable new at.first);
       kept = λ _. with_cable m cable new h (without_ordered letter old.0 old.1) (record {
-        within = All-tail (λ (l : ℕ). l < 26) letter (plugged_letters left) free.within;
-        apart = IsDistinct-tail nat_eq letter (plugged_letters left) free.apart;
+        within = All-tail (λ (l : ℕ). l < 26) letter (letters_in_cables left) free.within;
+        apart = IsDistinct-tail nat_eq letter (letters_in_cables left) free.apart;
       });
     }
-carried (Rotor m) (Put cable letter) h allowed =
+Carries-sound (Rotor m) (Put cable letter) h allowed =
     let old = cable_at m cable in
     let new = cable_with letter old in
-    let at = stands m.cables cable (None, None) allowed.0 in
+    let at = IsNumbered-not_none m.cables cable (None, None) allowed.0 in
     let now = numbered_here m.cables cable new at.first at.last in
     let moved : IsPermutation (letter ∷ cable_letters old) (cable_letters new) =
     with_moves letter old.0 old.1 allowed.1.0 in
@@ -256,56 +264,57 @@ carried (Rotor m) (Put cable letter) h allowed =
       told = (rw (now, at.is) into, keeps_cables m cable new at.first);
       kept = λ r. with_cable m cable new h (ordered_again (option_or old.0 old.1) (Some letter))
           (moved_free _ _ moves (record {
-            within = All-cons (λ (l : ℕ). l < 26) letter (plugged_letters m.cables) r.1 h.legal.cables.within;
+            within = All-cons (λ (l : ℕ). l < 26) letter (letters_in_cables m.cables) r.1 h.legal.cables.within;
             apart =
-                IsDistinct-cons nat_eq letter (plugged_letters m.cables)
-                ((free_tells (plugged_letters m.cables) letter).0 allowed.1.1.0) h.legal.cables.apart;
+                IsDistinct-cons nat_eq letter (letters_in_cables m.cables)
+                ((has_letter-AllByRecursion (letters_in_cables m.cables) letter).0 allowed.1.1.0) h.legal.cables.apart;
           }));
     }
-carried (Rotor m) (Seat slot wheel) h allowed =
+Carries-sound (Rotor m) (Seat slot wheel) h allowed =
     let l = h.legal in
     let may = (has_wheel-Decides (wheels_for m.model slot) wheel).0 (not-false _ allowed.0) in
-    let at = placed m.model slot wheel may in
-    let left = map (without wheel) m.slots in
+    let at = IsAllowed-IsPlaced m.model slot wheel may in
+    let left = map (seat_without wheel) m.slots in
     let new = set left (slot - 1) (Some wheel) in
-    let within : slot ≤ length left = omega (arith, length-map m.slots (without wheel), l.slots, at.last) in
-    let gone : without wheel (Some wheel) ≡ None = rw (same_wheel_self wheel) refl in
+    let within : slot ≤ length left = omega (arith, length-map m.slots (seat_without wheel), l.slots, at.last) in
+    let gone : seat_without wheel (Some wheel) ≡ None = rw (same_wheel_self wheel) refl in
     let other_is : (other : ℕ) → other ≢ slot
-    → numbered new other ≡ option_map (without wheel) (numbered m.slots other) =
-    λ other ne. numbered_other left slot other (Some wheel) at.first ne ∙ numbered-map (without wheel) m.slots other in
+    → numbered_item new other ≡ option_map (seat_without wheel) (numbered_item m.slots other) =
+    λ other ne. numbered_other left slot other (Some wheel) at.first ne
+    ∙ numbered_item-map (seat_without wheel) m.slots other in
     let cases = seat_cases m.slots (slot - 1) wheel in
     record {
       told = record {
         here = numbered_here left slot (Some wheel) at.first within;
         only = λ other e. elim (cases_eq other slot) [
           | inl same ↦ same
-          | inr ne ↦ absurd ((left_standing wheel wheel (numbered m.slots other)
+          | inr ne ↦ absurd ((left_standing wheel wheel (numbered_item m.slots other)
               (sym (other_is other ne) ∙ e)).1 refl)
         ];
-        left = λ held ne e. other_is held ne ∙ ap (option_map (without wheel)) e ∙ ap Some gone;
+        left = λ held ne e. other_is held ne ∙ ap (option_map (seat_without wheel)) e ∙ ap Some gone;
         others = record {
           model = refl;
           others = λ thing. elim thing as (λ t. ¬ (IsSeatOf (Rotor m) slot wheel t)
               → IsKept (Rotor m) (Rotor (record m { slots = new })) t) [
                 | TheSlot other ↦ λ free. other_is other (λ e. free (inl (ap TheSlot e)))
-                    ∙ not_held wheel (numbered m.slots other) (λ e. free (inr (other, refl, e)))
+                    ∙ not_held wheel (numbered_item m.slots other) (λ e. free (inr (other, refl, e)))
                 | _ ↦ λ _. refl
               ];
         };
       };
       kept = λ _.
-          let alone : AreApart new = λ place other which here there. grind (arith, cases, l.apart) in
-          let may_stand : AreAllowed m.model new = λ place other e. elim (cases place other e) [
+          let alone : AreSeatedOnce new = λ place other which here there. grind (arith, cases, l.apart) in
+          let may_stand : AreWheelsAllowed m.model new = λ place other e. elim (cases place other e) [
             | inl here ↦ let one : slot ≡ place + 1 = omega (arith, here.0, at.first) in rw (← one, here.1) may
             | inr there ↦ l.allowed place other there.0
           ]
           in
-          grind (arith, rotor_machine, in_their_order, length-set, length-map, may_stand, alone);
+          grind (arith, rotor_machine, all_ordered-same, length-set, length-map, may_stand, alone);
     }
-carried (Rotor m) (SeatReflector reflector) h allowed =
+Carries-sound (Rotor m) (SeatReflector reflector) h allowed =
     let may = (has_reflector-Decides (reflectors_of m.model) reflector).0 (not-false _ allowed.0) in
-    record { told = grind arith; kept = grind (arith, rotor_machine, in_their_order) }
-carried (Rotor m) (RingTo wheel letter) h allowed =
+    record { told = grind arith; kept = grind (arith, rotor_machine, all_ordered-same) }
+Carries-sound (Rotor m) (RingTo wheel letter) h allowed =
     let l = h.legal in
     let place = place_in_box m.model wheel in
     let reads =
@@ -315,22 +324,22 @@ carried (Rotor m) (RingTo wheel letter) h allowed =
       told = grind arith;
       kept = λ within. with_letters m _ m.letters h (letters_set _ m.rings place letter within l.rings) l.letters;
     }
-carried (Rotor m) (Turn slot letter) h allowed =
+Carries-sound (Rotor m) (Turn slot letter) h allowed =
     let l = h.legal in
-    let found = is_seated (numbered m.slots slot) allowed.0 in
+    let found = is_seated (numbered_item m.slots slot) allowed.0 in
     let wheel = found.0 in
     let place = place_in_box m.model wheel in
     let reads =
     for_wheel m.model m.letters wheel letter
     (seated_in_box m.model m.slots slot wheel l.allowed found.1) l.letters in
-    let turned = ap (λ held. with_letter m (unwrap_or held None) letter) found.1 in
+    let turned = ap (λ held. letters_with m (unwrap_or held None) letter) found.1 in
     record {
       told = rw turned (wheel, found.1, reads.0, keeps_letters m wheel (set m.letters place letter) reads.1);
       kept = λ r. with_letters m m.rings _ h l.rings (rw turned (letters_set _ m.letters place letter r.1 l.letters));
     }
-carried (Pin m) (Turn wheel letter) h allowed =
+Carries-sound (Pin m) (Turn wheel letter) h allowed =
     let l = h.legal in
-    let at = stands m.letters wheel 0 allowed.0 in
+    let at = IsNumbered-not_none m.letters wheel 0 allowed.0 in
     let on = (has_letter-Decides (ring_of wheel) letter).0 (not-false _ allowed.1.0) in
     let now = numbered_here m.letters wheel letter at.first at.last in
     record {
@@ -345,7 +354,7 @@ carried (Pin m) (Turn wheel letter) h allowed =
           in
           grind (arith, pin_machine);
     }
-carried (Pin m) (PinTo wheel letter effective) h allowed =
+Carries-sound (Pin m) (PinTo wheel letter effective) h allowed =
     let l = h.legal in
     let place = unwrap_or (place_on (ring_of wheel) letter) 0 in
     let there =
@@ -353,7 +362,8 @@ carried (Pin m) (PinTo wheel letter effective) h allowed =
     let old = wheel_pins m.pins wheel in
     let within : place < length old =
     omega (arith, l.pins wheel, (position-Some (λ (l : ℕ). nat_eq l letter) (ring_of wheel) place 0 there).0) in
-    let at = stands (pins_of m.pins) wheel [] (filled (numbered (pins_of m.pins) wheel) place within) in
+    let at = IsNumbered-not_none (pins_of m.pins) wheel []
+    (is_none-nonempty (numbered_item (pins_of m.pins) wheel) place within) in
     let new = set old place effective in
     let pins = with_pin m.pins wheel letter effective in
     let lists = six_lists m.pins (wheel - 1) new in
@@ -367,7 +377,7 @@ carried (Pin m) (PinTo wheel letter effective) h allowed =
             ∙ ap (option_and_then (slice_get new)) there ∙ set_here old place effective within,
         record {
           model = refl;
-          others = λ thing. elim thing as (Keeps (ThePin wheel letter) (Pin m) (Pin (record m { pins = pins }))) [
+          others = λ thing. elim thing as (KeepsBut (ThePin wheel letter) (Pin m) (Pin (record m { pins = pins }))) [
             | ThePin turned other ↦ λ free. elim (cases_eq turned wheel) [
               | inl e ↦ grind (arith, pin_at, other_pin)
               | inr ne ↦
@@ -379,26 +389,27 @@ carried (Pin m) (PinTo wheel letter effective) h allowed =
       );
       kept = grind (arith, pin_machine, cases_eq, length-set, l.pins, elsewhere);
     }
-carried (Pin m) (LugTo bar lug place) h allowed =
-    let at = stands m.bars bar (place, place) allowed.0 in
-    let standing = unwrap_or (numbered m.bars bar) (place, place) in
+Carries-sound (Pin m) (LugTo bar lug place) h allowed =
+    let at = IsNumbered-not_none m.bars bar (place, place) allowed.0 in
+    let standing = unwrap_or (numbered_item m.bars bar) (place, place) in
     let new = with_lug lug place standing in
     let bars = set m.bars (bar - 1) new in
     let now = numbered_here m.bars bar new at.first at.last in
-    let all : with_lug_at m bar lug place ≡ bars = rw at.is refl in
+    let all : bars_with_lug m bar lug place ≡ bars = rw at.is refl in
     let moved : MovesLug (Pin m) bar lug place (Pin (record m { bars = bars })) =
     grind (arith, now, at.is, lug_set lug place standing) in
     record {
       told =
-          subst (λ bars. Makes (Pin m) (LugTo bar lug place) (Pin (record m { bars = bars }))) (sym all)
+          subst (λ bars. ChangesTo (Pin m) (LugTo bar lug place) (Pin (record m { bars = bars }))) (sym all)
           (moved, keeps_bars m bar new at.first);
       kept = grind (arith, common_steps, pin_machine, length-set, All-set, still_before);
     }
-carried m x h allowed = absurd (true≢false allowed.0)
+Carries-sound m x h allowed = absurd (true≢false allowed.0)
 
 pub settings_are_told : SettingsAreTold
-settings_are_told m n x h c = subst (Makes m x) (sym c.made) (carried m x h (no_reason (reasons m x) c.allowed)).told
+settings_are_told m n x h c = subst (ChangesTo m x) (sym c.made)
+    (Carries-sound m x h (no_reason (refusal_reasons m x) c.allowed)).told
 
 pub settings_keep_machines : SettingsKeepMachines
 settings_keep_machines m n x h r c =
-    subst IsMachine (sym c.made) ((carried m x h (no_reason (reasons m x) c.allowed)).kept r)
+    subst IsMachine (sym c.made) ((Carries-sound m x h (no_reason (refusal_reasons m x) c.allowed)).kept r)

@@ -1,10 +1,10 @@
-use Rattle.kd_state.proofs.{Lines.{no_number, no_text, ok_part, only_number}, Prelude.{arith, sym, ◌∙◌}}
+use Rattle.kd_state.proofs.{Lines.{no_number, decimal-not_text, ok_part, only_number}, Prelude.{arith, sym, ◌∙◌}}
 use Rattle.kd_state.proofs.words.wide_number_of_text.Goals as goal
 
 pub returns-in_err-ok : goal.returns-in_err-ok
 returns-in_err-ok c =
     rw c.from_residual.ensures
-    (no_text c.args.text.now c.from_utf8.result _ _ c.from_utf8.ensures.cases
+    (decimal-not_text c.args.text.now c.from_utf8.result _ _ c.from_utf8.ensures.cases
     (sym c.ok.ensures.value ∙ c.in_err-ok.was))
 
 pub returns-in_err-number : goal.returns-in_err-number

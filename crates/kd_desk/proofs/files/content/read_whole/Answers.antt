@@ -1,11 +1,11 @@
-use Rattle.kd_desk.proofs.{Failing.answered, Failing.well_now, Prelude.IsReadWhole, Prelude.port}
+use Rattle.kd_desk.proofs.{Failing.err-holds, Failing.well_now, Prelude.IsReadWhole, Prelude.port}
 use Rattle.std.proofs.KnownBytes.{Consumes-trans}
 use Rattle.kd_desk.proofs.files.content.read_whole.Goals as goal
 
 pub returns-in_err-extend_from_slice-in-Ok : goal.returns-in_err-extend_from_slice-in-Ok
 returns-in_err-extend_from_slice-in-Ok g c =
     let source = port g.S.Source.remaining g.S.Source.has_failed c.args.source.now c.get.new.self in
-    answered c.from_residual.result _ (λ answer. IsReadWhole source answer) c.from_residual.ensures.1 (record {
+    err-holds c.from_residual.result _ (λ answer. IsReadWhole source answer) c.from_residual.ensures.1 (record {
       read = _;
       given = Consumes-trans _ _ _ _ _ c.loop-buffer.invariant.given c.in-Ok.ensures.bytes.given;
       is = cc (well_now _ _ c.in-Ok.ensures.failed);

@@ -1,12 +1,12 @@
 use Rattle.std.proofs.Common.{ap, ◌∙◌, ◌∷◌, [], arith, rules}
-use Rattle.kd_drum.{proofs.Letters.shows_letter, proofs.Letters.six_letters, specs.Converter.OnWheels}
+use Rattle.kd_drum.{proofs.Letters.shows_letter, proofs.Letters.six_letters, specs.Converter.IsEachOnItsWheel}
 use Rattle.kd_drum.specs.Converter.{pin_key_turned}
 use Rattle.kd_drum.proofs.converter.Converter.turn_to.Goals as goal
 
 pub returns-clause-turned : goal.returns-clause-turned
 returns-clause-turned c =
     let there = c.args.letters in
-    let on : OnWheels there = c.can_show.ensures.0 (search rules) in
+    let on : IsEachOnItsWheel there = c.can_show.ensures.0 (search rules) in
     let stands = c.self.invariant.0 in
     let l1 = shows_letter _ _ there 0 _ _ stands.first.ring (search rules)
     (on 1 (omega arith) (omega arith)) c.show.ensures.shows in

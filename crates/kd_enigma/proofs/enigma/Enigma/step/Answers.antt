@@ -1,5 +1,6 @@
-use Rattle.kd_enigma.proofs.{Seats.wired, enigma.Enigma.step.Goals.{else-stands-stood, then-stands-stood}}
-use Rattle.{kd_enigma.specs.Around.around, kd_enigma.specs.Wired.{key_in, slow}, std.proofs.Common.{arith, rules, ◌≡◌}}
+use Rattle.kd_enigma.proofs.{Seats.IsWired-path, enigma.Enigma.step.Goals.{else-stands-stood, then-stands-stood}}
+use Rattle.{kd_enigma.specs.Around.around_wheels, kd_enigma.specs.Wired.{key_of_parts, slow_slots}}
+use Rattle.{std.proofs.Common.{arith, rules, ◌≡◌}}
 use Rattle.kd_step.proofs.Moved.{slow_still}
 use Rattle.kd_enigma.proofs.enigma.Enigma.step.Goals as goal
 
@@ -8,14 +9,15 @@ invariant_of-self g c =
     let inside = c.self.inside in
     let kept = c.self.invariant.1 in
     let now = c.if-stands-stood.self-inside in
-    let around_now = around inside.reflecting (slow inside.rotors) (slow c.step.new.self.window) in
-    let stands : now ≡ record inside { stepper = c.step.new.self; inner = around_now } = elim c.if-stands-stood.branch [
+    let around_now = around_wheels inside.reflecting (slow_slots inside.rotors) (slow_slots c.step.new.self.window) in
+    let stands : now ≡ record inside { stepper = c.step.new.self; slow_map = around_now } = elim
+    c.if-stands-stood.branch [
       | then-stands-stood w ↦ grind arith
       | else-stands-stood w ↦ grind (arith, slow_still)
     ] in (
       grind arith,
-      wired (key_in now.stepper now.rings now.reflector now.plugs) now.rotors now.reflecting now.inner
-          c.enclosing-self-inside.result c.index-self.result c.shown-right.result g.row.S 0
+      IsWired-path (key_of_parts now.stepper now.rings now.reflector now.plugs) now.rotors now.reflecting now.slow_map
+          c.enclose-self-inside.result c.index-self.result c.shown-right.result g.row.S 0
           (grind (arith, kept)) (grind (arith, kept)) (grind (arith, kept)) (grind arith)
           (search rules) (search rules) (search rules) c.shown-right.ensures.size
           (omega (arith, c.self.invariant.2)) c.index-self.is c.shown-right.ensures.value (grind arith),

@@ -4,7 +4,7 @@ use Rattle.{kd_tables.specs.Permutation.exchange, std.proofs.{Common.{refl, rule
 use Rattle.kd_enigma.proofs.plugs.Plugs.from_pairs.Goals as goal
 
 pub loop-one-init : goal.loop-one-init
-loop-one-init c = is_plugged_none c.shifted-table.result (c.shifted-table.ensures ∙ no_shift)
+loop-one-init c = is_plugged_none c.shift_table-table.result (c.shift_table-table.ensures ∙ no_shift)
 
 pub loop-one-preserved : goal.loop-one-preserved
 loop-one-preserved c =

@@ -2,8 +2,8 @@ use Rattle.kd_form.proofs.FormSteps.{err_is, next_last, next_refused, closes, cl
 use Rattle.kd_form.proofs.FormSteps.{[], ℕ, ap, ArrayVec, ◌∙◌}
 use Rattle.kd_form.proofs.form_reader.FormReaderMessageReader.end.Goals as goal
 
-pub give-requires-clause-heading : goal.give-requires-clause-heading
-give-requires-clause-heading c =
+pub decipher_into-requires-clause-heading : goal.decipher_into-requires-clause-heading
+decipher_into-requires-clause-heading c =
     (in_stage _ c.args.self.now c.requires.room.bytes _ c.requires.room.held.is _ c.in-Body.is).holds.is_heading
 
 pub returns-in-Heading : goal.returns-in-Heading
@@ -13,17 +13,17 @@ returns-in-Heading c = λ form text so_far.
 
 pub returns-then-body-self : goal.returns-then-body-self
 returns-then-body-self c = λ form text so_far.
-    closes_short _ c.args.self.now form text so_far.is _ c.in-Body.is _ c.in_ok-give-in-Body.ensures.given
+    closes_short _ c.args.self.now form text so_far.is _ c.in-Body.is _ c.in_ok-decipher_into-in-Body.ensures.given
     c.if-body-self.true
 
 pub returns-else-body-self : goal.returns-else-body-self
 returns-else-body-self c = λ form text so_far.
-    closes _ c.args.self.now form text so_far.is _ c.in-Body.is _ c.in_ok-give-in-Body.ensures.given _
+    closes _ c.args.self.now form text so_far.is _ c.in-Body.is _ c.in_ok-decipher_into-in-Body.ensures.given _
     c.if-body-self.false c.push.ensures.items
 
-pub returns-in_err-give-in-Body : goal.returns-in_err-give-in-Body
-returns-in_err-give-in-Body c = λ form text so_far.
+pub returns-in_err-decipher_into-in-Body : goal.returns-in_err-decipher_into-in-Body
+returns-in_err-decipher_into-in-Body c = λ form text so_far.
     rw (err_is _ _ c.from_residual.ensures.1) (closes_refused _ c.args.self.now form text so_far.is _ _
     (next_refused _ _ _ _ _ _ [] (next_last _ c.args.self.now form text so_far.is _ c.in-Body.is)
-    _ c.in_err-give-in-Body.ensures.given)
-    (ap (λ (v : ArrayVec ℕ). v.items) c.in_err-give-in-Body.ensures.unchanged ∙ c.requires.empty))
+    _ c.in_err-decipher_into-in-Body.ensures.given)
+    (ap (λ (v : ArrayVec ℕ). v.items) c.in_err-decipher_into-in-Body.ensures.unchanged ∙ c.requires.empty))

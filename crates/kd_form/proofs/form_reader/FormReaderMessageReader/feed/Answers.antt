@@ -1,10 +1,11 @@
-use Rattle.kd_form.proofs.FormSteps.{err_is, first_longer, goes_on, held, grows, in_stage, take_kept, off, refused}
-use Rattle.kd_form.proofs.FormSteps.{refused_at, four_letters, part_refused, part_read, follows, not_begun, one_more}
+use Rattle.kd_form.proofs.FormSteps.{err_is, first_longer, goes_on, held, grows, in_stage, take_kept}
+use Rattle.kd_form.proofs.FormSteps.{IsHeadingFault-IsEarlyFault, IsRefusedForGood-IsRefused, refused_at, four_letters}
+use Rattle.kd_form.proofs.FormSteps.{part_refused, part_read, HasBegunHeading-snoc, not_begun, cut_at_headings-line}
 use Rattle.kd_form.proofs.FormSteps.{ended_heading, bad_behind, ◌≢◌, take, All-push, All-nil, IsTrue, is_text_byte}
 use Rattle.kd_form.proofs.FormSteps.{IsLineText, line_of, heading_words, [], ◌∷◌, ◌++◌, ◌+◌, ◌-◌, ◌≡◌, ℕ, List, length}
-use Rattle.kd_form.proofs.FormSteps.{length-append, refl, inl, ap, subst, given_letters, BeginsHeading, NoHeading}
+use Rattle.kd_form.proofs.FormSteps.{length-append, refl, inl, ap, subst, plaintext_bytes, BeginsHeading, NoHeading}
 use Rattle.kd_form.proofs.FormSteps.{BadHeading, BadByte, InBody, arith, sym, ◌∙◌, false≢true}
-use Rattle.kd_form.specs.declared.form_reader.Stage.TheVariants as stages
+use Rattle.kd_form.specs.declared.form_reader.FormStage.TheVariants as stages
 use Rattle.kd_form.proofs.form_reader.FormReaderMessageReader.feed.Goals as goal
 
 pub returns-then-not-may_follow : goal.returns-then-not-may_follow
@@ -14,10 +15,10 @@ returns-then-not-may_follow c = λ form text so_far.
     let (few, none) = not_begun h.last _ c.args.byte there.0.kept
     (λ fits. false≢true (sym c.if-not-may_follow.true ∙ c.may_follow.ensures.1 (rw c.as_slice.ensures.value fits))) in
     let (front, nil) = h.first (there.1 few) in
-    refused c.args.day.now _ text _ (NoHeading
+    IsRefusedForGood-IsRefused c.args.day.now _ text _ (NoHeading
     (λ more begun. none more (subst (λ l. BeginsHeading ((l ++ c.args.byte ∷ []) ++ more))
     (rw front at h.joined) begun))
-    (h.is ∙ ap (given_letters c.args.day.now) nil) (ap BadHeading (there.1 few)))
+    (h.is ∙ ap (plaintext_bytes c.args.day.now) nil) (ap BadHeading (there.1 few)))
 
 pub returns-then-byte-ne10 : goal.returns-then-byte-ne10
 returns-then-byte-ne10 c = λ form text so_far.
@@ -25,14 +26,14 @@ returns-then-byte-ne10 c = λ form text so_far.
     let there = in_stage _ c.args.self.now form text h _ c.in-Heading.is in
     let fits = rw c.as_slice.ensures.value at (c.may_follow.ensures.0 c.if-not-may_follow.false) in
     held c.args.day.now _ _ _ (grows _ c.args.self.now form text h
-    (stages.Heading c.keep.new.items) _ c.args.byte c.requires.empty
-    (one_more h.last c.args.byte there.0.unbroken) (
+    (stages.Heading c.push_if_room.new.items) _ c.args.byte c.requires.empty
+    (cut_at_headings-line h.last c.args.byte there.0.unbroken) (
       record {
         kept =
-            c.keep.ensures ∙ ap (λ l. take 64 (l ++ c.args.byte ∷ [])) there.0.kept
+            c.push_if_room.ensures ∙ ap (λ l. take 64 (l ++ c.args.byte ∷ [])) there.0.kept
             ∙ take_kept 64 h.last (c.args.byte ∷ []);
         unbroken = All-push (λ b. b ≢ 10) h.last c.args.byte there.0.unbroken c.if-byte-ne10.true;
-        begins = follows h.last _ c.args.byte there.0.kept there.0.begins fits;
+        begins = HasBegunHeading-snoc h.last _ c.args.byte there.0.kept there.0.begins fits;
       },
       λ few. there.1 (omega (arith, length-append h.last (c.args.byte ∷ []))),
     ))
@@ -50,7 +51,7 @@ returns-then-not-is_text_byte c = λ form text so_far.
     omega (arith, h.counted, ap length h.joined, length-append {A = ℕ}, ap length holds.first.joined) in
     refused_at _ r form text h _ (c.args.byte ∷ []) (h.last ++ c.args.byte ∷ []) []
     (goes_on _ _ h.last there.body c.args.byte holds h.alone
-    (λ digit. false≢true (sym c.if-not-ends_before.true ∙ c.ends_before.ensures.1 digit))) (
+    (λ digit. false≢true (sym c.if-not-is_next_heading_digit.true ∙ c.is_next_heading_digit.ensures.1 digit))) (
       (holds.line, body, first),
       InBody _ body (length there.body) (record {
         is_heading = holds.is_heading;
@@ -60,14 +61,14 @@ returns-then-not-is_text_byte c = λ form text so_far.
           (ap BadByte place),
     )
 
-pub returns-then-not-ends_before : goal.returns-then-not-ends_before
-returns-then-not-ends_before c = λ form text so_far.
+pub returns-then-not-is_next_heading_digit : goal.returns-then-not-is_next_heading_digit
+returns-then-not-is_next_heading_digit c = λ form text so_far.
     let h = so_far.is in
     let there = in_stage _ c.args.self.now form text h _ c.in-Body.is in
     held c.args.day.now _ _ _ (grows _ c.args.self.now form text h
     (stages.Body c.push.new.self) _ c.args.byte c.requires.empty
     (goes_on _ _ h.last there.body c.args.byte there.holds h.alone
-    (λ digit. false≢true (sym c.if-not-ends_before.true ∙ c.ends_before.ensures.1 digit)))
+    (λ digit. false≢true (sym c.if-not-is_next_heading_digit.true ∙ c.is_next_heading_digit.ensures.1 digit)))
     (record {
       body = there.body ++ c.args.byte ∷ [];
       holds = c.push.ensures.body _ h.last there.body there.holds;
@@ -78,14 +79,14 @@ returns-then-not-ends_before c = λ form text so_far.
 pub overflow_add-self-in-Body : goal.overflow_add-self-in-Body
 overflow_add-self-in-Body c = grind (arith, in_stage)
 
-pub give-requires-clause-heading : goal.give-requires-clause-heading
-give-requires-clause-heading c =
+pub decipher_into-requires-clause-heading : goal.decipher_into-requires-clause-heading
+decipher_into-requires-clause-heading c =
     (in_stage _ c.args.self.now c.requires.room.bytes _ c.requires.room.held.is _ c.in-Body.is).holds.is_heading
 
-pub give-requires-clause-some : goal.give-requires-clause-some
-give-requires-clause-some c =
+pub decipher_into-requires-clause-some : goal.decipher_into-requires-clause-some
+decipher_into-requires-clause-some c =
     four_letters _ c.args.self.now c.requires.room.bytes _ c.requires.room.held.is c.in-Body.body _ c.in-Body.is
-    (c.ends_before.ensures.0 c.if-not-ends_before.false)
+    (c.is_next_heading_digit.ensures.0 c.if-not-is_next_heading_digit.false)
 
 pub returns-in_ok-heading-in-Heading : goal.returns-in_ok-heading-in-Heading
 returns-in_ok-heading-in-Heading c = λ form text so_far.
@@ -99,7 +100,7 @@ returns-in_ok-heading-in-Heading c = λ form text so_far.
     let heads = c.new.ensures.heading in
     rw c.if-byte-ne10.false (held c.args.day.now
     _ _ _ (grows _ c.args.self.now form text h (stages.Body c.new.result) _ 10 c.requires.empty
-    (one_more h.last 10 there.0.unbroken) (record {
+    (cut_at_headings-line h.last 10 there.0.unbroken) (record {
       body = [];
       holds = record {
         line = h.last;
@@ -132,20 +133,21 @@ returns-in_err-heading-in-Heading c = λ form text so_far.
     (c.as_slice-in-Heading.ensures.value ∙ there.0.kept) in
     rw (err_is _ _ c.from_residual.ensures.1, c.if-byte-ne10.false)
     (refused_at _ r form text h _ (10 ∷ []) (h.last ++ 10 ∷ []) []
-    (one_more h.last 10 there.0.unbroken) (
+    (cut_at_headings-line h.last 10 there.0.unbroken) (
       (h.last, [], record { joined = refl; without = there.0.unbroken }),
-      off _ r.number r.expected (length h.front) (h.last ++ 10 ∷ []) _ _
+      IsHeadingFault-IsEarlyFault _ r.number r.expected (length h.front) (h.last ++ 10 ∷ []) _ _
           (grind (arith, ended_heading, ended, there.0.unbroken)) c.in_err-heading-in-Heading.ensures,
     ))
 
-pub returns-in_ok-give-in-Body : goal.returns-in_ok-give-in-Body
-returns-in_ok-give-in-Body c = λ form text so_far.
+pub returns-in_ok-decipher_into-in-Body : goal.returns-in_ok-decipher_into-in-Body
+returns-in_ok-decipher_into-in-Body c = λ form text so_far.
     held c.args.day.now _ _ _ (part_read _ c.args.self.now form text so_far.is _ _ c.in-Body.is
-    (c.ends_before.ensures.0 c.if-not-ends_before.false) _ _ c.in_ok-give-in-Body.ensures.given c.heading_from.ensures)
+    (c.is_next_heading_digit.ensures.0 c.if-not-is_next_heading_digit.false) _ _
+    c.in_ok-decipher_into-in-Body.ensures.given c.heading_from.ensures)
 
-pub returns-in_err-give-in-Body : goal.returns-in_err-give-in-Body
-returns-in_err-give-in-Body c = λ form text so_far.
-    rw (err_is _ _ c.from_residual-in_err-give-in-Body.ensures.1)
+pub returns-in_err-decipher_into-in-Body : goal.returns-in_err-decipher_into-in-Body
+returns-in_err-decipher_into-in-Body c = λ form text so_far.
+    rw (err_is _ _ c.from_residual-in_err-decipher_into-in-Body.ensures.1)
     (part_refused _ c.args.self.now form text so_far.is _ _ c.in-Body.is
-    (c.ends_before.ensures.0 c.if-not-ends_before.false) _
-    c.in_err-give-in-Body.ensures.given)
+    (c.is_next_heading_digit.ensures.0 c.if-not-is_next_heading_digit.false) _
+    c.in_err-decipher_into-in-Body.ensures.given)

@@ -2,7 +2,7 @@ use Rattle.kd_form.proofs.OrderSteps.{counted_on, fault_longer, is_longer, lette
 use Rattle.kd_form.proofs.OrderSteps.{text_begins, blank_of, ◌≡◌, length, length-append, append_assoc, arith, All-push}
 use Rattle.kd_form.proofs.OrderSteps.{IsTrue, is_text_byte, filter_map-append, InHead, InText, BadByte, [], ◌∷◌, ◌++◌}
 use Rattle.kd_form.proofs.OrderSteps.{◌+◌, ap, refl, sym, text_letters, ◌∙◌, all_of_the_day, bad_behind, no_head_fault}
-use Rattle.kd_form.specs.declared.order_reader.Stage.TheVariants as stages
+use Rattle.kd_form.specs.declared.order_reader.OrderStage.TheVariants as stages
 use Rattle.kd_form.specs.SendStream as stream
 use Rattle.kd_form.proofs.order_reader.OrderReaderMessageReader.feed.Goals as goal
 
@@ -19,7 +19,7 @@ returns-then-not-is_text_byte c bytes text held =
     order_refused _ (bytes ++ c.args.byte ∷ [])
     text _ (InText _ here.head (here.text ++ c.args.byte ∷ []) _ (is_longer _ (c.args.byte ∷ []) so_far.is_order)
     so_far.suited (bad_behind here.text [] c.args.byte so_far.allowed bad) (ap BadByte place))
-    (λ more. stream.InText _ here.head (here.text ++ c.args.byte ∷ more) here.text _
+    (λ more. stream.TextBegun _ here.head (here.text ++ c.args.byte ∷ more) here.text _
     (rw (append_assoc bytes (c.args.byte ∷ []) more) (is_longer _ (c.args.byte ∷ more) so_far.is_order)) so_far.suited
     (record {
       rest = c.args.byte ∷ more;
@@ -53,7 +53,7 @@ returns-in-Bad c bytes text held =
     let here = rw c.in-Head.is at held.is.stage in
     let fault = c.in-Bad.ensures bytes here.0 in
     order_refused _ _ text _ (InHead _ fault (omega arith) (ap BadByte (counted_on bytes c.args.byte held.is.counted)))
-    (λ more. stream.NotYet (λ keys front after is suited. no_head_fault _ _ keys front after _ is
+    (λ more. stream.NothingSent (λ keys front after is suited. no_head_fault _ _ keys front after _ is
     (fault_longer _ more fault (omega arith))) here.1)
 
 pub returns-in-Text-take : goal.returns-in-Text-take

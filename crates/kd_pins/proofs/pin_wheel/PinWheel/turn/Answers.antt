@@ -1,4 +1,4 @@
-use Rattle.{kd_pins.proofs.Places.acts_past, kd_pins.specs.PinWheel.turned_to, std.proofs.Common.{ap, refl, ◌∙◌}}
+use Rattle.{kd_pins.proofs.Places.acts_past, kd_pins.specs.PinWheel.wheel_at_place, std.proofs.Common.{ap, refl, ◌∙◌}}
 use Rattle.kd_pins.proofs.pin_wheel.PinWheel.turn.Goals as goal
 
 pub invariant_of-self : goal.invariant_of-self
@@ -11,4 +11,4 @@ returns-clause-turned g c =
     let wheel = c.self.inside in
     let acts = acts_past g.row.N c.args.place wheel.offset _ c.requires c.self.invariant.1.inside refl in
     (λ i. record { ring = wheel.ring; offset = wheel.offset; pins = wheel.pins; place = acts.1 i })
-    ∙ ap (λ w. turned_to w c.args.place) c.self.view_is
+    ∙ ap (λ w. wheel_at_place w c.args.place) c.self.view_is

@@ -1,10 +1,14 @@
 -- Lemmas on reading a document, and on reading items one after another: what a reading that succeeds has passed
 -- on its way, and what holds of its value.
-pub use Rattle.kd_sheet.specs.Document.{demand, each_at, in_turn, items_at, items_in, list_of, result_map, up_to}
-pub use Rattle.kd_sheet.specs.MachineText.{cable_text, key_line, listed, pin_texts, pins_text, quoted, seat_text}
+pub use Rattle.kd_sheet.specs.Document.{demand, read_each, read_items, items_at, items_in, items_list, result_map}
+pub use Rattle.kd_sheet.specs.Document.{read_up_to}
+pub use Rattle.kd_sheet.specs.MachineText.{cable_text, key_line, array_text, pin_texts, pins_text, quoted_text}
+pub use Rattle.kd_sheet.specs.MachineText.{seat_text}
 pub use Rattle.kd_state.proofs.Slots.{all_pins, are_on_wheels as on_all_wheels, has_letter-Decides, numbered_here}
-pub use Rattle.kd_state.specs.Machine.{AreAllowed, AreApart, AreCables, AreLetters, AreOnWheels, HasAllPins, IsLegalPin}
-pub use Rattle.kd_state.specs.SheetDay.{ArePairs, AreSeated, Day, HasLetters, IsDayNumber, IsLegalDay, IsLegalPinDay}
+pub use Rattle.kd_state.specs.Machine.{AreWheelsAllowed, AreSeatedOnce, AreCables, AreLetters, AreOnWheels, HasAllPins}
+pub use Rattle.kd_state.specs.Machine.{IsLegalPin}
+pub use Rattle.kd_state.specs.SheetDay.{ArePairs, AreLegalSeats, Day, HasWheelLetters, IsDayNumber, IsLegalDay}
+pub use Rattle.kd_state.specs.SheetDay.{IsLegalPinDay}
 pub use Rattle.kd_tables.specs.Tables.{IsAllowed, box_of, letters_of, model_text, reflector_text, reflectors_of}
 pub use Rattle.std.proofs.Common.{All, Bool, Bor, Contains, Decides, Err, Global, IfSome, IsSome, IsUtf8, List}
 pub use Rattle.std.proofs.Common.{MatchOption, None, Ok, Option, Result, Some, Vec, [], ap, append_assoc, arith}
@@ -19,21 +23,28 @@ pub use Rattle.std.proofs.lemmas.Option.{get_or_from_slice_get, gets, none-some,
 pub use Rattle.toml.specs.Data.{Data, Members, array, as_array, as_table, depth, get_member, has_valid_dates, integer}
 pub use Rattle.{kd_pins.specs.declared.pin_set.PinSet.PinSet, kd_tables.specs.Tables.{slots_of, wheel_text, wheels_for}}
 pub use Rattle.kd_sheet.specs.{Bars.{row_for, standing_for}, Letters.capital_letters, Names.{every_model, every_wheel}}
-pub use Rattle.kd_sheet.specs.{Cables.{cable_of, pair_letters, thirteen}, SheetFile.{group_for, sheet_wheels}}
+pub use Rattle.kd_sheet.specs.{Cables.{cable_with_ends, pair_letters, filled_to_thirteen}}
+pub use Rattle.kd_sheet.specs.{SheetFile.{group_for, sheet_wheels}}
 pub use Rattle.kd_sheet.specs.{Document.{value_at, ◌>>=◌, ◌>>◌}, Sheet.{IsMonth, day_of, month_of}}
-pub use Rattle.kd_sheet.specs.{Key.key_name, PinWheels.{are_on_wheels, has_capital, is_on, pins_behind, stands_once}}
-pub use Rattle.kd_sheet.specs.{Laws.{DaysAreTheEntries, LegalPartsAreReadBack}, Numbers.{number_to, numbered_letter}}
-pub use Rattle.kd_sheet.specs.{MachineText.version_of, Seats.{holds, may_be_empty}, declared.key.Key.Key}
+pub use Rattle.kd_sheet.specs.{Key.key_name}
+pub use Rattle.kd_sheet.specs.{PinWheels.{are_on_wheels, has_capital, is_letter_of, pins_for, stands_once}}
+pub use Rattle.kd_sheet.specs.{Laws.{DaysAreTheEntries, LegalPartsAreReadBack}}
+pub use Rattle.kd_sheet.specs.{Numbers.{number_up_to, letter_of_number}}
+pub use Rattle.kd_sheet.specs.{MachineText.file_version, Seats.{holds_wheel, may_be_empty}, declared.key.Key.Key}
 pub use Rattle.kd_sheet.specs.declared.fault.SheetFault.{TheVariants.{BadValue, NotToml, UnknownModel}, SheetFault}
-pub use Rattle.kd_state.proofs.{Cables.{eqb_flips, new_tells, no_letters}, Slots.numbered_other}
+pub use Rattle.kd_state.proofs.{Cables.{eqb_flips, new_tells, IsDistinct-nil}, Slots.numbered_other}
 pub use Rattle.kd_state.proofs.Wheels.{has_reflector-Decides, has_wheel-Decides, same_wheel-Decides}
-pub use Rattle.kd_state.specs.Machine.{IsLegalRotor, StandsAt, cable_letters, cables_ordered, ordered, plugged_letters}
-pub use Rattle.kd_state.specs.{Setting.{are_new, has_letter}, declared.sheet_day.rotor_entry.SheetWheel.SheetWheel}
-pub use Rattle.kd_state.specs.SheetDay.{IsLegalRotorDay, OfPins, OfRotors, PinDay, RotorDay, day_number, seats}
-pub use Rattle.{kd_state.specs.ToldApart.{has_reflector, numbered}, std.proofs.Math.Bool.{and-false, or-true}}
+pub use Rattle.kd_state.specs.Machine.{IsLegalRotor, IsSeatedAt, cable_letters, with_cables_in_order, cable_in_order}
+pub use Rattle.kd_state.specs.Machine.{letters_in_cables}
+pub use Rattle.kd_state.specs.{Setting.{are_new_letters, has_letter}}
+pub use Rattle.kd_state.specs.{declared.sheet_day.rotor_entry.SheetWheel.SheetWheel}
+pub use Rattle.kd_state.specs.SheetDay.{IsLegalRotorDay, OfPins, OfRotors, PinDay, RotorDay, day_number}
+pub use Rattle.kd_state.specs.SheetDay.{seats_of_wheels}
+pub use Rattle.{kd_state.specs.SameParts.{has_reflector, numbered_item}, std.proofs.Math.Bool.{and-false, or-true}}
 pub use Rattle.kd_state.specs.declared.machine.parts.Parts.{TheVariants.{Pin, Rotor}, Parts}
 pub use Rattle.kd_state.specs.declared.machine.{pin_parts.PinParts.PinParts, rotor_parts.RotorParts.RotorParts}
-pub use Rattle.kd_tables.specs.Places.{IsBefore, IsReading, figure, place_rank, reading_text, standing_text, standings}
+pub use Rattle.kd_tables.specs.Places.{IsBefore, IsReading, digit_text, place_rank, reading_text, standing_text}
+pub use Rattle.kd_tables.specs.Places.{standings}
 pub use Rattle.kd_tables.specs.{Text.{is_capital, letters_text}, declared.{place.Place.Place, wheel.Wheel.Wheel}}
 pub use Rattle.kd_tables.specs.declared.{model.Model.{TheVariants.M209, Model}, reflector.Reflector.Reflector}
 pub use Rattle.std.proofs.Common.{◌&&◌, ◌++◌, ◌+◌, ◌-◌, ◌<◌, ◌==◌, ◌||◌, ◌↔◌, ◌∙◌, ◌∷◌, ◌≡◌, ◌≢◌, ◌≤◌}
@@ -57,11 +68,12 @@ unfoldable pub use Rattle.kd_sheet.specs.SheetFile.{day_for, day_in, group_of_it
 unfoldable pub use Rattle.kd_sheet.specs.SheetFile.{new_number_in, number_in, pin_day_in, rings_in, rotor_day_in}
 unfoldable pub use Rattle.toml_writer.specs.Text.{encoding_of, escaped, key_text, needs_escape, quotes_after}
 unfoldable pub use Rattle.kd_sheet.specs.{Bars.{bars_in, row_of_text, rows_in}, MachineText.machine_text}
-unfoldable pub use Rattle.kd_sheet.specs.Cables.{cable_for, cables_in, letters_in_cable, pair_for, pairs_in}
+unfoldable pub use Rattle.kd_sheet.specs.Cables.{cable_for, cables_in, cable_letters_of_text, pair_for, pairs_in}
 unfoldable pub use Rattle.kd_sheet.specs.{Document.document_of, MachineFile.{reflector_in, rotor_parts_in, version_in}}
 unfoldable pub use Rattle.{kd_sheet.specs.{Letters.letters_at, SheetFile.sheet_in}, toml_writer.specs.Text.string_text}
 unfoldable pub use Rattle.kd_sheet.specs.Names.{model_by_name, reflector_by_name, standing_by_text, wheel_by_name}
-unfoldable pub use Rattle.kd_sheet.specs.PinWheels.{letters_on_wheels, pins_in, pins_of_item, pins_of_text, shown_in}
+unfoldable pub use Rattle.kd_sheet.specs.PinWheels.{letters_on_wheels, pins_in, pins_of_item, pins_of_text}
+unfoldable pub use Rattle.kd_sheet.specs.PinWheels.{shown_letters_in}
 unfoldable pub use Rattle.kd_sheet.specs.Seats.{is_seated, seat_for, seat_of_item, seats_in, wheel_for}
 unfoldable pub use Rattle.{kd_tables.specs.Rings.ring_of, toml.specs.Tables.{along_dots, along_header, at_key, define}}
 unfoldable pub use Rattle.{std.specs.{Fmt.digits, List.IsDistinct}, toml.specs.Parse.{parse_document, skip_bom}}
@@ -81,7 +93,7 @@ unfolding document_of
 document_refused bytes refused = grind (arith, cases_Bool, bytes, refused, IsUtf8-from_is_utf8)
 
 -- the items of a list's array are the list
-pub list_of-items_of : (items : List Data) → list_of (items_of items) ≡ items
+pub list_of-items_of : (items : List Data) → items_list (items_of items) ≡ items
 list_of-items_of [] = refl
 list_of-items_of (first ∷ rest) = ap (λ more. first ∷ more) (list_of-items_of rest)
 
@@ -93,44 +105,46 @@ items_in_found key value found e = grind (arith, option_map, list_of-items_of)
 
 -- ---- steps of a reading
 
-abbrev found : {A : Type 0} → A → Result A SheetFault
-found x = Ok x
+abbrev read_ok : {A : Type 0} → A → Result A SheetFault
+read_ok x = Ok x
 
-pub same_found : {A : Type 0} (x y : A) → found x ≡ found y → x ≡ y
+pub same_found : {A : Type 0} (x y : A) → read_ok x ≡ read_ok y → x ≡ y
 same_found x y e = cc
 
 -- if two readings in a row succeed, the first gave a value and the second succeeded on it
-pub given : {A B : Type 0} (first : Result A SheetFault) (next : A → Result B SheetFault) (value : B)
+pub bind-Ok : {A B : Type 0} (first : Result A SheetFault) (next : A → Result B SheetFault) (value : B)
     → (first >>= next) ≡ Ok value → (x : A) × (first ≡ Ok x) × (next x ≡ Ok value)
-given first next value e = grind arith
+bind-Ok first next value e = grind arith
 
 -- if a test and a reading succeed, the test passed
-pub passed : {B : Type 0} (test : Bool) (fault : SheetFault) (next : Result B SheetFault) (value : B)
+pub demand-Ok : {B : Type 0} (test : Bool) (fault : SheetFault) (next : Result B SheetFault) (value : B)
     → (demand test fault >> next) ≡ Ok value → (test ≡ true) × (next ≡ Ok value)
-passed test fault next value e = grind arith
+demand-Ok test fault next value e = grind arith
 
 -- if the reading succeeds, its value satisfies `P`
-abbrev pub Gives : {A : Type 0} → Result A SheetFault → (A → Type 0) → Type 0
-Gives answer P = (x : _) → answer ≡ Ok x → P x
+abbrev pub SucceedsWith : {A : Type 0} → Result A SheetFault → (A → Type 0) → Type 0
+SucceedsWith answer P = (x : _) → answer ≡ Ok x → P x
 
-pub done : {A : Type 0} (P : A → Type 0) (x : A) → P x → Gives (Ok x) P
-done P x holds y e = subst P (same_found x y e) holds
+pub SucceedsWith-Ok : {A : Type 0} (P : A → Type 0) (x : A) → P x → SucceedsWith (Ok x) P
+SucceedsWith-Ok P x holds y e = subst P (same_found x y e) holds
 
 -- `Q` holds of what two readings in a row give, if `P` holds of the first value and the second reading turns
 -- `P` into `Q`
-pub after : {A B : Type 0} (first : Result A SheetFault) (next : A → Result B SheetFault) (P : A → Type 0)
-    (Q : B → Type 0) → Gives first P → ((x : A) → P x → Gives (next x) Q) → Gives (first >>= next) Q
-after first next P Q here rest y e =
-    let before = given first next y e in rest before.0 (here before.0 before.1) y before.2
+pub SucceedsWith-bind : {A B : Type 0} (first : Result A SheetFault) (next : A → Result B SheetFault) (P : A → Type 0)
+    (Q : B → Type 0) → SucceedsWith first P → ((x : A) → P x → SucceedsWith (next x) Q)
+    → SucceedsWith (first >>= next) Q
+SucceedsWith-bind first next P Q here rest y e =
+    let before = bind-Ok first next y e in rest before.0 (here before.0 before.1) y before.2
 
 pub after_any : {A B : Type 0} (first : Result A SheetFault) (next : A → Result B SheetFault) (Q : B → Type 0)
-    → ((x : A) → Gives (next x) Q) → Gives (first >>= next) Q
-after_any first next Q rest y e = let before = given first next y e in rest before.0 y before.2
+    → ((x : A) → SucceedsWith (next x) Q) → SucceedsWith (first >>= next) Q
+after_any first next Q rest y e = let before = bind-Ok first next y e in rest before.0 y before.2
 
 -- `P` holds of what a reading of an optional key gives, if it holds of each value read and of the default
 pub if_there : {A : Type 0} (there : Option Data) (reading : Data → Result A SheetFault) (none : A) (P : A → Type 0)
-    → ((value : Data) → Gives (reading value) P) → P none → Gives (option_map_or reading there (Ok none)) P
-if_there None reading none P each holds = done P none holds
+    → ((value : Data) → SucceedsWith (reading value) P) → P none
+    → SucceedsWith (option_map_or reading there (Ok none)) P
+if_there None reading none P each holds = SucceedsWith-Ok P none holds
 if_there (Some value) reading none P each holds = each value
 
 -- a required thing that was read was there
@@ -148,23 +162,23 @@ pub then_read : {A B : Type 0} (first : Result A SheetFault) (next : A
     → next x ≡ result → (first >>= next) ≡ result
 then_read first next x result is rest = ap (λ answer. answer >>= next) is ∙ rest
 
-pub passing : {B : Type 0} (test : Bool) (fault : SheetFault) (next result : Result B SheetFault) → test ≡ true
+pub demand-passes : {B : Type 0} (test : Bool) (fault : SheetFault) (next result : Result B SheetFault) → test ≡ true
     → next ≡ result → (demand test fault >> next) ≡ result
-passing test fault next result e d = grind arith
+demand-passes test fault next result e d = grind arith
 
 -- ---- items, one after another
 
 -- a value in place of an item past the end
-abbrev pub nothing : Data
-nothing = string []
+abbrev pub no_item : Data
+no_item = string []
 
 module _ {A : Type 0} where
   -- the result of reading `items` after the items with the values `values`
   abbrev pub on : (List A → Data → Result A SheetFault) → List A → List Data → Result (List A) SheetFault
-  on reading values items = in_turn (λ more. reading (values ++ more)) items >>= (λ more. Ok (values ++ more))
+  on reading values items = read_items (λ more. reading (values ++ more)) items >>= (λ more. Ok (values ++ more))
 
   pub on_none : (reading : List A → Data → Result A SheetFault) (items : List Data)
-      → in_turn reading items ≡ on reading [] items
+      → read_items reading items ≡ on reading [] items
   on_none reading items = grind arith
 
   pub on_all : (reading : List A → Data → Result A SheetFault) (values : List A) (items : List Data) (place : ℕ)
@@ -191,63 +205,64 @@ module _ {A : Type 0} where
 
   -- there are as many values as items
   pub as_many : (reading : List A → Data → Result A SheetFault) (items : List Data)
-      → Gives (in_turn reading items) (λ values. length values ≡ length items)
+      → SucceedsWith (read_items reading items) (λ values. length values ≡ length items)
   as_many reading [] values e = ap length (sym (same_found _ _ e))
   as_many reading (item ∷ items) values e =
-      let first = given (reading [] item) _ values e in
-      let more = given (in_turn (λ earlier. reading (first.0 ∷ earlier)) items) _ values first.2 in
+      let first = bind-Ok (reading [] item) _ values e in
+      let more = bind-Ok (read_items (λ earlier. reading (first.0 ∷ earlier)) items) _ values first.2 in
       ap length (sym (same_found _ _ more.2))
       ∙ ap suc (as_many (λ earlier. reading (first.0 ∷ earlier)) items more.0 more.1)
 
   pub read_at : (reading : List A → Data → Result A SheetFault) (items : List Data) (values : List A)
-      → in_turn reading items ≡ Ok values → (k : ℕ) (d : Data) (e : A) → k < length items
+      → read_items reading items ≡ Ok values → (k : ℕ) (d : Data) (e : A) → k < length items
       → reading (take k values) (get_or items k d) ≡ Ok (get_or values k e)
   read_at reading [] values is k d e within = absurd (omega arith)
-  read_at reading (item ∷ items) values is zero d e within = grind (arith, given)
+  read_at reading (item ∷ items) values is zero d e within = grind (arith, bind-Ok)
   read_at reading (item ∷ items) values is (suc k) d e within =
-      let first = given (reading [] item) _ values is in
-      let more = given (in_turn (λ earlier. reading (first.0 ∷ earlier)) items) _ values first.2 in
+      let first = bind-Ok (reading [] item) _ values is in
+      let more = bind-Ok (read_items (λ earlier. reading (first.0 ∷ earlier)) items) _ values first.2 in
       subst (λ vs. reading (take (suc k) vs) (get_or items k d) ≡ Ok (get_or vs (suc k) e)) (same_found _ _ more.2)
       (read_at (λ earlier. reading (first.0 ∷ earlier)) items more.0 more.1 k d e (omega arith))
 
   -- each value satisfies `P`, if every value that the reading can give does
   pub each_is : (reading : List A → Data → Result A SheetFault) (P : A → Type 0)
       → ((earlier : List A) (item : Data) (x : A) → reading earlier item ≡ Ok x → P x)
-      → (items : List Data) → Gives (in_turn reading items) (All P)
+      → (items : List Data) → SucceedsWith (read_items reading items) (All P)
   each_is reading P has items values e k d within =
-      grind (arith, as_many, read_at reading items values e k nothing d, has)
+      grind (arith, as_many, read_at reading items values e k no_item d, has)
 
   -- `Holds` holds of all values, if it holds of none and each further value keeps it
   pub keeps : (reading : List A → Data → Result A SheetFault) (Holds : List A → Type 0) → Holds []
       → ((done : List A) (item : Data) (value : A) → Holds done → reading done item ≡ Ok value
       → Holds (done ++ value ∷ []))
-      → (items : List Data) → Gives (in_turn reading items) Holds
-  keeps reading Holds start more [] = done Holds [] start
+      → (items : List Data) → SucceedsWith (read_items reading items) Holds
+  keeps reading Holds start more [] = SucceedsWith-Ok Holds [] start
   keeps reading Holds start more (item ∷ items) =
-      after (reading [] item) _ _ _ (λ value. more [] item value start) (λ value so_far.
-      after (in_turn (λ done. reading (value ∷ done)) items) _ _ _
-      (keeps (λ done. reading (value ∷ done)) (λ ys. Holds (value ∷ ys)) so_far (λ done. more (value ∷ done)) items)
-      (λ values all. done Holds (value ∷ values) all))
+      SucceedsWith-bind (reading [] item) _ _ _ (λ value. more [] item value start) (λ value so_far.
+      SucceedsWith-bind (read_items (λ read. reading (value ∷ read)) items) _ _ _
+      (keeps (λ read. reading (value ∷ read)) (λ ys. Holds (value ∷ ys)) so_far (λ read. more (value ∷ read)) items)
+      (λ values all. SucceedsWith-Ok Holds (value ∷ values) all))
 
   -- `Holds` for the values of an array of exactly `count` items, or of at most `count`
   module _ (reading : List A → Data → Result A SheetFault) (Holds : List A → Type 0)
-      (all : (items : List Data) → Gives (in_turn reading items) Holds) (key : Key) (count : ℕ) where
+      (all : (items : List Data) → SucceedsWith (read_items reading items) Holds) (key : Key) (count : ℕ) where
     pub each_read : (table : Members)
-        → Gives (each_at key count reading table) (λ values. (length values ≡ count) × Holds values)
-    each_read table values e = grind (arith, given, passed, eqb-true, as_many, all)
+        → SucceedsWith (read_each key count reading table) (λ values. (length values ≡ count) × Holds values)
+    each_read table values e = grind (arith, bind-Ok, demand-Ok, eqb-true, as_many, all)
 
     pub some_read : (value : Data)
-        → Gives (up_to key count reading value) (λ values. (length values ≤ count) × Holds values)
-    some_read value values e = grind (arith, given, passed, leb-true, as_many, all)
+        → SucceedsWith (read_up_to key count reading value) (λ values. (length values ≤ count) × Holds values)
+    some_read value values e = grind (arith, bind-Ok, demand-Ok, leb-true, as_many, all)
 
   -- a list of things is read back from their texts if each thing is
   pub again : (reading : List A → Data → Result A SheetFault) (text_of : A → List ℕ) (all : List A)
       → ((k : ℕ) (x : A) → slice_get all k ≡ Some x → reading (take k all) (string (text_of x)) ≡ Ok x)
-      → in_turn reading (map string (map text_of all)) ≡ Ok all
+      → read_items reading (map string (map text_of all)) ≡ Ok all
   again reading text_of [] each = refl
   again reading text_of (x ∷ all) each =
-      rw (each 0 x refl, again (λ done. reading (x ∷ done)) text_of all (λ k. each (suc k))) refl
+      rw (each 0 x refl, again (λ read. reading (x ∷ read)) text_of all (λ k. each (suc k))) refl
 
 -- an element of a list satisfies what all elements do
-pub held : {X : Type 0} (P : X → Type 0) (xs : List X) (k : ℕ) (x : X) → All P xs → slice_get xs k ≡ Some x → P x
-held P xs k x all at = grind (arith, common_steps, gets, slice_get_within)
+pub All-slice_get : {X : Type 0} (P : X → Type 0) (xs : List X) (k : ℕ) (x : X) → All P xs → slice_get xs k ≡ Some x
+    → P x
+All-slice_get P xs k x all at = grind (arith, common_steps, gets, slice_get_within)

@@ -6,7 +6,7 @@ pub returns-in-Rotor-Rotor : goal.returns-in-Rotor-Rotor
 returns-in-Rotor-Rotor c =
     let machine = sym c.parts.ensures.parts ∙ c.in-Rotor-Rotor.is-0 in
     let day = sym c.entry.ensures.value ∙ ap values_of c.in-Rotor-Rotor.is-1 in
-    rw (machine, day) (all_tested _ _ _ _ c.show_letters.ensures c.as_slice.ensures.value)
+    rw (machine, day) (all_tested _ _ _ _ c.have_letters.ensures c.as_slice.ensures.value)
 
 pub returns-in-Pin-Pin : goal.returns-in-Pin-Pin
 returns-in-Pin-Pin c = grind (arith, pin_letters_show, pointwise_decides)

@@ -1,6 +1,6 @@
 use Rattle.kd_form.proofs.OrderSteps.{goes_on, head_open, head_next, no_next, one_more, text_head, ◌≡◌, ℕ, List, []}
 use Rattle.kd_form.proofs.OrderSteps.{◌∷◌, ◌++◌, ◌+◌, ◌≤◌, refl, inr, inl, ap, append-nil, length, length-append, arith}
-use Rattle.kd_form.proofs.OrderSteps.{codes, behind}
+use Rattle.kd_form.proofs.OrderSteps.{codes, BeginsWithKeys-append}
 use Rattle.kd_form.proofs.order_reader.head.HeadReader.take.Goals as goal
 
 -- the line of keys is complete
@@ -24,9 +24,9 @@ pub returns-in-Ok-None : goal.returns-in-Ok-None
 returns-in-Ok-None c = grind (arith, append-nil, text_head)
 
 -- no head goes on with the byte
-pub returns-in-Err-Off : goal.returns-in-Err-Off
-returns-in-Err-Off c order is =
-    let off = rw (c.len.ensures.value, c.as_slice.ensures.value, c.push.ensures.items) at c.in-Err-Off.ensures in
+pub returns-in-Err-Mismatch : goal.returns-in-Err-Mismatch
+returns-in-Err-Mismatch c order is =
+    let off = rw (c.len.ensures.value, c.as_slice.ensures.value, c.push.ensures.items) at c.in-Err-Mismatch.ensures in
     record {
       before = order;
       rest = c.args.byte ∷ [];
@@ -38,14 +38,14 @@ returns-in-Err-Off c order is =
           let whole : order ++ c.args.byte ∷ other ≡ all ++ [] = cc (same, append-nil all) in
           let keys = c.args.self.now.keys.items in
           let (after, rest, last, are, mine, ended, alike) =
-          behind _ keys others order all (c.args.byte ∷ other) [] is.lines head.lines whole in
+          BeginsWithKeys-append _ keys others order all (c.args.byte ∷ other) [] is.lines head.lines whole in
           let few : length keys + length after ≤ 99 =
           omega (arith, head.few, ap length are, length-append keys after) in
           let (one, left, next, split) = head_next _ (length keys) after last few ended in
-          no_next _ _ _ other one left c.args.byte is.begins (rw c.in-Err-Off.field-0-is at off) next
+          no_next _ _ _ other one left c.args.byte is.begins (rw c.in-Err-Mismatch.field-0-is at off) next
           (cc (mine, alike, split, append-nil last));
     }
 
 -- the line isn't complete yet
-pub returns-in-Err-Open : goal.returns-in-Err-Open
-returns-in-Err-Open c = grind (arith, head_open)
+pub returns-in-Err-Incomplete : goal.returns-in-Err-Incomplete
+returns-in-Err-Incomplete c = grind (arith, head_open)

@@ -6,7 +6,7 @@ use Rattle.kd_form.proofs.order_reader.parts.PartWriter.take_letter.Goals as goa
 -- the letter belongs to the next part, so the full one is made
 pub returns-then-from-keys : goal.returns-then-from-keys
 returns-then-from-keys c letters sent is =
-    let (k, found, made) = c.write.ensures.made in
+    let (k, found, made) = c.write_part.ensures.made in
     let s = c.args.day.now in
     let keys = c.args.keys.now in
     let letter : ℕ = c.args.letter in
@@ -24,14 +24,14 @@ returns-then-from-keys c letters sent is =
       | inl more ↦ absurd (omega (arith, is.written.most (w.written + 1) another more))
       | inr few ↦ omega (arith, few, enough)
     ] in
-    let number = c.write.ensures.written in
+    let number = c.write_part.ensures.written in
     let up_to : length letters ≡ size * (w.written + 1) = omega (arith, whole) in
     let longer : length (letters ++ letter ∷ []) ≡ length letters + 1 = length-append letters (letter ∷ []) in
     record {
       suited = is.suited;
-      counted = omega (arith, c.write.ensures.count, is.counted, longer);
+      counted = omega (arith, c.write_part.ensures.count, is.counted, longer);
       written = grind (arith, le_of_mul-le-mul_left, number, whole, longer, another);
-      kept = rw number (c.push-then-from-keys.ensures.items ∙ ap (λ l. l ++ letter ∷ []) c.write.ensures.letters
+      kept = rw number (c.push-then-from-keys.ensures.items ∙ ap (λ l. l ++ letter ∷ []) c.write_part.ensures.letters
           ∙ cc (take_all size (letter ∷ []) (omega arith), drop_at letters (letter ∷ []) _ up_to));
       made = rw (number, take_at letters (letter ∷ []) (size * (w.written + 1)) up_to)
           (part_more s keys w k letters sent _ is found made (omega (arith, whole, large)) (omega (arith, whole)));

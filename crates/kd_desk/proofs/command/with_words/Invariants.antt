@@ -1,5 +1,0 @@
-use Rattle.kd_desk.{proofs.Prelude.take, specs.CommandLine.IsMadeOf}
-use Rattle.kd_desk.proofs.command.with_words.Given as goal
-
-abbrev pub invariant-loop-word_name : goal.invariant-loop-word_name
-invariant-loop-word_name l = IsMadeOf l.command l.name (take l.word_name-index l.words)

@@ -1,8 +1,0 @@
-use Rattle.{std.proofs.Common.{◌≡◌, ℕ, ◌<◌, length, slice_index}, kd_drum.specs.Counts.met_by}
-use Rattle.kd_drum.proofs.counts.counts.Given as goal
-
-abbrev pub invariant-loop-wheels : goal.invariant-loop-wheels
-invariant-loop-wheels l = record {
-  size : length l.counts ≡ 64;
-  each : (k : ℕ) → k < l.wheels → slice_index l.counts k ≡ met_by l.rows k;
-}

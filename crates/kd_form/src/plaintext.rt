@@ -1,0 +1,31 @@
+//! Writes the letters of a received text as bytes.
+ghost use Rattle.std.specs.Prelude.{◌≡◌, ◌≤◌, length};
+ghost use Rattle.kd_form.specs.FormText.{plaintext_byte, plaintext_bytes};
+
+use super::text::blank_of;
+use arrayvec::ArrayVec;
+use kd_state::SheetDay;
+use kd_tables::Letter;
+
+/// `letters` as bytes: capital letters; on the Converter M-209, a space for each Z.
+pub(crate) fn plaintext_bytes<const N: usize>(day: &SheetDay, letters: &[Letter]) -> ArrayVec<u8, N>
+    requires { length letters.now ≤ N }
+    ensures { result.items ≡ plaintext_bytes day.now letters.now }
+{
+    let blank = blank_of(day);
+    let mut given = ArrayVec::new();
+    for letter in letters {
+        given.push(plaintext_byte(&blank, *letter));
+    }
+    given
+}
+
+/// The byte for `letter`: a space if it is `blank`, otherwise a capital letter.
+fn plaintext_byte(blank: &Option<Letter>, letter: Letter) -> u8
+    ensures { result ≡ plaintext_byte blank.now letter }
+{
+    match blank {
+        Some(blank) if *blank == letter => b' ',
+        _ => letter.byte(),
+    }
+}

@@ -1,0 +1,32 @@
+-- Wheels and reflectors compared by their names, and items found by their numbers.
+-- Code: `==`, and a search.
+use Rattle.std.specs.Prelude.{ℕ, zero, suc, Bool, List, slice_get, Option, None}
+use Rattle.std.specs.List.{list_any, position_or_len}
+use Rattle.std.specs.Str.{bytes_eq}
+use Rattle.kd_tables.specs.declared.model.Model.{Model}
+use Rattle.kd_tables.specs.declared.wheel.Wheel.{Wheel}
+use Rattle.kd_tables.specs.declared.reflector.Reflector.{Reflector}
+use Rattle.kd_tables.specs.Tables.{box_of, wheel_text, reflector_text}
+
+-- whether two wheels, or two reflectors, have the same name
+abbrev pub same_wheel : Wheel → Wheel → Bool
+same_wheel wheel other = bytes_eq (wheel_text wheel) (wheel_text other)
+
+abbrev pub same_reflector : Reflector → Reflector → Bool
+same_reflector reflector other = bytes_eq (reflector_text reflector) (reflector_text other)
+
+-- whether the list has the wheel, or the reflector
+abbrev pub has_wheel : List Wheel → Wheel → Bool
+has_wheel wheels wheel = list_any (same_wheel wheel) wheels
+
+abbrev pub has_reflector : List Reflector → Reflector → Bool
+has_reflector reflectors reflector = list_any (same_reflector reflector) reflectors
+
+-- the place of the wheel in the model's box, counted from 0; the length of the box if the wheel isn't in it
+abbrev pub place_in_box : Model → Wheel → ℕ
+place_in_box model wheel = position_or_len (same_wheel wheel) (box_of model)
+
+-- item `number` of the list, counted from 1
+abbrev pub numbered_item : {X : Type 0} → List X → ℕ → Option X
+numbered_item xs zero = None
+numbered_item xs (suc place) = slice_get xs place
