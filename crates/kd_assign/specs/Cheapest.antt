@@ -16,3 +16,9 @@ FittingPricesBoundCosts =
 -- Every one-to-one assignment costs at least `total`.
 abbrev pub IsLeastCost : List (List ℕ) → ℕ → Type 0
 IsLeastCost cost total = (to : List ℕ) → length to ≡ length cost → IsOneToOne to → total ≤ assignment_cost cost to
+
+-- `to` is a one-to-one assignment of cost `total`, and none costs less
+pub record IsCheapestAssignment (cost : List (List ℕ)) (to : List ℕ) (total : ℕ) : Type 0 where
+  pub one_to_one : IsOneToOne to
+  pub cost_is : assignment_cost cost to ≡ total
+  pub least : IsLeastCost cost total

@@ -161,11 +161,17 @@ AsksFor names asked (Err (Unread fault)) = AreAskedFor names [] asked false
 AsksFor names asked (Err (Refused fault)) = AreAskedFor names [] asked true ⊎ ((asked ≡ []) × (fault ≡ File NoMemory))
 AsksFor names asked answer = AreAskedFor names [] asked true
 
+-- If it is known which bytes the files have, the command was carried out on these bytes.
+abbrev pub CarriesOutKnown : Option (List ℕ → Option (List ℕ)) → NamedCommand → Port → Port → Result (Unit {0}) Stop
+    → Type 0
+CarriesOutKnown known command source sink answer =
+    IfSome known (λ held. CarriesOut (known_command held command) source sink answer)
+
 -- The program's answer to a command line, by what is known of the files, and the names that it asked for.
 pub record IsRun (words : List (List ℕ)) (known : Option (List ℕ → Option (List ℕ))) (asked : List AskedName)
     (source sink : Port) (Untouched : Type 0) (answer : Result (Unit {0}) Stop) : Type 0 where
   pub carried : (command : NamedCommand) → IsCommandLineOf words command
-      → IfSome known (λ held. CarriesOut (known_command held command) source sink answer)
+      → CarriesOutKnown known command source sink answer
   pub asks : (command : NamedCommand) → IsCommandLineOf words command → AsksFor (files_of command) asked answer
   pub usage : answer ≡ Err Usage → IsNoCommandLine words
   pub other_words : IsNoCommandLine words → (answer ≡ Err Usage) ⊎ StopsForMemory answer

@@ -4,8 +4,8 @@ ghost use Rattle.kd_desk.specs.CommandLine.{unborrowed_command, unborrowed_actio
 ghost use Rattle.kd_desk.specs.CommandLine.{action_files, task_files, with_command_opened, with_action_opened};
 ghost use Rattle.kd_desk.specs.CommandLine.{with_task_opened, command_opened, action_opened, task_opened};
 ghost use Rattle.kd_desk.specs.CommandLine.{IsCommandLineOf, IsNoCommandLine};
-ghost use Rattle.kd_desk.specs.Program.{known_command, known_action, known_task, AsksFor, CarriesOut, DoesTask};
-ghost use Rattle.kd_desk.specs.Program.{IsCommandDone, HasEnded, IsRun, IsTaskDone, StopsForMemory, IsUnfailed};
+ghost use Rattle.kd_desk.specs.Program.{known_command, known_action, known_task, AsksFor, CarriesOut, CarriesOutKnown};
+ghost use Rattle.kd_desk.specs.Program.{DoesTask, IsCommandDone, HasEnded, IsRun, IsTaskDone, StopsForMemory, IsUnfailed};
 ghost use Rattle.kd_desk.specs.Program.{is_stopped_before, is_stopped_by_port};
 ghost use Rattle.kd_desk.specs.Files.{AreAskedFor, AgreesOrNoMemory, IsReadAnswer, known_file};
 ghost use Rattle.kd_desk.specs.OnDay.{IsAnswerOnDay};
@@ -60,9 +60,9 @@ fn carry_words<'n, S: AsStr, F: Files<'n>, R: Source, W: Sink>(
 ) -> Result<(), Stop>
     requires { F.asked files.old ≡ [] }
     ensures carried { (command : _) → IsCommandLineOf (map S.text words.entry.now) command
-        → IfSome (F.known files.old) (λ held. CarriesOut (known_command held command)
+        → CarriesOutKnown (F.known files.old) command
         (port R.remaining R.has_failed source.old source.new)
-        (port W.taken W.has_failed sink.old sink.new) result) }
+        (port W.taken W.has_failed sink.old sink.new) result }
     ensures asked { (command : _) → IsCommandLineOf (map S.text words.entry.now) command
         → AsksFor (files_of command) (F.asked files.new) result }
     ensures usage { result ≡ Err Stop.Usage → IsNoCommandLine (map S.text words.entry.now) }

@@ -361,11 +361,11 @@ part_gives_back (OfPins s) part parts (Pin k) piece made legal are suits fractio
       counted = refl;
       read =
           let placed = pin_places k k.external (list_letters day) enciphered refl are.external.count legal.list.count in
-          let Picks-on_wheels = subst (λ (x : PinKeys). IsWindow (sheet_key day) x.external) placed.keys suits.0 in
+          let on_wheels = subst (λ (x : PinKeys). IsWindow (sheet_key day) x.external) placed.keys suits.0 in
           let best = subst (λ (x : PinKeys). IsInternalKey (enciphered_choice day x) internal) placed.keys first in
           let is =
           sym (twice_on_key day internal (fill_last_group piece) legal inner)
           ∙ ap (cipher_from day internal) placed.text_is in
-          inr (placed.around, inr (Picks-on_wheels, inr (sym placed.listed, inr (internal, best, ap Ok is))));
+          inr (placed.around, inr (on_wheels, inr (sym placed.listed, inr (internal, best, ap Ok is))));
     })
 part_gives_back _ part parts _ piece made legal are suits fraction is makes = absurd suits

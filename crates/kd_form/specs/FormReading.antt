@@ -1,6 +1,6 @@
 -- What the reader of a form holds after some of its bytes. No public contract cites this file.
 use Rattle.std.specs.Prelude.{codes, ◌≡◌, ◌≢◌, ◌⊎◌, ℕ, ◌<◌, ◌≤◌, List, [], ◌∷◌, ◌++◌, length, take, slice_index, All}
-use Rattle.std.specs.Prelude.{IsTrue, Option, Some, None, Ok}
+use Rattle.std.specs.Prelude.{IsTrue, Option, Some, None, Result, Ok, Err, MatchResult, MatchOption}
 use Rattle.kd_tables.specs.Text.{is_text_byte}
 use Rattle.kd_state.specs.SheetDay.{Day}
 use Rattle.kd_state.specs.Words.{line_of, IsFirstPart, IsWithout}
@@ -14,7 +14,7 @@ use Rattle.kd_form.specs.declared.part_body.PartBody.{PartBody}
 use Rattle.kd_form.specs.Part.{heading_words}
 use Rattle.kd_form.specs.Sending.{letters_from}
 use Rattle.kd_form.specs.FormParts.{BeginsHeading, IsHeading, IsLineText, cut_at_headings, parts_of}
-use Rattle.kd_form.specs.Receiving.{IsExpectedCount, IsBodyAnswer}
+use Rattle.kd_form.specs.Receiving.{HasHeading, IsExpectedCount, IsBodyAnswer}
 use Rattle.kd_form.specs.FormText.{PartStart, PartsProperty, ReadsPartsTo, first_part_start, plaintext_bytes}
 
 -- ---- the last part
@@ -70,6 +70,27 @@ HoldsStage s (stages.Body b) number expected part = HoldsPart s b number expecte
 abbrev pub IsBodyPlaintext : Day → Heading → List ℕ → List ℕ → Type 0
 IsBodyPlaintext s h letters made = (text : List ℕ) × IsBodyAnswer s h.part h letters (Ok text)
     × (made ≡ plaintext_bytes s text)
+
+-- The letters held, but for the last `others` of them, are deciphered into `output`, or refused.
+abbrev pub IsDecipherAnswer : Day → PartBody → ℕ → List ℕ → Result (Unit {0}) FormFault → Type 0
+IsDecipherAnswer s b others output answer =
+    (letters more : List ℕ) → length more ≡ others → b.letters.items ≡ take 525 (letters ++ more)
+    → MatchResult answer
+    (λ _. IsBodyPlaintext s b.heading letters output)
+    (λ fault. IsBodyAnswer s b.heading.part b.heading letters (Err fault))
+
+-- `found` is the heading of a part that ends within its heading line; if none is found, the part has no heading.
+abbrev pub IsOpenHeading : Day → List ℕ → Option Heading → Type 0
+IsOpenHeading s part found =
+    MatchOption found ((h : Heading) (body : List ℕ) → ¬ (HasHeading s part h body)) (λ h. HasHeading s part h [])
+
+-- `found` is the heading in the line `part`, which has ended; if none is found, no part that begins with this line
+-- has a heading.
+abbrev pub IsEndedHeading : Day → List ℕ → Option Heading → Type 0
+IsEndedHeading s part found =
+    MatchOption found
+    ((h : Heading) (body : List ℕ) → ¬ (HasHeading s (part ++ 10 ∷ []) h body))
+    (λ h. IsHeading s h × IsLineText part (line_of (heading_words h)))
 
 -- `h` was found. It is the heading of part `number`, with the expected number of parts.
 pub record IsExpectedHeading (number : ℕ) (expected : Option ℕ) (found : Option Heading) (h : Heading) : Type 0 where

@@ -8,8 +8,8 @@ ghost use Rattle.kd_form.specs.declared.heading.Heading.{Heading};
 ghost use Rattle.kd_form.specs.Part.{fraction_text, indicator_words, heading_words};
 ghost use Rattle.kd_form.specs.FormParts.{IsFraction, AreFewLetters, IsLetterCount, IsHeading};
 ghost use Rattle.kd_form.specs.FormParts.{AreHeadingWords, IsLineText};
+ghost use Rattle.kd_form.specs.FormReading.{IsOpenHeading, IsEndedHeading};
 ghost use Rattle.kd_form.specs.Reading.{HasIndicator};
-ghost use Rattle.kd_form.specs.Receiving.{HasHeading};
 
 use super::heading::{Heading, Indicator};
 use super::key_line::slots_of;
@@ -149,9 +149,8 @@ fn heading_of_line(day: &SheetDay, line: &[u8]) -> Option<Heading>
 ///
 /// `line` is the heading line, or its first 64 bytes if it is longer.
 pub(crate) fn heading_of_open(day: &SheetDay, line: &[u8]) -> Option<Heading>
-    ensures { (part : List ℕ) → IsWithout 10 part → line.now ≡ take 64 part → MatchOption result
-        ((h : Heading) (body : List ℕ) → ¬ HasHeading day.now part h body)
-        (λ h. HasHeading day.now part h []) }
+    ensures { (part : List ℕ) → IsWithout 10 part → line.now ≡ take 64 part
+        → IsOpenHeading day.now part result }
 {
     prove!(slots_of(day) != Some(0));
     heading_of_line(day, line)
@@ -161,9 +160,8 @@ pub(crate) fn heading_of_open(day: &SheetDay, line: &[u8]) -> Option<Heading>
 ///
 /// `line` is the heading line without the LF, or its first 64 bytes if it is longer.
 pub(crate) fn heading_of_ended(day: &SheetDay, line: &[u8]) -> Option<Heading>
-    ensures { (part : List ℕ) → IsWithout 10 part → line.now ≡ take 64 part → MatchOption result
-        ((h : Heading) (body : List ℕ) → ¬ HasHeading day.now (part ++ 10 ∷ []) h body)
-        (λ h. IsHeading day.now h × IsLineText part (line_of (heading_words h))) }
+    ensures { (part : List ℕ) → IsWithout 10 part → line.now ≡ take 64 part
+        → IsEndedHeading day.now part result }
 {
     prove!(slots_of(day) != Some(0));
     heading_of_line(day, without_return(line))

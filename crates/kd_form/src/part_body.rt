@@ -1,6 +1,6 @@
 //! Reads the body of a part of a form byte by byte.
 ghost use Rattle.std.specs.Prelude.{codes, ◌≡◌, ◌≢◌, ◌↔◌, ◌<◌, ◌≤◌, ℕ, List, [], ◌∷◌, ◌++◌, length};
-ghost use Rattle.std.specs.Prelude.{take, slice_index, IsTrue, MatchResult, MatchOption, OnErr};
+ghost use Rattle.std.specs.Prelude.{take, slice_index, IsTrue, MatchOption, OnErr};
 ghost use Rattle.std.specs.Prelude.{OnOk};
 ghost use Rattle.std.specs.Option.{option_to_list};
 ghost use Rattle.kd_tables.specs.Text.{is_text_byte};
@@ -9,8 +9,7 @@ ghost use Rattle.kd_form.specs.Order.{IsLineWithEnd};
 ghost use Rattle.kd_form.specs.Part.{heading_words};
 ghost use Rattle.kd_form.specs.Sending.{letters_from};
 ghost use Rattle.kd_form.specs.FormParts.{IsHeading};
-ghost use Rattle.kd_form.specs.Receiving.{IsBodyAnswer};
-ghost use Rattle.kd_form.specs.FormReading.{HoldsBody, IsBodyPlaintext};
+ghost use Rattle.kd_form.specs.FormReading.{HoldsBody, IsDecipherAnswer};
 
 use super::bounded_list::push_if_room;
 use super::fault::FormFault;
@@ -88,11 +87,7 @@ impl PartBody {
         requires heading { IsHeading day.now self.now.heading }
         requires some { others ≤ length self.now.letters.items }
         requires few { others ≤ 4 }
-        ensures given { (letters more : List ℕ) → length more ≡ others
-            → self.now.letters.items ≡ take 525 (letters ++ more)
-            → MatchResult result
-            (λ _. IsBodyPlaintext day.now self.now.heading letters output.new.items)
-            (λ fault. IsBodyAnswer day.now self.now.heading.part self.now.heading letters (Err fault)) }
+        ensures given { IsDecipherAnswer day.now self.now others output.new.items result }
         ensures few { OnOk result (length output.new.items ≤ 500) }
         ensures unchanged { OnErr result (output.new ≡ output.old) }
     {

@@ -9,7 +9,7 @@ use Rattle.kd_tables.specs.Rings.{ring_of}
 use Rattle.kd_pins.specs.declared.pin_set.PinSet.{PinSet}
 use Rattle.kd_state.specs.Pins.{pin_set}
 use Rattle.kd_state.specs.Setting.{has_letter}
-use Rattle.kd_sheet.specs.Document.{◌>>=◌, read_each, text_at}
+use Rattle.kd_sheet.specs.Document.{◌>>=◌, read_each, read_items, text_at}
 use Rattle.kd_sheet.specs.Letters.{capital_letters}
 use Rattle.kd_sheet.specs.declared.key.Key.{Key}
 use Rattle.kd_sheet.specs.declared.key.Key.TheVariants as keys
@@ -58,6 +58,10 @@ pins_of_item ring item = ok_or (option_and_then (pins_of_text ring) (as_str item
 -- the pins of the wheel after the wheels of `earlier`, from an item
 abbrev pub pins_for : List (List Bool) → Data → Result (List Bool) SheetFault
 pins_for earlier item = pins_of_item (ring_of (length earlier + 1)) item
+
+-- the pins of the wheels, from items
+abbrev pub pins_of_items : List Data → Result PinSet SheetFault
+pins_of_items items = read_items pins_for items >>= (λ pins. Ok (pin_set pins))
 
 -- the pins of the six wheels, from an item for each
 unfoldable pub pins_in : Members → Result PinSet SheetFault

@@ -1,12 +1,11 @@
 //! Reads the letters that the Converter's six wheels show, and their effective pins.
-ghost use Rattle.std.specs.Prelude.{◌≡◌, ◌+◌, ◌<◌, [], ◌∷◌, length, map, ok_or, Ok};
+ghost use Rattle.std.specs.Prelude.{◌≡◌, ◌+◌, ◌<◌, [], ◌∷◌, length, map, ok_or};
 ghost use Rattle.std.specs.{List.{enumerate_from, list_all}, Option.{option_and_then}};
 ghost use Rattle.toml.specs.{Data.{as_str}, View.{view, table_view}};
 ghost use Rattle.kd_tables.specs.Rings.{ring_of};
-ghost use Rattle.kd_state.specs.{Pins.{pin_set}, Setting.{has_letter}};
-ghost use Rattle.kd_sheet.specs.Document.{◌>>=◌ as ◌followed_by◌, read_items};
+ghost use Rattle.kd_state.specs.Setting.{has_letter};
 ghost use Rattle.kd_sheet.specs.PinWheels.{letters_on_wheels, shown_letters_in, is_letter_of, stands_once};
-ghost use Rattle.kd_sheet.specs.PinWheels.{is_pin_text, has_capital, pins_of_text, pins_for, pins_in};
+ghost use Rattle.kd_sheet.specs.PinWheels.{is_pin_text, has_capital, pins_of_text, pins_of_items, pins_in};
 ghost use Rattle.kd_sheet.specs.declared.fault.SheetFault.TheVariants as faults;
 ghost use Rattle.kd_sheet.specs.declared.key.Key.TheVariants as keys;
 
@@ -124,9 +123,8 @@ fn pins_of_six(
     five: &Value,
     six: &Value,
 ) -> Option<PinSet>
-    ensures { ok_or result (faults.BadValue keys.Pins) ≡ (read_items pins_for
-        (view one.now ∷ view two.now ∷ view three.now ∷ view four.now ∷ view five.now ∷ view six.now ∷ [])
-        followed_by (λ pins. Ok (pin_set pins))) }
+    ensures { ok_or result (faults.BadValue keys.Pins) ≡ pins_of_items
+        (view one.now ∷ view two.now ∷ view three.now ∷ view four.now ∷ view five.now ∷ view six.now ∷ []) }
 {
     Some(PinSet {
         w1: pins_of_item(&ring1(), one)?,

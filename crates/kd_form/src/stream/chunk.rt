@@ -106,10 +106,10 @@ pub(crate) fn read_next<Context, M: ChunkReader<Context>, R: Source, W: Sink>(
 ) -> Result<usize, Interruption>
     requires some { 0 < room }
     requires room { HasRoom (M.message context.now) (M.holds context.now reader.old) room }
-    ensures { IsReadNextAnswer (M.message context.now)
-        (M.holds context.now reader.old) (M.holds context.now reader.new) room
-        (port R.remaining R.has_failed source.old source.new)
-        (port W.taken W.has_failed sink.old sink.new) result }
+    ensures { let holds = M.holds context.now in
+        let read = port R.remaining R.has_failed source.old source.new in
+        let written = port W.taken W.has_failed sink.old sink.new in
+        IsReadNextAnswer (M.message context.now) (holds reader.old) (holds reader.new) room read written result }
 {
     read_into(
         reader,
@@ -131,10 +131,11 @@ fn read_into<Context, M: ChunkReader<Context>, R: Source, W: Sink>(
     requires some { 0 < length buffer.now }
     requires few { length buffer.now ≤ CHUNK }
     requires room { HasRoom (M.message context.now) (M.holds context.now reader.old) (length buffer.now) }
-    ensures { IsReadNextAnswer (M.message context.now)
-        (M.holds context.now reader.old) (M.holds context.now reader.new)
-        (length buffer.old) (port R.remaining R.has_failed source.old source.new)
-        (port W.taken W.has_failed sink.old sink.new) result }
+    ensures { let holds = M.holds context.now in
+        let read = port R.remaining R.has_failed source.old source.new in
+        let written = port W.taken W.has_failed sink.old sink.new in
+        let room = length buffer.old in
+        IsReadNextAnswer (M.message context.now) (holds reader.old) (holds reader.new) room read written result }
 {
     let Ok(count) = source.get(buffer) else {
         return Err(Interruption::Device);

@@ -101,11 +101,6 @@ pin_parts_legal table =
 abbrev pub IsLegalDayNumbered : ℕ → Day → Type 0
 IsLegalDayNumbered number day = IsLegalDay day × (day_number day ≡ number)
 
--- a constructor that fails only for illegal values gives a value for legal ones
-pub legal_is_some : {A P : Type 0} (Q : A → Type 0) (made : Option A) → MatchOption made (P → ⊥) Q → P → IsSome made
-legal_is_some Q None none legal = absurd (none legal)
-legal_is_some Q (Some x) some legal = refl
-
 pub rotor_day : (number : ℕ) (model : Model) (table : Members) → IsDayNumber number
     → SucceedsWith (rotor_day_in number model table) (IsLegalDayNumbered number)
 unfolding rotor_day_in
