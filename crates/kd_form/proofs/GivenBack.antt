@@ -99,7 +99,7 @@ gives_body = gives_pieces 50 (flat_map (λ line. line_then (letter_groups line) 
 
 -- ---- the lines of a body
 
--- after an LF, the lines of a body end in LF, even if there are none
+-- an LF and then the lines of a body end in LF, even if there are no lines
 lines_end : (items : List (List ℕ))
     → (front : List ℕ) × (10 ∷ flat_map (λ line. line_then (letter_groups line) []) items ≡ front ++ 10 ∷ [])
 lines_end [] = ([], refl)

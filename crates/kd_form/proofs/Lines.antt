@@ -73,7 +73,7 @@ letters_first blank byte text = grind arith
 abbrev pub AreAllowed : List ℕ → Type 0
 AreAllowed bytes = All (λ b. IsTrue (is_text_byte b)) bytes
 
--- lists are compared item by item, as the code compares slices
+-- lists are compared item by item
 pub ruleset comparing = (pointwise_decides)
 
 -- -------- lines of a pattern, mark by mark

@@ -105,8 +105,8 @@ module _ (s : Day) (count : ℕ) where
       let (longer, also, end) = next_plain (line ++ more) other in
       (same_line text longer line (line ++ more) more [] plain also ended end (sym (append-nil (line ++ more)))).2
 
-  -- if bytes are a proper prefix of a line of a head, but with one more byte aren't a prefix of any, then no
-  -- line of a head begins the bytes, this byte and what follows it
+  -- if bytes are a proper prefix of a line of a head, but no such line begins with them and `byte`, then
+  -- nothing that begins with them and `byte` begins with such a line
   pub no_next : (line other one left : List ℕ) (byte : ℕ) → IsUnread (IsHeadLine s count) line unread.Incomplete
       → IsUnread (IsHeadLine s count) (line ++ byte ∷ []) unread.Mismatch → IsHeadLine s count one
       → ¬ (line ++ byte ∷ other ≡ one ++ left)

@@ -29,7 +29,7 @@ FitsHeadingAt place byte = (place < 5 → byte ≡ slice_index (codes "PART ") p
 abbrev pub HasBegunHeading : List ℕ → Type 0
 HasBegunHeading bytes = ((count : ℕ) × (count ≤ 5) × (bytes ≡ take count (codes "PART "))) ⊎ BeginsHeading bytes
 
--- `part` is a prefix of a heading line, without LF, and `held` has up to 64 bytes of it.
+-- `part` is a prefix of a heading line, without LF, and `held` has its first bytes, up to 64.
 pub record HoldsLine (held part : List ℕ) : Type 0 where
   pub kept : held ≡ take 64 part
   pub unbroken : IsWithout 10 part
@@ -94,8 +94,8 @@ reader_place r front = record { number = r.number; expected = r.expected; bytes_
 abbrev pub IsAtPartStart : PartStart → PartsProperty
 IsAtPartStart q p parts = (p ≡ q) × (parts ≡ [])
 
--- The reader has read `form` and made `text`. It has deciphered the parts before the last one, and holds the
--- last one. Further bytes don't change the parts before it.
+-- The reader has read `form` and output `text`. It has deciphered the parts before the last one, and holds
+-- the last one. Further bytes don't change the parts before the last one.
 pub record HoldsForm (s : Day) (r : FormReader) (form text : List ℕ) : Type 0 where
   pub front : List ℕ
   pub last : List ℕ

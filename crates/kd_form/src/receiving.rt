@@ -39,11 +39,11 @@ pub fn receive(
 
 /// Reads a form from `source`, and writes its text to `sink`, part by part.
 ///
-/// It holds at most one part, and allocates nothing. `NotReady` and `NotOnKey` come before anything is read.
-/// A fault that further bytes can't change comes before `ReadTooLong`, and before `Device` if the source
-/// fails; the other faults come at the end of the form. Before a fault is returned, the texts of the parts
-/// before it are written. `ReadTooLong` means that the source has more than `READ_LIMIT` bytes, `Device` that
-/// a get or a put failed.
+/// At most one part is held, and nothing is allocated. `NotReady` and `NotOnKey` come before anything is
+/// read. A fault that further bytes can't change comes before `ReadTooLong`, and before `Device` if the
+/// source fails; the other faults come at the end of the form. Before a fault of the form is returned, the
+/// texts of the parts before the fault are written. `ReadTooLong` means that the source has more than
+/// `READ_LIMIT` bytes, `Device` that a get or a put failed.
 #[tactic(auto, using(crate::proofs::OneText::off_key, crate::proofs::OneText::form_told))]
 pub fn receive_stream<R: Source, W: Sink>(
     machine: &Machine,

@@ -39,7 +39,7 @@ pub fn send(
 
 /// Reads an order from `source`, and writes its form to `sink`, part by part.
 ///
-/// It holds at most one part, and allocates nothing. `NotReady` and `NotOnKey` come before anything is read
+/// At most one part is held, and nothing is allocated. `NotReady` and `NotOnKey` come before anything is read
 /// or written. A fault that further bytes can't change comes before `ReadTooLong`, and before `Device` if the
 /// source fails; the other faults come at the end of the source. A part is written once the first letter of
 /// the next part has been read. So the sink may have parts of an order that is refused. At most 1,048,576
