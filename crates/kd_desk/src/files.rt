@@ -19,8 +19,7 @@ pub trait Files<'n> {
     /// An opened file, which is streamed.
     type Opened: Source + Drop;
 
-    /// Maps a name to the bytes of its file, or to `None` if there is no such file; unknown for the host's
-    /// files.
+    /// Maps a name to the bytes of its file, if there is such a file; unknown for the host's files.
     ghost known: { Self → Option (List ℕ → Option (List ℕ)) } = { λ _. None };
 
     /// The names asked for, in order, and for each whether the file could be read or opened.
