@@ -27,8 +27,8 @@ IsPatternLine pattern bytes = (letters : List ℕ) × IsFilledLine pattern lette
 
 -- ---- one byte
 
--- whether the byte fits `mark`, a byte of a pattern: a capital letter fits `_`, and each other mark only
--- itself
+-- whether the byte fits `mark`, a byte of a pattern: any capital letter fits `_`, and only an equal byte fits
+-- any other mark
 abbrev pub fits_mark : ℕ → ℕ → Bool
 fits_mark mark byte = if mark == 95 then nat_le 65 byte && nat_le byte 90 else byte == mark
 

@@ -77,8 +77,8 @@ HasIndicator (OfPins s) None = Unit {0}
 HasIndicator (OfRotors s) None = ⊥
 HasIndicator (OfPins s) (Some i) = ⊥
 
--- The answer for the letters of a body: on a rotor machine if its heading has an indicator, otherwise on the
--- Converter M-209.
+-- The answer for the letters of a body: as on a rotor machine if the heading has an indicator, otherwise as on
+-- the Converter M-209.
 abbrev pub IsLettersAnswer : Day → ℕ → Option Indicator → List ℕ → Answer → Type 0
 IsLettersAnswer s part (Some i) letters v = IsRotorAnswer s part i letters v
 IsLettersAnswer s part None letters v = IsPinAnswer s part letters v

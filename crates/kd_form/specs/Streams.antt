@@ -57,7 +57,7 @@ pub record FallsShort (due text : List ℕ) : Type 0 where
 
 -- What was read, up to the limit, and what was written, for each answer. `MessageComplete`: the message is
 -- complete. `FaultForGood`: a fault stands, whatever bytes follow. `FaultAtEnd`: no fault stands, but the
--- whole message has one. `TooLong`: the source has one byte more than the limit. `SourceFails`: all that was
+-- whole message has one. `TooLong`: one byte more than the limit was read. `SourceFails`: all that was
 -- due before is written. `SinkFails`: less than what was due is written.
 pub data IsStreamAnswer (m : Message) (source sink : Port) (read text : List ℕ)
     (answer : Result (Unit {0}) FormFault) : Type 0 where

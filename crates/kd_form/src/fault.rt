@@ -36,8 +36,7 @@ pub enum FormFault {
     CountWrong(u8),
     /// This part ends in other indicators than it begins with, or their first two letters differ.
     IndicatorsDiffer(u8),
-    /// The parts aren't numbered in order, their headings differ in the number of parts, or a part is
-    /// missing.
+    /// Parts are out of order or missing, or their headings differ in the number of parts.
     PartOrder,
     /// The source has more than `READ_LIMIT` bytes.
     ReadTooLong,
