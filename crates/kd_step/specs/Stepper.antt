@@ -9,7 +9,7 @@ use Rattle.std.specs.Option.{option_map_or}
 use Rattle.kd_tables.specs.Tables.{is_notch}
 use Rattle.kd_tables.specs.declared.wheel.Wheel.{Wheel}
 
--- A stepper as contracts see it: its wheels and the letters in their windows, from the left.
+-- What contracts say of a stepper: its wheels and the letters in their windows, both in order from the left.
 pub record Stepping : Type 0 where
   pub wheels : List Wheel
   pub window : List ℕ
@@ -64,7 +64,7 @@ ChainsEndInWindowAfter =
     (wheels : List Wheel) (first last : List ℕ) (n : ℕ)
     → LeadsInSteps wheels first n last ↔ (last ≡ window_after wheels first n)
 
--- If the middle wheel keeps its letter in a step, all wheels but the right one keep theirs.
+-- If the middle wheel shows the same letter after a step as before, so does each wheel but the right one.
 abbrev pub SlowWheelsMoveTogether : Type 0
 SlowWheelsMoveTogether =
     (wheels : List Wheel) (before after : List ℕ) → IsStep wheels before after → 3 ≤ length before
