@@ -6,7 +6,7 @@
 use Rattle.std.specs.Prelude.{◌≡◌, ℕ, ◌+◌, ◌-◌, ◌%◌, ◌<◌, Bool, false, List, slice_index, slice_index_or, unwrap_or}
 use Rattle.kd_tables.specs.Rings.{IsRing, place_on}
 
--- A wheel as contracts see it: its letters in order; how many places the acting pin is past the shown letter;
+-- What contracts say of a wheel: its letters in order; how many places the acting pin is past the shown letter;
 -- which pins are effective; and the place of the shown letter.
 pub record TurnedWheel : Type 0 where
   pub ring : List ℕ
@@ -14,7 +14,7 @@ pub record TurnedWheel : Type 0 where
   pub pins : List Bool
   pub place : ℕ
 
--- The wheel has `size` places.
+-- The wheel has `size` places, with a different letter at each; `offset` and the shown place are below `size`.
 pub record IsWheel (size : ℕ) (wheel : TurnedWheel) : Type 0 where
   pub ring : IsRing size wheel.ring
   pub offset : wheel.offset < size
