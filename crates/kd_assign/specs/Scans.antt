@@ -1,5 +1,5 @@
--- How many comparisons the trees for a table of `n` rows and columns take at most. Public contracts give the
--- numbers in closed form. No public contract cites this file.
+-- How many comparisons the trees for a table of `n` rows and columns take at most. Public contracts state the
+-- bounds in closed form. No public contract cites this file.
 use Rattle.std.specs.Prelude.{ℕ, zero, suc, ◌+◌, ◌-◌}
 
 -- the comparisons for a tree of `rows` rows: `n` columns for the root, and one column less for each later row
