@@ -44,8 +44,8 @@ pub record AreCompared (n : ℕ) (cost : List (List ℕ)) (reached : List Bool) 
 module _ (n : ℕ) (cost : List (List ℕ)) (prices : List ℤ) (holders : List (Option ℕ)) (root : ℕ) (reached : List Bool)
     (ceilings : List ℤ) where
   -- `plan` has a column for each row up to the root, except `out`. A row that has a column of the tree has its
-  -- cheapest column at the ceilings. The columns that are taken are those of `holders`, outside the tree by the
-  -- rows of `holders`.
+  -- cheapest column at the ceilings. The columns that are taken are those taken in `holders`; outside the tree,
+  -- they have the rows that they have in `holders`.
   pub record IsAssignmentWithout (plan : List (Option ℕ)) (out : ℕ) : Type 0 where
     pub places : length plan ≡ n
     pub out_in_range : out < n
