@@ -187,7 +187,7 @@ exchanged_push [] pair x apart is = refl
 exchanged_push (first ∷ pairs) pair x apart is = grind
     (arith, nat_tests, exchanged_push pairs pair x, exchanged_free pairs x)
 
--- The table exchanges the letters of the pairs that are plugged so far.
+-- `board` is the table that exchanges the letters of `pairs`, the pairs plugged so far.
 pub record IsPlugged (board : List ℕ) (pairs : List (ℕ × ℕ)) : Type 0 where
   pub table : board ≡ exchange pairs
   pub apart : HaveNoLetterTwice pairs

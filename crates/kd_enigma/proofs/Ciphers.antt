@@ -20,7 +20,7 @@ pub path_turned : (key : RotorKey) (window shown : List ℕ) → path (key_turne
 unfolding path
 path_turned key window shown = refl
 
--- Enciphering a text, and then its ciphertext from the same start, gives the text back.
+-- Enciphering a text, and then its ciphertext, both from the same start, gives the text back.
 twice_from : (key : RotorKey) (start : ℕ) (text : List ℕ) → IsPlugboard key.plugs
     → All (λ letter. letter < 26) text
     → cipher_from key start (cipher_from key start text) ≡ text

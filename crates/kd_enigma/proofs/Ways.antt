@@ -106,8 +106,8 @@ boards_undo plugs board =
     let back = at_letter (λ x. slice_index plugs (slice_index plugs x) ≡ x) board.own_inverse in
     record { in_permutes = board.permutation; out_permutes = board.permutation; out = back; into = back }
 
--- In through a permutation, through a core that exchanges letters, and back through the inverse: this exchanges
--- letters.
+-- If a core exchanges letters, so does the path in through a permutation, through the core, and back through the
+-- inverse.
 Exchanges-conjugate : (there core back : List ℕ) → UndoEachOther there back → Exchanges core
     → Exchanges (followed_by there (followed_by core back))
 Exchanges-conjugate there core back undo h =
