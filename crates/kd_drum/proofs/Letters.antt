@@ -10,7 +10,7 @@ pub on_wheel : (ring letters there : List ℕ) (place d : ℕ) (has : Bool) → 
     → (IsTrue has ↔ Contains ring (get_or there place d)) → IsTrue has ↔ Contains letters (slice_index there place)
 on_wheel ring letters there place d has same lt h = grind (arith, get_or_default)
 
--- None of the six tests, whether a wheel has its letter, is false exactly if each wheel has its letter.
+-- Each wheel has its letter exactly if none of the six tests for this is false.
 pub none_fails : (letters : List ℕ) (h1 h2 h3 h4 h5 h6 : Bool)
     → (IsTrue h1 ↔ Contains (ring_of 1) (slice_index letters 0))
     → (IsTrue h2 ↔ Contains (ring_of 2) (slice_index letters 1))

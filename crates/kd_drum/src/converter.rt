@@ -123,6 +123,8 @@ impl Converter {
     }
 
     /// The number of bars that the wheels meet when the next letter is enciphered.
+    ///
+    /// A wheel meets a bar if the wheel's acting pin is effective and the bar has a lug at the wheel.
     pub fn met(&self) -> u8
         ensures value { result ≡ bars_met self.now 0 }
         ensures most { result ≤ 27 }
