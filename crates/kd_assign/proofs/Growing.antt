@@ -83,7 +83,7 @@ module _ {n root : ℕ} {cost : List (List ℕ)} {prices ceilings : List ℤ} {h
           IsCheapestColumn n cost ceilings' i j
       cheapest_still i j e cheapest k lt = omega (arith, ints, cheapest k lt, (compared.at k lt).least)
 
-      -- no column of the tree is further away than `end`
+      -- no column of the new tree has a price further below its ceiling than `end` has
       no_further : (j : ℕ) → j < n → has_column reached' j ≡ true
           → room_at ceilings prices j ≤ℤ room_at ceilings prices end
       no_further j lt h = elim (cases_eq j end) [
@@ -176,7 +176,7 @@ module _ {n root : ℕ} {cost : List (List ℕ)} {prices ceilings : List ℤ} {h
             ];
       }
 
-    -- column `end` is free, and prices fall to their ceilings less the room at `end`
+    -- column `end` is free, and each price above its ceiling less the room at `end` is lowered to this value
     module _ (free : IsColumnFree holders end) {by : ℤ} (by_is : by ≡ room_at ceilings prices end) (prices' : List ℤ)
         (lowered : (j : ℕ) → j < n → price_at prices' j ≡ int_min (price_at prices j) (price_at ceilings j -ℤ by)) where
       -- the prices of columns outside the tree stay as they were

@@ -1,4 +1,4 @@
--- The assignment of all rows: it is one-to-one, and its prices prove its cost least.
+-- The assignment of all rows: it is one-to-one, and its prices prove that no assignment costs less.
 use Rattle.kd_assign.proofs.Prelude.{AreCostsAtMost, FitCosts, IsColumnTakenBy, IsOneToOne, IsSolvedTo, assignment_cost}
 use Rattle.kd_assign.proofs.Prelude.{cost_at}
 use Rattle.kd_assign.proofs.{Places.length-IsColumnTakenBy}
@@ -24,7 +24,7 @@ one_to_one holders to places has = record {
 pub cost_at_most : (cost : List (List ℕ)) → AreCostsAtMost 4 cost → (i j : ℕ) → cost_at cost i j ≤ 4
 cost_at_most cost costs i j = grind (arith, costs, get_or_past)
 
--- the prices of a finished assignment fit, add up to its cost, and so prove it least
+-- the prices of a finished assignment fit and add up to its cost, so no assignment costs less
 module _ {n next : ℕ} {cost : List (List ℕ)} {prices : List ℤ} {holders : List (Option ℕ)} (row : List ℤ) (to : List ℕ)
     (few : next ≤ n) (solved : IsSolvedTo n cost prices holders next) (lines : length cost ≡ n)
     (columns : length prices ≡ n) (rows : length row ≡ n) (places : length to ≡ n)
