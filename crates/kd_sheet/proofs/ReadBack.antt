@@ -12,8 +12,8 @@ array_of_texts ts = array (items_of (map string ts))
 pub texts_read : (key : Key) (ts : List (List ℕ)) → items_in key (array_of_texts ts) ≡ Ok (map string ts)
 texts_read key ts = ap Ok (list_of-items_of (map string ts))
 
--- an array of the texts of `things` is read as `things` if each text is read as its thing; the array may have to
--- have exactly `count` items, or at most `count`
+-- an array of the texts of `things` is read back as `things` if each text is read back as its thing; this holds for
+-- `read_each` and for `read_up_to`
 module _ {X : Type 0} (key : Key) (count : ℕ) (text_of : X → List ℕ) (things : List X)
     (reading : List X → Data → Result X SheetFault)
     (each : (k : ℕ) (x : X) → slice_get things k ≡ Some x → reading (take k things) (string (text_of x)) ≡ Ok x) where

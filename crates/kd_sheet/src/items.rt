@@ -14,10 +14,10 @@ use toml::{Table, Value};
 ///
 /// `Given` is what reading the item needs besides the items before it: for a wheel, the key and the model.
 pub trait FromItem<Given> {
-    /// What an item is read as, after the items `before`: a value or a fault.
+    /// What an item is read as, by the values of the items before it: a value or a fault.
     ghost reading: { Given → List Self → Data → Result Self SheetFault };
 
-    /// Reads `item`, which comes after the items `before`.
+    /// Reads `item`. `before` has the values of the items before it.
     fn read_item(given: &Given, before: &[Self], item: &Value) -> Result<Self, SheetFault>
         requires { length before.now < 27 }
         ensures { result ≡ reading given.now before.now (view item.now) };

@@ -408,7 +408,7 @@ once_counted (x ∷ ring) (pin ∷ pins) (suc k) d e apart same within =
     rw first_counted (grind (arith, nat_tests, once_counted ring pins k d e, letter_there ring k d))
 once_counted ring pins k d e apart same within = absurd (omega arith)
 
--- the text of a wheel's pins passes a test if the letter of each effective pin passes it
+-- all bytes of the text of a wheel's pins pass a test if the letter of each effective pin passes it
 all_of_pins : (test : ℕ → Bool) (ring : List ℕ) (pins : List Bool) → length pins ≡ length ring
     → ((k : ℕ) → k < length ring → get_or pins k false ≡ true → test (get_or ring k 0 + 65) ≡ true)
     → list_all test (pins_text ring pins) ≡ true

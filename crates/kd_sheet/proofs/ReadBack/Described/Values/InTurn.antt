@@ -243,7 +243,8 @@ module _ {A : Type 0} where
       (keeps (λ read. reading (value ∷ read)) (λ ys. Holds (value ∷ ys)) so_far (λ read. more (value ∷ read)) items)
       (λ values all. SucceedsWith-Ok Holds (value ∷ values) all))
 
-  -- `Holds` for the values of an array of exactly `count` items, or of at most `count`
+  -- if `Holds` holds of the values of all items that can be read, it holds of the result of `read_each` and of
+  -- `read_up_to`
   module _ (reading : List A → Data → Result A SheetFault) (Holds : List A → Type 0)
       (all : (items : List Data) → SucceedsWith (read_items reading items) Holds) (key : Key) (count : ℕ) where
     pub each_read : (table : Members)
@@ -262,7 +263,7 @@ module _ {A : Type 0} where
   again reading text_of (x ∷ all) each =
       rw (each 0 x refl, again (λ read. reading (x ∷ read)) text_of all (λ k. each (suc k))) refl
 
--- an element of a list satisfies what all elements do
+-- if all elements of a list satisfy `P`, the element at place `k` does
 pub All-slice_get : {X : Type 0} (P : X → Type 0) (xs : List X) (k : ℕ) (x : X) → All P xs → slice_get xs k ≡ Some x
     → P x
 All-slice_get P xs k x all at = grind (arith, common_steps, gets, slice_get_within)
