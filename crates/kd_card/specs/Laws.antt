@@ -38,8 +38,8 @@ AsFewAreNeeded =
     → LeadsToTheDay m s settings
     → length settings ≤ loose_count m s + priced_count settings → AreSettingsNeeded m s settings
 
--- A card that proves itself by number has as many settings as loose things plus the sum of its prices. A card that
--- proves itself, by number or by kind, is shortest.
+-- A card that proves itself by number (with a price for each cable and column, or for each bar and row) has as many
+-- settings as loose things plus the sum of its prices. A card that proves itself, by number or by kind, is shortest.
 abbrev pub ProvingCardsAreAsLong : Type 0
 ProvingCardsAreAsLong =
     (m : Parts) (s : Day) (settings : List Setting) (prices : PriceParts) → ProvesByNumber m s settings prices
