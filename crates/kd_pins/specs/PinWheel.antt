@@ -1,5 +1,5 @@
--- One pin wheel: the letter that it shows, and the pin that acts. Places are counted from 0, in the wheel's own
--- order.
+-- One pin wheel: the letter that it shows, and the acting pin, which acts on the drum while this letter shows.
+-- Places are counted from 0, in the wheel's own order.
 -- Source: War Department TM 11-380
 -- Code: keeps the place of the acting pin; the shown letter is counted from it.
 -- Test: the_acting_pin_is_counted_in_the_wheels_own_order

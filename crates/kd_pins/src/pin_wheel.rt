@@ -1,4 +1,4 @@
-//! One pin wheel: the letter that it shows, and the pin that acts.
+//! One pin wheel: the letter that it shows, and the acting pin, which acts on the drum while this letter shows.
 ghost use Rattle.std.specs.Prelude.{◌≡◌, ◌↔◌, ◌<◌, ◌≤◌, ◌+◌, ◌%◌, IsOk, IsTrue, OnOk, Contains};
 ghost use Rattle.kd_tables.specs.Refusals.{refusal_name};
 ghost use Rattle.kd_tables.specs.Rings.{IsRing};
