@@ -55,7 +55,7 @@ impl<const N: usize> Nearest<N> {
         }
     }
 
-    /// If `column` is outside the tree, keeps `row` as its nearest row if `offer` is below its ceiling.
+    /// If `column` is outside the tree and `offer` is below its ceiling, makes `row` its nearest row.
     fn compare(&mut self, reached: bool, row: usize, column: usize, offer: i16, scans: &mut Scans)
         requires column { column < N }
         requires room { scans.old < 4294967295 }

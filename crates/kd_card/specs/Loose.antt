@@ -52,7 +52,7 @@ wheel_ring_line m wheels wheel =
 abbrev pub ring_lines : RotorParts → List SheetWheel → List Setting
 ring_lines m wheels = flat_map (wheel_ring_line m wheels) (box_of m.model)
 
--- TURN for a slot whose wheel shows another letter than the day's; and these settings for all slots
+-- TURN for the slot of a wheel of the day that isn't turned to the day's letter; and these settings for all slots
 abbrev pub slot_turn_line : RotorParts → ℕ → SheetWheel → List Setting
 slot_turn_line m slot w =
     option_to_list (setting_unless (option_map_or (nat_eq w.letter) (letter_at m w.wheel) false) (Turn slot w.letter))

@@ -74,7 +74,7 @@ fn push_rings(
     }
 }
 
-/// Appends TURN for each slot whose wheel shows another letter than the day's.
+/// Appends TURN for the slot of each of the day's wheels that isn't turned to the day's letter.
 ///
 /// `wheels` are the day's wheels from slot `number` on, counted from 1.
 fn push_turns(
@@ -131,7 +131,7 @@ fn ring_line(machine: &Machine, wanted: Option<SheetWheel>) -> Option<Setting>
     (machine.ring(wheel) != Some(letter)).then_some(Setting::RingTo { wheel, letter })
 }
 
-/// The setting TURN, or `None` if the day's wheel `wanted` already shows the day's letter.
+/// The setting TURN, or `None` if the day's wheel `wanted` is turned to the day's letter already.
 fn turn_line(machine: &Machine, slot: u8, wanted: SheetWheel) -> Option<Setting>
     ensures { let shown = machine_letter machine.now wanted.wheel in
         let so = option_map_or (nat_eq wanted.letter) shown false in

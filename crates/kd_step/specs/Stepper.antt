@@ -1,7 +1,7 @@
 -- One step of the wheels, by the letters in their windows. Wheels are counted from the right, from 0: the right
 -- wheel, the middle wheel, the left wheel, and on the M4 the Greek wheel, which never moves.
 -- Source: the published accounts of the stepping, with its double step
--- Code: a table says where a wheel is at a notch.
+-- Code: a table has an entry for each letter: whether a wheel is at a notch.
 -- Test: wheels_step
 use Rattle.std.specs.Prelude.{◌≡◌, ◌↔◌, ℕ, zero, suc, ◌+◌, ◌-◌, ◌%◌, ◌≤◌, List, ◌++◌, length, take, drop, map}
 use Rattle.std.specs.Prelude.{slice_get, slice_index, IsTrue, IsFalse, Bool, false, if◌then◌else◌}
