@@ -1,4 +1,4 @@
--- Why prices that fit prove a least cost.
+-- Why prices that fit prove that no assignment costs less.
 -- Source: the assignment problem and its dual
 -- Code: no assignment is tried.
 -- Test: answers_small_tables, answers_three_rows

@@ -17,7 +17,7 @@ use kd_pins::PinSet;
 use kd_tables::{Letter, Ring, place_on_wheel, ring1, ring2, ring3, ring4, ring5, ring6};
 use toml::{Table, Value};
 
-/// Whether each letter is on its wheel. The first letter is on `wheel`, the next on the wheel after it.
+/// Whether each letter is on its wheel: the first on wheel number `wheel`, the next on the next wheel.
 #[tactic(auto, using(kd_state::proofs::Slots::on_wheels))]
 fn are_on_wheels(wheel: u8, letters: &[Letter]) -> bool
     requires { wheel + length letters.now < 256 }
@@ -80,7 +80,7 @@ fn is_pin_text(ring: &[Letter], text: &[u8]) -> bool
     true
 }
 
-/// For each of `letters`, whether `text` has it.
+/// Whether the pin beside each of `letters` is effective: it is if `text` has the letter.
 fn pins_of_letters<const N: usize>(letters: &[Letter; N], text: &[u8]) -> [bool; N]
     ensures { result ≡ map (has_capital text.now) letters.now }
 {
@@ -101,7 +101,7 @@ fn pins_of_item<const N: usize>(ring: &Ring<N>, item: &Value) -> Option<[bool; N
     is_pin_text(&letters, text).then_some(pins_of_letters(&letters, text))
 }
 
-/// Reads the effective pins of the six wheels, an item for each.
+/// Reads the effective pins of the six wheels, from an array with an item for each wheel.
 #[tactic(auto, unfolding(crate::specs::PinWheels::pins_in))]
 pub fn pins_in(table: &Table) -> Result<PinSet, SheetFault>
     ensures { result ≡ pins_in (table_view table.now) }
@@ -113,7 +113,7 @@ pub fn pins_in(table: &Table) -> Result<PinSet, SheetFault>
     pins_of_six(one, two, three, four, five, six).ok_or(SheetFault::BadValue(Key::Pins))
 }
 
-/// Reads the effective pins from the six items.
+/// Reads the effective pins of the six wheels from one item each.
 #[tactic(auto, unfolding(crate::specs::PinWheels::pins_of_item))]
 fn pins_of_six(
     one: &Value,
