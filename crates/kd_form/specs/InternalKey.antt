@@ -37,6 +37,8 @@ pub record IsInternalKey (letters key : List ℕ) : Type 0 where
 abbrev pub HaveNoInternalKey : List ℕ → Type 0
 HaveNoInternalKey letters = (places picked : List ℕ) → ¬ (ArePicked letters places picked)
 
+-- ---- What the code holds. No public contract cites these definitions.
+
 -- `next` is `key` with the letter appended if the letter is on the next wheel, and otherwise `key`.
 pub data IsTakenInTurn (key : List ℕ) (letter : ℕ) (next : List ℕ) : Type 0 where
   OnWheel : Contains (ring_of (length key + 1)) letter → next ≡ key ++ letter ∷ [] → IsTakenInTurn key letter next
