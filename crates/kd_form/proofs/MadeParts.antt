@@ -308,8 +308,8 @@ part_gives_back (OfRotors s) part parts (Rotor k) piece made legal are suits fra
       are.fillers.count,
       are.group.count,
     ) in
-    let key : cipher_from day k.ground (cipher_from day k.ground k.message_key) ≡ k.message_key =
-    twice_on_key day k.ground k.message_key legal are.message_key.within in
+    let key : cipher_from day k.ground_setting (cipher_from day k.ground_setting k.message_key) ≡ k.message_key =
+    twice_on_key day k.ground_setting k.message_key legal are.message_key.within in
     let text : cipher_from day k.message_key enciphered
     ≡ piece = twice_on_key day k.message_key piece legal is.within in
     let placed = rotor_places k.fillers k.group enciphered are.fillers.count are.group.count in
@@ -317,8 +317,8 @@ part_gives_back (OfRotors s) part parts (Rotor k) piece made legal are suits fra
       is_heading = grind (
         arith,
         count,
-        enciphered_length day k.ground k.message_key,
-        enciphered_letters day k.ground
+        enciphered_length day k.ground_setting k.message_key,
+        enciphered_letters day k.ground_setting
             k.message_key,
       );
       numbered = refl;

@@ -112,7 +112,7 @@ same_word letters others rest more same =
 same_keys : (s : Day) (k other : Keys) → AreKeys s k → AreKeys s other
     → line_of (key_words k) ≡ line_of (key_words other) → k ≡ other
 same_keys s (Rotor k) (Rotor other) are also same =
-    grind (arith, same_word k.ground, same_word k.message_key, same_word k.fillers, same_letters k.group)
+    grind (arith, same_word k.ground_setting, same_word k.message_key, same_word k.fillers, same_letters k.group)
 same_keys s (Pin k) (Pin other) are also same =
     grind (arith, same_word (k.chosen ∷ []) (other.chosen ∷ []), same_letters k.external)
 same_keys (OfRotors s) _ _ are also same = search

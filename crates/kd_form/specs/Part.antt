@@ -19,7 +19,7 @@ fraction_text part parts = decimal part ++ codes "/" ++ decimal parts
 
 -- the ground and the enciphered message key, as words
 abbrev pub indicator_words : Option Indicator → List (List ℕ)
-indicator_words (Some indicator) = letters_text indicator.ground ∷ letters_text indicator.enciphered_key ∷ []
+indicator_words (Some indicator) = letters_text indicator.ground_setting ∷ letters_text indicator.enciphered_key ∷ []
 indicator_words None = []
 
 -- the words of a heading line

@@ -24,7 +24,7 @@ group_of_body letters = slice_range letters 2 5
 
 -- the message key in the indicator, deciphered from the ground
 abbrev pub deciphered_key : Day → Indicator → List ℕ
-deciphered_key s indicator = cipher_from s indicator.ground indicator.enciphered_key
+deciphered_key s indicator = cipher_from s indicator.ground_setting indicator.enciphered_key
 
 -- The answer is `WrongGroup` if the group is none of the day's. Otherwise it is the text, deciphered from the
 -- message key.
@@ -70,7 +70,7 @@ IsPinAnswer s part letters = do
 -- The heading has the indicator of the day's model. On a rotor machine it has a letter for each slot in the
 -- ground and in the message key; on the Converter M-209 there is none.
 abbrev pub HasIndicator : Day → Option Indicator → Type 0
-HasIndicator (OfRotors s) (Some i) = AreLetters (length s.wheels) i.ground
+HasIndicator (OfRotors s) (Some i) = AreLetters (length s.wheels) i.ground_setting
     × AreLetters (length s.wheels) i.enciphered_key
 HasIndicator (OfPins s) None = Unit {0}
 HasIndicator (OfRotors s) None = ⊥
