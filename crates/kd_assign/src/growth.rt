@@ -32,7 +32,7 @@ pub fn assign_row<const N: usize>(
 {
     let mut reached = [false; N];
     let mut plans = [*holders; N];
-    let mut nearest = Nearest::new(root);
+    let mut nearest = Nearest::new();
     nearest.join(&reached, cost, root, 0, scans);
     loop {
         let column = nearest.column(&reached, prices, holders);

@@ -20,11 +20,11 @@ pub struct Nearest<const N: usize> {
 
 impl<const N: usize> Nearest<N> {
     /// Creates the state before any comparison: every column is as far away as can be.
-    pub fn new(root: usize) -> Self
+    pub fn new() -> Self
         ensures far { All (λ s. s ≡ pos 32767) result.ceiling }
     {
         Nearest {
-            row: [root; N],
+            row: [0; N],
             ceiling: [i16::MAX; N],
         }
     }

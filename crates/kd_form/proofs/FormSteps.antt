@@ -52,7 +52,7 @@ first_longer part line body byte first =
       without = first.without;
     }
 
--- one more byte makes the last line longer; an LF begins an empty one
+-- one more byte makes the last line longer; an LF begins an empty line
 tail_more : (line body first now : List ℕ) (byte : ℕ) → HasTail line body first → (byte ≡ 10 → now ≡ [])
     → (byte ≢ 10 → now ≡ take 6 (first ++ byte ∷ [])) → HasTail line (body ++ byte ∷ []) now
 tail_more line body first now byte was ends longer = elim (cases_eq byte 10) [
@@ -221,7 +221,7 @@ module _ (s : Day) (r : FormReader) (form text : List ℕ) (h : HoldsForm s r fo
   abbrev pub here : PartStart
   here = reader_place r h.front
 
-  -- if the last part with more bytes is read up to `B`, so is the whole form with these bytes
+  -- if the last part with more bytes is read up to `B`, the whole form with these bytes is read up to `B`
   pub reaches : (B : PartsProperty) (more made letters : List ℕ) (parts : List (List ℕ))
       → parts_of (h.last ++ more) ≡ parts
       → ReadsPartsTo s B here parts letters → made ≡ plaintext_bytes s letters
@@ -241,7 +241,7 @@ module _ (s : Day) (r : FormReader) (form text : List ℕ) (h : HoldsForm s r fo
   abbrev IsHere : PartsProperty
   IsHere p parts = (p ≡ here) × (parts ≡ h.last ∷ [])
 
-  -- no fault stands at the part that is held, and parts that are read end before it
+  -- no fault stands at the part that the reader holds
   never_refused : (fault : FormFault) (p : PartStart) (parts : List (List ℕ)) → IsHere p parts
       → ¬ (IsPartFaultForGood s fault p parts)
   never_refused fault p parts (there, alone) stands =
@@ -357,7 +357,7 @@ module _ (s : Day) (r : FormReader) (form text : List ℕ) (h : HoldsForm s r fo
       → HoldsForm s (reader_after r stage) (form ++ byte ∷ []) (text ++ made)
   grows stage made byte none one there = grind (arith, append_assoc, append-nil, length-append)
 
-  -- if a fault stands at the last part with more bytes, the form with these bytes is refused
+  -- if a fault stands at the last part once more bytes have come, the form with these bytes is refused
   pub refused_at : (fault : FormFault) (more part : List ℕ) (others : List (List ℕ))
       → cut_at_headings (h.last ++ more) ≡ (part, others)
       → IsPartFaultForGood s fault (here s r form text h) (part ∷ others)

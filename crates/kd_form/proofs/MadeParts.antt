@@ -28,7 +28,7 @@ enciphered_length s window text = grind (arith, length-map, length-enumerate_fro
 pub letter_read : (table : List ℕ) (place : ℕ) → All (λ letter. letter < 26) table → slice_index table place < 26
 letter_read table place letters = grind (arith, cases_lt, All-get_or {X = ℕ}, get_or-eq_default {A = ℕ})
 
--- each entry of a product is a letter
+-- each entry of `product ps` is a letter
 product_letters : (ps : List (List ℕ)) → All (λ letter. letter < 26) (product ps)
 unfolding product followed_by
 product_letters [] =
@@ -66,9 +66,9 @@ own_when_left (OfRotors s) key left window count (shown, is) left_is =
 own_when_left (OfPins s) key left window count (shown, is) left_is =
     (_, left_is ∙ ap (λ k. engine_key_after (key_with_window k window) count) is)
 
--- -------- striking out letters finds the first rising places, letter by letter and wheel by wheel
+-- -------- skipping letters finds the first rising places, letter by letter and wheel by wheel
 
--- rising places from `start` on, whose letters are on the wheels from `wheel` to the sixth
+-- a pick: rising places from `start` on, whose letters are on the wheels from `wheel` to the sixth
 abbrev pub Picks : List ℕ → ℕ → ℕ → List ℕ → Type 0
 Picks letters wheel start [] = wheel ≡ 7
 Picks letters wheel start (place ∷ places) =
@@ -102,7 +102,7 @@ module _ (letters : List ℕ) (wheel start : ℕ) (inside : start < length lette
   none_on less none (other ∷ others) (after, within, on, more) =
       none others (Picks-earlier letters (wheel + 1) (other + 1) (start + 1) others (omega arith) more)
 
-  -- if the letter at `start` isn't on the wheel, each pick begins later
+  -- if the letter at `start` isn't on the wheel, each pick begins after `start`
   later : (places : List ℕ) → ¬ (Contains (ring_of wheel) (slice_index letters start))
       → Picks letters wheel start places → Picks letters wheel (start + 1) places
   later [] off picks = picks
@@ -236,7 +236,7 @@ pub has_internal : (s : Day) (k : PinKeys) → KeysSuitDay s (Pin k)
     → (internal : List ℕ) × IsInternalKey (enciphered_choice s k) internal
 has_internal s k suits = grind arith
 
--- the deciphered message key is a window
+-- the deciphered message key can show in the windows
 pub key_is_window : (s : Day) (i : Indicator) (key : List ℕ) → HasIndicator s (Some i) → key ≡ deciphered_key s i
     → All (λ l. l < 26) key → IsWindow (sheet_key s) key
 key_is_window s i key has is within = grind (arith, enciphered_length, length-map)

@@ -247,14 +247,16 @@ no_bad_byte text place all is =
 
 -- ---- one answer
 
--- the answer by the number of letters, once the keys suit and the bytes of the text are allowed
+-- the answer for letters whose order has keys that suit and only allowed bytes: it depends on how many
+-- letters there are
 abbrev pub IsSizeAnswer : Day → List Keys → List ℕ → Answer → Type 0
 IsSizeAnswer s keys letters =
     DemandsThen (letters ≢ []) (Err EmptyText) (DemandsThen (parts_needed s (length letters) ≡ length keys)
     (Err (PartKeys (parts_needed s (length letters)) (length keys)))
     (FindsThen (ArePartTextsMade s 1 (length keys) keys (pieces (part_size s) letters)) (λ form v. v ≡ Ok form)))
 
--- the answer once the head is read: by the keys, then by the bytes of the text, then by the number of letters
+-- the answer once the head is read: it depends on the keys, then on the bytes of the text, then on how many
+-- letters it has
 abbrev pub IsLaterAnswer : Day → List Keys × List ℕ × List ℕ → Answer → Type 0
 IsLaterAnswer s (keys, head, text) =
     UnlessFoundThen (IsFirstKeysFault s keys) (λ fault. Err fault) (All (KeysSuitDay s) keys)
@@ -262,7 +264,7 @@ IsLaterAnswer s (keys, head, text) =
     (All (λ b. IsTrue (is_text_byte b)) text)
     (IsSizeAnswer s keys (text_letters s text)))
 
--- the answer for an order: by the head, and then by the keys and the text
+-- the answer for an order: it depends on the head, and then on the keys and the text
 abbrev pub IsOrderAnswer : Day → List ℕ → Answer → Type 0
 IsOrderAnswer s order v =
     FindsThen (IsOrderHeadFault s order) (λ position w. w ≡ Err (BadByte position)) v

@@ -52,7 +52,7 @@ module _ (s : Day) where
   reads_as A B to p (part ∷ parts) letters (inr (count, one, more, is, due, rest, joined)) =
       inr (count, one, more, is, due, reads_as A B to (next_part_start p count part) parts more rest, joined)
 
-  -- parts read up to a place, and more parts read from there, are read together
+  -- if `parts` are read from `p` to `q`, and `others` from `q` on, all of them are read from `p` on
   pub reads_then : (q : PartStart) (B : PartsProperty) (p : PartStart) (parts others : List (List ℕ))
       (letters more : List ℕ)
       → ReadsPartsTo s (IsAtPartStart q) p parts letters → ReadsPartsTo s B q others more
@@ -63,14 +63,15 @@ module _ (s : Day) where
   reads_then q B p (part ∷ parts) others letters more (inr (count, one, left, is, due, reads, joined)) rest =
       grind (arith, reads_then q B (next_part_start p count part) parts others left more reads rest, append_assoc)
 
-  -- from a rest with `A`, no part can be read on the way to a rest with `B`
+  -- if `A` holds of the parts left, the next part can't be read so that `B` holds of the parts left later
   abbrev pub NeverPasses : PartsProperty → PartsProperty → Type 0
   NeverPasses A B =
       (p : PartStart) (part : List ℕ) (parts : List (List ℕ)) (count : ℕ) (one more : List ℕ) → A p (part ∷ parts)
       → IsPartRead s p.number count part one
       → IsExpectedCount p.expected count → ¬ (ReadsPartsTo s B (next_part_start p count part) parts more)
 
-  -- all parts are read, and are too few or give the text; or a part is refused
+  -- the answer where these parts are left: without a part, `PartOrder` if parts are missing, and otherwise
+  -- success; with a part, the fault of this part
   abbrev pub AnswersAt : Result (Unit {0}) FormFault → PartsProperty
   AnswersAt v p [] =
       (count : ℕ) × (p.expected ≡ Some count) × DemandsThen (p.number ≡ count + 1) (Err PartOrder) (λ w. w ≡ Ok tt) v
@@ -126,7 +127,7 @@ module _ (s : Day) where
       let expects = subst (λ n. IsExpectedCount expected n) (sym a.so_many) due in
       inr ((a.heading, a.body), a.has, inr ((a.numbered, expects), inr (a.allowed, a.read)))
 
-  -- a part that is read has one number of parts and one text
+  -- a part can be read with only one number of parts and only one text
   one_text : {number parts others : ℕ} {part text other : List ℕ} → IsPartRead s number parts part text
       → IsPartRead s number others part other → (parts ≡ others) × (text ≡ other)
   one_text {number} {part = part} {text = text} {other = other} a b =
@@ -137,7 +138,7 @@ module _ (s : Day) where
 
   -- -------- a form becomes one text, or has one fault
 
-  -- parts that are read up to `A` and up to `B` are read up to the same rest
+  -- if parts are read up to `A` and up to `B`, the same parts are left
   pub reads_meet : (A B : PartsProperty) (R : Type 0) → NeverPasses s A B → NeverPasses s B A
       → ((p : PartStart) (parts : List (List ℕ)) → A p parts → B p parts → R)
       → (p : PartStart) (parts : List (List ℕ)) (letters more : List ℕ) → ReadsPartsTo s A p parts letters
@@ -160,7 +161,7 @@ module _ (s : Day) where
 
   -- ---- one answer
 
-  -- a part that is read isn't refused
+  -- a part that can be read has no fault
   pub read_or_refused : {number : ℕ} {expected : Option ℕ} {start count : ℕ} {part one : List ℕ} {fault : FormFault}
       → IsPartFault s number expected start part fault
       → IsPartRead s number count part one → ¬ (IsExpectedCount expected count)
@@ -181,7 +182,7 @@ module _ (s : Day) where
       (part_fault also) in cc
 
   module _ (form : List ℕ) where
-    -- the answer to a form, after parts with these letters
+    -- `v` is the answer for the form, and `letters` are the letters of the parts read before
     abbrev pub IsFormAnswer : Result (Unit {0}) FormFault → List ℕ → Type 0
     IsFormAnswer v letters = ReadsPartsTo s (AnswersAt s v) first_part_start (parts_of form) letters
 

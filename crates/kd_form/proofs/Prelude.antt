@@ -84,7 +84,7 @@ pub use Rattle.kd_state.specs.Words.{IsFirstPart, IsWithout, line_of, words_of}
 pub use Rattle.kd_tables.specs.{Ports.EndAgrees, Ports.FailureAgrees, Ports.HasNotFailed, Ports.Port, Ports.port}
 pub use Rattle.kd_tables.specs.{Ports.read_limit, Text.is_text_byte, Text.letters_text, Writing.TakesPrefix}
 
--- the answer is the error that `?` returns
+-- an answer that is an error, as `?` returns it, and whose error is `fault`, is `Err fault`
 pub err_is : {T E : Type 0} (answer : Result T E) (fault : E) → IsErrAnd answer (λ made. made ≡ fault)
     → answer ≡ Err fault
 err_is answer fault e = grind arith

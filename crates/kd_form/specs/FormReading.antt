@@ -19,23 +19,24 @@ use Rattle.kd_form.specs.FormText.{PartStart, PartsProperty, ReadsPartsTo, first
 
 -- ---- the last part
 
--- The byte may be at this place of a heading line, which begins with `PART ` and a digit.
+-- The byte can be at this place of a heading line, counted from 0: a heading line begins with `PART ` and a
+-- digit.
 abbrev pub FitsHeadingAt : ℕ → ℕ → Type 0
 FitsHeadingAt place byte = (place < 5 → byte ≡ slice_index (codes "PART ") place)
     × (place ≡ 5 → (48 ≤ byte) × (byte ≤ 57))
 
--- The bytes begin a heading line, or are a prefix of `PART `.
+-- The bytes begin as a heading line does, or they are a prefix of `PART `.
 abbrev pub HasBegunHeading : List ℕ → Type 0
 HasBegunHeading bytes = ((count : ℕ) × (count ≤ 5) × (bytes ≡ take count (codes "PART "))) ⊎ BeginsHeading bytes
 
--- `part` is a prefix of a heading line, without LF, and `held` has up to 64 bytes of it.
+-- `part` is a prefix of a heading line, without LF, and `held` has its first bytes, up to 64.
 pub record HoldsLine (held part : List ℕ) : Type 0 where
   pub kept : held ≡ take 64 part
   pub unbroken : IsWithout 10 part
   pub begins : HasBegunHeading part
 
--- `first` has up to 6 bytes of the last line of `body`, which may be incomplete. `line` is the line before
--- `body`.
+-- `first` has the first bytes, up to 6, of the last line of `body`, which may be incomplete. `line` is the
+-- line before `body`.
 pub record HasTail (line body first : List ℕ) : Type 0 where
   pub settled : List ℕ
   pub tail : List ℕ
@@ -66,7 +67,7 @@ abbrev pub HoldsStage : Day → FormStage → ℕ → Option ℕ → List ℕ �
 HoldsStage s (stages.Heading line) number expected part = HoldsLine line.items part × (length part < 6 → number ≡ 1)
 HoldsStage s (stages.Body b) number expected part = HoldsPart s b number expected part
 
--- `letters` are the body after this heading, and `made` is their text.
+-- `letters` are the body after this heading, and `made` is its text, as bytes.
 abbrev pub IsBodyPlaintext : Day → Heading → List ℕ → List ℕ → Type 0
 IsBodyPlaintext s h letters made = (text : List ℕ) × IsBodyAnswer s h.part h letters (Ok text)
     × (made ≡ plaintext_bytes s text)
@@ -107,15 +108,15 @@ pub data IsHeadingFault (number : ℕ) (expected : Option ℕ) (found : Option H
 
 -- ---- the form
 
--- the place of the part that the reader is in, after the bytes `front`
+-- where the part begins that the reader is in; `front` are the bytes of the form before this part
 abbrev pub reader_place : FormReader → List ℕ → PartStart
 reader_place r front = record { number = r.number; expected = r.expected; bytes_before = length front }
 
 abbrev pub IsAtPartStart : PartStart → PartsProperty
 IsAtPartStart q p parts = (p ≡ q) × (parts ≡ [])
 
--- The reader has read `form` and made `text`. It has deciphered the parts before the last one, and holds the
--- last one. Further bytes don't change the parts before it.
+-- The reader has read `form` and output `text`. It has deciphered the parts before the last one, and holds
+-- the last one. Further bytes don't change the parts before the last one.
 pub record HoldsForm (s : Day) (r : FormReader) (form text : List ℕ) : Type 0 where
   pub front : List ℕ
   pub last : List ℕ

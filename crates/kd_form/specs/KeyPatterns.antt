@@ -7,12 +7,12 @@ use Rattle.kd_form.specs.declared.keys.Keys.TheVariants.{Rotor, Pin}
 use Rattle.kd_form.specs.Keys.{AreKeys}
 use Rattle.kd_form.specs.Order.{IsKeyLine}
 
--- `number` places for letters
+-- `number` times `_`, each the place of a letter
 abbrev pub blank_places : ℕ → List ℕ
 blank_places number = replicate number 95
 
--- the pattern of a line of keys: for a rotor machine with `slots` slots, for the Converter M-209, and for the
--- day's model
+-- the pattern of a line of keys: for a rotor machine with `slots` slots; next, for the Converter M-209; and
+-- last, for the day's model
 abbrev pub rotor_pattern : ℕ → List ℕ
 rotor_pattern slots = line_of (codes "PART" ∷ blank_places slots ∷ blank_places slots ∷ blank_places 2
     ∷ blank_places 3 ∷ [])

@@ -33,7 +33,7 @@ fn read_fraction(word: &[u8]) -> Option<(u8, u8)>
     Some((part, parts))
 }
 
-/// Reads `word` as a number of letters that a body of the day's model can have.
+/// Reads `word` as a count of letters, if a body may have so many letters on the day's model.
 #[tactic(auto, using(crate::proofs::Headings::same_count))]
 fn read_letter_count(day: &SheetDay, word: &[u8]) -> Option<u16>
     ensures { MatchOption result
@@ -79,7 +79,9 @@ fn read_slots(slots: usize, word: &[u8]) -> Option<PerSlot<Letter>>
     PerSlot::new(letters.as_slice())
 }
 
-/// Reads the words after the count; on the Converter M-209, which has none, the answer is `Some(None)`.
+/// Reads the words after the letter count in a heading.
+///
+/// On the Converter M-209, a heading has no such words, and the result is `Some(None)`.
 fn read_indicator(day: &SheetDay, words: &[&[u8]]) -> Option<Option<Indicator>>
     ensures { MatchOption result
         ((found : _) → HasIndicator day.now found
@@ -101,7 +103,7 @@ fn read_indicator(day: &SheetDay, words: &[&[u8]]) -> Option<Option<Indicator>>
     }
 }
 
-/// Whether a body of the day's model can have `count` letters.
+/// Whether a body may have `count` letters on the day's model.
 fn is_letter_count(day: &SheetDay, count: u16) -> bool
     ensures { IsTrue result ↔ IsLetterCount day.now count }
 {

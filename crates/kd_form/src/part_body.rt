@@ -63,7 +63,7 @@ impl PartBody {
         is_text(self.line.as_slice(), b"PART ") && byte.is_ascii_digit()
     }
 
-    /// Takes the next byte, which must be allowed in a body.
+    /// Takes the next byte of the body: a capital letter, a space, CR or LF.
     pub(crate) fn push(&mut self, byte: u8)
         requires { IsTrue (is_text_byte byte) }
         ensures heading { self.new.heading ≡ self.old.heading }
@@ -111,7 +111,8 @@ fn keep_letter(letters: &mut ArrayVec<Letter, KEPT>, letter: Option<Letter>)
 
 /// Appends `byte` while there is room; an LF begins a new line.
 ///
-/// Most bytes come after the first few of a line and store nothing, so the next byte needn't wait.
+/// Only the first six bytes of a line are stored. Most bytes come later and store nothing, so the next byte
+/// needn't wait for a store.
 fn keep_byte(line: &mut ArrayVec<u8, FIRST>, byte: u8)
     ensures ended { byte ≡ 10 → line.new.items ≡ [] }
     ensures longer { byte ≢ 10 → line.new.items ≡ take 6 (line.old.items ++ byte ∷ []) }

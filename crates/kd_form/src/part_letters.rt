@@ -98,7 +98,7 @@ fn read_pin_letters(
 
 /// Deciphers `letters`, the body of the part with `heading`.
 ///
-/// Of a body that is too long, `letters` may be a prefix, if the prefix is longer than any heading allows.
+/// If the body is too long, `letters` may be a prefix of it that is longer than any heading allows.
 pub(crate) fn read_body(
     day: &SheetDay,
     heading: &Heading,
