@@ -6,7 +6,7 @@ pub use Rattle.kd_form.proofs.Prelude.{take-append_seam, cases_lt, cases_eq, app
 pub use Rattle.kd_form.proofs.Prelude.{take-append-le, length-take, length-take-le, filter_map-append, All-nil}
 pub use Rattle.kd_form.proofs.Prelude.{All-push, ArrayVec, is_text_byte, Day, line_of, IsFirstPart, FormFault, Heading}
 pub use Rattle.kd_form.proofs.Prelude.{IsLineText, heading_words, letter_of_byte, letters_from, IsHeading}
-pub use Rattle.kd_form.proofs.Prelude.{BeginsHeading, Answer, IsBodyAnswer, HasHeading, IsExpectedCount, IsEarlyFault}
+pub use Rattle.kd_form.proofs.Prelude.{BeginsHeading, Result, HasFault, GoesOn, IsBodyAnswer, HasHeading, IsExpectedCount, IsEarlyFault}
 pub use Rattle.kd_form.proofs.Prelude.{InHeading, InNumber, InBody, IsPartFault, HoldsBody, IsBodyPlaintext}
 pub use Rattle.kd_form.proofs.Prelude.{HasBegunHeading, HoldsPart, HoldsStage, HoldsForm, IsHeadingFault}
 pub use Rattle.kd_form.proofs.Prelude.{HeadingMissing, HeadingOfOther, IsPartRead, PartOrder, plaintext_bytes}
@@ -110,10 +110,19 @@ are_shown others kept shown letters more few size is cut = elim (cases_lt 525 (l
   | inr short ↦ inl (grind (arith, take_all 525 (letters ++ more), take-append_seam letters, length-append letters))
 ]
 
-pub body_told : (s : Day) (h : Heading) (others : ℕ) (kept shown letters more : List ℕ) (v : Answer) → IsHeading s h
+pub body_told : (s : Day) (h : Heading) (others : ℕ) (kept shown letters more : List ℕ) (v : Result (List ℕ) FormFault) → IsHeading s h
     → others ≤ 4 → length more ≡ others → kept ≡ take 525 (letters ++ more) → shown ≡ take (length kept - others) kept
     → IsBodyAnswer s h.part h shown v → IsBodyAnswer s h.part h letters v
-body_told s h others kept shown letters more v is few size kept_is cut told = grind (arith, are_shown, at_most)
+body_told s h others kept shown letters more v is few size kept_is cut told =
+    elim (are_shown others kept shown letters more few size kept_is cut) [
+      | inl same ↦ subst (λ ls. IsBodyAnswer s h.part h ls v) same told
+      | inr long ↦ elim told [
+        | HasFault fault first fault_is ↦
+            HasFault fault ((λ _ counted. omega (arith, counted, long.1, at_most s h.letters is.letters)), first.1)
+            fault_is
+        | GoesOn _ counted next ↦ absurd (omega (arith, counted, long.0, at_most s h.letters is.letters))
+      ]
+    ]
 
 -- -------- a whole part
 
@@ -139,12 +148,35 @@ module _ (s : Day) (b : PartBody) (number : ℕ) (expected : Option ℕ) (part b
     (next : IsNext s b number expected part body more) where
   next_read : (made : List ℕ) → HoldsWithMore b (length more) (λ letters. IsBodyPlaintext s b.heading letters made)
       → (one : List ℕ) × IsPartRead s number b.heading.parts part one × (made ≡ plaintext_bytes s one)
-  next_read made told = grind (arith, told (letters_from None body) more refl next.kept)
+  next_read made told =
+      let (text, read, is) = told (letters_from None body) more refl next.kept in (
+        text,
+        record {
+          heading = b.heading;
+          body = body;
+          has = next.has;
+          numbered = next.numbered;
+          so_many = refl;
+          allowed = next.allowed;
+          read = subst (λ n. IsBodyAnswer s n b.heading (letters_from None body) (Ok text)) next.numbered read;
+        },
+        is,
+      )
 
   pub next_refused : (fault : FormFault)
       → HoldsWithMore b (length more) (λ letters. IsBodyAnswer s b.heading.part b.heading letters (Err fault))
       → (start : ℕ) → IsPartFault s number expected start part fault
-  next_refused fault told start = grind (arith, told (letters_from None body) more refl next.kept)
+  next_refused fault told start =
+      let found = told (letters_from None body) more refl next.kept in
+      inr (record {
+        heading = b.heading;
+        body = body;
+        has = next.has;
+        numbered = next.numbered;
+        due = next.due;
+        allowed = next.allowed;
+        found = subst (λ n. IsBodyAnswer s n b.heading (letters_from None body) (Err fault)) next.numbered found;
+      })
 
 -- a missing or wrong heading is an early fault of its part
 pub IsHeadingFault-IsEarlyFault : (s : Day) (number : ℕ) (expected : Option ℕ) (start : ℕ) (part : List ℕ)

@@ -12,6 +12,7 @@ pub use Rattle.kd_form.proofs.Prelude.{IsLegalDay, Keys, plaintext_with_end, sen
 pub use Rattle.kd_form.proofs.Prelude.{FormsGiveTheirOrders, KeysSuitDay, part_size, fill_last_group, IsBodyAnswer, Ok}
 pub use Rattle.kd_form.proofs.Prelude.{IsPartRead, blank_of, text_letters, ArePartTextsMade, ReadsPartsTo}
 pub use Rattle.kd_form.proofs.Prelude.{first_part_start, AreAllPartsRead, IsExpectedCount, take-append_seam, All-more}
+pub use Rattle.kd_form.proofs.Prelude.{GoesOn}
 use Rattle.kd_form.proofs.Headings.{allowed_one, at_cut, cut_behind, ended_heading, has_byte, plain_heading}
 use Rattle.kd_form.proofs.Headings.{words_begin, one_byte}
 use Rattle.kd_form.proofs.MadeParts.{pieces-next, pieces-none, more_pieces, IsPiece, GivesBack, part_gives_back}
@@ -237,7 +238,7 @@ parts_are_given_back s part parts (k ∷ keys) (piece ∷ pieces) form legal are
       allowed = given.allowed;
       read =
           subst (λ ls. IsBodyAnswer s part made.heading ls (Ok (sent_letters s piece))) (sym given.gives)
-          (inr (back.counted, back.read));
+          (GoesOn tt back.counted back.read);
     } in
     rw (joined, written) (record {
       texts = part_text made ∷ rest.texts;

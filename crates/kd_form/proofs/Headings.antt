@@ -473,7 +473,7 @@ one_end : (s : Day) (count found : ℕ) (i j : Option Indicator) → count < 2 ^
     → (count ≡ found) × (i ≡ j)
 one_end (OfRotors s) count found (Some i) (Some j) small little has had same =
     let counts = one_number count found 32 _ _ small little (omega arith) same in
-    let starts = same_word i.ground j.ground _ _ counts.1 in
+    let starts = same_word i.ground_setting j.ground_setting _ _ counts.1 in
     grind (arith, counts.0, starts.0, same_letters i.enciphered_key j.enciphered_key starts.1)
 one_end s count found None None small little has had same = (decimal_injective count found small little same, refl)
 one_end (OfRotors s) count found _ _ small little has had same = search

@@ -205,7 +205,7 @@ keys_exist (OfRotors s) letters are =
     let (start, others) = letters_cut slots (slots + (2 + 3)) letters (rw (rotor_blanks slots) at are) in
     let (key, last) = letters_cut slots (2 + 3) (drop slots letters) others in
     let (fillers, group) = letters_cut 2 3 (drop slots (drop slots letters)) last in
-    (Rotor _, record { ground = start; message_key = key; fillers = fillers; group = group }, simp take-append-drop)
+    (Rotor _, record { ground_setting = start; message_key = key; fillers = fillers; group = group }, simp take-append-drop)
 keys_exist (OfPins s) [] are = absurd (omega (arith, are.count))
 keys_exist (OfPins s) (l ∷ letters) are =
     (Pin (record { chosen = l; external = letters }), grind (arith, letters_cut 1 6 (l ∷ letters), All-head), refl)

@@ -15,7 +15,7 @@ pub use Rattle.kd_form.proofs.Prelude.{pin_indicators, fill_last_group, sheet_ke
 pub use Rattle.kd_form.proofs.Prelude.{drop-append_seam, HasIndicator, deciphered_key, HasIndicatorsAround}
 pub use Rattle.kd_form.proofs.Prelude.{group_of_body, keys_of_body, list_of_body, text_of_body, IsLettersAnswer, Ok}
 pub use Rattle.kd_form.proofs.Prelude.{All-append, All-cons, All-replicate, twice_on_key, IsFraction, IsHeading}
-pub use Rattle.kd_form.proofs.Prelude.{sent_letters, AreKeys, nat_tests, AreRising}
+pub use Rattle.kd_form.proofs.Prelude.{sent_letters, AreKeys, nat_tests, AreRising, GoesOn}
 use Rattle.{kd_enigma.specs.Cipher.{path, product}}
 use Rattle.{kd_state.specs.TwoCiphers.{EngineKey, engine_key_after, key_with_window}}
 use Rattle.{kd_form.specs.Making.IsTurnedFrom, kd_tables.specs.{Permutation.{alphabet, followed_by}, Rings.ring_of}}
@@ -308,8 +308,8 @@ part_gives_back (OfRotors s) part parts (Rotor k) piece made legal are suits fra
       are.fillers.count,
       are.group.count,
     ) in
-    let key : cipher_from day k.ground (cipher_from day k.ground k.message_key) ≡ k.message_key =
-    twice_on_key day k.ground k.message_key legal are.message_key.within in
+    let key : cipher_from day k.ground_setting (cipher_from day k.ground_setting k.message_key) ≡ k.message_key =
+    twice_on_key day k.ground_setting k.message_key legal are.message_key.within in
     let text : cipher_from day k.message_key enciphered
     ≡ piece = twice_on_key day k.message_key piece legal is.within in
     let placed = rotor_places k.fillers k.group enciphered are.fillers.count are.group.count in
@@ -317,15 +317,15 @@ part_gives_back (OfRotors s) part parts (Rotor k) piece made legal are suits fra
       is_heading = grind (
         arith,
         count,
-        enciphered_length day k.ground k.message_key,
-        enciphered_letters day k.ground
+        enciphered_length day k.ground_setting k.message_key,
+        enciphered_letters day k.ground_setting
             k.message_key,
       );
       numbered = refl;
       so_many = refl;
       within = grind (arith, All-append (λ letter. letter < 26), are, enciphered_letters day k.message_key piece);
       counted = refl;
-      read = inr (rw (placed.0) suits, grind (arith, placed, key, text));
+      read = GoesOn tt (rw (placed.0) suits) (grind (arith, placed, key, text));
     })
 part_gives_back (OfPins s) part parts (Pin k) piece made legal are suits fraction is (internal, first, makes) =
     let day : Day = OfPins s in
@@ -366,6 +366,7 @@ part_gives_back (OfPins s) part parts (Pin k) piece made legal are suits fractio
           let is =
           sym (twice_on_key day internal (fill_last_group piece) legal inner)
           ∙ ap (cipher_from day internal) placed.text_is in
-          inr (placed.around, inr (on_wheels, inr (sym placed.listed, inr (internal, best, ap Ok is))));
+          GoesOn tt placed.around
+          (GoesOn tt on_wheels (GoesOn tt (sym placed.listed) (GoesOn internal best (ap Ok is))));
     })
 part_gives_back _ part parts _ piece made legal are suits fraction is makes = absurd suits

@@ -48,17 +48,6 @@ pub record IsHeading (s : Day) (h : Heading) : Type 0 where
   pub letters : IsLetterCount s h.letters
   pub indicator : HasIndicator s h.indicator
 
--- `found` is the heading with these words, or `None` if no heading of the day's model has them.
-abbrev pub AreHeadingWords : Day → List (List ℕ) → Option Heading → Type 0
-AreHeadingWords s words found =
-    MatchOption found ((h : Heading) → IsHeading s h → heading_words h ≢ words)
-    (λ h. IsHeading s h × (heading_words h ≡ words))
-
--- There are at most four letters.
-pub record AreFewLetters (letters : List ℕ) : Type 0 where
-  pub few : length letters ≤ 4
-  pub within : All (λ letter. letter < 26) letters
-
 -- `text` is the line without the CR at its end, if it has one.
 pub data IsLineText (line text : List ℕ) : Type 0 where
   WithReturn : line ≡ text ++ 13 ∷ [] → IsLineText line text
@@ -70,3 +59,16 @@ abbrev pub HasFirstLine : List ℕ → List ℕ → List ℕ → Type 0
 HasFirstLine text line rest =
     ((shown : List ℕ) × IsFirstPart 10 text shown rest × IsLineText shown line)
     ⊎ (IsWithout 10 text × (text ≡ line) × (rest ≡ []))
+
+-- ---- What the code holds. No public contract cites these definitions.
+
+-- `found` is the heading with these words, or `None` if no heading of the day's model has them.
+abbrev pub AreHeadingWords : Day → List (List ℕ) → Option Heading → Type 0
+AreHeadingWords s words found =
+    MatchOption found ((h : Heading) → IsHeading s h → heading_words h ≢ words)
+    (λ h. IsHeading s h × (heading_words h ≡ words))
+
+-- There are at most four letters.
+pub record AreFewLetters (letters : List ℕ) : Type 0 where
+  pub few : length letters ≤ 4
+  pub within : All (λ letter. letter < 26) letters

@@ -37,6 +37,8 @@ pub record IsInternalKey (letters key : List ℕ) : Type 0 where
 abbrev pub HaveNoInternalKey : List ℕ → Type 0
 HaveNoInternalKey letters = (places picked : List ℕ) → ¬ (ArePicked letters places picked)
 
+-- ---- What the code holds. No public contract cites these definitions.
+
 -- `next` is `key` with the letter appended, if the letter is on the first wheel without a letter in `key`;
 -- otherwise it is `key`.
 pub data IsTakenInTurn (key : List ℕ) (letter : ℕ) (next : List ℕ) : Type 0 where

@@ -26,7 +26,7 @@ key_pattern (OfPins s) = pin_pattern
 
 -- the letters of the keys, in the line's order
 abbrev pub key_letters : Keys → List ℕ
-key_letters (Rotor k) = k.ground ++ (k.message_key ++ (k.fillers ++ k.group))
+key_letters (Rotor k) = k.ground_setting ++ (k.message_key ++ (k.fillers ++ k.group))
 key_letters (Pin k) = k.chosen ∷ k.external
 
 -- `bytes` are a line of keys of the day's model, and its end.

@@ -3,6 +3,7 @@
 -- Test: forms_are_received
 use Rattle.std.specs.Prelude.{◌≡◌, ◌≢◌, ◌⊎◌, ℕ, ◌+◌, ◌-◌, List, length, All, IsTrue, Option, Some, None, Ok, Err}
 use Rattle.kd_tables.specs.Text.{is_text_byte}
+use Rattle.kd_state.specs.FirstFaults.{AnswerRule, ◌>>=◌, Demands}
 use Rattle.kd_state.specs.SheetDay.{Day}
 use Rattle.kd_state.specs.Words.{line_of}
 use Rattle.kd_form.specs.declared.fault.FormFault.{FormFault}
@@ -10,7 +11,6 @@ use Rattle.kd_form.specs.declared.fault.FormFault.TheVariants.{BadByte, BadHeadi
 use Rattle.kd_form.specs.declared.heading.Heading.{Heading}
 use Rattle.kd_form.specs.Part.{heading_words}
 use Rattle.kd_form.specs.Sending.{letters_from, IsFirstBadByteAt}
-use Rattle.kd_form.specs.FirstFaults.{Answer, DemandsThen}
 use Rattle.kd_form.specs.Reading.{IsLettersAnswer}
 use Rattle.kd_form.specs.FormParts.{IsHeading, HasFirstLine}
 
@@ -21,9 +21,10 @@ pub record HasHeading (s : Day) (part : List ℕ) (h : Heading) (body : List ℕ
 
 -- The answer is `CountWrong` if the body has more or fewer letters than its heading says. Otherwise it is the
 -- answer for the body's letters.
-abbrev pub IsBodyAnswer : Day → ℕ → Heading → List ℕ → Answer → Type 0
-IsBodyAnswer s number h letters =
-    DemandsThen (length letters ≡ h.letters) (Err (CountWrong number)) (IsLettersAnswer s number h.indicator letters)
+abbrev pub IsBodyAnswer : Day → ℕ → Heading → List ℕ → AnswerRule FormFault (List ℕ)
+IsBodyAnswer s number h letters = do
+  _ ← Demands (length letters ≡ h.letters) (CountWrong number)
+  IsLettersAnswer s number h.indicator letters
 
 -- The part is part `number` of `parts`, and `text` are the letters that its body deciphers to.
 pub record IsPartRead (s : Day) (number parts : ℕ) (part text : List ℕ) : Type 0 where

@@ -24,12 +24,6 @@ pub record IsOpen (m : Message) (bytes text : List ℕ) : Type 0 where
   pub unrefused : (fault : FormFault) → ¬ (m.stands bytes fault)
   pub written : m.before None bytes text
 
--- The bytes have this fault whatever bytes follow, and `text` is written before it.
-pub record IsRefused (m : Message) (bytes text : List ℕ) (fault : FormFault) : Type 0 where
-  pub stands : (more : List ℕ) → m.stands (bytes ++ more) fault
-  pub refused : (more : List ℕ) → m.refused (bytes ++ more) fault
-  pub written : (more : List ℕ) → m.before (Some fault) (bytes ++ more) text
-
 -- The bytes are the whole message. It becomes `text`, or it has a fault, before which `text` is written.
 abbrev pub IsMessageAnswer : Message → List ℕ → List ℕ → Result (Unit {0}) FormFault → Type 0
 IsMessageAnswer m bytes text answer =
@@ -118,3 +112,11 @@ pub data StreamsUnlessFault (is_fault : FormFault → Type 0) (may : Type 0) (me
 abbrev pub StreamsOnKey : Parts → Day → Message → Port → Port → Result (Unit {0}) FormFault → Type 0
 StreamsOnKey m s message source sink answer = StreamsUnlessFault (IsKeyFault m s) (IsReadyOnKey m s) message source
     sink answer
+
+-- ---- What the code holds. No public contract cites these definitions.
+
+-- The bytes have this fault whatever bytes follow, and `text` is written before it.
+pub record IsRefused (m : Message) (bytes text : List ℕ) (fault : FormFault) : Type 0 where
+  pub stands : (more : List ℕ) → m.stands (bytes ++ more) fault
+  pub refused : (more : List ℕ) → m.refused (bytes ++ more) fault
+  pub written : (more : List ℕ) → m.before (Some fault) (bytes ++ more) text

@@ -91,11 +91,11 @@ fn read_indicator(day: &SheetDay, words: &[&[u8]]) -> Option<Option<Indicator>>
 {
     match (slots_of(day), words) {
         (None, []) => Some(None),
-        (Some(slots), [ground, enciphered_key]) => {
-            let ground = read_slots(slots, ground)?;
+        (Some(slots), [ground_setting, enciphered_key]) => {
+            let ground_setting = read_slots(slots, ground_setting)?;
             let enciphered_key = read_slots(slots, enciphered_key)?;
             Some(Some(Indicator {
-                ground,
+                ground_setting,
                 enciphered_key,
             }))
         }

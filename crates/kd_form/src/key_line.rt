@@ -51,18 +51,18 @@ fn rotor_keys(slots: usize, letters: &[Letter]) -> RotorKeys
     requires slots { (slots ≡ 3) ⊎ (slots ≡ 4) }
     requires letters { AreLetters (slots + slots + 5) letters.now }
     ensures letters { letters.now
-        ≡ result.ground ++ (result.message_key ++ (result.fillers ++ result.group)) }
+        ≡ result.ground_setting ++ (result.message_key ++ (result.fillers ++ result.group)) }
     ensures keys { AreRotorKeys slots result }
 {
-    let (ground, rest) = letters.split_at(slots);
+    let (ground_setting, rest) = letters.split_at(slots);
     let (message_key, rest) = rest.split_at(slots);
     let (fillers, group) = rest.split_at(2);
-    let ground = PerSlot::new(ground).unwrap();
+    let ground_setting = PerSlot::new(ground_setting).unwrap();
     let message_key = PerSlot::new(message_key).unwrap();
     let fillers = <[Letter; 2]>::try_from(fillers).unwrap();
     let group = <[Letter; 3]>::try_from(group).unwrap();
     RotorKeys {
-        ground,
+        ground_setting,
         message_key,
         fillers,
         group,

@@ -77,11 +77,11 @@ fn indicator_of(own: &mut OwnMachine, keys: &RotorKeys) -> Indicator
 {
     prove!(keys.message_key.as_slice().len() <= 4);
     let enciphered_key = own.encipher_text::<4>(
-        keys.ground.as_slice(),
+        keys.ground_setting.as_slice(),
         keys.message_key.as_slice(),
     );
     Indicator {
-        ground: keys.ground,
+        ground_setting: keys.ground_setting,
         enciphered_key: PerSlot::new(enciphered_key.as_slice()).unwrap(),
     }
 }

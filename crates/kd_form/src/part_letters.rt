@@ -39,7 +39,7 @@ fn read_rotor_letters(
     }
     let mut own = OwnMachine::new(day);
     let message_key = own.encipher_text::<4>(
-        indicator.ground.as_slice(),
+        indicator.ground_setting.as_slice(),
         indicator.enciphered_key.as_slice(),
     );
     Ok(own.encipher_text(message_key.as_slice(), &letters[5..]))

@@ -1,4 +1,5 @@
--- How a document is read: its table, and the values in it. A reading gives a value or the first fault.
+-- How a document is read: its table, and the values in it. A reading gives a value or the first fault: readings in
+-- a `do` stand in the order of testing, and the answer is the fault of the first one that has one.
 -- Source: TOML 1.1, toml.io
 -- Code: the reader of the library `toml`, and `?`.
 -- Test: kd_trials/src/sheet/files.rt, kd_trials/src/sheet/faults.rt

@@ -1,4 +1,5 @@
--- Results that are found step by step: each step finds a value or has a fault, and the first fault is the result.
+-- How a first fault is stated: a rule says which answer is right, what a step finds or its fault. Rules in a `do`
+-- stand in the order of testing, so the answer is the fault of the first step that has one.
 use Rattle.std.specs.Prelude.{◌≡◌, Result, Ok, Err, refl}
 use Rattle.std.proofs.Common.{sym, ap, ◌∙◌, subst}
 
@@ -35,7 +36,7 @@ abbrev pub FindsAlways : {F X : Type 0} → (X → Type 0) → AnswerRule F X
 FindsAlways Holds (Ok x) = Holds x
 FindsAlways Holds (Err fault) = ⊥
 
--- ---- at most one result is right, if this is so for each step
+-- ---- At most one result is right, if this is so for each step. No public contract cites these definitions.
 
 abbrev pub HasOneAnswer : {F X : Type 0} → (Result X F → Type 0) → Type 0
 HasOneAnswer {F} {X} First = (v w : Result X F) → First v → First w → v ≡ w
