@@ -7,22 +7,23 @@ use Rattle.kd_tables.specs.Permutation.{MovesEachLetter}
 use Rattle.kd_tables.specs.Rings.{IsRing, place_on}
 use Rattle.kd_tables.specs.Tables.{wiring_of, reflector_of}
 
--- The published tables are permutations.
+-- The published wirings of wheels and reflectors are permutations.
 abbrev pub WiringsArePermutations : Type 0
 WiringsArePermutations = (wheel : Wheel) → IsPermutation26 (wiring_of wheel)
 
 abbrev pub ReflectorsArePermutations : Type 0
 ReflectorsArePermutations = (reflector : Reflector) → IsPermutation26 (reflector_of reflector)
 
--- A reflector takes each letter to another letter, and back again.
+-- A reflector turns each letter into another letter, and that letter back into the first.
 abbrev pub ReflectorsLeadBack : Type 0
 ReflectorsLeadBack = (reflector : Reflector) → IsOwnInverse (reflector_of reflector)
 
 abbrev pub ReflectorsMoveEachLetter : Type 0
 ReflectorsMoveEachLetter = (reflector : Reflector) → MovesEachLetter (reflector_of reflector)
 
--- How products, inverses and shifts act on one letter. In a product, the second permutation acts on the first
--- one's letter. The inverse takes `y` to `x` exactly if the permutation takes `x` to `y`.
+-- How products, inverses and shifts map one letter. A product maps `x` by `p`, and the result by `q`. The
+-- inverse maps `y` to `x` exactly if the permutation maps `x` to `y`. A shift moves `x` on by `k` places,
+-- with A after Z.
 abbrev pub ProductsByLetter : Type 0
 ProductsByLetter =
     (p q : List ℕ) (x : ℕ) → x < length p → slice_index (followed_by p q) x ≡ slice_index q (slice_index p x)
@@ -45,14 +46,15 @@ InversesArePermutations = (p : List ℕ) → IsPermutation26 p → IsPermutation
 abbrev pub ShiftsArePermutations : Type 0
 ShiftsArePermutations = (k : ℕ) → IsPermutation26 (shift k)
 
--- A permutation and its inverse, in either order, change nothing.
+-- The product of a permutation and its inverse, in either order, maps each letter to itself.
 abbrev pub InverseUndoesAfter : Type 0
 InverseUndoesAfter = (p : List ℕ) → IsPermutation26 p → followed_by p (inverse p) ≡ alphabet
 
 abbrev pub InverseUndoesBefore : Type 0
 InverseUndoesBefore = (p : List ℕ) → IsPermutation26 p → followed_by (inverse p) p ≡ alphabet
 
--- The inverse of a product, and the inverse of a shift.
+-- The inverse of a product is the product of the inverses in the other order. The inverse of a shift by `k`
+-- is the shift by 26 - `k`.
 abbrev pub ProductsBackwards : Type 0
 ProductsBackwards =
     (p q : List ℕ) → IsPermutation26 p → IsPermutation26 q
@@ -61,7 +63,8 @@ ProductsBackwards =
 abbrev pub ShiftsBackwards : Type 0
 ShiftsBackwards = (k : ℕ) → k ≤ 26 → inverse (shift k) ≡ shift (26 - k)
 
--- On a pin wheel, `place_on` finds each letter's place, and the letter at the place found is the letter sought.
+-- On a pin wheel, `place_on` finds the place of each letter. The letter at a place that it finds is the
+-- letter that it was to find.
 abbrev pub LettersLeadToPlaces : Type 0
 LettersLeadToPlaces =
     (size : ℕ) (ring : List ℕ) → IsRing size ring → (place : ℕ) → place < size
