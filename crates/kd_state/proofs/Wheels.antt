@@ -15,7 +15,7 @@ use Rattle.{kd_tables.specs.contracts.wheel.Wheel.the_type, kd_tables.specs.decl
 use Rattle.{std.proofs.Common.{cond, ◌==◌}, std.proofs.lemmas.Slice.Eq.bytes_eq-Decides, std.specs.Str.bytes_eq}
 use denote.Enum.Bare.{sameb, same_true, same_false}
 
--- the thing in `all` with this name, or `d`
+-- the first element of `all` whose name is `text`, or `d` if there is none
 abbrev pub named_or : {T : Type 0} → (T → List ℕ) → List T → T → List ℕ → T
 named_or name all d text = unwrap_or (find (λ x. bytes_eq (name x) text) all) d
 
@@ -29,7 +29,7 @@ one_wheel x y e = grind arith
 pub one_reflector : (x y : Reflector) → reflector_text x ≡ reflector_text y → x ≡ y
 one_reflector x y e = grind arith
 
--- `same_wheel` decides equality of wheels; so does `same_reflector` of reflectors
+-- `same_wheel` is true exactly if the two wheels are equal, and `same_reflector` if the two reflectors are
 pub same_wheel-Decides : (wheel other : Wheel) → Decides (same_wheel wheel other) (wheel ≡ other)
 same_wheel-Decides wheel other = grind (arith, Decides-like, one_wheel, bytes_eq-Decides)
 
@@ -43,7 +43,7 @@ same_wheel_self wheel = grind (arith, same_wheel-Decides)
 pub same_wheel_differs : (wheel other : Wheel) → wheel ≢ other → same_wheel wheel other ≡ false
 same_wheel_differs wheel other h = grind (arith, false_from_ne_true, same_wheel-Decides)
 
--- `has_wheel` decides whether a wheel is in a list; so does `has_reflector` for reflectors
+-- `has_wheel` is true exactly if the list contains the wheel, and `has_reflector` if it contains the reflector
 pub has_wheel-Decides : (wheels : List Wheel) (wheel : Wheel) → Decides (has_wheel wheels wheel) (Contains wheels wheel)
 has_wheel-Decides wheels wheel = is_member-Decides same_wheel-Decides wheels wheel
 
@@ -51,7 +51,7 @@ pub has_reflector-Decides : (reflectors : List Reflector) (reflector : Reflector
     → Decides (has_reflector reflectors reflector) (Contains reflectors reflector)
 has_reflector-Decides reflectors reflector = is_member-Decides same_reflector-Decides reflectors reflector
 
--- if an element passes, the place of the first that does is below the length
+-- if an element passes the test, the place of the first that passes is below the length
 pub first_within : {X : Type 0} (p : X → Bool) (xs : List X) → list_any p xs ≡ true → position_or_len p xs < length xs
 first_within p [] h = cc
 first_within p (x ∷ xs) h = grind (arith, cases_Bool, first_within p xs)
@@ -112,7 +112,7 @@ found_in_box model wheel place within before here =
 pub allowed_in_box : AllowedWheelsLieInTheBox
 allowed_in_box model slot wheel h = (IsAllowed-IsPlaced model slot wheel h).in_box
 
--- the wheel at a wheel's place is this wheel
+-- the wheel at `place_in_box` of a wheel is this wheel
 at_its_place : (model : Model) (wheel : Wheel) → Contains (box_of model) wheel
     → wheel ≡ get_or (box_of model) (place_in_box model wheel) I
 at_its_place model wheel h = grind (arith, same_wheel-Decides, passes_at_first, place_within)
@@ -136,7 +136,8 @@ pub seats_Decides : (slots others : List (Option Wheel))
     → Decides (pointwise (option_eq (sameb the_type)) slots others) (slots ≡ others)
 seats_Decides = grind (arith, pointwise_decides, seat_Decides)
 
--- a test that decides a property of all elements decides it for an equal list
+-- if `b` is true exactly if `P` holds of all elements of `xs`, it is also true exactly if `P` holds of all
+-- elements of an equal list `ys`
 pub all_tested : {X : Type 0} (P : X → Type 0) (xs ys : List X) (b : Bool) → Decides b (AllByRecursion P xs) → xs ≡ ys
     → Decides b (All P ys)
 all_tested P xs ys b d e = grind (arith, All-from_recursion, recursion_from_All)

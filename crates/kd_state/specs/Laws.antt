@@ -1,4 +1,4 @@
--- The laws of names and of places in the box.
+-- The laws of the names of wheels and reflectors, and of the wheels' places in the box.
 use Rattle.std.specs.Prelude.{◌≡◌, ◌≢◌, ◌↔◌, ℕ, ◌+◌, ◌<◌, ◌≤◌, List, ◌++◌, length, slice_index_or, slice_get, All}
 use Rattle.std.specs.Prelude.{AllPairs, Option, None, MatchOption, Contains}
 use Rattle.std.specs.Bool.{Decides}
@@ -25,14 +25,15 @@ use Rattle.kd_state.specs.Costs.{columns_of, cable_cost, cost_table}
 use Rattle.kd_state.specs.TwoCiphers.{EngineKey, cipher, engine_key_after, key_with_window, IsWindow, IsReady}
 use Rattle.kd_state.specs.TwoCiphers.{window_of, physical_key, physical_cipher, sheet_key, sheet_cipher, IsTurnedTo}
 
--- Different wheels have different names, and so have different reflectors.
+-- Different wheels have different names, and different reflectors have different names.
 abbrev pub NamesTellWheels : Type 0
 NamesTellWheels = (wheel other : Wheel) → Decides (same_wheel wheel other) (wheel ≡ other)
 
 abbrev pub NamesTellReflectors : Type 0
 NamesTellReflectors = (reflector other : Reflector) → Decides (same_reflector reflector other) (reflector ≡ other)
 
--- A wheel that a slot allows is in the box, and each wheel of the box has a place of its own there.
+-- A wheel that is allowed in a slot of a model is in the model's box. Each wheel of the box has a place
+-- there, and no two wheels have the same place.
 abbrev pub AllowedWheelsLieInTheBox : Type 0
 AllowedWheelsLieInTheBox =
     (model : Model) (slot : ℕ) (wheel : Wheel) → IsAllowed model slot wheel → Contains (box_of model) wheel
@@ -52,7 +53,7 @@ DaysWheelsHaveTheirPlaces = (model : Model) (wheels : List SheetWheel) → AreLe
 
 -- ---- The laws of settings: each is refused or has one result, which is just the change that the readers show.
 
--- A machine stays a machine when a setting or a list of settings is carried out.
+-- A setting, or a list of settings, that is carried out on a machine gives a machine.
 abbrev pub SettingsKeepMachines : Type 0
 SettingsKeepMachines = (m n : Parts) (x : Setting) → IsMachine m → IsSettingInRange x → Carries m x n → IsMachine n
 
@@ -60,7 +61,8 @@ abbrev pub ListsKeepMachines : Type 0
 ListsKeepMachines = (m n : Parts) (xs : List Setting) → IsMachine m → All IsSettingInRange xs → Leads m xs n
     → IsMachine n
 
--- A machine refuses a setting or carries it out, and never both. A setting has one result, and so has a list.
+-- A machine refuses a setting or carries it out, and never both. Carrying out a setting, or a list of
+-- settings, has one result.
 abbrev pub RefusesOrCarries : Type 0
 RefusesOrCarries =
     (m : Parts) (x : Setting)
@@ -82,11 +84,13 @@ TellingIsMaking =
     (m n : Parts) (x : Setting) → IsMachine m → IsMachine n → IsSettingInRange x → AllowsSetting m x
     → ChangesTo m x n → Carries m x n
 
--- A setting is refused exactly if it isn't allowed by what the readers show.
+-- A machine doesn't refuse a setting exactly if the setting is allowed by what the readers show.
 abbrev pub RefusalsAreTold : Type 0
 RefusalsAreTold = (m : Parts) (x : Setting) → IsMachine m → (why_refused m x ≡ None) ↔ AllowsSetting m x
 
--- A machine refuses a wheel, a reflector or a ring exactly if the tables don't allow it.
+-- A rotor machine doesn't refuse to seat a wheel exactly if the wheel is allowed in the slot; to seat a
+-- reflector, exactly if it is one of the model's; and to set a wheel's ring, exactly if the wheel is in the
+-- model's box.
 abbrev pub SeatsAreByTheTables : Type 0
 SeatsAreByTheTables =
     (m : RotorParts) (slot : ℕ) (wheel : Wheel)
@@ -102,9 +106,10 @@ RingsAreByTheTables =
     (m : RotorParts) (wheel : Wheel) (letter : ℕ)
     → (why_refused (Rotor m) (RingTo wheel letter) ≡ None) ↔ Contains (box_of m.model) wheel
 
--- ---- The laws of lines and lists: each has one meaning, and a text has one fault at most.
+-- ---- The laws of lines and lists: a line is of one setting at most, a text of one list at most; and a text
+-- has one fault at most.
 
--- The parts of a setting's line are words.
+-- The parts of a setting's line are words: not empty, and without a space or LF.
 abbrev pub SettingsHaveWords : Type 0
 SettingsHaveWords = (x : Setting) → IsSettingInRange x → All IsWord (setting_words x)
 
@@ -124,11 +129,11 @@ abbrev pub OneListFault : Type 0
 OneListFault =
     (bytes : List ℕ) (fault other : ListFault) → IsListFault bytes fault → IsListFault bytes other → fault ≡ other
 
--- ---- The laws of ciphers: a machine on the day's key enciphers as the day asks, and an equally set one
--- deciphers it.
+-- ---- The laws of ciphers: a machine on the day's key enciphers as the day asks, and an equally set machine
+-- deciphers the ciphertext.
 
--- An engine with a machine's key enciphers as the machine's own parts do. Turned to other letters, it enciphers
--- as the machine that shows these letters.
+-- An engine with a machine's key enciphers as the machine's own parts do. An engine turned to other letters
+-- enciphers as the machine turned to these letters.
 abbrev pub EngineIsTheMachine : Type 0
 EngineIsTheMachine = (m : Parts) (text : List ℕ) → cipher (physical_key m) text ≡ physical_cipher m text
 
@@ -145,7 +150,7 @@ ReadingIsItsCipher =
     (m : Parts) (s : Day) (text : List ℕ) → IsMachine m → IsLegalDay s → ReadsAs m s
     → physical_cipher m text ≡ sheet_cipher s text
 
--- A machine on the day's key is ready. It enciphers as the day asks, from the letters that it shows.
+-- A machine on the day's key is ready, and enciphers as the day asks from the letters that it shows.
 abbrev pub OnKeyIsReady : Type 0
 OnKeyIsReady = (m : Parts) (s : Day) → IsMachine m → IsLegalDay s → OnKey m s → IsReady m
 
@@ -153,13 +158,13 @@ abbrev pub OnKeyIsItsCipher : Type 0
 OnKeyIsItsCipher = (m : Parts) (s : Day) (text : List ℕ) → IsMachine m → IsLegalDay s → OnKey m s
     → physical_cipher m text ≡ cipher (key_with_window (sheet_key s) (window_of m)) text
 
--- A machine on the day's key that is turned to other letters enciphers as the day asks, from these letters.
+-- A machine on the day's key that is turned to other letters enciphers as the day asks from these letters.
 abbrev pub TurnedHasTheDaysCipher : Type 0
 TurnedHasTheDaysCipher =
     (m n : Parts) (s : Day) (window text : List ℕ) → IsMachine m → IsLegalDay s → OnKey m s → IsTurnedTo m window n
     → physical_cipher n text ≡ cipher (key_with_window (sheet_key s) window) text
 
--- A ready machine can be turned to each window.
+-- A ready machine can be turned to each window, and is still a machine then.
 abbrev pub MachinesCanBeTurned : Type 0
 MachinesCanBeTurned =
     (m : Parts) (window : List ℕ) → IsMachine m → IsReady m → IsWindow (physical_key m) window
@@ -176,8 +181,8 @@ abbrev pub TheDayDeciphersItself : Type 0
 TheDayDeciphersItself = (s : Day) (window text : List ℕ) → IsLegalDay s → All (λ letter. letter < 26) text
     → cipher (key_with_window (sheet_key s) window) (cipher (key_with_window (sheet_key s) window) text) ≡ text
 
--- A machine on the day's key stays on it when it is turned to other letters, and its key changes only in its
--- letters.
+-- A machine on the day's key stays on the key when it is turned to other letters. Turning a machine to other
+-- letters changes only the letters of its key.
 abbrev pub TurnedIsOnKey : Type 0
 TurnedIsOnKey = (m n : Parts) (s : Day) (window : List ℕ) → IsTurnedTo m window n → OnKey m s → OnKey n s
 
@@ -185,7 +190,7 @@ abbrev pub TurnedHasItsKey : Type 0
 TurnedHasItsKey =
     (m n : Parts) (window : List ℕ) → IsTurnedTo m window n → physical_key n ≡ key_with_window (physical_key m) window
 
--- A text can be enciphered in two pieces, the second with the key that the first leaves.
+-- A text can be enciphered in two chunks, the second with the key that the engine has after the first.
 abbrev pub CipherInTurn : Type 0
 CipherInTurn =
     (key : EngineKey) (first rest : List ℕ)
@@ -196,12 +201,12 @@ KeyInTurn = (key : EngineKey) (m n : ℕ) → engine_key_after (engine_key_after
 
 -- ---- The laws of columns and costs.
 
--- Two lists have the same letters exactly if `has_letter` gives the same answer for both, whatever the letter.
+-- Two lists have the same letters exactly if `has_letter` has the same value for both lists at each letter.
 abbrev pub TestsTellLetters : Type 0
 TestsTellLetters = (xs ys : List ℕ) → HaveSameLetters xs ys
     ↔ ((letter : ℕ) → has_letter xs letter ≡ has_letter ys letter)
 
--- A day has 13 columns: its pairs in their order, and then columns without a pair.
+-- A day has 13 columns: first its pairs in their order, then columns without a pair.
 abbrev pub ThirteenColumns : Type 0
 ThirteenColumns = (pairs : List (ℕ × ℕ)) → length pairs ≤ 13 → length (columns_of pairs) ≡ 13
 
@@ -209,11 +214,11 @@ abbrev pub ColumnsAreThePairs : Type 0
 ColumnsAreThePairs =
     (pairs : List (ℕ × ℕ)) (place : ℕ) → slice_index_or (columns_of pairs) place None ≡ slice_get pairs place
 
--- A cable costs at most 4 at each column.
+-- Giving a cable a column costs at most 4.
 abbrev pub CablesCostFour : Type 0
 CablesCostFour = (cable : Option ℕ × Option ℕ) (column : Option (ℕ × ℕ)) → cable_cost cable column ≤ 4
 
--- The cost tables are square.
+-- The cost tables are square: each row has as many entries as the table has rows.
 abbrev pub CostTablesAreSquare : Type 0
 CostTablesAreSquare =
     (m : Parts) (s : Day) → IsMachine m → IsLegalDay s

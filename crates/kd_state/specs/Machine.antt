@@ -1,4 +1,4 @@
--- Cables, slots, letters and pins, and when each is legal.
+-- Cables, slots, letters and pins, and which of them are legal.
 -- Test: kd_trials/src/state/carrying.rt
 use Rattle.std.specs.Prelude.{◌≡◌, ℕ, ◌+◌, ◌<◌, nat_eq, nat_le, Bool, List, ◌++◌, length, map, All, Contains, slice_get}
 use Rattle.std.specs.Prelude.{Option, Some, None, if◌then◌else◌}
@@ -28,7 +28,7 @@ cable_letters cable = option_to_list cable.0 ++ option_to_list cable.1
 abbrev pub letters_in_cables : List (Option ℕ × Option ℕ) → List ℕ
 letters_in_cables cables = flat_map cable_letters cables
 
--- The slot at index `place`, counted from 0 from the left, holds the wheel.
+-- The slot at `place`, counted from 0 from the left, holds the wheel.
 abbrev pub IsSeatedAt : List (Option Wheel) → ℕ → Wheel → Type 0
 IsSeatedAt slots place wheel = slice_get slots place ≡ Some (Some wheel)
 
@@ -47,7 +47,7 @@ pub record AreLetters (number : ℕ) (letters : List ℕ) : Type 0 where
   pub count : length letters ≡ number
   pub within : All (λ letter. letter < 26) letters
 
--- There are 13 cables. Their letters are below 26, and none is in two places.
+-- There are 13 cables. All letters in them are below 26, and all are different.
 pub record AreCables (cables : List (Option ℕ × Option ℕ)) : Type 0 where
   pub count : length cables ≡ 13
   pub within : All (λ letter. letter < 26) (letters_in_cables cables)
@@ -88,14 +88,14 @@ abbrev pub IsLegal : Parts → Type 0
 IsLegal (Rotor m) = IsLegalRotor m
 IsLegal (Pin m) = IsLegalPin m
 
--- a cable with these letters in alphabetical order; a single letter is first
+-- a cable with these letters in alphabetical order; a single letter is in the first end
 abbrev pub cable_in_order : Option ℕ → Option ℕ → Option ℕ × Option ℕ
 cable_in_order None other = (other, None)
 cable_in_order (Some letter) None = (Some letter, None)
 cable_in_order (Some letter) (Some other) =
     if nat_le letter other then (Some letter, Some other) else (Some other, Some letter)
 
--- the machine with the letters of each cable in order, since a cable is a set of letters
+-- the machine with the letters of each cable in alphabetical order: which end has which letter doesn't matter
 abbrev pub with_cables_in_order : Parts → Parts
 with_cables_in_order (Rotor m) = Rotor (record m { cables = map (λ cable. cable_in_order cable.0 cable.1) m.cables })
 with_cables_in_order (Pin m) = Pin m
@@ -120,7 +120,7 @@ ring_at m wheel = slice_get m.rings (place_in_box m.model wheel)
 abbrev pub letter_at : RotorParts → Wheel → Option ℕ
 letter_at m wheel = slice_get m.letters (place_in_box m.model wheel)
 
--- what the slot holds, if the machine has the slot
+-- what the slot holds, a wheel or none; `None` if the machine lacks the slot
 abbrev pub machine_slot : Parts → ℕ → Option (Option Wheel)
 machine_slot (Rotor m) slot = numbered_item m.slots slot
 machine_slot (Pin m) slot = None

@@ -1,6 +1,6 @@
-//! Functions that show the prover what follows from the element types of arrays and lists.
+//! Functions that show the prover facts that follow from the types of their arguments.
 //!
-//! They do nothing when the program runs.
+//! They change nothing when the program runs.
 ghost use Rattle.std.specs.Prelude.{◌≡◌, ◌<◌, ◌^◌, All, length};
 ghost use Rattle.kd_tables.specs.Places.{IsBefore, IsReading};
 ghost use Rattle.kd_enigma.specs.Plugs.{letters_in_pairs};
@@ -59,7 +59,7 @@ pub(crate) fn learn_readings(rows: &[Reading])
     }
 }
 
-/// Shows that each bar's left lug stands before its right one.
+/// Shows that each bar's left lug is left of its right lug.
 pub(crate) fn learn_standings(bars: &[Standing; 27])
     ensures count { length bars.now ≡ 27 }
     ensures each { All (λ bar. IsBefore bar.0 bar.1) bars.now }
@@ -90,7 +90,7 @@ fn learn_letters_of_cable(cable: &Cable)
     }
 }
 
-/// Shows that the pins have an entry for each letter of their wheels.
+/// Shows that each wheel of `pins` has a pin for each of its letters.
 #[tactic(auto, using(crate::proofs::Slots::all_pins))]
 pub(crate) fn learn_pins(pins: PinSet)
     ensures { HasAllPins pins }
@@ -98,7 +98,7 @@ pub(crate) fn learn_pins(pins: PinSet)
     prove!(pins.w1.len() == 26);
 }
 
-/// Shows that the setting's number is a byte and its letter is below 26.
+/// Shows that the setting's number, if it has one, is below 256, and its letter, if it has one, below 26.
 pub(crate) fn learn_setting_range(setting: &Setting)
     ensures { IsSettingInRange setting.now }
 {
@@ -115,7 +115,7 @@ pub(crate) fn learn_setting_range(setting: &Setting)
     }
 }
 
-/// Shows that `number` is a byte and `letter` is below 26.
+/// Shows that `number` is below 256 and `letter` is below 26.
 fn learn_range(number: u8, letter: Letter)
     ensures { (number < 2 ^ 8) × (letter < 26) }
 {

@@ -1,4 +1,4 @@
-//! Elements of slices, by a number counted from 1 or a place counted from 0.
+//! Gets and sets elements of slices, by a number counted from 1 or by a place counted from 0.
 ghost use Rattle.std.specs.Prelude.{◌≡◌, ◌-◌, ◌<◌, ◌≤◌, length, slice_set};
 ghost use Rattle.kd_state.specs.SameParts.{numbered_item};
 

@@ -120,7 +120,7 @@ impl PerSlot<SheetWheel> {
     }
 }
 
-/// The wheel `seated`, or `None` if it is `wheel`.
+/// What a slot that holds `seated` holds after `wheel` was taken out of the machine.
 fn seat_without(seated: Option<Wheel>, wheel: Wheel) -> Option<Wheel>
     ensures { result ≡ seat_without wheel seated }
 {

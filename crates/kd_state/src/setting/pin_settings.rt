@@ -76,7 +76,7 @@ impl PinParts {
     }
 }
 
-/// The place of the bar's other lug.
+/// The place of the bar's other lug, which isn't `lug`.
 fn other_place(standing: Standing, lug: Lug) -> Place
     ensures { result ≡ lug_place (other_lug lug) standing }
 {

@@ -5,7 +5,7 @@ ghost use Rattle.kd_state.specs.SheetDay.{IsDayNumber};
 use crate::sheet_day::pin_entry::PinEntry;
 use crate::sheet_day::rotor_entry::RotorEntry;
 
-/// The entry of a day in a key sheet.
+/// The values of a day of a key sheet.
 #[derive(Drop)]
 pub enum Entry {
     /// For an Enigma I, an M3 or an M4.
