@@ -80,12 +80,13 @@ TurnsWheel (Rotor m) slot letter n =
     × (machine_letter n wheel ≡ Some letter) × SetsOnly (TheLetter wheel) (Rotor m) n
 TurnsWheel (Pin m) wheel letter n = (machine_pin_letter n wheel ≡ Some letter) × SetsOnly (TheShown wheel) (Pin m) n
 
--- The cable loses the letter in the first definition, and gains it in the second. It keeps its other letters.
+-- In `n`, the cable has the letters that it has in `m`, but not `letter`.
 abbrev pub TakesLetterOut : Parts → ℕ → ℕ → Parts → Type 0
 TakesLetterOut m cable letter n =
     (other : ℕ) → Contains (letters_at_cable n cable) other
     ↔ (Contains (letters_at_cable m cable) other × (other ≢ letter))
 
+-- In `n`, the cable has the letters that it has in `m`, and `letter`.
 abbrev pub PutsLetterIn : Parts → ℕ → ℕ → Parts → Type 0
 PutsLetterIn m cable letter n =
     (other : ℕ) → Contains (letters_at_cable n cable) other

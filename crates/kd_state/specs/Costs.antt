@@ -80,10 +80,11 @@ nearest_standing standing row =
 abbrev pub columns_of : List (ℕ × ℕ) → List (Option (ℕ × ℕ))
 columns_of pairs = map Some pairs ++ replicate (13 - length pairs) None
 
--- the cost of giving each cable each column, and of giving each bar each row
+-- the cost of giving each cable each column of the day: a list for each cable
 abbrev pub cable_costs : List (Option ℕ × Option ℕ) → List (ℕ × ℕ) → List (List ℕ)
 cable_costs cables pairs = map (λ cable. map (cable_cost cable) (columns_of pairs)) cables
 
+-- the cost of giving each bar each row of the day: a list for each bar
 abbrev pub bar_costs : List (Place × Place) → List (ℕ × ℕ) → List (List ℕ)
 bar_costs bars rows = map (λ bar. map (bar_cost bar) rows) bars
 
@@ -103,20 +104,21 @@ loose_slots m s = count_by (λ slot. not (option_map_or (same_wheel slot.1.wheel
 abbrev pub loose_reflector : RotorParts → RotorDay → ℕ
 loose_reflector m s = one_unless (same_reflector m.reflector s.reflector)
 
--- How many of the day's wheels have another ring than the day's, and how many have another window letter. A
--- wheel that is still in the box counts too.
+-- How many of the day's wheels have another ring than the day's. A wheel that is still in the box counts too.
 abbrev pub loose_rings : RotorParts → RotorDay → ℕ
 loose_rings m s = count_by (λ w. not (option_map_or (nat_eq w.ring) (ring_at m w.wheel) false)) s.wheels
 
+-- How many of the day's wheels have another window letter than the day's. A wheel in the box counts too.
 abbrev pub loose_letters : RotorParts → RotorDay → ℕ
 loose_letters m s = count_by (λ w. not (option_map_or (nat_eq w.letter) (letter_at m w.wheel) false)) s.wheels
 
--- how many pins differ from the day's, and how many pin wheels show another letter than the day's
+-- how many pins differ from the day's
 abbrev pub loose_pins : PinParts → PinDay → ℕ
 loose_pins m s =
     sum (map (λ wheel. count_by (λ pin. exactly_one pin.0 pin.1) (zip wheel.0 wheel.1))
     (zip (pins_of m.pins) (pins_of s.pins)))
 
+-- how many pin wheels show another letter than the day's
 abbrev pub loose_pin_letters : PinParts → PinDay → ℕ
 loose_pin_letters m s = count_by (λ letter. not (nat_eq letter.0 letter.1)) (zip m.letters s.window)
 

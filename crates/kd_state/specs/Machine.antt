@@ -84,6 +84,7 @@ pub record IsLegalPin (m : PinParts) : Type 0 where
   pub bars : length m.bars ≡ 27
   pub apart : All (λ bar. IsBefore bar.0 bar.1) m.bars
 
+-- The parts make a machine, a rotor machine or a Converter M-209.
 abbrev pub IsLegal : Parts → Type 0
 IsLegal (Rotor m) = IsLegalRotor m
 IsLegal (Pin m) = IsLegalPin m
@@ -113,10 +114,11 @@ abbrev pub model_of : Parts → Model
 model_of (Rotor m) = m.model
 model_of (Pin m) = M209
 
--- the ring and the window letter of a wheel of the box, whether it is in a slot or not
+-- the ring of a wheel, whether the wheel is in a slot or not; `None` if the box lacks the wheel
 abbrev pub ring_at : RotorParts → Wheel → Option ℕ
 ring_at m wheel = slice_get m.rings (place_in_box m.model wheel)
 
+-- the window letter of a wheel, whether the wheel is in a slot or not; `None` if the box lacks the wheel
 abbrev pub letter_at : RotorParts → Wheel → Option ℕ
 letter_at m wheel = slice_get m.letters (place_in_box m.model wheel)
 
@@ -130,11 +132,12 @@ abbrev pub machine_reflector : Parts → Option Reflector
 machine_reflector (Rotor m) = Some m.reflector
 machine_reflector (Pin m) = None
 
--- the ring and the window letter of a wheel, if it is in the machine's box
+-- the ring of a wheel, if the wheel is in the machine's box
 abbrev pub machine_ring : Parts → Wheel → Option ℕ
 machine_ring (Rotor m) wheel = ring_at m wheel
 machine_ring (Pin m) wheel = None
 
+-- the window letter of a wheel, if the wheel is in the machine's box
 abbrev pub machine_letter : Parts → Wheel → Option ℕ
 machine_letter (Rotor m) wheel = letter_at m wheel
 machine_letter (Pin m) wheel = None
@@ -144,16 +147,17 @@ abbrev pub machine_cable : Parts → ℕ → Option (Option ℕ × Option ℕ)
 machine_cable (Rotor m) cable = numbered_item m.cables cable
 machine_cable (Pin m) cable = None
 
--- whether a pin is effective; which letter a pin wheel shows; where a bar's lugs are; `None` if the machine
--- lacks the pin, the wheel or the bar
+-- whether the pin at a letter of a pin wheel is effective, if the machine has this pin
 abbrev pub machine_pin : Parts → ℕ → ℕ → Option Bool
 machine_pin (Rotor m) wheel letter = None
 machine_pin (Pin m) wheel letter = pin_at m.pins wheel letter
 
+-- the letter that a pin wheel shows, if the machine has this wheel
 abbrev pub machine_pin_letter : Parts → ℕ → Option ℕ
 machine_pin_letter (Rotor m) wheel = None
 machine_pin_letter (Pin m) wheel = numbered_item m.letters wheel
 
+-- the places of a bar's two lugs, if the machine has this bar
 abbrev pub machine_standing : Parts → ℕ → Option (Place × Place)
 machine_standing (Rotor m) bar = None
 machine_standing (Pin m) bar = numbered_item m.bars bar

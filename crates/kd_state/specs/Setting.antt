@@ -37,11 +37,11 @@ are_new_letters [] others = true
 are_new_letters (letter ∷ letters) others = not (has_letter (letters ++ others) letter)
     && are_new_letters letters others
 
--- cable `cable`, counted from 1; an empty one for a number that no cable has
+-- the letters in cable `cable`, counted from 1; none if there is no such cable
 abbrev pub cable_at : RotorParts → ℕ → Option ℕ × Option ℕ
 cable_at m cable = unwrap_or (numbered_item m.cables cable) (None, None)
 
--- the wheel in the slot; `None` if the slot is empty, or the machine lacks it
+-- the wheel in the slot; `None` if the slot is empty, or the machine lacks the slot
 abbrev pub wheel_in_slot : RotorParts → ℕ → Option Wheel
 wheel_in_slot m slot = unwrap_or (numbered_item m.slots slot) None
 
@@ -54,6 +54,7 @@ abbrev pub lug_place : Lug → Place × Place → Place
 lug_place Left bar = bar.0
 lug_place Right bar = bar.1
 
+-- the right lug for the left one, and the left lug for the right one
 abbrev pub other_lug : Lug → Lug
 other_lug Left = Right
 other_lug Right = Left
@@ -114,10 +115,11 @@ why_refused m x = option_map (λ reason. reason.1) (find (λ reason. reason.0) (
 -- ---- The machine after a setting.
 -- Code: the machine is changed in place.
 
--- the cable without the letter; and the cable with the letter added, in alphabetical order
+-- the cable without the letter, for a letter that is in it
 abbrev pub cable_without : ℕ → Option ℕ × Option ℕ → Option ℕ × Option ℕ
 cable_without letter cable = if option_map_or (nat_eq letter) cable.0 false then (cable.1, None) else (cable.0, None)
 
+-- the cable with the letter added, for a cable with a loose end; its letters are in alphabetical order
 abbrev pub cable_with : ℕ → Option ℕ × Option ℕ → Option ℕ × Option ℕ
 cable_with letter cable = cable_in_order (option_or cable.0 cable.1) (Some letter)
 

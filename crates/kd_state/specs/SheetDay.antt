@@ -34,6 +34,7 @@ pub record PinDay : Type 0 where
   pub window : List ℕ
   pub list : List ℕ
 
+-- The values of a day of a rotor machine, or of a Converter M-209.
 pub data Day : Type 0 where
   OfRotors : RotorDay → Day
   OfPins : PinDay → Day
@@ -68,7 +69,7 @@ pub record AreLegalSeats (model : Model) (slots : List (Option Wheel)) : Type 0 
   pub allowed : AreWheelsAllowed model slots
   pub apart : AreSeatedOnce slots
 
--- A key sheet can have a day with these values.
+-- A key sheet can have a day of a rotor machine with these values.
 pub record IsLegalRotorDay (s : RotorDay) : Type 0 where
   pub day : IsDayNumber s.day
   pub reflector : Contains (reflectors_of s.model) s.reflector
@@ -78,6 +79,7 @@ pub record IsLegalRotorDay (s : RotorDay) : Type 0 where
   pub few_groups : length s.groups ≤ 4
   pub groups : All (AreLetters 3) s.groups
 
+-- A key sheet can have a day of a Converter M-209 with these values.
 pub record IsLegalPinDay (s : PinDay) : Type 0 where
   pub day : IsDayNumber s.day
   pub count : length s.rows ≡ 27
@@ -86,6 +88,7 @@ pub record IsLegalPinDay (s : PinDay) : Type 0 where
   pub window : AreOnWheels s.window
   pub list : AreLetters 2 s.list
 
+-- A key sheet can have this day.
 abbrev pub IsLegalDay : Day → Type 0
 IsLegalDay (OfRotors s) = IsLegalRotorDay s
 IsLegalDay (OfPins s) = IsLegalPinDay s
@@ -93,20 +96,22 @@ IsLegalDay (OfPins s) = IsLegalPinDay s
 -- ---- What the readers of a day show.
 -- Test: kd_trials/src/state/days.rt
 
--- the number of a day, from 1 to 31 for a legal one, and the model of a day
+-- the number of a day in its month
 abbrev pub day_number : Day → ℕ
 day_number (OfRotors s) = s.day
 day_number (OfPins s) = s.day
 
+-- the model of a day
 abbrev pub day_model : Day → Model
 day_model (OfRotors s) = s.model
 day_model (OfPins s) = M209
 
--- the values of the day if it is a rotor machine's, and if it is a Converter's; otherwise `None`
+-- the values of a rotor machine's day; `None` for a Converter's day
 abbrev pub rotor_day : Day → Option RotorDay
 rotor_day (OfRotors s) = Some s
 rotor_day (OfPins s) = None
 
+-- the values of a Converter's day; `None` for a rotor machine's day
 abbrev pub pin_day : Day → Option PinDay
 pin_day (OfRotors s) = None
 pin_day (OfPins s) = Some s

@@ -21,15 +21,17 @@ pub data EngineKey : Type 0 where
   OfWheels : RotorKey → EngineKey
   OfDrum : PinKey → EngineKey
 
--- the ciphertext of a text, the key after `n` letters, and the key with other letters in the windows
+-- the ciphertext of a text by this key
 abbrev pub cipher : EngineKey → List ℕ → List ℕ
 cipher (OfWheels key) text = enigma_cipher key text
 cipher (OfDrum key) text = converter_cipher key text
 
+-- the key after `n` letters were enciphered
 abbrev pub engine_key_after : EngineKey → ℕ → EngineKey
 engine_key_after (OfWheels key) n = OfWheels (key_after key n)
 engine_key_after (OfDrum key) n = OfDrum (pin_key_after key n)
 
+-- the key with the letters of `window` in the windows, or shown by the pin wheels
 abbrev pub key_with_window : EngineKey → List ℕ → EngineKey
 key_with_window (OfWheels key) window = OfWheels (key_turned key window)
 key_with_window (OfDrum key) window = OfDrum (pin_key_turned key window)
@@ -47,6 +49,7 @@ pub record IsRotorReady (m : RotorParts) : Type 0 where
   pub slots : All (λ seated. IsSome seated) m.slots
   pub cables : All (λ cable. length (cable_letters cable) ≢ 1) m.cables
 
+-- The machine is ready to encipher. A Converter always is.
 abbrev pub IsReady : Parts → Type 0
 IsReady (Rotor m) = IsRotorReady m
 IsReady (Pin m) = Unit {0}
@@ -65,6 +68,7 @@ abbrev pub pair_of_ends : Option ℕ → Option ℕ → Option (ℕ × ℕ)
 pair_of_ends (Some letter) (Some other) = Some (letter, other)
 pair_of_ends _ _ = None
 
+-- the pairs of letters that the cables exchange
 abbrev pub plugged_pairs : RotorParts → List (ℕ × ℕ)
 plugged_pairs m = filter_map (λ cable. pair_of_ends cable.0 cable.1) m.cables
 

@@ -38,11 +38,11 @@ LinesTellWords =
     (words others : List (List ℕ)) → All IsWord words → All IsWord others → line_of words ≡ line_of others
     → words ≡ others
 
--- Joining words to a line and splitting the line gives the words again. Splitting a line and joining its
--- parts gives the line again.
+-- Joining words to a line and splitting the line gives the words again.
 abbrev pub LinesSplitIntoWords : Type 0
 LinesSplitIntoWords = (words : List (List ℕ)) → words ≢ [] → All IsWord words → words_of (line_of words) ≡ words
 
+-- Splitting a line at its spaces and joining its parts with spaces gives the line again.
 abbrev pub PartsMakeLines : Type 0
 PartsMakeLines = (line : List ℕ) → line_of (words_of line) ≡ line
 
@@ -56,9 +56,10 @@ TextsTellFirstParts =
     (byte : ℕ) (first other rest more : List ℕ) → IsWithout byte first → IsWithout byte other
     → first ++ byte ∷ rest ≡ other ++ byte ∷ more → (first ≡ other) × (rest ≡ more)
 
--- Decimal numbers and single letters are words.
+-- A number below 2^64 in decimal is a word.
 abbrev pub NumbersAreWords : Type 0
 NumbersAreWords = (number : ℕ) → number < 2 ^ 64 → IsWord (decimal number)
 
+-- A single letter is a word.
 abbrev pub LettersAreWords : Type 0
 LettersAreWords = (letter : ℕ) → IsWord (letter_text letter)

@@ -31,7 +31,7 @@ pub fn texts_tell_first_parts()
     ensures { TextsTellFirstParts }
 {}
 
-/// Decimal numbers and single letters are words.
+/// Decimal numbers and single letters are words: not empty, and without a space or LF.
 #[tactic(auto, using(crate::proofs::Lines::numbers_are_words, crate::proofs::Lines::letters_are_words))]
 pub fn numbers_and_letters_are_words()
     ensures numbers { NumbersAreWords }
@@ -76,7 +76,9 @@ pub fn settings_keep_machines()
     ensures lists { ListsKeepMachines }
 {}
 
-/// A machine either refuses a setting or carries it out. A setting or a list carried out has one result.
+/// A machine either refuses a setting or carries it out.
+///
+/// Carrying out a setting, or a list of settings, has only one result.
 #[tactic(auto, using(crate::proofs::Telling::Refusing::refuses_or_carries, crate::proofs::Telling::Refusing::carries_to_one, crate::proofs::Telling::Refusing::leads_to_one))]
 pub fn a_setting_is_refused_or_carried()
     ensures either { RefusesOrCarries }
@@ -106,7 +108,7 @@ pub fn tables_say_what_is_refused()
     ensures rings { RingsAreByTheTables }
 {}
 
-/// An engine made from a machine enciphers as the machine, also if both are turned to other letters.
+/// An engine made from a machine enciphers as the machine does, also if both are turned to other letters.
 #[tactic(auto, using(crate::proofs::Keys::engine_cipher, crate::proofs::Keys::turned_engine))]
 pub fn engines_encipher_as_their_machines()
     ensures standing { EngineIsTheMachine }
@@ -139,7 +141,7 @@ pub fn turning_keeps_the_key()
 
 /// A ready machine can be turned to any window.
 ///
-/// A window is one letter for each slot, or for each pin wheel a letter that is on it.
+/// A window is one letter for each slot; or, on a Converter, for each pin wheel a letter that is on it.
 #[tactic(auto, using(crate::proofs::Seating::can_be_turned))]
 pub fn ready_machines_can_be_turned()
     ensures { MachinesCanBeTurned }

@@ -43,7 +43,7 @@ pub enum Setting {
         slot: u8,
         letter: Letter,
     },
-    /// Makes the pin wheel's pin at the letter effective, or not.
+    /// Makes the pin at the letter of the pin wheel effective, or not effective.
     PinTo {
         wheel: u8,
         letter: Letter,

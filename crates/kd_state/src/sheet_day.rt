@@ -167,7 +167,7 @@ impl SheetDay {
         }
     }
 
-    /// The reflector. `None` on the Converter M-209.
+    /// The day's reflector. `None` on the Converter M-209.
     pub fn reflector(&self) -> Option<Reflector>
         ensures { result ≡ option_map (λ s. s.reflector) (rotor_day self.now) }
     {
@@ -190,7 +190,7 @@ impl SheetDay {
 
     /// The day's groups of three letters, at most 4. `None` on the Converter M-209.
     ///
-    /// Each part of a message has one of them, by which the receiver finds that it is of this day.
+    /// Each part of a message has one of them. It shows the receiver that the part is of this day.
     pub fn groups(&self) -> Option<&[[Letter; 3]]>
         ensures value { option_copied result ≡ option_map (λ s. s.groups) (rotor_day self.now) }
         ensures few { IfSome result (λ groups. length groups.now ≤ 4) }

@@ -24,7 +24,7 @@ use kd_tables::{Letter, Model, Reading};
 impl Machine {
     ghost use Rattle.kd_state.specs.OnKey.{OnKey, ReadsAs, ShowsWindow};
 
-    /// Whether the machine is set as `day` says, whichever letters it shows.
+    /// Whether the machine is set as `day` says; it may show other letters than the day's.
     pub fn on_key(&self, day: &SheetDay) -> bool
         ensures { IsTrue result ↔ OnKey self.now day.now }
     {

@@ -69,7 +69,7 @@ impl Machine {
 
     /// The letters in cable `cable`, counted from 1. `None` if there is no such cable.
     ///
-    /// They are in alphabetical order, a single letter first.
+    /// They are in alphabetical order; a single letter is in the first end.
     pub fn cable(&self, cable: u8) -> Option<Cable>
         ensures { result ≡ machine_cable self.now cable }
     {

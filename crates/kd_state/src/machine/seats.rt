@@ -8,7 +8,7 @@ ghost use Rattle.kd_state.specs.Machine.{AreWheelsAllowed, AreSeatedOnce, IsSeat
 use crate::machine::per_slot::PerSlot;
 use kd_tables::{Model, Wheel, allowed};
 
-/// The place of `wheel` in the model's box, counted from 0.
+/// The place of `wheel` in the model's box, counted from 0. `None` if the box lacks the wheel.
 pub(crate) fn place_in_box(model: Model, wheel: Wheel) -> Option<usize>
     ensures { SomeIff result (Contains (box_of model) wheel) (place_in_box model wheel) }
 {
@@ -43,7 +43,7 @@ fn are_allowed(model: Model, slots: &[Option<Wheel>]) -> bool
     true
 }
 
-/// Whether slot `slot`, counted from 1 from the left, may hold `seated`. Each slot may be empty.
+/// Whether slot `slot`, counted from 1 from the left, may hold `seated`, a wheel or none.
 fn may_stand(model: Model, slot: u8, seated: Option<Wheel>) -> bool
     ensures { IsTrue result ↔ IfSome seated (IsAllowed model slot) }
 {

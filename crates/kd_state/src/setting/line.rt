@@ -107,7 +107,7 @@ fn ring_setting_line(wheel: Wheel, letter: Letter) -> ArrayString<24>
     line
 }
 
-/// Reads the words of a line as a setting.
+/// The setting whose line has these words; `None` if there is no such setting.
 fn setting_of_words(words: &[&[u8]]) -> Option<Setting>
     ensures { IsSettingOfWords (map (λ word. word.now) words.now) result }
 {

@@ -8,9 +8,9 @@ use crate::sheet_day::rotor_entry::RotorEntry;
 /// The values of a day of a key sheet.
 #[derive(Drop)]
 pub enum Entry {
-    /// For an Enigma I, an M3 or an M4.
+    /// A day for an Enigma I, an M3 or an M4.
     Rotor(RotorEntry),
-    /// For a Converter M-209.
+    /// A day for a Converter M-209.
     Pin(PinEntry),
 }
 
