@@ -8,16 +8,18 @@ use Rattle.std.specs.List.{position_or_len}
 use Rattle.std.proofs.lemmas.List.FromFn.{fill_by_all, get_or-map-range_with_len, length-map-range_with_len}
 use Rattle.kd_tables.specs.Permutation.{alphabet, followed_by, inverse, shift, IsPermutation26}
 
--- the letter that a product, an inverse or a shift gives for a letter
+-- the letter that a product gives for a letter
 pub followed_by-at : (p q : List ℕ) (x : ℕ) → x < length p
     → slice_index (followed_by p q) x ≡ slice_index q (slice_index p x)
 unfolding followed_by
 followed_by-at p q x lt = get_or-map (λ y. slice_index q y) p x 0 0 lt
 
+-- the letter that an inverse gives for a letter
 pub inverse-at : (p : List ℕ) (y : ℕ) → y < 26 → slice_index (inverse p) y ≡ position_or_len (λ x. x == y) p
 unfolding inverse
 inverse-at p y lt = get_or-map-range_with_len (λ y'. position_or_len (λ x. x == y') p) 0 26 y y 0 lt (omega arith)
 
+-- the letter that a shift gives for a letter
 pub shift-at : (k x : ℕ) → x < 26 → slice_index (shift k) x ≡ (x + k) % 26
 unfolding shift
 shift-at k x lt = get_or-map-range_with_len (λ x'. (x' + k) % 26) 0 26 x x 0 lt (omega arith)

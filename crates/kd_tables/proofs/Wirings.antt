@@ -130,12 +130,13 @@ reflection_moves p h =
 
 -- ---- the published tables
 
--- Each published table is a permutation.
+-- The published wiring of each wheel is a permutation.
 pub wiring_permutes : (wheel : Wheel) → IsPermutation26 (wiring_of wheel)
 unfolding wiring_of
 wiring_permutes I = test_permutes _ refl
 wiring_permutes wheel = test_permutes (wiring_of wheel) refl
 
+-- The published wiring of each reflector is a permutation.
 pub reflector_permutes : (reflector : Reflector) → IsPermutation26 (reflector_of reflector)
 unfolding reflector_of
 reflector_permutes reflectors.A = test_permutes _ refl

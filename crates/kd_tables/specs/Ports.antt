@@ -53,6 +53,7 @@ pub record Port : Type 0 where
   pub had_failed : Bool
   pub has_failed : Bool
 
+-- the `Port` of a source or a sink before a call, `old`, and after it, `new`
 abbrev pub port : {P : Type 0} → (P → Option (List ℕ)) → (P → Bool) → P → P → Port
 port bytes failed old new =
     record { had = bytes old; has = bytes new; had_failed = failed old; has_failed = failed new }
@@ -73,8 +74,8 @@ abbrev pub FailureAgrees : Port → Port → Bool → Type 0
 FailureAgrees source sink false = HasNotFailed source × HasNotFailed sink
 FailureAgrees source sink true = FailsAlone source sink ⊎ FailsAlone sink source
 
--- The result of a test for the end agrees with the source: `true` if the source is at its end, `false` if it
--- gave one byte, an error if it failed and gave none.
+-- The result of a test for the end agrees with what the source did: with `true` it is at its end, with `false`
+-- it gave one byte, and with an error it gave none.
 abbrev pub EndAgrees : Option (List ℕ) → Option (List ℕ) → Result Bool Device → Type 0
 EndAgrees had has (Ok true) = Consumes had has [] × IsAtEnd has
 EndAgrees had has (Ok false) = (byte : ℕ) × Consumes had has (byte ∷ [])
