@@ -24,7 +24,7 @@ use Rattle.kd_drum.proofs.Starts as starts
 or-min_max : (met : ℕ → Bool) (a b : ℕ) → (met a || met b) ≡ (met (min a b) || met (max a b))
 or-min_max met a b = grind (arith, min-eq_left, max-eq_right, or_comm, min-eq_right, max-eq_left)
 
--- counting elements by a test of their images counts the images that pass
+-- counting the elements whose images by `f` pass a test is counting the images that pass it
 count_by-map : {X Y : Type 0} (p : Y → Bool) (f : X → Y) (xs : List X)
     → count_by (λ x. p (f x)) xs ≡ count_by p (map f xs)
 count_by-map p f [] = refl
@@ -136,8 +136,8 @@ pub turned_cipher : TurnedHasTheDaysCipher
 turned_cipher m n s window text machine legal h turned =
     sym (turned_engine m n window text turned) ∙ key_on_key m s window text machine legal h
 
--- enciphering a text is enciphering its first chunk, and then the rest with the key that the engine has after
--- it
+-- a text is enciphered chunk by chunk: the first one, and then the rest with the key that the engine has by
+-- then
 pub cipher_in_turn : CipherInTurn
 cipher_in_turn = grind (arith, enigma.cipher_in_turn, drum.cipher_in_turn)
 

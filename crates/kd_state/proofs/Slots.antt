@@ -25,11 +25,12 @@ IsNumbered-not_none xs number d some = grind (arith, is_numbered)
 pub numbered_at : {X : Type 0} (xs : List X) (place : ℕ) → numbered_item xs (place + 1) ≡ slice_get xs place
 numbered_at xs place = rw add-one refl
 
--- after `set`, the place that was set has the new value, and the other places keep their values
+-- after `set`, the place that was set has the new value
 pub set_here : {X : Type 0} (xs : List X) (place : ℕ) (x : X) → place < length xs
     → slice_get (set xs place x) place ≡ Some x
 set_here xs place x below = grind (arith, common_steps, gets)
 
+-- after `set`, the other places have the values that they had
 pub set_other : {X : Type 0} (xs : List X) (place at : ℕ) (x : X) → at ≢ place
     → slice_get (set xs place x) at ≡ slice_get xs at
 set_other xs place at x h = grind (arith, common_steps, gets)

@@ -29,10 +29,11 @@ one_wheel x y e = grind arith
 pub one_reflector : (x y : Reflector) → reflector_text x ≡ reflector_text y → x ≡ y
 one_reflector x y e = grind arith
 
--- `same_wheel` is true exactly if the two wheels are equal, and `same_reflector` if the two reflectors are
+-- `same_wheel` is true exactly if the two wheels are equal
 pub same_wheel-Decides : (wheel other : Wheel) → Decides (same_wheel wheel other) (wheel ≡ other)
 same_wheel-Decides wheel other = grind (arith, Decides-like, one_wheel, bytes_eq-Decides)
 
+-- `same_reflector` is true exactly if the two reflectors are equal
 pub same_reflector-Decides : (reflector other : Reflector)
     → Decides (same_reflector reflector other) (reflector ≡ other)
 same_reflector-Decides reflector other = grind (arith, Decides-like, one_reflector, bytes_eq-Decides)
@@ -43,10 +44,11 @@ same_wheel_self wheel = grind (arith, same_wheel-Decides)
 pub same_wheel_differs : (wheel other : Wheel) → wheel ≢ other → same_wheel wheel other ≡ false
 same_wheel_differs wheel other h = grind (arith, false_from_ne_true, same_wheel-Decides)
 
--- `has_wheel` is true exactly if the list contains the wheel, and `has_reflector` if it contains the reflector
+-- `has_wheel` is true exactly if the list contains the wheel
 pub has_wheel-Decides : (wheels : List Wheel) (wheel : Wheel) → Decides (has_wheel wheels wheel) (Contains wheels wheel)
 has_wheel-Decides wheels wheel = is_member-Decides same_wheel-Decides wheels wheel
 
+-- `has_reflector` is true exactly if the list contains the reflector
 pub has_reflector-Decides : (reflectors : List Reflector) (reflector : Reflector)
     → Decides (has_reflector reflectors reflector) (Contains reflectors reflector)
 has_reflector-Decides reflectors reflector = is_member-Decides same_reflector-Decides reflectors reflector
@@ -68,7 +70,7 @@ pub place_nowhere : (model : Model) (wheel : Wheel) → ¬ (Contains (box_of mod
     → place_in_box model wheel ≡ length (box_of model)
 place_nowhere model wheel h = grind (arith, first_nowhere, false_from_ne_true, has_wheel-Decides)
 
--- a wheel that is allowed in a slot is in the box, and the slot is one of the model's
+-- if a list that is empty unless `b` holds contains a wheel, then `b` holds, and `wheels` contains the wheel
 in_some : (b : Bool) (wheels : List Wheel) (wheel : Wheel) → Contains (cond b wheels []) wheel
     → (b ≡ true) × Contains wheels wheel
 in_some b wheels wheel e = grind arith
@@ -76,6 +78,7 @@ in_some b wheels wheel e = grind arith
 lies_in_both : (first last number : ℕ) → is_from_to first last number ≡ true → (first ≤ number) × (number ≤ last)
 lies_in_both first last number e = grind (arith, leb-true)
 
+-- the slot is one of the model's, and the wheel is in the model's box
 pub record IsPlaced (model : Model) (slot : ℕ) (wheel : Wheel) : Type 0 where
   pub first : 1 ≤ slot
   pub last : slot ≤ slots_of model
@@ -87,6 +90,7 @@ placed_in_m4 : (first : Bool) (slot : ℕ) (wheel : Wheel) → (slot == 1) ≡ f
 placed_in_m4 true slot wheel e h = search (rules, eqb-true, Contains-append_right)
 placed_in_m4 false slot wheel e h = grind (arith, in_some, lies_in_both, Contains-append_left)
 
+-- if a wheel is allowed in a slot, the slot is one of the model's, and the wheel is in the model's box
 pub IsAllowed-IsPlaced : (model : Model) (slot : ℕ) (wheel : Wheel) → IsAllowed model slot wheel
     → IsPlaced model slot wheel
 IsAllowed-IsPlaced M4 slot wheel h = placed_in_m4 (slot == 1) slot wheel refl h
