@@ -22,7 +22,8 @@ fn is_answered<const N: usize>(
     assert_eq!(rt; (solution.total, solution.scans.count()), (total, scans));
 }
 
-/// In some tables a row is moved to make room for another; in others each row finds a free column at once.
+/// In the second table, row 0 moves to another column to make room for row 1. In the others, each row finds a
+/// free column at once.
 #[test]
 fn answers_small_tables(rt: HostRuntime) {
     is_answered(&rt, &[[4]], [0], 4, 1);

@@ -137,7 +137,7 @@ static SPARES: [SpareCase; 9] = [
         "plugs = [\"AC\", \"BD\", \"EG\", \"FH\", \"IK\", \"JL\", \"MO\", \"NP\", \"UV\", \"WX\"]",
         &[],
     ),
-    // Two pairs more than cables in use: the two spare cables with the lowest numbers are taken.
+    // Two pairs more than cables in use: the two empty cables with the lowest numbers get pairs.
     (
         "version = 1\ncables = [\"AB\", \"CD\", \"EF\", \"GH\", \"IJ\", \"KL\", \"MN\", \"OP\"]",
         "plugs = [\"AZ\", \"BY\", \"CX\", \"DW\", \"EV\", \"FU\", \"GT\", \"HS\", \"IR\", \"JQ\"]",
@@ -161,7 +161,7 @@ static SPARES: [SpareCase; 9] = [
         "plugs = [\"YZ\", \"WX\"]",
         &[],
     ),
-    // All thirteen cables are spare.
+    // All thirteen cables are empty; and then only cable 1.
     (
         "version = 1\ncables = []",
         "plugs = [\"AB\", \"CD\", \"EF\", \"GH\", \"IJ\", \"KL\", \"MN\", \"OP\", \"QR\", \"ST\", \"UV\", \"WX\", \"YZ\"]",

@@ -1,4 +1,4 @@
-//! Tests of cards that are refused: for a line, for too many settings, or since they break off.
+//! Tests of cards that are refused: for a line, for too many settings, or because they break off.
 use super::{CARDS, Sample};
 use crate::texts::{BAR_KINDS, ONE_LUG, TWO_CABLE_KINDS, TWO_CABLES};
 use kd_card::CardFault::{self, BadHead, BadLine, CountWrong, PriceMissing, TooMany, Trailing};
