@@ -14,17 +14,17 @@ pub type Text = ArrayString<64>;
 pub enum Refusal {
     /// A letter is in two places of the machine's cables, or of the sheet's pairs.
     LetterTwice,
-    /// A letter isn't on its pin wheel. This refusal is never printed.
+    /// A letter isn't on its pin wheel. The program never prints this refusal.
     NotOnWheel,
-    /// A machine refuses a setting, for the given reason. This refusal is never printed.
+    /// A machine refuses a setting, for the given reason. The program never prints this refusal.
     Illegal,
     /// A slot is empty, or a cable has one letter.
     NotReady,
-    /// Machine and day are of different models.
+    /// Machine and day are of different models, or a card's prices are for the other kind of machine.
     OtherModel,
     /// A file or a port failed.
     Device,
-    /// The first line of a card isn't its head.
+    /// The first line of a card isn't a card's head.
     BadHead,
     /// A line doesn't have the form that a line in its place must have.
     BadLine,
@@ -60,15 +60,15 @@ pub enum Refusal {
     WheelTwice,
     /// A wheel is in a slot in which the model doesn't take it.
     WheelNotAllowed,
-    /// A bar has no valid standing, or a row no valid reading.
+    /// An item of a file's `bars` isn't a standing, or an item of its `rows` isn't a reading.
     BadRow,
     /// A sheet has two entries for one day.
     DayTwice,
     /// Memory ran out.
     NoMemory,
-    /// The machine isn't set as the day says.
+    /// The machine isn't on the day's key, or is of another model than the day.
     NotOnKey,
-    /// A byte isn't allowed at its place.
+    /// A byte isn't allowed at its place, or is missing.
     BadByte,
     /// The text of an order has no letter.
     EmptyText,
