@@ -18,14 +18,14 @@ use Rattle.kd_enigma.specs.Plugs as plugs
 pub eqb_flips : (x y : ℕ) → nat_eq x y ≡ nat_eq y x
 eqb_flips x y = grind (arith, nat_tests)
 
--- a letter isn't among the letters exactly if it equals none of them
+-- `has_letter` is false exactly if the letter differs from each of the letters
 pub has_letter-AllByRecursion : (letters : List ℕ) (letter : ℕ)
     → (has_letter letters letter ≡ false) ↔ AllByRecursion (λ other. nat_eq letter other ≡ false) letters
 has_letter-AllByRecursion [] letter = (λ _. tt, λ _. refl)
 has_letter-AllByRecursion (other ∷ letters) letter = grind
     (arith, or_parts, or_from, eqb_flips, has_letter-AllByRecursion letters letter)
 
--- two lists have the same letters exactly if each letter is in both or in neither
+-- two lists have the same letters exactly if `has_letter` has the same value for both at each letter
 pub tests_tell_letters : TestsTellLetters
 tests_tell_letters xs ys = (
   λ same letter. grind (arith, same letter, has_letter-Decides xs letter, has_letter-Decides ys letter, both_ways),
@@ -35,7 +35,8 @@ tests_tell_letters xs ys = (
   ),
 )
 
--- letters before others are all different exactly if `are_new_letters` says so and the others are all different
+-- `letters` and `others` together are all different exactly if `are_new_letters` is true of them and `others`
+-- are all different
 pub new_tells : (letters others : List ℕ)
     → IsDistinct nat_eq (letters ++ others) ↔ ((are_new_letters letters others ≡ true) × IsDistinct nat_eq others)
 unfolding IsDistinct
@@ -47,7 +48,7 @@ pub IsDistinct-nil : IsDistinct nat_eq []
 unfolding IsDistinct
 IsDistinct-nil = tt
 
--- putting a cable in order permutes its letters
+-- putting the letters of a cable in order only permutes them
 pub ordered_moves : (one other : Option ℕ)
     → IsPermutation (cable_letters (one, other)) (cable_letters (cable_in_order one other))
 ordered_moves one other = grind (arith, cond_both, IsPermutation-append_comm)
@@ -61,7 +62,7 @@ all_ordered_move [] = IsPermutation-refl []
 all_ordered_move (cable ∷ cables) = grind
     (arith, IsPermutation-append, cable_in_order, ordered_moves, all_ordered_move cables)
 
--- the cable is in order
+-- the letters of the cable are in alphabetical order, and a single letter is in the first end
 IsCableOrdered : Option ℕ × Option ℕ → Type 0
 IsCableOrdered cable = cable_in_order cable.0 cable.1 ≡ cable
 
@@ -80,13 +81,13 @@ pub without_ordered : (letter : ℕ) (one other : Option ℕ)
 unfolding IsCableOrdered
 without_ordered letter one other = grind (arith, cond_both, IsCableOrdered)
 
--- a letter taken out of its cable, and the letters that stay, are the cable's letters
+-- a letter of a cable and the letters that stay when it is taken out are together the cable's letters
 pub without_moves : (letter : ℕ) (one other : Option ℕ) → has_letter (cable_letters (one, other)) letter ≡ true
     → IsPermutation (cable_letters (one, other)) (letter ∷ cable_letters (cable_without letter (one, other)))
 without_moves letter one other h =
     grind (arith, true≢false, eq-eqb, Some, IsPermutation-append_comm (cable_letters (one, None)) (letter ∷ []))
 
--- a letter put into a cable with one letter joins this letter
+-- a letter put into a cable with one letter, and this letter, are together the cable's letters
 after_end : (letter end : ℕ) → IsPermutation (letter ∷ end ∷ [])
     (cable_letters (cable_in_order (Some end) (Some letter)))
 after_end letter end =
@@ -98,7 +99,7 @@ pub with_moves : (letter : ℕ) (one other : Option ℕ) → (not (is_none one) 
     → IsPermutation (letter ∷ cable_letters (one, other)) (cable_letters (cable_with letter (one, other)))
 with_moves letter one other e = grind (arith, after_end)
 
--- swapping two first parts of a list permutes it
+-- exchanging the first two parts of a list permutes the list
 IsPermutation-append_swap : (first letters rest : List ℕ)
     → IsPermutation (first ++ (letters ++ rest)) (letters ++ (first ++ rest))
 IsPermutation-append_swap first letters rest =
@@ -125,8 +126,9 @@ set_moves out into (first ∷ cables) (suc place) cable new here moves =
     (IsPermutation-trans _ _ _ (IsPermutation-append_right (cable_letters first) _ _ rest)
     (IsPermutation-append_swap (cable_letters first) into (letters_in_cables (set cables place new))))
 
--- the letters in the cables from `place` on are all different exactly if the letters of `cable` are new and
--- the letters in the cables after it are all different
+-- the letters in the cables from `place` on are all different exactly if two things hold: the letters of
+-- `cable`, the cable at `place`, are different and in no cable after it; and the letters in the cables after
+-- it are all different
 pub distinct_from : (cables : List (Option ℕ × Option ℕ)) (place : ℕ) (cable : Option ℕ × Option ℕ)
     → place < length cables → cable ≡ get_or cables place cable
     → IsDistinct nat_eq (letters_in_cables (drop place cables))
@@ -152,7 +154,7 @@ no_letter_twice cables h whole = grind (arith, letters_of_pairs, recursion_from_
 pub of_one : (a x : ℕ) → Contains (a ∷ []) x → x ≡ a
 of_one a x e = grind arith
 
--- two letters that are the letters of a pair are the pair, in one order or the other
+-- if two letters are exactly the letters of a pair, they are the pair in one order or the other
 pub same_two : (a b : ℕ) (pair : ℕ × ℕ) → HaveSameLetters (a ∷ b ∷ []) (pair.0 ∷ pair.1 ∷ [])
     → AreLettersOfPair a b pair
 same_two a b pair same =

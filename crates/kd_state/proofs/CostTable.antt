@@ -19,7 +19,7 @@ use Rattle.std.proofs.lemmas.List.{Elements.{All-filter, filter_passes}, FromFn.
 
 -- ---- counting the letters of the alphabet that are in a list
 
--- a letter is at most once in a range of numbers, and not at all if it is below the range
+-- a number is in a range of numbers at most once, and not at all if it is below the range
 count_by-range_at_most : (letter first number : ℕ)
     → count_by (λ other. nat_eq letter other) (range_with_len first number) ≤ one_if (nat_le first letter)
 count_by-range_at_most letter first zero = omega arith
@@ -34,7 +34,7 @@ counted_more p index cost more below e d =
     let there : get_or alphabet index 0 ≡ index = get_or-range_with_len 0 26 index 0 below ∙ omega arith in
     omega (arith, step, e, d, ap (λ x. one_if (p x)) there)
 
--- a combined test counts at most what its two tests count together
+-- a test that combines two tests by `f` counts at most as many elements as the two tests count together
 joined_counts : (f : Bool → Bool → Bool) → ((a b : Bool) → one_if (f a b) ≤ one_if a + one_if b)
     → (p q : ℕ → Bool) (xs : List ℕ) → count_by (λ x. f (p x) (q x)) xs ≤ count_by p xs + count_by q xs
 joined_counts f fits p q [] = omega arith
@@ -43,7 +43,7 @@ joined_counts f fits p q (x ∷ xs) = search (rules, count_by-cons, p, q, fits, 
 differ_fits : (a b : Bool) → one_if (exactly_one a b) ≤ one_if a + one_if b
 differ_fits a b = grind arith
 
--- at most as many letters of the alphabet are in a list as it is long
+-- a list has at most as many letters of the alphabet as it has elements
 count_by-has_letter : (letters : List ℕ) → count_by (has_letter letters) alphabet ≤ length letters
 count_by-has_letter [] = omega arith
 count_by-has_letter (letter ∷ letters) = search (rules, le-leb, count_by-range_at_most, count_by-has_letter letters)
@@ -73,7 +73,7 @@ pub sums_add : {X : Type 0} (f g h : X → ℕ) → ((x : X) → f x + g x ≡ h
 sums_add f g h e [] = refl
 sums_add f g h e (x ∷ xs) = simp sum_by-cons (omega (arith, e x, sums_add f g h e xs))
 
--- counting the numbers of a range that equal `x` and pass `p`: one if `x` is in the range and passes, else none
+-- how many numbers of a range equal `x` and pass `p`: one if `x` is in the range and passes, otherwise none
 once_among : (p : ℕ → Bool) (x first number : ℕ) → count_by (λ y. nat_eq x y && p y) (range_with_len first number)
     ≡ cond (nat_le first x && (nat_lt x (first + number) && p x)) 1 0
 once_among p x first zero = grind (arith, nat_tests)
@@ -97,7 +97,7 @@ counted_among p (x ∷ xs) h =
 pub at_most_four : (cable : Option ℕ × Option ℕ) (column : Option (ℕ × ℕ)) → cable_cost cable column ≤ 4
 at_most_four cable column = grind (arith, joined_counts, differ_fits, count_by-has_letter)
 
--- ---- the columns: a day's pairs, and then no pair
+-- ---- the columns: first a day's pairs, then columns without a pair
 
 get_or-replicate_None : (number place : ℕ) → get_or (replicate {A = Option (ℕ × ℕ)} number None) place None ≡ None
 get_or-replicate_None zero place = refl
@@ -170,7 +170,7 @@ least_at_most n (x ∷ xs) = omega (arith, least_at_most (min n x) xs)
 pub bar_cost_at_most : (bar : Place × Place) (row : ℕ × ℕ) → bar_cost bar row ≤ 2
 bar_cost_at_most bar row = omega (arith, least_at_most 2 (map (lugs_moved bar) (standings_as row)))
 
--- the standing reads as the row
+-- the left lug is left of the right lug, and the standing reads as the row
 abbrev pub IsStandingOfRow : ℕ × ℕ → Place × Place → Type 0
 IsStandingOfRow row x = IsBefore x.0 x.1 × (reads_as_row row x ≡ true)
 
@@ -183,7 +183,8 @@ of_row row k d lt =
       filter_passes (reads_as_row row) standings k d lt,
     )
 
--- the nearest of one or two standings is found, costs the least, and satisfies what all of them satisfy
+-- of one or two standings, the search finds one that costs the least; it has each property `P` that all of
+-- them have
 nearest-found : (bar x : Place × Place) (more : Option (Place × Place)) (xs : List (Place × Place))
     (P : Place × Place → Type 0)
     → xs ≡ x ∷ option_to_list more → AllByRecursion P xs

@@ -24,7 +24,7 @@ use Rattle.kd_drum.proofs.Starts as starts
 or-min_max : (met : ℕ → Bool) (a b : ℕ) → (met a || met b) ≡ (met (min a b) || met (max a b))
 or-min_max met a b = grind (arith, min-eq_left, max-eq_right, or_comm, min-eq_right, max-eq_left)
 
--- counting elements by a test of their images counts the images that pass
+-- counting the elements whose images by `f` pass a test is counting the images that pass it
 count_by-map : {X Y : Type 0} (p : Y → Bool) (f : X → Y) (xs : List X)
     → count_by (λ x. p (f x)) xs ≡ count_by p (map f xs)
 count_by-map p f [] = refl
@@ -61,7 +61,7 @@ reading_ready m s machine legal h = on_key_ready m s machine legal h.key
 own_window : (m : Parts) → physical_key m ≡ key_with_window (physical_key m) (window_of m)
 own_window m = grind arith
 
--- a machine on the day's key has the day's key, once both show the same letters
+-- the key of a machine on the day's key is the day's key, if both keys get the same window letters
 rotor_key : (m : RotorParts) (s : RotorDay) (window : List ℕ) → AreCables m.cables → IsLegalRotorDay s
     → IsRotorOnKey m s
     → key_with_window (physical_key (Rotor m)) window ≡ key_with_window (sheet_key (OfRotors s)) window
@@ -106,7 +106,8 @@ reading_cipher (Pin m) (OfPins s) text machine legal h =
     ∙ ap (λ window. cipher (key_with_window (sheet_key (OfPins s)) window) text) h.window
 reading_cipher m s text machine legal h = absurd h.key
 
--- enciphering twice from the same letters gives the text back
+-- an engine set as the day says that enciphers a text twice, each time from the same letters, gives the text
+-- back
 pub twice_on_key : TheDayDeciphersItself
 twice_on_key = grind (arith, pairs_make_a_plugboard, enigma.twice_gives_back, drum.twice_gives_back)
 
@@ -118,11 +119,11 @@ equally_set m n s text machine other legal h k same letters =
     ∙ ap (λ window. cipher (key window) (cipher (key (window_of m)) text)) (sym same)
     ∙ twice_on_key s (window_of m) text legal letters
 
--- turned to other letters, a machine on the day's key stays on it
+-- a machine on the day's key that is turned to other letters stays on the key
 pub turned_on_key : TurnedIsOnKey
 turned_on_key m n s window turned h = grind arith
 
--- the key of the turned machine is the key with the other letters
+-- the key of a machine turned to other letters is the key of the machine with these letters put in
 pub turned_key : TurnedHasItsKey
 turned_key m n window turned = grind (arith, Rotor, Pin)
 
@@ -135,7 +136,8 @@ pub turned_cipher : TurnedHasTheDaysCipher
 turned_cipher m n s window text machine legal h turned =
     sym (turned_engine m n window text turned) ∙ key_on_key m s window text machine legal h
 
--- a text in two pieces is enciphered piece by piece
+-- a text is enciphered chunk by chunk: the first one, and then the rest with the key that the engine has by
+-- then
 pub cipher_in_turn : CipherInTurn
 cipher_in_turn = grind (arith, enigma.cipher_in_turn, drum.cipher_in_turn)
 

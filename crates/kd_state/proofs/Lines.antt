@@ -79,7 +79,7 @@ pub map_now-push : (words more : List (Bor (List ℕ))) (word : Bor (List ℕ)) 
     → map (λ (w : Bor (List ℕ)). w.now) more ≡ map (λ (w : Bor (List ℕ)). w.now) words ++ word.now ∷ []
 map_now-push words more word e = grind (arith, map_push)
 
--- the words taken so far and the words of the rest are the words of the line
+-- the words split off so far and the words of the rest are together the words of the line
 pub record AreTaken (line rest : List ℕ) (taken : List (List ℕ)) : Type 0 where
   pub joined : taken ++ words_of rest ≡ words_of line
 
@@ -128,7 +128,7 @@ pub decimal-not_text : {S E : Type 0} (bs : List ℕ) (r : Result S E) (P : S �
     → decimal number ≢ bs
 decimal-not_text bs r P Q e d number g = grind (arith, IsUtf8-from_ascii, IsAscii-decimal)
 
--- the value of an `Ok` satisfies what the contract says of it
+-- if `r` is an `Ok`, its value satisfies `P`, which the contract asserts of each value of an `Ok`
 pub ok_part : {S E : Type 0} (r : Result S E) (s : S) (P : S → Type 0) (Q : E → Type 0) → MatchResult r P Q
     → Some s ≡ result_ok r → P s
 ok_part r s P Q e d = grind arith
@@ -231,7 +231,8 @@ text_of_more x xs rest = grind (arith, append_assoc)
 BeginsWithNoSetting-empty : BeginsWithNoSetting []
 BeginsWithNoSetting-empty x rest r e = grind (arith, length-append, ap length e)
 
--- equal texts that begin with a setting's line begin with the same setting
+-- if two texts that begin with the lines of settings are equal, their first settings are equal, and so are
+-- the texts after the first lines
 same_first : (x y : Setting) (xs ys : List Setting) (rest more : List ℕ) → IsSettingInRange x → IsSettingInRange y
     → list_text (x ∷ xs) ++ rest ≡ list_text (y ∷ ys) ++ more
     → (x ≡ y) × (list_text xs ++ rest ≡ list_text ys ++ more)
@@ -240,7 +241,7 @@ same_first x y xs ys rest more r s e =
     texts_tell_first_parts 10 (setting_line x) (setting_line y) (list_text xs ++ rest) (list_text ys ++ more) in
     grind (arith, parts, line_has_no_break x, line_has_no_break y, text_of_more, lines_tell_settings x y)
 
--- two lists are equal if the same text begins with their lines, and no setting's line follows either of them
+-- two lists are equal if one text begins with the lines of each, and no further setting's line follows them
 same_lists : (xs ys : List Setting) (rest more : List ℕ) → AllByRecursion IsSettingInRange xs
     → AllByRecursion IsSettingInRange ys
     → list_text xs ++ rest ≡ list_text ys ++ more
@@ -250,7 +251,8 @@ same_lists [] (y ∷ ys) rest more r s e none nor = grind (arith, none, text_of_
 same_lists (x ∷ xs) [] rest more r s e none nor = grind (arith, nor, text_of_more)
 same_lists (x ∷ xs) (y ∷ ys) rest more r s e none nor = grind (arith, same_first, same_lists xs ys rest more r.1 s.1)
 
--- in one text, no list of lines is longer than a list that no setting's line follows
+-- if one text begins with the lines of `xs` and with the lines of `ys`, and no setting's line follows the
+-- lines of `xs`, then `ys` has at most as many settings as `xs`
 length-same_lines : (xs ys : List Setting) (rest more : List ℕ) → AllByRecursion IsSettingInRange xs
     → AllByRecursion IsSettingInRange ys
     → list_text xs ++ rest ≡ list_text ys ++ more

@@ -25,11 +25,12 @@ IsNumbered-not_none xs number d some = grind (arith, is_numbered)
 pub numbered_at : {X : Type 0} (xs : List X) (place : ℕ) → numbered_item xs (place + 1) ≡ slice_get xs place
 numbered_at xs place = rw add-one refl
 
--- after a write, the written place has the new value, and the other places keep their values
+-- after `set`, the place that was set has the new value
 pub set_here : {X : Type 0} (xs : List X) (place : ℕ) (x : X) → place < length xs
     → slice_get (set xs place x) place ≡ Some x
 set_here xs place x below = grind (arith, common_steps, gets)
 
+-- after `set`, the other places have the values that they had
 pub set_other : {X : Type 0} (xs : List X) (place at : ℕ) (x : X) → at ≢ place
     → slice_get (set xs place x) at ≡ slice_get xs at
 set_other xs place at x h = grind (arith, common_steps, gets)
@@ -42,7 +43,7 @@ pub numbered_other : {X : Type 0} (xs : List X) (number other : ℕ) (x : X) →
     → numbered_item (set xs (number - 1) x) other ≡ numbered_item xs other
 numbered_other xs number other x e d = grind (arith, set_other)
 
--- a wheel in a slot is one of the box
+-- a wheel in a slot is one of the wheels of the model's box
 pub seated_in_box : (model : Model) (slots : List (Option Wheel)) (slot : ℕ) (wheel : Wheel)
     → AreWheelsAllowed model slots
     → numbered_item slots slot ≡ Some (Some wheel) → Contains (box_of model) wheel
@@ -50,7 +51,7 @@ seated_in_box model slots slot wheel allowed e =
     let at = is_numbered slots slot (Some wheel) e in
     (IsAllowed-IsPlaced model (slot - 1 + 1) wheel (allowed (slot - 1) wheel at.here)).in_box
 
--- `has_letter` decides whether a letter is among the letters
+-- `has_letter` is true exactly if the list contains the letter
 pub has_letter-Decides : (letters : List ℕ) (letter : ℕ) → Decides (has_letter letters letter) (Contains letters letter)
 has_letter-Decides letters letter =
     is_member-Decides {eq = λ x y. nat_eq y x} (λ x y. Decides-like _ sym sym (Decides-eqb y x)) letters letter
@@ -74,7 +75,7 @@ only_place letters letter other place e f =
 pub are_on_wheels : (letters : List ℕ) → length letters ≡ 6 → IsEachOnItsWheel letters → AreOnWheels letters
 are_on_wheels letters six on = grind (arith, is_numbered, get_or_from_slice_get, on)
 
--- pins in arrays of these lengths are all pins
+-- arrays of pins of these lengths have a pin for each letter of each wheel
 pub all_pins : (pins : PinSet) → length pins.w1 ≡ 26 → length pins.w2 ≡ 25 → length pins.w3 ≡ 23 → length pins.w4 ≡ 21
     → length pins.w5 ≡ 19 → length pins.w6 ≡ 17 → HasAllPins pins
 unfolding ring_of

@@ -1,4 +1,5 @@
--- Sorted lists that count alike are equal: so lists are permutations exactly if sorting makes them equal.
+-- Two sorted lists are equal if each test counts as many elements in one as in the other. So two lists are
+-- permutations of each other exactly if sorting makes them equal.
 use Rattle.kd_state.proofs.Prelude.{false_from_ne_true, IsPermutation-sym, IsPermutation-trans, sorted_far}
 use Rattle.kd_state.proofs.Prelude.{sum_by-IsPermutation, sum_by-cons, sum_by-le, Decides, IsStrictWeakOrder}
 use Rattle.kd_state.proofs.Prelude.{pointwise_decides, count_by, Bool, List, [], ap, arith, false, length, refl, subst}
@@ -9,12 +10,12 @@ use Rattle.std.specs.Prelude.{if◌then◌else◌, slice_index_or, IsSortedBy}
 abbrev pub one_if : Bool → ℕ
 one_if holds = if holds then 1 else 0
 
--- one more element adds 1 to the count if it passes
+-- one more element adds 1 to the count if it passes the test, and 0 otherwise
 pub count_by-cons : {X : Type 0} (p : X → Bool) (x : X) (xs : List X)
     → count_by p (x ∷ xs) ≡ one_if (p x) + count_by p xs
 count_by-cons p x xs = sum_by-cons (λ y. one_if (p y)) x xs
 
--- if no element passes, the count is 0
+-- if no element passes the test, the count is 0
 count_by-none : {X : Type 0} (p : X → Bool) (xs : List X)
     → ((k : ℕ) (d : X) → k < length xs → p (slice_index_or xs k d) ≡ false) → count_by p xs ≡ 0
 count_by-none p xs none =
@@ -26,11 +27,12 @@ count_by-none p xs none =
 
 module _ {X : Type 0} (lt : X → X → Bool) (order : IsStrictWeakOrder lt)
     (same : (x y : X) → lt x y ≡ false → lt y x ≡ false → x ≡ y) where
-  -- no element is less than one before it
+  -- no element is less than an element before it
   abbrev IsRising : List X → Type 0
   IsRising xs = (i j : ℕ) (d : X) → i ≤ j → j < length xs → lt (slice_index_or xs j d) (slice_index_or xs i d) ≡ false
 
-  -- if a list counts like a sorted list, its first element isn't less than the sorted list's first element
+  -- if each test counts as many elements in a list as in a sorted list, the list's first element isn't less
+  -- than the sorted list's first element
   not_before : (x : X) (xs : List X) (y : X) (ys : List X) → IsRising (y ∷ ys)
       → ((p : X → Bool) → count_by p (x ∷ xs) ≡ count_by p (y ∷ ys)) → lt x y ≡ false
   not_before x xs y ys rising counts = false_from_ne_true (lt x y) (λ is.

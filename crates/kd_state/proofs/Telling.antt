@@ -1,4 +1,4 @@
--- The readers show all of a machine, so what they show of a change determines the machine that it makes.
+-- The readers show all of a machine. So what they show of a setting's change determines the machine after it.
 pub mod Refusing
 unfoldable pub use Refusing.*
 use Rattle.kd_state.proofs.Prelude.{SeatsWheel, TheRing, TheShown, TurnsWheel, letters_at_cable, TellingIsMaking}
@@ -19,7 +19,7 @@ same_numbered : {X : Type 0} (xs ys : List X) → ((number : ℕ) → numbered_i
     → xs ≡ ys
 same_numbered xs ys same = same_slices xs ys (λ place. same (suc place))
 
--- lists with a value for each thing are equal if each thing has the same value, and its own place, in both
+-- two lists, each with one value for each element of `all`, are equal if the values for each element are equal
 by_things : {W X : Type 0} (place_of : W → Option ℕ) (all : List W) (xs ys : List X)
     → map place_of all ≡ map Some (range_with_len 0 (length all))
     → length xs ≡ length all → length ys ≡ length all
@@ -104,8 +104,8 @@ cases_thing thing other = grind (arith, cases_eq, cases_wheel)
 kept_alike : (m n o : Parts) (thing : Thing) → IsKept m n thing → IsKept m o thing → IsKept o n thing
 kept_alike m n o thing = grind arith
 
--- two machines are alike in everything if both differ from a third machine in one thing only, and are alike
--- in this thing
+-- if two machines differ from a third one in nothing but `thing`, and the readers show the same `thing` for
+-- both, then the readers show the same for both in all things
 alike_but : (thing : Thing) (m n o : Parts) → SetsOnly thing m n → SetsOnly thing m o → IsKept o n thing
     → (other : Thing) → IsKept o n other
 alike_but thing m n o one two here other =
@@ -117,7 +117,7 @@ same_sizes : {X : Type 0} (xs ys : List X) (place : ℕ) → length xs ≡ lengt
     → is_none (slice_get xs place) ≡ is_none (slice_get ys place)
 same_sizes xs ys place same = grind (arith, slice_get_cases xs place, slice_get_cases ys place)
 
--- the letters in the cable are in order, and are new before the letters `rest`
+-- the letters in the cable are in order, differ from each other, and aren't among the letters `rest`
 record IsCableInOrder (cable : Option ℕ × Option ℕ) : Type 0 where
   ordered : cable_in_order cable.0 cable.1 ≡ cable
   rest : List ℕ

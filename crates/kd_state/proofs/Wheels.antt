@@ -15,7 +15,7 @@ use Rattle.{kd_tables.specs.contracts.wheel.Wheel.the_type, kd_tables.specs.decl
 use Rattle.{std.proofs.Common.{cond, ◌==◌}, std.proofs.lemmas.Slice.Eq.bytes_eq-Decides, std.specs.Str.bytes_eq}
 use denote.Enum.Bare.{sameb, same_true, same_false}
 
--- the thing in `all` with this name, or `d`
+-- the first element of `all` whose name is `text`, or `d` if there is none
 abbrev pub named_or : {T : Type 0} → (T → List ℕ) → List T → T → List ℕ → T
 named_or name all d text = unwrap_or (find (λ x. bytes_eq (name x) text) all) d
 
@@ -29,10 +29,11 @@ one_wheel x y e = grind arith
 pub one_reflector : (x y : Reflector) → reflector_text x ≡ reflector_text y → x ≡ y
 one_reflector x y e = grind arith
 
--- `same_wheel` decides equality of wheels; so does `same_reflector` of reflectors
+-- `same_wheel` is true exactly if the two wheels are equal
 pub same_wheel-Decides : (wheel other : Wheel) → Decides (same_wheel wheel other) (wheel ≡ other)
 same_wheel-Decides wheel other = grind (arith, Decides-like, one_wheel, bytes_eq-Decides)
 
+-- `same_reflector` is true exactly if the two reflectors are equal
 pub same_reflector-Decides : (reflector other : Reflector)
     → Decides (same_reflector reflector other) (reflector ≡ other)
 same_reflector-Decides reflector other = grind (arith, Decides-like, one_reflector, bytes_eq-Decides)
@@ -43,15 +44,16 @@ same_wheel_self wheel = grind (arith, same_wheel-Decides)
 pub same_wheel_differs : (wheel other : Wheel) → wheel ≢ other → same_wheel wheel other ≡ false
 same_wheel_differs wheel other h = grind (arith, false_from_ne_true, same_wheel-Decides)
 
--- `has_wheel` decides whether a wheel is in a list; so does `has_reflector` for reflectors
+-- `has_wheel` is true exactly if the list contains the wheel
 pub has_wheel-Decides : (wheels : List Wheel) (wheel : Wheel) → Decides (has_wheel wheels wheel) (Contains wheels wheel)
 has_wheel-Decides wheels wheel = is_member-Decides same_wheel-Decides wheels wheel
 
+-- `has_reflector` is true exactly if the list contains the reflector
 pub has_reflector-Decides : (reflectors : List Reflector) (reflector : Reflector)
     → Decides (has_reflector reflectors reflector) (Contains reflectors reflector)
 has_reflector-Decides reflectors reflector = is_member-Decides same_reflector-Decides reflectors reflector
 
--- if an element passes, the place of the first that does is below the length
+-- if an element passes the test, the place of the first that passes is below the length
 pub first_within : {X : Type 0} (p : X → Bool) (xs : List X) → list_any p xs ≡ true → position_or_len p xs < length xs
 first_within p [] h = cc
 first_within p (x ∷ xs) h = grind (arith, cases_Bool, first_within p xs)
@@ -68,7 +70,7 @@ pub place_nowhere : (model : Model) (wheel : Wheel) → ¬ (Contains (box_of mod
     → place_in_box model wheel ≡ length (box_of model)
 place_nowhere model wheel h = grind (arith, first_nowhere, false_from_ne_true, has_wheel-Decides)
 
--- a wheel that is allowed in a slot is in the box, and the slot is one of the model's
+-- if a list that is empty unless `b` holds contains a wheel, then `b` holds, and `wheels` contains the wheel
 in_some : (b : Bool) (wheels : List Wheel) (wheel : Wheel) → Contains (cond b wheels []) wheel
     → (b ≡ true) × Contains wheels wheel
 in_some b wheels wheel e = grind arith
@@ -76,6 +78,7 @@ in_some b wheels wheel e = grind arith
 lies_in_both : (first last number : ℕ) → is_from_to first last number ≡ true → (first ≤ number) × (number ≤ last)
 lies_in_both first last number e = grind (arith, leb-true)
 
+-- the slot is one of the model's, and the wheel is in the model's box
 pub record IsPlaced (model : Model) (slot : ℕ) (wheel : Wheel) : Type 0 where
   pub first : 1 ≤ slot
   pub last : slot ≤ slots_of model
@@ -87,6 +90,7 @@ placed_in_m4 : (first : Bool) (slot : ℕ) (wheel : Wheel) → (slot == 1) ≡ f
 placed_in_m4 true slot wheel e h = search (rules, eqb-true, Contains-append_right)
 placed_in_m4 false slot wheel e h = grind (arith, in_some, lies_in_both, Contains-append_left)
 
+-- if a wheel is allowed in a slot, the slot is one of the model's, and the wheel is in the model's box
 pub IsAllowed-IsPlaced : (model : Model) (slot : ℕ) (wheel : Wheel) → IsAllowed model slot wheel
     → IsPlaced model slot wheel
 IsAllowed-IsPlaced M4 slot wheel h = placed_in_m4 (slot == 1) slot wheel refl h
@@ -112,7 +116,7 @@ found_in_box model wheel place within before here =
 pub allowed_in_box : AllowedWheelsLieInTheBox
 allowed_in_box model slot wheel h = (IsAllowed-IsPlaced model slot wheel h).in_box
 
--- the wheel at a wheel's place is this wheel
+-- the wheel at `place_in_box` of a wheel is this wheel
 at_its_place : (model : Model) (wheel : Wheel) → Contains (box_of model) wheel
     → wheel ≡ get_or (box_of model) (place_in_box model wheel) I
 at_its_place model wheel h = grind (arith, same_wheel-Decides, passes_at_first, place_within)
@@ -136,7 +140,8 @@ pub seats_Decides : (slots others : List (Option Wheel))
     → Decides (pointwise (option_eq (sameb the_type)) slots others) (slots ≡ others)
 seats_Decides = grind (arith, pointwise_decides, seat_Decides)
 
--- a test that decides a property of all elements decides it for an equal list
+-- if `b` is true exactly if `P` holds of all elements of `xs`, it is also true exactly if `P` holds of all
+-- elements of an equal list `ys`
 pub all_tested : {X : Type 0} (P : X → Type 0) (xs ys : List X) (b : Bool) → Decides b (AllByRecursion P xs) → xs ≡ ys
     → Decides b (All P ys)
 all_tested P xs ys b d e = grind (arith, All-from_recursion, recursion_from_All)

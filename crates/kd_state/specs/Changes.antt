@@ -1,4 +1,4 @@
--- What a setting leaves as it is. `m` is the machine before a setting, `n` the machine after it.
+-- Which things a setting leaves as they are. `m` is the machine before the setting, `n` the machine after it.
 use Rattle.std.specs.Prelude.{◌≡◌, ◌≢◌, ◌⊎◌, ◌↔◌, ℕ, ◌<◌, List, [], length, Contains, Option, Some, None, IsSome}
 use Rattle.std.specs.Option.{option_map, option_map_or}
 use Rattle.kd_tables.specs.declared.wheel.Wheel.{Wheel}
@@ -15,8 +15,9 @@ use Rattle.kd_state.specs.Machine.{cable_letters, model_of, machine_slot, machin
 use Rattle.kd_state.specs.Machine.{machine_letter, machine_cable, machine_pin, machine_pin_letter, machine_standing}
 use Rattle.kd_state.specs.Setting.{lug_place, other_lug, with_lug, HasLugsInOrder}
 
--- A thing that a reader of the machine shows: slots, cables, pin wheels and bars by number, pins by wheel and
--- letter.
+-- A thing of a machine, which one of the machine's readers shows: a slot, a cable, the shown letter of a pin
+-- wheel or a bar, by its number; the ring or the window letter of a wheel; a pin, by its wheel's number and
+-- its letter.
 pub data Thing : Type 0 where
   TheSlot : ℕ → Thing
   TheReflector : Thing
@@ -38,63 +39,65 @@ IsKept m n (ThePin wheel letter) = machine_pin n wheel letter ≡ machine_pin m 
 IsKept m n (TheShown wheel) = machine_pin_letter n wheel ≡ machine_pin_letter m wheel
 IsKept m n (TheBar bar) = machine_standing n bar ≡ machine_standing m bar
 
--- The model stays, and so does each thing that isn't touched.
+-- Both machines have the same model, and the readers show the same for each thing but those that `IsTouched`.
 pub record KeepsAllBut (IsTouched : Thing → Type 0) (m n : Parts) : Type 0 where
   pub model : model_of n ≡ model_of m
   pub others : (thing : Thing) → ¬ (IsTouched thing) → IsKept m n thing
 
--- The model stays, and so does each thing but `thing`.
+-- Both machines have the same model, and the readers show the same for each thing but `thing`.
 abbrev pub SetsOnly : Thing → Parts → Parts → Type 0
 SetsOnly thing m n = KeepsAllBut (λ other. other ≡ thing) m n
 
--- ---- What each setting changes, as the readers of a machine show it, without `changed`.
+-- ---- What each setting changes, as the readers of a machine show it, without using `machine_after`.
 
--- the letters in a cable
+-- the letters in cable `cable`; none if the machine lacks this cable
 abbrev pub letters_at_cable : Parts → ℕ → List ℕ
 letters_at_cable m cable = option_map_or cable_letters (machine_cable m cable) []
 
--- the place of one lug of a bar
+-- the place of one lug of a bar; `None` if the machine lacks this bar
 abbrev pub machine_lug : Parts → ℕ → Lug → Option Place
 machine_lug m bar lug = option_map (lug_place lug) (machine_standing m bar)
 
--- The thing is this slot, or a slot that held the wheel.
+-- The thing is slot `slot`, or a slot of `m` that holds the wheel.
 abbrev pub IsSeatOf : Parts → ℕ → Wheel → Thing → Type 0
 IsSeatOf m slot wheel thing =
     (thing ≡ TheSlot slot) ⊎ ((held : ℕ) × (thing ≡ TheSlot held) × (machine_slot m held ≡ Some (Some wheel)))
 
--- The wheel is in this slot and in no other; a slot that held it before is empty. All other things stay. So the
--- wheel that was in this slot is in the box, with its ring and its letter.
+-- In `n`, the wheel is in slot `slot` and in no other; another slot that held it in `m` is empty. All other
+-- things are as in `m`. So another wheel that was in slot `slot` before is in the box, with its ring and its
+-- letter.
 pub record SeatsWheel (m : Parts) (slot : ℕ) (wheel : Wheel) (n : Parts) : Type 0 where
   pub here : machine_slot n slot ≡ Some (Some wheel)
   pub only : (other : ℕ) → machine_slot n other ≡ Some (Some wheel) → other ≡ slot
   pub left : (held : ℕ) → held ≢ slot → machine_slot m held ≡ Some (Some wheel) → machine_slot n held ≡ Some None
   pub others : KeepsAllBut (IsSeatOf m slot wheel) m n
 
--- The wheel in the slot shows the letter; on a Converter M-209, the pin wheel with this number does. All else
--- stays.
+-- The wheel in the slot, or on a Converter M-209 the pin wheel with this number, shows the letter. All other
+-- things are as in `m`.
 abbrev pub TurnsWheel : Parts → ℕ → ℕ → Parts → Type 0
 TurnsWheel (Rotor m) slot letter n =
     (wheel : Wheel) × (machine_slot (Rotor m) slot ≡ Some (Some wheel))
     × (machine_letter n wheel ≡ Some letter) × SetsOnly (TheLetter wheel) (Rotor m) n
 TurnsWheel (Pin m) wheel letter n = (machine_pin_letter n wheel ≡ Some letter) × SetsOnly (TheShown wheel) (Pin m) n
 
--- The cable loses the letter, or gains it, and keeps its other letters.
+-- In `n`, the cable has the letters that it has in `m`, but not `letter`.
 abbrev pub TakesLetterOut : Parts → ℕ → ℕ → Parts → Type 0
 TakesLetterOut m cable letter n =
     (other : ℕ) → Contains (letters_at_cable n cable) other
     ↔ (Contains (letters_at_cable m cable) other × (other ≢ letter))
 
+-- In `n`, the cable has the letters that it has in `m`, and `letter`.
 abbrev pub PutsLetterIn : Parts → ℕ → ℕ → Parts → Type 0
 PutsLetterIn m cable letter n =
     (other : ℕ) → Contains (letters_at_cable n cable) other
     ↔ (Contains (letters_at_cable m cable) other ⊎ (other ≡ letter))
 
--- The lug is at the place, and the bar's other lug is where it was.
+-- In `n`, the lug is at the place, and the bar's other lug is where it is in `m`.
 pub record MovesLug (m : Parts) (bar : ℕ) (lug : Lug) (place : Place) (n : Parts) : Type 0 where
   pub moved : machine_lug n bar lug ≡ Some place
   pub other : machine_lug n bar (other_lug lug) ≡ machine_lug m bar (other_lug lug)
 
--- `n` is the machine that the setting makes of `m`, as the readers show it.
+-- From `m` to `n`, the readers show the setting's change and no other.
 abbrev pub ChangesTo : Parts → Setting → Parts → Type 0
 ChangesTo m (Pull cable letter) n = TakesLetterOut m cable letter n × SetsOnly (TheCable cable) m n
 ChangesTo m (Put cable letter) n = PutsLetterIn m cable letter n × SetsOnly (TheCable cable) m n
@@ -108,7 +111,7 @@ ChangesTo m (LugTo bar lug place) n = MovesLug m bar lug place n × SetsOnly (Th
 
 -- ---- Which settings a machine carries out, as its readers show it.
 
--- The cable has fewer than two letters.
+-- The machine has the cable, and the cable has fewer than two letters.
 abbrev pub HasLooseEnd : Parts → ℕ → Type 0
 HasLooseEnd m cable = (held : Option ℕ × Option ℕ) × (machine_cable m cable ≡ Some held)
     × (length (cable_letters held) < 2)
@@ -119,12 +122,12 @@ CanShow m slot letter =
     ((wheel : Wheel) × (machine_slot m slot ≡ Some (Some wheel)))
     ⊎ (IsSome (machine_pin_letter m slot) × Contains (ring_of slot) letter)
 
--- If this lug moves to the place, the bar's left lug is still left of its right lug.
+-- The machine has the bar. With this lug at the place, the bar's left lug is left of its right lug.
 abbrev pub CanMoveLug : Parts → ℕ → Lug → Place → Type 0
 CanMoveLug m bar lug place =
     (standing : Place × Place) × (machine_standing m bar ≡ Some standing) × HasLugsInOrder (with_lug lug place standing)
 
--- The machine can carry the setting out, by what its readers show.
+-- By what the machine's readers show, it can carry the setting out.
 abbrev pub AllowsSetting : Parts → Setting → Type 0
 AllowsSetting m (Pull cable letter) = Contains (letters_at_cable m cable) letter
 AllowsSetting m (Put cable letter) = HasLooseEnd m cable

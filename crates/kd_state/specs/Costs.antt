@@ -1,5 +1,5 @@
 -- How many settings it takes to give a cable a pair or a bar a row.
--- Code: letters are compared; one or two standings are tried.
+-- Code: a cable's cost is counted over the alphabet; for a bar, the one or two standings of the row are tried.
 -- Test: kd_trials/src/state/days.rt
 use Rattle.std.specs.Prelude.{ℕ, ◌+◌, ◌-◌, nat_eq, nat_lt, min, Bool, false, not, ◌&&◌, List, [], ◌∷◌, ◌++◌, length}
 use Rattle.std.specs.Prelude.{slice_index_or, map, filter, find, fold, zip, sum, count_by, replicate, Option, Some}
@@ -23,7 +23,7 @@ use Rattle.kd_state.specs.SheetDay.{RotorDay, PinDay, Day, OfRotors, OfPins}
 abbrev pub exactly_one : Bool → Bool → Bool
 exactly_one a b = if a then not b else b
 
--- 0 if the test holds, else 1
+-- 0 if `same` is true, else 1
 abbrev pub one_unless : Bool → ℕ
 one_unless same = if same then 0 else 1
 
@@ -37,11 +37,12 @@ abbrev pub lies_in_exactly_one : Option ℕ × Option ℕ → Option (ℕ × ℕ
 lies_in_exactly_one cable column letter =
     exactly_one (has_letter (cable_letters cable) letter) (has_letter (column_letters column) letter)
 
--- the cost of giving a cable the column's pair, or emptying it: how many letters only one of the two has
+-- the cost of giving a cable the column's pair, or of emptying it if the column has no pair: how many letters
+-- are in only one of the two
 abbrev pub cable_cost : Option ℕ × Option ℕ → Option (ℕ × ℕ) → ℕ
 cable_cost cable column = count_by (lies_in_exactly_one cable column) alphabet
 
--- how many lugs move from one standing to the other
+-- how many lugs have to move to change one standing into the other
 abbrev pub lugs_moved : Place × Place → Place × Place → ℕ
 lugs_moved standing other = one_unless (is_same_place standing.0 other.0)
     + one_unless (is_same_place standing.1 other.1)
@@ -79,20 +80,21 @@ nearest_standing standing row =
 abbrev pub columns_of : List (ℕ × ℕ) → List (Option (ℕ × ℕ))
 columns_of pairs = map Some pairs ++ replicate (13 - length pairs) None
 
--- the cost of each cable at each column, and of each bar at each row
+-- the cost of giving each cable each column of the day: a list for each cable
 abbrev pub cable_costs : List (Option ℕ × Option ℕ) → List (ℕ × ℕ) → List (List ℕ)
 cable_costs cables pairs = map (λ cable. map (cable_cost cable) (columns_of pairs)) cables
 
+-- the cost of giving each bar each row of the day: a list for each bar
 abbrev pub bar_costs : List (Place × Place) → List (ℕ × ℕ) → List (List ℕ)
 bar_costs bars rows = map (λ bar. map (bar_cost bar) rows) bars
 
--- the cost table of a machine and a day of one model: of its cables, or of its bars
+-- the cost table of a machine and a day of one model: of cables and columns, or of bars and rows
 abbrev pub cost_table : Parts → Day → List (List ℕ)
 cost_table (Rotor m) (OfRotors s) = cable_costs m.cables s.pairs
 cost_table (Pin m) (OfPins s) = bar_costs m.bars s.rows
 cost_table _ _ = []
 
--- ---- How many things differ from the day, without cables and bars.
+-- ---- How many things other than cables and bars differ from the day.
 
 -- how many slots are empty or hold another wheel than the day's
 abbrev pub loose_slots : RotorParts → RotorDay → ℕ
@@ -102,24 +104,25 @@ loose_slots m s = count_by (λ slot. not (option_map_or (same_wheel slot.1.wheel
 abbrev pub loose_reflector : RotorParts → RotorDay → ℕ
 loose_reflector m s = one_unless (same_reflector m.reflector s.reflector)
 
--- How many of the day's wheels have a ring that isn't the day's, and how many a letter that isn't. Wheels in
--- the box count too.
+-- How many of the day's wheels have another ring than the day's. A wheel that is still in the box counts too.
 abbrev pub loose_rings : RotorParts → RotorDay → ℕ
 loose_rings m s = count_by (λ w. not (option_map_or (nat_eq w.ring) (ring_at m w.wheel) false)) s.wheels
 
+-- How many of the day's wheels have another window letter than the day's. A wheel in the box counts too.
 abbrev pub loose_letters : RotorParts → RotorDay → ℕ
 loose_letters m s = count_by (λ w. not (option_map_or (nat_eq w.letter) (letter_at m w.wheel) false)) s.wheels
 
--- how many pins differ from the day's, and how many shown letters
+-- how many pins differ from the day's
 abbrev pub loose_pins : PinParts → PinDay → ℕ
 loose_pins m s =
     sum (map (λ wheel. count_by (λ pin. exactly_one pin.0 pin.1) (zip wheel.0 wheel.1))
     (zip (pins_of m.pins) (pins_of s.pins)))
 
+-- how many pin wheels show another letter than the day's
 abbrev pub loose_pin_letters : PinParts → PinDay → ℕ
 loose_pin_letters m s = count_by (λ letter. not (nat_eq letter.0 letter.1)) (zip m.letters s.window)
 
--- how many things differ from the day, without cables and bars
+-- how many things other than cables and bars differ from the day
 abbrev pub loose_count : Parts → Day → ℕ
 loose_count (Rotor m) (OfRotors s) = loose_slots m s + loose_reflector m s + loose_rings m s + loose_letters m s
 loose_count (Pin m) (OfPins s) = loose_pins m s + loose_pin_letters m s

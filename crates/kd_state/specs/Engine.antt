@@ -10,7 +10,7 @@ mechanism_key (ThreeWheels key) = OfWheels key
 mechanism_key (FourWheels key) = OfWheels key
 mechanism_key (Drum key) = OfDrum key
 
--- The key has as many wheels as the mechanism's variant says.
+-- The key has three wheels in `ThreeWheels`, and four in `FourWheels`.
 abbrev pub HasKeyWheelCount : Mechanism → Type 0
 HasKeyWheelCount (ThreeWheels key) = length key.wheels ≡ 3
 HasKeyWheelCount (FourWheels key) = length key.wheels ≡ 4

@@ -1,4 +1,4 @@
--- The values of a day's entry, as contracts see them.
+-- The values of a day's entry, in the types that contracts use.
 use Rattle.kd_state.specs.declared.sheet_day.rotor_entry.RotorEntry.{RotorEntry}
 use Rattle.kd_state.specs.declared.sheet_day.pin_entry.PinEntry.{PinEntry}
 use Rattle.kd_state.specs.declared.sheet_day.entry.Entry.{Entry}

@@ -1,4 +1,4 @@
--- The name of each reason, and the text of each fault of a setting or a list.
+-- The name of each reason to refuse a setting, and the text of each fault of a setting or a list.
 use Rattle.std.specs.Prelude.{codes, decimal, ℕ, List, ◌++◌}
 use Rattle.kd_tables.specs.declared.refusal.Refusal.TheVariants as refusals
 use Rattle.kd_tables.specs.Refusals.{refusal_name, word_after_space}
@@ -9,6 +9,7 @@ use Rattle.kd_state.specs.declared.setting.why.Illegal.{Illegal}
 use Rattle.kd_state.specs.declared.setting.why.Why.{Why}
 use Rattle.kd_state.specs.declared.setting.why.Why.TheVariants as whys
 
+-- the name of a reason to refuse a setting
 abbrev pub why_name : Why → List ℕ
 why_name whys.OtherModel = codes "OtherModel"
 why_name whys.NoSuchCable = codes "NoSuchCable"
@@ -22,13 +23,16 @@ why_name whys.NoSuchBar = codes "NoSuchBar"
 why_name whys.PlaceTaken = codes "PlaceTaken"
 why_name whys.WouldPass = codes "WouldPass"
 
+-- the text of `Illegal`: its number, its name, and the name of the reason
 abbrev pub illegal_text : Illegal → List ℕ
 illegal_text fault = refusal_name refusals.Illegal ++ word_after_space (why_name fault.why)
 
+-- the text of `IllegalAt`: its number, its name, the line, and the name of the reason
 abbrev pub illegal_at_text : IllegalAt → List ℕ
 illegal_at_text fault = refusal_name refusals.IllegalAt ++ word_after_space (decimal fault.line)
     ++ word_after_space (why_name fault.why)
 
+-- the text of a list's fault: its number, its name, and the line of `BadLine`
 abbrev pub list_fault_text : ListFault → List ℕ
 list_fault_text (BadLine line) = refusal_name refusals.BadLine ++ word_after_space (decimal line)
 list_fault_text TooMany = refusal_name refusals.TooMany

@@ -1,4 +1,4 @@
--- The laws of names and of places in the box.
+-- The laws of the names of wheels and reflectors, and of the wheels' places in the box.
 use Rattle.std.specs.Prelude.{◌≡◌, ◌≢◌, ◌↔◌, ℕ, ◌+◌, ◌<◌, ◌≤◌, List, ◌++◌, length, slice_index_or, slice_get, All}
 use Rattle.std.specs.Prelude.{AllPairs, Option, None, MatchOption, Contains}
 use Rattle.std.specs.Bool.{Decides}
@@ -25,22 +25,25 @@ use Rattle.kd_state.specs.Costs.{columns_of, cable_cost, cost_table}
 use Rattle.kd_state.specs.TwoCiphers.{EngineKey, cipher, engine_key_after, key_with_window, IsWindow, IsReady}
 use Rattle.kd_state.specs.TwoCiphers.{window_of, physical_key, physical_cipher, sheet_key, sheet_cipher, IsTurnedTo}
 
--- Different wheels have different names, and so have different reflectors.
+-- Two wheels have the same name exactly if they are the same wheel.
 abbrev pub NamesTellWheels : Type 0
 NamesTellWheels = (wheel other : Wheel) → Decides (same_wheel wheel other) (wheel ≡ other)
 
+-- Two reflectors have the same name exactly if they are the same reflector.
 abbrev pub NamesTellReflectors : Type 0
 NamesTellReflectors = (reflector other : Reflector) → Decides (same_reflector reflector other) (reflector ≡ other)
 
--- A wheel that a slot allows is in the box, and each wheel of the box has a place of its own there.
+-- A wheel that is allowed in a slot of a model is in the model's box.
 abbrev pub AllowedWheelsLieInTheBox : Type 0
 AllowedWheelsLieInTheBox =
     (model : Model) (slot : ℕ) (wheel : Wheel) → IsAllowed model slot wheel → Contains (box_of model) wheel
 
+-- Each wheel of a box has a place in the box.
 abbrev pub WheelsHavePlaces : Type 0
 WheelsHavePlaces =
     (model : Model) (wheel : Wheel) → Contains (box_of model) wheel → place_in_box model wheel < length (box_of model)
 
+-- Different wheels of a box have different places in the box.
 abbrev pub PlacesTellWheels : Type 0
 PlacesTellWheels = (model : Model) (wheel other : Wheel) → Contains (box_of model) wheel → Contains (box_of model) other
     → place_in_box model wheel ≡ place_in_box model other → wheel ≡ other
@@ -52,23 +55,26 @@ DaysWheelsHaveTheirPlaces = (model : Model) (wheels : List SheetWheel) → AreLe
 
 -- ---- The laws of settings: each is refused or has one result, which is just the change that the readers show.
 
--- A machine stays a machine when a setting or a list of settings is carried out.
+-- A setting that is carried out on a machine gives a machine.
 abbrev pub SettingsKeepMachines : Type 0
 SettingsKeepMachines = (m n : Parts) (x : Setting) → IsMachine m → IsSettingInRange x → Carries m x n → IsMachine n
 
+-- A list of settings that is carried out on a machine gives a machine.
 abbrev pub ListsKeepMachines : Type 0
 ListsKeepMachines = (m n : Parts) (xs : List Setting) → IsMachine m → All IsSettingInRange xs → Leads m xs n
     → IsMachine n
 
--- A machine refuses a setting or carries it out, and never both. A setting has one result, and so has a list.
+-- A machine refuses a setting or carries it out, and never both.
 abbrev pub RefusesOrCarries : Type 0
 RefusesOrCarries =
     (m : Parts) (x : Setting)
     → MatchOption (why_refused m x) ((n : Parts) × Carries m x n) (λ why. (n : Parts) → ¬ (Carries m x n))
 
+-- Carrying out a setting has only one result.
 abbrev pub CarriesToOne : Type 0
 CarriesToOne = (m n o : Parts) (x : Setting) → Carries m x n → Carries m x o → n ≡ o
 
+-- Carrying out a list of settings has only one result.
 abbrev pub LeadsToOne : Type 0
 LeadsToOne = (m n o : Parts) (xs : List Setting) → Leads m xs n → Leads m xs o → n ≡ o
 
@@ -82,29 +88,32 @@ TellingIsMaking =
     (m n : Parts) (x : Setting) → IsMachine m → IsMachine n → IsSettingInRange x → AllowsSetting m x
     → ChangesTo m x n → Carries m x n
 
--- A setting is refused exactly if it isn't allowed by what the readers show.
+-- A machine doesn't refuse a setting exactly if the setting is allowed by what the readers show.
 abbrev pub RefusalsAreTold : Type 0
 RefusalsAreTold = (m : Parts) (x : Setting) → IsMachine m → (why_refused m x ≡ None) ↔ AllowsSetting m x
 
--- A machine refuses a wheel, a reflector or a ring exactly if the tables don't allow it.
+-- A rotor machine doesn't refuse to seat a wheel exactly if the wheel is allowed in the slot.
 abbrev pub SeatsAreByTheTables : Type 0
 SeatsAreByTheTables =
     (m : RotorParts) (slot : ℕ) (wheel : Wheel)
     → (why_refused (Rotor m) (Seat slot wheel) ≡ None) ↔ IsAllowed m.model slot wheel
 
+-- A rotor machine doesn't refuse to seat a reflector exactly if the reflector is one of the model's.
 abbrev pub ReflectorsAreByTheTables : Type 0
 ReflectorsAreByTheTables =
     (m : RotorParts) (reflector : Reflector)
     → (why_refused (Rotor m) (SeatReflector reflector) ≡ None) ↔ Contains (reflectors_of m.model) reflector
 
+-- A rotor machine doesn't refuse to set a wheel's ring exactly if the wheel is in the model's box.
 abbrev pub RingsAreByTheTables : Type 0
 RingsAreByTheTables =
     (m : RotorParts) (wheel : Wheel) (letter : ℕ)
     → (why_refused (Rotor m) (RingTo wheel letter) ≡ None) ↔ Contains (box_of m.model) wheel
 
--- ---- The laws of lines and lists: each has one meaning, and a text has one fault at most.
+-- ---- The laws of lines and lists: a line is of one setting at most, a text of one list at most; and a text
+-- has one fault at most.
 
--- The parts of a setting's line are words.
+-- The parts of a setting's line are words: not empty, and without a space or LF.
 abbrev pub SettingsHaveWords : Type 0
 SettingsHaveWords = (x : Setting) → IsSettingInRange x → All IsWord (setting_words x)
 
@@ -112,54 +121,59 @@ SettingsHaveWords = (x : Setting) → IsSettingInRange x → All IsWord (setting
 abbrev pub LinesTellSettings : Type 0
 LinesTellSettings = (x y : Setting) → IsSettingInRange x → IsSettingInRange y → setting_line x ≡ setting_line y → x ≡ y
 
--- Bytes are the text of at most one list. A list's text has no fault, and no text has two faults.
+-- Bytes are the text of at most one list.
 abbrev pub TextsTellLists : Type 0
 TextsTellLists = (bytes : List ℕ) (xs ys : List Setting) → IsListText bytes xs → IsListText bytes ys → xs ≡ ys
 
+-- The text of a list has no fault.
 abbrev pub ListsHaveNoFault : Type 0
 ListsHaveNoFault =
     (bytes : List ℕ) (xs : List Setting) (fault : ListFault) → IsListText bytes xs → ¬ (IsListFault bytes fault)
 
+-- A text has at most one fault.
 abbrev pub OneListFault : Type 0
 OneListFault =
     (bytes : List ℕ) (fault other : ListFault) → IsListFault bytes fault → IsListFault bytes other → fault ≡ other
 
--- ---- The laws of ciphers: a machine on the day's key enciphers as the day asks, and an equally set one
--- deciphers it.
+-- ---- The laws of ciphers: a machine on the day's key enciphers as the day asks, and an equally set machine
+-- deciphers the ciphertext.
 
--- An engine with a machine's key enciphers as the machine's own parts do. Turned to other letters, it enciphers
--- as the machine that shows these letters.
+-- An engine with a machine's key enciphers as the machine's own parts do.
 abbrev pub EngineIsTheMachine : Type 0
 EngineIsTheMachine = (m : Parts) (text : List ℕ) → cipher (physical_key m) text ≡ physical_cipher m text
 
+-- An engine with a machine's key that is turned to other letters enciphers as the machine turned to these
+-- letters.
 abbrev pub TurnedEngineIsTheTurnedMachine : Type 0
 TurnedEngineIsTheTurnedMachine = (m n : Parts) (window text : List ℕ) → IsTurnedTo m window n
     → cipher (key_with_window (physical_key m) window) text ≡ physical_cipher n text
 
--- A machine that reads as the day is ready, and enciphers as the day asks.
+-- A machine that reads as the day is ready.
 abbrev pub ReadingIsReady : Type 0
 ReadingIsReady = (m : Parts) (s : Day) → IsMachine m → IsLegalDay s → ReadsAs m s → IsReady m
 
+-- A machine that reads as the day enciphers as the day asks.
 abbrev pub ReadingIsItsCipher : Type 0
 ReadingIsItsCipher =
     (m : Parts) (s : Day) (text : List ℕ) → IsMachine m → IsLegalDay s → ReadsAs m s
     → physical_cipher m text ≡ sheet_cipher s text
 
--- A machine on the day's key is ready. It enciphers as the day asks, from the letters that it shows.
+-- A machine on the day's key is ready.
 abbrev pub OnKeyIsReady : Type 0
 OnKeyIsReady = (m : Parts) (s : Day) → IsMachine m → IsLegalDay s → OnKey m s → IsReady m
 
+-- A machine on the day's key enciphers as the day asks from the letters that the machine shows.
 abbrev pub OnKeyIsItsCipher : Type 0
 OnKeyIsItsCipher = (m : Parts) (s : Day) (text : List ℕ) → IsMachine m → IsLegalDay s → OnKey m s
     → physical_cipher m text ≡ cipher (key_with_window (sheet_key s) (window_of m)) text
 
--- A machine on the day's key that is turned to other letters enciphers as the day asks, from these letters.
+-- A machine on the day's key that is turned to other letters enciphers as the day asks from these letters.
 abbrev pub TurnedHasTheDaysCipher : Type 0
 TurnedHasTheDaysCipher =
     (m n : Parts) (s : Day) (window text : List ℕ) → IsMachine m → IsLegalDay s → OnKey m s → IsTurnedTo m window n
     → physical_cipher n text ≡ cipher (key_with_window (sheet_key s) window) text
 
--- A ready machine can be turned to each window.
+-- A ready machine can be turned to each window, and is still a machine then.
 abbrev pub MachinesCanBeTurned : Type 0
 MachinesCanBeTurned =
     (m : Parts) (window : List ℕ) → IsMachine m → IsReady m → IsWindow (physical_key m) window
@@ -176,44 +190,46 @@ abbrev pub TheDayDeciphersItself : Type 0
 TheDayDeciphersItself = (s : Day) (window text : List ℕ) → IsLegalDay s → All (λ letter. letter < 26) text
     → cipher (key_with_window (sheet_key s) window) (cipher (key_with_window (sheet_key s) window) text) ≡ text
 
--- A machine on the day's key stays on it when it is turned to other letters, and its key changes only in its
--- letters.
+-- A machine on the day's key stays on the key when it is turned to other letters.
 abbrev pub TurnedIsOnKey : Type 0
 TurnedIsOnKey = (m n : Parts) (s : Day) (window : List ℕ) → IsTurnedTo m window n → OnKey m s → OnKey n s
 
+-- Turning a machine to other letters changes only the letters of its key.
 abbrev pub TurnedHasItsKey : Type 0
 TurnedHasItsKey =
     (m n : Parts) (window : List ℕ) → IsTurnedTo m window n → physical_key n ≡ key_with_window (physical_key m) window
 
--- A text can be enciphered in two pieces, the second with the key that the first leaves.
+-- A text can be enciphered in two chunks, the second with the key that the engine has after the first.
 abbrev pub CipherInTurn : Type 0
 CipherInTurn =
     (key : EngineKey) (first rest : List ℕ)
     → cipher key (first ++ rest) ≡ cipher key first ++ cipher (engine_key_after key (length first)) rest
 
+-- The key after `m` letters and then `n` more is the key after `m + n` letters.
 abbrev pub KeyInTurn : Type 0
 KeyInTurn = (key : EngineKey) (m n : ℕ) → engine_key_after (engine_key_after key m) n ≡ engine_key_after key (m + n)
 
 -- ---- The laws of columns and costs.
 
--- Two lists have the same letters exactly if `has_letter` gives the same answer for both, whatever the letter.
+-- Two lists have the same letters exactly if `has_letter` has the same value for both lists at each letter.
 abbrev pub TestsTellLetters : Type 0
 TestsTellLetters = (xs ys : List ℕ) → HaveSameLetters xs ys
     ↔ ((letter : ℕ) → has_letter xs letter ≡ has_letter ys letter)
 
--- A day has 13 columns: its pairs in their order, and then columns without a pair.
+-- A day with at most 13 pairs has 13 columns.
 abbrev pub ThirteenColumns : Type 0
 ThirteenColumns = (pairs : List (ℕ × ℕ)) → length pairs ≤ 13 → length (columns_of pairs) ≡ 13
 
+-- The columns of a day are first its pairs in their order, and then columns without a pair.
 abbrev pub ColumnsAreThePairs : Type 0
 ColumnsAreThePairs =
     (pairs : List (ℕ × ℕ)) (place : ℕ) → slice_index_or (columns_of pairs) place None ≡ slice_get pairs place
 
--- A cable costs at most 4 at each column.
+-- Giving a cable a column costs at most 4.
 abbrev pub CablesCostFour : Type 0
 CablesCostFour = (cable : Option ℕ × Option ℕ) (column : Option (ℕ × ℕ)) → cable_cost cable column ≤ 4
 
--- The cost tables are square.
+-- The cost tables are square: each row has as many entries as the table has rows.
 abbrev pub CostTablesAreSquare : Type 0
 CostTablesAreSquare =
     (m : Parts) (s : Day) → IsMachine m → IsLegalDay s

@@ -12,7 +12,7 @@ use Rattle.kd_state.specs.declared.setting.Setting.TheVariants.{LugTo}
 use Rattle.kd_state.specs.declared.setting.list.ListFault.{ListFault}
 use Rattle.kd_state.specs.declared.setting.list.ListFault.TheVariants.{BadLine, TooMany}
 
--- `ON` for an effective pin, `OFF` for another
+-- `ON` for an effective pin, `OFF` for a pin that isn't effective
 abbrev pub on_off_text : Bool → List ℕ
 on_off_text true = codes "ON"
 on_off_text false = codes "OFF"
@@ -33,7 +33,7 @@ setting_words (LugTo bar lug place) = codes "LUG" ∷ decimal bar ∷ lug_text l
 abbrev pub setting_line : Setting → List ℕ
 setting_line x = line_of (setting_words x)
 
--- The setting's number is a byte, and its letter is below 26.
+-- The setting's number, if it has one, is below 256, and its letter, if it has one, is below 26.
 abbrev pub IsSettingInRange : Setting → Type 0
 IsSettingInRange (Pull cable letter) = (cable < 2 ^ 8) × (letter < 26)
 IsSettingInRange (Put cable letter) = (cable < 2 ^ 8) × (letter < 26)
@@ -71,14 +71,14 @@ pub record BeginsWithSettingLine (bytes : List ℕ) (x : Setting) (rest : List �
 abbrev pub BeginsWithNoSetting : List ℕ → Type 0
 BeginsWithNoSetting bytes = (x : Setting) (rest : List ℕ) → IsSettingInRange x → bytes ≢ setting_line x ++ 10 ∷ rest
 
--- `bytes` are the lines of at most 192 settings, and then `rest`, which begins with no setting's line.
+-- `bytes` are the lines of `settings`, at most 192, and then `rest`, which doesn't begin with a setting's line.
 pub record BeginsWithAllSettings (bytes : List ℕ) (settings : List Setting) (rest : List ℕ) : Type 0 where
   pub lines : BeginsWithSettingLines bytes settings rest
   pub few : length settings ≤ 192
   pub none_more : BeginsWithNoSetting rest
 
--- The first fault of bytes that are no list: the first line that is no setting's, counted from 1; or a 193rd
--- setting.
+-- Why `bytes` aren't the text of a list: `BadLine` with the number, counted from 1, of the first line that
+-- isn't a setting's; or `TooMany` if they begin with the lines of 193 settings.
 abbrev pub IsListFault : List ℕ → ListFault → Type 0
 IsListFault bytes (BadLine line) =
     (settings : List Setting) × (rest : List ℕ)
@@ -87,7 +87,7 @@ IsListFault bytes (BadLine line) =
 IsListFault bytes TooMany =
     (settings : List Setting) × (rest : List ℕ) × BeginsWithSettingLines bytes settings rest × (length settings ≡ 193)
 
--- `bytes` are the text of the list `settings`, which has at most 192.
+-- `bytes` are the text of the list `settings`, which has at most 192 settings.
 pub record IsListText (bytes : List ℕ) (settings : List Setting) : Type 0 where
   pub text : bytes ≡ list_text settings
   pub in_range : All IsSettingInRange settings

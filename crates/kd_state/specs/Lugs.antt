@@ -1,7 +1,7 @@
--- The cipher of a Converter M-209 by its metal: its pins, the letters that it shows, and its lugs. Wheels are
--- counted from 1; letters of a text and places of a wheel from 0.
+-- The cipher of a Converter M-209, defined by its pins, the letters that it shows, and its lugs. Wheels are
+-- counted from 1; letters of a text and places on a wheel from 0.
 -- Source: War Department TM 11-380
--- Code: counts the bars by their readings.
+-- Code: the bars that move are counted by their readings, not by their lugs.
 -- Test: kd_trials/src/state/engine.rt
 use Rattle.std.specs.Prelude.{ℕ, ◌+◌, ◌-◌, ◌%◌, nat_lt, Bool, ◌&&◌, ◌||◌, List, map, slice_index, unwrap_or}
 use Rattle.std.specs.List.{count_by, enumerate_from}
@@ -12,7 +12,7 @@ use Rattle.kd_pins.specs.PinWheel.{is_effective, place_past}
 use Rattle.kd_pins.specs.PinWheels.{pins_of, pins_on, acting_offset, pin_wheel_size}
 use Rattle.kd_state.specs.declared.machine.pin_parts.PinParts.{PinParts}
 
--- the place, on the wheel, of the letter that it shows at the start
+-- the place on the wheel of the letter that the wheel shows at the start
 abbrev pub shown_place_in_parts : PinParts → ℕ → ℕ
 shown_place_in_parts m wheel = unwrap_or (place_on (ring_of wheel) (slice_index m.letters (wheel - 1))) 0
 
@@ -27,11 +27,11 @@ pin_acts m count wheel =
 abbrev pub is_lug_met : PinParts → ℕ → Place → Bool
 is_lug_met m count place = nat_lt 0 (place_number place) && pin_acts m count (place_number place)
 
--- how many bars one of their lugs, or both, move after `count` letters
+-- how many bars are moved after `count` letters, by one of their lugs or by both
 abbrev pub bars_moved : PinParts → ℕ → ℕ
 bars_moved m count = count_by (λ bar. is_lug_met m count bar.0 || is_lug_met m count bar.1) m.bars
 
--- The ciphertext of `text`: each letter at its place in the reversed alphabet, moved on by the number of bars
--- that move.
+-- The ciphertext of `text`: each letter becomes the letter at its place in the reversed alphabet (Z for A),
+-- moved on by the number of bars that move.
 abbrev pub lugs_cipher : PinParts → List ℕ → List ℕ
 lugs_cipher m text = map (λ numbered. (25 + bars_moved m numbered.0 - numbered.1) % 26) (enumerate_from 0 text)

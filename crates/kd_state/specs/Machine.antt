@@ -1,4 +1,4 @@
--- Cables, slots, letters and pins, and when each is legal.
+-- Cables, slots, letters and pins, and which of them are legal.
 -- Test: kd_trials/src/state/carrying.rt
 use Rattle.std.specs.Prelude.{◌≡◌, ℕ, ◌+◌, ◌<◌, nat_eq, nat_le, Bool, List, ◌++◌, length, map, All, Contains, slice_get}
 use Rattle.std.specs.Prelude.{Option, Some, None, if◌then◌else◌}
@@ -28,7 +28,7 @@ cable_letters cable = option_to_list cable.0 ++ option_to_list cable.1
 abbrev pub letters_in_cables : List (Option ℕ × Option ℕ) → List ℕ
 letters_in_cables cables = flat_map cable_letters cables
 
--- The slot at index `place`, counted from 0 from the left, holds the wheel.
+-- The slot at `place`, counted from 0 from the left, holds the wheel.
 abbrev pub IsSeatedAt : List (Option Wheel) → ℕ → Wheel → Type 0
 IsSeatedAt slots place wheel = slice_get slots place ≡ Some (Some wheel)
 
@@ -47,7 +47,7 @@ pub record AreLetters (number : ℕ) (letters : List ℕ) : Type 0 where
   pub count : length letters ≡ number
   pub within : All (λ letter. letter < 26) letters
 
--- There are 13 cables. Their letters are below 26, and none is in two places.
+-- There are 13 cables. All letters in them are below 26, and all are different.
 pub record AreCables (cables : List (Option ℕ × Option ℕ)) : Type 0 where
   pub count : length cables ≡ 13
   pub within : All (λ letter. letter < 26) (letters_in_cables cables)
@@ -84,18 +84,19 @@ pub record IsLegalPin (m : PinParts) : Type 0 where
   pub bars : length m.bars ≡ 27
   pub apart : All (λ bar. IsBefore bar.0 bar.1) m.bars
 
+-- The parts make a machine, a rotor machine or a Converter M-209.
 abbrev pub IsLegal : Parts → Type 0
 IsLegal (Rotor m) = IsLegalRotor m
 IsLegal (Pin m) = IsLegalPin m
 
--- a cable with these letters in alphabetical order; a single letter is first
+-- a cable with these letters in alphabetical order; a single letter is in the first end
 abbrev pub cable_in_order : Option ℕ → Option ℕ → Option ℕ × Option ℕ
 cable_in_order None other = (other, None)
 cable_in_order (Some letter) None = (Some letter, None)
 cable_in_order (Some letter) (Some other) =
     if nat_le letter other then (Some letter, Some other) else (Some other, Some letter)
 
--- the machine with the letters of each cable in order, since a cable is a set of letters
+-- the machine with the letters of each cable in alphabetical order: which end has which letter doesn't matter
 abbrev pub with_cables_in_order : Parts → Parts
 with_cables_in_order (Rotor m) = Rotor (record m { cables = map (λ cable. cable_in_order cable.0 cable.1) m.cables })
 with_cables_in_order (Pin m) = Pin m
@@ -113,14 +114,15 @@ abbrev pub model_of : Parts → Model
 model_of (Rotor m) = m.model
 model_of (Pin m) = M209
 
--- the ring and the window letter of a wheel of the box, whether it is in a slot or not
+-- the ring of a wheel, whether the wheel is in a slot or not; `None` if the box lacks the wheel
 abbrev pub ring_at : RotorParts → Wheel → Option ℕ
 ring_at m wheel = slice_get m.rings (place_in_box m.model wheel)
 
+-- the window letter of a wheel, whether the wheel is in a slot or not; `None` if the box lacks the wheel
 abbrev pub letter_at : RotorParts → Wheel → Option ℕ
 letter_at m wheel = slice_get m.letters (place_in_box m.model wheel)
 
--- what the slot holds, if the machine has the slot
+-- what the slot holds, a wheel or none; `None` if the machine lacks the slot
 abbrev pub machine_slot : Parts → ℕ → Option (Option Wheel)
 machine_slot (Rotor m) slot = numbered_item m.slots slot
 machine_slot (Pin m) slot = None
@@ -130,11 +132,12 @@ abbrev pub machine_reflector : Parts → Option Reflector
 machine_reflector (Rotor m) = Some m.reflector
 machine_reflector (Pin m) = None
 
--- the ring and the window letter of a wheel, if it is in the machine's box
+-- the ring of a wheel, if the wheel is in the machine's box
 abbrev pub machine_ring : Parts → Wheel → Option ℕ
 machine_ring (Rotor m) wheel = ring_at m wheel
 machine_ring (Pin m) wheel = None
 
+-- the window letter of a wheel, if the wheel is in the machine's box
 abbrev pub machine_letter : Parts → Wheel → Option ℕ
 machine_letter (Rotor m) wheel = letter_at m wheel
 machine_letter (Pin m) wheel = None
@@ -144,16 +147,17 @@ abbrev pub machine_cable : Parts → ℕ → Option (Option ℕ × Option ℕ)
 machine_cable (Rotor m) cable = numbered_item m.cables cable
 machine_cable (Pin m) cable = None
 
--- whether a pin is effective; which letter a pin wheel shows; where a bar's lugs are; `None` if the machine
--- lacks the pin, the wheel or the bar
+-- whether the pin at a letter of a pin wheel is effective, if the machine has this pin
 abbrev pub machine_pin : Parts → ℕ → ℕ → Option Bool
 machine_pin (Rotor m) wheel letter = None
 machine_pin (Pin m) wheel letter = pin_at m.pins wheel letter
 
+-- the letter that a pin wheel shows, if the machine has this wheel
 abbrev pub machine_pin_letter : Parts → ℕ → Option ℕ
 machine_pin_letter (Rotor m) wheel = None
 machine_pin_letter (Pin m) wheel = numbered_item m.letters wheel
 
+-- the places of a bar's two lugs, if the machine has this bar
 abbrev pub machine_standing : Parts → ℕ → Option (Place × Place)
 machine_standing (Rotor m) bar = None
 machine_standing (Pin m) bar = numbered_item m.bars bar

@@ -1,5 +1,5 @@
 -- When a machine is on a day's key, and when it reads as the day.
--- Code: searches each way for cables; sorts and compares both sides for bars.
+-- Code: looks for a pair for each cable, and for a cable for each pair; sorts readings and rows, and compares them.
 -- Test: kd_trials/src/state/days.rt
 use Rattle.std.specs.Prelude.{◌≡◌, ◌≢◌, ◌⊎◌, ◌↔◌, ℕ, List, [], ◌∷◌, map, All, Any, Contains, IsPermutation, Option}
 use Rattle.std.specs.Prelude.{Some}

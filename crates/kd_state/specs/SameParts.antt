@@ -8,17 +8,19 @@ use Rattle.kd_tables.specs.declared.wheel.Wheel.{Wheel}
 use Rattle.kd_tables.specs.declared.reflector.Reflector.{Reflector}
 use Rattle.kd_tables.specs.Tables.{box_of, wheel_text, reflector_text}
 
--- whether two wheels, or two reflectors, have the same name
+-- whether two wheels have the same name
 abbrev pub same_wheel : Wheel → Wheel → Bool
 same_wheel wheel other = bytes_eq (wheel_text wheel) (wheel_text other)
 
+-- whether two reflectors have the same name
 abbrev pub same_reflector : Reflector → Reflector → Bool
 same_reflector reflector other = bytes_eq (reflector_text reflector) (reflector_text other)
 
--- whether the list has the wheel, or the reflector
+-- whether the list has the wheel
 abbrev pub has_wheel : List Wheel → Wheel → Bool
 has_wheel wheels wheel = list_any (same_wheel wheel) wheels
 
+-- whether the list has the reflector
 abbrev pub has_reflector : List Reflector → Reflector → Bool
 has_reflector reflectors reflector = list_any (same_reflector reflector) reflectors
 
@@ -26,7 +28,7 @@ has_reflector reflectors reflector = list_any (same_reflector reflector) reflect
 abbrev pub place_in_box : Model → Wheel → ℕ
 place_in_box model wheel = position_or_len (same_wheel wheel) (box_of model)
 
--- item `number` of the list, counted from 1
+-- item `number` of the list, counted from 1; `None` if there is no such item
 abbrev pub numbered_item : {X : Type 0} → List X → ℕ → Option X
 numbered_item xs zero = None
 numbered_item xs (suc place) = slice_get xs place

@@ -37,11 +37,11 @@ are_new_letters [] others = true
 are_new_letters (letter ∷ letters) others = not (has_letter (letters ++ others) letter)
     && are_new_letters letters others
 
--- cable `cable`, counted from 1; an empty one for a number that no cable has
+-- the letters in cable `cable`, counted from 1; none if there is no such cable
 abbrev pub cable_at : RotorParts → ℕ → Option ℕ × Option ℕ
 cable_at m cable = unwrap_or (numbered_item m.cables cable) (None, None)
 
--- the wheel in the slot; `None` if the slot is empty, or the machine lacks it
+-- the wheel in the slot; `None` if the slot is empty, or the machine lacks the slot
 abbrev pub wheel_in_slot : RotorParts → ℕ → Option Wheel
 wheel_in_slot m slot = unwrap_or (numbered_item m.slots slot) None
 
@@ -54,6 +54,7 @@ abbrev pub lug_place : Lug → Place × Place → Place
 lug_place Left bar = bar.0
 lug_place Right bar = bar.1
 
+-- the right lug for the left one, and the left lug for the right one
 abbrev pub other_lug : Lug → Lug
 other_lug Left = Right
 other_lug Right = Left
@@ -62,16 +63,18 @@ other_lug Right = Left
 abbrev pub is_same_place : Place → Place → Bool
 is_same_place place other = nat_eq (place_rank place) (place_rank other)
 
--- whether `place` is on the wrong side, for this lug, of the other lug at `other`
+-- whether this lug, if it were at `place`, would be on the wrong side of the bar's other lug, which is at
+-- `other`
 abbrev pub lies_beyond : Lug → Place → Place → Bool
 lies_beyond Left place other = nat_lt (place_rank other) (place_rank place)
 lies_beyond Right place other = nat_lt (place_rank place) (place_rank other)
 
--- the place of the bar's other lug
+-- the place of the other lug of bar `bar`; `None` if there is no such bar
 abbrev pub other_place : PinParts → ℕ → Lug → Option Place
 other_place m bar lug = option_map (lug_place (other_lug lug)) (numbered_item m.bars bar)
 
--- The reasons to refuse a setting, in the order of testing, each with whether it holds.
+-- The reasons for which a machine may refuse a setting, in the order of testing. With each reason goes
+-- whether it holds.
 abbrev pub refusal_reasons : Parts → Setting → List (Bool × Why)
 refusal_reasons (Rotor m) (Pull cable letter) =
     (is_none (numbered_item m.cables cable), NoSuchCable)
@@ -105,25 +108,26 @@ refusal_reasons (Pin m) (LugTo bar lug place) =
     ∷ (option_map_or (lies_beyond lug place) (other_place m bar lug) false, WouldPass)
     ∷ []
 
--- the first reason that holds, for which the machine refuses the setting
+-- the first reason that holds, for which the machine refuses the setting; `None` if it doesn't refuse it
 abbrev pub why_refused : Parts → Setting → Option Why
 why_refused m x = option_map (λ reason. reason.1) (find (λ reason. reason.0) (refusal_reasons m x))
 
--- ---- What a setting makes of a machine.
+-- ---- The machine after a setting.
 -- Code: the machine is changed in place.
 
--- the cable without the letter; and the cable with the letter added, in alphabetical order
+-- the cable without the letter, for a letter that is in it
 abbrev pub cable_without : ℕ → Option ℕ × Option ℕ → Option ℕ × Option ℕ
 cable_without letter cable = if option_map_or (nat_eq letter) cable.0 false then (cable.1, None) else (cable.0, None)
 
+-- the cable with the letter added, for a cable with a loose end; its letters are in alphabetical order
 abbrev pub cable_with : ℕ → Option ℕ × Option ℕ → Option ℕ × Option ℕ
 cable_with letter cable = cable_in_order (option_or cable.0 cable.1) (Some letter)
 
--- what a slot holds after `wheel` was taken out, if it was there
+-- what a slot that holds `seated` holds after `wheel` was taken out of the machine
 abbrev pub seat_without : Wheel → Option Wheel → Option Wheel
 seat_without wheel seated = if option_map_or (same_wheel wheel) seated false then None else seated
 
--- the window letters, with `letter` for the wheel if there is one
+-- the window letters with `letter` for the given wheel; the machine's own letters if no wheel is given
 abbrev pub letters_with : RotorParts → Option Wheel → ℕ → List ℕ
 letters_with m None letter = m.letters
 letters_with m (Some wheel) letter = slice_set m.letters (place_in_box m.model wheel) letter
@@ -143,8 +147,9 @@ bars_with_lug m bar lug place =
     option_map_or (λ standing. slice_set m.bars (bar - 1) (with_lug lug place standing)) (numbered_item m.bars bar)
     m.bars
 
--- The machine that a setting makes of a machine that doesn't refuse it. A wheel that is put into a slot leaves
--- its old slot, and the wheel that was there goes to the box. Wheels keep their rings and window letters.
+-- The machine after a setting, if the machine before it doesn't refuse the setting. A wheel that is put into
+-- a slot leaves its old slot, and the wheel that the new slot held goes to the box. Wheels keep their rings
+-- and window letters.
 abbrev pub machine_after : Parts → Setting → Parts
 machine_after (Rotor m) (Pull cable letter) =
     Rotor (record m { cables = slice_set m.cables (cable - 1) (cable_without letter (cable_at m cable)) })
@@ -168,16 +173,16 @@ machine_after (Pin m) (SeatReflector reflector) = Pin m
 machine_after (Pin m) (RingTo wheel letter) = Pin m
 
 -- ---- Settings carried out one after another, and the first that is refused.
--- Code: a loop that stops there.
+-- Code: a loop that stops at the first setting that is refused.
 -- Test: writes_the_machine_that_stands_then
 
--- Machine `m` doesn't refuse setting `x`, which makes machine `n` of it.
+-- Machine `m` doesn't refuse setting `x`, and is machine `n` after it.
 pub record Carries (m : Parts) (x : Setting) (n : Parts) : Type 0 where
   pub allowed : why_refused m x ≡ None
   pub made : n ≡ machine_after m x
 
--- The answer to a setting: the machine carries it out, or refuses it for the first reason that holds and stays
--- as it was.
+-- The result of a setting: the machine carries the setting out, or refuses it for the first reason that holds
+-- and stays as it was.
 abbrev pub IsCarryAnswer : Parts → Setting → Parts → Result ⊤ Why → Type 0
 IsCarryAnswer m x n answer = MatchResult answer (λ _. Carries m x n) (λ why. (why_refused m x ≡ Some why) × (n ≡ m))
 
@@ -186,8 +191,8 @@ abbrev pub Leads : Parts → List Setting → Parts → Type 0
 Leads m [] n = n ≡ m
 Leads m (x ∷ xs) n = (between : Parts) × Carries m x between × Leads between xs n
 
--- Line `line`, counted from 1, has the first setting that is refused, for reason `why`. The settings before it
--- are carried out.
+-- Machine `m` carries out the settings before line `line`, counted from 1, and then refuses the setting of
+-- this line for the reason `why`.
 pub record IsFirstIllegal (m : Parts) (settings : List Setting) (line : ℕ) (why : Why) : Type 0 where
   pub front : List Setting
   pub setting : Setting

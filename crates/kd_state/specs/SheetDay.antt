@@ -14,8 +14,9 @@ use Rattle.kd_state.specs.declared.sheet_day.rotor_entry.SheetWheel.{SheetWheel}
 use Rattle.kd_state.specs.SameParts.{numbered_item}
 use Rattle.kd_state.specs.Machine.{AreWheelsAllowed, AreSeatedOnce, AreLetters, AreOnWheels, HasAllPins}
 
--- The values of a day of a rotor machine. From the left, each slot has a wheel with its ring and its window
--- letter. `pairs` are the plugged pairs, and `groups` the groups for the day's messages.
+-- The values of a day of a rotor machine. `wheels` has the wheel for each slot, from the left, with its ring
+-- and its window letter. `pairs` are the plugged pairs. `groups` are the groups of three letters that mark
+-- the day's messages.
 pub record RotorDay : Type 0 where
   pub day : ℕ
   pub model : Model
@@ -47,6 +48,7 @@ rotor_day_of day model reflector wheels pairs groups = record {
 abbrev pub pin_day_of : ℕ → List (ℕ × ℕ) → PinSet → List ℕ → List ℕ → PinDay
 pin_day_of day rows pins window list = record { day = day; rows = rows; pins = pins; window = window; list = list }
 
+-- The values of a day of a rotor machine, or of a Converter M-209.
 pub data Day : Type 0 where
   OfRotors : RotorDay → Day
   OfPins : PinDay → Day
@@ -60,7 +62,7 @@ pub record IsDayNumber (number : ℕ) : Type 0 where
   pub first : 1 ≤ number
   pub last : number ≤ 31
 
--- There are at most 13 pairs of letters below 26, and no letter is in two places.
+-- There are at most 13 pairs. All letters in them are below 26, and all are different.
 pub record ArePairs (pairs : List (ℕ × ℕ)) : Type 0 where
   pub few : length pairs ≤ 13
   pub within : All (λ letter. letter < 26) (letters_in_pairs pairs)
@@ -71,17 +73,17 @@ pub record HasWheelLetters (wheel : SheetWheel) : Type 0 where
   pub ring : wheel.ring < 26
   pub letter : wheel.letter < 26
 
--- the wheels without rings and letters, each in its slot
+-- what each slot holds if these wheels are in the slots: the wheel, without its ring and letter
 abbrev pub seats_of_wheels : List SheetWheel → List (Option Wheel)
 seats_of_wheels wheels = map (λ w. Some w.wheel) wheels
 
--- The wheels fill the model's slots. Each is allowed in its slot, and none is in two.
+-- There is one item for each slot of the model. Each wheel is allowed in its slot, and none is in two slots.
 pub record AreLegalSeats (model : Model) (slots : List (Option Wheel)) : Type 0 where
   pub count : length slots ≡ slots_of model
   pub allowed : AreWheelsAllowed model slots
   pub apart : AreSeatedOnce slots
 
--- A key sheet can have a day with these values.
+-- A key sheet can have a day of a rotor machine with these values.
 pub record IsLegalRotorDay (s : RotorDay) : Type 0 where
   pub day : IsDayNumber s.day
   pub reflector : Contains (reflectors_of s.model) s.reflector
@@ -91,6 +93,7 @@ pub record IsLegalRotorDay (s : RotorDay) : Type 0 where
   pub few_groups : length s.groups ≤ 4
   pub groups : All (AreLetters 3) s.groups
 
+-- A key sheet can have a day of a Converter M-209 with these values.
 pub record IsLegalPinDay (s : PinDay) : Type 0 where
   pub day : IsDayNumber s.day
   pub count : length s.rows ≡ 27
@@ -99,6 +102,7 @@ pub record IsLegalPinDay (s : PinDay) : Type 0 where
   pub window : AreOnWheels s.window
   pub list : AreLetters 2 s.list
 
+-- A key sheet can have this day.
 abbrev pub IsLegalDay : Day → Type 0
 IsLegalDay (OfRotors s) = IsLegalRotorDay s
 IsLegalDay (OfPins s) = IsLegalPinDay s
@@ -106,30 +110,32 @@ IsLegalDay (OfPins s) = IsLegalPinDay s
 -- ---- What the readers of a day show.
 -- Test: kd_trials/src/state/days.rt
 
--- the number and the model of a day
+-- the number of a day in its month
 abbrev pub day_number : Day → ℕ
 day_number (OfRotors s) = s.day
 day_number (OfPins s) = s.day
 
+-- the model of a day
 abbrev pub day_model : Day → Model
 day_model (OfRotors s) = s.model
 day_model (OfPins s) = M209
 
--- the values of a rotor machine's day, and of a Converter's
+-- the values of a rotor machine's day; `None` for a Converter's day
 abbrev pub rotor_day : Day → Option RotorDay
 rotor_day (OfRotors s) = Some s
 rotor_day (OfPins s) = None
 
+-- the values of a Converter's day; `None` for a rotor machine's day
 abbrev pub pin_day : Day → Option PinDay
 pin_day (OfRotors s) = None
 pin_day (OfPins s) = Some s
 
--- the wheel for a slot, with its ring and its window letter
+-- the wheel for a slot, with its ring and its window letter; `None` if the day's model lacks the slot
 abbrev pub day_wheel : Day → ℕ → Option SheetWheel
 day_wheel (OfRotors s) slot = numbered_item s.wheels slot
 day_wheel (OfPins s) slot = None
 
--- the day's letter for the window of a slot, or for a pin wheel
+-- the day's letter for the window of a slot, or for a pin wheel; `None` if the day's model lacks it
 abbrev pub day_window_letter : Day → ℕ → Option ℕ
 day_window_letter (OfRotors s) slot = option_map (λ w. w.letter) (numbered_item s.wheels slot)
 day_window_letter (OfPins s) wheel = numbered_item s.window wheel

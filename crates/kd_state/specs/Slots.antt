@@ -9,11 +9,11 @@ abbrev pub slot_values : {T : Type 0} → Slots T → List T
 slot_values (Three values) = values
 slot_values (Four values) = values
 
--- There are as many values as the variant says.
+-- There are three values in `Three`, and four in `Four`.
 abbrev pub HasSlotCount : {T : Type 0} → Slots T → Type 0
 HasSlotCount (Three values) = length values ≡ 3
 HasSlotCount (Four values) = length values ≡ 4
 
--- the values, as three if there are three, and otherwise as four
+-- the values, as `Three` if there are three, and otherwise as `Four`
 abbrev pub slots_of_values : {T : Type 0} → List T → Slots T
 slots_of_values values = if length values == 3 then Three values else Four values

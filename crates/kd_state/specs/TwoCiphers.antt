@@ -21,20 +21,23 @@ pub data EngineKey : Type 0 where
   OfWheels : RotorKey → EngineKey
   OfDrum : PinKey → EngineKey
 
--- the ciphertext of a text, the key after `n` letters, and the key with other letters in the windows
+-- the ciphertext of a text by this key
 abbrev pub cipher : EngineKey → List ℕ → List ℕ
 cipher (OfWheels key) text = enigma_cipher key text
 cipher (OfDrum key) text = converter_cipher key text
 
+-- the key after `n` letters were enciphered
 abbrev pub engine_key_after : EngineKey → ℕ → EngineKey
 engine_key_after (OfWheels key) n = OfWheels (key_after key n)
 engine_key_after (OfDrum key) n = OfDrum (pin_key_after key n)
 
+-- the key with the letters of `window` in the windows, or shown by the pin wheels
 abbrev pub key_with_window : EngineKey → List ℕ → EngineKey
 key_with_window (OfWheels key) window = OfWheels (key_turned key window)
 key_with_window (OfDrum key) window = OfDrum (pin_key_turned key window)
 
--- The letters are a window: one for each slot; or one for each pin wheel, and on it.
+-- The letters are a window: one letter for each slot; or, for a Converter, one letter for each pin wheel,
+-- which has this letter.
 abbrev pub IsWindow : EngineKey → List ℕ → Type 0
 IsWindow (OfWheels key) window = AreLetters (length key.wheels) window
 IsWindow (OfDrum key) window = AreOnWheels window
@@ -46,6 +49,7 @@ pub record IsRotorReady (m : RotorParts) : Type 0 where
   pub slots : All (λ seated. IsSome seated) m.slots
   pub cables : All (λ cable. length (cable_letters cable) ≢ 1) m.cables
 
+-- The machine is ready to encipher. A Converter always is.
 abbrev pub IsReady : Parts → Type 0
 IsReady (Rotor m) = IsRotorReady m
 IsReady (Pin m) = Unit {0}
@@ -54,16 +58,17 @@ IsReady (Pin m) = Unit {0}
 abbrev pub seated_wheels : RotorParts → List Wheel
 seated_wheels m = filter_map (λ seated. seated) m.slots
 
--- the letters in the windows of the slots, or those that the pin wheels show
+-- the letters in the windows of the slots, from the left, or the letters that the pin wheels show
 abbrev pub window_of : Parts → List ℕ
 window_of (Rotor m) = filter_map (letter_at m) (seated_wheels m)
 window_of (Pin m) = m.letters
 
--- the pair of letters that a cable exchanges, if it has two
+-- the pair of letters that a cable exchanges, if it has two letters
 abbrev pub pair_of_ends : Option ℕ → Option ℕ → Option (ℕ × ℕ)
 pair_of_ends (Some letter) (Some other) = Some (letter, other)
 pair_of_ends _ _ = None
 
+-- the pairs of letters that the cables exchange
 abbrev pub plugged_pairs : RotorParts → List (ℕ × ℕ)
 plugged_pairs m = filter_map (λ cable. pair_of_ends cable.0 cable.1) m.cables
 
@@ -71,8 +76,9 @@ plugged_pairs m = filter_map (λ cable. pair_of_ends cable.0 cable.1) m.cables
 -- by its slots, cables and lugs, the day's by the wheels, pairs and rows of its entry.
 -- Source: the published accounts of the current's path; War Department TM 11-380
 
--- The key of a machine as it stands: its wheels with their rings and letters, its reflector, and its cables of
--- two letters; or its pins, its letters, and the readings of its bars.
+-- The key of a machine as it stands. For a rotor machine: the wheels in its slots with their rings and
+-- letters, its reflector, and its cables that have two letters. For a Converter: its pins, the letters that
+-- it shows, and the readings of its bars.
 abbrev pub physical_key : Parts → EngineKey
 physical_key (Rotor m) = OfWheels (record {
   wheels = seated_wheels m;
@@ -98,8 +104,8 @@ sheet_key (OfRotors s) = OfWheels (record {
 })
 sheet_key (OfPins s) = OfDrum (record { pins = pins_of s.pins; letters = s.window; rows = s.rows })
 
--- the ciphertext that a ready machine makes, by its wheels, reflector and cables, or by its pins, letters and
--- lugs
+-- the ciphertext that a ready machine makes: a rotor machine by its wheels, reflector and cables, a Converter
+-- by its pins, letters and lugs
 abbrev pub physical_cipher : Parts → List ℕ → List ℕ
 physical_cipher (Rotor m) text = cipher (physical_key (Rotor m)) text
 physical_cipher (Pin m) text = lugs_cipher m text
@@ -108,7 +114,8 @@ physical_cipher (Pin m) text = lugs_cipher m text
 abbrev pub sheet_cipher : Day → List ℕ → List ℕ
 sheet_cipher s = cipher (sheet_key s)
 
--- `n` is machine `m` turned to these letters; wheels in the box may have any letters.
+-- `n` is machine `m` turned so that it shows the letters of `window`. The window letters of wheels in the box
+-- may be other letters than in `m`.
 abbrev pub IsTurnedTo : Parts → List ℕ → Parts → Type 0
 IsTurnedTo (Rotor m) window (Rotor n) = (n ≡ record m { letters = n.letters }) × (window_of (Rotor n) ≡ window)
 IsTurnedTo (Pin m) window (Pin n) = n ≡ record m { letters = window }

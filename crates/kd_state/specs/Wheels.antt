@@ -10,13 +10,13 @@ wheel_values (Five values) = values
 wheel_values (Eight values) = values
 wheel_values (Ten values) = values
 
--- There are as many values as the variant says.
+-- There are five values in `Five`, eight in `Eight`, and ten in `Ten`.
 abbrev pub HasWheelCount : {T : Type 0} → Wheels T → Type 0
 HasWheelCount (Five values) = length values ≡ 5
 HasWheelCount (Eight values) = length values ≡ 8
 HasWheelCount (Ten values) = length values ≡ 10
 
--- the values, as five or eight if there are five or eight, and otherwise as ten
+-- the values, as `Five` if there are five, as `Eight` if there are eight, and otherwise as `Ten`
 abbrev pub wheels_of_values : {T : Type 0} → List T → Wheels T
 wheels_of_values values =
     if length values == 5 then Five values else (if length values == 8 then Eight values else Ten values)

@@ -1,4 +1,4 @@
--- Lines as words with single spaces between them, and texts split at a byte.
+-- Lines of words with single spaces between them, and texts split at a byte.
 -- Test: kd_trials/src/state/line.rt
 use Rattle.std.specs.Prelude.{decimal, ◌≡◌, ◌≢◌, ◌==◌, ℕ, ◌+◌, ◌^◌, ◌<◌, List, [], ◌∷◌, ◌++◌, All}
 use Rattle.std.specs.List.{slice_split, join_with_byte}
@@ -32,16 +32,17 @@ pub record IsFirstPart (byte : ℕ) (text part rest : List ℕ) : Type 0 where
 
 -- ---- The laws of words and lines.
 
--- A line determines its words.
+-- A line of words determines its words.
 abbrev pub LinesTellWords : Type 0
 LinesTellWords =
     (words others : List (List ℕ)) → All IsWord words → All IsWord others → line_of words ≡ line_of others
     → words ≡ others
 
--- Splitting the line of some words gives these words, and joining the parts of a line gives this line.
+-- Joining words to a line and splitting the line gives the words again.
 abbrev pub LinesSplitIntoWords : Type 0
 LinesSplitIntoWords = (words : List (List ℕ)) → words ≢ [] → All IsWord words → words_of (line_of words) ≡ words
 
+-- Splitting a line at its spaces and joining its parts with spaces gives the line again.
 abbrev pub PartsMakeLines : Type 0
 PartsMakeLines = (line : List ℕ) → line_of (words_of line) ≡ line
 
@@ -49,15 +50,16 @@ PartsMakeLines = (line : List ℕ) → line_of (words_of line) ≡ line
 abbrev pub WordsMakeOneLine : Type 0
 WordsMakeOneLine = (words : List (List ℕ)) → All IsWord words → IsWithout 10 (line_of words)
 
--- A text determines its part before the first `byte`, and its part after it.
+-- A text determines what is before its first `byte`, and what is after it.
 abbrev pub TextsTellFirstParts : Type 0
 TextsTellFirstParts =
     (byte : ℕ) (first other rest more : List ℕ) → IsWithout byte first → IsWithout byte other
     → first ++ byte ∷ rest ≡ other ++ byte ∷ more → (first ≡ other) × (rest ≡ more)
 
--- Decimal numbers and single letters are words.
+-- A number below 2^64 in decimal is a word.
 abbrev pub NumbersAreWords : Type 0
 NumbersAreWords = (number : ℕ) → number < 2 ^ 64 → IsWord (decimal number)
 
+-- A single letter is a word.
 abbrev pub LettersAreWords : Type 0
 LettersAreWords = (letter : ℕ) → IsWord (letter_text letter)

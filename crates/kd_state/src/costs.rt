@@ -1,4 +1,4 @@
-//! What it costs to change a cable or a bar of the machine into what a day asks for.
+//! Costs: how many settings it takes to give a cable a pair of the day, or a bar a row of the day.
 
 pub(crate) mod tables;
 
@@ -12,7 +12,9 @@ ghost use Rattle.kd_state.specs.Costs.{column_letters};
 use crate::machine::cable::{Cable, lies_in};
 use kd_tables::{Letter, Place, Reading, Standing};
 
-/// The cost of making `cable` the pair `column`, or empty: how many letters only one of them has.
+/// The cost of giving `cable` the pair `column`, or of emptying the cable if `column` is `None`.
+///
+/// It is the number of letters that are in only one of the two.
 #[tactic(auto, using(crate::proofs::CostTable::at_most_four, crate::proofs::CostTable::counted_more))]
 pub fn cable_cost(cable: Cable, column: Option<(Letter, Letter)>) -> u8
     ensures cost { result ≡ costs.cable_cost cable column }
@@ -27,7 +29,7 @@ pub fn cable_cost(cable: Cable, column: Option<(Letter, Letter)>) -> u8
     cost
 }
 
-/// Whether `letter` is in the pair `column`. `None` has no letter.
+/// Whether `letter` is in the pair `column`. If `column` is `None`, it has no letter.
 pub fn lies_in_column(column: Option<(Letter, Letter)>, letter: Letter) -> bool
     ensures { result ≡ has_letter (column_letters column) letter }
 {
@@ -45,7 +47,9 @@ pub fn bar_cost(standing: Standing, row: Reading) -> u8
     lugs_moved(standing, nearest_standing(standing, row))
 }
 
-/// The standing that reads as `row` with the fewest lugs moved; of two equals, the first.
+/// The standing that reads as `row` and is reached from `standing` by moving the fewest lugs.
+///
+/// If two standings need equally many moves, it is the first of them in the order of standings.
 #[tactic(auto, using(crate::proofs::Prelude::nat_tests))]
 pub fn nearest_standing(standing: Standing, row: Reading) -> Standing
     ensures nearest { costs.nearest_standing standing row ≡ Some result }
@@ -106,7 +110,7 @@ fn place_of_pin_wheel(number: u8) -> Place
     }
 }
 
-/// How many of the two lugs stand at different places in `standing` and `other`.
+/// How many of the two lugs are at different places in `standing` and in `other`.
 fn lugs_moved(standing: Standing, other: Standing) -> u8
     ensures value { result ≡ costs.lugs_moved standing other }
     ensures bound { result ≤ 2 }

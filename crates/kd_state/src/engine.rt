@@ -65,8 +65,8 @@ impl Engine {
 
     /// Turns the wheels until they show `letters`: from the left, or from pin wheel 1 on.
     ///
-    /// There must be one letter for each slot or pin wheel, and each letter for a pin wheel must be on it.
-    /// Otherwise, returns false and turns no wheel.
+    /// `letters` must have one letter for each slot or pin wheel, and a pin wheel must have its letter.
+    /// Otherwise returns false, and turns no wheel.
     pub fn turn_to(&mut self, letters: &[Letter]) -> bool
         ensures window { IsTrue result ↔ IsWindow self.old letters.now }
         ensures turned { OnTrue result (self.new ≡ key_with_window self.old letters.now) }
@@ -116,7 +116,7 @@ impl Engine {
     }
 }
 
-/// Creates the engine of a machine that is set as `day` says.
+/// Creates the engine of a machine that is set as `day` says and shows the day's letters.
 pub fn own_engine(day: &SheetDay) -> Engine
     ensures { result ≡ sheet_key day.now }
 {
@@ -129,7 +129,7 @@ pub fn own_engine(day: &SheetDay) -> Engine
     }
 }
 
-/// Turns a rotor machine's wheels until they show `letters`, if there is one letter for each wheel.
+/// Turns a rotor machine's wheels until they show `letters`. False if there isn't one letter for each wheel.
 fn turn_wheels<const S: usize>(enigma: &mut Enigma<S>, letters: &[Letter]) -> bool
     ensures window { IsTrue result ↔ AreLetters S letters.now }
     ensures turned { OnTrue result (enigma.new ≡ key_turned enigma.old letters.now) }
@@ -145,7 +145,9 @@ fn turn_wheels<const S: usize>(enigma: &mut Enigma<S>, letters: &[Letter]) -> bo
     }
 }
 
-/// Turns the Converter's wheels until they show `letters`, if there are six and each is on its wheel.
+/// Turns the Converter's wheels until they show `letters`.
+///
+/// Returns false, and turns no wheel, if there aren't six letters or one of them isn't on its wheel.
 fn turn_drum(converter: &mut Converter, letters: &[Letter]) -> bool
     ensures window { IsTrue result ↔ AreOnWheels letters.now }
     ensures turned { OnTrue result (converter.new ≡ pin_key_turned converter.old letters.now) }

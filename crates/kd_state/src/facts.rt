@@ -1,6 +1,6 @@
-//! Functions that show the prover what follows from the element types of arrays and lists.
+//! Functions that show the prover facts that follow from the types of their arguments.
 //!
-//! They do nothing when the program runs.
+//! They have no effect when the program runs.
 ghost use Rattle.std.specs.Prelude.{◌≡◌, ◌<◌, ◌^◌, All, length};
 ghost use Rattle.kd_tables.specs.Places.{IsBefore, IsReading};
 ghost use Rattle.kd_enigma.specs.Plugs.{letters_in_pairs};
@@ -14,7 +14,7 @@ use crate::sheet_day::rotor_entry::SheetWheel;
 use kd_pins::PinSet;
 use kd_tables::{Letter, Reading, Standing};
 
-/// Shows that each letter is below 26.
+/// Shows the prover that each letter is below 26.
 pub(crate) fn learn_letters(letters: &[Letter])
     ensures { All (λ letter. letter < 26) letters.now }
 {
@@ -23,7 +23,7 @@ pub(crate) fn learn_letters(letters: &[Letter])
     }
 }
 
-/// Shows that each letter of the pairs is below 26.
+/// Shows the prover that each letter of the pairs is below 26.
 pub(crate) fn learn_pair_letters(pairs: &[(Letter, Letter)])
     ensures { All (λ letter. letter < 26) (letters_in_pairs pairs.now) }
 {
@@ -32,7 +32,7 @@ pub(crate) fn learn_pair_letters(pairs: &[(Letter, Letter)])
     }
 }
 
-/// Shows that each wheel's ring and window letter are below 26.
+/// Shows the prover that each wheel's ring and window letter are below 26.
 pub(crate) fn learn_wheel_letters(wheels: &[SheetWheel])
     ensures { All HasWheelLetters wheels.now }
 {
@@ -41,7 +41,7 @@ pub(crate) fn learn_wheel_letters(wheels: &[SheetWheel])
     }
 }
 
-/// Shows that each group has three letters below 26.
+/// Shows the prover that each group has three letters below 26.
 pub(crate) fn learn_group_letters(groups: &[[Letter; 3]])
     ensures { All (AreLetters 3) groups.now }
 {
@@ -50,7 +50,7 @@ pub(crate) fn learn_group_letters(groups: &[[Letter; 3]])
     }
 }
 
-/// Shows that each row is a reading.
+/// Shows the prover that the numbers of each row are a reading's, as `IsReading` defines it.
 pub(crate) fn learn_readings(rows: &[Reading])
     ensures { All IsReading rows.now }
 {
@@ -59,7 +59,7 @@ pub(crate) fn learn_readings(rows: &[Reading])
     }
 }
 
-/// Shows that each bar's left lug stands before its right one.
+/// Shows the prover that each bar's left lug is left of its right lug.
 pub(crate) fn learn_standings(bars: &[Standing; 27])
     ensures count { length bars.now ≡ 27 }
     ensures each { All (λ bar. IsBefore bar.0 bar.1) bars.now }
@@ -69,7 +69,7 @@ pub(crate) fn learn_standings(bars: &[Standing; 27])
     }
 }
 
-/// Shows that each letter in the cables is below 26.
+/// Shows the prover that each letter in the cables is below 26.
 pub(crate) fn learn_cable_letters(cables: &[Cable; 13])
     ensures count { length cables.now ≡ 13 }
     ensures each { All (λ letter. letter < 26) (letters_in_cables cables.now) }
@@ -79,7 +79,7 @@ pub(crate) fn learn_cable_letters(cables: &[Cable; 13])
     }
 }
 
-/// Shows that each letter in the cable is below 26.
+/// Shows the prover that each letter in the cable is below 26.
 fn learn_letters_of_cable(cable: &Cable)
     ensures { All (λ letter. letter < 26) (cable_letters cable.now) }
 {
@@ -90,7 +90,7 @@ fn learn_letters_of_cable(cable: &Cable)
     }
 }
 
-/// Shows that the pins have an entry for each letter of their wheels.
+/// Shows the prover that each wheel of `pins` has a pin for each of its letters.
 #[tactic(auto, using(crate::proofs::Slots::all_pins))]
 pub(crate) fn learn_pins(pins: PinSet)
     ensures { HasAllPins pins }
@@ -98,7 +98,7 @@ pub(crate) fn learn_pins(pins: PinSet)
     prove!(pins.w1.len() == 26);
 }
 
-/// Shows that the setting's number is a byte and its letter is below 26.
+/// Shows the prover that the setting's number is below 256 and its letter below 26, if it has them.
 pub(crate) fn learn_setting_range(setting: &Setting)
     ensures { IsSettingInRange setting.now }
 {
@@ -115,7 +115,7 @@ pub(crate) fn learn_setting_range(setting: &Setting)
     }
 }
 
-/// Shows that `number` is a byte and `letter` is below 26.
+/// Shows the prover that `number` is below 256 and `letter` is below 26.
 fn learn_range(number: u8, letter: Letter)
     ensures { (number < 2 ^ 8) × (letter < 26) }
 {

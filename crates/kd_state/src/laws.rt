@@ -14,7 +14,9 @@ ghost use Rattle.kd_state.specs.Laws.{EquallySetDecipher, TheDayDeciphersItself,
 ghost use Rattle.kd_state.specs.Laws.{TestsTellLetters, ThirteenColumns, ColumnsAreThePairs, CablesCostFour};
 ghost use Rattle.kd_state.specs.Laws.{CostTablesAreSquare};
 
-/// Joining words with single spaces and splitting a line at its spaces undo each other. The line has no LF.
+/// Joining words with single spaces and splitting a line at its spaces undo each other.
+///
+/// A line of words has no LF.
 #[tactic(auto, using(crate::proofs::Lines::lines_tell_words, crate::proofs::Lines::lines_split_into_words, crate::proofs::Lines::parts_make_lines, crate::proofs::Lines::words_make_one_line))]
 pub fn lines_tell_words()
     ensures told { LinesTellWords }
@@ -23,20 +25,20 @@ pub fn lines_tell_words()
     ensures one_line { WordsMakeOneLine }
 {}
 
-/// A text determines the bytes before its first space, LF or other given byte, and the bytes after it.
+/// A text determines what is before its first space, LF or other given byte, and what is after it.
 #[tactic(auto, using(crate::proofs::Lines::texts_tell_first_parts))]
 pub fn texts_tell_first_parts()
     ensures { TextsTellFirstParts }
 {}
 
-/// Decimal numbers and single letters are words.
+/// Decimal numbers and single letters are words: not empty, and without a space or LF.
 #[tactic(auto, using(crate::proofs::Lines::numbers_are_words, crate::proofs::Lines::letters_are_words))]
 pub fn numbers_and_letters_are_words()
     ensures numbers { NumbersAreWords }
     ensures letters { LettersAreWords }
 {}
 
-/// The parts of a setting's line are words.
+/// The parts of a setting's line are words: not empty, and without a space or LF.
 #[tactic(auto, using(crate::proofs::Lines::setting_words_are_words))]
 pub fn settings_have_words()
     ensures { SettingsHaveWords }
@@ -44,7 +46,8 @@ pub fn settings_have_words()
 
 /// Different settings have different lines, and different lists have different texts.
 ///
-/// The text of a list has no fault, and no text has two faults. `read_list` finds the fault of any other text.
+/// The text of a list has no fault, and no text has two faults. `read_list` finds the fault of each text that
+/// isn't a list's.
 pub fn texts_tell_settings()
     ensures setting { LinesTellSettings }
     ensures list { TextsTellLists }
@@ -67,13 +70,15 @@ pub fn parts_are_told_apart()
     ensures letters { TestsTellLetters }
 {}
 
-/// Carrying out a setting, or a list of settings, on a machine gives a machine with legal parts.
+/// A setting, or a list of settings, that is carried out on a machine gives a machine with legal parts.
 pub fn settings_keep_machines()
     ensures one { SettingsKeepMachines }
     ensures lists { ListsKeepMachines }
 {}
 
-/// A machine either refuses a setting or carries it out, with one result only. A list has one result too.
+/// A machine either refuses a setting or carries it out.
+///
+/// Carrying out a setting, or a list of settings, has only one result.
 #[tactic(auto, using(crate::proofs::Telling::Refusing::refuses_or_carries, crate::proofs::Telling::Refusing::carries_to_one, crate::proofs::Telling::Refusing::leads_to_one))]
 pub fn a_setting_is_refused_or_carried()
     ensures either { RefusesOrCarries }
@@ -81,11 +86,11 @@ pub fn a_setting_is_refused_or_carried()
     ensures lists_to_one { LeadsToOne }
 {}
 
-/// A setting that is carried out changes what it names and nothing else, as the machine's readers show.
+/// A setting that is carried out makes its change and no other, as the machine's readers show.
 ///
-/// The readers are the calls that return one part, as `slot` and `ring` do. Conversely, if the readers show
-/// just this change and the setting isn't refused, then it was carried out. The readers also show which
-/// settings are refused.
+/// The readers are the calls that return one part, as `slot` and `ring` do. Conversely, if a machine doesn't
+/// refuse a setting, and the readers show the setting's change and no other, then the setting was carried
+/// out. What the readers show also determines which settings are refused.
 #[tactic(auto, using(crate::proofs::Telling::Refusing::Changing::settings_are_told, crate::proofs::Telling::telling_is_making, crate::proofs::Telling::Refusing::refusals_are_told))]
 pub fn readers_tell_what_settings_change()
     ensures told { SettingsAreTold }
@@ -93,14 +98,17 @@ pub fn readers_tell_what_settings_change()
     ensures refused { RefusalsAreTold }
 {}
 
-/// A machine refuses a seat, a reflector or a ring exactly if the tables don't allow it.
+/// Which wheels, reflectors and rings a rotor machine refuses to set, by the tables of its model.
+///
+/// It refuses a wheel that isn't allowed in the slot, a reflector that isn't one of the model's, and the ring
+/// of a wheel that isn't in the box, and no others.
 pub fn tables_say_what_is_refused()
     ensures seats { SeatsAreByTheTables }
     ensures reflectors { ReflectorsAreByTheTables }
     ensures rings { RingsAreByTheTables }
 {}
 
-/// An engine enciphers as the machine that it is made of, also if both are turned to other letters.
+/// An engine made from a machine enciphers as the machine does, also if both are turned to other letters.
 #[tactic(auto, using(crate::proofs::Keys::engine_cipher, crate::proofs::Keys::turned_engine))]
 pub fn engines_encipher_as_their_machines()
     ensures standing { EngineIsTheMachine }
@@ -114,7 +122,7 @@ pub fn reading_as_the_day_is_its_cipher()
     ensures cipher { ReadingIsItsCipher }
 {}
 
-/// A machine on the day's key is ready, and enciphers as the day asks, from the letters that it shows.
+/// A machine on the day's key is ready, and enciphers as the day asks from the letters that it shows.
 #[tactic(auto, using(crate::proofs::Keys::on_key_ready, crate::proofs::Keys::on_key_cipher))]
 pub fn being_on_the_key_is_its_cipher()
     ensures ready { OnKeyIsReady }
@@ -123,7 +131,7 @@ pub fn being_on_the_key_is_its_cipher()
 
 /// A machine that is turned to other letters keeps the rest of its key.
 ///
-/// A machine on the day's key stays on the key, and enciphers as the day asks from these letters.
+/// If it was on the day's key, it stays on it, and enciphers as the day asks from the other letters.
 #[tactic(auto, using(crate::proofs::Keys::turned_key, crate::proofs::Keys::turned_on_key, crate::proofs::Keys::turned_cipher))]
 pub fn turning_keeps_the_key()
     ensures key { TurnedHasItsKey }
@@ -133,7 +141,7 @@ pub fn turning_keeps_the_key()
 
 /// A ready machine can be turned to any window.
 ///
-/// A window is one letter for each slot, or for each pin wheel a letter that is on it.
+/// A window is one letter for each slot; or, on a Converter, for each pin wheel a letter that is on it.
 #[tactic(auto, using(crate::proofs::Seating::can_be_turned))]
 pub fn ready_machines_can_be_turned()
     ensures { MachinesCanBeTurned }
@@ -147,16 +155,16 @@ pub fn equally_set_machines_decipher()
     ensures itself { TheDayDeciphersItself }
 {}
 
-/// A text can be enciphered in two pieces, the second with the key that the first leaves.
+/// A text can be enciphered in two chunks, the second with the key that the engine has after the first.
 #[tactic(auto, using(crate::proofs::Keys::cipher_in_turn, crate::proofs::Keys::key_in_turn))]
 pub fn pieces_are_enciphered_in_turn()
     ensures cipher { CipherInTurn }
     ensures after { KeyInTurn }
 {}
 
-/// The cost tables are square, and a cable costs at most 4.
+/// The cost tables are square, and giving a cable a column costs at most 4.
 ///
-/// A day has 13 columns: its pairs in their order, and then no pair.
+/// A day has 13 columns: first its pairs in their order, then columns without a pair.
 #[tactic(auto, using(crate::proofs::CostTable::at_most_four, crate::proofs::CostTable::columns_are_the_pairs, crate::proofs::CostTable::cost_tables_are_square, crate::proofs::CostTable::thirteen_columns))]
 pub fn cost_tables_are_square()
     ensures count { ThirteenColumns }

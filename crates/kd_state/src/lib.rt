@@ -1,4 +1,4 @@
-//! The machine on the desk, single settings, the days of a key sheet, and how machine and day encipher.
+//! The machine on the desk, single settings, the days of a key sheet, and the ciphers of machines and days.
 #![tactic(auto)]
 
 mod costs;

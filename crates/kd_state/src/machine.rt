@@ -45,9 +45,9 @@ impl Machine {
 
     /// Creates a rotor machine, or `None` if `parts` aren't legal.
     ///
-    /// Legal parts have the model's slots, a reflector of the model, and rings and letters for its box. Each
-    /// wheel is allowed in its slot, no wheel is in two slots, and no letter is in two places of the cables. A
-    /// cable's letters may come in either order.
+    /// Legal parts have an item for each slot of the model, a reflector of the model, and a ring and a letter
+    /// for each wheel of its box. Each wheel is allowed in its slot, no wheel is in two slots, and all
+    /// letters in the cables are different. A cable's letters may come in either order.
     pub fn rotor(parts: RotorParts) -> Option<Machine>
         ensures exists { IsSome result ↔ IsLegalRotor parts }
         ensures value { IfSome result (λ machine. machine ≡ with_cables_in_order (Parts.Rotor parts)) }
@@ -60,7 +60,7 @@ impl Machine {
         })
     }
 
-    /// Creates a Converter M-209, or `None` if a letter isn't on its wheel.
+    /// Creates a Converter M-209, or `None` if one of the six letters isn't on its pin wheel.
     pub fn pin(parts: PinParts) -> Option<Machine>
         ensures exists { IsSome result ↔ IsLegalPin parts }
         ensures value { IfSome result (λ machine. machine ≡ Parts.Pin parts) }

@@ -1,8 +1,8 @@
-//! Elements of slices, by a number counted from 1 or a place counted from 0.
+//! Gets and sets elements of slices, by a number counted from 1 or by a place counted from 0.
 ghost use Rattle.std.specs.Prelude.{◌≡◌, ◌-◌, ◌<◌, ◌≤◌, length, slice_set};
 ghost use Rattle.kd_state.specs.SameParts.{numbered_item};
 
-/// Element `number` of `things`, counted from 1.
+/// Element `number` of `things`, counted from 1. `None` if there is no such element.
 pub(crate) fn numbered_item<T: Copy>(things: &[T], number: u8) -> Option<T>
     ensures { result ≡ numbered_item things.now number }
 {
@@ -12,7 +12,7 @@ pub(crate) fn numbered_item<T: Copy>(things: &[T], number: u8) -> Option<T>
     things.get(usize::from(number) - 1).copied()
 }
 
-/// Sets the element at `place`, counted from 0.
+/// Sets the element of `things` at `place`, counted from 0, to `thing`.
 pub(crate) fn set_item<T: Copy>(things: &mut [T], place: usize, thing: T)
     requires { place < length things.old }
     ensures value { things.new ≡ slice_set things.old place thing }
@@ -21,7 +21,7 @@ pub(crate) fn set_item<T: Copy>(things: &mut [T], place: usize, thing: T)
     things[place] = thing;
 }
 
-/// Sets element `number`, counted from 1.
+/// Sets element `number` of `things`, counted from 1, to `thing`.
 pub(crate) fn set_numbered_item<T: Copy>(things: &mut [T], number: u8, thing: T)
     requires first { 1 ≤ number }
     requires last { number ≤ length things.old }

@@ -33,7 +33,7 @@ pub enum Setting {
     SeatReflector {
         reflector: Reflector,
     },
-    /// Sets the wheel's ring to the letter, in a slot or in the box.
+    /// Sets the ring of the wheel to the letter. The wheel may be in a slot or in the box.
     RingTo {
         wheel: Wheel,
         letter: Letter,
@@ -43,7 +43,7 @@ pub enum Setting {
         slot: u8,
         letter: Letter,
     },
-    /// Makes the pin wheel's pin at the letter effective, or not.
+    /// Makes the pin at the letter of the pin wheel effective, or not effective.
     PinTo {
         wheel: u8,
         letter: Letter,
@@ -57,7 +57,7 @@ pub enum Setting {
     },
 }
 
-/// The setting that fills unused places of a list.
+/// The setting that fills the unused places of an array of settings.
 impl Default for Setting {
     ghost use Rattle.std.specs.Prelude.{◌≡◌};
     ghost use Rattle.kd_tables.specs.declared.reflector.Reflector.TheVariants as reflectors;

@@ -40,8 +40,9 @@ impl SheetDay {
 
     /// Creates a day of a rotor machine, or `None` if no key sheet can have these values.
     ///
-    /// `wheels` has a wheel for each slot, from the left. The day is from 1 to 31. There are at most 13 pairs,
-    /// which share no letter, and at most 4 groups.
+    /// `day` must be from 1 to 31, and `reflector` one of the model's. `wheels` must have a wheel for each
+    /// slot, from the left; each must be allowed in its slot, and none may be in two slots. There may be at
+    /// most 13 pairs, whose letters must all be different, and at most 4 groups.
     pub fn rotor(
         day: u8,
         model: Model,
@@ -74,9 +75,9 @@ impl SheetDay {
 
     /// Creates a day of the Converter M-209.
     ///
-    /// `rows` are the readings that the bars must have, and `pins` the effective pins. `window` has the
-    /// letter of each wheel, and `list` the two letters of the key list. `None` if the day isn't from 1 to
-    /// 31, or a letter isn't on its wheel.
+    /// `rows` are the readings that the bars must have, and `pins` the effective pins. `window` has the letter
+    /// that each wheel shows, and `list` the two letters that name the key list. `None` if `day` isn't from 1
+    /// to 31, or a letter of `window` isn't on its wheel.
     pub fn pin(
         day: u8,
         rows: [Reading; 27],
@@ -125,21 +126,25 @@ impl SheetDay {
         }
     }
 
-    /// The wheel in slot `slot`, counted from the left from 1. `None` on the Converter M-209.
+    /// The wheel for slot `slot`, counted from 1 from the left. `None` if the day's model has no such slot.
     pub fn slot(&self, slot: u8) -> Option<Wheel>
         ensures { result ≡ option_map (λ seated. seated.wheel) (day_wheel self.now slot) }
     {
         Some(self.seated(slot)?.wheel)
     }
 
-    /// The ring of the wheel in slot `slot`, counted from 1 from the left: 01 is A. `None` on the M-209.
+    /// The ring of the wheel for slot `slot`, counted from 1 from the left; ring 01 is A.
+    ///
+    /// `None` if the day's model has no such slot.
     pub fn ring(&self, slot: u8) -> Option<Letter>
         ensures { result ≡ option_map (λ seated. seated.ring) (day_wheel self.now slot) }
     {
         Some(self.seated(slot)?.ring)
     }
 
-    /// The letter in the window of slot `slot`, counted from 1 from the left, or on pin wheel `slot`.
+    /// The day's letter for the window of slot `slot`, or for pin wheel `slot`.
+    ///
+    /// Slots are counted from 1 from the left, and pin wheels from 1. `None` if there is no such slot or wheel.
     pub fn window(&self, slot: u8) -> Option<Letter>
         ensures { result ≡ day_window_letter self.now slot }
     {
@@ -149,7 +154,7 @@ impl SheetDay {
         }
     }
 
-    /// The reflector. `None` on the Converter M-209.
+    /// The day's reflector. `None` on the Converter M-209.
     pub fn reflector(&self) -> Option<Reflector>
         ensures { result ≡ option_map (λ s. s.reflector) (rotor_day self.now) }
     {
@@ -170,7 +175,9 @@ impl SheetDay {
         }
     }
 
-    /// The groups of the day's messages, at most 4. `None` on the Converter M-209.
+    /// The day's groups of three letters, at most 4. `None` on the Converter M-209.
+    ///
+    /// Each part of a message has one of them. It shows the receiver that the part is of this day.
     pub fn groups(&self) -> Option<&[[Letter; 3]]>
         ensures value { option_copied result ≡ option_map (λ s. s.groups) (rotor_day self.now) }
         ensures few { IfSome result (λ groups. length groups.now ≤ 4) }
@@ -181,7 +188,7 @@ impl SheetDay {
         }
     }
 
-    /// Whether `letters` are one of the day's groups, in any order. Never on the Converter M-209.
+    /// Whether `letters` are one of the day's groups, in any order. False on the Converter M-209.
     pub fn has_group(&self, letters: [Letter; 3]) -> bool
         ensures { IsTrue result ↔ AreADaysGroup self.now letters }
     {
@@ -211,7 +218,7 @@ impl SheetDay {
         }
     }
 
-    /// The two letters of the Converter's key list. `None` on rotor machines.
+    /// The two letters that name the Converter's key list. `None` on rotor machines.
     pub fn list(&self) -> Option<[Letter; 2]>
         ensures { result ≡ option_map (λ s. s.list) (pin_day self.now) }
     {
@@ -221,7 +228,7 @@ impl SheetDay {
         }
     }
 
-    /// The wheel in slot `slot` with its ring and window letter. `None` on the Converter M-209.
+    /// The wheel for slot `slot`, with its ring and window letter. `None` if the day's model has no such slot.
     fn seated(&self, slot: u8) -> Option<SheetWheel>
         ensures { result ≡ day_wheel self.now slot }
     {
@@ -231,7 +238,7 @@ impl SheetDay {
         }
     }
 
-    /// The day's values, by kind of machine.
+    /// The day's values: a `RotorEntry` for a rotor machine, a `PinEntry` for a Converter M-209.
     pub fn entry(&self) -> &Entry
         ensures value { values_of result.now ≡ self.now }
         ensures legal { IsLegalDay self.now }

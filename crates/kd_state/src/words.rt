@@ -11,7 +11,7 @@ use itoa::Buffer;
 use kd_tables::Letter;
 use std::str;
 
-/// Splits `text` at the first `byte`, which is dropped. `None` if `text` doesn't have this byte.
+/// The bytes of `text` before the first `byte` and after it. `None` if `text` doesn't have this byte.
 pub fn split_once(text: &[u8], byte: u8) -> Option<(&[u8], &[u8])>
     ensures { MatchOption result
         (IsWithout byte text.now)
@@ -25,7 +25,7 @@ pub fn split_once(text: &[u8], byte: u8) -> Option<(&[u8], &[u8])>
     None
 }
 
-/// Splits `line` at its spaces. `None` if there are more than `N` parts.
+/// Splits `line` at its spaces into words. `None` if there are more than `N` of them.
 #[tactic(auto, using(crate::proofs::Lines::splitting))]
 pub fn split_words<const N: usize>(line: &[u8]) -> Option<ArrayVec<&[u8], N>>
     ensures { MatchOption result

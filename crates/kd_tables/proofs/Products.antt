@@ -8,21 +8,23 @@ use Rattle.std.specs.List.{position_or_len}
 use Rattle.std.proofs.lemmas.List.FromFn.{fill_by_all, get_or-map-range_with_len, length-map-range_with_len}
 use Rattle.kd_tables.specs.Permutation.{alphabet, followed_by, inverse, shift, IsPermutation26}
 
--- the letter that a product, an inverse or a shift gives for a letter
+-- the letter that a product gives for a letter
 pub followed_by-at : (p q : List ℕ) (x : ℕ) → x < length p
     → slice_index (followed_by p q) x ≡ slice_index q (slice_index p x)
 unfolding followed_by
 followed_by-at p q x lt = get_or-map (λ y. slice_index q y) p x 0 0 lt
 
+-- the letter that an inverse gives for a letter
 pub inverse-at : (p : List ℕ) (y : ℕ) → y < 26 → slice_index (inverse p) y ≡ position_or_len (λ x. x == y) p
 unfolding inverse
 inverse-at p y lt = get_or-map-range_with_len (λ y'. position_or_len (λ x. x == y') p) 0 26 y y 0 lt (omega arith)
 
+-- the letter that a shift gives for a letter
 pub shift-at : (k x : ℕ) → x < 26 → slice_index (shift k) x ≡ (x + k) % 26
 unfolding shift
 shift-at k x lt = get_or-map-range_with_len (λ x'. (x' + k) % 26) 0 26 x x 0 lt (omega arith)
 
--- In a permutation, the place of the letter at a place is this place.
+-- In a permutation, a search for the letter at place `x` finds place `x`.
 pub place_of_at : (p : List ℕ) (x : ℕ) → IsPermutation26 p → x < 26 → position_or_len (λ z. z == slice_index p x) p ≡ x
 place_of_at p x h lt = grind (arith, position_or_len_is, ne_eqb, h.each_once.apart, eq-eqb)
 
@@ -79,7 +81,7 @@ inverse_product p h =
     (λ x lt. followed_by-at (inverse p) p x (omega (arith, (inverse_permutes p h).size))
     ∙ ap (slice_index p) (inverse-at p x lt) ∙ slice_index-position_or_len p x h lt)
 
--- A table that takes the letter at each place back to this place is the inverse.
+-- A table that maps the letter at each place of `p` back to this place is the inverse of `p`.
 pub filled_is_inverse : (p filled : List ℕ) → IsPermutation26 p → length filled ≡ 26
     → ((k : ℕ) → k < 26 → slice_index filled (slice_index p k) ≡ k) → filled ≡ inverse p
 unfolding inverse
@@ -88,7 +90,7 @@ filled_is_inverse p filled h size leads =
     (λ y lt. ap (slice_index filled) (sym (slice_index-position_or_len p y h lt))
     ∙ leads (position_or_len (λ x. x == y) p) (place_within p y h lt))
 
--- A permutation takes `x` to `y` exactly if its inverse takes `y` to `x`.
+-- A permutation maps `x` to `y` exactly if its inverse maps `y` to `x`.
 pub inverse_by_letter : (p : List ℕ) (x y : ℕ) → IsPermutation26 p → x < 26 → y < 26
     → (slice_index p x ≡ y) ↔ (slice_index (inverse p) y ≡ x)
 inverse_by_letter p x y h x_lt y_lt = (

@@ -1,4 +1,4 @@
--- The tests of a published text say what they should, and each published table passes them.
+-- A text that passes a test of `WiringText` has the property tested, and each published table passes its test.
 use Rattle.std.proofs.Common.{◌≡◌, ◌≢◌, ℕ, ◌<◌, ◌≤◌, ◌==◌, nat_eq, true, false, not, ◌&&◌, ◌⊎◌, inl, inr, List, ◌∷◌}
 use Rattle.std.proofs.Common.{length, slice_index, get_or, eqb, All, refl, sym, subst, ◌∙◌, arith}
 use Rattle.std.specs.List.{position_or_len, IsDistinct, Any, list_any}
@@ -46,7 +46,7 @@ found_within n xs each q (k, x, lt, at, same) =
 any_within : (n : ℕ) (xs : List ℕ) → All (λ x. x < n) xs → (q : ℕ) → list_any (eqb q) xs ≡ true → q < n
 any_within n xs each q h = found_within n xs each q (Any-from_list_any (eqb q) xs h)
 
--- There is no number below 26 that a permutation lacks.
+-- No number below 26 is missing in a permutation.
 no_other : (p : List ℕ) (y : ℕ) → IsPermutation26 p → y < 26 → 26 ≤ position_or_len (λ x. x == y) p → ⊥
 no_other p y h lt missing =
     let within : All (λ z. z < 26) p =
@@ -71,7 +71,7 @@ place_by_cases p y e d g = grind (arith, no_other)
 pub place_within : (p : List ℕ) (y : ℕ) → IsPermutation26 p → y < 26 → position_or_len (λ x. x == y) p < 26
 place_within p y h lt = place_by_cases p y h lt (cases_lt (position_or_len (λ x. x == y) p) 26)
 
--- The letter at the place of a letter is this letter.
+-- In a permutation, the place that a search for letter `y` finds has the letter `y`.
 pub slice_index-position_or_len : (p : List ℕ) (y : ℕ) → IsPermutation26 p → y < 26
     → slice_index p (position_or_len (λ x. x == y) p) ≡ y
 slice_index-position_or_len p y h lt =
@@ -108,7 +108,7 @@ text_makes_ring n text size h =
       differ = letters_differ (letters_of text) letters;
     }
 
--- A table that passes the test of a reflector exchanges letters in pairs.
+-- A table that passes `is_reflection` maps each letter to another letter, and that letter back.
 is_reflection-reflects : (p : List ℕ) → is_reflection p ≡ true
     → All (λ x. (not (slice_index p x == x) && (slice_index p (slice_index p x) == x)) ≡ true) alphabet
 is_reflection-reflects p h =
@@ -130,12 +130,13 @@ reflection_moves p h =
 
 -- ---- the published tables
 
--- Each published table is a permutation.
+-- The published wiring of each wheel is a permutation.
 pub wiring_permutes : (wheel : Wheel) → IsPermutation26 (wiring_of wheel)
 unfolding wiring_of
 wiring_permutes I = test_permutes _ refl
 wiring_permutes wheel = test_permutes (wiring_of wheel) refl
 
+-- The published wiring of each reflector is a permutation.
 pub reflector_permutes : (reflector : Reflector) → IsPermutation26 (reflector_of reflector)
 unfolding reflector_of
 reflector_permutes reflectors.A = test_permutes _ refl

@@ -1,5 +1,5 @@
 -- Permutations of the alphabet, as lists: the number at place x is the letter that x becomes.
--- Code: a table of 32 bytes; one shuffle makes a product, one pass an inverse.
+-- Code: a table of 32 bytes; a product is one shuffle of bytes, an inverse one loop over the letters.
 -- Test: machines_encipher
 use Rattle.std.specs.Prelude.{◌≡◌, ◌≢◌, ℕ, ◌+◌, ◌%◌, ◌==◌, List, [], ◌∷◌, length, map, slice_index, All, if◌then◌else◌}
 use Rattle.std.specs.List.{range_with_len, position_or_len}
@@ -18,7 +18,7 @@ pub record IsPermutation26 (p : List ℕ) : Type 0 where
 unfoldable pub followed_by : List ℕ → List ℕ → List ℕ
 followed_by p q = map (λ y. slice_index q y) p
 
--- the inverse: for each letter, its place in `p`
+-- the inverse of `p`: for each letter, its place in `p`
 unfoldable pub inverse : List ℕ → List ℕ
 inverse p = map (λ y. position_or_len (λ x. x == y) p) alphabet
 
@@ -31,14 +31,14 @@ abbrev pub exchanged : List (ℕ × ℕ) → ℕ → ℕ
 exchanged [] x = x
 exchanged (pair ∷ pairs) x = if x == pair.0 then pair.1 else (if x == pair.1 then pair.0 else exchanged pairs x)
 
--- the permutation that exchanges the two letters of each pair and leaves the other letters
+-- the permutation that exchanges the two letters of each pair, and maps each other letter to itself
 unfoldable pub exchange : List (ℕ × ℕ) → List ℕ
 exchange pairs = map (exchanged pairs) alphabet
 
--- Applied twice, the permutation changes nothing.
+-- The permutation, applied twice, maps each letter to itself.
 abbrev pub IsOwnInverse : List ℕ → Type 0
 IsOwnInverse p = All (λ x. slice_index p (slice_index p x) ≡ x) alphabet
 
--- No letter becomes itself.
+-- The permutation maps no letter to itself.
 abbrev pub MovesEachLetter : List ℕ → Type 0
 MovesEachLetter p = All (λ x. slice_index p x ≢ x) alphabet

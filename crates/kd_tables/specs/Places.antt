@@ -44,7 +44,7 @@ place_rank Five = 5
 place_rank ZeroRight = 6
 place_rank Six = 7
 
--- `first` is left of `second`.
+-- The place `first` is to the left of the place `second`.
 abbrev pub IsBefore : Place → Place → Type 0
 IsBefore first second = place_rank first < place_rank second
 
@@ -54,7 +54,7 @@ lug_text lugs.Left = codes "L"
 lug_text lugs.Right = codes "R"
 
 -- ---- How a bar can stand: the places of its left and its right lug.
--- Code: two places are compared; a text is split at its hyphen.
+-- Code: a standing is checked by comparing its two places; its text is split at the hyphen.
 
 -- All standings of a bar: the left lug is left of the right lug. They are in the order of the left lug's place,
 -- then of the right lug's.

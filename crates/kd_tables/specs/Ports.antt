@@ -1,5 +1,5 @@
 -- Sources and sinks: which bytes a get or a put moves, and what a port in memory has.
--- Code: a port is any type that keeps `Gets` or `Puts`.
+-- Code: a source is any type whose `get` satisfies `Gets`, a sink any type whose `put` satisfies `Puts`.
 -- Test: tells_that_the_sink_failed, a_source_or_a_sink_of_an_order_fails
 use Rattle.std.specs.Prelude.{◌≡◌, ◌⊎◌, ℕ, ◌<◌, ◌≤◌, Bool, true, false, List, [], ◌∷◌, length, take, Option, Result}
 use Rattle.std.specs.Prelude.{IfOk, OnErr, Ok, Err, IsTrue}
@@ -45,34 +45,37 @@ pub record MemoryTaken : Type 0 where
 -- Code: a flag in each port.
 -- Test: stops_at_a_failed_read, stops_where_the_sink_fails
 
--- A port before (`had`) and after (`has`) a call: the bytes that a source still has or a sink has taken, if the
--- port tells them, and whether the port has failed.
+-- A port before a call (`had`, `had_failed`) and after it (`has`, `has_failed`): the bytes that a source
+-- still has or a sink has taken, `None` if they aren't known; and whether the port has failed.
 pub record Port : Type 0 where
   pub had : Option (List ℕ)
   pub has : Option (List ℕ)
   pub had_failed : Bool
   pub has_failed : Bool
 
+-- the `Port` of a source or a sink before a call, `old`, and after it, `new`
 abbrev pub port : {P : Type 0} → (P → Option (List ℕ)) → (P → Bool) → P → P → Port
 port bytes failed old new =
     record { had = bytes old; has = bytes new; had_failed = failed old; has_failed = failed new }
 
--- The port didn't fail in the call, unless it had failed before.
+-- The call didn't change whether the port has failed.
 abbrev pub HasNotFailed : Port → Type 0
 HasNotFailed p = p.has_failed ≡ p.had_failed
 
--- The port has failed, and the other one didn't fail during the call.
+-- The port `p` has failed, and the call didn't change whether the other port has failed.
 pub record FailsAlone (p other : Port) : Type 0 where
   pub failed : IsTrue p.has_failed
   pub well : HasNotFailed other
 
--- What a call's answer tells of its two ports. The flag is `true` if the call returns `Device`. Then one port
--- has failed, and the other didn't fail in the call. Otherwise neither port failed in the call.
+-- A call's result agrees with the failures of its source and its sink. The flag is `true` if the call returns
+-- `Device`. Then one of the two ports has failed, and the other didn't fail in the call. Otherwise neither of
+-- them failed in the call.
 abbrev pub FailureAgrees : Port → Port → Bool → Type 0
 FailureAgrees source sink false = HasNotFailed source × HasNotFailed sink
 FailureAgrees source sink true = FailsAlone source sink ⊎ FailsAlone sink source
 
--- The answers of a test for the end: the source is at its end, or gave one byte, or failed.
+-- The result of a test for the end agrees with what the source did: with `true` it is at its end, with `false`
+-- it gave one byte, and with an error it gave none.
 abbrev pub EndAgrees : Option (List ℕ) → Option (List ℕ) → Result Bool Device → Type 0
 EndAgrees had has (Ok true) = Consumes had has [] × IsAtEnd has
 EndAgrees had has (Ok false) = (byte : ℕ) × Consumes had has (byte ∷ [])

@@ -12,7 +12,7 @@ use Rattle.kd_tables.specs.declared.reflector.Reflector.TheVariants as reflector
 use Rattle.kd_tables.specs.declared.model.Model.{Model}
 use Rattle.kd_tables.specs.declared.model.Model.TheVariants.{EnigmaI, M3, M4, M209}
 
--- the letters of a text in capital letters
+-- the letters of a text that is in capital letters: A is 0, Z is 25
 abbrev pub letters_of : List ℕ → List ℕ
 letters_of text = map (λ byte. byte - 65) text
 
@@ -42,7 +42,8 @@ wiring_of VIII = letters_of (codes "FKQHTLXOCBJSPDZRAMEWNIUYGV")
 wiring_of Beta = letters_of (codes "LEYJVCNIXWPBQMDRTAKZGFUHOS")
 wiring_of Gamma = letters_of (codes "FSOKANUERHMBTIYCWLQPZXVGJD")
 
--- the window letters at which a wheel's next step also moves the wheel to its left
+-- the notches of a wheel: if one of these letters shows in its window, its next step moves the wheel to its
+-- left too
 abbrev pub notches_of : Wheel → List ℕ
 notches_of I = letters_of (codes "Q")
 notches_of II = letters_of (codes "E")
@@ -102,8 +103,8 @@ slots_of M209 = 0
 abbrev pub is_from_to : ℕ → ℕ → ℕ → Bool
 is_from_to first last number = nat_le first number && nat_le number last
 
--- The wheels that a slot allows. Slots are counted from 1, from the left. A slot that the model lacks allows
--- none.
+-- The wheels that may be in a slot. Slots are counted from 1, from the left. The list is empty for a slot
+-- that the model lacks.
 abbrev pub wheels_for : Model → ℕ → List Wheel
 wheels_for EnigmaI slot = if is_from_to 1 3 slot then I ∷ II ∷ III ∷ IV ∷ V ∷ [] else []
 wheels_for M3 slot = if is_from_to 1 3 slot then I ∷ II ∷ III ∷ IV ∷ V ∷ VI ∷ VII ∷ VIII ∷ [] else []
@@ -112,14 +113,14 @@ wheels_for M4 slot =
     else (if is_from_to 2 4 slot then I ∷ II ∷ III ∷ IV ∷ V ∷ VI ∷ VII ∷ VIII ∷ [] else [])
 wheels_for M209 slot = []
 
--- the wheels of a model's box, in box order: each wheel that one of its slots allows
+-- the wheels of a model's box, in box order: each wheel that may be in one of its slots
 abbrev pub box_of : Model → List Wheel
 box_of EnigmaI = wheels_for EnigmaI 1
 box_of M3 = wheels_for M3 1
 box_of M4 = wheels_for M4 2 ++ wheels_for M4 1
 box_of M209 = []
 
--- The slot allows the wheel.
+-- The wheel may be in the slot.
 abbrev pub IsAllowed : Model → ℕ → Wheel → Type 0
 IsAllowed model slot wheel = Contains (wheels_for model slot) wheel
 

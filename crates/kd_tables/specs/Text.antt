@@ -2,7 +2,7 @@
 -- Test: types_to_the_first_byte_that_is_not_allowed
 use Rattle.std.specs.Prelude.{ℕ, ◌+◌, nat_le, ◌==◌, Bool, ◌&&◌, ◌||◌, List, map}
 
--- letters as capital letters
+-- the ASCII codes of letters, as capital letters
 abbrev pub letters_text : List ℕ → List ℕ
 letters_text letters = map (λ letter. letter + 65) letters
 

@@ -1,4 +1,4 @@
--- Tests of the published text of a wiring or a pin wheel. They are computed as the program is checked.
+-- Tests of the published text of a wiring or a pin wheel. The prover computes them, not the program.
 use Rattle.std.specs.Prelude.{ℕ, ◌==◌, nat_eq, nat_le, nat_lt, Bool, not, ◌&&◌, List, length, slice_index}
 use Rattle.std.specs.List.{list_all}
 use Rattle.std.specs.Set.{distinct_count}
@@ -9,7 +9,7 @@ use Rattle.kd_tables.specs.Tables.{letters_of}
 abbrev pub are_capitals : List ℕ → Bool
 are_capitals text = list_all (λ byte. nat_le 65 byte && nat_le byte 90) text
 
--- whether all numbers are letters, and none occurs twice
+-- whether all numbers are below 26, and all are different
 abbrev pub are_distinct_letters : List ℕ → Bool
 are_distinct_letters p = list_all (λ x. nat_lt x 26) p && (distinct_count nat_eq p == length p)
 
@@ -21,6 +21,6 @@ is_ring_text text = are_capitals text && are_distinct_letters (letters_of text)
 abbrev pub is_permutation : List ℕ → Bool
 is_permutation p = (length p == 26) && are_distinct_letters p
 
--- whether the permutation moves each letter, and applied twice changes nothing
+-- whether the list maps each letter to another letter, and, applied twice, to itself
 abbrev pub is_reflection : List ℕ → Bool
 is_reflection p = list_all (λ x. not (slice_index p x == x) && (slice_index p (slice_index p x) == x)) alphabet

@@ -3,11 +3,11 @@
 use Rattle.std.specs.Prelude.{ℕ, ◌<◌, List, length, take, Option, Result, OnOk, OnErr}
 use Rattle.std.specs.Io.KnownBytes.{Appends}
 
--- A proper prefix of the text was taken.
+-- The sink took a prefix of the text, but not the whole text.
 abbrev pub TakesPrefix : Option (List ℕ) → Option (List ℕ) → List ℕ → Type 0
 TakesPrefix old new text = (count : ℕ) × (count < length text) × Appends old new (take count text)
 
--- Without an error the whole text was taken, with an error a proper prefix of it.
+-- The sink took the whole text if there is no error, and otherwise a prefix of it, but not the whole.
 pub record Writes {T E : Type 0} (old new : Option (List ℕ)) (text : List ℕ) (answer : Result T E) : Type 0 where
   pub whole : OnOk answer (Appends old new text)
   pub front : OnErr answer (TakesPrefix old new text)

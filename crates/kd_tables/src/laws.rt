@@ -13,7 +13,7 @@ ghost use Rattle.kd_tables.specs.Laws.{LettersLeadToPlaces, PlacesLeadToLetters}
 use super::letter::Letter;
 use super::reading::Reading;
 
-/// The published tables are permutations. A reflector exchanges letters in pairs.
+/// The published wirings of wheels and reflectors are permutations. A reflector exchanges letters in pairs.
 #[tactic(auto, using(crate::proofs::Wirings::reflector_returns, crate::proofs::Wirings::reflector_moves))]
 pub fn tables_are_permutations()
     ensures wheels { WiringsArePermutations }
@@ -22,14 +22,14 @@ pub fn tables_are_permutations()
     ensures none_fixed { ReflectorsMoveEachLetter }
 {}
 
-/// How products, inverses and shifts act on one letter.
+/// How a product or an inverse of permutations, or a shift of the alphabet, maps one letter.
 pub fn permutations_by_letter()
     ensures product { ProductsByLetter }
     ensures backwards { InversesByLetter }
     ensures shifts { ShiftsByLetter }
 {}
 
-/// Products and inverses of permutations are permutations, and so are shifts.
+/// Products and inverses of permutations are permutations, and so are shifts of the alphabet.
 pub fn products_are_permutations()
     ensures product { ProductsArePermutations }
     ensures backwards { InversesArePermutations }
@@ -48,7 +48,7 @@ pub fn inverse_undoes()
     ensures shifts { ShiftsBackwards }
 {}
 
-/// On a pin wheel, the letter at a place has this place, and the place of a letter has this letter.
+/// On a pin wheel, finding the place of a letter and reading the letter at a place undo each other.
 pub fn letters_and_places_undo()
     ensures places { LettersLeadToPlaces }
     ensures letters { PlacesLeadToLetters }
@@ -61,7 +61,7 @@ pub fn letters_and_readings_have_their_order()
         ≡ ordering_then (nat_cmp one.0 other.0) (nat_cmp one.1 other.1) }
 {}
 
-/// The limit of a read in the code is the limit in the definitions.
+/// `READ_LIMIT`, the limit that the code uses, is `read_limit`, the limit in the definitions.
 pub fn the_limit_is_the_definitions()
     ensures { READ_LIMIT ≡ read_limit }
 {}

@@ -3,9 +3,9 @@ ghost use Rattle.std.specs.Prelude.{◌≡◌, ℕ, ◌+◌, ◌-◌, ◌%◌, �
 
 use std::marker::Model;
 
-/// For each place of the alphabet, the place after it.
+/// For each place of the alphabet, the place after it; after the last one, 0.
 ///
-/// Each key press waits for this step, and a table is faster than a comparison.
+/// A rotor machine calls `next` at each key press, and a table is faster than a comparison.
 static NEXT: [u8; 26] = [
     1, 2, 3, 4, 5, 6, 7, 8, 9, 10, 11, 12, 13, 14, 15, 16, 17, 18, 19, 20, 21, 22, 23, 24, 25, 0,
 ];
@@ -45,7 +45,7 @@ impl Letter {
         }
     }
 
-    /// The letter at place `index` of the alphabet, counted from 0. Nothing is tested.
+    /// The letter at place `index` of the alphabet, counted from 0. The index isn't tested.
     pub const fn at(index: u8) -> Self
         requires { index < 26 }
         ensures { result ≡ index }

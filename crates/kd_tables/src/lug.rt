@@ -12,7 +12,7 @@ pub enum Lug {
     Right,
 }
 
-/// Applies a macro of `names` to the table of lugs and their names.
+/// Applies the macro `$read`, which is `name_of` or `named`, to the table of lugs and their names.
 macro_rules! names {
     ($read:ident, $value:expr) => {
         $read!($value, {

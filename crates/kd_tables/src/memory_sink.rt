@@ -27,7 +27,7 @@ impl<const CAP: usize> Model for MemorySink<CAP> {
 }
 
 impl<const CAP: usize> MemorySink<CAP> {
-    /// Makes a sink that takes `limit` bytes.
+    /// Makes a sink that takes `limit` bytes, and then fails.
     pub fn new(limit: usize) -> Self
         requires { limit ≤ CAP }
         ensures { result ≡ record { taken = []; limit = limit; failed = false } }

@@ -8,7 +8,7 @@ use super::failed::Failed;
 use super::source::Source;
 use std::marker::Model;
 
-/// A source in memory that gives its bytes in pieces, and can fail from a given get on.
+/// A source in memory. It limits how many bytes one `get` gives, and can fail from a given `get` on.
 #[derive(Drop)]
 pub struct MemorySource<'a> {
     rest: &'a [u8],
@@ -36,7 +36,7 @@ impl<'a> Model for MemorySource<'a> {
 impl<'a> MemorySource<'a> {
     /// Makes a source that gives `bytes`, at most `piece` of them at a time.
     ///
-    /// It fails from get `fail_at` on; gets are counted from 0.
+    /// Calls of `get` are counted from 0. Call `fail_at` and all later ones fail; with `None`, no call fails.
     pub fn new(bytes: &'a [u8], piece: usize, fail_at: Option<usize>) -> Self
         requires { 1 ≤ piece }
         ensures { result ≡ record {

@@ -7,7 +7,7 @@ use super::reflector::Reflector;
 use super::wheel::Wheel;
 use arrayvec::ArrayString;
 
-/// All wheels in the order of the boxes. The box of each model is a prefix of this list.
+/// All wheels, in box order. The box of each model has the first wheels of this list.
 const WHEELS: [Wheel; 10] = [
     Wheel::I,
     Wheel::II,
@@ -34,7 +34,7 @@ pub enum Model {
     M209,
 }
 
-/// Applies a macro of `names` to the table of models and their names.
+/// Applies the macro `$read`, which is `name_of` or `named`, to the table of models and their names.
 macro_rules! names {
     ($read:ident, $value:expr) => {
         $read!($value, {
@@ -76,7 +76,7 @@ impl Model {
         }
     }
 
-    /// The wheels that may be in a slot, in the order of the box; none if the model has no such slot.
+    /// The wheels that may be in slot `slot`, in box order. Empty if the model has no such slot.
     ///
     /// Slots are counted from 1, from left to right.
     pub fn wheels_for(self, slot: u8) -> &'static [Wheel]
@@ -90,7 +90,7 @@ impl Model {
         }
     }
 
-    /// The wheels of the model's box, in its order.
+    /// The model's box, in box order: all wheels that may be in one of its slots.
     pub fn wheels(self) -> &'static [Wheel]
         ensures { result.now ≡ box_of self }
     {
@@ -130,7 +130,7 @@ pub fn allowed(model: Model, slot: u8, wheel: Wheel) -> bool
     model.wheels_for(slot).contains(&wheel)
 }
 
-/// Whether `reflector` is one of the model's.
+/// Whether `reflector` is one of the reflectors of `model`.
 pub fn allowed_reflector(model: Model, reflector: Reflector) -> bool
     ensures { IsTrue result ↔ Contains (reflectors_of model) reflector }
 {

@@ -8,7 +8,7 @@ pub(crate) fn is_name(text: &[u8], name: &str) -> bool
     name.as_bytes() == text
 }
 
-/// Finds the name of `$value` in a table.
+/// Finds the name of `$value` in a table of values and names.
 macro_rules! name_of {
     ($value:expr, { $($variant:path => $name:literal,)* }) => {
         match $value {
@@ -17,7 +17,7 @@ macro_rules! name_of {
     };
 }
 
-/// Finds the value with the name `$text` in a table, if there is one.
+/// Finds the value with the name `$text` in a table of values and names, if there is one.
 macro_rules! named {
     ($text:expr, { $($variant:path => $name:literal,)* }) => {
         match $text {

@@ -1,13 +1,14 @@
-//! Readings: what the bars of the Converter M-209 read as.
+//! Readings of bars of the Converter M-209: the numbers of the pin wheels at a bar's two lugs.
 ghost use Rattle.std.specs.Prelude.{codes, ◌≡◌, ◌≢◌, ◌↔◌, [], ◌∷◌, ◌++◌, MatchOption, IsSome, IfSome};
 ghost use Rattle.kd_tables.specs.Places.{IsReading, smaller_first, reading_text};
 
 use arrayvec::ArrayString;
 use std::marker::Model;
 
-/// What a bar of the Converter M-209 reads as: the numbers of its lugs' places, the smaller one first.
+/// A reading: the numbers of the pin wheels at a bar's two lugs, the smaller number first.
 ///
-/// The two numbers differ, or both are 0. Readings are ordered by the smaller number, then by the larger one.
+/// The number is 0 for a lug at a place without a wheel. The two numbers differ, or both are 0. Readings are
+/// ordered by the smaller number, then by the larger one.
 #[derive(Clone, Copy, Default, PartialEq, Eq, PartialOrd, Ord)]
 pub struct Reading {
     smaller: u8,
@@ -28,9 +29,9 @@ impl Model for Reading {
 }
 
 impl Reading {
-    /// Makes a reading of two numbers, in either order.
+    /// Makes a reading of the numbers `a` and `b`, which may come in either order.
     ///
-    /// `None` if one is above 6, or if they are equal and above 0.
+    /// `None` if one of them is above 6, or if they are equal and above 0.
     pub fn new(a: u8, b: u8) -> Option<Self>
         ensures exists { IsSome result ↔ IsReading (smaller_first a b) }
         ensures value { IfSome result (λ reading. reading ≡ smaller_first a b) }
@@ -73,7 +74,7 @@ impl Reading {
         }
     }
 
-    /// Parses the two digits of a reading.
+    /// Makes a reading of its two digits, given as ASCII codes. The smaller number has to come first.
     fn from_figures(first: u8, second: u8) -> Option<Self>
         ensures { MatchOption result
             ((numbers : _) → IsReading numbers → reading_text numbers ≢ first ∷ codes "-" ++ second ∷ [])

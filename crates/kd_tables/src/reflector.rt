@@ -20,7 +20,7 @@ pub enum Reflector {
     ThinC,
 }
 
-/// Applies a macro of `names` to the table of reflectors and their names.
+/// Applies the macro `$read`, which is `name_of` or `named`, to the table of reflectors and their names.
 macro_rules! names {
     ($read:ident, $value:expr) => {
         $read!($value, {

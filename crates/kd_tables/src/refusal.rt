@@ -6,27 +6,27 @@ ghost use Rattle.kd_tables.specs.Refusals.{refusal_name, word_after_space};
 use arrayvec::ArrayString;
 use itoa::Buffer;
 
-/// The text of a refusal: its number and name, and then places, a key or a reason.
+/// The text of a refusal: its number and name, and for some refusals places, a key's name or a reason.
 pub type Text = ArrayString<64>;
 
 /// The refusals, in the order of their numbers.
 #[derive(Clone, Copy)]
 pub enum Refusal {
-    /// A letter is in two places.
+    /// A letter is in two places of the machine's cables, or of the sheet's pairs.
     LetterTwice,
-    /// A letter isn't on its pin wheel. This refusal is never printed.
+    /// A letter isn't on its pin wheel. The program never prints this refusal.
     NotOnWheel,
-    /// A machine refuses a setting, for the given reason. This refusal is never printed.
+    /// A machine refuses a setting, for the given reason. The program never prints this refusal.
     Illegal,
     /// A slot is empty, or a cable has one letter.
     NotReady,
-    /// Machine and day are of different models.
+    /// Machine and day are of different models, or a card's prices are for the other kind of machine.
     OtherModel,
     /// A file or a port failed.
     Device,
-    /// The first line of a card isn't its head.
+    /// The first line of a card isn't a card's head.
     BadHead,
-    /// A line doesn't have the form that its place requires.
+    /// A line doesn't have the form that a line in its place must have.
     BadLine,
     /// A card has more than 192 settings.
     TooMany,
@@ -36,15 +36,17 @@ pub enum Refusal {
     CardCountWrong,
     /// Bytes follow the last line of a card.
     Trailing,
-    /// A machine refuses a line after it carried out the lines before it, for the given reason.
+    /// A machine carries out the lines before this line, and refuses this line, for the given reason.
     IllegalAt,
-    /// A card doesn't reach the day.
+    /// After a card's lines, the machine doesn't read as the day.
     NotTheSheet,
-    /// The prices of a cable and a pair, or a bar and a row, add up to more than the change costs.
+    /// The prices of a cable and a column, or of a bar and a row, add up to more than their cost.
     PriceTooHigh,
     /// The sum of a card's prices isn't the number of its lines for cables or bars.
     SumDiffers,
-    /// A line of a card isn't needed: after it, no fewer things differ from the day.
+    /// A line of a card isn't needed: after it, no fewer things differ from the day than before it.
+    ///
+    /// Lines for cables and bars aren't refused for this reason.
     NeedlessLine,
     /// A file isn't a TOML document.
     NotToml,
@@ -58,23 +60,23 @@ pub enum Refusal {
     WheelTwice,
     /// A wheel is in a slot in which the model doesn't take it.
     WheelNotAllowed,
-    /// A bar has no valid standing, or a row no valid reading.
+    /// An item of a file's `bars` isn't a standing, or an item of its `rows` isn't a reading.
     BadRow,
     /// A sheet has two entries for one day.
     DayTwice,
     /// Memory ran out.
     NoMemory,
-    /// The machine isn't set as the day says.
+    /// The machine isn't on the day's key, or is of another model than the day.
     NotOnKey,
-    /// A byte isn't allowed at its place.
+    /// A byte isn't allowed at its place, or is missing.
     BadByte,
     /// The text of an order has no letter.
     EmptyText,
-    /// An order needs the first number of key lines, but has the second.
+    /// An order has too few or too many lines of keys. The text has the number needed, then the number found.
     PartKeys,
     /// An external letter isn't on its wheel.
     KeyNotOnWheel,
-    /// The group of a part isn't one of the day's; on the Converter M-209, its list isn't the day's.
+    /// A part's group isn't one of the day's. On the Converter M-209: the part's key list isn't the day's.
     WrongGroup,
     /// The enciphered letters of a part run out before each wheel has a letter of the internal key.
     IndicatorSpent,
@@ -84,7 +86,7 @@ pub enum Refusal {
     PartCountWrong,
     /// A part ends in other indicators than it begins with, or their first two letters differ.
     IndicatorsDiffer,
-    /// Parts aren't numbered in order, their headings differ in the number of parts, or one is missing.
+    /// A part is missing, parts aren't in order, or their headings differ in the number of parts.
     PartOrder,
     /// A source or a file has more bytes than the limit.
     ReadTooLong,
@@ -144,7 +146,7 @@ impl Refusal {
         }
     }
 
-    /// The text of a refusal without a place.
+    /// The text of a refusal that has no place: its number and name.
     pub fn text(self) -> Text
         ensures bytes { result.bytes ≡ refusal_name self }
         ensures short { array_string_len result ≤ 20 }
@@ -154,7 +156,7 @@ impl Refusal {
         text
     }
 
-    /// The text of a refusal at one place.
+    /// The text of a refusal with one place, as the number of a line or of a part.
     pub fn text_at(self, place: usize) -> Text
         ensures bytes { result.bytes ≡ refusal_name self ++ word_after_space (decimal place) }
         ensures short { array_string_len result ≤ 41 }
@@ -164,7 +166,7 @@ impl Refusal {
         text
     }
 
-    /// The text of a refusal at two places.
+    /// The text of a refusal with two places, or two numbers.
     pub fn text_at_both(self, one: usize, other: usize) -> Text
         ensures { result.bytes ≡ refusal_name self ++ word_after_space (decimal one)
             ++ word_after_space (decimal other) }
@@ -174,7 +176,7 @@ impl Refusal {
         text
     }
 
-    /// The text of a refusal with the name of a key or a reason.
+    /// The text of a refusal with `word`, the name of a key or of a reason.
     pub fn text_with_word(self, word: &str) -> Text
         requires { length word.now ≤ 22 }
         ensures { result.bytes ≡ refusal_name self ++ word_after_space word.now }
@@ -184,7 +186,7 @@ impl Refusal {
         text
     }
 
-    /// The text of a refusal at one place, with a reason.
+    /// The text of a refusal with one place and with `word`, the name of a reason.
     pub fn text_at_with_word(self, place: usize, word: &str) -> Text
         requires { length word.now ≤ 22 }
         ensures { result.bytes ≡ refusal_name self ++ word_after_space (decimal place) ++ word_after_space word.now }
@@ -206,7 +208,7 @@ fn push_place(text: &mut Text, place: usize)
     text.push_str(buffer.format(place));
 }
 
-/// Appends a space and the name of a key or a reason.
+/// Appends a space and `word`, the name of a key or of a reason.
 fn push_word(text: &mut Text, word: &str)
     requires { array_string_len text.old + length word.now + 1 ≤ 64 }
     ensures { text.new.bytes ≡ text.old.bytes ++ word_after_space word.now }

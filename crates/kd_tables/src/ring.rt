@@ -6,7 +6,7 @@ use super::letter::Letter;
 use super::table::ring;
 use std::marker::Model;
 
-/// The letters of a pin wheel of the Converter M-209, in the wheel's own order, from A on.
+/// The letters of a pin wheel of the Converter M-209, in their order on the wheel, from A on.
 #[derive(Clone, Copy)]
 pub struct Ring<const N: usize> {
     letters: [Letter; N],
@@ -26,7 +26,7 @@ impl<const N: usize> Model for Ring<N> {
 }
 
 impl<const N: usize> Ring<N> {
-    /// The wheel's letters in order: one for each place, and none twice.
+    /// The wheel's letters in their order on it: one at each place, and all different.
     pub fn letters(&self) -> [Letter; N]
         ensures value { result ≡ self.now }
         ensures ring { IsRing N result }

@@ -4,9 +4,9 @@ ghost use Rattle.kd_tables.specs.Ports.{Puts};
 
 use super::failed::Failed;
 
-/// A device or a memory that takes bytes.
+/// Something that takes bytes, as a device or a buffer in memory.
 pub trait Sink {
-    /// The bytes taken so far; `None` if nothing is known of them.
+    /// The bytes taken so far; `None` if they aren't known.
     ghost taken: { Self → Option (List ℕ) } = { λ _. None };
 
     /// Whether a put has failed.

@@ -4,9 +4,9 @@ ghost use Rattle.kd_tables.specs.Ports.{Gets};
 
 use super::failed::Failed;
 
-/// A device or a memory that gives bytes.
+/// Something that gives bytes, as a device or a buffer in memory.
 pub trait Source {
-    /// The bytes still to come; `None` if nothing is known of them.
+    /// The bytes still to come; `None` if they aren't known.
     ghost remaining: { Self → Option (List ℕ) } = { λ _. None };
 
     /// Whether a get has failed.
@@ -14,9 +14,9 @@ pub trait Source {
 
     /// Puts the next bytes into a prefix of `buffer`, and returns the length of this prefix.
     ///
-    /// The length is 0 only at the end of the source, or if `buffer` is empty. A get that returns `Failed`
-    /// has given no byte, and loses none. The buffer's bytes after the prefix may change; if the get fails,
-    /// any of its bytes may.
+    /// The length is 0 only at the end of the source, or if `buffer` is empty. A `get` that returns `Failed`
+    /// gives no byte, and loses none. The bytes of `buffer` after the prefix may change too. If the `get`
+    /// fails, all its bytes may change.
     fn get(&mut self, buffer: &mut [u8]) -> Result<usize, Failed>
         ensures bytes { Gets (remaining self.old) (remaining self.new) buffer.new result }
         ensures failed { has_failed self.new ≡ (has_failed self.old || is_err result) };

@@ -21,7 +21,7 @@ macro_rules! wiring {
 
 pub(crate) use wiring;
 
-/// The letters that `text` spells.
+/// The letters of `text`, which is in capital letters.
 #[tactic(auto, using(std::proofs::lemmas::List::FromFn::fill_by_all))]
 pub(crate) fn letters<const N: usize>(text: &[u8; N]) -> [Letter; N]
     requires { IsTrue (are_capitals text.now) }
@@ -43,7 +43,7 @@ fn letter_at<const N: usize>(text: &[u8; N], place: usize) -> Letter
     Letter::from_byte(text[place]).unwrap()
 }
 
-/// The inverse of the table that `text` spells.
+/// The inverse of the table that is written in `text`.
 #[tactic(auto, using(crate::proofs::Wirings::test_permutes))]
 pub(crate) fn letters_back(text: &[u8; 26]) -> [Letter; 26]
     requires capitals { IsTrue (are_capitals text.now) }
@@ -66,7 +66,7 @@ fn inverse_table(table: &[Letter; 26]) -> [Letter; 26]
     inverse
 }
 
-/// The table that the published text of a reflector spells.
+/// The table of a reflector, from its published text.
 #[tactic(auto, using(crate::proofs::Wirings::reflection_returns, crate::proofs::Wirings::reflection_moves))]
 pub(crate) fn reflection(text: &[u8; 26]) -> [Letter; 26]
     requires capitals { IsTrue (are_capitals text.now) }
@@ -78,7 +78,7 @@ pub(crate) fn reflection(text: &[u8; 26]) -> [Letter; 26]
     letters(text)
 }
 
-/// The letters that the published text of a pin wheel spells.
+/// The letters of a pin wheel, from its published text.
 #[tactic(auto, using(crate::proofs::Wirings::text_makes_ring))]
 pub(crate) fn ring<const N: usize>(text: &[u8; N]) -> [Letter; N]
     requires { IsTrue (is_ring_text text.now) }

@@ -8,7 +8,7 @@ use super::names::{name_of, named};
 use super::table::{letters, letters_back, wiring};
 use arrayvec::ArrayString;
 
-/// A wheel of the rotor machines. I to VIII turn; Beta and Gamma, for the M4's thin reflectors, don't.
+/// A wheel of the rotor machines. Wheels I to VIII can step; Beta and Gamma, which only the M4 has, can't.
 #[derive(Clone, Copy, PartialEq, Eq)]
 pub enum Wheel {
     I,
@@ -19,9 +19,9 @@ pub enum Wheel {
     VI,
     VII,
     VIII,
-    /// The M4's Beta wheel, left of the three wheels that turn.
+    /// The M4's Beta wheel, to the left of the three wheels that can step.
     Beta,
-    /// The M4's Gamma wheel, left of the three wheels that turn.
+    /// The M4's Gamma wheel, to the left of the three wheels that can step.
     Gamma,
 }
 
@@ -43,7 +43,7 @@ macro_rules! wirings {
     };
 }
 
-/// Applies a macro of `names` to the table of wheels and their names.
+/// Applies the macro `$read`, which is `name_of` or `named`, to the table of wheels and their names.
 macro_rules! names {
     ($read:ident, $value:expr) => {
         $read!($value, {
@@ -102,8 +102,8 @@ pub fn unwiring(wheel: Wheel) -> [Letter; 26]
 
 /// Whether the wheel is at a published notch while `window` shows. The ring makes no difference.
 ///
-/// At its next step, a wheel at a notch moves the wheel to its left too, if the left wheel can turn. Some
-/// wheels have two notches, and Beta and Gamma have none.
+/// When a wheel at a notch steps, the wheel to its left steps too, if the left wheel can step. Some wheels
+/// have two notches, and Beta and Gamma have none.
 pub fn notched(wheel: Wheel, window: Letter) -> bool
     ensures { result ≡ is_notch wheel window }
 {

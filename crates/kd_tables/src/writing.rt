@@ -22,9 +22,9 @@ impl Device {
     }
 }
 
-/// Puts all `bytes` into `sink`, with as many puts as it needs.
+/// Writes all `bytes` to `sink`, with as many calls of `put` as it needs.
 ///
-/// A sink that fails has taken a prefix of `bytes`.
+/// If a `put` fails, the sink has taken a prefix of `bytes`, but not all of them.
 #[tactic(auto, using(crate::proofs::Taken::takes_more, crate::proofs::Taken::still_failed))]
 pub fn put_all<W: Sink>(sink: &mut W, bytes: &[u8]) -> Result<(), Device>
     ensures text { Writes (W.taken sink.old) (W.taken sink.new) bytes.now result }

@@ -5,7 +5,7 @@ ghost use Rattle.kd_assign.specs.Prices.{AreCostsAtMost};
 use kd_assign::assign;
 use std::process::Abort;
 
-/// Checks that `assign` answers with the assignment `to`, this total cost and this number of comparisons.
+/// Checks that `assign` returns the assignment `to`, this total cost and this number of comparisons.
 fn is_answered<const N: usize>(
     rt: &impl Abort,
     cost: &[[u8; N]; N],
@@ -22,7 +22,8 @@ fn is_answered<const N: usize>(
     assert_eq!(rt; (solution.total, solution.scans.count()), (total, scans));
 }
 
-/// In some tables a row is moved to make room for another; in others each row finds a free column at once.
+/// In the second table, row 0 moves to another column to make room for row 1. In the others, each row finds a
+/// free column at once.
 #[test]
 fn answers_small_tables(rt: HostRuntime) {
     is_answered(&rt, &[[4]], [0], 4, 1);
@@ -37,7 +38,7 @@ fn answers_three_rows(rt: HostRuntime) {
     assert_eq!(rt; solution.total, 1);
 }
 
-/// The cost of the assignment for a table whose costs are all `each`.
+/// The total cost of the assignment that `assign` finds if all costs in the table are `each`.
 fn total_of_all<const N: usize>(each: u8) -> u16
     requires some { 1 ≤ N }
     requires few { N ≤ 32 }

@@ -7,7 +7,7 @@ use crate::texts::{
 mod read;
 mod write;
 
-/// A card's text and its day; then the numbers of the SETTINGS line and of the SUM line.
+/// A card's text and its day; then which lines are its SETTINGS line and its SUM line, counted from 1.
 type Sample = (&'static str, u8, (usize, usize));
 
 /// Cards of both versions, with settings of cables and of bars.

@@ -7,10 +7,11 @@ use kd_tables::Letter;
 use std::alloc::Global;
 use std::process::Abort;
 
-/// A day of a Converter, how many bars the first letter meets, and the ciphertext of letters A.
+/// A Converter's day, how many bars move for the first letter, and the ciphertext of as many letters A.
 type Case = (File, u8, &'static [u8]);
 
-/// A bar that two wheels meet counts once. One pin meets all bars, for the first letter alone.
+/// In the first case, one bar has lugs at two wheels whose acting pins are effective; it counts once. In the
+/// second case, one pin moves all bars, for the first letter only.
 static CASES: [Case; 2] = [
     (
         (
@@ -24,7 +25,7 @@ static CASES: [Case; 2] = [
     ((DayOfAllMet, "", ""), 27, b"AZZZZ"),
 ];
 
-/// Checks the bars met and the ciphertext of a case.
+/// Checks the number of bars that move and the ciphertext of a case.
 fn presses(rt: &impl Abort, alloc: Global, (sheet, met, lamps): &Case) -> Option<()> {
     let day = day(rt, alloc, sheet);
     let mut converter = Converter::new(day.pins()?, letters(rt, b"AAAAAA"), day.rows()?).ok()?;

@@ -5,7 +5,9 @@ use kd_state::{Machine, SheetDay};
 use std::alloc::Global;
 use std::process::Abort;
 
-/// A file, a part of it, and the replacement for each place where the part is; no change if both are empty.
+/// A file with a change: a text, and what replaces it wherever it is in the file.
+///
+/// If both texts are empty, the file isn't changed.
 pub type File = (TextName, &'static str, &'static str);
 
 /// A machine file, and a sheet with one day.
@@ -17,7 +19,7 @@ pub type Keyed = (Machine, SheetDay);
 /// An Enigma I on its day.
 pub const PLAIN: Told = ((M1, "", ""), (PlainDay, "", ""));
 
-/// An Enigma I that needs two cables to change places.
+/// An Enigma I with the cables AB and CD, on a day with the pairs BC and DE.
 pub const CABLES: Told = (
     (M1, "version = 1", "version = 1\ncables = [\"AB\", \"CD\"]"),
     (PlainDay, "plugs = []", "plugs = [\"BC\", \"DE\"]"),
@@ -26,7 +28,7 @@ pub const CABLES: Told = (
 /// A Converter without effective pins, on its day.
 pub const IDLE: Told = ((WithoutPins, "", ""), (DayWithoutPins, "", ""));
 
-/// A Converter on which one moved lug makes two bars read as two rows.
+/// A Converter on which two bars read as the day's two rows once one lug is moved.
 pub const TWO_BARS: Told = (
     (
         WithoutPins,
@@ -40,7 +42,7 @@ pub const TWO_BARS: Told = (
     ),
 );
 
-/// A Converter that needs both lugs of a bar moved, the right one first.
+/// A Converter on which both lugs of a bar have to be moved, the right one first.
 pub const ONE_BAR: Told = (
     (WithoutPins, "bars = [\"0L-0R\"", "bars = [\"1-3\""),
     (DayWithoutPins, "rows = [\"0-0\"", "rows = [\"3-6\""),
@@ -49,7 +51,7 @@ pub const ONE_BAR: Told = (
 /// A machine and a day of different models.
 pub const TWO_MODELS: Told = ((M1, "", ""), (DayWithoutPins, "", ""));
 
-/// Reads the machine of a changed machine file.
+/// Reads the machine from a machine file, after the file's change.
 pub fn machine(rt: &impl Abort, alloc: Global, (file, old, new): &File) -> Machine {
     let text = file
         .text()
@@ -61,7 +63,7 @@ pub fn machine(rt: &impl Abort, alloc: Global, (file, old, new): &File) -> Machi
         .expect(rt, "a machine file")
 }
 
-/// Reads the first day of a changed sheet.
+/// Reads day 1 from a sheet, after the sheet's change.
 pub fn day(rt: &impl Abort, alloc: Global, (sheet, old, new): &File) -> SheetDay {
     let text = sheet
         .text()

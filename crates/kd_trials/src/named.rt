@@ -1,9 +1,9 @@
-//! Names for the texts of `texts`.
+//! Names for the texts in module `texts`.
 //!
 //! A table of cases is proved far faster with names than with the texts themselves.
 use crate::texts;
 
-/// The name of a machine file, a sheet or a card of `texts`, or of the empty text.
+/// The name of a machine file, a sheet or a card in module `texts`, or of the empty text.
 #[derive(Clone, Copy)]
 pub enum TextName {
     M1,

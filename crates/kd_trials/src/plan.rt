@@ -20,8 +20,8 @@ SUM 0
 ";
 
 static CASES: [Case; 11] = [
-    // Cables that share letters with pairs. Cable by cable, the second day would take six lines, since cable 1
-    // has no letter of its first pair.
+    // Cables that share letters with pairs. If cable 1 got the first pair and cable 2 the second, the second day
+    // would take six lines, since cable 1 has no letter of the first pair.
     (
         CABLES,
         "CARD 1 DAY 1\nPULL 1 A\nPULL 2 C\nPUT 1 C\nPUT 2 E\nSETTINGS 4\nCABLES ",
@@ -72,8 +72,8 @@ static CASES: [Case; 11] = [
         "CARD 1 DAY 1\nSEAT 1 Gamma\nREFLECTOR c\nSETTINGS 2",
         NO_PRICES,
     ),
-    // Keeping the first bar for the row that it reads as would take two lines, so another bar takes this row.
-    // In the last case, a right lug makes room for a left one.
+    // Two bars read as the first row. If the bar 3-0R kept this row, the card would take two lines, so the bar
+    // 0L-3 keeps it. In the last case, a bar's right lug has to move before its left lug can.
     (
         TWO_BARS,
         "CARD 1 DAY 1\nLUG 1 R 6\nSETTINGS 1\nBARS ",
@@ -122,11 +122,11 @@ fn cards_are_planned(rt: HostRuntime) {
     }
 }
 
-/// The cables of an Enigma I, a day's pairs, and the numbers of the spare cables that become pairs.
+/// The cables of an Enigma I, a day's pairs, and the numbers of the empty cables that get pairs.
 type SpareCase = (&'static str, &'static str, &'static [u8]);
 
 static SPARES: [SpareCase; 9] = [
-    // As many pairs as cables in use. Each cable has one, both or none of the pairs' letters.
+    // As many pairs as cables in use.
     (
         "version = 1\ncables = [\"AB\", \"CD\", \"EF\", \"GH\", \"IJ\", \"KL\", \"MN\", \"OP\", \"QR\", \"ST\"]",
         "plugs = [\"AZ\", \"BY\", \"CX\", \"DW\", \"EV\", \"FU\", \"GT\", \"HS\", \"IR\", \"JQ\"]",
@@ -137,7 +137,7 @@ static SPARES: [SpareCase; 9] = [
         "plugs = [\"AC\", \"BD\", \"EG\", \"FH\", \"IK\", \"JL\", \"MO\", \"NP\", \"UV\", \"WX\"]",
         &[],
     ),
-    // Two pairs more than cables in use: the two spare cables with the lowest numbers are taken.
+    // Two pairs more than cables in use: the two empty cables with the lowest numbers get pairs.
     (
         "version = 1\ncables = [\"AB\", \"CD\", \"EF\", \"GH\", \"IJ\", \"KL\", \"MN\", \"OP\"]",
         "plugs = [\"AZ\", \"BY\", \"CX\", \"DW\", \"EV\", \"FU\", \"GT\", \"HS\", \"IR\", \"JQ\"]",
@@ -161,7 +161,7 @@ static SPARES: [SpareCase; 9] = [
         "plugs = [\"YZ\", \"WX\"]",
         &[],
     ),
-    // All thirteen cables are spare.
+    // All thirteen cables are empty; and then only cable 1.
     (
         "version = 1\ncables = []",
         "plugs = [\"AB\", \"CD\", \"EF\", \"GH\", \"IJ\", \"KL\", \"MN\", \"OP\", \"QR\", \"ST\", \"UV\", \"WX\", \"YZ\"]",
@@ -174,7 +174,9 @@ static SPARES: [SpareCase; 9] = [
     ),
 ];
 
-/// Checks that the card is shortest, and plugs just these spare cables, with two letters each.
+/// Checks that the planned card is shortest, and puts two letters into each of the cables `taken`.
+///
+/// It must put letters into no other cable that is empty.
 fn keeps_spares_free(rt: &impl Abort, alloc: Global, (cables, plugs, taken): &SpareCase) {
     let told = (
         (M1, "version = 1", *cables),

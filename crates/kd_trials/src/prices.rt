@@ -12,7 +12,7 @@ use kd_tables::MemorySink;
 use std::alloc::Global;
 use std::process::Abort;
 
-/// A machine and a day, a card, and the answer of `check`.
+/// A machine and a day, a card, and the result of `check`.
 type Case = (Told, File, Result<(), Doubt>);
 
 static CASES: [Case; 29] = [
@@ -71,7 +71,7 @@ static CASES: [Case; 29] = [
     (UNLIKE_BARS, (OneBarKind, "", ""), Err(Doubt::PriceMissing)),
 ];
 
-/// Checks the answer of `check` for a card.
+/// Checks the result of `check` for a card.
 fn is_said(rt: &impl Abort, alloc: Global, (told, (text, old, new), due): &Case) {
     let (machine, day) = keyed(rt, alloc, told);
     let text = text
@@ -90,7 +90,7 @@ fn cards_are_checked(rt: HostRuntime) {
     }
 }
 
-/// A machine and a day, a card, and its text with one price for each kind.
+/// A machine and a day, a card, and the text that `by_kind` gives the card, with one price for each kind.
 ///
 /// There is no such text if the prices are by kind already, or if two bars of one kind have different prices.
 static KINDS: [(Told, File, Option<TextName>); 8] = [
@@ -98,7 +98,7 @@ static KINDS: [(Told, File, Option<TextName>); 8] = [
     (CABLES, (TwoCables, "", ""), Some(TwoCableKinds)),
     (TWO_BARS, (BarKinds, "", ""), None),
     (TWO_BARS, (OneLug, "BARS 1 1 0 0", "BARS 1 1 1 -1"), None),
-    // One kind with thirteen or 27 things, and as many kinds as things.
+    // All 13 cables or all 27 bars are of one kind; or they are of 13 or 27 different kinds.
     (PLAIN, (NoSettings, "", ""), Some(EmptyKinds)),
     (FULL_CABLES, (NoSettings, "", ""), Some(UnlikeCableKinds)),
     (ALIKE_BARS, (NoLugs, "", ""), Some(OneBarKind)),
@@ -119,12 +119,14 @@ const FULL_CABLES: Told = (
     ),
 );
 
-/// A Converter whose bars all have one standing, and one whose bars all have different ones, on their days.
+/// A Converter whose bars all have the same standing, on its day.
+///
+/// The bars of `UNLIKE_BARS` have different standings.
 const ALIKE_BARS: Told = ((AllMet, "", ""), (DayOfAllMet, "", ""));
 
 const UNLIKE_BARS: Told = ((UnlikeBars, "", ""), (DayOfUnlikeBars, "", ""));
 
-/// Checks the text of a card with one price for each kind.
+/// Checks the text that `by_kind` gives a card, with one price for each kind.
 fn becomes(
     rt: &impl Abort,
     alloc: Global,

@@ -6,7 +6,7 @@ use kd_step::Stepper;
 use kd_tables::Wheel;
 use std::process::Abort;
 
-/// Steps the wheels from a window, and compares the window after each step.
+/// Steps the wheels from the window `from`, and checks that the window after each step is as in `shown`.
 fn steps<const S: usize>(rt: &impl Abort, wheels: &[Wheel; S], from: &[u8; S], shown: &[[u8; S]])
     requires least { 3 ≤ S }
     requires most { S ≤ 4 }
@@ -38,7 +38,7 @@ static OF_THREE: [(&[Wheel; 3], &[u8; 3], &[[u8; 3]]); 4] = [
     ),
 ];
 
-/// Compares the windows for three wheels, and for four.
+/// Checks the windows of three wheels, and of four.
 ///
 /// The middle wheel steps twice in a row, but only once if the right wheel is at its notch too. A wheel can
 /// have two notches. Beta never steps.

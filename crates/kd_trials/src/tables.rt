@@ -23,7 +23,7 @@ static WHEELS: [PublishedWheel; 10] = [
     (Wheel::Gamma, "Gamma", b"FSOKANUERHMBTIYCWLQPZXVGJD", b""),
 ];
 
-/// Checks name, wiring and notches of a wheel.
+/// Checks the name, the wiring and the notches of a wheel.
 fn is_published(rt: &impl Abort, (wheel, name, wired, notches): &PublishedWheel) {
     assert_eq!(rt; wheel.text().as_str(), *name);
     assert!(rt; Wheel::from_text(name.as_bytes()) == Some(*wheel));
@@ -82,7 +82,7 @@ fn models_have_names_and_parts(rt: HostRuntime) {
     }
 }
 
-/// The number of a Converter's wheel, a letter, and its place on the wheel.
+/// The number of a Converter's wheel, a letter, and the letter's place on the wheel, if it is on it.
 static PLACES_ON_WHEELS: [(u8, u8, Option<usize>); 13] = [
     (1, b'Z', Some(25)),
     (2, b'Z', Some(24)),
@@ -106,7 +106,7 @@ fn pin_wheels_have_their_own_letters(rt: HostRuntime) {
     }
 }
 
-/// All standings in order, each with the row that it reads as.
+/// All standings in order, each with its reading.
 static STANDINGS: [(&str, &str); 28] = [
     ("1-0L", "0-1"),
     ("1-2", "1-2"),
@@ -138,7 +138,7 @@ static STANDINGS: [(&str, &str); 28] = [
     ("0R-6", "0-6"),
 ];
 
-/// Checks text and reading of a standing.
+/// Checks the text and the reading of a standing.
 fn is_standing(rt: &impl Abort, standing: Standing, (text, reading): &(&str, &str)) {
     assert_eq!(rt; standing.text().as_str(), *text);
     assert!(rt; Standing::from_text(text.as_bytes()) == Some(standing));

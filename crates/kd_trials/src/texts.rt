@@ -75,7 +75,7 @@ rings = \"AAAAAAAAAA\"
 letters = \"AAAAAAAAAA\"
 ";
 
-/// A Converter M-209 whose first wheel meets all bars.
+/// A Converter M-209 on which the first wheel moves all bars if its acting pin is effective.
 pub const ALL_MET: &str = "version = 1
 model = \"M-209\"
 letters = \"AAAAAA\"
@@ -159,7 +159,7 @@ window = \"AAAAAA\"
 list = \"QV\"
 ";
 
-/// A card on which two cables change places.
+/// A card that makes cables AB and CD the pairs BC and DE.
 pub const TWO_CABLES: &str = "CARD 1 DAY 8
 PULL 1 A
 PULL 2 C
@@ -188,7 +188,7 @@ PAIRS 0 0 0 0 0 0 0 0 0 0 0 0 0
 SUM 0
 ";
 
-/// A card on which two cables change places, with prices by kind.
+/// `TWO_CABLES` with prices by kind.
 pub const TWO_CABLE_KINDS: &str = "CARD 2 DAY 8
 PULL 1 A
 PULL 2 C
@@ -225,7 +225,7 @@ PAIR - 13 0
 SUM 0
 ";
 
-/// A card on which all bars have one standing and all rows one reading.
+/// A card with prices by kind for bars of one kind and rows of one kind.
 pub const ALIKE_BARS: &str = "CARD 2 DAY 13
 SETTINGS 0
 BAR 1-2 27 2
@@ -233,7 +233,7 @@ ROW 3-4 27 0
 SUM 54
 ";
 
-/// A card with prices by kind; a cable with one letter comes before cables with two letters.
+/// A card with prices by kind, for cables with one letter and with two. Kinds are in a dictionary's order.
 pub const HALF_CABLES: &str = "CARD 2 DAY 31
 SETTINGS 0
 CABLE A 1 -9999
@@ -248,7 +248,7 @@ PAIR YZ 1 -12
 SUM -12
 ";
 
-/// A card with the highest price of a bar and the lowest price of a row, whose sum is 0.
+/// A card on which a bar has the highest price allowed and a row the lowest; their sum is 0.
 pub const HIGHEST: &str = "CARD 1 DAY 9
 LUG 1 R 6
 SETTINGS 1
@@ -266,7 +266,7 @@ ROWS 0 0 0 0 0 0 0 0 0 0 0 0 0 0 0 0 0 0 0 0 0 0 0 0 0 0 0
 SUM 0
 ";
 
-/// The card `NO_PRICES` with a price of the first bar that is above its cost.
+/// `NO_PRICES` with other prices, whose sum is 2. The first bar's price is higher than the costs allow.
 pub const HIGHER: &str = "CARD 1 DAY 9
 LUG 1 R 6
 SETTINGS 1
@@ -275,7 +275,9 @@ ROWS -1 0 0 0 0 0 0 0 0 0 0 0 0 0 0 0 0 0 0 0 0 0 0 0 0 0 0
 SUM 2
 ";
 
-/// A card with one line more than needed, as the first bar keeps its row, and with prices that hide this.
+/// A card that leaves bar 1 as it is, and so takes two lines where one is enough.
+///
+/// The sum of its prices is 2, as if two lines were needed, but a price is too high.
 pub const TWO_LUGS: &str = "CARD 1 DAY 9
 LUG 2 R 6
 LUG 2 L 3
@@ -299,7 +301,7 @@ ROW 3-6 1 0
 SUM 2
 ";
 
-/// A card on which the right lug of a bar makes room for the left one.
+/// A card that moves a bar's right lug to the right, so that the left lug can be moved too.
 pub const BOTH_LUGS: &str = "CARD 1 DAY 10
 LUG 1 R 6
 LUG 1 L 3
@@ -309,7 +311,7 @@ ROWS 0 0 0 0 0 0 0 0 0 0 0 0 0 0 0 0 0 0 0 0 0 0 0 0 0 0 0
 SUM 2
 ";
 
-/// A card without lines where two cables have to change places, and with prices that hide this.
+/// A card with no line and with prices 0, for cables AB and CD and the pairs BC and DE.
 pub const NO_LINE: &str = "CARD 2 DAY 8
 SETTINGS 0
 CABLE AB 1 0
@@ -508,7 +510,7 @@ ROWS 0 0 0 0 0 0 0 0 0 0 0 0 0 0 0 0 0 0 0 0 0 0 0 0 0 0 0
 SUM 0
 ";
 
-/// `NO_LUGS` for `UNLIKE_BARS`, with prices by kind: one bar of each.
+/// `NO_LUGS` for `UNLIKE_BARS`, with prices by kind: each kind has one bar.
 pub const UNLIKE_BAR_KINDS: &str = "CARD 2 DAY 1
 SETTINGS 0
 BAR 1-0L 1 0
@@ -563,7 +565,7 @@ ROW 5-6 1 0
 SUM 0
 ";
 
-/// `NO_LUGS` for `ALL_MET`, with prices by kind: one kind of bars, one kind of rows.
+/// `NO_LUGS` for `ALL_MET`, with prices by kind: all bars are of one kind, and all rows.
 pub const ONE_BAR_KIND: &str = "CARD 2 DAY 1
 SETTINGS 0
 BAR 1-0L 27 0
@@ -571,7 +573,7 @@ ROW 0-1 27 0
 SUM 0
 ";
 
-/// A card for a machine whose thirteen cables are all as the day has them, with prices by kind.
+/// A card without settings for a machine that has a cable for each of the day's 13 pairs, with prices by kind.
 pub const UNLIKE_CABLE_KINDS: &str = "CARD 2 DAY 11
 SETTINGS 0
 CABLE AB 1 0

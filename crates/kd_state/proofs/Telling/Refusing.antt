@@ -1,4 +1,4 @@
--- What a machine refuses, as its readers show it. Then settings and lists, refused and carried out.
+-- Lemmas on which settings a machine refuses, by what its readers show, and on carrying out lists of settings.
 pub mod Changing
 unfoldable pub use Changing.*
 pub use Rattle.kd_state.proofs.Prelude.{RefusalsAreTold, HasAllPins, Carries, Leads, HasLugsInOrder, has_letter}
@@ -39,7 +39,8 @@ leads_join m between n [] rest first leads = subst (λ machine. Leads machine re
 leads_join m between n (x ∷ front) rest first leads =
     (first.0, first.1, leads_join first.0 between n front rest first.2 leads)
 
--- settings that lead to a machine, and one that is carried out on this machine, together lead to the next one
+-- if the first `place` settings lead to machine `n`, and the next one changes `n` to `o`, all of these lead
+-- to `o`
 pub leads_next : (m n o : Parts) (xs : List Setting) (place : ℕ) (x : Setting) → place < length xs
     → get_or xs place x ≡ x
     → Leads m (take place xs) n → Carries n x o → Leads m (take (place + 1) xs) o
@@ -47,14 +48,16 @@ leads_next m n o xs place x within is leads carries =
     let joined = leads_join m n o (take place xs) (x ∷ []) leads (o, carries, refl) in
     grind (arith, take_more xs place x within, within, joined)
 
--- if the next setting is refused, it is the first that is refused
+-- if the settings before `place` lead to machine `n`, and `n` refuses the setting at `place`, this setting is
+-- the first that is refused
 pub stops_at : (m n : Parts) (xs : List Setting) (place : ℕ) (x : Setting) (why : Why) → place < length xs
     → get_or xs place x ≡ x
     → Leads m (take place xs) n → why_refused n x ≡ Some why → IsFirstIllegal m xs (place + 1) why
 stops_at m n xs place x why within is leads refused =
     grind (arith, take-append-drop place xs, drop-cons xs place x within, within, length-take-le place xs (omega arith))
 
--- a setting with one reason to refuse it isn't refused exactly if `P` holds, which the test decides
+-- if the only reason to refuse a setting is that the test `may` fails, and `may` passes exactly if `P` holds,
+-- then the setting isn't refused exactly if `P` holds
 pub by_one_test : {P : Type 0} (may : Bool) (why : Why) → Decides may P
     → (first_reason ((not may, why) ∷ []) ≡ None) ↔ P
 by_one_test may why tells = grind (arith, not-false, no_reason, tells.1)
@@ -74,7 +77,7 @@ rings_by_the_tables m wheel letter = by_one_test _ WheelNotAllowed (has_wheel-De
 
 -- ---- cables
 
--- a letter can be pulled exactly if it is in the cable
+-- pulling a letter isn't refused exactly if the letter is in the cable
 pull_allowed : (found : Option (Option ℕ × Option ℕ)) (letter : ℕ)
     → (first_reason ((is_none found, NoSuchCable)
     ∷ (not (has_letter (cable_letters (unwrap_or found (None, None))) letter), NotThere) ∷ []) ≡ None)

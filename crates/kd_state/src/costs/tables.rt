@@ -1,4 +1,4 @@
-//! The cost tables: for each cable and each pair of the day (or none), and for each bar and each row.
+//! The cost tables: for each cable and each of the day's columns, and for each bar and each row.
 ghost use Rattle.std.specs.Prelude.{◌≡◌, ◌≤◌, None, length, map, slice_index_or};
 ghost use Rattle.kd_state.specs.Costs as costs;
 ghost use Rattle.kd_state.specs.Costs.{columns_of};
@@ -7,7 +7,7 @@ use crate::costs::{bar_cost, cable_cost};
 use crate::machine::cable::Cable;
 use kd_tables::{Letter, Reading, Standing};
 
-/// Column `place`, counted from 0: a pair of the day, or `None` after the last pair.
+/// Column `place` of the day, counted from 0: one of its pairs, or `None` after the last pair.
 #[tactic(auto, using(std::proofs::lemmas::Option::gets, crate::proofs::CostTable::columns_are_the_pairs))]
 pub fn column_at(pairs: &[(Letter, Letter)], place: usize) -> Option<(Letter, Letter)>
     ensures { result ≡ slice_index_or (columns_of pairs.now) place None }
@@ -15,10 +15,10 @@ pub fn column_at(pairs: &[(Letter, Letter)], place: usize) -> Option<(Letter, Le
     pairs.get(place).copied()
 }
 
-/// The cost of each cable at each column.
+/// The cost of giving each cable each column.
 ///
-/// Entry `[i][j]` is for cable `i` and column `j`, both counted from 0. The 13 columns are the day's pairs,
-/// and then `None`.
+/// Entry `[i][j]` is for cable `i` and column `j`, both counted from 0. The first of the 13 columns are the
+/// day's pairs; the others are `None`.
 pub fn cable_costs(cables: &[Cable; 13], pairs: &[(Letter, Letter)]) -> [[u8; 13]; 13]
     requires { length pairs.now ≤ 13 }
     ensures { result ≡ costs.cable_costs cables.now pairs.now }
@@ -30,7 +30,7 @@ pub fn cable_costs(cables: &[Cable; 13], pairs: &[(Letter, Letter)]) -> [[u8; 13
     costs
 }
 
-/// The cost of one cable at each column.
+/// The cost of giving one cable each column.
 fn costs_of_cable(cable: &Cable, pairs: &[(Letter, Letter)]) -> [u8; 13]
     requires { length pairs.now ≤ 13 }
     ensures { result ≡ map (costs.cable_cost cable.now) (columns_of pairs.now) }
@@ -42,7 +42,7 @@ fn costs_of_cable(cable: &Cable, pairs: &[(Letter, Letter)]) -> [u8; 13]
     costs
 }
 
-/// The cost of each bar at each of the sheet's rows.
+/// The cost of giving each bar each of the day's rows.
 ///
 /// Entry `[i][j]` is for bar `i` and row `j`, both counted from 0.
 pub fn bar_costs(bars: &[Standing; 27], rows: &[Reading; 27]) -> [[u8; 27]; 27]
@@ -55,7 +55,7 @@ pub fn bar_costs(bars: &[Standing; 27], rows: &[Reading; 27]) -> [[u8; 27]; 27]
     costs
 }
 
-/// The cost of one bar at each of the sheet's rows.
+/// The cost of giving one bar each of the day's rows.
 fn costs_of_bar(bar: Standing, rows: &[Reading; 27]) -> [u8; 27]
     ensures { result ≡ map (costs.bar_cost bar) rows.now }
 {

@@ -1,4 +1,4 @@
-//! Whether a machine is ready to encipher, and the engine made of it.
+//! Whether a machine is ready to encipher, and the engine of a ready machine.
 ghost use Rattle.std.specs.Prelude.{◌≡◌, ◌≢◌, ◌↔◌, ◌<◌, ◌≤◌, ◌+◌, ◌++◌, length, map, filter_map, All, Contains, IsTrue};
 ghost use Rattle.std.specs.Prelude.{IsSome, IfSome, MatchOption, Some, None};
 ghost use Rattle.std.specs.Option.{option_to_list};
@@ -54,7 +54,7 @@ impl Machine {
         }
     }
 
-    /// Creates an engine of the machine as it stands.
+    /// Creates an engine that enciphers as this machine does, from the letters that the machine shows.
     ///
     /// Returns `NotReady` if a slot is empty or a cable has exactly one letter.
     pub fn engine(&self) -> Result<Engine, NotReady>
@@ -84,7 +84,7 @@ fn rotor_engine(parts: &RotorParts) -> Option<Engine>
     Some(Engine::from_wheels(wheels.as_slice(), parts.reflector, plugs))
 }
 
-/// The wheels in the slots with their rings and letters, if no slot is empty.
+/// The wheels in the slots, with their rings and window letters. `None` if a slot is empty.
 fn seated_wheels(parts: &RotorParts) -> Option<ArrayVec<SheetWheel, 4>>
     requires { IsLegalRotor parts.now }
     ensures { MatchOption result (Contains (map (wheel_in_seat parts.now) parts.now.slots) None)
@@ -98,7 +98,7 @@ fn seated_wheels(parts: &RotorParts) -> Option<ArrayVec<SheetWheel, 4>>
     Some(wheels)
 }
 
-/// The wheel `seated`, if any, with its ring and its window letter.
+/// The wheel `seated` with its ring and its window letter. `None` if `seated` is `None`.
 fn seated_wheel(parts: &RotorParts, seated: Option<Wheel>) -> Option<SheetWheel>
     requires rings { length parts.now.rings ≡ length (box_of parts.now.model) }
     requires letters { length parts.now.letters ≡ length (box_of parts.now.model) }
@@ -114,7 +114,7 @@ fn seated_wheel(parts: &RotorParts, seated: Option<Wheel>) -> Option<SheetWheel>
     })
 }
 
-/// The exchange of letters that the cables make, if no cable has exactly one letter.
+/// The plugs that exchange letters as the cables do. `None` if a cable has exactly one letter.
 #[tactic(auto, using(crate::proofs::Cables::no_letter_twice))]
 fn plugs_of(cables: &[Cable; 13]) -> Option<Plugs>
     requires { AreCables cables.now }

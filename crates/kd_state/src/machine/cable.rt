@@ -11,7 +11,7 @@ use kd_tables::Letter;
 /// A cable's letters: none, one or two.
 pub type Cable = (Option<Letter>, Option<Letter>);
 
-/// The cable with the letters `one` and `other` in alphabetical order, a single letter first.
+/// The cable with the letters `one` and `other` in alphabetical order. A single letter is in the first end.
 pub(crate) fn cable_in_order(one: Option<Letter>, other: Option<Letter>) -> Cable
     ensures { result ≡ cable_in_order one other }
 {
@@ -23,7 +23,7 @@ pub(crate) fn cable_in_order(one: Option<Letter>, other: Option<Letter>) -> Cabl
     }
 }
 
-/// Puts the letters of each cable in alphabetical order, a single letter first.
+/// Puts the letters of each cable in alphabetical order. A single letter moves to the first end.
 pub(crate) fn put_in_order(cables: &mut [Cable])
     ensures { cables.new ≡ map (λ cable. cable_in_order cable.0 cable.1) cables.old }
 {
@@ -40,7 +40,7 @@ pub fn lies_in(cable: &Cable, letter: Letter) -> bool
     is_letter(cable.0, letter) || is_letter(cable.1, letter)
 }
 
-/// Whether the end of a cable, `end`, has `letter`.
+/// Whether `end`, which is one end of a cable, has `letter`.
 fn is_letter(end: Option<Letter>, letter: Letter) -> bool
     ensures { result ≡ has_letter (option_to_list end) letter }
 {
@@ -70,7 +70,7 @@ pub fn letters_in_order(one: Letter, other: Letter) -> (Letter, Letter)
     }
 }
 
-/// `cable` without `letter`.
+/// `cable` without `letter`, for a letter that is in it.
 pub(crate) fn cable_without(cable: &Cable, letter: Letter) -> Cable
     ensures { result ≡ cable_without letter cable.now }
 {
@@ -81,7 +81,7 @@ pub(crate) fn cable_without(cable: &Cable, letter: Letter) -> Cable
     }
 }
 
-/// Whether no letter is in two places of the cables.
+/// Whether all letters in the cables are different.
 pub(crate) fn have_no_letter_twice(cables: &[Cable]) -> bool
     ensures { IsTrue result ↔ IsDistinct nat_eq (letters_in_cables cables.now) }
 {

@@ -24,7 +24,7 @@ use kd_tables::{Letter, Model, Reading};
 impl Machine {
     ghost use Rattle.kd_state.specs.OnKey.{OnKey, ReadsAs, ShowsWindow};
 
-    /// Whether the machine is set as `day` says, whichever letters it shows.
+    /// Whether the machine is set as `day` says; it may show other letters than the day's.
     pub fn on_key(&self, day: &SheetDay) -> bool
         ensures { IsTrue result ↔ OnKey self.now day.now }
     {
@@ -59,7 +59,7 @@ impl Machine {
     }
 }
 
-/// Whether wheels, rings, reflector and cables are the day's.
+/// Whether model, wheels, rings, reflector and cables are the day's.
 fn is_rotor_on_key(parts: &RotorParts, entry: &RotorEntry) -> bool
     requires { IsLegalRotor parts.now }
     ensures { IsTrue result ↔ IsRotorOnKey parts.now (rotor_values entry.now) }
@@ -77,7 +77,7 @@ fn is_rotor_on_key(parts: &RotorParts, entry: &RotorEntry) -> bool
     are_the_pairs(&parts.cables, entry.pairs.as_slice())
 }
 
-/// Whether each of the day's wheels has its ring in `rings`, in a slot or in the box.
+/// Whether each of the day's `wheels` has the day's ring in `rings`, which are in box order.
 fn have_rings(model: Model, rings: &PerWheel<Letter>, wheels: &[SheetWheel]) -> bool
     requires { length rings.now ≡ length (box_of model) }
     ensures { IsTrue result
@@ -92,7 +92,7 @@ fn have_rings(model: Model, rings: &PerWheel<Letter>, wheels: &[SheetWheel]) -> 
     }
 }
 
-/// Whether each of the day's wheels has its letter in `letters`, in a slot or in the box.
+/// Whether each of the day's `wheels` has the day's letter in `letters`, which are in box order.
 fn have_letters(model: Model, letters: &PerWheel<Letter>, wheels: &[SheetWheel]) -> bool
     requires { length letters.now ≡ length (box_of model) }
     ensures { IsTrue result
@@ -107,7 +107,7 @@ fn have_letters(model: Model, letters: &PerWheel<Letter>, wheels: &[SheetWheel])
     }
 }
 
-/// Whether `readings` are `rows` in any order; each reading must come as often in both.
+/// Whether `readings` and `rows` have the same readings, each as often, in any order.
 fn are_same_readings(readings: [Reading; 27], rows: [Reading; 27]) -> bool
     ensures { IsTrue result ↔ IsPermutation readings rows }
 {

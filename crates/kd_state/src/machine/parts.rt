@@ -10,9 +10,9 @@ use crate::setting::why::Why;
 /// The parts of a machine as it stands on the desk.
 #[derive(Clone, Copy)]
 pub enum Parts {
-    /// An Enigma I, an M3 or an M4.
+    /// The parts of an Enigma I, an M3 or an M4.
     Rotor(RotorParts),
-    /// A Converter M-209.
+    /// The parts of a Converter M-209.
     Pin(PinParts),
 }
 

@@ -57,7 +57,7 @@ impl<T: Copy> PerSlot<T> {
         }
     }
 
-    /// Sets the value of `place`, counted from the left from 0.
+    /// Sets the value for the slot at `place`, counted from 0 from the left.
     pub fn set(&mut self, place: usize, value: T)
         requires { place < length self.old }
         ensures { self.new ≡ slice_set self.old place value }
@@ -70,7 +70,7 @@ impl<T: Copy> PerSlot<T> {
 }
 
 impl PerSlot<Option<Wheel>> {
-    /// Takes `wheel` out of its slot, if it is in one.
+    /// Empties the slot that holds `wheel`, if one does.
     pub(crate) fn take_out(&mut self, wheel: Wheel)
         ensures { self.new ≡ map (seat_without wheel) self.old }
     {
@@ -99,7 +99,7 @@ impl PerSlot<Option<Wheel>> {
 impl PerSlot<SheetWheel> {
     ghost use Rattle.kd_state.specs.SheetDay.{seats_of_wheels};
 
-    /// The wheels without rings and letters, each in its slot.
+    /// What each slot holds: the wheels, without their rings and letters.
     pub(crate) fn seats(&self) -> PerSlot<Option<Wheel>>
         ensures { result ≡ seats_of_wheels self.now }
     {
@@ -120,7 +120,7 @@ impl PerSlot<SheetWheel> {
     }
 }
 
-/// The wheel `seated`, or `None` if it is `wheel`.
+/// What a slot that holds `seated` holds after `wheel` was taken out of the machine.
 fn seat_without(seated: Option<Wheel>, wheel: Wheel) -> Option<Wheel>
     ensures { result ≡ seat_without wheel seated }
 {

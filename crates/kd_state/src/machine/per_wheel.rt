@@ -59,7 +59,7 @@ impl<T: Copy> PerWheel<T> {
         }
     }
 
-    /// Sets the value of `place` in box order, counted from 0.
+    /// Sets the value for the wheel at `place` in the box, counted from 0.
     pub fn set(&mut self, place: usize, value: T)
         requires { place < length self.old }
         ensures { self.new ≡ slice_set self.old place value }

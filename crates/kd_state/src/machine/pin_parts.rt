@@ -15,7 +15,7 @@ pub struct PinParts {
     pub pins: PinSet,
     /// The letter that each wheel shows, from wheel 1 to wheel 6.
     pub letters: [Letter; 6],
-    /// Where the lugs of each bar stand, from bar 1 to bar 27.
+    /// The places of the two lugs of each bar, from bar 1 to bar 27.
     pub bars: [Standing; 27],
 }
 

@@ -25,7 +25,9 @@ impl Machine {
         }
     }
 
-    /// The wheel in slot `slot`, counted from 1 from the left, or nothing. `None` if there is no such slot.
+    /// The wheel in slot `slot`, counted from 1 from the left. `Some(None)` if the slot is empty.
+    ///
+    /// `None` if there is no such slot.
     pub fn slot(&self, slot: u8) -> Option<Option<Wheel>>
         ensures { result ≡ machine_slot self.now slot }
     {
@@ -45,7 +47,7 @@ impl Machine {
         }
     }
 
-    /// The ring of a wheel of the box, in a slot or not: 01 is A. `None` if the box lacks the wheel.
+    /// The ring of `wheel`, in a slot or not; ring 01 is A. `None` if the machine's box lacks the wheel.
     pub fn ring(&self, wheel: Wheel) -> Option<Letter>
         ensures { result ≡ machine_ring self.now wheel }
     {
@@ -55,7 +57,7 @@ impl Machine {
         }
     }
 
-    /// The window letter of a wheel of the box, in a slot or not. `None` if the box lacks the wheel.
+    /// The window letter of `wheel`, in a slot or not. `None` if the machine's box lacks the wheel.
     pub fn letter(&self, wheel: Wheel) -> Option<Letter>
         ensures { result ≡ machine_letter self.now wheel }
     {
@@ -67,7 +69,7 @@ impl Machine {
 
     /// The letters in cable `cable`, counted from 1. `None` if there is no such cable.
     ///
-    /// They are in alphabetical order, a single letter first.
+    /// They are in alphabetical order; a single letter is in the first end.
     pub fn cable(&self, cable: u8) -> Option<Cable>
         ensures { result ≡ machine_cable self.now cable }
     {
@@ -110,7 +112,7 @@ impl Machine {
     }
 }
 
-/// The letter of `wheel` in `letters`, which are in box order. `None` if the box lacks the wheel.
+/// The letter of `wheel` in `letters`, which are in box order. `None` if the model's box lacks the wheel.
 #[tactic(auto, using(crate::proofs::Wheels::place_nowhere, crate::proofs::Prelude::slice_get_past))]
 pub(crate) fn letter_of_wheel(
     model: Model,

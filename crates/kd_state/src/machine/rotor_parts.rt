@@ -15,12 +15,12 @@ use kd_tables::{Letter, Model, Reflector, Wheel, allowed_reflector};
 #[derive(Clone, Copy)]
 pub struct RotorParts {
     pub model: Model,
-    /// The wheel in each slot, or nothing, from the left.
+    /// The wheel in each slot, from the left; `None` for an empty slot.
     pub slots: PerSlot<Option<Wheel>>,
     pub reflector: Reflector,
-    /// The ring of each wheel of the box, in a slot or not, in box order. 01 is A.
+    /// The ring of each wheel, in box order, whether the wheel is in a slot or not. Ring 01 is A.
     pub rings: PerWheel<Letter>,
-    /// The window letter of each wheel of the box, in a slot or not, in box order.
+    /// The window letter of each wheel, in box order, whether the wheel is in a slot or not.
     pub letters: PerWheel<Letter>,
     /// The letters in each cable, from cable 1 to cable 13.
     pub cables: [Cable; 13],

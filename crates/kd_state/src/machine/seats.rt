@@ -8,7 +8,7 @@ ghost use Rattle.kd_state.specs.Machine.{AreWheelsAllowed, AreSeatedOnce, IsSeat
 use crate::machine::per_slot::PerSlot;
 use kd_tables::{Model, Wheel, allowed};
 
-/// The place of `wheel` in the model's box, counted from 0.
+/// The place of `wheel` in the model's box, counted from 0. `None` if the box lacks the wheel.
 pub(crate) fn place_in_box(model: Model, wheel: Wheel) -> Option<usize>
     ensures { SomeIff result (Contains (box_of model) wheel) (place_in_box model wheel) }
 {
@@ -20,7 +20,7 @@ pub(crate) fn place_in_box(model: Model, wheel: Wheel) -> Option<usize>
     None
 }
 
-/// Whether `slots` are the model's, each wheel is allowed in its slot, and no wheel is in two.
+/// Whether there is one item for each slot of the model, each wheel is allowed in its slot, and none is in two.
 pub(crate) fn are_legal_seats(model: Model, slots: &PerSlot<Option<Wheel>>) -> bool
     ensures { IsTrue result ↔ (length slots.now ≡ slots_of model) × AreWheelsAllowed model slots.now
         × AreSeatedOnce slots.now }
@@ -43,7 +43,7 @@ fn are_allowed(model: Model, slots: &[Option<Wheel>]) -> bool
     true
 }
 
-/// Whether `seated` is allowed in slot `slot`, counted from 1 from the left. `None` always is.
+/// Whether slot `slot`, counted from 1 from the left, may hold `seated`, a wheel or none.
 fn may_stand(model: Model, slot: u8, seated: Option<Wheel>) -> bool
     ensures { IsTrue result ↔ IfSome seated (IsAllowed model slot) }
 {
@@ -65,7 +65,7 @@ fn are_seated_once(slots: &[Option<Wheel>]) -> bool
     true
 }
 
-/// Whether the wheel `seated` at `place`, if any, is in no other slot.
+/// Whether `seated`, the wheel in the slot at `place`, is in no other slot. True if `seated` is `None`.
 fn is_alone(slots: &[Option<Wheel>], place: usize, seated: Option<Wheel>) -> bool
     ensures { IsTrue result ↔ IfSome seated
         (λ wheel. (other : ℕ) → IsSeatedAt slots.now other wheel → other ≡ place) }

@@ -14,7 +14,7 @@ use arrayvec::ArrayString;
 use kd_tables::{Letter, Lug, Place, Reflector, Wheel};
 
 impl Setting {
-    /// The setting's line, without LF.
+    /// The setting's line without LF, as `PULL 3 K`.
     pub fn line(&self) -> ArrayString<24>
         ensures value { result.bytes ≡ setting_line self.now }
         ensures short { array_string_len result < 24 }
@@ -56,7 +56,7 @@ impl Setting {
         }
     }
 
-    /// Reads a line without LF as a setting.
+    /// The setting with the line `text`, which has no LF; `None` if it isn't the line of a setting.
     #[tactic(auto, using(crate::proofs::Lines::too_many_words, crate::proofs::Lines::read_by_words))]
     pub fn from_line(text: &[u8]) -> Option<Self>
         ensures value { MatchOption result
@@ -69,7 +69,7 @@ impl Setting {
     }
 }
 
-/// The prefix of a line: `word` and `number`, each with a space after it.
+/// The first part of a setting's line: `word` and `number`, each with a space after it.
 fn line_prefix(word: &str, number: u8) -> ArrayString<24>
     requires { length word.now ≤ 4 }
     ensures bytes { result.bytes ≡ word.now ++ 32 ∷ decimal number ++ 32 ∷ [] }
@@ -83,7 +83,7 @@ fn line_prefix(word: &str, number: u8) -> ArrayString<24>
     line
 }
 
-/// A whole line: `word`, `number` and `letter`.
+/// A setting's line of three words: `word`, `number` and `letter`.
 fn letter_line(word: &str, number: u8, letter: Letter) -> ArrayString<24>
     requires { length word.now ≤ 4 }
     ensures bytes { result.bytes ≡ word.now ++ 32 ∷ decimal number ++ 32 ∷ letter_text letter }
@@ -94,7 +94,7 @@ fn letter_line(word: &str, number: u8, letter: Letter) -> ArrayString<24>
     line
 }
 
-/// The line of a ring setting.
+/// The line of the setting that sets the ring of `wheel` to `letter`.
 fn ring_setting_line(wheel: Wheel, letter: Letter) -> ArrayString<24>
     ensures value { result.bytes ≡ setting_line (RingTo wheel letter) }
     ensures short { array_string_len result < 24 }
@@ -107,7 +107,7 @@ fn ring_setting_line(wheel: Wheel, letter: Letter) -> ArrayString<24>
     line
 }
 
-/// Reads the words of a line as a setting.
+/// The setting whose line has these words; `None` if there is no such setting.
 fn setting_of_words(words: &[&[u8]]) -> Option<Setting>
     ensures { IsSettingOfWords (map (λ word. word.now) words.now) result }
 {

@@ -24,7 +24,7 @@ pub enum ListFault {
 }
 
 impl ListFault {
-    /// The refusal's number and name, and the line of `BadLine`.
+    /// The refusal's number and name, and for `BadLine` the number of the line.
     pub fn text(&self) -> Text
         ensures { result.bytes ≡ list_fault_text self.now }
     {
@@ -57,7 +57,7 @@ pub fn read_list(text: &[u8]) -> Result<Settings, ListFault>
     }
 }
 
-/// Reads setting lines up to the first line that isn't one; returns the settings and the rest of `text`.
+/// Reads lines up to the first that isn't a setting's; returns the settings and the rest of `text`.
 ///
 /// `None` if there are more than 192 settings.
 pub fn split_settings(text: &[u8]) -> Option<(Settings, &[u8])>

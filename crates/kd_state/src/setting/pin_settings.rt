@@ -42,7 +42,7 @@ impl PinParts {
         Ok(())
     }
 
-    /// Makes the pin at `letter` of pin wheel `wheel` effective, or not.
+    /// Makes the pin at `letter` of pin wheel `wheel` effective, or not effective.
     #[tactic(auto, using(crate::proofs::Slots::on_wheels))]
     fn pin_to(&mut self, wheel: u8, letter: Letter, effective: bool) -> Result<(), Why>
         ensures { IsCarryAnswer (Parts.Pin self.old) (Setting.PinTo wheel letter effective)
@@ -76,7 +76,7 @@ impl PinParts {
     }
 }
 
-/// The place of the bar's other lug.
+/// The place, in `standing`, of the bar's other lug: the one that isn't `lug`.
 fn other_place(standing: Standing, lug: Lug) -> Place
     ensures { result ≡ lug_place (other_lug lug) standing }
 {

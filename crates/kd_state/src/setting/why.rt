@@ -22,7 +22,7 @@ pub enum Why {
     WheelNotAllowed,
     /// The slot is empty or doesn't exist, or there is no pin wheel with this number.
     SlotEmpty,
-    /// The letter isn't on the pin wheel. For a pin, also: there is no wheel with this number.
+    /// The letter isn't on the pin wheel. To set a pin, also: there is no pin wheel with this number.
     NotOnWheel,
     /// There is no bar with this number.
     NoSuchBar,
@@ -54,7 +54,7 @@ impl Why {
     }
 }
 
-/// A setting that the machine refuses.
+/// The machine refuses a setting, for the reason `why`.
 #[derive(Clone, Copy, Debug, Error)]
 #[error("{}", self.text())]
 pub struct Illegal {

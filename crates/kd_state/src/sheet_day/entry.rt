@@ -5,12 +5,12 @@ ghost use Rattle.kd_state.specs.SheetDay.{IsDayNumber};
 use crate::sheet_day::pin_entry::PinEntry;
 use crate::sheet_day::rotor_entry::RotorEntry;
 
-/// The entry of a day in a key sheet.
+/// The values of a day of a key sheet.
 #[derive(Drop)]
 pub enum Entry {
-    /// For an Enigma I, an M3 or an M4.
+    /// A day for an Enigma I, an M3 or an M4.
     Rotor(RotorEntry),
-    /// For a Converter M-209.
+    /// A day for a Converter M-209.
     Pin(PinEntry),
 }
 

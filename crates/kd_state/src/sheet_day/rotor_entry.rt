@@ -19,7 +19,7 @@ pub struct SheetWheel {
     pub letter: Letter,
 }
 
-/// Wheel I with ring and window at A; it fills unused places of lists.
+/// Wheel I with ring and window letter A. It fills the unused places of an array of wheels.
 impl Default for SheetWheel {
     ghost use Rattle.std.specs.Prelude.{◌≡◌};
     ghost use Rattle.kd_tables.specs.declared.wheel.Wheel.TheVariants.{I};
@@ -45,7 +45,7 @@ pub struct RotorEntry {
     pub wheels: PerSlot<SheetWheel>,
     /// The plugged pairs, in the sheet's order.
     pub pairs: ArrayVec<(Letter, Letter), 13>,
-    /// The groups of the day's messages.
+    /// The day's groups of three letters; each part of a message has one of them.
     pub groups: ArrayVec<[Letter; 3], 4>,
 }
 
@@ -53,7 +53,7 @@ impl RotorEntry {
     ghost use Rattle.kd_state.specs.SheetDay.{IsLegalRotorDay, AreOneOfGroups};
     ghost use Rattle.kd_state.specs.Entry.{rotor_values};
 
-    /// Whether a key sheet can have this day.
+    /// Whether a key sheet can have a day with these values.
     pub(crate) fn is_legal(&self) -> bool
         ensures { IsTrue result ↔ IsLegalRotorDay (rotor_values self.now) }
     {
@@ -78,7 +78,7 @@ impl RotorEntry {
     }
 }
 
-/// Whether `group` and `letters` are the same letters in any order.
+/// Whether `group` and `letters` have the same letters, each as often, in any order.
 fn are_reordered(group: [Letter; 3], letters: [Letter; 3]) -> bool
     ensures { IsTrue result ↔ IsPermutation group letters }
 {

@@ -1,4 +1,4 @@
-//! Cards that are refused, for their lines, their length, or their end.
+//! Tests of cards that are refused: for a line, for too many settings, or because they break off.
 use super::{CARDS, Sample};
 use crate::texts::{BAR_KINDS, ONE_LUG, TWO_CABLE_KINDS, TWO_CABLES};
 use kd_card::CardFault::{self, BadHead, BadLine, CountWrong, PriceMissing, TooMany, Trailing};
@@ -6,10 +6,10 @@ use kd_card::read_card;
 use std::alloc::{AllocError, Global};
 use std::process::Abort;
 
-/// A part of a card, its replacement, and the fault of the changed card.
+/// A text in a card, what replaces it, and the fault of the changed card.
 type Case = (&'static str, &'static str, CardFault);
 
-/// Cards, each with its cases in the order of its lines.
+/// Cards, each with its cases, in the order of the lines that are changed.
 static REFUSED: [(&str, &[Case]); 4] = [
     (
         TWO_CABLES,
@@ -170,7 +170,7 @@ fn other_cards_are_refused(rt: HostRuntime) -> Result<(), AllocError> {
     Ok(())
 }
 
-/// How many settings a card has, and its fault if it says that there are four.
+/// How many settings a card has whose line is `SETTINGS 4`, and the fault of this card.
 static COUNTS: [(usize, CardFault); 3] = [(192, CountWrong), (193, TooMany), (194, TooMany)];
 
 #[test]
@@ -184,7 +184,7 @@ fn no_more_than_192_settings_are_read(rt: HostRuntime) -> Result<(), AllocError>
     Ok(())
 }
 
-/// The fault of a card's prefix `front`.
+/// The fault that `front`, a prefix of the sample's card, must have.
 fn fault_behind((_, _, lines): &Sample, front: &[u8]) -> CardFault {
     let (count, sum) = *lines;
     match front.split(|byte| *byte == b'\n').count() {

@@ -1,10 +1,12 @@
-//! Cards that are written as they were read.
+//! Tests of cards that are read, and written as they were read.
 use super::{CARDS, Sample};
 use kd_card::{read_card, write_card};
 use kd_tables::MemorySink;
 use std::process::Abort;
 
-/// Reads a card, and writes it into sinks of every size: each takes as much of the text as it has room for.
+/// Reads a card, and writes it to sinks with less room than the card needs, and to one with enough.
+///
+/// Each sink must take as much of the card's text as it has room for.
 fn is_read_and_written(rt: &impl Abort, (text, due, _): &Sample) {
     let text = text.as_bytes();
     let (day, card) = read_card(text).ok().expect(rt, "a card");

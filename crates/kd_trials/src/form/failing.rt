@@ -1,4 +1,4 @@
-//! Sources and sinks that fail.
+//! Tests of messages whose source or sink fails.
 use super::samples::{CONVERTER_FORM, CONVERTER_ORDER, KEYS, TWO_PARTS, order_of};
 use crate::machines::{IDLE, Keyed, PLAIN, keyed};
 use kd_form::{FormFault, receive_stream, send, send_stream};
@@ -6,9 +6,10 @@ use kd_tables::{MemorySink, MemorySource};
 use std::process::Abort;
 use std::test::Fail;
 
-/// Checks what is written of a form before a get or a put fails.
+/// Checks that sending an order fails with `Device`, and what is written of the form before.
 ///
-/// The source gives `gets` pieces before it fails, and the sink has room for `room` bytes.
+/// The source fails after `gets` calls of `get`, of at most 7 bytes each; with `None`, it doesn't fail. The
+/// sink has room for `room` bytes.
 fn sending_fails(
     rt: &impl Abort,
     (machine, day): &Keyed,
@@ -24,7 +25,7 @@ fn sending_fails(
     assert_eq!(rt; sink.taken(), written);
 }
 
-/// `sending_fails` for a form and its text.
+/// `sending_fails` for a form that is received, and for its text.
 fn receiving_fails(
     rt: &impl Abort,
     (machine, day): &Keyed,
@@ -40,7 +41,7 @@ fn receiving_fails(
     assert_eq!(rt; sink.taken(), written);
 }
 
-/// The 246th letter comes with the 42nd get; then the first part is written.
+/// The 42nd `get` gives the 246th letter, which shows that the first part is complete. It is written then.
 #[test]
 fn a_source_or_a_sink_of_an_order_fails(rt: HostRuntime) -> Result<(), Fail> {
     let plain = keyed(&rt, rt.alloc(), &PLAIN);
@@ -63,7 +64,7 @@ fn a_source_or_a_sink_of_an_order_fails(rt: HostRuntime) -> Result<(), Fail> {
     Ok(())
 }
 
-/// The digit of the second heading comes with the sixth get; then the first part's text is written.
+/// The sixth `get` gives the first digit of the second heading. The first part's text is written then.
 #[test]
 fn a_source_or_a_sink_of_a_form_fails(rt: HostRuntime) {
     let plain = keyed(&rt, rt.alloc(), &PLAIN);

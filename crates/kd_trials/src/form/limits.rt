@@ -1,4 +1,4 @@
-//! Messages up to the limit of a stream, and beyond it.
+//! Tests of messages of as many bytes as a stream may have, and of more.
 use super::samples::Way;
 use crate::machines::{Keyed, PLAIN, keyed};
 use kd_form::{FormFault, receive_stream, send_stream};
@@ -38,7 +38,7 @@ impl Source for Filler {
     }
 }
 
-/// More bytes than are ever read.
+/// A number of bytes far above the limit of a read.
 const ENDLESS: usize = usize::MAX;
 
 /// How a message begins, the byte that fills the rest, its length in bytes, and its fault.
@@ -66,7 +66,7 @@ static ORDERS: [Case; 4] = [
     ),
 ];
 
-/// A heading line that doesn't end has no fault yet, however long it is.
+/// Forms. A heading line that doesn't end has no fault of its own before the form ends or is too long.
 static FORMS: [Case; 5] = [
     (
         b"PART 1/1 10 AAA BDZ\n",
@@ -100,7 +100,7 @@ static FORMS: [Case; 5] = [
     ),
 ];
 
-/// Checks the answer, that nothing is written, and that at most one byte more than the limit is read.
+/// Checks the fault, that nothing is written, and that at most one byte more than the limit is read.
 fn is_cut(rt: &impl Abort, (machine, day): &Keyed, way: &Way, (front, byte, length, due): &Case) {
     let mut source = Filler {
         front: *front,

@@ -1,4 +1,4 @@
-//! Texts that take many parts.
+//! Tests of texts that fill whole parts, up to all 99 parts.
 use super::samples::{KEYS, PIN_KEYS, order_of};
 use crate::machines::{IDLE, Keyed, PLAIN, Told, keyed};
 use kd_form::{FormFault, receive, receive_stream, send, send_stream};
@@ -9,8 +9,9 @@ use std::test::Fail;
 
 /// A text of letters A that is sent and received back.
 ///
-/// `told` names the machine and its day, and `keys` is the line of keys for each part. The other fields say
-/// how the form and its last part begin, and how long both are.
+/// `told` are the machine and its day, `keys` is the line of keys for each part, and `pieces` are the numbers
+/// of bytes that a source gives at once. `first` is how the form begins, and `length` its length; `last` and
+/// `last_length` are the same for the last part. `behind` is what follows the letters A in the received text.
 struct Case {
     told: Told,
     keys: &'static str,
@@ -101,7 +102,9 @@ static CASES: [Case; 6] = [
     },
 ];
 
-/// Checks that the order becomes the form and the form the text, for each size of pieces.
+/// Checks the streams: sending `order` writes `form`, and receiving `form` writes `text`.
+///
+/// The source gives at most as many bytes at once as `pieces` says, one number after another.
 fn are_streamed(
     rt: &impl Abort,
     (machine, day): &Keyed,
@@ -160,7 +163,7 @@ fn long_texts_are_sent_and_received(rt: HostRuntime) -> Result<(), Fail> {
     Ok(())
 }
 
-/// Checks that the form has the fault `PartOrder`, and what the stream has written by then.
+/// Checks that the form has the fault `PartOrder`, and that the stream writes `letters` letters A before it.
 fn is_out_of_order(
     rt: &impl Abort,
     alloc: Global,

@@ -1,4 +1,4 @@
-//! Messages that are made whole, and may run out of memory.
+//! Tests of `send` and `receive`, which may run out of memory.
 //!
 //! `tests/refusals` runs these tests with each request for memory refused in turn.
 use super::samples::{CONVERTER_FORM, CONVERTER_ORDER, TWO_PARTS, Way};
@@ -11,7 +11,7 @@ use kd_tables::{Letter, Model, Place, Reading, Reflector, Standing, Wheel};
 use std::alloc::Global;
 use std::process::Abort;
 
-/// An Enigma I on its day, which takes no memory to make.
+/// An Enigma I on its day. Making them takes no memory from the allocator.
 fn plain(rt: &impl Abort) -> Option<Keyed> {
     let parts = RotorParts {
         model: Model::EnigmaI,
@@ -32,7 +32,7 @@ fn plain(rt: &impl Abort) -> Option<Keyed> {
     Some((Machine::rotor(parts)?, day))
 }
 
-/// A Converter without effective pins on its day, which takes no memory to make.
+/// A Converter without effective pins on its day. Making them takes no memory from the allocator.
 fn idle(rt: &impl Abort) -> Option<Keyed> {
     let pins = PinSet {
         w1: [false; 26],
@@ -52,7 +52,7 @@ fn idle(rt: &impl Abort) -> Option<Keyed> {
     Some((Machine::pin(parts)?, day))
 }
 
-/// The direction of a message, the message, and its form, its text or its fault.
+/// The direction of a message; an order or a form; and the form or the text that it gives, or its fault.
 type Case = (Way, &'static str, Result<&'static str, FormFault>);
 
 static OF_AN_ENIGMA: [Case; 7] = [
@@ -97,7 +97,7 @@ static OF_A_CONVERTER: [Case; 2] = [
     (Way::Received, CONVERTER_FORM, Ok("HELLO WORLDXXXX\n")),
 ];
 
-/// Checks that the answer is `due`, or `NoMemory`.
+/// Checks that the result `answer` is `due`, or `NoMemory`.
 fn is_due(rt: &impl Abort, answer: Result<Vec<u8>, FormFault>, due: Result<&str, FormFault>) {
     match answer {
         Ok(made) => assert!(rt; due.is_ok_and(|due| due.as_bytes() == made.as_slice())),
@@ -105,7 +105,7 @@ fn is_due(rt: &impl Abort, answer: Result<Vec<u8>, FormFault>, due: Result<&str,
     }
 }
 
-/// Checks that each message has its answer, or `NoMemory`.
+/// Checks that each message has the result of its case, or `NoMemory`.
 fn are_due(rt: &impl Abort, alloc: Global, (machine, day): &Keyed, cases: &[Case]) {
     for (way, message, due) in cases {
         let answer = match way {
@@ -124,7 +124,7 @@ fn orders_and_forms_want_memory(rt: HostRuntime) {
     are_due(&rt, rt.alloc(), &keyed, &OF_A_CONVERTER);
 }
 
-/// An order with 246 letters, after the 45 bytes of its head.
+/// An order of two lines of keys and the line `TEXT`, 45 bytes together; then 246 letters, and LF.
 const TWO_PART_ORDER: &str = "PART AAA AAA QX UGZ\nPART AAA AAA QX UGZ\nTEXT\n\
     AAAAAAAAAAAAAAAAAAAAAAAAAAAAAAAAAAAAAAAAAAAAAAAAAAAAAAAAAAAA\
     AAAAAAAAAAAAAAAAAAAAAAAAAAAAAAAAAAAAAAAAAAAAAAAAAAAAAAAAAAAA\

@@ -1,4 +1,4 @@
-//! Forms that are received, whole and as streams.
+//! Tests of forms that are received, at once and as streams.
 use super::samples::{
     Case, FOUR_WHEELS, OF_1941, OFF_KEY, ONE_PIN, OTHER_GROUP, PIECES, TWO_PARTS, UNREADY,
 };
@@ -101,7 +101,7 @@ static FORMS: [(Told, &[Case]); 7] = [
                 "",
                 Some(PartOrder),
             ),
-            // PART without a digit after it counts as four letters of the body.
+            // `PART` begins a heading only if a digit follows it. Here it is four letters of the body.
             (
                 "PART 1/1 10 AAA BDZ\nQXUGZ BDZGO\nPART \n",
                 "",
@@ -112,7 +112,7 @@ static FORMS: [(Told, &[Case]); 7] = [
                 "",
                 Some(CountWrong(1)),
             ),
-            // A bad byte is answered before a wrong count of letters.
+            // The form has a letter too many, and then a bad byte; the bad byte is its first fault.
             ("PART 1/1 10 AAA BDZ\nQXUGZ BDZGO A5", "", Some(BadByte(34))),
             (
                 "PART 1/2 10 AAA BDZ\nQXUGZ BDZGO\nPART 2/2 10 AAA\n",
@@ -208,7 +208,9 @@ static FORMS: [(Told, &[Case]); 7] = [
     (OTHER_GROUP, &[(MESSAGE, "", Some(WrongGroup(1)))]),
 ];
 
-/// Checks the text of a form, or its fault and the text before, whole and in pieces of each size.
+/// Checks the text of a form; or its fault, and the text that a stream writes before it.
+///
+/// The form is received at once, and as a stream with each number of `PIECES`.
 fn is_received(
     rt: &impl Abort,
     alloc: Global,
@@ -247,7 +249,7 @@ fn forms_are_received(rt: HostRuntime) {
     }
 }
 
-/// A message of 1941.
+/// The form of a message that was sent in 1941.
 const MESSAGE: &str = "PART 1/1 179 WXC KCH
 RFUGZ EDPUD NRGYS ZRCXN UYTPO MRMBO FKTBZ REZKM LXLVE FGUEY
 SIOZV EQMIK UBPMM YLKLT TDEIS MDICA GYKUA CTCDO MOHWX MUUIA
@@ -255,7 +257,7 @@ UBSTS LRNBZ SZWNR FXWFY SSXJZ VIJHI DISHP RKLKA YUPAD TXQSP
 INQMA TLPIF SVKDA SCTAC DPBOP VHJK
 ";
 
-/// Of the message's text only the beginning and the length are known. The form may lack its last LF.
+/// Checks the beginning and the length of the message's text, also if the form lacks its last LF.
 #[test]
 fn a_message_of_1941(rt: HostRuntime) -> Result<(), Fail> {
     let keyed = keyed(&rt, rt.alloc(), &OF_1941);
@@ -280,9 +282,9 @@ fn a_message_of_1941(rt: HostRuntime) -> Result<(), Fail> {
     Ok(())
 }
 
-/// A length, and the text and the fault of the form's prefixes that are shorter than this length.
+/// A length, and the text and the fault of each prefix of a form that is shorter than this length.
 ///
-/// Prefixes that are shorter than the length in the case before belong to that case.
+/// The prefix must be at least as long as the length of the case before, if there is one.
 type Cut = (usize, &'static [u8], Option<FormFault>);
 
 /// Prefixes of a form of two parts.

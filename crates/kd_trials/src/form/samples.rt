@@ -6,7 +6,9 @@ use crate::named::TextName::{
 use kd_form::FormFault;
 use std::alloc::{AllocError, Global};
 
-/// `M1` with other letters in its windows; with another ring; and with one letter in a cable.
+/// `M1` with other letters in its windows, on its day.
+///
+/// `OFF_KEY` is `M1` with another ring, and `UNREADY` is `M1` with one letter in a cable.
 pub const TURNED: Told = (
     (M1, "letters = \"AAAAA\"", "letters = \"QRSAA\""),
     (PlainDay, "", ""),
@@ -25,7 +27,7 @@ pub const UNREADY: Told = (
 /// An M4 that acts as `M1`.
 pub const FOUR_WHEELS: Told = ((M4AsEnigma, "", ""), (DayOfM4, "", ""));
 
-/// A Converter on which one pin meets all bars.
+/// A Converter on which one pin moves all bars.
 pub const ONE_PIN: Told = ((AllMet, "", ""), (DayOfAllMet, "", ""));
 
 /// The machine with ten cables, on the day of a message of 1941.
@@ -51,7 +53,7 @@ pub enum Way {
 /// An order or a form, what is written, and then the fault, if there is one.
 pub type Case = (&'static str, &'static str, Option<FormFault>);
 
-/// How many bytes a source gives at once.
+/// The most bytes that a source gives at once: each test uses each of these numbers.
 pub static PIECES: [usize; 3] = [1, 2, 7];
 
 /// A line of keys for `M1`, and one for a Converter without effective pins.
@@ -59,7 +61,7 @@ pub const KEYS: &str = "PART AAA AAA QX UGZ\n";
 
 pub const PIN_KEYS: &str = "PART T ABCDEF\n";
 
-/// An order with `lines` lines `keys`, the line TEXT, and `letters` letters A.
+/// An order: `lines` times the line of keys `keys`, the line `TEXT`, and `letters` letters A.
 pub fn order_of(
     alloc: Global,
     keys: &str,

@@ -1,4 +1,4 @@
-//! Orders that are sent, whole and as streams.
+//! Tests of orders that are sent, at once and as streams.
 use super::samples::{
     Case, FOUR_WHEELS, KEYS, OFF_KEY, ONE_PIN, PIECES, PIN_KEYS, TURNED, UNREADY, order_of,
 };
@@ -48,7 +48,7 @@ static ORDERS: [(Told, &[Case]); 7] = [
             ),
         ],
     ),
-    // The letters in the windows don't matter.
+    // The machine shows other letters than the day's; the form is the same.
     (
         TURNED,
         &[(
@@ -102,7 +102,9 @@ static ORDERS: [(Told, &[Case]); 7] = [
     ),
 ];
 
-/// Checks the form of an order, or its fault and the parts before, whole and in pieces of each size.
+/// Checks the form of an order; or its fault, and the parts that a stream writes before it.
+///
+/// The order is sent at once, and as a stream with each number of `PIECES`.
 fn is_sent(rt: &impl Abort, alloc: Global, (machine, day): &Keyed, (order, form, fault): &Case) {
     let order = order.as_bytes();
     for piece in &PIECES {
@@ -128,13 +130,13 @@ fn orders_are_sent(rt: HostRuntime) {
     }
 }
 
-/// A long order, its fault, and how many bytes the stream has written by then.
+/// A long order, its fault, and how many bytes the stream writes before the fault.
 ///
-/// The order is given by a machine and its day, a line of keys, the number of such lines, and its number of
-/// letters A.
+/// The first four items are a machine and its day, a line of keys, how many times the order has this line, and
+/// how many letters A its text has.
 type LongCase = (Told, &'static str, usize, usize, FormFault, usize);
 
-/// With too many lines of keys the first part is written before the fault; with too few, nothing is.
+/// Long orders with a wrong number of lines of keys. Complete parts may be written before the fault is found.
 static LONG_ORDERS: [LongCase; 6] = [
     (
         PLAIN,
@@ -194,7 +196,7 @@ static LONG_ORDERS: [LongCase; 6] = [
     (PLAIN, KEYS, 100, 1, BadByte(1981), 0),
 ];
 
-/// Checks the fault of an order, whole and as a stream.
+/// Checks the fault of an order that is sent at once, and as a stream.
 fn is_refused(
     rt: &impl Abort,
     alloc: Global,

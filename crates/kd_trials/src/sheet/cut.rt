@@ -1,4 +1,4 @@
-//! Files that are cut off at each place, and files with a byte FF at each place.
+//! Tests of files that are cut off at each place, and of files with a byte FF at each place.
 use super::Kind::{self, MachineFile, Sheet};
 use super::fault;
 use crate::texts::M1_WRITTEN;
@@ -49,7 +49,7 @@ fn are_read_whole(rt: &impl Abort, alloc: Global, kind: &Kind, (file, whole): &C
     }
 }
 
-/// `text` with a byte FF in place of the byte at `place`, or after the last byte.
+/// `text` with the byte FF instead of the byte at `place`; or after the last byte, if `place` is the length.
 fn with_other_byte(text: &[u8], place: usize) -> ArrayVec<u8, 1024> {
     let mut other = ArrayVec::new();
     let behind = text.get(place..).unwrap_or(&[]).get(1..).unwrap_or(&[]);
@@ -59,7 +59,7 @@ fn with_other_byte(text: &[u8], place: usize) -> ArrayVec<u8, 1024> {
     other
 }
 
-/// Checks that a file with a byte FF is refused.
+/// Checks that the file is refused if one of its bytes becomes FF, or FF follows its last byte.
 fn is_text(rt: &impl Abort, alloc: Global, kind: &Kind, (file, _): &Case) {
     for place in 0..=file.len() {
         let file = with_other_byte(file.as_bytes(), place);

@@ -1,4 +1,4 @@
-//! Each fault of each key once, in the order in which the keys are tested.
+//! Tests of each fault of each key of a file, in the order in which the keys are tested.
 use super::Kind::{self, MachineFile, Sheet};
 use super::{SHEET, fault};
 use crate::texts::{M1, M4, M209};
@@ -24,7 +24,7 @@ plugs = []
 day = 3
 ";
 
-/// A part of a file, its replacement, and the fault of the changed file.
+/// A text in a file, what replaces it, and the fault of the changed file.
 type Case = (&'static str, &'static str, SheetFault);
 
 /// A file and its cases.

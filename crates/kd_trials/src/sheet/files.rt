@@ -1,4 +1,4 @@
-//! Machine files that are read and written, and the days of sheets.
+//! Tests of machine files that are read and written, and of the days of sheets.
 use super::SHEET;
 use crate::machines::{File, machine};
 use crate::named::TextName::{self, M1, M1Written, M4, M209, TenCables, TenCablesWritten};
@@ -7,9 +7,9 @@ use kd_tables::{Device, MemorySink};
 use std::alloc::{AllocError, Global};
 use std::process::Abort;
 
-/// A machine file, and the file that is written for its machine, if the two differ.
+/// A machine file, and the file that is written for its machine, if this file is another one.
 ///
-/// Both versions can describe the same machine, and unknown keys are ignored.
+/// Files of both versions can describe the same machine, and unknown keys are ignored.
 static WRITTEN: [(File, Option<TextName>); 16] = [
     ((M1, "", ""), Some(M1Written)),
     ((M1, "version = 1", "version = 2"), Some(M1Written)),
@@ -50,7 +50,7 @@ static WRITTEN: [(File, Option<TextName>); 16] = [
     ((M209, "AAAAAA", "ZYXUSQ"), None),
 ];
 
-/// Checks the file that is written for a machine.
+/// Checks the file that is written for the machine of a file.
 fn is_written(
     rt: &impl Abort,
     alloc: Global,

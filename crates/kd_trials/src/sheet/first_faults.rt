@@ -1,4 +1,4 @@
-//! Files with two faults: the fault of the key that is tested first is answered.
+//! Tests of files with two faults: the error is the fault of the key that is tested first.
 use super::Kind::{self, MachineFile, Sheet};
 use super::fault;
 use crate::machines::File;
@@ -10,10 +10,10 @@ use kd_sheet::SheetFault::{
 use std::alloc::{AllocError, Global};
 use std::process::Abort;
 
-/// A part of a file, its replacement, and the fault that this makes.
+/// A text in a file, what replaces it, and the fault that the replacement makes.
 type KeyFault = (&'static str, &'static str, SheetFault);
 
-/// Files of each model, with one fault for each key, in the order in which the keys are tested.
+/// Files of each model, with faults of their keys, in the order in which the keys are tested.
 static FILES: [(Kind, File, &[KeyFault]); 8] = [
     (
         MachineFile,
@@ -125,7 +125,7 @@ static FILES: [(Kind, File, &[KeyFault]); 8] = [
     ),
 ];
 
-/// Checks that the first fault is answered if any of the later ones is in the file too.
+/// Checks that a file with the given fault and one of the `later` faults is refused for the given fault.
 fn comes_before(
     rt: &impl Abort,
     alloc: Global,

@@ -9,12 +9,12 @@ use kd_state::{Setting, Why};
 use std::alloc::Global;
 use std::process::Abort;
 
-/// A setting's line, why it is refused, if it is, and whether the machine is ready after it.
+/// A setting's line, why the setting is refused, if it is, and whether the machine is ready after it.
 type Case = (&'static str, Option<Why>, bool);
 
 /// Machines, each with settings that are carried out one after another.
 ///
-/// If there are two reasons against a setting, the one that is tested first is answered.
+/// If there are two reasons to refuse a setting, the error has the one that is tested first.
 static MACHINES: [(File, &[Case]); 4] = [
     (
         (M1, "version = 1", "version = 1\ncables = [\"AB\"]"),
@@ -82,7 +82,7 @@ static MACHINES: [(File, &[Case]); 4] = [
     ),
 ];
 
-/// Checks the answers of a machine to its settings.
+/// Checks which settings a machine carries out, why it refuses the others, and when it is ready.
 fn takes(rt: &impl Abort, alloc: Global, (file, cases): &(File, &[Case])) {
     let mut machine = machine(rt, alloc, file);
     for (line, due, is_ready) in *cases {

@@ -28,7 +28,7 @@ static CABLES: [(&[u8; 2], &[u8; 2], u8); 4] = [
     (b"C ", b"  ", 1),
 ];
 
-/// The letters of a text of two bytes; `None` for a byte that is no capital letter.
+/// The letters of a text of two bytes; `None` for a byte that isn't a capital letter.
 fn ends([one, other]: &[u8; 2]) -> (Option<Letter>, Option<Letter>) {
     (Letter::from_byte(*one), Letter::from_byte(*other))
 }

@@ -36,7 +36,7 @@ static CASES: [Case; 8] = [
         false,
         false,
     ),
-    // The rows in another order, and bars that read differently.
+    // Bars that read as the rows in another order, and bars that read as other rows.
     (
         (
             (
@@ -65,7 +65,7 @@ fn machines_read_as_a_day(rt: HostRuntime) {
     }
 }
 
-/// Whether the calls of `SheetDay` give the parts of the day of 1941.
+/// Whether the calls of `SheetDay` return the values of the day of 1941.
 fn tells_its_wheels(day: &SheetDay) -> bool {
     day.day() == 1
         && day.model() == Model::EnigmaI

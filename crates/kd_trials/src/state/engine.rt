@@ -5,7 +5,7 @@ use crate::named::TextName::{AllMet, M1, M3, M4, M4AsEnigma, M209, TenCables};
 use std::alloc::Global;
 use std::process::Abort;
 
-/// A machine, the letters to which its wheels are turned, if they are, a text, and its ciphertext.
+/// A machine; the letters to which its wheels are turned, or `None`; a text; and its ciphertext.
 type Case = (File, Option<&'static [u8; 3]>, &'static [u8], &'static [u8]);
 
 static CASES: [Case; 11] = [
@@ -16,7 +16,8 @@ static CASES: [Case; 11] = [
         b"AAAAA",
         b"EWTYX",
     ),
-    // The cipher stays the same if ring and letter of the leftmost wheel move together, or Beta is added at A.
+    // Three machines with the cipher of `M1`: on the first, the ring and the letter of the left wheel are both
+    // moved on by one; the second is an M4 with Beta at A and the thin reflector b; the third is an M3.
     ((M1, "AAAAA", "BAAAA"), None, b"AAAAA", b"BDZGO"),
     ((M4AsEnigma, "", ""), None, b"AAAAA", b"BDZGO"),
     ((M3, "", ""), None, b"AAAAA", b"BDZGO"),
@@ -28,7 +29,7 @@ static CASES: [Case; 11] = [
     ((AllMet, "", ""), None, b"AAAAA", b"AZZZZ"),
 ];
 
-/// Checks the ciphertext of a text.
+/// Checks the ciphertext of the text, letter by letter.
 fn enciphers(rt: &impl Abort, alloc: Global, (file, window, plain, cipher): &Case) {
     let mut engine = machine(rt, alloc, file).engine().ok().expect(rt, "ready");
     if let Some(window) = window {

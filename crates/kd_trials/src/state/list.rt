@@ -19,7 +19,7 @@ static LISTS: [(usize, &str, Option<ListFault>); 13] = [
     (3, "REFLECTOR B \n", Some(ListFault::BadLine(4))),
 ];
 
-/// A list has at most 192 lines, and the first bad line is answered.
+/// A list has at most 192 lines. `BadLine` has the number of the first line that isn't a setting's.
 #[test]
 fn lists_are_read_or_refused(rt: HostRuntime) -> Result<(), AllocError> {
     for (count, rest, due) in &LISTS {

@@ -1,10 +1,10 @@
-//! Tests of what the calls of `Machine` tell of a machine.
+//! Tests of the readers of `Machine`: the calls that return one part of a machine.
 use crate::machines::machine;
 use crate::named::TextName::{M209, TenCables};
 use kd_state::Machine;
 use kd_tables::{Letter, Model, Place, Reflector, Standing, Wheel};
 
-/// Whether the calls of `Machine` give the parts of the Enigma with ten cables.
+/// Whether the readers return the parts of the Enigma with ten cables.
 fn tells_its_parts(machine: &Machine) -> bool {
     machine.model() == Model::EnigmaI
         && machine.reflector() == Some(Reflector::B)
@@ -16,9 +16,9 @@ fn tells_its_parts(machine: &Machine) -> bool {
         && machine.cable(13) == Some((None, None))
 }
 
-/// Whether the calls of `Machine` give the parts of a Converter.
+/// Whether the readers return the parts of the Converter `M209`.
 ///
-/// Its bar 1 stands at 1-2, and a pin at O of wheel 2 is effective.
+/// The lugs of its bar 1 are at 1 and 2, and on wheel 2 only the pin at O is effective.
 fn tells_its_letters_and_bars(machine: &Machine) -> bool {
     machine.model() == Model::M209
         && machine.shown(6) == Some(Letter::A)

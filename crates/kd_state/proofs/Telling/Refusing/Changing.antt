@@ -1,5 +1,5 @@
--- What a setting makes of a machine that carries it out: a machine, in which the readers show what was set and
--- everything else as before.
+-- A setting that is carried out on a machine gives a machine. The readers show the setting's change in it,
+-- and no other.
 pub use Rattle.kd_state.proofs.Prelude.{numbered_item, place_in_box, IsKept, IsSeatOf, ChangesTo, MovesLug, SetsOnly}
 pub use Rattle.kd_state.proofs.Prelude.{TheBar, TheCable, TheLetter, ThePin, TheReflector, TheSlot, Thing}
 pub use Rattle.kd_state.proofs.Prelude.{SettingsAreTold, SettingsKeepMachines, IsSettingInRange, AreWheelsAllowed}
@@ -37,18 +37,18 @@ unfoldable pub use Rattle.kd_state.proofs.Prelude.{ring_of}
 abbrev pub first_reason : List (Bool × Why) → Option Why
 first_reason reasons = option_map (λ reason. reason.1) (find (λ reason. reason.0) reasons)
 
--- if nothing is refused, no reason holds
+-- if no reason is the first that holds, no reason holds
 pub no_reason : (reasons : List (Bool × Why)) → first_reason reasons ≡ None
     → AllByRecursion (λ reason. reason.0 ≡ false) reasons
 no_reason [] e = tt
 no_reason ((holds, why) ∷ rest) e = grind (arith, none-some, no_reason rest)
 
--- the setting changes what it names, and makes a machine
+-- after setting `x`, the readers show its change and no other, and the parts are a machine's
 record IsSoundlyCarried (m : Parts) (x : Setting) : Type 0 where
   told : ChangesTo m x (machine_after m x)
   kept : IsSettingInRange x → IsMachine (machine_after m x)
 
--- a thing is the same, unless it is the one that is set
+-- the readers show the same `other` for both machines, unless it is `thing`
 abbrev KeepsBut : Thing → Parts → Parts → Thing → Type 0
 KeepsBut thing m n other = other ≢ thing → IsKept m n other
 
@@ -92,7 +92,7 @@ with_cable : (m : RotorParts) (cable : ℕ) (new : Option ℕ × Option ℕ) →
     → IsMachine (Rotor (record m { cables = set m.cables (cable - 1) new }))
 with_cable m cable new h o free = grind (arith, length-set, rotor_machine, map-set, cable_in_order, all_ordered-same)
 
--- legal parts make a machine once their cables are in order
+-- legal parts are a machine's once the letters of each cable are in order
 pub ordered_parts : (m : RotorParts) → IsLegalRotor m → IsMachine (with_cables_in_order (Rotor m))
 ordered_parts m l =
     let free =
@@ -114,7 +114,8 @@ left_standing : (wheel other : Wheel) (held : Option (Option Wheel))
     → option_map (seat_without wheel) held ≡ Some (Some other) → (held ≡ Some (Some other)) × (other ≢ wheel)
 left_standing wheel other held e = grind (arith, same_Some, cases_Bool, none-some, both_ways, same_wheel-Decides)
 
--- after a wheel was put into a slot, a wheel in any slot is this wheel, or was there before
+-- after `wheel` was put into the slot at place `at`, the wheel in a slot is `wheel` at this place, or another
+-- wheel that was in its slot before
 seat_cases : (slots : List (Option Wheel)) (at : ℕ) (wheel : Wheel) (place : ℕ) (other : Wheel)
     → IsSeatedAt (set (map (seat_without wheel) slots) at (Some wheel)) place other
     → ((place ≡ at) × (other ≡ wheel)) ⊎ (IsSeatedAt slots place other × (other ≢ wheel))
@@ -128,7 +129,8 @@ pub letters_set : (number : ℕ) (letters : List ℕ) (place letter : ℕ) → l
     → AreLetters number (set letters place letter)
 letters_set number letters place letter within h = grind (arith, common_steps, length-set, All-set)
 
--- a letter set for a wheel of the box is read for this wheel and for no other one
+-- after a letter was set for a wheel of the box, this wheel has the letter, and other wheels have the letters
+-- that they had
 for_wheel : (model : Model) (letters : List ℕ) (wheel : Wheel) (letter : ℕ) → Contains (box_of model) wheel
     → AreLetters (length (box_of model)) letters
     → (slice_get (set letters (place_in_box model wheel) letter) (place_in_box model wheel) ≡ Some letter)
@@ -154,7 +156,7 @@ is_seated held e = grind arith
 
 -- ---- the Converter
 
--- the pins made of six lists have these lists
+-- if one of the six lists of pins is replaced, the `PinSet` made of the lists has exactly these lists
 pub six_lists : (pins : PinSet) (place : ℕ) (list : List Bool)
     → pins_of (pin_set (set (pins_of pins) place list)) ≡ set (pins_of pins) place list
 six_lists pins place list = grind arith
@@ -169,7 +171,7 @@ is_none-nonempty : (found : Option (List Bool)) (place : ℕ) → place < length
     → is_none found ≡ false
 is_none-nonempty found place within = grind arith
 
--- a lug that is moved stands at its new place, and the bar's other lug where it stood
+-- a lug that is moved is at its new place, and the bar's other lug is where it was
 lug_set : (lug : Lug) (place : Place) (bar : Place × Place)
     → (lug_place lug (with_lug lug place bar) ≡ place)
     × (lug_place (other_lug lug) (with_lug lug place bar) ≡ lug_place (other_lug lug) bar)

@@ -3,7 +3,7 @@ use Rattle.std.proofs.lemmas.List.FromFn.{get_or-map-range_with_len}
 use Rattle.kd_tables.specs.Permutation.{alphabet}
 use Rattle.kd_tables.proofs.letter.Letter.next.Goals as goal
 
--- the entry of the table for a letter
+-- the table `NEXT` has, for each letter, the letter after it, with A after Z
 next_at : (letter : ℕ) → letter < 26 → get_or (map (λ x. (x + 1) % 26) alphabet) letter 0 ≡ (letter + 1) % 26
 next_at letter lt = get_or-map-range_with_len (λ x. (x + 1) % 26) 0 26 letter letter 0 lt (omega arith)
 
