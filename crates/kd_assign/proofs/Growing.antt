@@ -1,4 +1,4 @@
--- A tree that gains a column, and an assignment that gains a row.
+-- What holds once a tree gains a column, and once an assignment gains a row.
 use Rattle.std.proofs.Common.{◌≡◌, ◌≢◌, ℕ, ◌+◌, ◌<◌, ◌≤◌, List, [], length, get_or, set, All, Bool, true, false, Option}
 use Rattle.std.proofs.Common.{Some, None, is_some, ◌⊎◌, inl, inr, ℤ, pos, ◌-ℤ◌, ◌≤ℤ◌, refl, sym, ◌∙◌, arith}
 use Rattle.{kd_assign.proofs.Whole.cost_at_most, std.specs.Int.int_min}
@@ -49,7 +49,7 @@ module _ {n root : ℕ} {cost : List (List ℕ)} {prices ceilings : List ℤ} {h
     rows_still : (i j : ℕ) → IsColumnTakenBy plan' j i → i < n
     rows_still i j h = grind (arith, plan-cases j h, plan_is.out_in_range, plan_is.rows, same_Some)
 
-    -- each row up to the root has a column in `plan'` if it didn't have `end`
+    -- a row up to the root has a column in `plan'` unless it holds `end` in `holders`
     seated_still : (i : ℕ) → i ≤ root → (IsColumnTakenBy holders end i → ⊥) → IsRowAssigned plan' i
     seated_still i few other = elim (cases_eq i from) [
       | inl same ↦ (end, rw same (get_or-set_same plan end (Some from) None has_end))
@@ -75,7 +75,7 @@ module _ {n root : ℕ} {cost : List (List ℕ)} {prices ceilings : List ℤ} {h
       inside_before : (j : ℕ) → j ≢ end → has_column reached' j ≡ true → has_column reached j ≡ true
       inside_before j other h = grind (arith, get_or-set_other)
 
-      -- the ceilings of the tree's columns stay
+      -- the comparison leaves the ceilings of the new tree's columns as they were
       ceiling_stays : (j : ℕ) → j < n → has_column reached' j ≡ true → price_at ceilings' j ≡ price_at ceilings j
       ceiling_stays j lt h = grind (arith, (compared.at j lt).one)
 
@@ -83,7 +83,7 @@ module _ {n root : ℕ} {cost : List (List ℕ)} {prices ceilings : List ℤ} {h
           IsCheapestColumn n cost ceilings' i j
       cheapest_still i j e cheapest k lt = omega (arith, ints, cheapest k lt, (compared.at k lt).least)
 
-      -- no column of the tree is further away than `end`
+      -- no column of the new tree has a price further below its ceiling than `end` has
       no_further : (j : ℕ) → j < n → has_column reached' j ≡ true
           → room_at ceilings prices j ≤ℤ room_at ceilings prices end
       no_further j lt h = elim (cases_eq j end) [
@@ -102,7 +102,7 @@ module _ {n root : ℕ} {cost : List (List ℕ)} {prices ceilings : List ℤ} {h
             | inr out ↦ omega (arith, ints, now.here out)
           ]
 
-      -- a plan for the old tree is a plan for the new one
+      -- an assignment without `out` for the old tree is one for the new tree
       plan_still : {old : List (Option ℕ)} {out : ℕ}
           → IsAssignmentWithout n cost prices holders root reached ceilings old out →
           IsAssignmentWithout n cost prices holders root reached' ceilings' old out
@@ -121,7 +121,7 @@ module _ {n root : ℕ} {cost : List (List ℕ)} {prices ceilings : List ℤ} {h
         taken = plan.taken;
       }
 
-      -- `plan'` is a plan for the new tree in which `holder` has no column
+      -- `plan'` is an assignment without `holder` for the new tree
       plan_moved : IsAssignmentWithout n cost prices holders root reached' ceilings' plan' holder
       plan_moved = record {
         places = length-set plan end (Some from) ∙ plan_is.places;
@@ -133,7 +133,7 @@ module _ {n root : ℕ} {cost : List (List ℕ)} {prices ceilings : List ℤ} {h
         taken = λ j. grind (arith, plan-cases j refl, plan_is.taken, held);
       }
 
-      -- the new tree is well formed
+      -- the new tree satisfies `IsGrownTree`
       pub IsGrownTree-with_end : IsGrownTree n cost prices holders root reached' ceilings' near'
           (set plans holder plan')
       IsGrownTree-with_end = record {
@@ -176,14 +176,14 @@ module _ {n root : ℕ} {cost : List (List ℕ)} {prices ceilings : List ℤ} {h
             ];
       }
 
-    -- column `end` is free, and prices fall to their ceilings less the room at `end`
+    -- column `end` is free, and each price above its ceiling less the room at `end` is lowered to this value
     module _ (free : IsColumnFree holders end) {by : ℤ} (by_is : by ≡ room_at ceilings prices end) (prices' : List ℤ)
         (lowered : (j : ℕ) → j < n → price_at prices' j ≡ int_min (price_at prices j) (price_at ceilings j -ℤ by)) where
-      -- outside the tree prices stay
+      -- the prices of columns outside the tree stay as they were
       price_stays : (j : ℕ) → j < n → has_column reached j ≡ false → price_at prices' j ≡ price_at prices j
       price_stays j lt h = omega (arith, ints, clamps, nearest.least j lt h, lowered j lt)
 
-      -- the new plan and the new prices solve one row more
+      -- with `plan'` and the new prices, the rows up to the root have their cheapest columns
       pub IsSolvedTo-with_root : IsSolvedTo n cost prices' plan' (root + 1)
       IsSolvedTo-with_root = record {
         places = length-set plan end (Some from) ∙ plan_is.places;

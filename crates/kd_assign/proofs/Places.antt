@@ -1,10 +1,10 @@
--- Lists of holders: which columns are taken, and what a write changes.
+-- Lists with the row of each column: which columns are taken, and what changing one entry changes.
 use Rattle.std.proofs.Common.{◌≡◌, ◌≢◌, ℕ, suc, ◌+◌, ◌<◌, ◌≤◌, List, [], ◌∷◌, length, get_or, set, Bool, true, false}
 use Rattle.std.proofs.Common.{Option, Some, None, is_some, count_by, cond, ◌⊎◌, refl, arith}
 use Rattle.kd_assign.proofs.Prelude.{cases_eq, cases_lt, get_or_past, get_or-set_same, get_or-set_other, sum_by-set}
 use Rattle.kd_assign.proofs.Prelude.{none-some, sum_by-cons, IsColumnTakenBy, IsColumnFree, has_column}
 
--- a taken column is a column of the list
+-- a column that is taken lies within the list
 pub length-IsColumnTakenBy : (xs : List (Option ℕ)) (j i : ℕ) → IsColumnTakenBy xs j i → j < length xs
 length-IsColumnTakenBy xs j i h = grind (arith, cases_lt, get_or_past, none-some)
 

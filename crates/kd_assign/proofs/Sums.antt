@@ -8,7 +8,7 @@ use Rattle.std.specs.List.{list_any}
 use Rattle.kd_assign.proofs.Prelude.{cases_eq, eq-eqb, eqb-true, ints, get_or-set_other, get_or-set_same}
 use Rattle.kd_assign.proofs.Prelude.{get_or_past, length-set, cost_at, price_at, sum_of, IsOneToOne, assignment_cost}
 
--- a sum is price `j` plus the sum in which price `j` is 0
+-- price `j`, plus the sum of the prices with price `j` set to 0, is the sum of the prices
 sum_of-set : (xs : List ℤ) (j : ℕ) → j < length xs → (price_at xs j +ℤ sum_of (set xs j (pos 0))) ≡ sum_of xs
 sum_of-set [] j h = absurd (omega arith)
 sum_of-set (x ∷ xs) zero h = omega (arith, ints)
@@ -45,12 +45,13 @@ all_columns to once j within misses =
     (λ q h. grind (arith, Any-from_list_any, eqb-true, once.in_range)) in
     omega arith
 
--- a one-to-one assignment takes each column's price once
+-- the prices of the columns that a one-to-one assignment gives to rows add up to the sum of all columns' prices
 sum_of-columns : (col : List ℤ) (to : List ℕ) → length col ≡ length to → IsOneToOne to →
     sum_of (map (price_at col) to) ≡ sum_of col
 sum_of-columns col to e once = grind (arith, sum_of-left, length, all_columns, get_or_past)
 
--- a relation between each row's two prices and its cost also holds between their sums
+-- if `R` holds between the sum of each row's two prices and the row's cost, it holds between the sums over all
+-- rows; `R` has to be kept by addition
 module _ (R : ℤ → ℤ → Type 0) (none : R (pos 0) (pos 0))
     (adds : (r s c t : ℤ) (k l : ℕ) → R (r +ℤ c) (pos k) → R (s +ℤ t) (pos l) → R ((r +ℤ s) +ℤ (c +ℤ t)) (pos (k + l)))
     (col : List ℤ) where
@@ -68,7 +69,7 @@ module _ (R : ℤ → ℤ → Type 0) (none : R (pos 0) (pos 0))
       adds r _ _ _ _ _ (each 0 (omega arith)) rest
   sums-by_rows _ _ _ e f each = absurd (omega arith)
 
-  -- for a one-to-one assignment, the sum is over the prices of all columns
+  -- for a one-to-one assignment, the columns' prices in the sum are those of all columns
   pub sums-one_to_one : (cost : List (List ℕ)) (row : List ℤ) (to : List ℕ) → length row ≡ length to
       → length col ≡ length to →
       length cost ≡ length to → HoldsOfRows cost row to → IsOneToOne to →
@@ -76,7 +77,7 @@ module _ (R : ℤ → ℤ → Type 0) (none : R (pos 0) (pos 0))
   sums-one_to_one cost row to rows columns lines each once =
       rw (← sum_of-columns col to columns once) (sums-by_rows cost row to rows lines each)
 
--- the relation is `≤` here: prices that fit are row by row at most the cost
+-- `R` is `≤` here: by prices that fit, each row's two prices add up to at most the row's cost
 pub fitting_prices_bound_costs : FittingPricesBoundCosts
 fitting_prices_bound_costs cost row col to rows columns lines fits once =
     sums-one_to_one (λ x y. x ≤ℤ y) (omega (arith, ints))

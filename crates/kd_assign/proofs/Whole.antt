@@ -1,4 +1,4 @@
--- The assignment of all rows: it is one-to-one, and its prices prove its cost least.
+-- The assignment of all rows: it is one-to-one, and its prices prove that no assignment costs less.
 use Rattle.kd_assign.proofs.Prelude.{AreCostsAtMost, FitCosts, IsColumnTakenBy, IsOneToOne, IsSolvedTo, assignment_cost}
 use Rattle.kd_assign.proofs.Prelude.{cost_at}
 use Rattle.kd_assign.proofs.{Places.length-IsColumnTakenBy}
@@ -7,7 +7,7 @@ use Rattle.kd_assign.{proofs.Sums.{sums-one_to_one, fitting_prices_bound_costs},
 use Rattle.std.proofs.Common.{All, List, Option, arith, get_or, length, pos, refl, ℕ, ℤ, ◌*◌, ◌-ℤ◌, ◌<◌, ◌≡◌, ◌≤◌}
 use Rattle.std.{proofs.lemmas.List.Elements.All-from_get_or, specs.Int.RustNames.unsigned_abs}
 
--- an assignment in which each row's column holds the row is one-to-one
+-- if `holders`, the row of each column, has row `i` at column `to i` for each row, `to` is one-to-one
 pub one_to_one : (holders : List (Option ℕ)) (to : List ℕ) → length to ≡ length holders →
     ((i : ℕ) → i < length to → IsColumnTakenBy holders (get_or to i 0) i) → IsOneToOne to
 one_to_one holders to places has = record {
@@ -20,11 +20,11 @@ one_to_one holders to places has = record {
   distinct = λ i k d before h same. grind (arith, has i, has k, get_or_default to i d 0, get_or_default to k d 0);
 }
 
--- no cost is above 4, also past the end of the table
+-- no cost is above 4; this holds also for places past the end of the table
 pub cost_at_most : (cost : List (List ℕ)) → AreCostsAtMost 4 cost → (i j : ℕ) → cost_at cost i j ≤ 4
 cost_at_most cost costs i j = grind (arith, costs, get_or_past)
 
--- the prices of a finished assignment fit, add up to its cost, and so prove it least
+-- the prices of a finished assignment fit and add up to its cost, so no assignment costs less
 module _ {n next : ℕ} {cost : List (List ℕ)} {prices : List ℤ} {holders : List (Option ℕ)} (row : List ℤ) (to : List ℕ)
     (few : next ≤ n) (solved : IsSolvedTo n cost prices holders next) (lines : length cost ≡ n)
     (columns : length prices ≡ n) (rows : length row ≡ n) (places : length to ≡ n)

@@ -1,4 +1,4 @@
--- Why prices that fit prove a least cost.
+-- Why prices that fit prove that no assignment costs less.
 -- Source: the assignment problem and its dual
 -- Code: no assignment is tried.
 -- Test: answers_small_tables, answers_three_rows
@@ -16,3 +16,9 @@ FittingPricesBoundCosts =
 -- Every one-to-one assignment costs at least `total`.
 abbrev pub IsLeastCost : List (List ℕ) → ℕ → Type 0
 IsLeastCost cost total = (to : List ℕ) → length to ≡ length cost → IsOneToOne to → total ≤ assignment_cost cost to
+
+-- `to` is a one-to-one assignment of cost `total`, and none costs less
+pub record IsCheapestAssignment (cost : List (List ℕ)) (to : List ℕ) (total : ℕ) : Type 0 where
+  pub one_to_one : IsOneToOne to
+  pub cost_is : assignment_cost cost to ≡ total
+  pub least : IsLeastCost cost total

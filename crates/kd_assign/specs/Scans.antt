@@ -1,6 +1,12 @@
--- How many comparisons the trees for a table of `n` rows and columns take at most. Public contracts give the
--- numbers in closed form. No public contract cites this file.
-use Rattle.std.specs.Prelude.{ℕ, zero, suc, ◌+◌, ◌-◌}
+-- How many comparisons the trees for a table of `n` rows and columns take.
+use Rattle.std.specs.Prelude.{ℕ, zero, suc, ◌+◌, ◌-◌, ◌*◌, ◌/◌, ◌≤◌}
+
+-- `scans` is at least the number of cells of the table, and at most the comparisons for `n` trees
+pub record IsScanCount (n scans : ℕ) : Type 0 where
+  pub least : n * n ≤ scans
+  pub most : scans ≤ n * (n + 1) * (2 * n + 1) / 6
+
+-- ---- Tree by tree. No public contract cites these definitions.
 
 -- the comparisons for a tree of `rows` rows: `n` columns for the root, and one column less for each later row
 abbrev pub scans_of_tree : ℕ → ℕ → ℕ

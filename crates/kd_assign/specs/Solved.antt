@@ -16,12 +16,12 @@ IsColumnFree holders j = slice_index_or holders j None ≡ None
 abbrev pub IsRowAssigned : List (Option ℕ) → ℕ → Type 0
 IsRowAssigned holders i = (j : ℕ) × IsColumnTakenBy holders j i
 
--- At `prices`, no column is cheaper for row `i` than column `j`.
+-- At `prices`, column `j` is cheapest for row `i`: no column has a lower cost less price for this row.
 abbrev pub IsCheapestColumn : ℕ → List (List ℕ) → List ℤ → ℕ → ℕ → Type 0
 IsCheapestColumn n cost prices i j =
     (k : ℕ) → k < n → (pos (cost_at cost i j) +ℤ price_at prices k) ≤ℤ (pos (cost_at cost i k) +ℤ price_at prices j)
 
--- The rows before `next` have columns. Each has its cheapest column at these prices.
+-- The rows before `next` have columns, and no other row has one. Each has its cheapest column at `prices`.
 pub record IsSolvedTo (n : ℕ) (cost : List (List ℕ)) (prices : List ℤ)
     (holders : List (Option ℕ)) (next : ℕ) : Type 0 where
   pub places : length holders ≡ n

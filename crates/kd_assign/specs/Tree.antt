@@ -19,21 +19,22 @@ pub record AreClose (n : ℕ) (prices ceilings : List ℤ) : Type 0 where
   pub between : (j : ℕ) → j < n → price_at prices j ≤ℤ price_at ceilings j
   pub high : (j : ℕ) → j < n → price_at ceilings j ≤ℤ pos 4
 
--- `end` is a column outside the tree, and no price outside is closer to its ceiling.
+-- `end` is a column outside the tree, and no other column outside has a price closer to its ceiling.
 pub record IsNearest (n : ℕ) (prices : List ℤ) (reached : List Bool) (ceilings : List ℤ) (end : ℕ) : Type 0 where
   pub within : end < n
   pub outside : has_column reached end ≡ false
   pub least : (j : ℕ) → j < n → has_column reached j ≡ false → room_at ceilings prices end ≤ℤ room_at ceilings prices j
 
 -- A column was compared with `row`, which offers the price `offer` for it. A column outside the tree keeps the
--- lower of `ceiling` and `offer`, and the row that offers it. A column of the tree keeps what it had.
+-- lower of `ceiling` and `offer`, and the row that offers this price. A column of the tree keeps its ceiling and its
+-- row.
 pub record IsCompared (reached : Bool) (row : ℕ) (offer : ℤ) (near : ℕ) (ceiling : ℤ)
     (near' : ℕ) (ceiling' : ℤ) : Type 0 where
   pub one : ((near' ≡ near) × (ceiling' ≡ ceiling)) ⊎ ((reached ≡ false) × (near' ≡ row) × (ceiling' ≡ offer))
   pub least : ceiling' ≤ℤ ceiling
   pub here : reached ≡ false → ceiling' ≤ℤ offer
 
--- Each column was compared with `row`. The offer is `level` plus the row's cost at the column.
+-- Each column was compared with `row`, which offers `level` plus its cost at the column.
 pub record AreCompared (n : ℕ) (cost : List (List ℕ)) (reached : List Bool) (row : ℕ) (level : ℤ) (near : List ℕ)
     (ceilings : List ℤ) (near' : List ℕ) (ceilings' : List ℤ) : Type 0 where
   pub at : (j : ℕ) → j < n
@@ -42,8 +43,9 @@ pub record AreCompared (n : ℕ) (cost : List (List ℕ)) (reached : List Bool) 
 
 module _ (n : ℕ) (cost : List (List ℕ)) (prices : List ℤ) (holders : List (Option ℕ)) (root : ℕ) (reached : List Bool)
     (ceilings : List ℤ) where
-  -- `plan` has a column for each row up to the root, except `out`. A row in a column of the tree has its
-  -- cheapest column at the ceilings. Outside the tree, `plan` agrees with `holders`.
+  -- `plan` has a column for each row up to the root, except `out`. A row that has a column of the tree has its
+  -- cheapest column at the ceilings. The columns that are taken are those taken in `holders`; outside the tree,
+  -- they have the rows that they have in `holders`.
   pub record IsAssignmentWithout (plan : List (Option ℕ)) (out : ℕ) : Type 0 where
     pub places : length plan ≡ n
     pub out_in_range : out < n
@@ -54,9 +56,9 @@ module _ (n : ℕ) (cost : List (List ℕ)) (prices : List ℤ) (holders : List 
     pub same : (j : ℕ) → has_column reached j ≡ false → slice_index_or plan j None ≡ slice_index_or holders j None
     pub taken : (j : ℕ) → is_some (slice_index_or plan j None) ≡ is_some (slice_index_or holders j None)
 
-  -- Each column of the tree is taken, and its price is no further below its ceiling than any price outside.
-  -- Each column outside is the cheapest one for its nearest row, at the ceilings. `plans` has a plan that
-  -- leaves this row without a column.
+  -- Each column of the tree is taken, and its price is no further below its ceiling than that of any column
+  -- outside. Each column outside is the cheapest one, at the ceilings, for its nearest row. For this row, `plans`
+  -- has an assignment that leaves only this row without a column.
   pub record IsGrownTree (near : List ℕ) (plans : List (List (Option ℕ))) : Type 0 where
     pub places : length reached ≡ n
     pub plan_places : length plans ≡ n

@@ -8,11 +8,11 @@ ghost use Rattle.kd_assign.specs.Solved.{IsSolvedTo};
 use crate::nearest::Nearest;
 use crate::scans::Scans;
 
-/// Gives the row `root` a column, and moves other rows where this costs the least.
+/// Gives the row `root` a column, and other rows another column where this costs the least.
 ///
 /// A tree of rows and columns grows from `root`. In each round the nearest column joins the tree, and then
 /// the row that holds this column. A free column ends the growth. For each row of the tree, `plans` keeps an
-/// assignment that leaves only this row without a column.
+/// assignment of the rows up to `root` that leaves only this row without a column.
 pub fn assign_row<const N: usize>(
     cost: &[[u8; N]; N],
     prices: &mut [i16; N],
@@ -32,7 +32,7 @@ pub fn assign_row<const N: usize>(
 {
     let mut reached = [false; N];
     let mut plans = [*holders; N];
-    let mut nearest = Nearest::new(root);
+    let mut nearest = Nearest::new();
     nearest.join(&reached, cost, root, 0, scans);
     loop {
         let column = nearest.column(&reached, prices, holders);

@@ -1,4 +1,4 @@
-//! The law that fitting prices bound the cost of every assignment from below.
+//! The law that the sum of prices that fit is a lower bound for the cost of every assignment.
 ghost use Rattle.kd_assign.specs.Cheapest.{FittingPricesBoundCosts};
 
 /// If prices fit, every one-to-one assignment costs at least their sum.

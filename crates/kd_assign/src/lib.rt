@@ -1,4 +1,4 @@
-//! A minimum-cost assignment for a square table of costs, with the prices that prove its cost least.
+//! A minimum-cost assignment for a square table of costs, with prices that prove that none costs less.
 #![tactic(auto)]
 
 mod columns;

@@ -1,4 +1,4 @@
-//! For each column, the nearest row of a growing tree, and how near this row is.
+//! For each column, the row of a growing tree that is nearest to it: the row that offers the lowest price.
 ghost use Rattle.std.specs.Prelude.{◌≡◌, ℕ, ◌+◌, ◌^◌, ◌<◌, ◌≢◌, ◌⊎◌, false, if◌then◌else◌, Some, IfSome, IsSomeAnd};
 ghost use Rattle.std.specs.Prelude.{All};
 ghost use Rattle.std.specs.Prelude.{length, count_by, slice_index, ℤ, pos, neg_ℤ, ◌+ℤ◌, ◌-ℤ◌, ◌≤ℤ◌};
@@ -7,29 +7,29 @@ ghost use Rattle.kd_assign.specs.Tree.{AreClose, AreCompared, IsCompared, IsNear
 
 use crate::scans::Scans;
 
-/// For each column, the row of a tree that is nearest to it.
+/// For each column, the row of a tree that is nearest to it, and the price that this row offers for it.
 #[derive(Drop)]
 pub struct Nearest<const N: usize> {
     pub row: [usize; N],
-    /// The ceiling of each column: the price at which its nearest row would take it.
+    /// The ceiling of each column: the lowest price that a row of the tree offers for it.
     ///
-    /// The nearest column is the one whose price is least below its ceiling. All ceilings are too high by one
-    /// amount, which is known once the tree reaches a free column.
+    /// The nearest column is the one whose price is closest to its ceiling. All ceilings are too high by the room
+    /// (ceiling less price) of the free column that ends the tree.
     pub ceiling: [i16; N],
 }
 
 impl<const N: usize> Nearest<N> {
-    /// Creates the state before any comparison: every column is as far away as can be.
-    pub fn new(root: usize) -> Self
+    /// Creates the state before any comparison: every ceiling is as high as an `i16` can be.
+    pub fn new() -> Self
         ensures far { All (λ s. s ≡ pos 32767) result.ceiling }
     {
         Nearest {
-            row: [root; N],
+            row: [0; N],
             ceiling: [i16::MAX; N],
         }
     }
 
-    /// Compares each column outside the tree with `row`, which has just joined.
+    /// Compares each column outside the tree with `row`, which has just joined the tree.
     pub fn join(
         &mut self,
         reached: &[bool; N],
@@ -55,7 +55,7 @@ impl<const N: usize> Nearest<N> {
         }
     }
 
-    /// If `column` is outside the tree, compares it with `row` and keeps the nearer row.
+    /// If `column` is outside the tree and `offer` is below its ceiling, makes `row` its nearest row.
     fn compare(&mut self, reached: bool, row: usize, column: usize, offer: i16, scans: &mut Scans)
         requires column { column < N }
         requires room { scans.old < 4294967295 }
@@ -85,10 +85,10 @@ impl<const N: usize> Nearest<N> {
         self.ceiling[column] - prices[column]
     }
 
-    /// The level of `row`, which joins the tree with its own `column`.
+    /// The level of `row`, which joins the tree together with `column`, the column that it holds.
     ///
-    /// Level plus cost gives the price at which `row` would take a column. For its own column this is the
-    /// ceiling.
+    /// The price that a row offers for a column is its level plus its cost there. For the column that it holds, this
+    /// is the column's ceiling.
     pub fn level(&self, cost: &[[u8; N]; N], row: usize, column: usize) -> i16
         requires row { row < N }
         requires column { column < N }
@@ -122,8 +122,8 @@ impl<const N: usize> Nearest<N> {
 
     /// The nearer of `first` and `second` if `second` is outside the tree, otherwise `first`.
     ///
-    /// If both are equally near, a free `second` is taken, since the tree ends at a free column. The contract
-    /// leaves this choice open.
+    /// If both are equally near, the result is `second` if it is free, since the tree ends at a free column. The
+    /// contract leaves this choice open.
     fn nearer(
         &self,
         reached: &[bool; N],

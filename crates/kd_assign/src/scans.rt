@@ -1,4 +1,4 @@
-//! Scans: a counter of comparisons, which only a comparison raises.
+//! Scans: a counter of comparisons. Each comparison raises it by one, and nothing else changes it.
 ghost use Rattle.std.specs.Prelude.{◌≡◌, ℕ, ◌+◌, ◌<◌, ◌↔◌, IsTrue, ◌<ℤ◌};
 
 use std::marker::Model;

@@ -1,8 +1,8 @@
 //! Finds a minimum-cost assignment and its prices.
-ghost use Rattle.std.specs.Prelude.{◌≡◌, ◌+◌, ◌*◌, ◌/◌, ◌≤◌, All, pos, unsigned_abs};
-ghost use Rattle.kd_assign.specs.Assignment.{IsOneToOne, assignment_cost};
-ghost use Rattle.kd_assign.specs.Cheapest.{IsLeastCost};
+ghost use Rattle.std.specs.Prelude.{◌≡◌, ◌*◌, ◌≤◌, All, pos, unsigned_abs};
+ghost use Rattle.kd_assign.specs.Cheapest.{IsCheapestAssignment};
 ghost use Rattle.kd_assign.specs.Prices.{AreCostsAtMost, FitCosts, price_sum};
+ghost use Rattle.kd_assign.specs.Scans.{IsScanCount};
 
 use crate::columns::{assignment_cost, columns_of_rows, row_prices};
 use crate::growth::assign_row;
@@ -25,21 +25,18 @@ pub struct Solution<const N: usize> {
 
 /// Finds a minimum-cost assignment by the Hungarian method of Kuhn and Munkres.
 ///
-/// From each row it grows a tree of tight edges, whose two prices add up to the edge's cost. The contract
-/// doesn't say which assignment is found if several cost the least.
+/// From each row it grows a tree of tight edges: a row and a column whose prices add up to the cost where they
+/// meet. The contract doesn't say which assignment is found if several cost the least.
 pub fn assign<const N: usize>(cost: &[[u8; N]; N]) -> Solution<N>
     requires some { 1 ≤ N }
     requires few { N ≤ 32 }
     requires costs { AreCostsAtMost 4 cost.now }
-    ensures one_to_one { IsOneToOne result.to }
+    ensures cheapest { IsCheapestAssignment cost.now result.to result.total }
     ensures fits { FitCosts cost.now result.row result.col }
     ensures row_prices { All (λ price. unsigned_abs price ≤ 4 * N) result.row }
     ensures col_prices { All (λ price. unsigned_abs price ≤ 4 * N) result.col }
     ensures price_sum { price_sum result.row result.col ≡ pos result.total }
-    ensures cost { assignment_cost cost.now result.to ≡ result.total }
-    ensures least { IsLeastCost cost.now result.total }
-    ensures least_scans { N * N ≤ result.scans }
-    ensures most_scans { result.scans ≤ N * (N + 1) * (2 * N + 1) / 6 }
+    ensures scans { IsScanCount N result.scans }
 {
     let mut col = [0; N];
     let mut holders = [None; N];

@@ -27,12 +27,12 @@ pub counted-append : {a b p q : ℕ} (xs ys : List Setting) → AreCounted xs a 
     → AreCounted (xs ++ ys) (a + b) (p + q)
 counted-append xs ys h k = grind (arith, length-append, sum_by-append)
 
--- the setting for a thing, if it is loose
+-- the setting for a thing counts as one if the thing is loose, and is left out otherwise
 counted_loose : (so : Bool) (x : Setting) → is_priced_setting x ≡ false
     → AreCounted (option_to_list (setting_unless so x)) (cond (not so) 1 0) 0
 counted_loose so x e = grind arith
 
--- the settings for the items of a numbered list
+-- the settings for all items of a numbered list are as many as those for each item, added up
 pub counted_each : {Z : Type 0} (lines : ℕ → Z → List Setting) (f g : Z → ℕ)
     → ((number : ℕ) (z : Z) → AreCounted (lines number z) (f z) (g z))
     → (zs : List Z) (number : ℕ) → AreCounted (lines_from lines number zs) (sum_by f zs) (sum_by g zs)
@@ -48,7 +48,7 @@ pub beside_each : {A B : Type 0} (f : B → ℕ) (xs : List A) (ys : List B) →
     → sum_by (λ (z : A × B). f z.1) (zip xs ys) ≡ sum_by f ys
 beside_each f xs ys same = sym (fold-map _ (λ z. z.1) 0 (zip xs ys)) ∙ ap (sum_by f) (seconds-zip xs ys same)
 
--- Settings that don't depend on numbers are counted like those that do.
+-- For settings that don't depend on an item's number, `flat_map` gives the same list as `lines_from`.
 pub lines_of_each : {X : Type 0} (f : X → List Setting) (xs : List X) (number : ℕ)
     → flat_map f xs ≡ lines_from (λ n x. f x) number xs
 lines_of_each f [] number = refl
@@ -64,7 +64,7 @@ once_in_box : (model : Model) (wheel : Wheel) (b : Bool) → has_wheel (box_of m
     → count_by (λ x. same_wheel x wheel && b) (box_of model) ≡ cond b 1 0
 once_in_box model wheel b e = grind arith
 
--- whether there is a wheel with this name that passes the test
+-- whether `wheel` is among `wheels`, and its first entry there passes the test
 abbrev finds_wheel : (SheetWheel → Bool) → List SheetWheel → Wheel → Bool
 finds_wheel test wheels wheel = option_map_or test (find (λ w. same_wheel wheel w.wheel) wheels) false
 
@@ -119,7 +119,7 @@ module _ (m : RotorParts) (s : RotorDay) where
       counted_rings) turns) in
       record { count = grind (arith, all.count, found); priced = all.priced }
 
--- PIN for the pins of wheels: each wheel has a pin for each letter, in the machine as on the day.
+-- PIN for all pins: each wheel has a pin for each of its letters, both in the machine and on the day.
 module _ (m : PinParts) (s : PinDay) (machine : HasAllPins m.pins) (legal : HasAllPins s.pins) where
   counted_wheel : (number : ℕ) → let present = wheel_pins m.pins number in let wanted = wheel_pins s.pins number in
       AreCounted (wheel_pin_lines number (ring_of number) present wanted)

@@ -61,7 +61,7 @@ module _ {A C : Type 0} (R : A → C → Type 0) where
   side_by_side_at (a ∷ xs) (c ∷ ys) (suc i) d e h lt = side_by_side_at xs ys i d e h.1 (omega arith)
   side_by_side_at (a ∷ xs) [] i d e h lt = absurd h
 
-  -- the second list in an order in which its items are related to those of the first one
+  -- an order of the second list in which its items are related, place by place, to those of the first one
   abbrev pub Reordered : List C → List A → Type 0
   Reordered ys xs = (zs : List C) × IsPermutation ys zs × AllZip R xs zs
 
@@ -92,7 +92,7 @@ module _ {A B : Type 0} (cost : A → B → ℕ) where
   abbrev pub pairing_cost : List A → List (B × ℤ) → ℕ
   pairing_cost rows ws = lists.sum_by (λ (pair : A × (B × ℤ)). cost pair.0 pair.1.0) (zip rows ws)
 
-  -- The prices of a row and a column are together at most the cost where they meet.
+  -- The prices of a row and of a column add up to at most the cost where they meet.
   abbrev pub FitTogether : A → ℤ → B × ℤ → Type 0
   FitTogether row price w = (price +ℤ w.1) ≤ℤ pos (cost row w.0)
 
@@ -116,7 +116,8 @@ module _ {A B : Type 0} (cost : A → B → ℕ) where
         omega (arith, ints, sum_by-cons (λ (pair : A × (B × ℤ)). cost pair.0 pair.1.0) (row, w) (zip rows ws))
     fitting_prices rows prices ws e d fit = absurd (omega arith)
 
-    -- If fitting prices add up to the cost of an assignment, they are tight in each row.
+    -- If prices that fit add up to at least the cost of an assignment, then for each row the prices of the row and of
+    -- its column add up to the cost where they meet.
     pub tight_at : (rows : List A) (prices : List ℤ) (ws : List (B × ℤ)) (i : ℕ) (w : B × ℤ) → length rows ≡ length ws
         → length rows ≡ length prices
         → FitAll rows prices ws → pos (pairing_cost rows ws) ≤ℤ (sum_of prices +ℤ prices_with ws) → i < length rows

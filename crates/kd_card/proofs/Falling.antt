@@ -1,5 +1,5 @@
 -- The cost of an assignment falls by at most one with each setting that changes a cable or a bar. Any other
--- setting puts at most one loose thing right.
+-- setting lowers the number of loose things by at most one.
 use Rattle.kd_card.proofs.Prelude.{count_by-cons, six_lists, ◌≡◌, ℕ, suc, ◌+◌, ◌-◌, ◌≤◌, nat_eq, min, Bool, false, inl}
 use Rattle.kd_card.proofs.Prelude.{inr, List, [], ◌∷◌, get_or, set, map, fold, count_by, Option, None, unwrap_or, ℤ}
 use Rattle.kd_card.proofs.Prelude.{sym, ◌∙◌, subst, arith, length, Place, alphabet, RotorParts, Parts, Rotor, Pin}
@@ -32,7 +32,7 @@ not_differing b = grind arith
 pub one_less : (place : ℕ) → suc place - 1 ≡ place
 one_less place = omega arith
 
--- What holds for the cables or bars of a machine, and is kept by every setting.
+-- What holds of the cables or bars of a machine, and still holds after each legal setting.
 pub record HasCables (cables : List (Option ℕ × Option ℕ)) : Type 0 where
   pub count : length cables ≡ 13
   pub apart : IsDistinct nat_eq (letters_in_cables cables)
@@ -43,7 +43,7 @@ pub record HasBars (bars : List (Place × Place)) : Type 0 where
 
 -- ---- a letter is pulled out of a cable, or put into one
 
--- The two lists have the same letters, except for one letter.
+-- The two lists have the same letters, except perhaps for letter `x`.
 abbrev pub SameBut : ℕ → List ℕ → List ℕ → Type 0
 SameBut x letters others =
     (letter : ℕ) → (has_letter letters letter ≡ has_letter others letter) ⊎ (nat_eq x letter ≡ true)
@@ -61,7 +61,8 @@ one_apart x fewer letters order letter =
     in
     in_front (nat_eq x letter) (has_letter letters letter) (has_letter fewer letter) (same letter)
 
--- `new` is cable number `cable` after the letter was pulled out or put in.
+-- `new` in place of cable number `cable` has the same letters except perhaps `letter`, and keeps `HasCables`. This is
+-- so after the letter was pulled out or put in.
 pub record ChangesCable (m : RotorParts) (cable letter : ℕ) (new : Option ℕ × Option ℕ) : Type 0 where
   pub here : get_or m.cables (cable - 1) (cable_at m cable) ≡ cable_at m cable
   pub same : SameBut letter (cable_letters (cable_at m cable)) (cable_letters new)
@@ -189,7 +190,7 @@ zip_set_lowers : {X Y : Type 0} (p : X × Y → Bool) (xs : List X) (ys : List Y
 zip_set_lowers p xs ys i v =
     zip_set (λ z. cond (p z) 1 0) xs ys i v v (λ y. omega (arith, at_most_one (p (get_or xs i v, y))))
 
--- Setting one letter puts at most one thing right, if the things are at different places.
+-- A change of one letter makes at most one thing right, if the things are at different places.
 module _ {X : Type 0} (place target : X → ℕ) where
   abbrev wrong : List ℕ → X → Bool
   wrong letters x = not (option_map_or (nat_eq (target x)) (slice_get letters (place x)) false)
@@ -227,7 +228,7 @@ module _ {X : Type 0} (place target : X → ℕ) where
             )
       ]
 
--- Emptying a slot doesn't put it right.
+-- A slot that is wrong is still wrong after it is emptied.
 abbrev wrong_slot : Option Wheel × SheetWheel → Bool
 wrong_slot slot = not (option_map_or (same_wheel slot.1.wheel) slot.0 false)
 
@@ -242,7 +243,7 @@ without_raises wheel (now ∷ slots) [] = omega arith
 without_raises wheel (now ∷ slots) (wanted ∷ wheels) =
     grind (arith, common_steps, count_by-cons, empty_wrong, without_raises wheel slots wheels)
 
--- No two of the day's wheels have one place in the box.
+-- No two of the day's wheels have the same place in the box.
 abbrev pub HaveTheirPlaces : Model → List SheetWheel → Type 0
 HaveTheirPlaces model wheels =
     AllPairs (λ (w other : SheetWheel). place_in_box model w.wheel ≢ place_in_box model other.wheel) wheels
@@ -255,7 +256,7 @@ left_to_do columns rows (Rotor m) (OfRotors s) = loose_count (Rotor m) (OfRotors
 left_to_do columns rows (Pin m) (OfPins s) = loose_count (Pin m) (OfPins s) + pairing_cost bar_cost m.bars rows
 left_to_do columns rows m s = 0
 
--- Each setting leaves at most one less to do.
+-- Each setting of a rotor machine lowers what is left to do by at most one.
 module _ (columns : List (Option (ℕ × ℕ) × ℤ)) (rows : List ((ℕ × ℕ) × ℤ)) (m : RotorParts) (s : RotorDay)
     (apart : HaveTheirPlaces m.model s.wheels) where
   abbrev place : SheetWheel → ℕ
@@ -293,7 +294,7 @@ module _ (columns : List (Option (ℕ × ℕ) × ℤ)) (rows : List ((ℕ × ℕ
   rotor_lowers (Turn slot letter) e = omega (arith, turned_lowers (wheel_in_slot m slot) letter)
   rotor_lowers x e = omega arith
 
--- PIN, which sets one pin.
+-- PIN changes one pin, so that at most one pin less differs from the day's.
 abbrev differing_pins : List Bool × List Bool → ℕ
 differing_pins wheel = count_by (λ (pin : Bool × Bool). exactly_one pin.0 pin.1) (zip wheel.0 wheel.1)
 
@@ -328,7 +329,7 @@ pin_machine_lowers : (columns : List (Option (ℕ × ℕ) × ℤ)) (rows : List 
 pin_machine_lowers columns rows m s (LugTo bar lug place) e = omega (arith, (lug_moves m rows bar lug place e).0)
 pin_machine_lowers columns rows m s x e = grind (arith, zip_set_lowers, pin_lowers)
 
--- The same for any machine and any setting.
+-- Each setting of any machine lowers what is left to do by at most one.
 pub left_to_do-lowered : (columns : List (Option (ℕ × ℕ) × ℤ)) (rows : List ((ℕ × ℕ) × ℤ)) (m : Parts) (s : Day)
     (x : Setting)
     → IsLegalDay s
@@ -340,7 +341,7 @@ left_to_do-lowered columns rows (Rotor m) (OfRotors s) x h same e =
 left_to_do-lowered columns rows (Pin m) (OfPins s) x h same e = pin_machine_lowers columns rows m s x e
 left_to_do-lowered columns rows m s x h same e = omega arith
 
--- No setting changes the model. A setting that changes a cable or a bar leaves the number of loose things.
+-- No setting changes the model. A setting that changes a cable or a bar doesn't change the number of loose things.
 pub model_of-changed : (m : Parts) (x : Setting) → model_of (machine_after m x) ≡ model_of m
 model_of-changed m x = grind arith
 

@@ -1,4 +1,4 @@
--- Settings carried out in turn: those for loose things lead to a machine that has these things as the day does.
+-- Settings carried out in turn: those for loose things lead to a machine on which these things are as on the day.
 use Rattle.kd_card.proofs.Prelude.{All, AllByRecursion, AllPairs, Bool, Contains, IsMachine, Leads, List, Model, None}
 use Rattle.kd_card.proofs.Prelude.{OfPins, OfRotors, Option, Parts, Pin, PinDay, PinParts, Rotor, RotorDay, RotorParts}
 use Rattle.kd_card.proofs.Prelude.{Setting, Some, [], ap, append-nil, append_assoc, arith, machine_after, common_steps}
@@ -28,7 +28,7 @@ use Rattle.std.proofs.lemmas.List.{FromFn.{fill_by_all, get_or-range_with_len, l
 use Rattle.std.proofs.lemmas.{Option.{slice_get-get_or, slice_get-map, slice_get_within}, Slice.Zip.firsts-zip}
 unfoldable use Rattle.kd_tables.specs.Rings.{ring_of}
 
--- Properties of the item between two parts of a list.
+-- Facts about the item `x` between the parts `front` and `back` of a list.
 module _ {X : Type 0} where
   pub seam_get : (front : List X) (x : X) (back : List X) → slice_get (front ++ x ∷ back) (length front) ≡ Some x
   seam_get [] x back = refl
@@ -40,7 +40,7 @@ module _ {X : Type 0} where
   all_parts P [] x back h = (tt, h.0, h.1)
   all_parts P (y ∷ front) x back h = let rest = all_parts P front x back h.1 in ((h.0, rest.0), rest.1, rest.2)
 
--- If no two items are equal in `f`, an item differs from those before it.
+-- If `f` differs for any two items, `f` of an item differs from `f` of each item before it.
 AllPairs-before : {X Y : Type 0} (f : X → Y) (front : List X) (x : X) (back : List X)
     → AllPairs (λ w v. f w ≢ f v) (front ++ x ∷ back) → AllByRecursion (λ v. f x ≢ f v) front
 AllPairs-before f [] x back apart = tt
@@ -70,15 +70,15 @@ led_cons {k = k} allowed made rest = record { leads = (k, record { allowed = all
 pub led_append : (xs ys : List Setting) {m k n : Parts} → Led m xs k → Led k ys n → Led m (xs ++ ys) n
 led_append xs ys first second = record { leads = leads_join _ _ _ xs ys first.leads second.leads }
 
--- The setting for a thing, which is left out if the thing is right already.
+-- The setting for a thing leads from `m` to `n`; it is left out if the thing is right already (`so`).
 pub led_unless : (so : Bool) (m n : Parts) (x : Setting) → (so ≡ true → n ≡ m) → (so ≡ false → machine_after m x ≡ n)
     → (so ≡ false → why_refused m x ≡ None)
     → Led m (option_to_list (setting_unless so x)) n
 led_unless true m n x same made allowed = led_none (same refl)
 led_unless false m n x same made allowed = led_cons (allowed refl) (made refl) (led_none refl)
 
--- Things in turn, each with its settings. The state of the machine depends on which things are done and which
--- aren't.
+-- Things in turn, each with its settings. The machine depends on which things are done already, and which aren't
+-- yet: `state` gives it.
 module _ {Z : Type 0} (state : List Z → List Z → Parts) (lines : ℕ → Z → List Setting) where
   abbrev pub LeadsOn : List Z → Z → List Z → Type 0
   LeadsOn front z back = Led (state front (z ∷ back)) (lines (suc (length front)) z) (state (front ++ z ∷ []) back)
@@ -97,8 +97,8 @@ module _ {Z : Type 0} (state : List Z → List Z → Parts) (lines : ℕ → Z �
       → Led (state [] zs) (lines_from lines 1 zs) (state zs [])
   things_led zs each = led_from [] zs 1 refl each
 
--- Things side by side, each of which only its own settings change. The machine is made of these things before
--- and after.
+-- Things side by side. The settings of a thing change this thing alone, from `before` to `after`; `put` gives the
+-- machine that has these things.
 module _ {Z A : Type 0} (put : List A → Parts) (before after : Z → A) (lines : ℕ → Z → List Setting) where
   abbrev pub LeadsAt : List A → Z → List A → Type 0
   LeadsAt front z back =
@@ -140,11 +140,12 @@ module _ (m : RotorParts) where
   abbrev pub with_slots : List (Option Wheel) → Parts
   with_slots slots = Rotor (record m { slots = slots })
 
-  -- The wheel is in none of the slots.
+  -- The wheel of `w` is in none of `slots`.
   abbrev IsAbsent : List (Option Wheel) → SheetWheel → Type 0
   IsAbsent slots w = map (seat_without w.wheel) slots ≡ slots
 
-  -- the slots after the one in which the wheel is seated
+  -- `slots`, right of a slot that holds `now`, after the wheel of `w` is seated in that slot: they lose this wheel,
+  -- unless the slot held it already
   abbrev behind : Option Wheel → SheetWheel → List (Option Wheel) → List (Option Wheel)
   behind now w slots = cond (option_map_or (same_wheel w.wheel) now false) slots (map (seat_without w.wheel) slots)
 
@@ -183,7 +184,7 @@ module _ (m : RotorParts) where
       at (simp append_assoc at rest))
   seats_led front _ _ number e size allowed absent apart = absurd (omega arith)
 
-  -- REFLECTOR
+  -- REFLECTOR leads to a machine with the day's reflector.
   reflector_led : (slots : List (Option Wheel)) (reflector : Reflector) → Contains (reflectors_of m.model) reflector
       → Led (with_slots slots) (reflector_lines m.reflector reflector)
       (Rotor (record m { slots = slots; reflector = reflector }))
@@ -197,7 +198,7 @@ is_the_one : (wheel : Wheel) (wheels : List SheetWheel) (w : SheetWheel)
 is_the_one wheel [] w e = absurd cc
 is_the_one wheel (v ∷ wheels) w e = grind (arith, same_wheel-Decides, is_the_one wheel wheels w)
 
--- all settings of a rotor machine
+-- all settings for the loose things of a rotor machine, carried out in turn
 module _ (m : RotorParts) (s : RotorDay) (machine : IsMachine (Rotor m)) (legal : IsLegalRotorDay s)
     (same : m.model ≡ s.model) where
   are_seated : AreLegalSeats m.model (seats_of_wheels s.wheels)
@@ -215,7 +216,7 @@ module _ (m : RotorParts) (s : RotorDay) (machine : IsMachine (Rotor m)) (legal 
       (λ k n wheel e at. rw e (are_seated.allowed k wheel at))
       (λ k d lt. refl) (λ i j d before lt same. places_differ i j d before lt (ap (place_in_box m.model) same))
 
-  -- RING: the day's wheel that is this wheel of the box, if there is one, and the rings in the order of the box
+  -- RING: the day's wheel that is this wheel of the box, if there is one; and the rings, in the order of the box
   abbrev the_one : Wheel → Option SheetWheel
   the_one wheel = find (λ (w : SheetWheel). same_wheel wheel w.wheel) s.wheels
 
@@ -266,7 +267,7 @@ module _ (m : RotorParts) (s : RotorDay) (machine : IsMachine (Rotor m)) (legal 
       (box_of m.model) rings_now refl
       (λ fs bs wheel e. ring_led _ _ wheel (the_one wheel) refl (rw (length-map, e) (seam_get fs wheel bs))))
 
-  -- TURN
+  -- TURN: the machine after SEAT, REFLECTOR and RING, with these letters.
   abbrev turned : List ℕ → RotorParts
   turned letters =
       record m {
@@ -314,7 +315,7 @@ module _ (m : RotorParts) (s : RotorDay) (machine : IsMachine (Rotor m)) (legal 
       (subst (λ model. Contains (reflectors_of model) s.reflector) (sym same) legal.reflector) in
       led_append _ _ (led_append _ _ (led_append _ _ seats_lead reflector) rings_lead) turns_lead
 
-  -- Each of the day's wheels has its ring and its letter.
+  -- After all these settings, each of the day's wheels has the day's ring and the day's letter.
   pub shown : (k : ℕ) (d : SheetWheel) → k < length s.wheels → let w = get_or s.wheels k d in
       (ring_at turned_all w.wheel ≡ Some w.ring) × (slice_get turned_all.letters (place w) ≡ Some w.letter)
   shown k d lt =
@@ -342,7 +343,8 @@ second_map : {A B C : Type 0} (f : B → C) (xs : List A) (ys : List B) → leng
     → map (λ (z : A × B). f z.1) (zip xs ys) ≡ map f ys
 second_map f xs ys e = sym (map-map f (λ z. z.1) (zip xs ys)) ∙ ap (map f) (seconds-zip xs ys e)
 
--- a letter of a wheel, with its pin and the day's; and the pins of a wheel with the day's
+-- a letter of a wheel, with its pin in the machine and on the day; and all pins of a wheel, in the machine and on the
+-- day
 abbrev Cell : Type 0
 Cell = ℕ × (Bool × Bool)
 
@@ -409,7 +411,7 @@ module _ (m : PinParts) where
       wheel_led (map (λ (z : TwoPins). z.1) fs) (map (λ (z : TwoPins). z.0) bs) (simp length-map six) z.0 z.1
       (rw (length-map, ← now) (has (suc (length fs)))) (rw (length-map, ← wanted) (due (suc (length fs)))))
 
-  -- TURN
+  -- TURN: the machine with these letters shown on its wheels.
   abbrev with_shown : List ℕ → Parts
   with_shown letters = Pin (record m { letters = letters })
 

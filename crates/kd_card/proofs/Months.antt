@@ -1,6 +1,6 @@
--- On a rotor machine the cards of a month are the fewest settings in all. A list that leads from one machine to
--- another has at least one setting for each ring and window letter that differs. A card only changes what is
--- wrong for the day, so it comes nearer to each machine that reads as the day.
+-- On a rotor machine, the cards of several days have the fewest settings in total. A list that leads from one
+-- machine to another has at least one setting for each ring and window letter that differs. A card changes only what
+-- is wrong for the day, so each of these changes brings the machine nearer to every machine that reads as the day.
 use Rattle.kd_card.proofs.Prelude.{◌≡◌, ◌≢◌, ◌∙◌, ℕ, zero, suc, ◌+◌, ◌<◌, ◌≤◌, pos, ints, nat_eq, cond, not, Bool}
 use Rattle.kd_card.proofs.Prelude.{false, List, [], ◌∷◌, length, set, zip, map, replicate, count_by, sum_by, All}
 use Rattle.kd_card.proofs.Prelude.{AllZip, IsPermutation, Option, Some, None, ℤ, refl, sym, ap, subst, arith, slice_get}
@@ -50,11 +50,12 @@ gaps-set (x ∷ xs) (y ∷ ys) zero l = grind (arith, nat_tests)
 gaps-set (x ∷ xs) (y ∷ ys) (suc p) l = omega (arith, gaps-set xs ys p l)
 gaps-set xs ys p l = grind (arith, gaps-nil, length-set)
 
--- `xs` doesn't have letter `t` at place `q`.
+-- whether `xs` has no letter, or another one than `t`, at place `q`
 abbrev is_wrong : List ℕ → ℕ → ℕ → Bool
 is_wrong xs q t = not (option_map_or (nat_eq t) (slice_get xs q) false)
 
--- If `ys` has letter `t` at place `q`, setting this letter in `xs` closes a gap.
+-- If `ys` has letter `t` at place `q`, a change of one letter that brings `t` to this place of `xs` leaves one place
+-- less at which the two lists differ.
 gaps-right : (xs ys : List ℕ) (p l q t : ℕ) → slice_get ys q ≡ Some t
     → cond {A = ℕ} (is_wrong (set xs p l) q t) 1 0 < cond (is_wrong xs q t) 1 0
     → gap_count (set xs p l) ys + 1 ≤ gap_count xs ys
@@ -62,7 +63,8 @@ gaps-right (x ∷ xs) (y ∷ ys) zero l zero t e fewer = grind (arith, nat_tests
 gaps-right (x ∷ xs) (y ∷ ys) (suc p) l (suc q) t e fewer = omega (arith, gaps-right xs ys p l q t e fewer)
 gaps-right xs ys p l q t e fewer = grind arith
 
--- The same for a change that leaves fewer of the day's wheels wrong, if `ys` has the letter of each wheel.
+-- If `ys` has the letter of each of the day's wheels, a change of one letter of `xs` that leaves fewer wheels wrong
+-- leaves one place less at which the two lists differ.
 module _ (place target : SheetWheel → ℕ) (ys : List ℕ) where
   abbrev IsRight : SheetWheel → Type 0
   IsRight w = slice_get ys (place w) ≡ Some (target w)
@@ -92,7 +94,7 @@ differing-triangle p q r (letter ∷ letters) =
     let rest = differing-triangle p q r letters in
     simp count_by-cons (grind (arith, rest.0), grind (arith, rest.1))
 
--- cables `xs` with columns `us`, each with its letters
+-- The cost of cables `xs` at columns `us`: `f` and `g` are the tests which letters a cable and a column have.
 module _ {A W : Type 0} (letters : List ℕ) (f : A → ℕ → Bool) (g : W → ℕ → Bool) where
   abbrev costs : List A → List W → ℕ
   costs xs us = sum_by (λ z. count_differing letters (f z.0) (g z.1)) (zip xs us)
@@ -118,12 +120,14 @@ zip-seconds us zs h = absurd h
 abbrev Priced : Type 0
 Priced = Option (ℕ × ℕ) × ℤ
 
--- Whatever the cables `others` are to become, the cables `cables` can become it at no higher cost.
+-- Whichever columns the cables `others` are assigned to, `cables` can be assigned to the same columns, in some order,
+-- at no higher cost.
 abbrev CostNoMore : List (Option ℕ × Option ℕ) → List (Option ℕ × Option ℕ) → Type 0
 CostNoMore cables others = (ws : List Priced) → length ws ≡ length others
     → (vs : List Priced) × IsPermutation ws vs × (pairing_cost cable_cost cables vs ≤ pairing_cost cable_cost others ws)
 
--- Cables of two machines that read as one day have equal costs.
+-- If two machines read as one day, the cables of the first can have any columns at no higher cost than those of the
+-- second.
 reading_alike_costs_no_more : (g n : RotorParts) (s : RotorDay) → IsLegalRotorDay s → HasCables g.cables
     → HasCables n.cables → ReadsAs (Rotor g) (OfRotors s) → ReadsAs (Rotor n) (OfRotors s)
     → CostNoMore g.cables n.cables
@@ -157,8 +161,8 @@ abbrev machine_gap : RotorParts → RotorParts → ℕ
 machine_gap m n = gap_count m.rings n.rings + gap_count m.letters n.letters
 
 module _ (s : RotorDay) (legal : IsLegalRotorDay s) (o : RotorParts) (reads : ReadsAs (Rotor o) (OfRotors s)) where
-  -- what is loose, cables apart, if each ring and each letter is to be the other machine's; and the same with
-  -- cables that are to become columns
+  -- `loose_for` counts what differs, except cables: slots and the reflector from the day, rings and window letters
+  -- from machine `o`. `left_for` adds the cost of the cables at the columns `ws`.
   abbrev loose_for : Parts → ℕ
   loose_for (Rotor m) = loose_slots m s + loose_reflector m s + machine_gap m o
   loose_for (Pin m) = 0
@@ -190,7 +194,7 @@ module _ (s : RotorDay) (legal : IsLegalRotorDay s) (o : RotorParts) (reads : Re
       let rest = left_for-list ws leads.0 n xs (ap model_of leads.1.made ∙ model_of-changed m x ∙ same) leads.2 in
       omega (arith, rest, ap (left_for ws) leads.1.made, left_for-changed ws m x same leads.1.allowed)
 
-  -- A needed setting makes one thing less loose.
+  -- A needed setting lowers `loose_for` by at least one, unless it changes a cable.
   loose_for-needed : (m : Parts) (x : Setting) → model_of m ≡ s.model → IsSettingNeeded m (OfRotors s) x
       → loose_for (machine_after m x) + 1 ≤ loose_for m + cond (is_priced_setting x) 1 0
   loose_for-needed (Rotor m) (RingTo wheel letter) same needed =
@@ -215,8 +219,8 @@ module _ (s : RotorDay) (legal : IsLegalRotorDay s) (o : RotorParts) (reads : Re
 abbrev fixed_parts : RotorParts → Model × List (Option Wheel) × Reflector
 fixed_parts m = (m.model, m.slots, m.reflector)
 
--- The machines reached by cards and by other lists differ only in rings, window letters and the numbers of
--- cables.
+-- Two machines, one reached by cards and one by other lists, agree in model, slots and reflector. They may differ in
+-- rings and window letters, but the first one's cables cost no more at any columns than the second one's.
 record AgreeButForCables (g n : RotorParts) : Type 0 where
   first : HasCables g.cables
   second : HasCables n.cables
@@ -230,7 +234,8 @@ module _ (g n h o : RotorParts) (s : RotorDay) (card list : List Setting) (legal
   last : HasCables o.cables
   last = list_keeps (Rotor n) (Rotor o) list by_list.leads near.second
 
-  -- A card is longer than the other list by at most what it comes nearer.
+  -- A card is longer than the other list by at most as much as the two machines come nearer to each other in rings
+  -- and window letters.
   card-at_most : (prices : PriceParts) → ArePrices prices → ProvesByNumber (Rotor g) (OfRotors s) card prices
       → length card + machine_gap h o ≤ length list + machine_gap g n
   card-at_most (Cables row column) are proves =

@@ -53,9 +53,9 @@ pub use Rattle.kd_card.specs.Prices.{column_kinds, column_prices, cost_at, table
 pub use Rattle.kd_card.specs.Prices.{row_prices, version_of}
 pub use Rattle.kd_card.specs.Proving.{AreSettingsNeeded, AreModelPrices, Expanded, IsSettingNeeded, Same}
 pub use Rattle.kd_card.specs.Proving.{is_priced_setting, priced_count}
-pub use Rattle.kd_card.specs.FirstFaults.{Demands, GoesOn, Yields, HasFault, ThenNext, HasOneAnswer}
-pub use Rattle.kd_card.specs.FirstFaults.{HasOneAnswer-Demands, HasOneAnswer-Finds, HasOneAnswer-Yields}
-pub use Rattle.kd_card.specs.FirstFaults.{HasOneAnswer-FindsAlways, HasOneAnswer-ThenNext, ThenNext-Ok, Yields-Ok}
+pub use Rattle.kd_state.specs.FirstFaults.{Demands, GoesOn, Yields, HasFault, ThenNext, HasOneAnswer}
+pub use Rattle.kd_state.specs.FirstFaults.{HasOneAnswer-Demands, HasOneAnswer-Finds, HasOneAnswer-Yields}
+pub use Rattle.kd_state.specs.FirstFaults.{HasOneAnswer-FindsAlways, HasOneAnswer-ThenNext, ThenNext-Ok, Yields-Ok}
 pub use Rattle.kd_card.specs.declared.fault.CardFault.TheVariants.{BadHead, BadLine, CountWrong, PriceMissing, TooMany}
 pub use Rattle.kd_card.specs.declared.fault.CardFault.TheVariants.{Trailing}
 pub use Rattle.kd_card.specs.declared.{group.Group.Group, kinds.PricedKind.PricedKind, look.Look.Look, look.Name.Name}

@@ -1,6 +1,6 @@
--- On a machine that reads as the day, cables or bars have an assignment that costs nothing. So no list that
--- leads to the day is shorter than the loose things plus the sum of the prices, and a card that proves itself
--- has exactly as many settings.
+-- On a machine that reads as the day, cables or bars have an assignment that costs nothing. So each list that
+-- reaches the day has at least as many settings as loose things plus the sum of prices that fit, and a card that
+-- proves itself has exactly as many.
 use Rattle.kd_card.proofs.Prelude.{count_by-cons, ◌≡◌, ◌≢◌, ℕ, zero, suc, ◌+◌, ◌-◌, ◌≤◌, nat_eq, cond, List, [], ◌∷◌}
 use Rattle.kd_card.proofs.Prelude.{◌++◌, length, get_or, map, zip, replicate, Contains, IsPermutation, count_by, remove}
 use Rattle.kd_card.proofs.Prelude.{Option, Some, None, ℤ, refl, sym, ap, ◌∙◌, subst, arith, AllByRecursion, AllZip}
@@ -39,13 +39,13 @@ none_differ xs ys same (letter ∷ letters) =
 abbrev CostsNothing : Option ℕ × Option ℕ → Option (ℕ × ℕ) → Type 0
 CostsNothing cable column = cable_cost cable column ≡ 0
 
--- A letter of a list is counted at least once.
+-- A letter that a list contains occurs in it at least once.
 times-positive : (letters : List ℕ) (letter : ℕ) → Contains letters letter → 1 ≤ times letter letters
 times-positive letters letter there =
     let here = ap (λ b. cond {A = ℕ} b 1 0) (eq-eqb letter (get_or letters there.0 letter) (sym there.2)) in
     omega (arith, get_or-le-sum_by (λ other. cond (nat_eq letter other) 1 0) letters there.0 letter there.1)
 
--- The letters of things in a list.
+-- How often a letter occurs in the things of a list.
 module _ {X : Type 0} (letters_of : X → List ℕ) where
   times-flat_map : (letter : ℕ) (xs : List X)
       → times letter (flat_map letters_of xs) ≡ sum_by (λ x. times letter (letters_of x)) xs
@@ -58,7 +58,7 @@ module _ {X : Type 0} (letters_of : X → List ℕ) where
         times-flat_map letter xs,
       )
 
-  -- If no letter occurs in two things, it doesn't in another order of the things either.
+  -- If no letter occurs twice in a list of things, none occurs twice in another order of the list.
   once_moved : (xs ys : List X) → IsPermutation xs ys → AreOnce (flat_map letters_of xs)
       → AreOnce (flat_map letters_of ys)
   once_moved xs ys order once letter =
@@ -80,7 +80,8 @@ pair_letters pair = pair.0 ∷ pair.1 ∷ []
 abbrev HasPair : Option ℕ × Option ℕ → ℕ × ℕ → Type 0
 HasPair cable pair = HaveSameLetters (cable_letters cable) (pair_letters pair)
 
--- Each cable that isn't empty has the letters of a pair, and each pair has a cable with its letters.
+-- Each cable that isn't empty has the letters of a pair, and each pair has a cable with its letters. No letter occurs
+-- twice in the cables, or twice in the pairs.
 pub record AreMatched (cables : List (Option ℕ × Option ℕ)) (pairs : List (ℕ × ℕ)) : Type 0 where
   pub cables_once : AreOnce (letters_in_cables cables)
   pub pairs_once : AreOnce (letters_in_pairs pairs)
@@ -89,7 +90,7 @@ pub record AreMatched (cables : List (Option ℕ × Option ℕ)) (pairs : List (
   pub cable : (pair : ℕ × ℕ) → Contains pairs pair
       → (cable : Option ℕ × Option ℕ) × Contains cables cable × HasPair cable pair
 
--- The first pair and its cable are removed.
+-- If the first pair and the cable with its letters are removed, the other cables still match the other pairs.
 module _ (cables rest : List (Option ℕ × Option ℕ)) (cable : Option ℕ × Option ℕ) (pair : ℕ × ℕ) (pairs : List (ℕ × ℕ))
     (order : IsPermutation cables (cable ∷ rest)) (h : AreMatched cables (pair ∷ pairs))
     (here : HasPair cable pair) where
@@ -135,7 +136,7 @@ module _ (cables rest : List (Option ℕ × Option ℕ)) (cable : Option ℕ × 
     cable = cable_of_rest;
   }
 
--- Without pairs, all cables are empty.
+-- Without pairs, all cables are empty, and cost nothing at columns without pairs.
 empty_costs_nothing : (cable : Option ℕ × Option ℕ) → (cable_letters cable ≢ [] → ⊥) → CostsNothing cable None
 empty_costs_nothing cable e = grind (arith, none_differ)
 
@@ -178,7 +179,7 @@ cables-matched cables (pair ∷ pairs) nothings e h =
       ),
     )
 
--- An assignment that costs nothing: the columns with their prices, each beside its row.
+-- An assignment that costs nothing: the columns with their prices, in an order in which each is beside its row.
 pub record FreePairing {A B : Type 0} (cost : A → B → ℕ) (rows : List A) (columns : List B)
     (prices : List ℤ) : Type 0 where
   pub beside : List (B × ℤ)
@@ -278,7 +279,7 @@ module _ (columns : List (Option (ℕ × ℕ) × ℤ)) (rows : List ((ℕ × ℕ
 
 -- ---- fitting prices, and an assignment that the settings pay for
 
--- An item of a list is also in each other order of the list.
+-- An item of a list is in every other order of the list, too.
 IsPermutation-place : {X : Type 0} (xs ys : List X) (i : ℕ) (d : X) → IsPermutation xs ys → i < length ys
     → (j : ℕ) × (j < length xs) × (get_or ys i d ≡ get_or xs j d)
 IsPermutation-place xs ys i d order lt =
@@ -286,8 +287,8 @@ IsPermutation-place xs ys i d order lt =
     Contains-permutation ys xs (get_or ys i d) (IsPermutation-sym xs ys order) (Contains-get_or ys i d lt) in
     (there.0, there.1, sym there.2 ∙ get_or_default xs there.0 (get_or ys i d) d there.1)
 
--- The bound that fitting prices give for the number of settings; if it is reached, each price is tight
--- somewhere.
+-- The lower bound that prices that fit give for the number of settings, `lines`. If it is reached, each row has a
+-- column, and each column a row, so that their prices add up to the cost where they meet.
 pub record AreBounds (costs : List (List ℕ)) (prices : PriceParts) (loose lines : ℕ) : Type 0 where
   pub bound : (pos loose +ℤ price_sum prices) ≤ℤ pos lines
   pub tight : pos lines ≡ (pos loose +ℤ price_sum prices) → ArePricesTight costs prices
@@ -340,7 +341,7 @@ module _ {A B : Type 0} (a : A) (b : B) (cost : A → B → ℕ) (rows : List A)
       omega (arith, ints, sums)
 
   module _ (exact : pos lines ≡ (pos loose +ℤ price_sum prices)) where
-    -- The column at place `j` is beside the row at place `i`.
+    -- If column `j` is beside row `i`, the prices of the two add up to the cost where they meet.
     tight_where : (i j : ℕ) → i < table_rows prices → j < table_rows prices
         → get_or beside i (b, pos 0) ≡ get_or priced j (b, pos 0) → IsPriceTightAt costs prices i j
     tight_where i j lt lt' e =
@@ -409,7 +410,7 @@ pub fitting_prices_bound_lists : FittingPricesBoundLists
 fitting_prices_bound_lists m s prices settings machine legal are kind fits reached =
     (AreBounds-prices m reached.0 s prices settings machine legal are kind fits reached.1 reached.2).bound
 
--- If each setting is needed, the settings are as many as the loose things and the priced settings.
+-- If a list that reaches the day needs each setting, it has as many settings as loose things plus priced settings.
 needed_one : (m : Parts) (s : Day) (x : Setting) (b : Bool) → is_priced_setting x ≡ b → IsSettingNeeded m s x
     → loose_count m s + cond b 1 0 ≡ loose_count (machine_after m x) s + 1
 needed_one m s x b e d = grind (arith, loose_count-priced)
@@ -422,7 +423,7 @@ needed_all m n s (x ∷ xs) leads needed =
     needed.1 in
     omega (arith, needed_one m s x (is_priced_setting x) refl needed.0, count_by-cons is_priced_setting x xs, rest)
 
--- A setting that changes no cable and no bar makes at most one thing less loose.
+-- A setting that changes no cable and no bar lowers the number of loose things by at most one.
 cond-one_or_other : (b : Bool) → cond {A = ℕ} b 1 0 + cond {A = ℕ} b 0 1 ≡ 1
 cond-one_or_other b = grind arith
 

@@ -17,7 +17,7 @@ use Rattle.kd_card.specs.declared.kinds.PricedKind.{PricedKind}
 use Rattle.kd_card.specs.declared.fault.CardFault.{CardFault}
 use Rattle.kd_card.specs.declared.fault.CardFault.TheVariants.{BadHead, BadLine, TooMany, PriceMissing, CountWrong}
 use Rattle.kd_card.specs.declared.fault.CardFault.TheVariants.{Trailing}
-use Rattle.kd_card.specs.FirstFaults.{AnswerRule, ◌>>=◌, Yields, Finds, Demands, FindsAlways}
+use Rattle.kd_state.specs.FirstFaults.{AnswerRule, ◌>>=◌, Yields, Finds, Demands, FindsAlways}
 use Rattle.kd_card.specs.Kinds.{name_text, look_name, look_rank, kind_words, kinds_text, counted, IsPricedKind}
 use Rattle.kd_card.specs.Kinds.{AreKinds, AreCalled}
 use Rattle.kd_card.specs.Prices.{price_sum, ArePricesInRange}

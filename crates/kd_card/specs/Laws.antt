@@ -16,13 +16,13 @@ use Rattle.kd_card.specs.CardFault.{IsCardAnswer, IsCardFault}
 use Rattle.kd_card.specs.Proving.{AreSettingsNeeded, AreModelPrices, ProvesByNumber, Proves, IsShortest, LeadsToTheDay}
 use Rattle.kd_card.specs.Proving.{priced_count}
 
--- The settings for loose things are as many as the loose things.
+-- There are as many settings for loose things as there are loose things.
 abbrev pub LooseThingsAreCounted : Type 0
 LooseThingsAreCounted =
     (m : Parts) (s : Day) → IsMachine m → IsLegalDay s → model_of m ≡ day_model s
     → length (loose_lines m s) ≡ loose_count m s
 
--- If prices fit, no list to the day is shorter than the number of loose things plus the sum of prices.
+-- If prices fit, each list that reaches the day has at least as many settings as loose things plus the sum of prices.
 abbrev pub FittingPricesBoundLists : Type 0
 FittingPricesBoundLists =
     (m : Parts) (s : Day) (prices : PriceParts) (settings : List Setting) → IsMachine m → IsLegalDay s
@@ -30,16 +30,16 @@ FittingPricesBoundLists =
     → PricesFit (cost_table m s) prices → LeadsToTheDay m s settings
     → (pos (loose_count m s) +ℤ price_sum prices) ≤ℤ pos (length settings)
 
--- If a list to the day has no more unpriced settings than loose things, it needs each of its settings. An
--- unpriced setting changes no cable and no bar.
+-- If a list that reaches the day has no more unpriced settings than loose things, each of its settings is needed.
+-- Unpriced settings are those that change no cable and no bar.
 abbrev pub AsFewAreNeeded : Type 0
 AsFewAreNeeded =
     (m : Parts) (s : Day) (settings : List Setting) → IsLegalDay s → model_of m ≡ day_model s
     → LeadsToTheDay m s settings
     → length settings ≤ loose_count m s + priced_count settings → AreSettingsNeeded m s settings
 
--- A card by number that proves itself has as many settings as loose things plus the sum of its prices.
--- Whichever way a card has its prices, it is shortest if it proves itself.
+-- A card that proves itself by number (with a price for each cable and column, or for each bar and row) has as many
+-- settings as loose things plus the sum of its prices. A card that proves itself, by number or by kind, is shortest.
 abbrev pub ProvingCardsAreAsLong : Type 0
 ProvingCardsAreAsLong =
     (m : Parts) (s : Day) (settings : List Setting) (prices : PriceParts) → ProvesByNumber m s settings prices
@@ -51,15 +51,15 @@ ProvingCardsAreShortest =
     → ArePrices prices → Proves m s settings prices
     → IsShortest m s settings
 
--- In a card by number that proves itself, no price can be raised alone: each row and each column has a tight
--- place.
+-- If a card proves itself by number, none of its prices can be raised alone: each row of the table of costs has a
+-- column, and each column a row, so that their prices add up to the cost where they meet.
 abbrev pub ProvingPricesAreTight : Type 0
 ProvingPricesAreTight =
     (m : Parts) (s : Day) (settings : List Setting) (prices : PriceParts) → IsMachine m → IsLegalDay s
     → ArePrices prices → ProvesByNumber m s settings prices
     → ArePricesTight (cost_table m s) prices
 
--- Two valid looks with one name and one rank are equal.
+-- Looks in valid form with the same name and the same rank are equal.
 abbrev pub RanksTellLooks : Type 0
 RanksTellLooks =
     (look other : Look) → look_name look ≡ look_name other → IsInForm look → IsInForm other

@@ -1,4 +1,4 @@
--- Settings for several days in turn, and how many they are in total.
+-- Lists of settings for several days in turn, and how many settings they have in total.
 use Rattle.std.specs.Prelude.{◌≢◌, ℕ, ◌≤◌, List, [], ◌∷◌, length, map, sum, All}
 use Rattle.kd_tables.specs.declared.model.Model.TheVariants.{M209}
 use Rattle.kd_state.specs.declared.{machine.parts.Parts.Parts, setting.Setting.Setting}
@@ -17,7 +17,7 @@ pub record IsProvedCard (m : Parts) (s : Day) (settings : List Setting) (n : Par
   pub are_prices : ArePrices prices
   pub proves : Proves m s settings prices
 
--- Each day has a list for which `Sets` holds: the first day's from machine `m`, each other day's from the
+-- Each day has a list of settings for which `Sets` holds: the first list from machine `m`, each other list from the
 -- machine that the list before it reaches.
 abbrev pub DayAfterDay : (Parts → Day → List Setting → Parts → Type 0) → Parts → List Day → List (List Setting) → Type 0
 DayAfterDay Sets m [] [] = Unit {0}
@@ -28,8 +28,8 @@ DayAfterDay Sets m days lists = ⊥
 abbrev pub total_length : List (List Setting) → ℕ
 total_length lists = sum (map length lists)
 
--- On a rotor machine, the shortest card for each of several days is also the shortest for all days together: no
--- other lists that reach these days in turn from the same machine have fewer settings in total.
+-- On a rotor machine, cards for several days in turn that prove themselves have the fewest settings in total: no
+-- other lists that reach these days in turn, from the same first machine, have fewer.
 abbrev pub CardsAreFewestInAll : Type 0
 CardsAreFewestInAll =
     (m : Parts) (days : List Day) (cards lists : List (List Setting)) → IsMachine m → model_of m ≢ M209

@@ -1,8 +1,10 @@
-//! A card: settings, and the prices that prove that no fewer settings reach the day.
+//! A card: settings, and prices that can prove that no fewer settings reach the day.
 use super::prices::Prices;
 use kd_state::Settings;
 
-/// A card: the settings in order, and the prices that prove that no fewer reach the day.
+/// A card: settings in order, and prices.
+///
+/// If the card proves itself, its prices prove that no fewer settings reach the day.
 #[derive(Drop)]
 pub struct Card {
     pub settings: Settings,

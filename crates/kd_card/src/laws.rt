@@ -7,7 +7,7 @@ ghost use Rattle.kd_card.specs.Laws.{ProvingCardsAreAsLong, ProvingCardsAreShort
 
 /// Different cards have different texts, and no card's text is a proper prefix of another's.
 ///
-/// The text of a card has no fault, and other bytes have at most one; `read_card` finds it.
+/// The text of a card has no fault, and other bytes have at most one, which `read_card` returns.
 pub fn no_two_cards_have_one_text()
     ensures card { TextsTellCards }
     ensures front { NoCardBeginsAnother }
@@ -16,33 +16,40 @@ pub fn no_two_cards_have_one_text()
     ensures one_fault { OneCardFault }
 {}
 
-/// The settings for loose things are as many as the loose things.
+/// There are as many settings for loose things as there are loose things.
 #[tactic(auto, using(crate::proofs::Counting::loose_things_are_counted))]
 pub fn loose_things_are_counted()
     ensures { LooseThingsAreCounted }
 {}
 
-/// If prices fit, no list to the day is shorter than the number of loose things plus the sum of prices.
+/// Prices that fit give a lower bound for the length of each list of settings that reaches the day.
+///
+/// The list has at least as many settings as there are loose things plus the sum of the prices.
 #[tactic(auto, using(crate::proofs::Shortest::fitting_prices_bound_lists))]
 pub fn fitting_prices_bound_lists()
     ensures { FittingPricesBoundLists }
 {}
 
-/// Two valid looks with one name and one rank are equal.
+/// Looks in valid form with the same name and the same rank are equal.
+///
+/// A look is what equal cables, pairs, bars or rows have in common: their letters, their standing or their reading.
 #[tactic(auto, using(crate::proofs::KindWords::ranks_tell_looks))]
 pub fn ranks_tell_looks()
     ensures { RanksTellLooks }
 {}
 
-/// If a list to the day has no more unpriced settings than loose things, it needs each setting.
+/// If a list that reaches the day has no more unpriced settings than loose things, each setting is needed.
 ///
-/// An unpriced setting changes no cable and no bar.
+/// A setting is priced if it changes a cable or a bar. An unpriced one is needed if it lowers the
+/// number of loose things by one.
 #[tactic(auto, using(crate::proofs::Shortest::as_few_are_needed))]
 pub fn as_few_are_needed()
     ensures { AsFewAreNeeded }
 {}
 
-/// A card by number that proves itself has as many settings as loose things plus the sum of its prices.
+/// A card that proves itself by number has as many settings as loose things plus the sum of its prices.
+///
+/// By number means with a price for each cable and each column, or for each bar and each row.
 #[tactic(auto, using(crate::proofs::Shortest::proving_cards_are_as_long))]
 pub fn proving_cards_are_as_long()
     ensures { ProvingCardsAreAsLong }
@@ -53,18 +60,19 @@ pub fn proving_cards_are_shortest()
     ensures { ProvingCardsAreShortest }
 {}
 
-/// In a card by number that proves itself, no price can be raised alone.
+/// If a card proves itself by number, none of its prices can be raised alone.
 ///
-/// For each row there is a column, and for each column a row, whose two prices add up to the cost where they
-/// meet.
+/// For each row of the table of costs there is a column, and for each column a row, so that the prices of the two
+/// add up to the cost where they meet.
 #[tactic(auto, using(crate::proofs::Shortest::proving_prices_are_tight))]
 pub fn proving_prices_are_tight()
     ensures { ProvingPricesAreTight }
 {}
 
-/// On a rotor machine, the shortest card for each of several days is also the shortest for all days together.
+/// On a rotor machine, cards that prove themselves have the fewest settings over several days, too.
 ///
-/// No other lists that reach these days in turn from the same machine have fewer settings in total.
+/// Each card begins with the machine that the card before it reaches. No other lists that reach these days in turn,
+/// from the same first machine, have fewer settings in total.
 #[tactic(auto, using(crate::proofs::Months::cards_are_fewest_in_all))]
 pub fn cards_are_fewest_in_all()
     ensures { CardsAreFewestInAll }

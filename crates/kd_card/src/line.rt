@@ -5,7 +5,7 @@ ghost use Rattle.arrayvec.specs.ArrayVec.{array_vec_len};
 
 use kd_state::{Setting, Settings};
 
-/// Appends `line`, if it is a setting.
+/// Appends the setting `line`, unless it is `None`.
 pub fn push_some_setting(settings: &mut Settings, line: Option<Setting>)
     requires { array_vec_len settings.old + 1 ≤ 192 }
     ensures items { settings.new.items ≡ settings.old.items ++ option_to_list line }

@@ -1,4 +1,4 @@
-//! Counts the things of a machine that a day has otherwise, except cables and bars.
+//! Counts a machine's loose things: those that differ from the day, except cables and bars.
 ghost use Rattle.std.specs.Prelude.{◌≡◌, ◌≤◌, false, not, nat_eq, length, map, sum, count_by, zip};
 ghost use Rattle.std.specs.Option.{option_map_or};
 ghost use Rattle.kd_pins.specs.PinWheels.{pins_of};
@@ -11,7 +11,7 @@ use kd_pins::PinSet;
 use kd_state::{Entry, Machine, Parts, SheetDay, SheetWheel};
 use kd_tables::{Letter, Reflector, Wheel};
 
-/// Counts the loose things: slots, reflector, rings and window letters, or pins and letters of pin wheels.
+/// Counts the loose things: slots, reflector, rings and window letters; or pins and letters of pin wheels.
 ///
 /// The count is 0 if the machine is a rotor machine and the day is for the Converter M-209, or the other way
 /// round.
@@ -47,7 +47,7 @@ fn loose_slots(slots: &[Option<Wheel>], wheels: &[SheetWheel]) -> usize
         .count()
 }
 
-/// Counts 1 if the machine has another reflector than the day.
+/// 1 if the machine has another reflector than the day, otherwise 0.
 fn loose_reflector(present: Reflector, wanted: Reflector) -> usize
     ensures value { result ≡ one_unless (same_reflector present wanted) }
     ensures few { result ≤ 1 }
@@ -55,7 +55,7 @@ fn loose_reflector(present: Reflector, wanted: Reflector) -> usize
     usize::from(present != wanted)
 }
 
-/// Counts the wheels of the day whose rings stand at another letter.
+/// Counts the day's wheels whose rings aren't set to the day's letter.
 fn loose_rings(machine: &Machine, wheels: &[SheetWheel]) -> usize
     ensures value { result ≡ count_by
         (λ w. not (option_map_or (nat_eq w.ring) (machine_ring machine.now w.wheel) false)) wheels.now }
@@ -67,7 +67,7 @@ fn loose_rings(machine: &Machine, wheels: &[SheetWheel]) -> usize
         .count()
 }
 
-/// Counts the wheels of the day that show another letter.
+/// Counts the day's wheels that aren't turned to the day's letter.
 fn loose_letters(machine: &Machine, wheels: &[SheetWheel]) -> usize
     ensures value { result ≡ count_by
         (λ w. not (option_map_or (nat_eq w.letter) (machine_letter machine.now w.wheel) false)) wheels.now }
@@ -105,7 +105,7 @@ fn loose_wheel_pins(present: &[bool], wanted: &[bool]) -> usize
         .count()
 }
 
-/// Counts the pin wheels that show another letter than on the day.
+/// Counts the pin wheels that show another letter than the day's.
 fn loose_pin_letters(letters: &[Letter], window: &[Letter]) -> usize
     ensures value { result ≡ count_by (λ letter. not (nat_eq letter.0 letter.1)) (zip letters.now window.now) }
     ensures few { result ≤ length letters.now }

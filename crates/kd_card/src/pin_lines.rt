@@ -1,4 +1,4 @@
-//! The settings for pins and for the letters that pin wheels show.
+//! The settings that a Converter M-209 needs for pins and for the letters that its wheels show.
 ghost use Rattle.std.specs.Prelude.{◌≡◌, ◌+◌, ◌<◌, ◌≤◌, ◌++◌, not, nat_eq, length, zip};
 ghost use Rattle.arrayvec.specs.ArrayVec.{array_vec_len};
 ghost use Rattle.kd_state.specs.Costs.{exactly_one};
@@ -14,7 +14,7 @@ use kd_pins::PinSet;
 use kd_state::{PinEntry, PinParts, Setting, Settings};
 use kd_tables::{Letter, ring1, ring2, ring3, ring4, ring5, ring6};
 
-/// The settings that turn each pin and each pin wheel of a Converter M-209 to the day's.
+/// One setting for each pin and each shown letter of a Converter M-209 that differs from the day.
 ///
 /// Pins come first, then letters. Bars aren't changed.
 pub fn pin_settings(parts: &PinParts, entry: &PinEntry) -> Settings
@@ -41,7 +41,9 @@ fn push_pins(settings: &mut Settings, present: &PinSet, wanted: &PinSet)
     push_wheel_pins(settings, 6, &ring6().letters(), &present.w6, &wanted.w6);
 }
 
-/// Appends TURN for each pin wheel that shows another letter than the day's. `number` is the first wheel's.
+/// Appends TURN for each pin wheel that shows another letter than the day's.
+///
+/// `number` is the number of the first wheel, counted from 1.
 fn push_pin_turns(settings: &mut Settings, number: u8, letters: &[Letter], window: &[Letter])
     requires few { number + length letters.now < 256 }
     requires room { array_vec_len settings.old + length letters.now ≤ 192 }
@@ -79,7 +81,7 @@ fn push_wheel_pins(
     }
 }
 
-/// PIN, or `None` if the pin already is as wanted.
+/// The setting PIN, or `None` if the pin's state `present` is `effective` already.
 fn pin_line(wheel: u8, letter: Letter, present: bool, effective: bool) -> Option<Setting>
     ensures { let so = not (exactly_one present effective) in
         result ≡ setting_unless so (Setting.PinTo wheel letter effective) }
@@ -91,7 +93,7 @@ fn pin_line(wheel: u8, letter: Letter, present: bool, effective: bool) -> Option
     })
 }
 
-/// TURN, or `None` if the wheel already shows `letter`.
+/// The setting TURN, or `None` if the wheel shows `letter` already.
 fn pin_turn_line(slot: u8, present: Letter, letter: Letter) -> Option<Setting>
     ensures { result ≡ setting_unless (nat_eq present letter) (Setting.Turn slot letter) }
 {

@@ -1,4 +1,4 @@
-//! The settings for wheels, reflector, rings and window letters.
+//! The settings that a rotor machine needs for wheels, reflector, rings and window letters.
 ghost use Rattle.std.specs.Prelude.{◌≡◌, ◌+◌, ◌<◌, ◌≤◌, ◌++◌, false, nat_eq, length, find, flat_map};
 ghost use Rattle.std.specs.Prelude.{option_and_then, zip};
 ghost use Rattle.std.specs.Option.{option_map_or};
@@ -16,7 +16,7 @@ use arrayvec::ArrayVec;
 use kd_state::{Machine, RotorEntry, RotorParts, Setting, Settings, SheetWheel};
 use kd_tables::{Reflector, Wheel};
 
-/// The settings that change each thing of a rotor machine, except cables, to the day's.
+/// One setting for each thing of a rotor machine, except cables, that differs from the day.
 ///
 /// Wheels come first, then the reflector, rings and letters. `parts` are the parts of `machine`.
 #[tactic(auto, using(crate::proofs::Counting::few_in_box))]
@@ -36,7 +36,9 @@ pub fn rotor_settings(machine: &Machine, parts: &RotorParts, entry: &RotorEntry)
     settings
 }
 
-/// Appends SEAT for each slot that doesn't hold the day's wheel. `number` is the first slot's.
+/// Appends SEAT for each slot that doesn't hold the day's wheel.
+///
+/// `number` is the number of the first slot of `slots`, counted from 1.
 fn push_seats(settings: &mut Settings, number: u8, slots: &[Option<Wheel>], wheels: &[SheetWheel])
     requires few { number + length slots.now < 256 }
     requires room { array_vec_len settings.old + length slots.now ≤ 192 }
@@ -52,7 +54,7 @@ fn push_seats(settings: &mut Settings, number: u8, slots: &[Option<Wheel>], whee
     }
 }
 
-/// Appends RING for each wheel of `boxed` that is one of the day's and has another ring.
+/// Appends RING for each of the day's wheels in `boxed` whose ring isn't set to the day's letter.
 fn push_rings(
     settings: &mut Settings,
     machine: &Machine,
@@ -72,7 +74,9 @@ fn push_rings(
     }
 }
 
-/// Appends TURN for each slot whose wheel shows another letter than the day's. `number` is the first slot's.
+/// Appends TURN for the slot of each of the day's wheels that isn't turned to the day's letter.
+///
+/// `wheels` are the day's wheels from slot `number` on, counted from 1.
 fn push_turns(
     settings: &mut Settings,
     machine: &Machine,
@@ -93,7 +97,7 @@ fn push_turns(
     }
 }
 
-/// SEAT, or `None` if `wheel` is in the slot already.
+/// The setting SEAT, or `None` if `wheel` is in the slot already.
 fn seat_line(slot: u8, seated: Option<Wheel>, wheel: Wheel) -> Option<Setting>
     ensures { let so = option_map_or (same_wheel wheel) seated false in
         result ≡ setting_unless so (Setting.Seat slot wheel) }
@@ -101,7 +105,7 @@ fn seat_line(slot: u8, seated: Option<Wheel>, wheel: Wheel) -> Option<Setting>
     (seated != Some(wheel)).then_some(Setting::Seat { slot, wheel })
 }
 
-/// REFLECTOR, or `None` if the machine has it already.
+/// The setting REFLECTOR, or `None` if `reflector` is in the machine already.
 fn reflector_line(present: Reflector, reflector: Reflector) -> Option<Setting>
     ensures { let so = same_reflector present reflector in
         result ≡ setting_unless so (Setting.SeatReflector reflector) }
@@ -109,14 +113,14 @@ fn reflector_line(present: Reflector, reflector: Reflector) -> Option<Setting>
     (present != reflector).then_some(Setting::SeatReflector { reflector })
 }
 
-/// Finds `wheel` among the day's wheels.
+/// Finds `wheel` among the day's wheels, with its ring and its letter.
 fn find_wheel(wheels: &[SheetWheel], wheel: Wheel) -> Option<SheetWheel>
     ensures { result ≡ find (λ seated. same_wheel wheel seated.wheel) wheels.now }
 {
     wheels.iter().copied().find(|seated| wheel == seated.wheel)
 }
 
-/// RING, or `None` if the wheel isn't one of the day's or already has the day's ring.
+/// The setting RING for the day's wheel `wanted`, or `None` if there is none or its ring is set already.
 fn ring_line(machine: &Machine, wanted: Option<SheetWheel>) -> Option<Setting>
     ensures { result ≡ option_and_then (λ seated.
         let so = option_map_or (nat_eq seated.ring) (machine_ring machine.now seated.wheel) false in
@@ -127,7 +131,7 @@ fn ring_line(machine: &Machine, wanted: Option<SheetWheel>) -> Option<Setting>
     (machine.ring(wheel) != Some(letter)).then_some(Setting::RingTo { wheel, letter })
 }
 
-/// TURN, or `None` if the wheel in the slot already shows the day's letter.
+/// The setting TURN, or `None` if the day's wheel `wanted` is turned to the day's letter already.
 fn turn_line(machine: &Machine, slot: u8, wanted: SheetWheel) -> Option<Setting>
     ensures { let shown = machine_letter machine.now wanted.wheel in
         let so = option_map_or (nat_eq wanted.letter) shown false in

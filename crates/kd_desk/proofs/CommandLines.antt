@@ -1,4 +1,4 @@
--- Commands, and the values of their words as clap finds them.
+-- Commands, and the values of their arguments as clap finds them.
 use Rattle.kd_desk.proofs.Prelude.{◌≡◌, ◌≢◌, ℕ, List, Option, Some, None, Bor, decimal, option_map, sym, ap, ◌∙◌}
 use Rattle.kd_desk.proofs.Prelude.{Result, Ok, IfSome, IfOk, true, [], refl, subst, App, FailsBy, HasKind, HasMatchesOf}
 use Rattle.kd_desk.proofs.Prelude.{Row, fault_of, first_of, first_value, is_simple, is_simple_and_free, kind_of}
@@ -13,7 +13,7 @@ use Rattle.{kd_desk.specs.{CommandLine.desk_grammar, declared.command.Command.Co
 abbrev LentCommand : Type 0
 LentCommand = Command (Bor (List ℕ)) (Bor (List ℕ))
 
--- clap's getters read the first value that a word has in the rows of the matches
+-- clap's getters read the first value that an argument has in the rows of the matches
 pub read_none : (found : Found) (id : List ℕ) (word : Option (Bor (List ℕ)))
     → option_map (λ s. s.now) word ≡ first_value found id → word ≡ None → first_of id (rows_of found) ≡ None
 read_none found id word reads none = sym (first_value-rows found id) ∙ sym reads ∙ ap (option_map (λ s. s.now)) none
@@ -24,7 +24,7 @@ pub read_some : (found : Found) (id : List ℕ) (word : Option (Bor (List ℕ)))
 read_some found id word read reads some =
     sym (first_value-rows found id) ∙ sym reads ∙ ap (option_map (λ s. s.now)) some
 
--- a word that isn't a day's number isn't the text of any day
+-- an argument that isn't a day's number isn't the text of any day
 pub other_word : (found : Found) (id : List ℕ) (word : Option (Bor (List ℕ))) (read : Bor (List ℕ))
     → option_map (λ s. s.now) word ≡ first_value found id → word ≡ Some read
     → ((day : ℕ) → IsDayNumber day → read.now ≢ decimal day) → (day : ℕ) → IsDayNumber day
@@ -77,7 +77,7 @@ pub name_with_rows : {X : Type 0} (entered : Option X) (name : X → List ℕ) (
     → option_map {U = List ℕ × List Row} (λ x. (name x, rows x)) entered ≡ Some (n, r)
 name_with_rows entered name rows n r is is_rows = grind (arith)
 
--- what holds of a command that was found holds of the value of an `Ok`
+-- what holds of a command that was found holds of the answer, if the answer is `Ok`
 pub ok_said : (said : Option LentCommand) (answer : Result LentCommand Stop) (P Q : LentCommand → Type 0)
     → answer ≡ ok_or said Usage
     → ((command : LentCommand) → P command → Q command) → IfSome said P → IfOk answer Q

@@ -7,7 +7,7 @@ use Rattle.kd_sheet.specs.{SheetFile.sheet_of, declared.fault.SheetFault.SheetFa
 use Rattle.kd_sheet.specs.declared.fault.SheetFault.TheVariants as files
 use Rattle.kd_desk.specs.declared.fault.DeskFault.TheVariants as faults
 
--- an answered fault is the file's fault, or no memory
+-- the fault that reading a file returned is the fault of the file's bytes, or no memory
 is_meant : {A : Type 0} (fault : SheetFault) (meant : Result A SheetFault) → AgreesOrNoMemory (Err fault) meant
     → (fault ≡ files.NoMemory) ⊎ (meant ≡ Err fault)
 is_meant fault meant is = grind (arith)

@@ -4,7 +4,7 @@ use Rattle.kd_desk.proofs.Prelude.{IsTrue, inr, sym, subst, Port, HasNotFailed, 
 use Rattle.kd_desk.proofs.Prelude.{DeskFault}
 use Rattle.kd_desk.specs.{Ports.WritesText, declared.fault.DeskFault.TheVariants.Device}
 
--- a port, by its bytes and its failure before and after a call
+-- a port with its bytes and its failure, before and after a call
 abbrev pub port_over : Option (List ℕ) → Option (List ℕ) → Bool → Bool → Port
 port_over had has before after = record { had = had; has = has; had_failed = before; has_failed = after }
 
@@ -24,12 +24,12 @@ sink_fails source sink false well is = (well, well_now sink.had_failed sink.has_
 sink_fails source sink true well is =
     inr (record { failed = failed_now sink.had_failed sink.has_failed is; well = well })
 
--- the error that `?` returns
+-- an answer that is an error, as `?` returns it, and whose error is `fault`, is `Err fault`
 pub err_is : {T F : Type 0} (answer : Result T F) (fault : F)
     → IsErrAnd answer (λ made. made ≡ fault) → answer ≡ Err fault
 err_is answer fault e = grind arith
 
--- what holds of the error that `?` returns holds of the answer
+-- what holds of `Err fault`, as `?` returns it, holds of the answer
 pub err-holds : {T F : Type 0} (answer : Result T F) (fault : F) (P : Result T F → Type 0)
     → IsErrAnd answer (λ made. made ≡ fault) → P (Err fault) → P answer
 err-holds answer fault P made p = subst P (sym (err_is answer fault made)) p

@@ -1,4 +1,4 @@
--- The desk's grammar as it is built: without help, word by word and command by command.
+-- The desk's grammar as it is built: without help, argument by argument and command by command.
 use Rattle.kd_desk.proofs.Prelude.{arith, ◌≡◌, ◌∙◌, [], ◌∷◌, ◌++◌, ℕ, List, true, false, ap, ap₂, sym, subst, App}
 use Rattle.kd_desk.proofs.Prelude.{app_of, rule_of, new_rule, app_of_fields, Arg, Bor}
 use Rattle.clap.specs.{Built.AddsArg, Built.AddsSubcommand, Simple.new_app, Simple.with_subcommand}
@@ -32,7 +32,7 @@ pub one_word_more : {name : List ℕ} {words : List (Bor (List ℕ))} {old new :
     → IsMadeOf new name (words ++ more ∷ [])
 one_word_more word more has rule local adds = record { shape = grind (arith, map-append); local = grind arith }
 
--- adding a command with these words adds the command to the grammar
+-- a grammar with a command added, which has these arguments, is the old grammar and this command
 pub one_command_more : {name : List ℕ} {words : List (Bor (List ℕ))} {app : App} {old sub new : Command}
     → app_of old ≡ app
     → IsMadeOf sub name words → AddsSubcommand old sub new

@@ -131,7 +131,7 @@ months_are_fewest file sheet numbers papers m month days cards lists of_file of_
     let are = DayAfterDay-months file sheet numbers papers m month days cards of_file of_sheet due set say in
     cards_are_fewest_in_all m days cards lists (machine_of-IsMachine file m of_file) rotor are.0 are.1 reach
 
--- ---- such cards and files exist
+-- ---- cards and files that set the machine exist
 
 -- the planned card, and the file of the machine that it leads to, are the papers of the day
 pub papers_for : WrittenFilesAreReadBack → (m n : Parts) (s : Day) → IsMachine m → IsLegalDay s

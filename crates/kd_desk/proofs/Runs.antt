@@ -12,7 +12,7 @@ use Rattle.kd_desk.proofs.Prelude.{IsCommandLineOf, KnownCommand, known_command,
 use Rattle.kd_desk.proofs.Prelude.{MissesOne, asked_and_had, asked_and_missed, is_ok, CarriesOut, IsCommandDone}
 use Rattle.kd_desk.proofs.Prelude.{AgreesOrNoMemory, KnownFile, Port, map, ◌≢◌, Usage}
 
--- the bytes of each file by its name, or nothing if they aren't known
+-- the bytes of each file by its name, or `None` if they aren't known
 abbrev KnownFiles : Type 0
 KnownFiles = Option (List ℕ → Option (List ℕ))
 
@@ -81,13 +81,13 @@ module _ (names : List (List ℕ)) (asked : List AskedName) where
       → IsCommandDone command source sink answer → AreAskedFor names [] asked true → Asks answer
   asked_all command source sink answer done asks = subst Asks (sym done.answers) (asks_after _ done.told asks)
 
--- ---- what the command line says
+-- ---- what the command line means
 
 said_by : (said : Option (List ℕ × List Row)) (one other : NamedCommand) → IsSomeAnd said (λ x. IsCommandOf x one)
     → IsSomeAnd said (λ x. IsCommandOf x other) → one ≡ other
 said_by said one other e d = grind (arith, same_command)
 
--- a command line says at most one command
+-- a command line means at most one command
 pub said_command : (words : List (List ℕ)) (one other : NamedCommand) → IsCommandLineOf words one
     → IsCommandLineOf words other → one ≡ other
 said_command words one other says same = said_by (subcommand_of desk_grammar words) one other says.said same.said
@@ -122,7 +122,7 @@ module _ (source sink : Port) (answer : Result (Unit {0}) Stop) where
   carried_out meant command (inl is) done = subst (λ r. CarriesOut r source sink answer) is (inl done)
   carried_out meant command (inr lacks) done = cc
 
-  -- each command that the words say is the parsed command, whatever is known of the files
+  -- each command that the command line means is the parsed command, whatever is known of the files
   module _ (known : KnownFiles) (said command : NamedCommand) (same : said ≡ command) where
     abbrev Meant : (List ℕ → Option (List ℕ)) → Type 0
     Meant held = CarriesOut (known_command held command) source sink answer

@@ -1,4 +1,4 @@
--- A command's name and the values of its words determine at most one command.
+-- A command's name and the values of its arguments determine at most one command.
 use Rattle.kd_desk.proofs.Prelude.{◌≡◌, ℕ, List, arith, same_Some, Row, NamedCommand, NamedAction, IsActionOf}
 use Rattle.kd_desk.proofs.Prelude.{IsCommandOf}
 use Rattle.std.proofs.lemmas.Fmt.{decimal_injective}

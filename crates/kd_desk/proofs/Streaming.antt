@@ -1,4 +1,4 @@
--- The desk's answer, made from the answer of typing, sending or receiving a message.
+-- The desk's answer for a message, made from the answer of typing, sending or receiving it.
 use Rattle.kd_desk.proofs.Prelude.{arith, ◌≡◌, Result, Ok, Err, IsErrAnd, MatchResult, IsTrue, FormFault, Port}
 use Rattle.kd_desk.proofs.Prelude.{FailureAgrees, DeskFault, answer_to_message, is_refused_before, is_device}
 use Rattle.kd_desk.{proofs.Failing.err_is, specs.Messages.fault_of_message}

@@ -1,4 +1,4 @@
--- The desk's grammar: its commands with their words, without options and help.
+-- The grammar of the desk's command line: the commands with their arguments, without options and help.
 -- Code: built by calls of `clap`.
 -- Test: refuses_other_words
 use Rattle.std.specs.Prelude.{codes, decimal, ◌≡◌, ℕ, true, false, List, [], ◌∷◌, ◌++◌, map, fold, Option, Some, None}
@@ -16,7 +16,7 @@ use Rattle.kd_desk.specs.declared.command.Task.TheVariants as tasks
 use Rattle.kd_desk.specs.declared.command.Direction.{Direction}
 use Rattle.kd_desk.specs.declared.command.Direction.TheVariants.{Send, Receive}
 
--- a command with its words, without options and help
+-- a command with its arguments, named by `words`, without options and help
 abbrev pub command_shape : List ℕ → List (List ℕ) → Shape
 command_shape name words = record (new_shape name) {
   disable_help_flag = true;
@@ -27,25 +27,25 @@ command_shape name words = record (new_shape name) {
 abbrev pub app_without_subcommands : Shape → App
 app_without_subcommands shape = record { top = shape; subs = [] }
 
--- `command_shape`, over borrowed words
+-- `command_shape`, for borrowed names of arguments
 abbrev pub borrowed_shape : List ℕ → List (Bor (List ℕ)) → Shape
 borrowed_shape name words = command_shape name (map (λ word. word.now) words)
 
--- the grammar with these commands added, each with its words
+-- the grammar with these commands added, each with the names of its arguments
 abbrev pub with_commands : App → List (Bor (List ℕ) × Bor (List (Bor (List ℕ)))) → App
 with_commands app commands = fold (λ a command. with_subcommand a (borrowed_shape command.0.now command.1.now)) app
     commands
 
--- The grammar is the command `name` with these words, none of which is global.
+-- The grammar is the command `name` with an argument for each of `words`, and no argument is global.
 pub record IsMadeOf (grammar : Grammar) (name : List ℕ) (words : List (Bor (List ℕ))) : Type 0 where
   pub shape : app_of grammar ≡ app_without_subcommands (borrowed_shape name words)
   pub local : (out-Command grammar).has_globals ≡ false
 
--- the words for a machine file, a sheet and a day
+-- the names of the arguments for a machine file, a sheet and a day
 abbrev pub day_words : List (List ℕ)
 day_words = codes "MACHINE" ∷ codes "SHEET" ∷ codes "DAY" ∷ []
 
--- the name of the command that sends or receives, and the word for its file
+-- the name of the command that sends or receives; and next, the name of its argument for the message's file
 abbrev pub direction_name : Direction → List ℕ
 direction_name Send = codes "send"
 direction_name Receive = codes "receive"
@@ -90,7 +90,7 @@ desk_grammar = record {
 -- Code: a command over any two kinds of file.
 -- Test: stops_where_a_file_can_not_be_read_on
 
--- the task, with `f` applied to the files that are read whole, and `g` to the opened one
+-- the task, with `f` applied to the file that is read whole, and `g` to the opened file
 abbrev pub with_task_files : {F G O P : Type 0} → (F → G) → (O → P) → Task F O → Task G P
 with_task_files f g tasks.Card = tasks.Card
 with_task_files f g (tasks.Check card) = tasks.Check (f card)
@@ -138,7 +138,7 @@ action_opened (actions.OnDay sheet day task) = task_opened task
 abbrev pub command_opened : {F O : Type 0} → Command F O → Option O
 command_opened command = action_opened command.action
 
--- ---- Which command the words say, and the names of its files.
+-- ---- Which command a command line means, and the names of its files.
 -- Code: the parser of `clap`.
 -- Test: finds_the_machine_file, finds_the_day, refuses_other_words, stops_before_it_writes
 
@@ -163,13 +163,13 @@ action_name actions.Type = codes "type"
 action_name (actions.Apply list) = codes "apply"
 action_name (actions.OnDay sheet day task) = task_name task
 
--- The words name this sheet and this day. The day's number is in decimal.
+-- The arguments, with their values in `rows`, name this sheet and this day. The day's number is in decimal.
 pub record HaveSheetAndDay (rows : List Row) (sheet : List ℕ) (day : ℕ) : Type 0 where
   pub sheet_word : first_of (codes "SHEET") rows ≡ Some sheet
   pub day_word : first_of (codes "DAY") rows ≡ Some (decimal day)
   pub of_month : IsDayNumber day
 
--- The words name the files of the task.
+-- The arguments name the file of the task, if it has one.
 abbrev pub HasTaskFile : List Row → NamedTask → Type 0
 HasTaskFile rows tasks.Card = Unit {0}
 HasTaskFile rows (tasks.Check card) = first_of (codes "CARD") rows ≡ Some card
@@ -180,12 +180,12 @@ HasActionWords rows actions.Type = Unit {0}
 HasActionWords rows (actions.Apply list) = first_of (codes "LIST") rows ≡ Some list
 HasActionWords rows (actions.OnDay sheet day task) = HaveSheetAndDay rows sheet day × HasTaskFile rows task
 
--- The command's name and the values of its words say this action.
+-- `said` has a command's name and the values of its arguments, and they mean this action.
 pub record IsActionOf (said : List ℕ × List Row) (action : NamedAction) : Type 0 where
   pub name : said.0 ≡ action_name action
   pub words : HasActionWords said.1 action
 
--- The command's name and the values of its words say this command.
+-- `said` has a command's name and the values of its arguments, and they mean this command.
 pub record IsCommandOf (said : List ℕ × List Row) (command : NamedCommand) : Type 0 where
   pub machine : first_of (codes "MACHINE") said.1 ≡ Some command.machine
   pub action : IsActionOf said command.action
@@ -193,7 +193,7 @@ pub record IsCommandOf (said : List ℕ × List Row) (command : NamedCommand) : 
 abbrev pub IsNoCommand : List ℕ × List Row → Type 0
 IsNoCommand said = (command : NamedCommand) → ¬ (IsCommandOf said command)
 
--- The command line fits the grammar and says this command. Its first word is the program's own name.
+-- The command line fits the grammar and means this command. Its first word is the program's own name.
 pub record IsCommandLineOf (words : List (List ℕ)) (command : NamedCommand) : Type 0 where
   pub taken : fault_of desk_grammar words ≡ []
   pub said : IsSomeAnd (subcommand_of desk_grammar words) (λ said. IsCommandOf said command)
@@ -201,7 +201,7 @@ pub record IsCommandLineOf (words : List (List ℕ)) (command : NamedCommand) : 
 abbrev pub IsNoCommandLine : List (List ℕ) → Type 0
 IsNoCommandLine words = (command : NamedCommand) → ¬ (IsCommandLineOf words command)
 
--- the file names of a task, in the order of the words
+-- the file names of a task, in the order of the command line
 abbrev pub task_files : NamedTask → List (List ℕ)
 task_files tasks.Card = []
 task_files (tasks.Check card) = card ∷ []

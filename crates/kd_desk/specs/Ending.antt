@@ -28,7 +28,7 @@ abbrev pub error_text : Result (Unit {0}) Stop → List ℕ
 error_text (Ok done) = []
 error_text (Err stop) = stop_line stop
 
--- the exit status: 0 if all went well, 2 for words that are no command, 1 for a refusal
+-- the exit status: 0 if all went well, 2 for an invalid command line, 1 for a refusal
 abbrev pub status_of : Result (Unit {0}) Stop → ℕ
 status_of (Ok done) = 0
 status_of (Err Usage) = 2
@@ -36,8 +36,8 @@ status_of (Err (Unread fault)) = 1
 status_of (Err ReadFailed) = 1
 status_of (Err (Refused fault)) = 1
 
--- The program ends with the status of this answer. Its line was written to standard error, or only a prefix of
--- it if standard error failed.
+-- The program ends with the status of this answer. The answer's line was written to standard error, or only a
+-- prefix of it if standard error failed.
 pub record EndsAs (answer : Result (Unit {0}) Stop) (errors : Port) (status : ℕ) : Type 0 where
   pub ends : status ≡ status_of answer
   pub written : Result (Unit {0}) Device

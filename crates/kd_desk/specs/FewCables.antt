@@ -1,4 +1,5 @@
--- The cables of a month: a machine that uses none above a number needs none above it, if no day has more pairs.
+-- The cables of a month: a machine that uses only its first cables needs no other, if no day has more pairs
+-- than these.
 use Rattle.std.specs.Prelude.{◌≡◌, ℕ, List, Option, Some, Ok, All}
 use Rattle.kd_state.specs.declared.machine.parts.Parts.{Parts}
 use Rattle.kd_state.specs.declared.setting.Setting.{Setting}
@@ -25,13 +26,14 @@ DayHasPairsUpTo number sheet day =
     (month : List (Option Day)) (s : Day) → sheet_of sheet ≡ Ok month → day_of month day ≡ Some s
     → HasPairsUpTo number s
 
--- A day's card, and the machine's file after it, use only the first `number` cables.
+-- The card of a day and the machine's file after it use only the first `number` cables.
 pub record KeepsToFirst (number : ℕ) (papers : Papers) : Type 0 where
   pub card : CardNamesNoneAbove number papers.card
   pub file : FileUsesNoneAbove number papers.file
 
--- If the first file and each day keep to `number` cables, so do all cards and files of the month. So whoever
--- owns ten cables, numbered 1 to 10, never needs an eleventh.
+-- If the first file uses only the first `number` cables, and each day has at most `number` pairs, all cards
+-- and files of the month use only these cables. So whoever owns ten cables, numbered 1 to 10, never needs an
+-- eleventh.
 abbrev pub FewCablesServeAMonth : Type 0
 FewCablesServeAMonth =
     (number : ℕ) (file sheet days : List ℕ) (papers : List Papers) → AreWrittenInTurn file sheet days papers

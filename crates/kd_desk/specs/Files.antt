@@ -36,15 +36,15 @@ bytes_in_files files name = option_map (λ file. file.1.now) (find (λ file. byt
 abbrev pub AgreesOrNoMemory : {X : Type 0} → Result X FileFault → Result X FileFault → Type 0
 AgreesOrNoMemory meant answer = (answer ≡ meant) ⊎ (answer ≡ Err NoMemory)
 
--- The answer is `meant`, with what is known of the opened file in place of the file.
+-- The answer is `meant`, once the opened file is replaced by what is known of it.
 abbrev pub IsOpenAnswer : {O : Type 0} → Result KnownFile FileFault → (O → KnownFile) → Result O FileFault → Type 0
 IsOpenAnswer meant known answer = result_map_both known (λ fault. fault) answer ≡ meant
 
 abbrev pub IsReadAnswer : {X Y : Type 0} → Result Y FileFault → (X → Y) → Result X FileFault → Type 0
 IsReadAnswer meant known answer = AgreesOrNoMemory meant (result_map_both known (λ fault. fault) answer)
 
--- What was read of a source, by the answer: all that it had; one byte more than a file may have; or what came
--- before a read failed or memory ran out.
+-- What was read of a source, for each answer: all that it had; one byte more than a file may have; or what
+-- came before a read failed or memory ran out.
 abbrev pub IsReadWholeAs : Port → List ℕ → Result (List ℕ) FileFault → Type 0
 IsReadWholeAs source read (Ok bytes) = (bytes ≡ read) × (length read ≤ read_limit) × IsAtEnd source.has
     × HasNotFailed source

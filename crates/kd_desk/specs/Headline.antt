@@ -16,7 +16,7 @@ pub record IsSheetsMachine (n : Parts) (s : Day) : Type 0 where
   pub enciphers : (text : List ℕ) → physical_cipher n text ≡ sheet_cipher s text
 
 -- Each setting is legal after the settings before it, and together they lead to a machine that reads as the
--- day.
+-- day, is ready, and enciphers as the day's own machine.
 abbrev pub LeavesTheSheetsMachine : Parts → Day → List Setting → Type 0
 LeavesTheSheetsMachine m s settings = (n : Parts) × Leads m settings n × IsSheetsMachine n s
 

@@ -1,4 +1,4 @@
--- The laws of settings as bytes: they say one list or have one fault.
+-- The laws of settings as bytes: the bytes give one list or have one fault.
 use Rattle.std.specs.Prelude.{◌≡◌, ◌≢◌, ◌≤◌, ℕ, List, Option, Ok}
 use Rattle.kd_tables.specs.declared.model.Model.TheVariants.{M209}
 use Rattle.kd_state.specs.declared.machine.parts.Parts.{Parts}
@@ -13,11 +13,11 @@ use Rattle.kd_desk.specs.declared.fault.DeskFault.{DeskFault}
 use Rattle.kd_desk.specs.Month.{Papers, AreWrittenInTurn, SetTheMachineInTurn, AreDaysOf, AreCardsOf}
 use Rattle.kd_desk.specs.Settings.{AreSettings, IsSettingsFault}
 
--- Bytes say at most one list of settings.
+-- Bytes give at most one list of settings.
 abbrev pub TextsTellSettings : Type 0
 TextsTellSettings = (bytes : List ℕ) (xs ys : List Setting) → AreSettings bytes xs → AreSettings bytes ys → xs ≡ ys
 
--- Bytes that say a list of settings have no fault.
+-- Bytes that give a list of settings have no fault.
 abbrev pub SettingsHaveNoFault : Type 0
 SettingsHaveNoFault =
     (bytes : List ℕ) (xs : List Setting) (fault : DeskFault) → AreSettings bytes xs → ¬ (IsSettingsFault bytes fault)
@@ -28,7 +28,7 @@ SettingsHaveOneFault =
     (bytes : List ℕ) (fault other : DeskFault) → IsSettingsFault bytes fault → IsSettingsFault bytes other
     → fault ≡ other
 
--- If settings lead a machine to another one, none of their lines is refused.
+-- If settings lead from one machine to another, none of their lines is refused.
 abbrev pub LeadsOrRefuses : Type 0
 LeadsOrRefuses =
     (m n : Parts) (xs : List Setting) (line : ℕ) (why : Why) → Leads m xs n → ¬ (IsFirstIllegal m xs line why)

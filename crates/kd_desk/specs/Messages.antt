@@ -21,11 +21,11 @@ fault_of_message message.Device = faults.Device
 fault_of_message message.ReadTooLong = faults.ReadTooLong
 fault_of_message fault = faults.Message fault
 
--- the desk's answer to a message
+-- the desk's answer for a message, from the answer of typing, sending or receiving it
 abbrev pub answer_to_message : Result (Unit {0}) FormFault → Result (Unit {0}) DeskFault
 answer_to_message answer = result_map_both (λ done. done) fault_of_message answer
 
--- The desk passes on a message's answer, which satisfies `is_so`.
+-- The desk's answer is made from a message's answer, which satisfies `is_so`.
 pub record IsAnswered (is_so : Result (Unit {0}) FormFault → Type 0) (answer : Result (Unit {0}) DeskFault)
     : Type 0 where
   pub told : Result (Unit {0}) FormFault
@@ -36,7 +36,7 @@ pub record IsAnswered (is_so : Result (Unit {0}) FormFault → Type 0) (answer :
 abbrev pub TypesText : Parts → Port → Port → Result (Unit {0}) DeskFault → Type 0
 TypesText m source sink answer = IsAnswered (TypesIfReady m source sink) answer
 
--- A message was read as it came, and its result was written part by part.
+-- A message was streamed: read in chunks, while its result was written.
 abbrev pub IsStreamedOn : Parts → Day → Message → Port → Port → Result (Unit {0}) DeskFault → Type 0
 IsStreamedOn m s message source sink answer = IsAnswered (StreamsOnKey m s message source sink) answer
 
@@ -44,8 +44,9 @@ IsStreamedOn m s message source sink answer = IsAnswered (StreamsOnKey m s messa
 abbrev pub Sends : Parts → Day → Port → Port → Result (Unit {0}) DeskFault → Type 0
 Sends m s order sink answer = IsStreamedOn m s (order_message s) order sink answer
 
--- What a form of the day tells of orders. Its text is what its order gives. A form with a fault is no order's
--- form. If the fault stands, no longer form that begins with this one is an order's form either.
+-- What a form of the day says of orders. If it is the form of an order, its text is the one that the order's
+-- receiver has to get. A form with a fault isn't the form of any order. If the fault stands, no longer form
+-- that begins with this form is an order's form either.
 pub record TellOfOrders (s : Day) : Type 0 where
   pub back : (form text order given : List ℕ) → IsTextOf s form text → IsFormOf s order form
       → IsPlaintextOf s order given → text ≡ given

@@ -26,15 +26,15 @@ pub record Papers : Type 0 where
   pub card : List ℕ
   pub file : List ℕ
 
--- a sink that has taken just this text, and a call that went well
+-- a sink that has taken just this text; and next, the answer of a call that went well
 abbrev pub sink_with : List ℕ → Port
 sink_with text = record { had = Some []; has = Some text; had_failed = false; has_failed = false }
 
 abbrev pub success : Result (Unit {0}) DeskFault
 success = Ok tt
 
--- The card is what `run_card` writes for the machine's file and day `number`. The next file is what `run_apply`
--- writes for this file and this card.
+-- The card is what `run_card` writes for the machine's file and day `number`. The next file is what
+-- `run_apply` writes for the machine's file and this card.
 pub record AreWritten (file sheet : List ℕ) (number : ℕ) (papers : Papers) : Type 0 where
   pub printed : IsAnswerOnDay file sheet number (λ m s. Prints m s number (sink_with papers.card) success) success
   pub applied : IfOk (machine_of file)
@@ -47,8 +47,9 @@ AreWrittenInTurn file sheet (number ∷ numbers) (papers ∷ more) =
     AreWritten file sheet number papers × AreWrittenInTurn papers.file sheet numbers more
 AreWrittenInTurn file sheet numbers papers = ⊥
 
--- The card's settings lead from the file's machine to the next file's, which reads and enciphers as day
--- `number`. The card's prices prove it, no fewer settings lead to the day, and spare cables stay free.
+-- The card's settings lead from the machine of `file` to the machine of the next file. This machine reads as
+-- day `number`, and enciphers as the day's own machine. There are prices that prove the settings, no fewer
+-- settings lead to the day, and spare cables stay free.
 pub record SetTheMachine (file sheet : List ℕ) (number : ℕ) (papers : Papers) : Type 0 where
   pub m : Parts
   pub of_file : machine_of file ≡ Ok m
@@ -86,8 +87,8 @@ pub record HasDayOf (model : Model) (month : List (Option Day)) (number : ℕ) :
   pub of_month : day_of month number ≡ Some s
   pub of_model : day_model s ≡ model
 
--- From each file of machine `m`, a card for the day and a next file can be written, and the next file's machine
--- is `n`.
+-- From each machine file of `m`, a card for the day and a next file can be written, and the machine of the
+-- next file is `n`.
 abbrev pub HasPapers : Parts → Day → Parts → Type 0
 HasPapers m s n = (file sheet : List ℕ) (month : List (Option Day)) → machine_of file ≡ Ok m → sheet_of sheet ≡ Ok month
     → day_of month (day_number s) ≡ Some s

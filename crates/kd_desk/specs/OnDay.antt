@@ -11,8 +11,8 @@ use Rattle.kd_sheet.specs.SheetFile.{sheet_of}
 use Rattle.kd_desk.specs.declared.fault.DeskFault.{DeskFault}
 use Rattle.kd_desk.specs.declared.fault.DeskFault.TheVariants.{File, NoSuchDay}
 
--- The files describe a machine and a day with this number. Or they give the first fault: of the machine file,
--- of the sheet, or that there is no such day. Or memory ran out while they were read.
+-- The files hold a machine and a day with this number. Or the answer is their first fault: of the machine
+-- file, of the sheet, or that there is no such day. Or memory ran out while they were read.
 pub data FindsDay (machine sheet : List ℕ) (number : ℕ) (found : Result (Parts × Day) DeskFault) : Type 0 where
   LackedMemory : found ≡ Err (File NoMemory) → FindsDay machine sheet number found
   NoMachine : (fault : SheetFault) → machine_of machine ≡ Err fault → found ≡ Err (File fault)
@@ -24,7 +24,7 @@ pub data FindsDay (machine sheet : List ℕ) (number : ℕ) (found : Result (Par
   Found : (m : Parts) (days : List (Option Day)) (s : Day) → machine_of machine ≡ Ok m → sheet_of sheet ≡ Ok days
       → day_of days number ≡ Some s → found ≡ Ok (m, s) → FindsDay machine sheet number found
 
--- The machine and the day satisfy `does`, or the answer is the first fault of the files.
+-- The machine and the day that the files hold satisfy `does`, or the answer is the first fault of the files.
 pub record IsAnswerOnDay (machine sheet : List ℕ) (number : ℕ) (does : Parts → Day → Type 0)
     (answer : Result (Unit {0}) DeskFault) : Type 0 where
   pub found : Result (Parts × Day) DeskFault

@@ -33,7 +33,8 @@ use Rattle.kd_desk.specs.RunCard.{Prints}
 use Rattle.kd_desk.specs.RunCheck.{Checks}
 use Rattle.kd_desk.specs.RunSteps.{LacksMemory, AnswersFault, is_refused_before, is_device}
 
--- A command with what is known of its files: the bytes of those that are read whole, and the opened one.
+-- A command with what is known of its files: the bytes of the files that are read whole, and `KnownFile` of
+-- the opened file.
 abbrev pub KnownTask : Type 0
 KnownTask = Task (List ℕ) KnownFile
 
@@ -43,7 +44,7 @@ KnownAction = Action (List ℕ) KnownFile
 abbrev pub KnownCommand : Type 0
 KnownCommand = Command (List ℕ) KnownFile
 
--- goes on with `made` and the file, or gives the file's fault
+-- goes on with `made`, applied to the file; or is the file's fault
 abbrev pub with_file : {F X : Type 0} → Result F FileFault → (F → Result X FileFault) → Result X FileFault
 with_file (Ok file) made = made file
 with_file (Err fault) made = Err fault
@@ -67,7 +68,7 @@ known_command held command =
     with_file (content_of (held command.machine))
     (λ bytes. with_file (known_action held command.action) (λ a. Ok (record { machine = bytes; action = a })))
 
--- ---- What a command does: what its own call promises.
+-- ---- What a command does, as the contract of its own call promises.
 
 -- A text was typed on the machine of a machine file, or the machine file was refused.
 pub record TypesOn (machine : List ℕ) (source sink : Port) (answer : Result (Unit {0}) DeskFault) : Type 0 where
@@ -112,12 +113,12 @@ has_file_failed (Some file) left = left.failed
 abbrev pub IsUnfailed : {O : Type 0} → (O → Bool) → Option O → Type 0
 IsUnfailed failed file = IfSome file (λ f. failed f ≡ false)
 
--- Memory ran out, over the command line or over a file.
+-- Memory ran out while the command line or a file was read.
 abbrev pub StopsForMemory : Result (Unit {0}) Stop → Type 0
 StopsForMemory answer = (answer ≡ Err (Refused (File NoMemory))) ⊎ (answer ≡ Err (Unread files.NoMemory))
 
--- A command was carried out, and its answer stops the program or ends it well. `left` is what is left of the
--- file that the command opened.
+-- A command was carried out. `told` is the answer of its call, and `answer` the program's answer for it.
+-- `left` is what is left of the file that the command opened.
 pub record IsCommandDone (command : KnownCommand) (source sink : Port) (answer : Result (Unit {0}) Stop) : Type 0 where
   pub left : KnownFile
   pub told : Result (Unit {0}) DeskFault
@@ -133,7 +134,7 @@ pub record IsTaskDone (machine sheet : List ℕ) (number : ℕ) (task : KnownTas
       told
   pub answers : answer ≡ stop_after (has_file_failed (task_opened task) left) told
 
--- A command was carried out, or was refused for a file that can't be read or opened, or memory ran out.
+-- A command was carried out; or a file of the command couldn't be read or opened; or memory ran out.
 abbrev pub CarriesOut : Result KnownCommand FileFault → Port → Port → Result (Unit {0}) Stop → Type 0
 CarriesOut (Ok command) source sink answer = IsCommandDone command source sink answer ⊎ StopsForMemory answer
 CarriesOut (Err fault) source sink answer = (answer ≡ Err (Unread fault)) ⊎ StopsForMemory answer
@@ -153,19 +154,26 @@ abbrev pub is_stopped_by_port : Result (Unit {0}) Stop → Bool
 is_stopped_by_port (Err (Refused fault)) = is_device (Err fault)
 is_stopped_by_port _ = false
 
--- Which files were asked for, by the answer: none, if memory ran out over the command line; those up to the
--- first that couldn't be read or opened; otherwise all.
+-- Which files were asked for, by the answer: none, for `Usage`, or if memory ran out over the command line;
+-- those up to the first that couldn't be read or opened, for `Unread`; otherwise all.
 abbrev pub AsksFor : List (List ℕ) → List AskedName → Result (Unit {0}) Stop → Type 0
 AsksFor names asked (Err Usage) = asked ≡ []
 AsksFor names asked (Err (Unread fault)) = AreAskedFor names [] asked false
 AsksFor names asked (Err (Refused fault)) = AreAskedFor names [] asked true ⊎ ((asked ≡ []) × (fault ≡ File NoMemory))
 AsksFor names asked answer = AreAskedFor names [] asked true
 
--- The program's answer to a command line, by what is known of the files, and the names that it asked for.
+-- If it is known which bytes the files have, the command was carried out on these bytes.
+abbrev pub CarriesOutKnown : Option (List ℕ → Option (List ℕ)) → NamedCommand → Port → Port → Result (Unit {0}) Stop
+    → Type 0
+CarriesOutKnown known command source sink answer =
+    IfSome known (λ held. CarriesOut (known_command held command) source sink answer)
+
+-- What holds of the program's answer to a command line: what is done, by what is known of the files; which
+-- files are asked for; when it is `Usage`; and what happens to the ports.
 pub record IsRun (words : List (List ℕ)) (known : Option (List ℕ → Option (List ℕ))) (asked : List AskedName)
     (source sink : Port) (Untouched : Type 0) (answer : Result (Unit {0}) Stop) : Type 0 where
   pub carried : (command : NamedCommand) → IsCommandLineOf words command
-      → IfSome known (λ held. CarriesOut (known_command held command) source sink answer)
+      → CarriesOutKnown known command source sink answer
   pub asks : (command : NamedCommand) → IsCommandLineOf words command → AsksFor (files_of command) asked answer
   pub usage : answer ≡ Err Usage → IsNoCommandLine words
   pub other_words : IsNoCommandLine words → (answer ≡ Err Usage) ⊎ StopsForMemory answer
@@ -173,7 +181,7 @@ pub record IsRun (words : List (List ℕ)) (known : Option (List ℕ → Option 
   pub untouched : IsTrue (is_stopped_before answer) → Untouched
   pub failed : FailureAgrees source sink (is_stopped_by_port answer)
 
--- The program's answer satisfies `IsSo`, and the program ended as this answer says.
+-- The program's answer satisfies `IsSo`, and the program ended with this answer's line and status.
 pub record HasEnded (IsSo : Result (Unit {0}) Stop → Type 0) (errors : Port) (status : ℕ) : Type 0 where
   pub answer : Result (Unit {0}) Stop
   pub is_so : IsSo answer

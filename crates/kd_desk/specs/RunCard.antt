@@ -19,9 +19,10 @@ use Rattle.kd_tables.specs.Ports.{Port}
 use Rattle.kd_desk.specs.Ports.{WritesText}
 
 -- The text of a card for day `number` was written, or only a prefix of it if the device failed. The card has
--- one price for each kind. These stand for prices by number, which prove the card and make it a planned one: no
--- fewer settings reach the day, and spare cables stay free. Its settings lead to a machine that is ready and
--- enciphers as the day's own. A machine on the day's key deciphers what an equally set one enciphers.
+-- prices by kind, one for all cables, pairs, bars or rows that are equal. Written out, these are prices by
+-- number, one for each cable, pair, bar or row. They prove that no fewer settings reach the day, and the card
+-- is a planned one: spare cables stay free. Its settings lead to a machine that is ready and enciphers as the
+-- day's own. A machine on the day's key deciphers what an equally set machine enciphers.
 pub record WritesCard (m : Parts) (s : Day) (number : ℕ) (sink : Port)
     (answer : Result (Unit {0}) DeskFault) : Type 0 where
   pub settings : List Setting

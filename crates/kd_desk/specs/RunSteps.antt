@@ -1,4 +1,4 @@
--- Answers of a call: out of memory, a fault, refused before anything was written, a failed device.
+-- Answers of a call: lack of memory, a fault, a refusal before anything was written, a failed device.
 -- Test: refuses_the_machine_first
 use Rattle.std.specs.Prelude.{◌≡◌, ◌⊎◌, Bool, true, false, Result, Ok, Err}
 use Rattle.kd_sheet.specs.declared.fault.SheetFault.TheVariants.{NoMemory}
@@ -10,7 +10,7 @@ use Rattle.kd_form.specs.Streams.{is_off_key}
 abbrev pub LacksMemory : Result (Unit {0}) DeskFault → Type 0
 LacksMemory answer = answer ≡ Err (File NoMemory)
 
--- The call answers this fault, unless it ran out of memory.
+-- The answer is this fault, unless the call ran out of memory.
 abbrev pub AnswersFault : Result (Unit {0}) DeskFault → DeskFault → Type 0
 AnswersFault answer fault = (answer ≡ Err fault) ⊎ LacksMemory answer
 

@@ -1,4 +1,4 @@
--- Settings as bytes: a card if they begin as a card, otherwise a list.
+-- Settings as bytes: a card if the bytes begin as a card does, otherwise a list.
 -- Code: one test, and then one of two readers.
 -- Test: writes_the_machine_that_stands_then
 use Rattle.std.specs.Prelude.{codes, ◌≡◌, ℕ, nat_eq, Bool, List, IsTrue, IsFalse}
@@ -13,7 +13,7 @@ use Rattle.kd_card.specs.CardFault.{IsCardFault}
 use Rattle.kd_desk.specs.declared.fault.DeskFault.{DeskFault}
 use Rattle.kd_desk.specs.declared.fault.DeskFault.TheVariants as faults
 
--- whether the bytes begin as a card does
+-- whether the bytes begin as a card does, with `CARD `
 abbrev pub begins_as_card : List ℕ → Bool
 begins_as_card bytes = starts_with nat_eq bytes (codes "CARD ")
 
@@ -24,7 +24,7 @@ pub data AreSettings (bytes : List ℕ) (settings : List Setting) : Type 0 where
       → AreSettings bytes settings
   OfList : IsFalse (begins_as_card bytes) → IsListText bytes settings → AreSettings bytes settings
 
--- The bytes begin as a card and have this fault of a card; or they don't, and have this fault of a list.
+-- The bytes begin as a card does and have this fault of a card; or they don't, and have this fault of a list.
 pub data IsSettingsFault (bytes : List ℕ) (fault : DeskFault) : Type 0 where
   InCard : IsTrue (begins_as_card bytes) → (card : CardFault) → IsCardFault bytes card → fault ≡ faults.Card card
       → IsSettingsFault bytes fault

@@ -22,12 +22,12 @@ fault_of_file files.NoMemory = File NoMemory
 fault_of_file files.Device = Device
 fault_of_file files.ReadTooLong = ReadTooLong
 
--- why the command line can't be read: no memory, or a word that isn't UTF-8
+-- why the command line can't be read: no memory, or an argument that isn't UTF-8
 abbrev pub stop_of_kind : ErrorKind → Stop
 stop_of_kind OutOfMemory = Refused (File NoMemory)
 stop_of_kind _ = Usage
 
--- the `Stop` for a command's answer; a failed device is the opened file's, if a read of this file failed
+-- the `Stop` for a command's fault; `Device` becomes `ReadFailed` if a read of the opened file failed
 abbrev pub stop_after : Bool → Result (Unit {0}) DeskFault → Result (Unit {0}) Stop
 stop_after file_failed (Ok done) = Ok done
 stop_after true (Err Device) = Err ReadFailed

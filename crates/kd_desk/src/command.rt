@@ -14,10 +14,11 @@ use kd_state::day_of_text;
 use std::alloc::{AllocError, Global};
 use std::convert::AsStr;
 
-/// A command of the desk with its files: first their names, then what was read or opened.
+/// A command of the desk with its files.
 ///
-/// `F` stands for a file that is read whole: its name, then its contents. `O` stands for an order or a form,
-/// which is streamed: its name, then the opened file.
+/// A parsed command has the names of its files; a command to carry out has the files themselves. `F` is the
+/// type for a file that is read whole: for its name, or for its contents. `O` is the type for an order or a
+/// form, which is streamed: for its name, or for the opened file.
 #[derive(Drop)]
 pub struct Command<F, O> {
     /// The machine file.
@@ -65,7 +66,7 @@ pub enum Direction {
 }
 
 impl Direction {
-    /// The name of the message's word on the command line: ORDER or FORM.
+    /// The name of the argument for the message's file: ORDER or FORM.
     fn file_word(self) -> &'static str
         ensures { result.now ≡ direction_word self }
     {
@@ -76,17 +77,17 @@ impl Direction {
     }
 }
 
-/// A command with file names, not yet read.
+/// A command with the names of its files, before any file is read or opened.
 pub type NamedCommand<'a> = Command<&'a str, &'a str>;
 
-/// An action with file names, not yet read.
+/// An action with the names of its files, before any file is read or opened.
 pub type NamedAction<'a> = Action<&'a str, &'a str>;
 
-/// Parses the command line; its first word is the program's own name.
+/// Parses the command line `words`, which begins with the program's own name.
 ///
-/// A file name that begins with `-` must come after the word `--`, unless it is `-` alone. The word `--` may
-/// come once, after the command's name. An invalid command line gives `Usage`; the only other error is lack
-/// of memory.
+/// A file name that begins with `-` must come after the argument `--`, unless the name is `-` alone. The
+/// argument `--` may come once, after the command's name. An invalid command line gives `Usage`; the only
+/// other error is lack of memory.
 pub fn parse_words<'a, S: AsStr>(alloc: Global, words: &'a [S]) -> Result<NamedCommand<'a>, Stop>
     ensures said { IfOk result (λ command. IsCommandLineOf (map S.text words.entry.now) (unborrowed_command command)) }
     ensures usage { result ≡ Err Stop.Usage → IsNoCommandLine (map S.text words.entry.now) }
@@ -103,7 +104,7 @@ pub fn parse_words<'a, S: AsStr>(alloc: Global, words: &'a [S]) -> Result<NamedC
     command_of(name, words).ok_or(Stop::Usage)
 }
 
-/// The command called `name`, with the file names and the day in `words`.
+/// The command called `name`, with the file names and the day in its arguments `words`.
 fn command_of<'a>(name: &str, words: &ArgMatches<'a>) -> Option<NamedCommand<'a>>
     ensures said { IfSome result (λ command.
         IsCommandOf (name.now, rows_of (found_of words.now)) (unborrowed_command command)) }
@@ -114,7 +115,7 @@ fn command_of<'a>(name: &str, words: &ArgMatches<'a>) -> Option<NamedCommand<'a>
     Some(Command { machine, action })
 }
 
-/// The action of the command `name`, with the file names and the day in `words`.
+/// The action of the command `name`, with the file names and the day in its arguments `words`.
 fn action_of<'a>(name: &str, words: &ArgMatches<'a>) -> Option<NamedAction<'a>>
     ensures said { IfSome result (λ action.
         IsActionOf (name.now, rows_of (found_of words.now)) (unborrowed_action action)) }
@@ -132,7 +133,7 @@ fn action_of<'a>(name: &str, words: &ArgMatches<'a>) -> Option<NamedAction<'a>>
     }
 }
 
-/// The action of `apply`, with the list's file name in `words`.
+/// The action of `apply`, with the file name in the argument LIST.
 fn apply_of<'a>(words: &ArgMatches<'a>) -> Option<NamedAction<'a>>
     ensures said { IfSome result (λ action.
         IsActionOf (codes "apply", rows_of (found_of words.now)) (unborrowed_action action)) }
@@ -143,7 +144,7 @@ fn apply_of<'a>(words: &ArgMatches<'a>) -> Option<NamedAction<'a>>
     Some(Action::Apply { list })
 }
 
-/// The action of `card`, if the word `DAY` is a day's number.
+/// The action of `card`; `None` if the argument DAY isn't a day's number.
 fn card_of<'a>(words: &ArgMatches<'a>) -> Option<NamedAction<'a>>
     ensures said { IfSome result (λ action.
         IsActionOf (codes "card", rows_of (found_of words.now)) (unborrowed_action action)) }
@@ -155,7 +156,7 @@ fn card_of<'a>(words: &ArgMatches<'a>) -> Option<NamedAction<'a>>
     Some(Action::OnDay { sheet, day, task })
 }
 
-/// The action of `check`, if the word `DAY` is a day's number.
+/// The action of `check`; `None` if the argument DAY isn't a day's number.
 fn check_of<'a>(words: &ArgMatches<'a>) -> Option<NamedAction<'a>>
     ensures said { IfSome result (λ action.
         IsActionOf (codes "check", rows_of (found_of words.now)) (unborrowed_action action)) }
@@ -168,7 +169,7 @@ fn check_of<'a>(words: &ArgMatches<'a>) -> Option<NamedAction<'a>>
     Some(Action::OnDay { sheet, day, task })
 }
 
-/// The action of `send` or `receive`, if the word `DAY` is a day's number.
+/// The action of `send` or `receive`; `None` if the argument DAY isn't a day's number.
 fn message_of<'a>(words: &ArgMatches<'a>, direction: Direction) -> Option<NamedAction<'a>>
     ensures said { IfSome result (λ action.
         IsActionOf (direction_name direction, rows_of (found_of words.now)) (unborrowed_action action)) }
@@ -181,7 +182,7 @@ fn message_of<'a>(words: &ArgMatches<'a>, direction: Direction) -> Option<NamedA
     Some(Action::OnDay { sheet, day, task })
 }
 
-/// The sheet's file name and the day's number, if the word `DAY` is a day's number.
+/// The sheet's file name and the day's number; `None` if the argument DAY isn't a day's number.
 fn sheet_and_day<'a>(words: &ArgMatches<'a>) -> Option<(&'a str, u8)>
     ensures said { IfSome result (λ on. HaveSheetAndDay (rows_of (found_of words.now)) on.0.now on.1) }
     ensures none { result ≡ None → (sheet : List ℕ) (day : ℕ)
@@ -192,7 +193,7 @@ fn sheet_and_day<'a>(words: &ArgMatches<'a>) -> Option<(&'a str, u8)>
     Some((sheet, day))
 }
 
-/// The commands of the desk, each with the names of the words after it.
+/// The commands of the desk, each with the names of its arguments.
 static COMMANDS: [(&str, &[&str]); 6] = [
     ("type", &["MACHINE"]),
     ("apply", &["MACHINE", "LIST"]),
@@ -212,7 +213,7 @@ fn grammar<'a>(alloc: Global) -> Result<Grammar<'a>, AllocError>
     with_commands(alloc, desk, &COMMANDS)
 }
 
-/// Adds `commands`, each with its words, to `grammar`.
+/// Adds `commands`, each with the names of its arguments, to `grammar`.
 fn with_commands<'a>(
     alloc: Global,
     grammar: Grammar<'a>,
@@ -229,7 +230,7 @@ fn with_commands<'a>(
     Ok(grammar)
 }
 
-/// The grammar of the command `name`, with one word for each name in `words`.
+/// The grammar of the command `name`, with one argument for each name in `words`.
 fn command_grammar<'a>(
     alloc: Global,
     name: &'a str,
@@ -244,7 +245,7 @@ fn command_grammar<'a>(
     Ok(command)
 }
 
-/// The `Stop` for a command line that doesn't parse.
+/// The `Stop` for a command line that can't be parsed: `Usage`, or lack of memory.
 fn stop_of_error(error: &Error) -> Stop
     ensures memory { kind_of error.now ≡ ErrorKind.OutOfMemory
         → result ≡ Stop.Refused (DeskFault.File SheetFault.NoMemory) }

@@ -14,7 +14,7 @@ use std::alloc::AllocError;
 use std::fmt;
 use thiserror::Error;
 
-/// Why the desk refuses a command: the first fault of its steps.
+/// Why the desk refuses a command: the first fault that its steps find.
 #[derive(Clone, Copy, Debug, PartialEq, Eq, Error)]
 pub enum DeskFault {
     /// A fault of a machine file or of a key sheet, or no memory.
@@ -42,7 +42,7 @@ pub enum DeskFault {
 }
 
 impl DeskFault {
-    /// The refusal's number and name, followed by the place or the numbers of the fault.
+    /// Returns the refusal's number and name, followed by the place or the numbers in the fault.
     pub fn text(&self) -> Text
         ensures { result.bytes ≡ desk_fault_text self.now }
     {

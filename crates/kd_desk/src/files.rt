@@ -19,7 +19,7 @@ pub trait Files<'n> {
     /// An opened file, which is streamed.
     type Opened: Source + Drop;
 
-    /// The bytes of each file, or `None` if there is no such file; unknown for the host's files.
+    /// Maps a name to the bytes of its file, if there is such a file; unknown for the host's files.
     ghost known: { Self → Option (List ℕ → Option (List ℕ)) } = { λ _. None };
 
     /// The names asked for, in order, and for each whether the file could be read or opened.
@@ -38,7 +38,7 @@ pub trait Files<'n> {
 
     /// Opens the file `name` for streaming.
     ///
-    /// Returns `Device` if it can't be opened. At most three names may be asked for.
+    /// Returns `Device` if the file can't be opened. At most three names may be asked for.
     fn open(&mut self, name: &'n str) -> Result<Self::Opened, FileFault>
         requires { length (asked self.old) < 3 }
         ensures opened { IfSome (known self.old) (λ held.

@@ -1,4 +1,4 @@
-//! Laws of settings and of months: how bytes are read, and how a month's cards set the machine to each day.
+//! Laws: how bytes are read as settings, and how a month's cards set the machine to each day.
 ghost use Rattle.std.specs.Prelude.{◌≡◌, All};
 ghost use Rattle.kd_state.specs.Machine.{model_of};
 ghost use Rattle.kd_state.specs.SheetDay.{day_model};
@@ -22,7 +22,7 @@ pub fn bytes_say_settings_or_have_a_fault()
     ensures one_fault { SettingsHaveOneFault }
 {}
 
-/// If settings lead a machine to another one, none of their lines is refused.
+/// If settings lead from one machine to another, none of their lines is refused.
 pub fn settings_lead_or_are_refused()
     ensures { LeadsOrRefuses }
 {}
@@ -43,15 +43,15 @@ pub fn months_are_fewest()
     ensures { MonthsAreFewest }
 {}
 
-/// If no day has more pairs than the owner has cables, no card of the month needs another cable.
+/// If a machine uses only its first cables, and no day has more pairs, no other cable is needed.
 ///
-/// Say that a machine uses only its first ten cables, and no day has more than ten pairs. Then no card of the
-/// month names another cable, and the machine never uses one.
+/// Say that a machine uses only its first ten cables, and no day of the month has more than ten pairs. Then
+/// no card of the month names another cable, and the machine never uses one.
 pub fn few_cables_serve_a_month()
     ensures { FewCablesServeAMonth }
 {}
 
-/// Each of the sheet's days of the machine's model has a card and a machine file.
+/// For days of the machine's model, one after another, cards and machine files can be written.
 pub fn months_can_be_written(machine: &Machine, sheet: &Sheet, numbers: &[u8])
     requires { All (HasDayOf (model_of machine.now) sheet.now) numbers.now }
     ensures { HasPapersInTurn machine.now sheet.now numbers.now }
@@ -62,7 +62,7 @@ pub fn months_can_be_written(machine: &Machine, sheet: &Sheet, numbers: &[u8])
     }
 }
 
-/// The machine after the settings of the day's card are carried out on `machine`.
+/// Returns the machine that `machine` becomes by the settings of the planned card for `day`.
 fn machine_after_card(machine: &Machine, day: &SheetDay) -> Machine
     requires { day_model day.now ≡ model_of machine.now }
     ensures model { model_of result ≡ model_of machine.now }
@@ -74,7 +74,8 @@ fn machine_after_card(machine: &Machine, day: &SheetDay) -> Machine
     settings_lead_or_are_refused();
     written_files_are_read_back();
     let card = in_kinds(machine, day, &plan(machine, day).unwrap());
-    // The contract of `write_card` shows the prover that the text is a card. The sink may take none of it.
+    // The contract of `write_card` shows the prover that there is a text of the card. The sink may take none
+    // of it.
     let _ = write_card(&mut MemorySink::<0>::new(0), day.day(), &card);
     carry_all(machine, card.settings.as_slice()).unwrap()
 }

@@ -9,7 +9,7 @@ use kd_sheet::{read_machine, read_sheet};
 use kd_state::{Entry, Machine, Parts, SheetDay};
 use std::alloc::Global;
 
-/// Reads the machine of the file `machine`, and day `number` of the file `sheet`.
+/// Reads the machine in the machine file `machine`, and day `number` of the key sheet `sheet`.
 ///
 /// The machine file's faults come first, then the sheet's, then `NoSuchDay`.
 pub fn find_day(

@@ -4,8 +4,8 @@ ghost use Rattle.kd_desk.specs.CommandLine.{unborrowed_command, unborrowed_actio
 ghost use Rattle.kd_desk.specs.CommandLine.{action_files, task_files, with_command_opened, with_action_opened};
 ghost use Rattle.kd_desk.specs.CommandLine.{with_task_opened, command_opened, action_opened, task_opened};
 ghost use Rattle.kd_desk.specs.CommandLine.{IsCommandLineOf, IsNoCommandLine};
-ghost use Rattle.kd_desk.specs.Program.{known_command, known_action, known_task, AsksFor, CarriesOut, DoesTask};
-ghost use Rattle.kd_desk.specs.Program.{IsCommandDone, HasEnded, IsRun, IsTaskDone, StopsForMemory, IsUnfailed};
+ghost use Rattle.kd_desk.specs.Program.{known_command, known_action, known_task, AsksFor, CarriesOut, CarriesOutKnown};
+ghost use Rattle.kd_desk.specs.Program.{DoesTask, IsCommandDone, HasEnded, IsRun, IsTaskDone, StopsForMemory, IsUnfailed};
 ghost use Rattle.kd_desk.specs.Program.{is_stopped_before, is_stopped_by_port};
 ghost use Rattle.kd_desk.specs.Files.{AreAskedFor, AgreesOrNoMemory, IsReadAnswer, known_file};
 ghost use Rattle.kd_desk.specs.OnDay.{IsAnswerOnDay};
@@ -26,12 +26,13 @@ use kd_tables::{Sink, Source};
 use std::alloc::Global;
 use std::convert::AsStr;
 
-/// Carries out the command line `words`, whose first word is the program's own name.
+/// Carries out the command line `words`, which begins with the program's own name.
 ///
-/// Returns the exit status: 0, or 2 for an invalid command line, or 1 for any refusal. With 1 or 2, it writes
-/// one line to `errors` that says why. It takes the files in the order of the words, each once. An order or a
-/// form is opened, and read only as the command is carried out. Every other file is read whole before the
-/// next is taken. If a file can't be read or opened, nothing is read from `source` or written to `sink`.
+/// Returns the exit status: 0 for success, 2 for an invalid command line, or 1 for any refusal. With 1 or 2,
+/// it writes one line to `errors` that says why. It reads or opens each file once, in the order of the
+/// command line. An order or a form is opened, and read only while the command is carried out. Every other
+/// file is read whole before the next file is read or opened. If a file can't be read or opened, nothing is
+/// read from `source` or written to `sink`.
 pub fn run_desk<'n, S: AsStr, F: Files<'n>, R: Source, W: Sink, E: Sink>(
     alloc: Global,
     words: &'n [S],
@@ -50,7 +51,7 @@ pub fn run_desk<'n, S: AsStr, F: Files<'n>, R: Source, W: Sink, E: Sink>(
     end_program(carry_words(alloc, words, files, source, sink), errors)
 }
 
-/// Parses the command line, reads its files, and carries out the command.
+/// Parses the command line, reads or opens the files that it names, and carries out the command.
 fn carry_words<'n, S: AsStr, F: Files<'n>, R: Source, W: Sink>(
     alloc: Global,
     words: &'n [S],
@@ -60,9 +61,9 @@ fn carry_words<'n, S: AsStr, F: Files<'n>, R: Source, W: Sink>(
 ) -> Result<(), Stop>
     requires { F.asked files.old ≡ [] }
     ensures carried { (command : _) → IsCommandLineOf (map S.text words.entry.now) command
-        → IfSome (F.known files.old) (λ held. CarriesOut (known_command held command)
+        → CarriesOutKnown (F.known files.old) command
         (port R.remaining R.has_failed source.old source.new)
-        (port W.taken W.has_failed sink.old sink.new) result) }
+        (port W.taken W.has_failed sink.old sink.new) result }
     ensures asked { (command : _) → IsCommandLineOf (map S.text words.entry.now) command
         → AsksFor (files_of command) (F.asked files.new) result }
     ensures usage { result ≡ Err Stop.Usage → IsNoCommandLine (map S.text words.entry.now) }
@@ -79,7 +80,7 @@ fn carry_words<'n, S: AsStr, F: Files<'n>, R: Source, W: Sink>(
     carry_out(alloc, command, source, sink)
 }
 
-/// Reads or opens the files that `command` names, in the order of the words.
+/// Reads or opens the files that `command` names, in the order of the command line.
 ///
 /// If a file can't be read or opened, returns the fault, and asks for no later file.
 fn read_files<'n, F: Files<'n>>(
@@ -184,7 +185,7 @@ fn carry_out<O: Source + Drop, R: Source, W: Sink>(
     }
 }
 
-/// Carries out `task` with the machine and day `number` of the sheet.
+/// Carries out `task` with the machine in `machine` and day `number` of `sheet`.
 fn carry_task<O: Source + Drop, W: Sink>(
     alloc: Global,
     machine: &[u8],
@@ -212,7 +213,7 @@ fn carry_task<O: Source + Drop, W: Sink>(
     }
 }
 
-/// Sends or receives the message in `file`, with the machine and day `number` of the sheet.
+/// Sends or receives the message in `file`, with the machine in `machine` and day `number` of `sheet`.
 fn carry_message<O: Source, W: Sink>(
     alloc: Global,
     machine: &[u8],

@@ -1,4 +1,4 @@
-//! The command `apply`: carries settings out, and writes the machine file.
+//! The command `apply`: carries out settings on a machine, and writes its new machine file.
 ghost use Rattle.std.specs.Prelude.{◌≡◌, ◌⊎◌, ◌||◌, IfOk, IfErr, IsTrue};
 ghost use Rattle.kd_sheet.specs.MachineFile.{machine_of};
 ghost use Rattle.kd_desk.specs.declared.fault.DeskFault.TheVariants.{File};
@@ -13,7 +13,7 @@ use kd_state::{Machine, carry_all};
 use kd_tables::Sink;
 use std::alloc::Global;
 
-/// Carries out the settings of `list` on the machine in `machine`, and writes the new machine file.
+/// Carries out the settings of `list` on the machine in the file `machine`; writes the new machine file.
 ///
 /// `list` is a list or a card; the card may be for any day, and have any prices. The machine file's faults
 /// come first, then the faults of `list`, then the first line that the machine refuses. After each of these,
@@ -34,7 +34,7 @@ pub fn run_apply<W: Sink>(
     apply(&machine, list, sink)
 }
 
-/// `run_apply` for a machine that was read before. Allocates nothing.
+/// Does what `run_apply` does, for a machine that is already read. Allocates nothing.
 pub fn apply<W: Sink>(machine: &Machine, list: &[u8], sink: &mut W) -> Result<(), DeskFault>
     ensures applied { Applies machine.now list.now
         (port W.taken W.has_failed sink.old sink.new) result }

@@ -1,4 +1,4 @@
-//! The command `card`: prints the shortest card to a day.
+//! The command `card`: prints the shortest card, whose settings lead from a machine to a day.
 ghost use Rattle.std.specs.Prelude.{◌≡◌, ◌||◌, IsTrue};
 ghost use Rattle.kd_card.specs.Proving.{ProvesByNumber};
 ghost use Rattle.kd_prices.specs.KindCards.{IsByKind};
@@ -18,7 +18,7 @@ use kd_state::{Entry, Machine, Parts, SheetDay};
 use kd_tables::Sink;
 use std::alloc::Global;
 
-/// Writes the shortest card from the machine in `machine` to day `number` of `sheet`.
+/// Writes the shortest card from the machine in the file `machine` to day `number` of the sheet `sheet`.
 ///
 /// The machine file's faults come first, then the sheet's, then `NoSuchDay`, then `OtherModel`. After each of
 /// these, nothing is written. After `Device`, a prefix of the card is written.
@@ -38,7 +38,7 @@ pub fn run_card<W: Sink>(
     print_card(&machine, &day, sink)
 }
 
-/// `run_card` for a machine and a day that were read before. Allocates nothing.
+/// Does what `run_card` does, for a machine and a day that are already read. Allocates nothing.
 pub fn print_card<W: Sink>(machine: &Machine, day: &SheetDay, sink: &mut W) -> Result<(), DeskFault>
     ensures prints { Prints machine.now day.now (day_number day.now)
         (port W.taken W.has_failed sink.old sink.new) result }
@@ -53,7 +53,7 @@ pub fn print_card<W: Sink>(machine: &Machine, day: &SheetDay, sink: &mut W) -> R
     Ok(())
 }
 
-/// Returns `card` with prices by kind: one price for all cables, bars, pairs or rows that are alike.
+/// Returns `card` with prices by kind: one price for all cables, bars, pairs or rows that are equal.
 pub(crate) fn in_kinds(machine: &Machine, day: &SheetDay, card: &Card) -> Card
     requires machine { IsMachine machine.now }
     requires day { IsLegalDay day.now }

@@ -16,12 +16,13 @@ use kd_state::{Entry, Machine, Parts, SheetDay};
 use kd_tables::{Device, Sink, put_all};
 use std::alloc::Global;
 
-/// Checks that `card` is shortest from the machine in `machine` to day `number` of `sheet`.
+/// Checks that `card` proves itself shortest, from the machine in `machine` to day `number` of `sheet`.
 ///
-/// If the card's prices prove it shortest, writes SHORTEST and its number of settings, whoever made the card.
-/// The machine file's faults come first, then the sheet's, then `NoSuchDay`, the card's faults and
-/// `OtherDay`. The first reason why the card doesn't prove itself comes last. After each of these, nothing is
-/// written. After `Device`, a prefix of the line is written.
+/// `machine` is a machine file, `sheet` a key sheet. If the card's prices prove the card shortest, writes
+/// SHORTEST and the number of its settings, whoever made the card. The machine file's faults come first, then
+/// the sheet's, then `NoSuchDay`, the card's faults and `OtherDay`, and last `Doubtful`, with the first
+/// reason why the card doesn't prove itself. After each of these, nothing is written. After `Device`, a
+/// prefix of the line is written.
 pub fn run_check<W: Sink>(
     alloc: Global,
     machine: &[u8],
@@ -39,7 +40,7 @@ pub fn run_check<W: Sink>(
     check_card(&machine, &day, number, card, sink)
 }
 
-/// `run_check` for a machine and a day that were read before. Allocates nothing.
+/// Does what `run_check` does, for a machine and a day that are already read. Allocates nothing.
 pub fn check_card<W: Sink>(
     machine: &Machine,
     day: &SheetDay,
@@ -64,7 +65,7 @@ pub fn check_card<W: Sink>(
     Ok(())
 }
 
-/// Writes that a card of `number` settings is shortest.
+/// Writes the line that says that a card of `number` settings is shortest.
 fn write_verdict<W: Sink>(sink: &mut W, number: usize) -> Result<(), Device>
     ensures text { Writes (W.taken sink.old) (W.taken sink.new) (verdict_text number) result }
     ensures failed { W.has_failed sink.new ≡ (W.has_failed sink.old || is_err result) }

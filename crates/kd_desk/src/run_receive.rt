@@ -1,4 +1,4 @@
-//! The command `receive`: writes the text of a form.
+//! The command `receive`: writes the text of a form, a message as it is received.
 ghost use Rattle.std.specs.Prelude.{◌≡◌, IsTrue};
 ghost use Rattle.kd_desk.specs.Messages.{Receives};
 ghost use Rattle.kd_desk.specs.OnDay.{IsAnswerOnDay};
@@ -11,13 +11,14 @@ use kd_form::receive_stream;
 use kd_tables::{Sink, Source};
 use std::alloc::Global;
 
-/// Receives `form` on the machine in `machine`, set to day `number` of `sheet`, and writes its text.
+/// Receives `form` on the machine in the file `machine`, and writes its text.
 ///
-/// The form is streamed: a part's text is written once the next part begins. The machine file's faults come
-/// first, then the sheet's, then `NoSuchDay`, `NotReady` and `NotOnKey`. After each of these, nothing is read
-/// or written. Then come the form's faults, `ReadTooLong` if the form has more than 1,048,576 bytes, and
-/// `Device` if a read or a write fails. By then the texts of the parts before the fault are written, or a
-/// prefix of them if a write failed.
+/// The machine must be on the key of day `number` of the key sheet `sheet`. The form is streamed: a part's
+/// text is written once the next part begins. The machine file's faults come first, then the sheet's, then
+/// `NoSuchDay`, `NotReady` and `NotOnKey`. After each of these, nothing is read or written. Then come the
+/// form's faults, `ReadTooLong` if the form has more than 1,048,576 bytes, and `Device` if a read or a write
+/// fails. After each of these, the texts of the parts before the fault are written, or a prefix of them if a
+/// write failed.
 pub fn run_receive<R: Source, W: Sink>(
     alloc: Global,
     machine: &[u8],

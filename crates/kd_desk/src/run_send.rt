@@ -1,4 +1,4 @@
-//! The command `send`: writes the form of an order.
+//! The command `send`: writes the form of an order, the file that says what to send.
 ghost use Rattle.std.specs.Prelude.{◌≡◌, IsTrue};
 ghost use Rattle.kd_desk.specs.Messages.{Sends};
 ghost use Rattle.kd_desk.specs.OnDay.{IsAnswerOnDay};
@@ -11,13 +11,14 @@ use kd_form::send_stream;
 use kd_tables::{Sink, Source};
 use std::alloc::Global;
 
-/// Sends `order` on the machine in `machine`, set to day `number` of `sheet`, and writes its form.
+/// Sends `order` on the machine in the file `machine`, and writes its form.
 ///
-/// The order is streamed: a part is written once the first letter of the next part is read. The machine
-/// file's faults come first, then the sheet's, then `NoSuchDay`, `NotReady` and `NotOnKey`. After each of
-/// these, nothing is read or written. Then come the order's faults, `ReadTooLong` if the order has more than
-/// 1,048,576 bytes, and `Device` if a read or a write fails. By then the parts made so far are written, or a
-/// prefix of them if a write failed.
+/// The machine must be on the key of day `number` of the key sheet `sheet`. The order is streamed: a part is
+/// written once the first letter of the next part is read. The machine file's faults come first, then the
+/// sheet's, then `NoSuchDay`, `NotReady` and `NotOnKey`. After each of these, nothing is read or written.
+/// Then come the order's faults, `ReadTooLong` if the order has more than 1,048,576 bytes, and `Device` if a
+/// read or a write fails. After each of these, the parts made before are written, or a prefix of them if a
+/// write failed.
 pub fn run_send<R: Source, W: Sink>(
     alloc: Global,
     machine: &[u8],

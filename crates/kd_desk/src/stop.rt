@@ -1,4 +1,4 @@
-//! Stop: why the program stops, with its exit status and its line on standard error.
+//! Stop: why the program stops without success, with its exit status and its line on standard error.
 ghost use Rattle.std.specs.Prelude.{◌≡◌, false, Err};
 ghost use Rattle.kd_tables.specs.Ports.{port};
 ghost use Rattle.kd_desk.specs.Ending.{refused_line, status_of, stop_line, EndsAs};
@@ -14,14 +14,14 @@ use std::io;
 /// A line on standard error.
 type Line = ArrayString<80>;
 
-/// Why the program stops.
+/// Why the program stops without success.
 #[derive(Clone, Copy, Debug, PartialEq, Eq)]
 pub enum Stop {
     /// The command line isn't a command of the desk.
     Usage,
     /// A file that the command line names can't be read whole, or can't be opened.
     Unread(FileFault),
-    /// A read of the opened file failed while the command was carried out.
+    /// A read of the opened order or form failed while the command was carried out.
     ReadFailed,
     /// The command was refused.
     Refused(DeskFault),
@@ -77,7 +77,7 @@ impl Stop {
     }
 }
 
-/// The line that is written for a refusal.
+/// The line on standard error for a refusal.
 fn refused_line(fault: DeskFault) -> Line
     ensures { result.bytes ≡ refused_line fault }
 {
@@ -88,7 +88,7 @@ fn refused_line(fault: DeskFault) -> Line
     line
 }
 
-/// Writes the error's line to `errors`, and returns the exit status.
+/// Writes the line for the error in `answer`, if there is one, to `errors`; returns the exit status.
 ///
 /// The status doesn't depend on whether the line could be written.
 pub fn end_program<E: Sink>(answer: Result<(), Stop>, errors: &mut E) -> u8
@@ -132,7 +132,7 @@ impl From<io::Error> for Stop {
 
     ghost from_gives = { λ error stop. stop ≡ stop_of_kind (error_kind error) };
 
-    /// Why the program's words can't be read: no memory, or a word that isn't UTF-8.
+    /// Why the command line can't be read: no memory, or an argument that isn't UTF-8.
     fn from(error: io::Error) -> Stop {
         match error.kind() {
             io::ErrorKind::OutOfMemory => Stop::from(AllocError),

@@ -76,9 +76,9 @@ type Streamed = (&'static str, Result<(), DeskFault>, &'static str);
 /// A call, a machine, and texts with their answers.
 pub type Streams = (Call, Text, &'static [Streamed]);
 
-/// Checks the answer to a text, in pieces of each size.
+/// Checks the answer of `call` for a text that is read in pieces of 1, 2 or 7 bytes.
 ///
-/// A read after the end of the source would fail, so this also tests that there is none.
+/// A second read at the end of the source would fail, so this also tests that there is none.
 fn is_streamed(rt: &impl Abort, alloc: Global, call: Call, machine: &str, streamed: &Streamed) {
     let (text, answer, written) = streamed;
     for piece in [1, 2, 7] {
@@ -89,7 +89,7 @@ fn is_streamed(rt: &impl Abort, alloc: Global, call: Call, machine: &str, stream
     }
 }
 
-/// Checks the answers to texts.
+/// Checks the answers of calls for texts.
 pub fn are_streamed(rt: &impl Abort, alloc: Global, cases: &[Streams]) -> Result<(), AllocError> {
     for (call, machine, texts) in cases {
         let machine = changed(alloc, machine)?;
@@ -106,7 +106,7 @@ pub type Judged = (&'static str, &'static str, Result<Text, DeskFault>);
 /// A call, a machine, a card or a list, and changes of it with their answers.
 pub type Cards = (Call, Text, TextName, &'static [Judged]);
 
-/// Checks the answers to cards and lists.
+/// Checks the answers of calls for cards and lists.
 pub fn are_judged(rt: &impl Abort, alloc: Global, cases: &[Cards]) -> Result<(), AllocError> {
     for (call, machine, list, changes) in cases {
         let machine = changed(alloc, machine)?;
@@ -117,7 +117,7 @@ pub fn are_judged(rt: &impl Abort, alloc: Global, cases: &[Cards]) -> Result<(),
     Ok(())
 }
 
-/// Checks the answer to a changed card or list.
+/// Checks the answer of a call for a changed card or list.
 fn is_judged(
     rt: &impl Abort,
     alloc: Global,
@@ -174,7 +174,7 @@ fn stops_where_the_sink_fails(rt: HostRuntime) -> Result<(), AllocError> {
     Ok(())
 }
 
-/// Checks that each call on this machine file and this sheet has the fault.
+/// Checks that each of these calls on this machine file and this sheet returns this fault.
 fn are_refused(
     rt: &impl Abort,
     alloc: Global,

@@ -29,7 +29,7 @@ static APPLY: [(&[&str], &str, &str); 4] = [
     ),
 ];
 
-/// A command with a day, its number of words, and the third file that it names, if there is one.
+/// A command with a day, how many words its command line has, and its third file, if there is one.
 static ON_A_DAY: [(&str, usize, &str); 4] = [
     ("card", 5, ""),
     ("check", 6, "x.txt"),
@@ -37,7 +37,7 @@ static ON_A_DAY: [(&str, usize, &str); 4] = [
     ("receive", 6, "x.txt"),
 ];
 
-/// A word for a day, and the day's number if the word is one.
+/// A value of the argument DAY, and the day's number if the value is one.
 static DAYS: [(&str, Option<u8>); 14] = [
     ("1", Some(1)),
     ("9", Some(9)),

@@ -14,7 +14,7 @@ use kd_sheet::SheetFault::{
 use kd_state::{IllegalAt, ListFault, Why};
 use std::test::Fail;
 
-/// Every fault with its text: each number, twice if it has a place, each key, and each reason.
+/// Every fault with its text: each refusal (with two places, if it has a place), each key, and each reason.
 static REFUSALS: [(DeskFault, &str); 101] = [
     (File(LetterTwice), "1 LetterTwice"),
     (Message(FormFault::NotReady), "4 NotReady"),

@@ -1,11 +1,11 @@
-//! Tests of the host's files, and of contents.
+//! Tests of the host's files, and of reading a source whole.
 use kd_desk::{FileFault, Files, HostFiles, ReaderSource, read_whole};
 use kd_tables::Source;
 use std::fs;
 use std::io::{self, Read};
 use std::test::Fail;
 
-/// The length of a file, and whether it is read.
+/// How many bytes a file has, and how many are read, or the fault.
 static SIZES: [(u64, Result<usize, FileFault>); 7] = [
     (0, Ok(0)),
     (5, Ok(5)),

@@ -1,4 +1,4 @@
-//! Large files, full months and long lists, none of which is refused for lack of memory.
+//! Tests of large files, full months and long lists, none of which is refused for lack of memory.
 use crate::calls::{Call, run};
 use crate::samples::{DAYS, MACHINE};
 use kd_desk::DeskFault::{self, Doubtful, File, Illegal};
@@ -21,14 +21,14 @@ fn padded(alloc: Global, comments: usize, file: &str) -> Result<String, AllocErr
     Ok(text)
 }
 
-/// What is appended to a machine file, and the fault that this makes.
+/// What is appended to a machine file, and the fault that the file then has.
 static BEHIND_MACHINES: [(&str, DeskFault); 3] = [
     ("x =", File(NotToml)),
     ("cables = [\"AB\", \"BC\"]\n", File(LetterTwice)),
     ("letters = \"AAAAA\"\n", File(NotToml)),
 ];
 
-/// What is appended to a sheet, and the fault that this makes.
+/// What is appended to a sheet, and the fault that the sheet then has.
 static BEHIND_SHEETS: [(&str, DeskFault); 3] = [
     ("x =", File(NotToml)),
     ("[[day]]\nday = 11\n", File(DayTwice(11))),
@@ -38,7 +38,7 @@ static BEHIND_SHEETS: [(&str, DeskFault); 3] = [
     ),
 ];
 
-/// Checks the answer of a call on these files, and what it writes.
+/// Checks what a call on these files returns and writes.
 fn ends(
     rt: &impl Abort,
     alloc: Global,

@@ -50,7 +50,7 @@ impl Write for Full {
     }
 }
 
-/// The size of a buffer, what a get answers, and whether a get has failed by then.
+/// The size of the buffer for a get, what the get returns, and whether a get has failed by then.
 type Get = (usize, Result<&'static [u8], Failed>, bool);
 
 /// Gets from a reader of the bytes ENIGMA.
@@ -71,7 +71,7 @@ static GETS_OF_INTERRUPTED: [Get; 4] = [
     (0, Ok(b""), true),
 ];
 
-/// Checks gets, one after another, on one source.
+/// Checks `gets`, one after another, on `source`.
 fn are_got<R: Read + Drop>(rt: &impl Abort, source: &mut ReaderSource<R>, gets: &[Get]) {
     let mut buffer = [0; 4096];
     for (size, got, failed) in gets {

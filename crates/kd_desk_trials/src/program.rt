@@ -90,7 +90,7 @@ fn with_long(long: &[u8]) -> [Held<'_>; 4] {
     ]
 }
 
-/// The machine to which the list leads.
+/// The machine file that `apply` writes for the list.
 const TURNED: &str = "version = 1
 model = \"Enigma I\"
 reflector = \"B\"

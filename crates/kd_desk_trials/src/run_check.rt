@@ -86,7 +86,7 @@ static CHECKED: [Cards; 18] = [
         &[("DAY 11", "DAY 8", Err(Doubtful(NotTheSheet)))],
     ),
     (Call::Check(8), PLUGGED, NoSettings, FAULTY_CABLES),
-    // Six settings are needed; the last of them is needed just once.
+    // Six settings are needed. Line 7 repeats the last of them, and is needless.
     (
         Call::Check(11),
         (M1, "AAAAA", "BBBBB"),

@@ -3,10 +3,10 @@ use kd_trials::named::TextName::{self, M1, M209};
 use kd_trials::texts;
 use std::alloc::{AllocError, Global};
 
-/// A text, a part of it, and the replacement for each place where the part is.
+/// A text, a part of it, and what replaces this part wherever the text has it.
 pub type Text = (TextName, &'static str, &'static str);
 
-/// The text with its part replaced.
+/// Returns the text with its part replaced.
 pub fn changed(alloc: Global, (name, old, new): &Text) -> Result<String, AllocError> {
     name.text().replace(alloc, old, new)
 }

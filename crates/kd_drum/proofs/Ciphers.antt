@@ -5,16 +5,16 @@ use Rattle.{kd_drum.specs.Laws.{ConverterCipherInTurn, ConverterTwiceGivesBack}}
 use Rattle.{std.proofs.lemmas.List.Elements.{All-head, All-tail}}
 use Rattle.std.{proofs.Common.{sym, take, zero, ℕ, ◌%◌, ◌++◌, ◌+◌, ◌-◌, ◌<◌, ◌∙◌, ◌∷◌, ◌≡◌}, specs.List.enumerate_from}
 
--- the letter that replaces a letter if `met` bars are met
+-- what `letter` is enciphered to if `met` bars are met
 abbrev pub reversed_by : ℕ → ℕ → ℕ
 reversed_by met letter = (25 + met - letter) % 26
 
--- the cipher of a text that begins after a number of letters
+-- the ciphertext of `text` if its first letter is enciphered after `start` other letters
 abbrev pub cipher_from : PinKey → ℕ → List ℕ → List ℕ
 cipher_from key start text =
     map (λ numbered. reversed_by (bars_met key numbered.0) numbered.1) (enumerate_from start text)
 
--- If as many bars are met again, the letter comes back.
+-- Enciphering the enciphered letter gives the letter back, if as many bars are met.
 reversed_twice : (met letter : ℕ) → letter < 26 → reversed_by met (reversed_by met letter) ≡ letter
 reversed_twice met letter lt = omega arith
 
@@ -29,7 +29,7 @@ twice_from key start (letter ∷ text) h =
 pub twice_gives_back : ConverterTwiceGivesBack
 twice_gives_back key text = twice_from key 0 text
 
--- A text that begins `m` letters later is enciphered with the key after `m` letters.
+-- Enciphering from `m` letters later is enciphering with the key after `m` letters.
 cipher_from-add : (key : PinKey) (m start : ℕ) (text : List ℕ)
     → cipher_from key (m + start) text ≡ cipher_from (pin_key_after key m) start text
 cipher_from-add key m start [] = refl
@@ -49,7 +49,8 @@ cipher_in_turn key first rest =
     ∙ ap (λ ls. converter_cipher key first ++ ls)
     (ap (λ n. cipher_from key n rest) (omega arith) ∙ cipher_from-add key (length first) 0 rest)
 
--- One more letter is enciphered, and the rest with the key that this letter leaves.
+-- Enciphering the letters from place `n` on is enciphering letter `n` in place, and then the letters after it with
+-- the key after one letter.
 pub converter_cipher-set : (key : PinKey) (text : List ℕ) (n d become : ℕ) → n < length text
     → converter_cipher key (get_or text n d ∷ []) ≡ become ∷ []
     → take n text ++ converter_cipher key (drop n text)

@@ -4,12 +4,13 @@ use Rattle.std.proofs.Common.{get_or, slice_index, refl, arith}
 use Rattle.{kd_drum.{proofs.Starts.each_wheel, specs.Converter.IsEachOnItsWheel}, kd_tables.specs.Rings.ring_of}
 use Rattle.std.proofs.{Math.Bool.beq, lemmas.Bool.Decides.nat_tests, lemmas.List.get_or_default}
 
--- The test of a letter in the list finds it on the wheel exactly if the wheel has it.
+-- If `has` is true exactly if `ring` has the letter at `place` of a list, the same holds of `letters`, which equals
+-- `ring`.
 pub on_wheel : (ring letters there : List ℕ) (place d : ℕ) (has : Bool) → ring ≡ letters → place < length there
     → (IsTrue has ↔ Contains ring (get_or there place d)) → IsTrue has ↔ Contains letters (slice_index there place)
 on_wheel ring letters there place d has same lt h = grind (arith, get_or_default)
 
--- No test of the six wheels fails if each wheel has its letter.
+-- Each wheel has its letter exactly if none of the six tests for this is false.
 pub none_fails : (letters : List ℕ) (h1 h2 h3 h4 h5 h6 : Bool)
     → (IsTrue h1 ↔ Contains (ring_of 1) (slice_index letters 0))
     → (IsTrue h2 ↔ Contains (ring_of 2) (slice_index letters 1))
@@ -22,7 +23,7 @@ pub none_fails : (letters : List ℕ) (h1 h2 h3 h4 h5 h6 : Bool)
 none_fails letters h1 h2 h3 h4 h5 h6 a b c d e f =
     grind (arith, nat_tests, each_wheel (λ wheel. Contains (ring_of wheel) (slice_index letters (wheel - 1))))
 
--- A wheel that has a letter of the list shows it once it is turned to this letter.
+-- A wheel that has the list's letter at `place` shows this letter after it is turned to it.
 pub shows_letter : (ring letters there : List ℕ) (place d shown : ℕ) → ring ≡ letters → place < length there
     → Contains letters (slice_index there place)
     → (Contains ring (get_or there place d) → shown ≡ get_or there place d) → shown ≡ slice_index there place

@@ -14,7 +14,7 @@ bit_is b n e = grind arith
 at_most_one : (b : Bool) → from_bool b ≤ 1
 at_most_one b = grind arith
 
--- The bit of each wheel is what its test says.
+-- The bit of each wheel is 1 exactly if its test is true.
 bits_are : (a1 a2 a3 a4 a5 a6 : Bool) (does : ℕ → Bool) → a1 ≡ does 1 → a2 ≡ does 2 → a3 ≡ does 3 → a4 ≡ does 4
     → a5 ≡ does 5 → a6 ≡ does 6
     → (wheel : ℕ) → 1 ≤ wheel → wheel ≤ 6 → eqb (set_of a1 a2 a3 a4 a5 a6 / 2 ^ (wheel - 1) % 2) 1 ≡ does wheel

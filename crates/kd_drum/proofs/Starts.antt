@@ -1,4 +1,4 @@
--- The wheels after a number of letters.
+-- What the wheels show, and which pins act, after a number of letters.
 use Rattle.std.proofs.Common.{◌≡◌, ℕ, ◌+◌, ◌-◌, ◌%◌, ◌<◌, ◌≤◌, Bool, ◌&&◌, ◌||◌, Option, unwrap_or, List, [], ◌∷◌}
 use Rattle.std.proofs.Common.{length, map, slice_index, slice_index_or, true, count_by, refl, sym, ap, ◌∙◌, arith, leb}
 use Rattle.kd_drum.specs.{Laws.ConverterKeyInTurn, SixWheels.AreSixWheels, SixWheels.IsPinWheel}
@@ -12,7 +12,7 @@ use Rattle.kd_pins.specs.PinWheels.{pin_wheels, pins_on, acting_offset, pin_whee
 use Rattle.kd_drum.specs.Converter.{PinKey, pin_key_turned, shown_place_in_key, is_acting_after, bars_met, letter_after}
 use Rattle.kd_drum.specs.Converter.{pin_key_after}
 
--- What holds for each of the six wheels holds for any wheel from 1 to 6.
+-- If `P` holds of 1, 2, 3, 4, 5 and 6, it holds of any wheel from 1 to 6.
 pub each_wheel : (P : ℕ → Type 0) → P 1 → P 2 → P 3 → P 4 → P 5 → P 6 → (wheel : ℕ) → 1 ≤ wheel → wheel ≤ 6 → P wheel
 each_wheel P e d g h o q wheel w y = grind arith
 
@@ -44,7 +44,7 @@ start_after key count wheel low high =
     ∙ ap (λ (found : Option ℕ). unwrap_or found 0)
     (letter_leads_to_place (pin_wheel_size wheel) (ring_of wheel) (is_ring wheel low high) place within)
 
--- Moving on in three steps is moving on by their sum.
+-- Moving on by `m`, `i` and `o` places, one after the other, is moving on by their sum, around `n` places.
 three_on : (s m i o n : ℕ) → ((s + m) % n + i + o) % n ≡ (s + (m + i) + o) % n
 three_on s m i o n = grind (arith, mod-add-mod (s + m) n (i + o))
 
@@ -62,7 +62,8 @@ key_in_turn key m n =
     ∙ letter_after_sum key m n (1 + i) (omega arith) (omega arith)
     ∙ sym (get_or-map-range_with_len whole 1 6 i (1 + i) 0 lt refl)))
 
--- Two tests of a wheel agree for any number if they agree for each of the six wheels.
+-- Two tests of a number, each joined with the test that the number is from 1 to 6, agree if they agree for the
+-- numbers from 1 to 6.
 alike_on_wheels : (wheel : ℕ) (x y : Bool) → (1 ≤ wheel → wheel ≤ 6 → x ≡ y)
     → ((leb 1 wheel && leb wheel 6) && x) ≡ ((leb 1 wheel && leb wheel 6) && y)
 alike_on_wheels wheel x y same = grind (arith, nat_tests, same)
@@ -84,7 +85,7 @@ bars_met_sum key m n = λ i. count_by (λ row. acts_after_sum key m n row.0 i ||
 
 -- ---- the wheels in the Converter
 
--- The place of the letter shown is the place that the wheel keeps.
+-- Looking up the place of the letter that a wheel shows gives the wheel's `place`.
 start_place : (number size : ℕ) (wheel : TurnedWheel) → IsPinWheel number size wheel
     → unwrap_or (place_on (ring_of number) (letter_shown wheel)) 0 ≡ wheel.place
 start_place number size wheel h =
@@ -93,13 +94,13 @@ start_place number size wheel h =
 size_is : (number size : ℕ) (wheel : TurnedWheel) → IsPinWheel number size wheel → pin_wheel_size number ≡ size
 size_is number size wheel h = sym (ap length h.ring) ∙ h.turned.ring.full
 
--- A wheel that is moved on by `count` places shows its letter after `count` letters.
+-- A wheel of the key shows `letter_after`, for `count` letters, once it is moved on by `count` places.
 shows_after : (key : PinKey) (number size count place : ℕ) (wheel : TurnedWheel) → IsPinWheel number size wheel
     → slice_index key.letters (number - 1) ≡ letter_shown wheel
     → (wheel.place + count) % size ≡ place → slice_index wheel.ring place ≡ letter_after key count number
 shows_after key number size count place wheel h shown e = grind (arith, size, size_is, start_place)
 
--- The acting pin of a wheel is the pin that acts after no letters.
+-- Whether the acting pin of a wheel is effective agrees with `is_acting_after` for 0 letters.
 pub acts_now : (key : PinKey) (number size : ℕ) (wheel : TurnedWheel) → IsPinWheel number size wheel
     → slice_index key.letters (number - 1) ≡ letter_shown wheel → pins_on key.pins number ≡ wheel.pins
     → is_acting_pin_effective size wheel
@@ -107,7 +108,7 @@ pub acts_now : (key : PinKey) (number size : ℕ) (wheel : TurnedWheel) → IsPi
     ((shown_place_in_key key number + 0 + acting_offset number) % pin_wheel_size number)
 acts_now key number size wheel h shown pins = grind (arith, key, start_place, size, size_is)
 
--- Moving each wheel on by `count` places makes the key after `count` letters.
+-- Moving each wheel on by `count` places gives the key after `count` letters.
 pub key_moved : (w1 w2 w3 w4 w5 w6 : TurnedWheel) (rows : List (ℕ × ℕ)) → AreSixWheels w1 w2 w3 w4 w5 w6
     → (count p1 p2 p3 p4 p5 p6 : ℕ)
     → (w1.place + count) % 26 ≡ p1 → (w2.place + count) % 25 ≡ p2 → (w3.place + count) % 23 ≡ p3
@@ -125,7 +126,7 @@ key_moved w1 w2 w3 w4 w5 w6 rows all count p1 p2 p3 p4 p5 p6 e1 e2 e3 e4 e5 e6 =
     let sixth = shows_after key 6 17 count p6 w6 all.sixth refl e6 in
     λ i. pin_key_turned key (first i ∷ second i ∷ third i ∷ fourth i ∷ fifth i ∷ sixth i ∷ [])
 
--- The key of the wheels is the key after no letters.
+-- The key after 0 letters is the key itself.
 pub key_stands : (w1 w2 w3 w4 w5 w6 : TurnedWheel) (rows : List (ℕ × ℕ)) → AreSixWheels w1 w2 w3 w4 w5 w6
     → converter_key w1 w2 w3 w4 w5 w6 rows ≡ pin_key_after (converter_key w1 w2 w3 w4 w5 w6 rows) 0
 key_stands w1 w2 w3 w4 w5 w6 rows all =

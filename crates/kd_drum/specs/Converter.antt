@@ -26,7 +26,7 @@ abbrev pub IsEachOnItsWheel : List ℕ → Type 0
 IsEachOnItsWheel letters = (wheel : ℕ) → 1 ≤ wheel → wheel ≤ 6
     → Contains (ring_of wheel) (slice_index letters (wheel - 1))
 
--- the place of the letter that a wheel shows at the start
+-- the place on a wheel of the letter that it shows by the key, or 0 if the wheel lacks the letter
 abbrev pub shown_place_in_key : PinKey → ℕ → ℕ
 shown_place_in_key key wheel = unwrap_or (place_on (ring_of wheel) (slice_index key.letters (wheel - 1))) 0
 
@@ -37,7 +37,7 @@ is_acting_after key count wheel =
     && is_effective (pins_on key.pins wheel)
     ((shown_place_in_key key wheel + count + acting_offset wheel) % pin_wheel_size wheel)
 
--- how many bars are met after `count` letters: those that read a wheel whose acting pin is effective
+-- how many bars are met after `count` letters: those with a lug at a wheel whose acting pin is effective
 abbrev pub bars_met : PinKey → ℕ → ℕ
 bars_met key count = count_by (λ row. is_acting_after key count row.0 || is_acting_after key count row.1) key.rows
 
@@ -47,11 +47,11 @@ abbrev pub converter_cipher : PinKey → List ℕ → List ℕ
 converter_cipher key text =
     map (λ numbered. (25 + bars_met key numbered.0 - numbered.1) % 26) (enumerate_from 0 text)
 
--- the letter that a wheel shows after `count` letters; it turns by one place for each
+-- the letter that a wheel shows after `count` letters; the wheel turns by one place for each letter
 abbrev pub letter_after : PinKey → ℕ → ℕ → ℕ
 letter_after key count wheel = slice_index (ring_of wheel)
     ((shown_place_in_key key wheel + count) % pin_wheel_size wheel)
 
--- the key after `count` letters
+-- the key after `count` letters have been enciphered
 abbrev pub pin_key_after : PinKey → ℕ → PinKey
 pin_key_after key count = pin_key_turned key (map (letter_after key count) pin_wheels)

@@ -12,7 +12,7 @@ is_in_set wheels wheel = (nat_le 1 wheel && nat_le wheel 6) && nat_eq (wheels / 
 abbrev pub bars_met_by : List (ℕ × ℕ) → ℕ → ℕ
 bars_met_by rows wheels = count_by (λ row. is_in_set wheels row.0 || is_in_set wheels row.1) rows
 
--- There are 27 bars, and `counts` has the number of bars met for each of the 64 sets.
+-- There are 27 bars, and `counts` has an entry for each of the 64 sets of wheels: how many bars are met.
 pub record AreCounts (rows : List (ℕ × ℕ)) (counts : List ℕ) : Type 0 where
   pub bars : length rows ≡ 27
   pub size : length counts ≡ 64

@@ -8,7 +8,8 @@ ConverterTwiceGivesBack =
     (key : PinKey) (text : List ℕ) → All (λ letter. letter < 26) text
     → converter_cipher key (converter_cipher key text) ≡ text
 
--- A text can be enciphered in pieces: each piece with the key that the piece before it leaves.
+-- Enciphering `first` followed by `rest` is enciphering `first`, and then `rest` with the key after the letters of
+-- `first`.
 abbrev pub ConverterCipherInTurn : Type 0
 ConverterCipherInTurn =
     (key : PinKey) (first rest : List ℕ)

@@ -38,7 +38,7 @@ impl Model for Converter {
 }
 
 impl Converter {
-    /// Sets up the machine with these pins, shown letters and readings of its bars.
+    /// Sets up a machine with the pins `pins`, showing `letters`, whose bars read as `rows`.
     ///
     /// Returns `NotOnWheel` if one of `letters` isn't on its wheel.
     pub fn new(
@@ -122,7 +122,9 @@ impl Converter {
         }
     }
 
-    /// The number of bars that the wheels meet at the next letter.
+    /// The number of bars that the wheels meet when the next letter is enciphered.
+    ///
+    /// A wheel meets a bar if the wheel's acting pin is effective and the bar has a lug at the wheel.
     pub fn met(&self) -> u8
         ensures value { result ≡ bars_met self.now 0 }
         ensures most { result ≤ 27 }

@@ -4,7 +4,7 @@ ghost use Rattle.kd_drum.specs.Counts.{AreCounts, is_in_set, bars_met_by};
 
 use kd_tables::Reading;
 
-/// For each set of wheels with an effective acting pin, counts the bars that these wheels meet.
+/// Counts, for each set of wheels, the bars met if just these wheels have an effective acting pin.
 ///
 /// A set is a sum: 1 for wheel 1, 2 for wheel 2, and so on up to 32 for wheel 6.
 pub(crate) fn count_bars_met(rows: &[Reading; 27]) -> [u8; 64]
@@ -30,7 +30,7 @@ fn bars_met_by(rows: &[Reading; 27], wheels: usize) -> u8
     met
 }
 
-/// Whether a bar that reads as `row` has a lug at a wheel of the set `wheels`.
+/// Whether a bar that reads as `row` is met: it has a lug at a wheel of the set `wheels`.
 fn is_met(row: Reading, wheels: usize) -> bool
     ensures { result ≡ (is_in_set wheels row.0 || is_in_set wheels row.1) }
 {

@@ -7,7 +7,7 @@ pub fn enciphering_twice_gives_back()
     ensures { ConverterTwiceGivesBack }
 {}
 
-/// A text can be enciphered piece by piece, each with the key that the piece before it leaves.
+/// A text can be enciphered in chunks, each with the key after the letters of the chunks before it.
 #[tactic(auto, using(crate::proofs::Ciphers::cipher_in_turn))]
 pub fn pieces_are_enciphered_in_turn()
     ensures cipher { ConverterCipherInTurn }

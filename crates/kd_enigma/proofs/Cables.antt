@@ -34,7 +34,7 @@ unfolding IsDistinct
 apart_tells [] = (λ _. tt, λ _. tt)
 apart_tells (pair ∷ pairs) = grind (arith, nat_tests, list_any-AllByRecursion, apart_tells pairs)
 
--- The two letters of a pair differ, and occur in none of the pairs.
+-- The two letters of `pair` differ, and occur in none of `pairs`.
 abbrev IsPairApart : List (ℕ × ℕ) → ℕ × ℕ → Type 0
 IsPairApart pairs pair = (eqb pair.0 pair.1 ≡ false) × (lies_in_pairs pair.0 pairs ≡ false)
     × (lies_in_pairs pair.1 pairs ≡ false)
@@ -187,7 +187,7 @@ exchanged_push [] pair x apart is = refl
 exchanged_push (first ∷ pairs) pair x apart is = grind
     (arith, nat_tests, exchanged_push pairs pair x, exchanged_free pairs x)
 
--- The table exchanges the letters of the pairs that are plugged so far.
+-- `board` is the table that exchanges the letters of `pairs`, the pairs plugged so far.
 pub record IsPlugged (board : List ℕ) (pairs : List (ℕ × ℕ)) : Type 0 where
   pub table : board ≡ exchange pairs
   pub apart : HaveNoLetterTwice pairs
@@ -197,7 +197,7 @@ pub is_plugged_none : (table : List ℕ) → table ≡ alphabet → IsPlugged ta
 unfolding exchange
 is_plugged_none table e = grind (arith, map-id, All-nil)
 
--- A letter that the table leaves occurs in none of the pairs.
+-- A letter that the plugboard of the pairs leaves as it is occurs in none of the pairs.
 left_free : (pairs : List (ℕ × ℕ)) (x : ℕ) → HaveNoLetterTwice pairs → x < 26 → slice_index (exchange pairs) x ≡ x
     → lies_in_pairs x pairs ≡ false
 left_free pairs x apart lt left = grind (arith, false_from_ne_true, exchanged_moves, exchange-at)
@@ -234,7 +234,7 @@ plugged_push table after pairs pair h can one_lt other_lt e =
     }
 
 module _ (all : List (ℕ × ℕ)) (place : ℕ) (table : List ℕ) (h : IsPlugged table (take place all)) where
-  -- After all pairs are plugged, the table is the table of the plugboard.
+  -- After all pairs are plugged, the table is the plugboard of these pairs, and no letter occurs in them twice.
   pub plugged_all : length all ≤ place → (table ≡ exchange all) × NoLetterTwice all × IsPlugboard table
   plugged_all past =
       let whole = subst (IsPlugged table) (take_all place all past) h in
@@ -248,7 +248,7 @@ module _ (all : List (ℕ × ℕ)) (place : ℕ) (table : List ℕ) (h : IsPlugg
     plugged_more after can low e =
         rw (take_more all place pair left, ← here) (plugged_push table after (take place all) pair h can low.0 low.1 e)
 
-    -- If no letter occurs twice, the two letters of the next pair are free.
+    -- If no letter occurs twice, the letters of the next pair differ, and neither is plugged yet.
     pub can_plug : NoLetterTwice all → (pair.0 < 26) × (pair.1 < 26)
         → (pair.0 ≢ pair.1) × IsFixedLetter table pair.0 × IsFixedLetter table pair.1
     can_plug once low =

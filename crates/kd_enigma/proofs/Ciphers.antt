@@ -7,20 +7,20 @@ use Rattle.{kd_step.specs.Stepper.{next_window, window_after}, kd_tables.specs.d
 use Rattle.std.proofs.Common.{rules, set, slice_index, suc, sym, take, zero, ℕ, ◌++◌, ◌+◌, ◌<◌, ◌∙◌, ◌∷◌, ◌≡◌}
 use Rattle.std.{proofs.lemmas.List.Elements.{All-head, All-tail}, specs.List.enumerate_from}
 
--- the letter that lights up after a number of steps, and the cipher of a text that begins after a number of
--- steps
+-- `lit_letter` is the letter that lights up after `steps` steps; `cipher_from` is the ciphertext of `text` if its
+-- first letter is enciphered after `start` steps
 abbrev lit_letter : RotorKey → ℕ → ℕ → ℕ
 lit_letter key steps letter = slice_index (path key (window_after key.wheels key.window steps)) letter
 
 abbrev cipher_from : RotorKey → ℕ → List ℕ → List ℕ
 cipher_from key start text = map (λ numbered. lit_letter key numbered.0 numbered.1) (enumerate_from start text)
 
--- The path doesn't depend on the window of the key, but on the window given.
+-- Turning a key's wheels doesn't change its path at the window `shown`.
 pub path_turned : (key : RotorKey) (window shown : List ℕ) → path (key_turned key window) shown ≡ path key shown
 unfolding path
 path_turned key window shown = refl
 
--- Enciphering twice from one start gives the text back.
+-- Enciphering a text, and then its ciphertext, both from the same start, gives the text back.
 twice_from : (key : RotorKey) (start : ℕ) (text : List ℕ) → IsPlugboard key.plugs
     → All (λ letter. letter < 26) text
     → cipher_from key start (cipher_from key start text) ≡ text
@@ -45,7 +45,7 @@ window_after_sum wheels window m (suc n) =
 pub key_in_turn : EnigmaKeyInTurn
 key_in_turn key m n = ap (key_turned key) (window_after_sum key.wheels key.window m n)
 
--- A text that begins `m` steps later is enciphered with the key after `m` steps.
+-- Enciphering from `m` steps later is enciphering with the key after `m` steps.
 cipher_from-add : (key : RotorKey) (m start : ℕ) (text : List ℕ)
     → cipher_from key (m + start) text ≡ cipher_from (key_after key m) start text
 cipher_from-add key m start [] = refl
@@ -63,7 +63,8 @@ cipher_in_turn key first rest =
     ∙ ap (λ ls. enigma_cipher key first ++ ls)
     (ap (λ n. cipher_from key n rest) (omega arith) ∙ cipher_from-add key (length first) 1 rest)
 
--- One more letter is enciphered, and the rest with the key that this letter leaves.
+-- Enciphering the letters from place `n` on is enciphering letter `n` in place, and then the letters after it with
+-- the key after one press.
 pub enigma_cipher-set : (key : RotorKey) (text : List ℕ) (n d light : ℕ) → n < length text
     → enigma_cipher key (get_or text n d ∷ []) ≡ light ∷ []
     → take n text ++ enigma_cipher key (drop n text)

@@ -3,7 +3,8 @@ use Rattle.std.proofs.Common.{◌≡◌, ℕ, zero, suc, ◌+◌, ◌<◌, ◌�
 use Rattle.std.{proofs.lemmas.Bool.cases_eq, specs.Array.IsFromFnResult, specs.Array.IsFromFnResultFrom}
 use denote.Param.Members.{Mut, Called}
 
--- Each element is what the call at its place returns, if no call changes the closure.
+-- If each call leaves the closure as it was and returns a value that satisfies `P` at its place, each element of
+-- the array satisfies `P` at its place.
 module _ {F B : Type 0} (g : Mut F (ℕ × Unit {0}) B) (f : F) (size : ℕ) (P : ℕ → B → Type 0)
     (step : (i : ℕ) (y : B) (q : F) → i < size → Called g f (i, tt) y q → (q ≡ f) × P i y) where
   made_from : (p : F) (ys : List B) (i n : ℕ) → p ≡ f → i + n ≤ size → IsFromFnResultFrom g p ys i n → (k : ℕ) (e : B)

@@ -7,14 +7,14 @@ use Rattle.std.proofs.lemmas.{Bool.cases_lt, List.FromFn.get_or-map-range_with_l
 use Rattle.std.proofs.lemmas.List.{ext_get_or, get_or-take, get_or_append_left, get_or-append_right, length-take-le}
 use Rattle.std.proofs.lemmas.Simd.{swz_l, SwzOk, SwzOk-from_below, Each1-from_get_or, length-swz_l, get_or-swz_l_below}
 
--- the lanes after the 26 letters
+-- each lane after the 26 letters holds its own number
 spare_at : (lanes : List ℕ) → length lanes ≡ 32 → (k : ℕ) → 26 ≤ k → k < 32
     → get_or (take 26 lanes ++ spare_lanes) k 0 ≡ k
 spare_at lanes size k low lt =
     get_or-append_right (take 26 lanes) spare_lanes 26 k 0 (length-take-le 26 lanes (omega arith)) low
     ∙ get_or-range_with_len 26 6 (k - 26) 0 (omega arith) ∙ omega arith
 
--- 26 lanes with letters, and six that map to themselves, are the lanes of a table.
+-- 26 lanes that hold letters, and then six that hold their own numbers, satisfy `AreLanes`.
 pub lanes_of : (lanes : List ℕ) → length lanes ≡ 32 → ((k : ℕ) → k < 26 → slice_index lanes k < 26)
     → ((k : ℕ) → 26 ≤ k → k < 32 → slice_index lanes k ≡ k) → AreLanes lanes
 lanes_of lanes size letters still =

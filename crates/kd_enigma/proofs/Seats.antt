@@ -1,4 +1,4 @@
--- The way around through the wheels in their slots, slot by slot, and the path that it makes.
+-- The path around through the wheels in their slots, slot by slot, and the whole path of the current.
 use Rattle.kd_enigma.proofs.Ways.{Exchanges, core_in_wheel, followed_by-assoc, core_in_wheels, nothing_after}
 use Rattle.kd_enigma.proofs.Ways.{nothing_before, path_is}
 use Rattle.std.proofs.Common.{List, [], ap, arith, get_or, if◌then◌else◌, length, ltb, refl, rules, suc, take, zero, ℕ}
@@ -10,7 +10,7 @@ use Rattle.kd_tables.{proofs.Products.{inverse_permutes, product_permutes, shift
 use Rattle.kd_tables.specs.{Permutation.{IsPermutation26, alphabet, followed_by, shift}, declared.wheel.Wheel.Wheel}
 use Rattle.std.proofs.{Common.{◌+◌, ◌-◌, ◌<◌, ◌∙◌, ◌∷◌, ◌≡◌}, lemmas.{Bool.Decides.nat_tests, List.take_all}}
 
--- The way around through one more wheel encloses the way around through the wheels before it.
+-- The path around through one more wheel is this wheel around the path through the wheels before it.
 pub around_more : (core : List ℕ) (seated : List SeatedWheel) (window : List ℕ) (slot : ℕ) (s : SeatedWheel)
     (letter : ℕ) → slot < length seated → length seated ≡ length window
     → s ≡ get_or seated slot s → letter ≡ get_or window slot letter
@@ -21,7 +21,8 @@ around_more core (t ∷ seated) (l ∷ window) (suc slot) s letter lt same is_s 
     grind (arith, around_more (around_wheel t.board core (rotor t.wheel t.ring l)) seated window slot s letter)
 around_more core seated window slot s letter lt same is_s is_letter = absurd (omega arith)
 
--- Wheel, ring and board of a slot are the key's. If this holds for each slot, the seated wheels are the key's.
+-- The wheel, the ring and the board in `slot` are the key's. If this holds for each slot, the seated wheels are
+-- those of the key.
 abbrev pub IsSeatedAs : List ℕ → List Wheel → List ℕ → ℕ → SeatedWheel → Type 0
 IsSeatedAs plugs wheels rings slot s =
     (s.wheel ≡ get_or wheels slot s.wheel) × (s.ring ≡ get_or rings slot s.ring)
@@ -42,7 +43,7 @@ are_seats plugs seated wheels rings long slots each = absurd (omega arith)
 
 -- ---- the path: only the right wheel lies beside the plugboard
 
--- Enclosing the core by wheel and board is enclosing it by the wheel, and then by the board.
+-- The path around a core through board and wheel is the path through the wheel, with the board before and after.
 board_last : (board core : List ℕ) (wheel : Wheel) (ring letter : ℕ) → IsPermutation26 board → Exchanges core
     → around_wheel board core (rotor wheel ring letter)
     ≡ followed_by board (followed_by (core_in_wheel core (rotor wheel ring letter)) board)
@@ -73,7 +74,7 @@ around_seats plugs core (wheel ∷ next ∷ wheels) (ring ∷ rings) (letter ∷
     (wheel_exchanges core wheel ring letter k) (omega arith) (omega arith) (omega arith)
 around_seats plugs core wheels rings window h k some slots shown = absurd (omega arith)
 
--- So the way around through the slow wheels, enclosed by the right wheel and the plugboard, is the path.
+-- So the whole path is the right wheel with the plugboard around the path through the slow wheels.
 pub IsWired-path : (key : RotorKey) (seated : List SeatedWheel) (reflecting slow_map path_map : List ℕ)
     (s : SeatedWheel)
     (shown size d : ℕ) → seated ≡ wheels_with_boards key.plugs key.wheels key.rings → IsPlugboard key.plugs

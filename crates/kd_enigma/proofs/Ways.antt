@@ -16,7 +16,7 @@ use Rattle.kd_enigma.specs.Cipher.{RotorKey, IsPlugboard, rotors, product, path}
 alphabet-at : (x : ℕ) → x < 26 → slice_index alphabet x ≡ x
 alphabet-at x lt = get_or-range_with_len 0 26 x 0 lt ∙ omega arith
 
--- a property of each letter holds of the whole alphabet
+-- if `P` holds of each letter, it holds of all items of `alphabet`
 pub each_letter : (P : ℕ → Type 0) → ((x : ℕ) → x < 26 → P x) → All P alphabet
 each_letter P h k d lt = subst P (sym (get_or-range_with_len 0 26 k d lt ∙ omega arith)) (h k lt)
 
@@ -44,7 +44,7 @@ pub followed_by-assoc : (p q r : List ℕ) → IsPermutation26 p → length q �
     → followed_by (followed_by p q) r ≡ followed_by p (followed_by q r)
 followed_by-assoc p q r h size = grind (arith, same_maps, product-size, product-at)
 
--- The permutation that leaves each letter changes no product.
+-- `alphabet`, which leaves each letter as it is, changes nothing as the first factor of a product.
 pub nothing_before : (p : List ℕ) → length p ≡ 26 → followed_by alphabet p ≡ p
 nothing_before p size =
     same_maps _ _ (product-size alphabet p) size
@@ -59,7 +59,7 @@ pub no_shift : shift 0 ≡ alphabet
 unfolding shift
 no_shift = refl
 
--- The inverse of a turned permutation is the inverse turned by as many places.
+-- The inverse of a wiring turned by `by` places is the inverse wiring, turned by `by` places.
 pub turned_undone : (by : ℕ) (p : List ℕ) → by < 26 → IsPermutation26 p
     → inverse (wiring_turned_by by p) ≡ wiring_turned_by by (inverse p)
 unfolding wiring_turned_by
@@ -106,8 +106,8 @@ boards_undo plugs board =
     let back = at_letter (λ x. slice_index plugs (slice_index plugs x) ≡ x) board.own_inverse in
     record { in_permutes = board.permutation; out_permutes = board.permutation; out = back; into = back }
 
--- In through a permutation, through a core that exchanges letters, and back through the inverse: this exchanges
--- letters.
+-- If a core exchanges letters, so does the path in through a permutation, through the core, and back through the
+-- inverse.
 Exchanges-conjugate : (there core back : List ℕ) → UndoEachOther there back → Exchanges core
     → Exchanges (followed_by there (followed_by core back))
 Exchanges-conjugate there core back undo h =
@@ -139,7 +139,8 @@ Exchanges-conjugate there core back undo h =
 
 -- ---- the way around
 
--- a core that a wheel encloses, and a core that wheels enclose from left to right
+-- the path in through a wheel, through `core`, and back; and the same through wheels from left to right, the first
+-- next to `core`
 abbrev pub core_in_wheel : List ℕ → List ℕ → List ℕ
 core_in_wheel core w = followed_by w (followed_by core (inverse w))
 

@@ -1,4 +1,5 @@
--- The path of the current around a core: in through wheels, through the core, and back. No public contract
+-- The path of the current around a core: in through wheels, through the core, and back. A core is the path
+-- further left: the reflector alone, or in through other wheels to the reflector, and back. No public contract
 -- cites this file.
 use Rattle.std.specs.Prelude.{ℕ, List, ◌∷◌, map}
 use Rattle.kd_tables.specs.Permutation.{alphabet, followed_by, inverse}
@@ -23,7 +24,7 @@ around_wheels core (s ∷ seated) (letter ∷ window) = around_wheels
     (around_wheel s.board core (rotor s.wheel s.ring letter)) seated window
 around_wheels core _ _ = core
 
--- for each window letter of a wheel: the permutation on the way in and the one on the way back, with the board
+-- for each letter in a wheel's window: the permutations on the way in and on the way back, each with the board
 abbrev pub ways_by_window : Wheel → ℕ → List ℕ → List (List ℕ × List ℕ)
 ways_by_window wheel ring board = map (λ window. let turns = rotor wheel ring window in
     (followed_by board turns, followed_by (inverse turns) board)) alphabet

@@ -1,4 +1,4 @@
--- The key of a rotor machine, at its start and after key presses.
+-- The key of a rotor machine, before and after key presses.
 -- Code: the machine's own fields.
 -- Test: the_rings_do_not_turn_the_notches
 use Rattle.std.specs.Prelude.{ℕ, List, [], ◌∷◌, ◌++◌, map, reverse, slice_index}

@@ -27,7 +27,8 @@ SamePairsExchangeAlike =
 -- ---- The laws of the path and of the cipher.
 -- Source: the published accounts of the current's path
 
--- The path takes each letter to another letter, and back again.
+-- The path, applied twice, gives each letter back (`PathsLeadBack`). It leaves no letter as it is
+-- (`PathsMoveEachLetter`).
 abbrev pub PathsLeadBack : Type 0
 PathsLeadBack = (key : RotorKey) (window : List ℕ) → IsPlugboard key.plugs → IsOwnInverse (path key window)
 
@@ -40,7 +41,8 @@ EnigmaTwiceGivesBack =
     (key : RotorKey) (text : List ℕ) → IsPlugboard key.plugs → All (λ letter. letter < 26) text
     → enigma_cipher key (enigma_cipher key text) ≡ text
 
--- A text can be enciphered in pieces: each piece with the key that the piece before it leaves.
+-- Enciphering `first` followed by `rest` is enciphering `first`, and then `rest` with the key after as many key
+-- presses as `first` has letters.
 abbrev pub EnigmaCipherInTurn : Type 0
 EnigmaCipherInTurn =
     (key : RotorKey) (first rest : List ℕ)

@@ -2,11 +2,11 @@
 use Rattle.std.specs.Prelude.{◌≡◌, ℕ, ◌<◌, List, ◌++◌, length, take, slice_index}
 use Rattle.std.specs.List.{range_with_len}
 
--- the six lanes after the 26 letters; each has its own number
+-- the six lanes after the 26 letters; each holds its own number
 abbrev pub spare_lanes : List ℕ
 spare_lanes = range_with_len 26 6
 
--- The first 26 lanes have letters, and the spare lanes follow.
+-- The first 26 lanes hold letters, and the six spare lanes follow.
 pub record AreLanes (lanes : List ℕ) : Type 0 where
   pub size : length lanes ≡ 32
   pub letters : (place : ℕ) → place < 26 → slice_index lanes place < 26

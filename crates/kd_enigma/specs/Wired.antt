@@ -8,18 +8,19 @@ use Rattle.kd_step.specs.Stepper.{Stepping}
 use Rattle.kd_enigma.specs.Around.{SeatedWheel, around_wheels}
 use Rattle.kd_enigma.specs.Cipher.{RotorKey, IsPlugboard, path}
 
--- all items but the last: those of the slow wheels, left of the right wheel
+-- the items of the slow wheels: all but the last item, which is the right wheel's
 abbrev pub slow_slots : {X : Type 0} → List X → List X
 slow_slots slots = take (length slots - 1) slots
 
--- The wheels in their slots. The plugboard is to the right of the last wheel, and no board is between wheels.
+-- The wheels in their slots, each with the board to its right: the plugboard for the last wheel, and for the
+-- others a permutation that changes nothing.
 abbrev pub wheels_with_boards : List ℕ → List Wheel → List ℕ → List SeatedWheel
 wheels_with_boards plugs (wheel ∷ []) (ring ∷ rings) = record { wheel = wheel; ring = ring; board = plugs } ∷ []
 wheels_with_boards plugs (wheel ∷ wheels) (ring ∷ rings) =
     record { wheel = wheel; ring = ring; board = alphabet } ∷ wheels_with_boards plugs wheels rings
 wheels_with_boards plugs _ _ = []
 
--- the key that these parts make
+-- the key of a machine with these parts
 abbrev pub key_of_parts : Stepping → List ℕ → Reflector → List ℕ → RotorKey
 key_of_parts stepper rings reflector plugs = record {
   wheels = stepper.wheels;
@@ -29,8 +30,9 @@ key_of_parts stepper rings reflector plugs = record {
   plugs = plugs;
 }
 
--- What the code keeps for a key: its wheels in their slots, and three permutations. These are the reflector's,
--- that of the path through the slow wheels, and that of the whole path at the letters that show.
+-- What the code keeps for a key: its wheels in their slots, and three permutations. `reflecting` is the
+-- reflector's, `slow_map` the path through the slow wheels, the reflector and back, and `path_map` the whole path
+-- while the key's window shows.
 pub record IsWired (key : RotorKey) (seated : List SeatedWheel) (reflecting slow_map path_map : List ℕ) : Type 0 where
   pub seats : seated ≡ wheels_with_boards key.plugs key.wheels key.rings
   pub board : IsPlugboard key.plugs

@@ -121,8 +121,8 @@ impl<const S: usize> Enigma<S> {
 
     /// Steps the wheels, and updates the permutations that depend on them.
     ///
-    /// The permutation of the slow wheels changes only if the second wheel from the right has moved. This
-    /// wheel moves whenever a wheel to its left does.
+    /// `slow_map` is the path through all wheels but the right one. It changes only if the second wheel from the
+    /// right has moved: this wheel moves whenever a wheel to its left does.
     fn step(&mut self)
         ensures { self.new ≡ key_after self.old 1 }
     {
@@ -145,7 +145,7 @@ impl<const S: usize> Enigma<S> {
     }
 }
 
-/// The permutation of all wheels but the right one: in through them, the reflector, and back.
+/// The path through all wheels but the right one: in through them, the reflector, and back.
 #[tactic(auto, using(crate::proofs::Seats::around_more))]
 fn around_slow<const S: usize>(rotors: &[Rotor; S], window: &[Letter; S], reflecting: Map) -> Map
     requires { 1 ≤ S }

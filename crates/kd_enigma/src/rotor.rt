@@ -56,7 +56,9 @@ impl Rotor {
         }
     }
 
-    /// Encloses `core`: in through board and wheel, through `core`, and back, while `window` shows.
+    /// The path around `core`: in through board and wheel, through `core`, and back, while `window` shows.
+    ///
+    /// `core` is the path further left: in to the reflector, and back.
     pub(crate) fn enclose(&self, core: Map, window: Letter) -> Map
         ensures { result ≡ around_wheel self.now.board core (rotor self.now.wheel self.now.ring window) }
     {

@@ -6,7 +6,7 @@ pub use Rattle.kd_form.proofs.Prelude.{take-append_seam, cases_lt, cases_eq, app
 pub use Rattle.kd_form.proofs.Prelude.{take-append-le, length-take, length-take-le, filter_map-append, All-nil}
 pub use Rattle.kd_form.proofs.Prelude.{All-push, ArrayVec, is_text_byte, Day, line_of, IsFirstPart, FormFault, Heading}
 pub use Rattle.kd_form.proofs.Prelude.{IsLineText, heading_words, letter_of_byte, letters_from, IsHeading}
-pub use Rattle.kd_form.proofs.Prelude.{BeginsHeading, Answer, IsBodyAnswer, HasHeading, IsExpectedCount, IsEarlyFault}
+pub use Rattle.kd_form.proofs.Prelude.{BeginsHeading, Result, HasFault, GoesOn, IsBodyAnswer, HasHeading, IsExpectedCount, IsEarlyFault}
 pub use Rattle.kd_form.proofs.Prelude.{InHeading, InNumber, InBody, IsPartFault, HoldsBody, IsBodyPlaintext}
 pub use Rattle.kd_form.proofs.Prelude.{HasBegunHeading, HoldsPart, HoldsStage, HoldsForm, IsHeadingFault}
 pub use Rattle.kd_form.proofs.Prelude.{HeadingMissing, HeadingOfOther, IsPartRead, PartOrder, plaintext_bytes}
@@ -52,7 +52,7 @@ first_longer part line body byte first =
       without = first.without;
     }
 
--- one more byte makes the last line longer; an LF begins an empty one
+-- one more byte makes the last line longer; an LF begins an empty line
 tail_more : (line body first now : List ℕ) (byte : ℕ) → HasTail line body first → (byte ≡ 10 → now ≡ [])
     → (byte ≢ 10 → now ≡ take 6 (first ++ byte ∷ [])) → HasTail line (body ++ byte ∷ []) now
 tail_more line body first now byte was ends longer = elim (cases_eq byte 10) [
@@ -110,10 +110,19 @@ are_shown others kept shown letters more few size is cut = elim (cases_lt 525 (l
   | inr short ↦ inl (grind (arith, take_all 525 (letters ++ more), take-append_seam letters, length-append letters))
 ]
 
-pub body_told : (s : Day) (h : Heading) (others : ℕ) (kept shown letters more : List ℕ) (v : Answer) → IsHeading s h
+pub body_told : (s : Day) (h : Heading) (others : ℕ) (kept shown letters more : List ℕ) (v : Result (List ℕ) FormFault) → IsHeading s h
     → others ≤ 4 → length more ≡ others → kept ≡ take 525 (letters ++ more) → shown ≡ take (length kept - others) kept
     → IsBodyAnswer s h.part h shown v → IsBodyAnswer s h.part h letters v
-body_told s h others kept shown letters more v is few size kept_is cut told = grind (arith, are_shown, at_most)
+body_told s h others kept shown letters more v is few size kept_is cut told =
+    elim (are_shown others kept shown letters more few size kept_is cut) [
+      | inl same ↦ subst (λ ls. IsBodyAnswer s h.part h ls v) same told
+      | inr long ↦ elim told [
+        | HasFault fault first fault_is ↦
+            HasFault fault ((λ _ counted. omega (arith, counted, long.1, at_most s h.letters is.letters)), first.1)
+            fault_is
+        | GoesOn _ counted next ↦ absurd (omega (arith, counted, long.0, at_most s h.letters is.letters))
+      ]
+    ]
 
 -- -------- a whole part
 
@@ -139,12 +148,35 @@ module _ (s : Day) (b : PartBody) (number : ℕ) (expected : Option ℕ) (part b
     (next : IsNext s b number expected part body more) where
   next_read : (made : List ℕ) → HoldsWithMore b (length more) (λ letters. IsBodyPlaintext s b.heading letters made)
       → (one : List ℕ) × IsPartRead s number b.heading.parts part one × (made ≡ plaintext_bytes s one)
-  next_read made told = grind (arith, told (letters_from None body) more refl next.kept)
+  next_read made told =
+      let (text, read, is) = told (letters_from None body) more refl next.kept in (
+        text,
+        record {
+          heading = b.heading;
+          body = body;
+          has = next.has;
+          numbered = next.numbered;
+          so_many = refl;
+          allowed = next.allowed;
+          read = subst (λ n. IsBodyAnswer s n b.heading (letters_from None body) (Ok text)) next.numbered read;
+        },
+        is,
+      )
 
   pub next_refused : (fault : FormFault)
       → HoldsWithMore b (length more) (λ letters. IsBodyAnswer s b.heading.part b.heading letters (Err fault))
       → (start : ℕ) → IsPartFault s number expected start part fault
-  next_refused fault told start = grind (arith, told (letters_from None body) more refl next.kept)
+  next_refused fault told start =
+      let found = told (letters_from None body) more refl next.kept in
+      inr (record {
+        heading = b.heading;
+        body = body;
+        has = next.has;
+        numbered = next.numbered;
+        due = next.due;
+        allowed = next.allowed;
+        found = subst (λ n. IsBodyAnswer s n b.heading (letters_from None body) (Err fault)) next.numbered found;
+      })
 
 -- a missing or wrong heading is an early fault of its part
 pub IsHeadingFault-IsEarlyFault : (s : Day) (number : ℕ) (expected : Option ℕ) (start : ℕ) (part : List ℕ)
@@ -189,7 +221,7 @@ module _ (s : Day) (r : FormReader) (form text : List ℕ) (h : HoldsForm s r fo
   abbrev pub here : PartStart
   here = reader_place r h.front
 
-  -- if the last part with more bytes is read up to `B`, so is the whole form with these bytes
+  -- if the last part with more bytes is read up to `B`, the whole form with these bytes is read up to `B`
   pub reaches : (B : PartsProperty) (more made letters : List ℕ) (parts : List (List ℕ))
       → parts_of (h.last ++ more) ≡ parts
       → ReadsPartsTo s B here parts letters → made ≡ plaintext_bytes s letters
@@ -209,7 +241,7 @@ module _ (s : Day) (r : FormReader) (form text : List ℕ) (h : HoldsForm s r fo
   abbrev IsHere : PartsProperty
   IsHere p parts = (p ≡ here) × (parts ≡ h.last ∷ [])
 
-  -- no fault stands at the part that is held, and parts that are read end before it
+  -- no fault stands at the part that the reader holds
   never_refused : (fault : FormFault) (p : PartStart) (parts : List (List ℕ)) → IsHere p parts
       → ¬ (IsPartFaultForGood s fault p parts)
   never_refused fault p parts (there, alone) stands =
@@ -325,7 +357,7 @@ module _ (s : Day) (r : FormReader) (form text : List ℕ) (h : HoldsForm s r fo
       → HoldsForm s (reader_after r stage) (form ++ byte ∷ []) (text ++ made)
   grows stage made byte none one there = grind (arith, append_assoc, append-nil, length-append)
 
-  -- if a fault stands at the last part with more bytes, the form with these bytes is refused
+  -- if a fault stands at the last part once more bytes have come, the form with these bytes is refused
   pub refused_at : (fault : FormFault) (more part : List ℕ) (others : List (List ℕ))
       → cut_at_headings (h.last ++ more) ≡ (part, others)
       → IsPartFaultForGood s fault (here s r form text h) (part ∷ others)

@@ -1,4 +1,4 @@
--- The text of a part gives back its letters, and an order's form the order's letters.
+-- A part as it is written gives back its letters, and an order's form the letters of the order.
 pub use Rattle.kd_form.proofs.Prelude.{OrdersGiveLetters, append-nil, take-append-drop, IsWithout, ◌≡◌, ℕ, zero, suc}
 pub use Rattle.kd_form.proofs.Prelude.{◌+◌, ◌<◌, ◌≤◌, List, [], ◌∷◌, ◌++◌, length, take, drop, refl, sym, ap, subst}
 pub use Rattle.kd_form.proofs.Prelude.{◌∙◌, append_assoc, length-drop, arith, map, All, IsTrue, Some, None, flat_map}
@@ -12,6 +12,7 @@ pub use Rattle.kd_form.proofs.Prelude.{IsLegalDay, Keys, plaintext_with_end, sen
 pub use Rattle.kd_form.proofs.Prelude.{FormsGiveTheirOrders, KeysSuitDay, part_size, fill_last_group, IsBodyAnswer, Ok}
 pub use Rattle.kd_form.proofs.Prelude.{IsPartRead, blank_of, text_letters, ArePartTextsMade, ReadsPartsTo}
 pub use Rattle.kd_form.proofs.Prelude.{first_part_start, AreAllPartsRead, IsExpectedCount, take-append_seam, All-more}
+pub use Rattle.kd_form.proofs.Prelude.{GoesOn}
 use Rattle.kd_form.proofs.Headings.{allowed_one, at_cut, cut_behind, ended_heading, has_byte, plain_heading}
 use Rattle.kd_form.proofs.Headings.{words_begin, one_byte}
 use Rattle.kd_form.proofs.MadeParts.{pieces-next, pieces-none, more_pieces, IsPiece, GivesBack, part_gives_back}
@@ -23,8 +24,8 @@ use Rattle.kd_form.proofs.{Lines.AreAllowed, Lines.IsWithout-plain, OneOrder.all
 abbrev pub AreOfTheAlphabet : List ℕ → Type 0
 AreOfTheAlphabet letters = All (λ letter. letter < 26) letters
 
--- induction by pieces: `P` holds of all letters if it holds of none, and holds of letters whenever it holds
--- of the letters after their first piece
+-- induction by pieces of `size` letters: `P` holds of all lists of letters if it holds of none, and of any
+-- letters whenever it holds of those after their first piece
 by_length : (size : ℕ) (P : List ℕ → Type 0) → 0 < size → P []
     → ((letters : List ℕ) → 0 < length letters → P (drop size letters) → P letters)
     → (most : ℕ) (letters : List ℕ) → length letters ≤ most → P letters
@@ -60,7 +61,8 @@ gives_word (l ∷ letters) are =
       gives = ap (λ found. cons_option found []) told.1;
     }) (gives_word letters (All-tail (λ x. x < 26) l letters are))
 
--- a word, a byte that gives no letter, and a rest give the letters of the word and of the rest
+-- a word, then a byte that gives no letter, then a rest: together they give the letters of the word and of
+-- the rest
 gives_after : (byte : ℕ) (word letters rest more : List ℕ) → IsTrue (is_text_byte byte)
     → letters_from None (byte ∷ []) ≡ [] → Gives word letters
     → Gives rest more → Gives (word ++ byte ∷ rest) (letters ++ more)
@@ -74,7 +76,7 @@ gives_words word letters [] more a b =
 gives_words word letters (next ∷ words) more a b =
     gives_after 32 word letters (line_of (next ∷ words)) more refl refl a b
 
--- if writing a piece before others adds just the letters of the piece, the pieces together give all letters
+-- if writing a piece before other pieces adds just its letters, the pieces written together give all letters
 gives_pieces : (size : ℕ) (whole : List (List ℕ) → List ℕ) → 0 < size → whole [] ≡ []
     → ((piece : List ℕ) (others : List (List ℕ)) (more : List ℕ) → AreOfTheAlphabet piece → Gives (whole others) more
     → Gives (whole (piece ∷ others)) (piece ++ more))
@@ -98,7 +100,7 @@ gives_body = gives_pieces 50 (flat_map (λ line. line_then (letter_groups line) 
 
 -- ---- the lines of a body
 
--- an LF and the lines of a body end in LF
+-- an LF and then the lines of a body end in LF, even if there are no lines
 lines_end : (items : List (List ℕ))
     → (front : List ℕ) × (10 ∷ flat_map (λ line. line_then (letter_groups line) []) items ≡ front ++ 10 ∷ [])
 lines_end [] = ([], refl)
@@ -106,7 +108,7 @@ lines_end (item ∷ items) =
     let (front, is) = lines_end items in
     (10 ∷ (line_of (letter_groups item) ++ front), grind (arith, append_assoc, is))
 
--- -------- a part as it is written: its heading, and where it ends in what it begins
+-- -------- a part as it is written: its heading, and where it ends in a form that begins with it
 
 -- a written part has its heading and its body
 pub part_has_heading : (s : Day) (made : Part) → IsHeading s made.heading
@@ -236,7 +238,7 @@ parts_are_given_back s part parts (k ∷ keys) (piece ∷ pieces) form legal are
       allowed = given.allowed;
       read =
           subst (λ ls. IsBodyAnswer s part made.heading ls (Ok (sent_letters s piece))) (sym given.gives)
-          (inr (back.counted, back.read));
+          (GoesOn tt back.counted back.read);
     } in
     rw (joined, written) (record {
       texts = part_text made ∷ rest.texts;

@@ -1,4 +1,5 @@
--- How a form is divided into parts, also with more bytes; and the heading line with which a part begins.
+-- How a form is divided into parts, and what more bytes change in this; and the heading line that begins a
+-- part.
 pub use Rattle.kd_form.proofs.Prelude.{IsNumeralModel-digits, common_steps, ◌≡◌, ◌≢◌, ◌⊎◌, inl, inr, ℕ, ◌<◌, ◌≤◌, List}
 pub use Rattle.kd_form.proofs.Prelude.{[], ◌∷◌, ◌++◌, length, get_or, take, drop, refl, sym, ap, ◌∙◌, append_assoc}
 pub use Rattle.kd_form.proofs.Prelude.{length-append, length-take, arith, codes, All-head, All-tail, All-get_or, IsTrue}
@@ -93,14 +94,14 @@ may_begin bytes (inr begun) = ([], rw (append-nil bytes) begun)
 fits_there : (bytes : List ℕ) (place : ℕ) → BeginsHeading bytes → FitsHeadingAt place (get_or bytes place 0)
 fits_there bytes place begun = grind (arith, common_steps, BeginsHeading-bytes bytes begun, get_or-take 5 bytes place 0)
 
--- bytes that may begin a heading still may after a byte that fits
+-- if the bytes can begin a heading, and a byte fits after them, they can do so with this byte too
 pub HasBegunHeading-snoc : (part line : List ℕ) (byte : ℕ) → line ≡ take 64 part → HasBegunHeading part
     → FitsHeadingAt (length line) byte
     → HasBegunHeading (part ++ byte ∷ [])
 HasBegunHeading-snoc part line byte e d g = grind
     (arith, common_steps, begins_more, length-take, take_more, BeginsHeading-digit)
 
--- after a byte that doesn't fit, the bytes begin no heading
+-- after a byte that doesn't fit, the bytes can't begin a heading
 pub not_begun : (part line : List ℕ) (byte : ℕ) → line ≡ take 64 part → ¬ (FitsHeadingAt (length line) byte)
     → (length part < 6) × ((more : List ℕ) → ¬ (BeginsHeading ((part ++ byte ∷ []) ++ more)))
 not_begun part line byte kept off =
@@ -156,7 +157,7 @@ first_done (byte ∷ bytes) some =
 
 -- ---- one more byte of the last part
 
--- bytes without LF before others belong to the first part
+-- bytes without LF at the beginning belong to the first part
 pub cut_behind : (line bytes : List ℕ) → IsWithout 10 line
     → cut_at_headings (line ++ bytes) ≡ (line ++ (cut_at_headings bytes).0, (cut_at_headings bytes).1)
 cut_behind [] bytes unbroken = refl
@@ -201,7 +202,7 @@ first_more (x ∷ front) tail byte unbroken none not =
           unbroken,
     )
 
--- the digit of a heading ends the part before it
+-- the first digit of a heading ends the part before it
 pub first_ends : (front more : List ℕ) (digit : ℕ) → (cut_at_headings (front ++ 10 ∷ codes "PART ")).1 ≡ [] → 48 ≤ digit
     → digit ≤ 57
     → cut_at_headings (front ++ 10 ∷ (codes "PART " ++ digit ∷ more))
@@ -421,7 +422,7 @@ pub heading_there : (s : Day) (front body : List ℕ) (h : Heading) (rest : List
     → HasHeading s (front ++ 10 ∷ body) h rest → IsLineText front (line_of (heading_words h)) × (rest ≡ body)
 heading_there s front body h rest unbroken has = grind (arith, texts_tell_first_parts, has_byte)
 
--- a line has one text without its CR
+-- only one text is the line without its CR
 one_line_text : (line text other : List ℕ) → IsLineText line text → IsLineText line other → text ≡ other
 one_line_text line text other e d = grind (arith, append_cancel_right)
 
@@ -466,13 +467,13 @@ ended_told s found part line text (Some h) has cut told unbroken kept =
 
 -- -------- a part has one heading, and one body
 
--- equal line ends have the same count of letters and the same indicator
+-- if the ends of two heading lines are equal, so are their counts of letters and their indicators
 one_end : (s : Day) (count found : ℕ) (i j : Option Indicator) → count < 2 ^ 64 → found < 2 ^ 64 → HasIndicator s i
     → HasIndicator s j → line_of (decimal count ∷ indicator_words i) ≡ line_of (decimal found ∷ indicator_words j)
     → (count ≡ found) × (i ≡ j)
 one_end (OfRotors s) count found (Some i) (Some j) small little has had same =
     let counts = one_number count found 32 _ _ small little (omega arith) same in
-    let starts = same_word i.ground j.ground _ _ counts.1 in
+    let starts = same_word i.ground_setting j.ground_setting _ _ counts.1 in
     grind (arith, counts.0, starts.0, same_letters i.enciphered_key j.enciphered_key starts.1)
 one_end s count found None None small little has had same = (decimal_injective count found small little same, refl)
 one_end (OfRotors s) count found _ _ small little has had same = search

@@ -21,7 +21,7 @@ abbrev pub IsNotFirst : {X : Type 0} → (X → Type 0) → List X → Type 0
 IsNotFirst P [] = Unit {0}
 IsNotFirst P (x ∷ xs) = ¬ (P x)
 
--- two prefixes of one list, up to the first item without the property, are the same
+-- two prefixes of one list, each up to the first item without the property, are equal
 pub same_front : {X : Type 0} (P : X → Type 0) (front other rest more : List X) → All P front → All P other
     → IsNotFirst P rest → IsNotFirst P more → front ++ rest ≡ other ++ more → (front ≡ other) × (rest ≡ more)
 same_front P [] [] rest more all alls off none same = (refl, same)
@@ -36,7 +36,7 @@ same_front P (x ∷ front) (y ∷ other) rest more all alls off none same =
 abbrev pub IsPlain : List ℕ → Type 0
 IsPlain text = All (λ byte. 32 ≤ byte) text
 
--- a literal text is plain if the computed test passes
+-- a text is plain if a computed test finds no byte below 32
 pub plain_text : (text : List ℕ) → list_all (λ b. nat_le 32 b) text ≡ true → IsPlain text
 plain_text text passes =
     All-weaker (λ b. IsTrue (nat_le 32 b)) (λ b. 32 ≤ b) (λ b told. grind (arith, nat_tests)) text
@@ -60,7 +60,7 @@ IsWithout-plain byte text low plain =
 pub head_unbroken : IsWithout 10 (codes "PART ")
 head_unbroken = IsWithout-plain 10 (codes "PART ") (omega arith) (plain_text (codes "PART ") refl)
 
--- a line is whole if fewer than `n` bytes of it were kept
+-- what is kept of a line is the whole line if it has fewer than `n` bytes
 pub whole_line : (n : ℕ) (part line : List ℕ) → line ≡ take n part → length line < n → line ≡ part
 whole_line n part line kept short = kept ∙ take_all n part (omega (arith, ap length kept, length-take n part))
 
@@ -95,7 +95,7 @@ line_less mark byte pattern letters bytes is =
 AreLetters-nil : AreLetters 0 []
 AreLetters-nil = record { count = refl; within = All-nil (λ l. l < 26) }
 
--- if the bytes have ended, they are a prefix of a line: the letter A fills each place left
+-- no bytes at all are a prefix of a line that fits: the letter A fills each place for a letter
 pub line_open : (pattern bytes : List ℕ) → length bytes ≡ 0 → IsUnread (IsPatternLine pattern) bytes Incomplete
 line_open pattern bytes none =
     let others : List ℕ = replicate (blank_count pattern) 0 in
@@ -110,7 +110,7 @@ line_open pattern bytes none =
       (others, record { are_letters = are; ended = inl refl }),
     )
 
--- bytes with a byte that doesn't fit its mark begin no line
+-- if the first byte doesn't fit its mark, no line of the pattern begins with the bytes
 pub line_off : (mark byte : ℕ) (marks rest pattern bytes : List ℕ) → pattern ≡ mark ∷ marks → bytes ≡ byte ∷ rest
     → fits_mark mark byte ≡ false → IsUnread (IsPatternLine pattern) bytes Mismatch
 line_off mark byte marks rest pattern bytes first next unfit = grind (arith, false≢true, line_less)
@@ -140,7 +140,7 @@ line_on mark byte marks rest pattern bytes old now new (Err Incomplete) first ne
 line_on mark byte marks rest pattern bytes old now new (Err Mismatch) first next fit put none =
     rw (first, next) (λ more line. none more (line_less mark byte marks line.0 (rest ++ more) line.1).1)
 
--- at the end of the pattern, the answer says whether the bytes are a line end
+-- at the end of the pattern, the answer depends on whether the bytes are a line end
 pub line_ends : (pattern bytes letters : List ℕ) (answer : Result (Unit {0}) Unread) → length pattern ≡ 0
     → MatchResult answer (λ _. IsLineWithEnd [] bytes) (IsUnread (IsLineWithEnd []) bytes)
     → MatchResult answer (λ _. AreLettersAppended pattern bytes letters letters)
@@ -152,7 +152,7 @@ line_ends [] bytes letters (Err Incomplete) none (more, some, ended) =
 line_ends [] bytes letters (Err Mismatch) none off = λ more line. off more line.1.ended
 line_ends (mark ∷ pattern) bytes letters answer none told = absurd (omega arith)
 
--- no bytes, or CR alone, are a prefix of a line end
+-- no bytes at all, and CR alone, are prefixes of a line end
 pub end_open : (bytes : List ℕ) → length bytes < 2 → (1 ≤ length bytes → get_or bytes 0 0 ≡ 13)
     → IsUnread (IsLineWithEnd []) bytes Incomplete
 end_open [] few first = (10 ∷ [], (λ none. cc), inl refl)
@@ -161,7 +161,7 @@ end_open (a ∷ bytes) few first = (10 ∷ [], (λ none. cc), inr (grind (arith,
 pub end_off : (bytes more : List ℕ) → 3 ≤ length bytes → ¬ (IsLineWithEnd [] (bytes ++ more))
 end_off bytes more long ended = grind (arith, length-append {A = ℕ})
 
--- -------- lines of keys, as forms with letters
+-- -------- lines of keys, as patterns filled with letters
 
 blanks-places : (n : ℕ) (other : List ℕ) → blank_count (blank_places n ++ other) ≡ n + blank_count other
 blanks-places zero other = omega arith
@@ -205,7 +205,7 @@ keys_exist (OfRotors s) letters are =
     let (start, others) = letters_cut slots (slots + (2 + 3)) letters (rw (rotor_blanks slots) at are) in
     let (key, last) = letters_cut slots (2 + 3) (drop slots letters) others in
     let (fillers, group) = letters_cut 2 3 (drop slots (drop slots letters)) last in
-    (Rotor _, record { ground = start; message_key = key; fillers = fillers; group = group }, simp take-append-drop)
+    (Rotor _, record { ground_setting = start; message_key = key; fillers = fillers; group = group }, simp take-append-drop)
 keys_exist (OfPins s) [] are = absurd (omega (arith, are.count))
 keys_exist (OfPins s) (l ∷ letters) are =
     (Pin (record { chosen = l; external = letters }), grind (arith, letters_cut 1 6 (l ∷ letters), All-head), refl)

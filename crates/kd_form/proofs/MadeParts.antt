@@ -15,7 +15,7 @@ pub use Rattle.kd_form.proofs.Prelude.{pin_indicators, fill_last_group, sheet_ke
 pub use Rattle.kd_form.proofs.Prelude.{drop-append_seam, HasIndicator, deciphered_key, HasIndicatorsAround}
 pub use Rattle.kd_form.proofs.Prelude.{group_of_body, keys_of_body, list_of_body, text_of_body, IsLettersAnswer, Ok}
 pub use Rattle.kd_form.proofs.Prelude.{All-append, All-cons, All-replicate, twice_on_key, IsFraction, IsHeading}
-pub use Rattle.kd_form.proofs.Prelude.{sent_letters, AreKeys, nat_tests, AreRising}
+pub use Rattle.kd_form.proofs.Prelude.{sent_letters, AreKeys, nat_tests, AreRising, GoesOn}
 use Rattle.{kd_enigma.specs.Cipher.{path, product}}
 use Rattle.{kd_state.specs.TwoCiphers.{EngineKey, engine_key_after, key_with_window}}
 use Rattle.{kd_form.specs.Making.IsTurnedFrom, kd_tables.specs.{Permutation.{alphabet, followed_by}, Rings.ring_of}}
@@ -28,7 +28,7 @@ enciphered_length s window text = grind (arith, length-map, length-enumerate_fro
 pub letter_read : (table : List ℕ) (place : ℕ) → All (λ letter. letter < 26) table → slice_index table place < 26
 letter_read table place letters = grind (arith, cases_lt, All-get_or {X = ℕ}, get_or-eq_default {A = ℕ})
 
--- each entry of a product is a letter
+-- each entry of `product ps` is a letter
 product_letters : (ps : List (List ℕ)) → All (λ letter. letter < 26) (product ps)
 unfolding product followed_by
 product_letters [] =
@@ -66,9 +66,9 @@ own_when_left (OfRotors s) key left window count (shown, is) left_is =
 own_when_left (OfPins s) key left window count (shown, is) left_is =
     (_, left_is ∙ ap (λ k. engine_key_after (key_with_window k window) count) is)
 
--- -------- striking out letters finds the first rising places, letter by letter and wheel by wheel
+-- -------- skipping letters finds the first rising places, letter by letter and wheel by wheel
 
--- rising places from `start` on, whose letters are on the wheels from `wheel` to the sixth
+-- a pick: rising places from `start` on, whose letters are on the wheels from `wheel` to the sixth
 abbrev pub Picks : List ℕ → ℕ → ℕ → List ℕ → Type 0
 Picks letters wheel start [] = wheel ≡ 7
 Picks letters wheel start (place ∷ places) =
@@ -102,7 +102,7 @@ module _ (letters : List ℕ) (wheel start : ℕ) (inside : start < length lette
   none_on less none (other ∷ others) (after, within, on, more) =
       none others (Picks-earlier letters (wheel + 1) (other + 1) (start + 1) others (omega arith) more)
 
-  -- if the letter at `start` isn't on the wheel, each pick begins later
+  -- if the letter at `start` isn't on the wheel, each pick begins after `start`
   later : (places : List ℕ) → ¬ (Contains (ring_of wheel) (slice_index letters start))
       → Picks letters wheel start places → Picks letters wheel (start + 1) places
   later [] off picks = picks
@@ -236,7 +236,7 @@ pub has_internal : (s : Day) (k : PinKeys) → KeysSuitDay s (Pin k)
     → (internal : List ℕ) × IsInternalKey (enciphered_choice s k) internal
 has_internal s k suits = grind arith
 
--- the deciphered message key is a window
+-- the deciphered message key can show in the windows
 pub key_is_window : (s : Day) (i : Indicator) (key : List ℕ) → HasIndicator s (Some i) → key ≡ deciphered_key s i
     → All (λ l. l < 26) key → IsWindow (sheet_key s) key
 key_is_window s i key has is within = grind (arith, enciphered_length, length-map)
@@ -308,8 +308,8 @@ part_gives_back (OfRotors s) part parts (Rotor k) piece made legal are suits fra
       are.fillers.count,
       are.group.count,
     ) in
-    let key : cipher_from day k.ground (cipher_from day k.ground k.message_key) ≡ k.message_key =
-    twice_on_key day k.ground k.message_key legal are.message_key.within in
+    let key : cipher_from day k.ground_setting (cipher_from day k.ground_setting k.message_key) ≡ k.message_key =
+    twice_on_key day k.ground_setting k.message_key legal are.message_key.within in
     let text : cipher_from day k.message_key enciphered
     ≡ piece = twice_on_key day k.message_key piece legal is.within in
     let placed = rotor_places k.fillers k.group enciphered are.fillers.count are.group.count in
@@ -317,15 +317,15 @@ part_gives_back (OfRotors s) part parts (Rotor k) piece made legal are suits fra
       is_heading = grind (
         arith,
         count,
-        enciphered_length day k.ground k.message_key,
-        enciphered_letters day k.ground
+        enciphered_length day k.ground_setting k.message_key,
+        enciphered_letters day k.ground_setting
             k.message_key,
       );
       numbered = refl;
       so_many = refl;
       within = grind (arith, All-append (λ letter. letter < 26), are, enciphered_letters day k.message_key piece);
       counted = refl;
-      read = inr (rw (placed.0) suits, grind (arith, placed, key, text));
+      read = GoesOn tt (rw (placed.0) suits) (grind (arith, placed, key, text));
     })
 part_gives_back (OfPins s) part parts (Pin k) piece made legal are suits fraction is (internal, first, makes) =
     let day : Day = OfPins s in
@@ -361,11 +361,12 @@ part_gives_back (OfPins s) part parts (Pin k) piece made legal are suits fractio
       counted = refl;
       read =
           let placed = pin_places k k.external (list_letters day) enciphered refl are.external.count legal.list.count in
-          let Picks-on_wheels = subst (λ (x : PinKeys). IsWindow (sheet_key day) x.external) placed.keys suits.0 in
+          let on_wheels = subst (λ (x : PinKeys). IsWindow (sheet_key day) x.external) placed.keys suits.0 in
           let best = subst (λ (x : PinKeys). IsInternalKey (enciphered_choice day x) internal) placed.keys first in
           let is =
           sym (twice_on_key day internal (fill_last_group piece) legal inner)
           ∙ ap (cipher_from day internal) placed.text_is in
-          inr (placed.around, inr (Picks-on_wheels, inr (sym placed.listed, inr (internal, best, ap Ok is))));
+          GoesOn tt placed.around
+          (GoesOn tt on_wheels (GoesOn tt (sym placed.listed) (GoesOn internal best (ap Ok is))));
     })
 part_gives_back _ part parts _ piece made legal are suits fraction is makes = absurd suits

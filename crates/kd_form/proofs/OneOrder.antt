@@ -8,10 +8,30 @@ pub use Rattle.kd_form.proofs.Prelude.{BeginsWithKeys, IsOrder, IsOrderHead, IsO
 pub use Rattle.kd_form.proofs.Prelude.{enciphered_choice, part_size, KeysSuitDay, pieces, ArePartTextsMade}
 pub use Rattle.kd_form.proofs.Prelude.{text_letters, parts_needed, IsFirstBadByteAt, IsKeysFault, IsFirstKeysFault}
 pub use Rattle.kd_form.proofs.Prelude.{IsOrderFaultForGood, InHead, InKeys, InText, HeadCutShort, NoLetter, InParts}
-pub use Rattle.kd_form.proofs.Prelude.{IsSendFault, IsSendable, IsFormOf, Answer, UnlessFoundThen, FindsThen}
-pub use Rattle.kd_form.proofs.Prelude.{DemandsThen, false≢true, FormFault, BadByte, EmptyText, PartKeys}
+pub use Rattle.kd_form.proofs.Prelude.{IsSendFault, IsSendable, IsFormOf, Result}
+pub use Rattle.kd_form.proofs.Prelude.{false≢true, FormFault, BadByte, EmptyText, PartKeys}
 pub use Rattle.kd_form.proofs.Prelude.{nil_from_length, length-append}
 use Rattle.kd_form.proofs.Lines.{same_front, plain_keys, key_first, text_front, same_line, plain_text}
+
+-- the answer of a reader: letters, or a fault
+abbrev pub Answer : Type 0
+Answer = Result (List ℕ) FormFault
+
+-- some `x` satisfies `Has`, and the answer satisfies `Later x`
+abbrev pub FindsThen : {X V : Type 0} → (X → Type 0) → (X → V → Type 0) → V → Type 0
+FindsThen {X} Has Later v = (x : X) × Has x × Later x v
+
+-- the answer is `refusal` where `none` holds; otherwise some `x` satisfies `Has`, and the answer satisfies `Later x`
+abbrev pub FindsOrFaultThen : {X V : Type 0} → (X → Type 0) → Type 0 → V → (X → V → Type 0) → V → Type 0
+FindsOrFaultThen Has none refusal Later v = (none × (v ≡ refusal)) ⊎ FindsThen Has Later v
+
+-- the answer is `refusal` unless `Holds`; otherwise it satisfies `Later`
+abbrev pub DemandsThen : {V : Type 0} → Type 0 → V → (V → Type 0) → V → Type 0
+DemandsThen Holds refusal Later v = (¬ Holds × (v ≡ refusal)) ⊎ (Holds × Later v)
+
+-- some `x` satisfies `Has`, and the answer is its refusal; or `Holds`, and the answer satisfies `Later`
+abbrev pub UnlessFoundThen : {X V : Type 0} → (X → Type 0) → (X → V) → Type 0 → (V → Type 0) → V → Type 0
+UnlessFoundThen Has refusal Holds Later v = FindsThen Has (λ x w. w ≡ refusal x) v ⊎ (Holds × Later v)
 
 -- at most one value satisfies `Answer`
 abbrev pub HasOneAnswer : {V : Type 0} → (V → Type 0) → Type 0
@@ -92,7 +112,7 @@ same_word letters others rest more same =
 same_keys : (s : Day) (k other : Keys) → AreKeys s k → AreKeys s other
     → line_of (key_words k) ≡ line_of (key_words other) → k ≡ other
 same_keys s (Rotor k) (Rotor other) are also same =
-    grind (arith, same_word k.ground, same_word k.message_key, same_word k.fillers, same_letters k.group)
+    grind (arith, same_word k.ground_setting, same_word k.message_key, same_word k.fillers, same_letters k.group)
 same_keys s (Pin k) (Pin other) are also same =
     grind (arith, same_word (k.chosen ∷ []) (other.chosen ∷ []), same_letters k.external)
 same_keys (OfRotors s) _ _ are also same = search
@@ -227,14 +247,16 @@ no_bad_byte text place all is =
 
 -- ---- one answer
 
--- the answer by the number of letters, once the keys suit and the bytes of the text are allowed
+-- the answer for letters whose order has keys that suit and only allowed bytes: it depends on how many
+-- letters there are
 abbrev pub IsSizeAnswer : Day → List Keys → List ℕ → Answer → Type 0
 IsSizeAnswer s keys letters =
     DemandsThen (letters ≢ []) (Err EmptyText) (DemandsThen (parts_needed s (length letters) ≡ length keys)
     (Err (PartKeys (parts_needed s (length letters)) (length keys)))
     (FindsThen (ArePartTextsMade s 1 (length keys) keys (pieces (part_size s) letters)) (λ form v. v ≡ Ok form)))
 
--- the answer once the head is read: by the keys, then by the bytes of the text, then by the number of letters
+-- the answer once the head is read: it depends on the keys, then on the bytes of the text, then on how many
+-- letters it has
 abbrev pub IsLaterAnswer : Day → List Keys × List ℕ × List ℕ → Answer → Type 0
 IsLaterAnswer s (keys, head, text) =
     UnlessFoundThen (IsFirstKeysFault s keys) (λ fault. Err fault) (All (KeysSuitDay s) keys)
@@ -242,7 +264,7 @@ IsLaterAnswer s (keys, head, text) =
     (All (λ b. IsTrue (is_text_byte b)) text)
     (IsSizeAnswer s keys (text_letters s text)))
 
--- the answer for an order: by the head, and then by the keys and the text
+-- the answer for an order: it depends on the head, and then on the keys and the text
 abbrev pub IsOrderAnswer : Day → List ℕ → Answer → Type 0
 IsOrderAnswer s order v =
     FindsThen (IsOrderHeadFault s order) (λ position w. w ≡ Err (BadByte position)) v

@@ -3,7 +3,8 @@ pub use Rattle.kd_form.proofs.Prelude.{err_is, append-nil, ◌≡◌, ℕ, ◌+�
 pub use Rattle.kd_form.proofs.Prelude.{Result, Ok, Err, refl, sym, ap, subst, ◌∙◌, append_assoc, arith, All, IsTrue}
 pub use Rattle.kd_form.proofs.Prelude.{Option, Some, None, is_text_byte, Day, FormFault, BadByte, BadHeading, PartOrder}
 pub use Rattle.kd_form.proofs.Prelude.{Heading, Indicator, enciphered_choice, letters_from, IsFirstBadByteAt}
-pub use Rattle.kd_form.proofs.Prelude.{keys_of_body, Answer, UnlessFoundThen, DemandsThen, FindsOrFaultThen}
+pub use Rattle.kd_form.proofs.Prelude.{keys_of_body, HasOneAnswer-Demands, HasOneAnswer-Finds}
+pub use Rattle.kd_form.proofs.Prelude.{HasOneAnswer-ThenNext, HasOneAnswer-Yields, GoesOn, HasFault}
 pub use Rattle.kd_form.proofs.Prelude.{IsBodyAnswer, IsLettersAnswer, HasHeading, IsExpectedCount, IsPartRead}
 pub use Rattle.kd_form.proofs.Prelude.{IsPartFault, InHeading, InNumber, InBody, BeginsHeading, IsAtPartStart}
 pub use Rattle.kd_form.proofs.Prelude.{PartsProperty, PartStart, first_part_start, next_part_start, ReadsPartsTo}
@@ -15,7 +16,8 @@ pub use Rattle.kd_form.proofs.Prelude.{FormsBecomeOneText, FormsHaveOneFault, Fo
 pub use Rattle.kd_form.proofs.Prelude.{ReceivedFormsHaveNoFault, plaintext_with_end, false≢true}
 use Rattle.kd_form.proofs.OneOrder.{HasOneAnswer-equal, HasOneAnswer-either, HasOneAnswer-FindsThen}
 use Rattle.kd_form.proofs.OneOrder.{HasOneAnswer-DemandsThen, HasOneAnswer-UnlessFoundThen, one_internal_key}
-use Rattle.kd_form.proofs.OneOrder.{one_bad_byte, no_bad_byte, HasOneAnswer}
+use Rattle.kd_form.proofs.OneOrder.{one_bad_byte, no_bad_byte, HasOneAnswer, Answer, UnlessFoundThen, DemandsThen}
+use Rattle.kd_form.proofs.OneOrder.{FindsOrFaultThen}
 use Rattle.kd_form.proofs.Headings.{one_heading, begins_there, begins_more, first_there, ended_heading, heading_there}
 use Rattle.kd_form.proofs.Headings.{IsAlike, cut_at_headings-IsAlike, as_parts, first_done, cut_at_headings-whole}
 
@@ -30,12 +32,14 @@ HasOneAnswer-FindsOrFaultThen one apart laters =
 
 HasOneAnswer-letters : (s : Day) (part : ℕ) (i : Option Indicator) (letters : List ℕ)
     → HasOneAnswer (IsLettersAnswer s part i letters)
-HasOneAnswer-letters s part (Some i) letters = HasOneAnswer-DemandsThen HasOneAnswer-equal
+HasOneAnswer-letters s part (Some i) letters =
+    HasOneAnswer-ThenNext (HasOneAnswer-Demands _ _) (λ _ _. HasOneAnswer-Yields _)
 HasOneAnswer-letters s part None letters =
-    HasOneAnswer-DemandsThen (HasOneAnswer-DemandsThen
-    (HasOneAnswer-DemandsThen (HasOneAnswer-FindsOrFaultThen
-    (one_internal_key (enciphered_choice s (keys_of_body letters)))
-    (λ spent internal is. spent is.places internal is.picked) (λ internal. HasOneAnswer-equal))))
+    HasOneAnswer-ThenNext (HasOneAnswer-Demands _ _) (λ _ _.
+    HasOneAnswer-ThenNext (HasOneAnswer-Demands _ _) (λ _ _.
+    HasOneAnswer-ThenNext (HasOneAnswer-Demands _ _) (λ _ _.
+    HasOneAnswer-ThenNext (HasOneAnswer-Finds _ (one_internal_key (enciphered_choice s (keys_of_body letters))))
+    (λ _ _. HasOneAnswer-Yields _))))
 
 -- -------- parts that are read
 
@@ -48,7 +52,7 @@ module _ (s : Day) where
   reads_as A B to p (part ∷ parts) letters (inr (count, one, more, is, due, rest, joined)) =
       inr (count, one, more, is, due, reads_as A B to (next_part_start p count part) parts more rest, joined)
 
-  -- parts read up to a place, and more parts read from there, are read together
+  -- if `parts` are read from `p` to `q`, and `others` from `q` on, all of them are read from `p` on
   pub reads_then : (q : PartStart) (B : PartsProperty) (p : PartStart) (parts others : List (List ℕ))
       (letters more : List ℕ)
       → ReadsPartsTo s (IsAtPartStart q) p parts letters → ReadsPartsTo s B q others more
@@ -59,14 +63,15 @@ module _ (s : Day) where
   reads_then q B p (part ∷ parts) others letters more (inr (count, one, left, is, due, reads, joined)) rest =
       grind (arith, reads_then q B (next_part_start p count part) parts others left more reads rest, append_assoc)
 
-  -- from a rest with `A`, no part can be read on the way to a rest with `B`
+  -- if `A` holds of the parts left, the next part can't be read so that `B` holds of the parts left later
   abbrev pub NeverPasses : PartsProperty → PartsProperty → Type 0
   NeverPasses A B =
       (p : PartStart) (part : List ℕ) (parts : List (List ℕ)) (count : ℕ) (one more : List ℕ) → A p (part ∷ parts)
       → IsPartRead s p.number count part one
       → IsExpectedCount p.expected count → ¬ (ReadsPartsTo s B (next_part_start p count part) parts more)
 
-  -- all parts are read, and are too few or give the text; or a part is refused
+  -- the answer where these parts are left: without a part, `PartOrder` if parts are missing, and otherwise
+  -- success; with a part, the fault of this part
   abbrev pub AnswersAt : Result (Unit {0}) FormFault → PartsProperty
   AnswersAt v p [] =
       (count : ℕ) × (p.expected ≡ Some count) × DemandsThen (p.number ≡ count + 1) (Err PartOrder) (λ w. w ≡ Ok tt) v
@@ -104,7 +109,8 @@ module _ (s : Day) where
       (same.0 i, same.1 i))
       (λ none x has. none x.0 x.1 has)
       (λ x. HasOneAnswer-DemandsThen (HasOneAnswer-UnlessFoundThen (one_bad_byte x.1) (no_bad_byte x.1)
-      (HasOneAnswer-DemandsThen (HasOneAnswer-letters s number x.0.indicator (letters_from None x.1)))))
+      (HasOneAnswer-ThenNext (HasOneAnswer-Demands _ _)
+      (λ _ _. HasOneAnswer-letters s number x.0.indicator (letters_from None x.1)))))
 
   part_fault : {number : ℕ} {expected : Option ℕ} {start : ℕ} {part : List ℕ} {fault : FormFault}
       → IsPartFault s number expected start part fault → IsPartAnswer number expected start part (Err fault)
@@ -117,9 +123,11 @@ module _ (s : Day) where
   part_read : {number parts : ℕ} {part text : List ℕ} → (expected : Option ℕ) (start : ℕ)
       → IsPartRead s number parts part text → IsExpectedCount expected parts
       → IsPartAnswer number expected start part (Ok text)
-  part_read expected start a due = inr ((a.heading, a.body), a.has, grind arith)
+  part_read expected start a due =
+      let expects = subst (λ n. IsExpectedCount expected n) (sym a.so_many) due in
+      inr ((a.heading, a.body), a.has, inr ((a.numbered, expects), inr (a.allowed, a.read)))
 
-  -- a part that is read has one number of parts and one text
+  -- a part can be read with only one number of parts and only one text
   one_text : {number parts others : ℕ} {part text other : List ℕ} → IsPartRead s number parts part text
       → IsPartRead s number others part other → (parts ≡ others) × (text ≡ other)
   one_text {number} {part = part} {text = text} {other = other} a b =
@@ -130,7 +138,7 @@ module _ (s : Day) where
 
   -- -------- a form becomes one text, or has one fault
 
-  -- parts that are read up to `A` and up to `B` are read up to the same rest
+  -- if parts are read up to `A` and up to `B`, the same parts are left
   pub reads_meet : (A B : PartsProperty) (R : Type 0) → NeverPasses s A B → NeverPasses s B A
       → ((p : PartStart) (parts : List (List ℕ)) → A p parts → B p parts → R)
       → (p : PartStart) (parts : List (List ℕ)) (letters more : List ℕ) → ReadsPartsTo s A p parts letters
@@ -153,7 +161,7 @@ module _ (s : Day) where
 
   -- ---- one answer
 
-  -- a part that is read isn't refused
+  -- a part that can be read has no fault
   pub read_or_refused : {number : ℕ} {expected : Option ℕ} {start count : ℕ} {part one : List ℕ} {fault : FormFault}
       → IsPartFault s number expected start part fault
       → IsPartRead s number count part one → ¬ (IsExpectedCount expected count)
@@ -174,7 +182,7 @@ module _ (s : Day) where
       (part_fault also) in cc
 
   module _ (form : List ℕ) where
-    -- the answer to a form, after parts with these letters
+    -- `v` is the answer for the form, and `letters` are the letters of the parts read before
     abbrev pub IsFormAnswer : Result (Unit {0}) FormFault → List ℕ → Type 0
     IsFormAnswer v letters = ReadsPartsTo s (AnswersAt s v) first_part_start (parts_of form) letters
 
@@ -239,12 +247,39 @@ order_told s source sink read text answer answers = grind arith
 abbrev IsOfForms : FormFault → Type 0
 IsOfForms fault = (is_device (Err fault) ≡ false) × (is_off_key (Err fault) ≡ false)
 
+-- the letters of a body, and a whole body, are refused for a fault of forms
+letters_refused : (s : Day) (part : ℕ) (i : Option Indicator) (letters : List ℕ) (fault : FormFault)
+    → IsLettersAnswer s part i letters (Err fault) → IsOfForms fault
+letters_refused s part (Some i) letters fault (HasFault f first is) = grind arith
+letters_refused s part (Some i) letters fault (GoesOn _ group is) = absurd (cc)
+letters_refused s part None letters fault (HasFault f first is) = grind arith
+letters_refused s part None letters fault (GoesOn _ around (HasFault f first is)) = grind arith
+letters_refused s part None letters fault (GoesOn _ around (GoesOn _ window (HasFault f first is))) = grind arith
+letters_refused s part None letters fault (GoesOn _ around (GoesOn _ window (GoesOn _ listed (HasFault f first is)))) =
+    grind arith
+letters_refused s part None letters fault (GoesOn _ around (GoesOn _ window (GoesOn _ listed (GoesOn key first is)))) =
+    absurd (cc)
+
+body_refused : (s : Day) (number : ℕ) (h : Heading) (letters : List ℕ) (fault : FormFault)
+    → IsBodyAnswer s number h letters (Err fault) → IsOfForms fault
+body_refused s number h letters fault (HasFault f first is) = grind arith
+body_refused s number h letters fault (GoesOn _ counted next) =
+    letters_refused s number h.indicator letters fault next
+
+parts_refused : (s : Day) (fault : FormFault) (p : PartStart) (parts : List (List ℕ)) → AnswersAt s (Err fault) p parts
+    → IsOfForms fault
+parts_refused s fault p [] (count, expected, answer) = grind arith
+parts_refused s fault p (part ∷ parts) (f, inl early, is) = grind arith
+parts_refused s fault p (part ∷ parts) (f, inr late, is) =
+    let same : fault ≡ f = cc in
+    rw same (body_refused s p.number late.heading (letters_from None late.body) f late.found)
+
 refused_told : (s : Day) (form : List ℕ) (fault : FormFault) → IsReceiveFault s form fault → IsOfForms fault
 refused_told s form fault found =
     let (letters, reads) = fault_answer s form fault found in
     (reads_meet s (AnswersAt s (Err fault)) (AnswersAt s (Err fault)) (IsOfForms fault)
     (never_passes s (Err fault) (Err fault))
-    (never_passes s (Err fault) (Err fault)) (λ p parts at also. grind arith) first_part_start
+    (never_passes s (Err fault) (Err fault)) (λ p parts at also. parts_refused s fault p parts at) first_part_start
     (parts_of form) letters letters reads reads).1
 
 pub form_told : (s : Day) (source sink : Port) (read text : List ℕ) (answer : Result (Unit {0}) FormFault)

@@ -30,7 +30,7 @@ use Rattle.kd_form.specs.SendStream as stream
 
 -- -------- the parts of an order, letter by letter
 
--- the pieces of the letters are `k` whole pieces, and the rest as the last one
+-- the letters are `k` whole pieces, and the rest is the last piece
 pieces_more : (size k : ℕ) (letters : List ℕ) → 0 < size → size * k < length letters → length letters ≤ size * k + size
     → pieces size letters ≡ pieces size (take (size * k) letters) ++ drop (size * k) letters ∷ []
 pieces_more size zero letters large some few = grind (arith, pieces-next, take_all, drop_all, pieces-none)
@@ -78,7 +78,7 @@ module _ (s : Day) (keys : List Keys) (w : PartWriter) (k : Keys) (letters sent 
 -- -------- an order up to its text, byte by byte
 
 module _ (s : Day) (count : ℕ) where
-  -- the first byte tells whether a line is a line of keys
+  -- if the first byte is P, only a line of keys can begin with the bytes
   pub next_keys : (line : List ℕ) (why : Unread) → get_or line 0 0 ≡ 80 → count < 99
       → IsUnread (IsAnyKeyLine s) line why → IsUnread (IsHeadLine s count) line why
   next_keys line unread.Incomplete first room (more, some, key) = (more, some, inl (key, room))
@@ -105,8 +105,8 @@ module _ (s : Day) (count : ℕ) where
       let (longer, also, end) = next_plain (line ++ more) other in
       (same_line text longer line (line ++ more) more [] plain also ended end (sym (append-nil (line ++ more)))).2
 
-  -- if bytes begin a line of a head, but don't with one more byte, no such line is a prefix of what they
-  -- begin
+  -- if bytes are a proper prefix of a line of a head, but no such line begins with them and `byte`, then
+  -- nothing that begins with them and `byte` begins with such a line
   pub no_next : (line other one left : List ℕ) (byte : ℕ) → IsUnread (IsHeadLine s count) line unread.Incomplete
       → IsUnread (IsHeadLine s count) (line ++ byte ∷ []) unread.Mismatch → IsHeadLine s count one
       → ¬ (line ++ byte ∷ other ≡ one ++ left)
@@ -119,7 +119,7 @@ module _ (s : Day) (count : ℕ) where
         cc
   ]
 
--- what is left of a head begins with a line of a head
+-- after some lines of a head, the rest of the head begins with a line of a head
 pub head_next : (s : Day) (count : ℕ) (keys : List Keys) (bytes : List ℕ) → count + length keys ≤ 99
     → BeginsWithKeys s keys (IsLineWithEnd (codes "TEXT")) bytes
     → (line rest : List ℕ) × IsHeadLine s count line × (bytes ≡ line ++ rest)
@@ -224,7 +224,7 @@ module _ (s : Day) where
 
   -- ---- in the text
 
-  -- after a complete head, the reader holds the order if the keys suit, and refuses it otherwise
+  -- after a complete head, the reader holds the order if the keys suit the day, and refuses it otherwise
   pub text_begins : (r : OrderReader) (order text sent : List ℕ) (answer : Result (Unit {0}) FormFault)
       → r.stage ≡ stages.Text → r.read ≡ length order → IsOrder s order r.head.keys.items order []
       → IsFreshWriter r.parts
@@ -257,7 +257,7 @@ module _ (s : Day) where
       no_keys_fault s r.head.keys.items fault (rw same.0 suited) found) none)
 
   module _ (keys : List Keys) (w : PartWriter) (order sent : List ℕ) (text : IsTextRead s keys w order sent) where
-    -- at the end of the text, the reader makes the last part, or finds the fault
+    -- at the end of the text, the reader outputs the last part, or finds the fault
     pub text_ends : (made : List ℕ) (answer : Result (Unit {0}) FormFault)
         → IsTextEndAnswer s keys (text_letters s text.text) sent made answer
         → IsMessageAnswer (order_message s) order (sent ++ made) answer

@@ -38,7 +38,6 @@ pub use Rattle.kd_form.specs.Keys.{AreKeys, key_words}
 pub use Rattle.kd_form.specs.Laws.{FormsBecomeOneText, FormsGiveTheirOrders, FormsHaveOneFault, FormsStayRefused}
 pub use Rattle.kd_form.specs.Laws.{OrdersGiveLetters, ReceivedFormsHaveNoFault}
 pub use Rattle.kd_form.specs.{OnTheKey.{IsKeyFault, OffKey}}
-pub use Rattle.kd_form.specs.{FirstFaults.{Answer, UnlessFoundThen, FindsThen, DemandsThen, FindsOrFaultThen}}
 pub use Rattle.kd_form.specs.Making.{IsPartMade, IsPartTextMade, KeysSuitDay, cipher_from, enciphered_choice}
 pub use Rattle.kd_form.specs.Making.{fill_last_group, list_letters, part_size, pin_indicators, pin_letters}
 pub use Rattle.kd_form.specs.Making.{rotor_letters}
@@ -77,13 +76,15 @@ pub use Rattle.kd_state.proofs.Lines.{IsNumeralModel-digits, lines_split_into_wo
 pub use Rattle.kd_state.proofs.Lines.{parts_make_lines, texts_tell_first_parts, word_by_bytes}
 pub use Rattle.kd_state.proofs.Keys.{cipher_in_turn, engine_cipher, twice_on_key}
 pub use Rattle.kd_state.specs.declared.machine.parts.Parts.{Parts}
+pub use Rattle.kd_state.specs.FirstFaults.{GoesOn, HasFault, HasOneAnswer-Demands, HasOneAnswer-Finds}
+pub use Rattle.kd_state.specs.FirstFaults.{HasOneAnswer-ThenNext, HasOneAnswer-Yields}
 pub use Rattle.kd_state.specs.SheetDay.{Day, IsLegalDay, OfPins, OfRotors, pin_day}
 pub use Rattle.kd_state.specs.TwoCiphers.{EngineKey, IsWindow, cipher, physical_cipher, sheet_key}
 pub use Rattle.kd_state.specs.Words.{IsFirstPart, IsWithout, line_of, words_of}
 pub use Rattle.kd_tables.specs.{Ports.EndAgrees, Ports.FailureAgrees, Ports.HasNotFailed, Ports.Port, Ports.port}
 pub use Rattle.kd_tables.specs.{Ports.read_limit, Text.is_text_byte, Text.letters_text, Writing.TakesPrefix}
 
--- the answer is the error that `?` returns
+-- an answer that is an error, as `?` returns it, and whose error is `fault`, is `Err fault`
 pub err_is : {T E : Type 0} (answer : Result T E) (fault : E) → IsErrAnd answer (λ made. made ≡ fault)
     → answer ≡ Err fault
 err_is answer fault e = grind arith

@@ -1,4 +1,4 @@
--- Feeding bytes to a reader one after another and piece after piece, and typing a text piece after piece.
+-- Feeding bytes to a reader one after another and chunk after chunk, and typing a text chunk after chunk.
 pub use Rattle.kd_form.proofs.Prelude.{err_is, append-nil, take-append-drop, AtSource, InFeeding, IsReadStopped, []}
 pub use Rattle.kd_form.proofs.Prelude.{◌≡◌, ℕ, ◌+◌, ◌-◌, ◌≤◌, ◌<◌, Bool, true, false, ◌||◌, List, ◌++◌, Option, Some}
 pub use Rattle.kd_form.proofs.Prelude.{Result, Ok, Err, length, take, drop, IsTrue, refl, sym, ap, subst, ◌∙◌}
@@ -21,7 +21,7 @@ use Rattle.kd_form.specs.{StreamSteps.IsEndAnswer as MessageEnds}
 use Rattle.kd_form.specs.{declared.{stream.interruption.Interruption.Interruption, typing.Typist.Typist}}
 use Rattle.kd_form.specs.declared.stream.interruption.Interruption.TheVariants as stops
 
--- a port, by its bytes and its failure before and after a call
+-- a port with its bytes and its failure, before and after a call
 abbrev pub port_over : Option (List ℕ) → Option (List ℕ) → Bool → Bool → Port
 port_over had has before after = record { had = had; has = has; had_failed = before; has_failed = after }
 
@@ -49,7 +49,7 @@ short_of text made count less = grind (arith, length-drop {A = ℕ}, take-append
 
 -- ---- byte after byte
 
--- if the sink took only a prefix of what the bytes made, feeding stops at the device
+-- if the sink took only a prefix of the output for the bytes, feeding stops because a device failed
 pub fed_in_part : (m : Message) (new : List ℕ → List ℕ → Type 0) (bytes text made : List ℕ)
     (took wrote : Option (List ℕ)) (d f : Bool)
     → HasReadSoFar m new bytes (text ++ made) → TakesPrefix took wrote made
@@ -86,7 +86,7 @@ pub up_to : (bytes : List ℕ) (place : ℕ) → place < length bytes
     → take place bytes ++ get_or bytes place 0 ∷ [] ++ drop (suc place) bytes ≡ bytes
 up_to bytes place inside = grind (arith, append_assoc, drop-cons, take-append-drop)
 
--- feeding bytes is feeding equal bytes
+-- what holds of feeding bytes holds of feeding equal bytes
 pub fed_whole : (m : Message) (old new : List ℕ → List ℕ → Type 0) (front whole : List ℕ) (sink : Port)
     (answer : Result (Unit {0}) Interruption) → front ≡ whole
     → IsFeedAllAnswer m old new front sink answer → IsFeedAllAnswer m old new whole sink answer
@@ -100,7 +100,7 @@ fed_up_to m old new front more sink stop fed bytes text held = grind (arith, app
 
 -- ---- a read
 
--- what a read answers if the source failed
+-- the answer of a read if the source failed
 pub read_failed : (m : Message) (new : List ℕ → List ℕ → Type 0) (bytes text : List ℕ) (room : ℕ)
     (had has took : Option (List ℕ)) (a c d : Bool)
     → HasReadSoFar m new bytes text → length bytes + room ≤ read_limit → Keeps had has → c ≡ (a || true)
@@ -116,7 +116,7 @@ read_failed m new bytes text room had has took a c d held few kept up =
       append-nil {A = ℕ},
     )
 
--- what a read answers if feeding its bytes stopped
+-- the answer of a read if feeding its bytes stopped
 pub read_stopped : (m : Message) (old new : List ℕ → List ℕ → Type 0) (bytes text more : List ℕ) (room : ℕ)
     (had has took wrote : Option (List ℕ)) (a c d f : Bool) (stop : Interruption)
     → HasReadSoFar m old bytes text → length bytes + room ≤ read_limit → length more ≤ room → Consumes had has more
@@ -189,7 +189,7 @@ module _ (m : Message) (old new : List ℕ → List ℕ → Type 0) (had has nex
 
 -- ---- the end
 
--- if the sink took only a prefix of the rest of a message, closing stops at the device
+-- if the sink took only a prefix of the rest of a result, closing stops because a device failed
 pub closed_in_part : (m : Message) (old : List ℕ → List ℕ → Type 0) (made : List ℕ) (took wrote : Option (List ℕ))
     (d f : Bool) (answer : Result (Unit {0}) FormFault)
     → MessageEnds m old made answer → TakesPrefix took wrote made
@@ -238,7 +238,7 @@ pub SoFar-ended : (m : Message) (holds : List ℕ → List ℕ → Type 0) (had 
     → c ≡ (b || false) → SoFar m holds (port_over had next a c) sink count × IsAtEnd next
 SoFar-ended m holds had has next sink a b c count before end is ends well = grind arith
 
--- -------- the lamps of a piece, and what was typed so far
+-- -------- the lamps of a chunk, and what was typed so far
 
 module _ (m : Parts) where
   text_is : (t : Typist) (bytes text : List ℕ) → HasTyped m t bytes text → text ≡ cipher_text (physical_cipher m) bytes
@@ -267,7 +267,7 @@ module _ (m : Parts) where
         written = λ more. (front, rw append_assoc (grind arith), text_is t front text typed);
       }
 
-  -- ---- one more piece
+  -- ---- one more chunk
 
   module _ (old new : Typist) (more lamps : List ℕ) (n : ℕ) (front : IsAllowedUpTo more n)
       (lights : IsTypedChunk old.engine new.engine (take n more) lamps) (counted : new.read ≡ old.read + n) where

@@ -1,5 +1,5 @@
 -- The parts of a form: a heading line, and all lines before the next heading line. Places are counted from 0.
--- Code: byte by byte; holds a line's first six bytes until it is known what they begin.
+-- Code: byte by byte; keeps the first six bytes of a line, to see whether it begins a heading.
 -- Test: forms_are_received
 use Rattle.std.specs.Prelude.{codes, ◌≡◌, ◌≢◌, ◌⊎◌, ℕ, ◌%◌, ◌<◌, ◌≤◌, ◌==◌, ◌&&◌, nat_le, Bool, IsTrue, if◌then◌else◌}
 use Rattle.std.specs.Prelude.{List, [], ◌∷◌, ◌++◌, length, take, slice_index, All, Option, MatchOption}
@@ -10,7 +10,7 @@ use Rattle.kd_form.specs.declared.heading.Heading.{Heading}
 use Rattle.kd_form.specs.Part.{heading_words}
 use Rattle.kd_form.specs.Reading.{HasIndicator}
 
--- whether the bytes begin a heading line: `PART `, then a digit
+-- whether the bytes begin as a heading line does: with `PART `, then a digit
 unfoldable pub begins_heading : List ℕ → Bool
 begins_heading bytes =
     bytes_eq (take 5 bytes) (codes "PART ") && (nat_le 48 (slice_index bytes 5) && nat_le (slice_index bytes 5) 57)
@@ -18,7 +18,7 @@ begins_heading bytes =
 abbrev pub BeginsHeading : List ℕ → Type 0
 BeginsHeading bytes = IsTrue (begins_heading bytes)
 
--- The first part of a form, and its other parts. After an LF that a heading line follows, a new part begins.
+-- The first part of a form, and its other parts. A new part begins after each LF that a heading line follows.
 abbrev pub cut_at_headings : List ℕ → List ℕ × List (List ℕ)
 cut_at_headings [] = ([], [])
 cut_at_headings (byte ∷ bytes) =
@@ -28,7 +28,7 @@ cut_at_headings (byte ∷ bytes) =
 abbrev pub parts_of : List ℕ → List (List ℕ)
 parts_of form = (cut_at_headings form).0 ∷ (cut_at_headings form).1
 
--- ---- Which headings a part of the day can have, and the first line of a part.
+-- ---- Which headings are valid on a day, and the first line of a part.
 
 -- How many letters a body may have: on a rotor machine, fillers, group and 1 to 245 letters of text; on the
 -- Converter M-209, the indicators twice and 1 to 100 groups of text.
@@ -42,11 +42,25 @@ pub record IsFraction (part parts : ℕ) : Type 0 where
   pub in_order : part ≤ parts
   pub few : parts ≤ 99
 
--- The heading is one of the day's model.
+-- The heading is valid for the day's model.
 pub record IsHeading (s : Day) (h : Heading) : Type 0 where
   pub number : IsFraction h.part h.parts
   pub letters : IsLetterCount s h.letters
   pub indicator : HasIndicator s h.indicator
+
+-- `text` is the line without the CR at its end, if it has one.
+pub data IsLineText (line text : List ℕ) : Type 0 where
+  WithReturn : line ≡ text ++ 13 ∷ [] → IsLineText line text
+  WithoutReturn : text ≡ line → ((front : List ℕ) → line ≢ front ++ 13 ∷ []) → IsLineText line text
+
+-- `line` is the first line of `text` without its line end, and `rest` follows the line end. If `text` has no
+-- LF, all of it is the line.
+abbrev pub HasFirstLine : List ℕ → List ℕ → List ℕ → Type 0
+HasFirstLine text line rest =
+    ((shown : List ℕ) × IsFirstPart 10 text shown rest × IsLineText shown line)
+    ⊎ (IsWithout 10 text × (text ≡ line) × (rest ≡ []))
+
+-- ---- What the code holds. No public contract cites these definitions.
 
 -- `found` is the heading with these words, or `None` if no heading of the day's model has them.
 abbrev pub AreHeadingWords : Day → List (List ℕ) → Option Heading → Type 0
@@ -58,15 +72,3 @@ AreHeadingWords s words found =
 pub record AreFewLetters (letters : List ℕ) : Type 0 where
   pub few : length letters ≤ 4
   pub within : All (λ letter. letter < 26) letters
-
--- `text` is the line without the CR at its end, if it has one.
-pub data IsLineText (line text : List ℕ) : Type 0 where
-  WithReturn : line ≡ text ++ 13 ∷ [] → IsLineText line text
-  WithoutReturn : text ≡ line → ((front : List ℕ) → line ≢ front ++ 13 ∷ []) → IsLineText line text
-
--- `line` is the first line of `text` without its line end, and `rest` follows it. The last line may lack its
--- end.
-abbrev pub HasFirstLine : List ℕ → List ℕ → List ℕ → Type 0
-HasFirstLine text line rest =
-    ((shown : List ℕ) × IsFirstPart 10 text shown rest × IsLineText shown line)
-    ⊎ (IsWithout 10 text × (text ≡ line) × (rest ≡ []))

@@ -1,6 +1,6 @@
 -- What the reader of a form holds after some of its bytes. No public contract cites this file.
 use Rattle.std.specs.Prelude.{codes, ◌≡◌, ◌≢◌, ◌⊎◌, ℕ, ◌<◌, ◌≤◌, List, [], ◌∷◌, ◌++◌, length, take, slice_index, All}
-use Rattle.std.specs.Prelude.{IsTrue, Option, Some, None, Ok}
+use Rattle.std.specs.Prelude.{IsTrue, Option, Some, None, Result, Ok, Err, MatchResult, MatchOption}
 use Rattle.kd_tables.specs.Text.{is_text_byte}
 use Rattle.kd_state.specs.SheetDay.{Day}
 use Rattle.kd_state.specs.Words.{line_of, IsFirstPart, IsWithout}
@@ -14,28 +14,29 @@ use Rattle.kd_form.specs.declared.part_body.PartBody.{PartBody}
 use Rattle.kd_form.specs.Part.{heading_words}
 use Rattle.kd_form.specs.Sending.{letters_from}
 use Rattle.kd_form.specs.FormParts.{BeginsHeading, IsHeading, IsLineText, cut_at_headings, parts_of}
-use Rattle.kd_form.specs.Receiving.{IsExpectedCount, IsBodyAnswer}
+use Rattle.kd_form.specs.Receiving.{HasHeading, IsExpectedCount, IsBodyAnswer}
 use Rattle.kd_form.specs.FormText.{PartStart, PartsProperty, ReadsPartsTo, first_part_start, plaintext_bytes}
 
 -- ---- the last part
 
--- The byte may be at this place of a heading line, which begins with `PART ` and a digit.
+-- The byte can be at this place of a heading line, counted from 0: a heading line begins with `PART ` and a
+-- digit.
 abbrev pub FitsHeadingAt : ℕ → ℕ → Type 0
 FitsHeadingAt place byte = (place < 5 → byte ≡ slice_index (codes "PART ") place)
     × (place ≡ 5 → (48 ≤ byte) × (byte ≤ 57))
 
--- The bytes begin a heading line, or are a prefix of `PART `.
+-- The bytes begin as a heading line does, or they are a prefix of `PART `.
 abbrev pub HasBegunHeading : List ℕ → Type 0
 HasBegunHeading bytes = ((count : ℕ) × (count ≤ 5) × (bytes ≡ take count (codes "PART "))) ⊎ BeginsHeading bytes
 
--- `part` is a prefix of a heading line, without LF, and `held` has up to 64 bytes of it.
+-- `part` is a prefix of a heading line, without LF, and `held` has its first bytes, up to 64.
 pub record HoldsLine (held part : List ℕ) : Type 0 where
   pub kept : held ≡ take 64 part
   pub unbroken : IsWithout 10 part
   pub begins : HasBegunHeading part
 
--- `first` has up to 6 bytes of the last line of `body`, which may be incomplete. `line` is the line before
--- `body`.
+-- `first` has the first bytes, up to 6, of the last line of `body`, which may be incomplete. `line` is the
+-- line before `body`.
 pub record HasTail (line body first : List ℕ) : Type 0 where
   pub settled : List ℕ
   pub tail : List ℕ
@@ -66,10 +67,31 @@ abbrev pub HoldsStage : Day → FormStage → ℕ → Option ℕ → List ℕ �
 HoldsStage s (stages.Heading line) number expected part = HoldsLine line.items part × (length part < 6 → number ≡ 1)
 HoldsStage s (stages.Body b) number expected part = HoldsPart s b number expected part
 
--- `letters` are the body after this heading, and `made` is their text.
+-- `letters` are the body after this heading, and `made` is its text, as bytes.
 abbrev pub IsBodyPlaintext : Day → Heading → List ℕ → List ℕ → Type 0
 IsBodyPlaintext s h letters made = (text : List ℕ) × IsBodyAnswer s h.part h letters (Ok text)
     × (made ≡ plaintext_bytes s text)
+
+-- The letters held, but for the last `others` of them, are deciphered into `output`, or refused.
+abbrev pub IsDecipherAnswer : Day → PartBody → ℕ → List ℕ → Result (Unit {0}) FormFault → Type 0
+IsDecipherAnswer s b others output answer =
+    (letters more : List ℕ) → length more ≡ others → b.letters.items ≡ take 525 (letters ++ more)
+    → MatchResult answer
+    (λ _. IsBodyPlaintext s b.heading letters output)
+    (λ fault. IsBodyAnswer s b.heading.part b.heading letters (Err fault))
+
+-- `found` is the heading of a part that ends within its heading line; if none is found, the part has no heading.
+abbrev pub IsOpenHeading : Day → List ℕ → Option Heading → Type 0
+IsOpenHeading s part found =
+    MatchOption found ((h : Heading) (body : List ℕ) → ¬ (HasHeading s part h body)) (λ h. HasHeading s part h [])
+
+-- `found` is the heading in the line `part`, which has ended; if none is found, no part that begins with this line
+-- has a heading.
+abbrev pub IsEndedHeading : Day → List ℕ → Option Heading → Type 0
+IsEndedHeading s part found =
+    MatchOption found
+    ((h : Heading) (body : List ℕ) → ¬ (HasHeading s (part ++ 10 ∷ []) h body))
+    (λ h. IsHeading s h × IsLineText part (line_of (heading_words h)))
 
 -- `h` was found. It is the heading of part `number`, with the expected number of parts.
 pub record IsExpectedHeading (number : ℕ) (expected : Option ℕ) (found : Option Heading) (h : Heading) : Type 0 where
@@ -86,15 +108,15 @@ pub data IsHeadingFault (number : ℕ) (expected : Option ℕ) (found : Option H
 
 -- ---- the form
 
--- the place of the part that the reader is in, after the bytes `front`
+-- where the part begins that the reader is in; `front` are the bytes of the form before this part
 abbrev pub reader_place : FormReader → List ℕ → PartStart
 reader_place r front = record { number = r.number; expected = r.expected; bytes_before = length front }
 
 abbrev pub IsAtPartStart : PartStart → PartsProperty
 IsAtPartStart q p parts = (p ≡ q) × (parts ≡ [])
 
--- The reader has read `form` and made `text`. It has deciphered the parts before the last one, and holds the
--- last one. Further bytes don't change the parts before it.
+-- The reader has read `form` and output `text`. It has deciphered the parts before the last one, and holds
+-- the last one. Further bytes don't change the parts before the last one.
 pub record HoldsForm (s : Day) (r : FormReader) (form text : List ℕ) : Type 0 where
   pub front : List ℕ
   pub last : List ℕ

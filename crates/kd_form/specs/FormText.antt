@@ -25,17 +25,18 @@ pub record PartStart : Type 0 where
 abbrev pub first_part_start : PartStart
 first_part_start = record { number = 1; expected = None; bytes_before = 0 }
 
--- the place after a part at `p`, whose heading says that there are `count` parts
+-- where the next part begins, after `part`, which begins at `p` and whose heading says that there are `count`
+-- parts
 abbrev pub next_part_start : PartStart → ℕ → List ℕ → PartStart
 next_part_start p count part = record
     { number = p.number + 1; expected = Some count; bytes_before = p.bytes_before + length part }
 
--- A property of the parts from a place on.
+-- A property of the last parts of a form, and of where the first of them begins.
 abbrev pub PartsProperty : Type 1
 PartsProperty = PartStart → List (List ℕ) → Type 0
 
--- From `p` on, parts are read in order until the rest satisfies `Holds`. `letters` are the letters of their
--- texts.
+-- From `p` on, parts are read in order until the parts left satisfy `Holds`. `letters` are the letters of the
+-- texts of the parts read.
 abbrev pub ReadsPartsTo : Day → PartsProperty → PartStart → List (List ℕ) → List ℕ → Type 0
 ReadsPartsTo s Holds p [] letters = Holds p [] × (letters ≡ [])
 ReadsPartsTo s Holds p (part ∷ parts) letters =
@@ -59,7 +60,7 @@ plaintext_bytes s letters = map (plaintext_byte (blank_of s)) letters
 abbrev pub plaintext_with_end : Day → List ℕ → List ℕ
 plaintext_with_end s letters = plaintext_bytes s letters ++ 10 ∷ []
 
--- The form is read until the rest satisfies `Holds`, and `text` is the text of the parts before the rest.
+-- The form's parts are read until the parts left satisfy `Holds`, and `text` is the text of the parts read.
 abbrev pub IsFormReadTo : Day → PartsProperty → List ℕ → List ℕ → Type 0
 IsFormReadTo s Holds form text =
     (letters : List ℕ) × ReadsPartsTo s Holds first_part_start (parts_of form) letters
@@ -70,7 +71,7 @@ abbrev pub AreAllPartsRead : PartsProperty
 AreAllPartsRead p [] = (count : ℕ) × (p.expected ≡ Some count) × (p.number ≡ count + 1)
 AreAllPartsRead p (part ∷ parts) = ⊥
 
--- `text` is the text of the form, which has as many parts as its headings say.
+-- `text` is the text of the whole form, which has as many parts as its headings say.
 pub record IsTextOf (s : Day) (form text : List ℕ) : Type 0 where
   pub letters : List ℕ
   pub read : ReadsPartsTo s AreAllPartsRead first_part_start (parts_of form) letters
@@ -79,8 +80,8 @@ pub record IsTextOf (s : Day) (form text : List ℕ) : Type 0 where
 -- ---- Why a form has no text: its first fault, which stands or comes at its end, and the text before it.
 -- Test: forms_are_received, parts_are_missing_or_exchanged
 
--- The part at `p` has this fault whatever follows: any fault once the next part has begun, and an early one
--- once its heading line has ended.
+-- The part at `p` has this fault whatever bytes follow. Once the next part has begun, that is any fault;
+-- before, an early fault, once the part's heading line has ended.
 abbrev pub IsPartFaultForGood : Day → FormFault → PartsProperty
 IsPartFaultForGood s fault p [] = ⊥
 IsPartFaultForGood s fault p (part ∷ []) =
@@ -88,8 +89,8 @@ IsPartFaultForGood s fault p (part ∷ []) =
     × IsEarlyFault s p.number p.expected p.bytes_before part fault
 IsPartFaultForGood s fault p (part ∷ next ∷ others) = IsPartFault s p.number p.expected p.bytes_before part fault
 
--- The form has this fault whatever bytes follow, and `text` is the text of the parts before. Either the bytes
--- can't become a form that begins with a heading line, or a part has the fault.
+-- The form has this fault whatever bytes follow, and `text` is the text of the parts before the fault. Either
+-- no form that begins with a heading line begins with these bytes, or a part has the fault.
 pub data IsRefusedForGood (s : Day) (form text : List ℕ) (fault : FormFault) : Type 0 where
   NoHeading : ((more : List ℕ) → ¬ (BeginsHeading (form ++ more))) → text ≡ [] → fault ≡ BadHeading 1
       → IsRefusedForGood s form text fault
@@ -101,8 +102,8 @@ IsPartFaultAtEnd s fault p [] = (fault ≡ PartOrder) × (count : ℕ) × (p.exp
 IsPartFaultAtEnd s fault p (part ∷ []) = IsPartFault s p.number p.expected p.bytes_before part fault
 IsPartFaultAtEnd s fault p (part ∷ next ∷ others) = ⊥
 
--- If the form ends here, it has this fault, and `text` is the text of the parts before. An empty form has one
--- empty part.
+-- If the form ends here, it has this fault, and `text` is the text of the parts before the fault. An empty
+-- form has one empty part.
 abbrev pub IsRefusedAtEnd : Day → List ℕ → List ℕ → FormFault → Type 0
 IsRefusedAtEnd s form text fault = IsFormReadTo s (IsPartFaultAtEnd s fault) form text
 
@@ -114,7 +115,8 @@ IsReceiveFault s form fault = (text : List ℕ) × (IsRefusedForGood s form text
 abbrev pub IsLastPart : PartsProperty
 IsLastPart p parts = (part : List ℕ) × (parts ≡ part ∷ [])
 
--- `text` is written before this fault. Without a fault, it is the text of the parts before the last one.
+-- `text` is what is written before this fault. Without a fault, it is the text of the parts before the last
+-- one.
 abbrev pub IsTextBefore : Day → Option FormFault → List ℕ → List ℕ → Type 0
 IsTextBefore s None form text = IsFormReadTo s IsLastPart form text
 IsTextBefore s (Some fault) form text = IsRefusedForGood s form text fault ⊎ IsRefusedAtEnd s form text fault
@@ -130,12 +132,12 @@ form_message s = record {
 
 -- ---- The text that an order's form has to give back.
 
--- the letters that are sent; on the Converter M-209, X fills the last group of five
+-- the letters that are sent for a text; on the Converter M-209, X fills the last group of five
 abbrev pub sent_letters : Day → List ℕ → List ℕ
 sent_letters (OfRotors s) letters = letters
 sent_letters (OfPins s) letters = fill_last_group letters
 
--- `given` is the text that the order's form has to give back.
+-- `given` is the text that the receiver of the order's form has to get.
 pub record IsPlaintextOf (s : Day) (order given : List ℕ) : Type 0 where
   pub keys : List Keys
   pub head : List ℕ

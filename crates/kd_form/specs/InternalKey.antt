@@ -1,13 +1,13 @@
 -- The internal key of the Converter M-209: a letter for each of its six wheels, picked from twelve enciphered
 -- letters.
 -- Source: War Department TM 11-380
--- Code: strikes letters out in one pass.
+-- Code: picks the letters in one pass.
 -- Test: orders_are_sent
 use Rattle.std.specs.Prelude.{◌≡◌, ◌++◌, Contains, ◌⊎◌, ℕ, ◌+◌, ◌<◌, ◌≤◌, List, [], ◌∷◌, length, map, slice_index}
 use Rattle.kd_tables.specs.Rings.{ring_of}
 use Rattle.kd_state.specs.Machine.{AreOnWheels}
 
--- The places rise, from `first` on and below `end`.
+-- The places rise; the first is at least `first`, and all are below `end`.
 abbrev pub AreRising : ℕ → ℕ → List ℕ → Type 0
 AreRising first end [] = Unit {0}
 AreRising first end (place ∷ places) = (first ≤ place) × (place < end) × AreRising (place + 1) end places
@@ -19,8 +19,8 @@ PrecedesOrEquals (place ∷ places) [] = ⊥
 PrecedesOrEquals (place ∷ places) (other ∷ others) = (place < other)
     ⊎ ((place ≡ other) × PrecedesOrEquals places others)
 
--- `picked` are the letters at these rising places: six letters, the first on wheel 1, the second on wheel 2,
--- and so on.
+-- `picked` are the letters at these places, which rise: six letters, the first on wheel 1, the second on
+-- wheel 2, and so on.
 pub record ArePicked (letters places picked : List ℕ) : Type 0 where
   pub rising : AreRising 0 (length letters) places
   pub taken : picked ≡ map (λ place. slice_index letters place) places
@@ -33,11 +33,14 @@ pub record IsInternalKey (letters key : List ℕ) : Type 0 where
   pub picked : ArePicked letters places key
   pub first : (others other : List ℕ) → ArePicked letters others other → PrecedesOrEquals places others
 
--- The letters run out: there are no six places that `ArePicked` allows.
+-- The letters run out: no six places satisfy `ArePicked`.
 abbrev pub HaveNoInternalKey : List ℕ → Type 0
 HaveNoInternalKey letters = (places picked : List ℕ) → ¬ (ArePicked letters places picked)
 
--- `next` is `key` with the letter appended if the letter is on the next wheel, and otherwise `key`.
+-- ---- What the code holds. No public contract cites these definitions.
+
+-- `next` is `key` with the letter appended, if the letter is on the first wheel without a letter in `key`;
+-- otherwise it is `key`.
 pub data IsTakenInTurn (key : List ℕ) (letter : ℕ) (next : List ℕ) : Type 0 where
   OnWheel : Contains (ring_of (length key + 1)) letter → next ≡ key ++ letter ∷ [] → IsTakenInTurn key letter next
   OffWheel : ¬ (Contains (ring_of (length key + 1)) letter) → next ≡ key → IsTakenInTurn key letter next

@@ -7,12 +7,12 @@ use Rattle.kd_form.specs.declared.keys.Keys.TheVariants.{Rotor, Pin}
 use Rattle.kd_form.specs.Keys.{AreKeys}
 use Rattle.kd_form.specs.Order.{IsKeyLine}
 
--- `number` places for letters
+-- `number` times `_`, each the place of a letter
 abbrev pub blank_places : ℕ → List ℕ
 blank_places number = replicate number 95
 
--- the pattern of a line of keys: for a rotor machine with `slots` slots, for the Converter M-209, and for the
--- day's model
+-- the pattern of a line of keys: for a rotor machine with `slots` slots; next, for the Converter M-209; and
+-- last, for the day's model
 abbrev pub rotor_pattern : ℕ → List ℕ
 rotor_pattern slots = line_of (codes "PART" ∷ blank_places slots ∷ blank_places slots ∷ blank_places 2
     ∷ blank_places 3 ∷ [])
@@ -26,7 +26,7 @@ key_pattern (OfPins s) = pin_pattern
 
 -- the letters of the keys, in the line's order
 abbrev pub key_letters : Keys → List ℕ
-key_letters (Rotor k) = k.ground ++ (k.message_key ++ (k.fillers ++ k.group))
+key_letters (Rotor k) = k.ground_setting ++ (k.message_key ++ (k.fillers ++ k.group))
 key_letters (Pin k) = k.chosen ∷ k.external
 
 -- `bytes` are a line of keys of the day's model, and its end.

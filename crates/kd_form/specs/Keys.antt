@@ -12,19 +12,19 @@ use Rattle.kd_form.specs.declared.keys.PinKeys.{PinKeys}
 -- the words of a line of keys
 abbrev pub key_words : Keys → List (List ℕ)
 key_words (Rotor k) =
-    codes "PART" ∷ letters_text k.ground ∷ letters_text k.message_key ∷ letters_text k.fillers ∷ letters_text k.group
+    codes "PART" ∷ letters_text k.ground_setting ∷ letters_text k.message_key ∷ letters_text k.fillers ∷ letters_text k.group
     ∷ []
 key_words (Pin k) = codes "PART" ∷ letters_text (k.chosen ∷ []) ∷ letters_text k.external ∷ []
 
--- There is a letter for each slot in the ground and in the message key, two fillers, and a group of three
+-- The ground and the message key have a letter for each slot. There are two fillers, and a group of three
 -- letters.
 pub record AreRotorKeys (slots : ℕ) (k : RotorKeys) : Type 0 where
-  pub ground : AreLetters slots k.ground
+  pub ground_setting : AreLetters slots k.ground_setting
   pub message_key : AreLetters slots k.message_key
   pub fillers : AreLetters 2 k.fillers
   pub group : AreLetters 3 k.group
 
--- There are a chosen letter and six external ones.
+-- The keys have a chosen letter and six external letters.
 pub record ArePinKeys (k : PinKeys) : Type 0 where
   pub chosen : k.chosen < 26
   pub external : AreLetters 6 k.external

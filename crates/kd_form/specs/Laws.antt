@@ -1,4 +1,5 @@
--- The laws of orders and forms: each has one result or one fault, and a form becomes what its order gives.
+-- The laws of orders and forms: each has one result or one fault, and a form gives back the letters of its
+-- order.
 use Rattle.std.specs.Prelude.{◌≡◌, ◌⊎◌, ℕ, List, ◌++◌}
 use Rattle.kd_state.specs.SheetDay.{Day, IsLegalDay}
 use Rattle.kd_form.specs.declared.fault.FormFault.{FormFault}
@@ -57,12 +58,12 @@ FormsStayRefused =
 abbrev pub FormIsAnswered : Day → List ℕ → Type 0
 FormIsAnswered s form = ((text : List ℕ) × IsTextOf s form text) ⊎ ((fault : FormFault) × IsReceiveFault s form fault)
 
--- An order that becomes a form has a text to give back.
+-- For an order that becomes a form, there is a text that the receiver has to get.
 abbrev pub OrdersGiveLetters : Type 0
 OrdersGiveLetters = (s : Day) (order form : List ℕ) → IsFormOf s order form → (given : List ℕ)
     × IsPlaintextOf s order given
 
--- The form of an order becomes the text that the order has to give back.
+-- On a legal day, the form of an order becomes the text that its receiver has to get.
 abbrev pub FormsGiveTheirOrders : Type 0
 FormsGiveTheirOrders =
     (s : Day) (order form given : List ℕ) → IsLegalDay s → IsFormOf s order form → IsPlaintextOf s order given

@@ -19,4 +19,3 @@ pub mod StreamSteps
 pub mod SendStream
 pub mod SendSteps
 pub mod Typing
-pub mod FirstFaults

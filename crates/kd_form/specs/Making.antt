@@ -1,5 +1,5 @@
--- The cipher of the day's own machine, and the size of a part.
--- Code: one engine.
+-- The cipher of the day's own machine, which is a machine set as the day says; and the size of a part.
+-- Code: one engine, whose windows are set anew for each text.
 use Rattle.std.specs.Prelude.{◌≡◌, ℕ, ◌-◌, ◌%◌, List, [], ◌∷◌, ◌++◌, length, Option, Some, None, replicate}
 use Rattle.kd_state.specs.Machine.{AreOnWheels}
 use Rattle.kd_state.specs.SheetDay.{Day, OfRotors, OfPins, AreOneOfGroups}
@@ -12,15 +12,15 @@ use Rattle.kd_form.specs.declared.heading.Indicator.{Indicator}
 use Rattle.kd_form.specs.InternalKey.{IsInternalKey}
 use Rattle.kd_form.specs.Part.{Part, part_text}
 
--- the ciphertext of `text` by the day's own machine, which first shows the letters of `window`
+-- the ciphertext of `text` from the day's own machine, which shows the letters of `window` at the start
 abbrev pub cipher_from : Day → List ℕ → List ℕ → List ℕ
 cipher_from s window text = cipher (key_with_window (sheet_key s) window) text
 
--- The key is the one of the day's own machine, with any letters in its windows.
+-- The key is that of the day's own machine, with some letters in its windows.
 abbrev pub IsTurnedFrom : Day → EngineKey → Type 0
 IsTurnedFrom s key = (window : List ℕ) × (key ≡ key_with_window (sheet_key s) window)
 
--- the two letters of the day's list; none on a rotor machine
+-- the two list letters of the day; none on a rotor machine
 abbrev pub list_letters : Day → List ℕ
 list_letters (OfRotors s) = []
 list_letters (OfPins s) = s.list
@@ -41,11 +41,11 @@ part_of part parts indicator letters = record {
 -- Source: the singly enciphered message key of the Wehrmacht
 -- Test: orders_are_sent
 
--- the ground, and the message key, enciphered from the ground
+-- the ground, and the message key enciphered with the ground in the windows
 abbrev pub indicator_of : Day → RotorKeys → Indicator
-indicator_of s k = record { ground = k.ground; enciphered_key = cipher_from s k.ground k.message_key }
+indicator_of s k = record { ground_setting = k.ground_setting; enciphered_key = cipher_from s k.ground_setting k.message_key }
 
--- the fillers, the group, and the text, enciphered from the message key
+-- the fillers, the group, and the text enciphered with the message key in the windows
 abbrev pub rotor_letters : Day → RotorKeys → List ℕ → List ℕ
 rotor_letters s k text = k.fillers ++ k.group ++ cipher_from s k.message_key text
 
@@ -53,19 +53,20 @@ rotor_letters s k text = k.fillers ++ k.group ++ cipher_from s k.message_key tex
 -- Source: War Department TM 11-380
 -- Test: orders_are_sent
 
--- the chosen letter, enciphered twelve times from the external letters
+-- the chosen letter twelve times, enciphered with the external letters showing at the start
 abbrev pub enciphered_choice : Day → PinKeys → List ℕ
 enciphered_choice s k = cipher_from s k.external (replicate 12 k.chosen)
 
--- the chosen letter twice, the external letters, and the two letters of the list
+-- the chosen letter twice, the external letters, and the two list letters
 abbrev pub pin_indicators : Day → PinKeys → List ℕ
 pin_indicators s k = k.chosen ∷ k.chosen ∷ k.external ++ list_letters s
 
--- the text, filled with X to whole groups of five
+-- the text, filled with X to whole groups of five letters
 abbrev pub fill_last_group : List ℕ → List ℕ
 fill_last_group text = text ++ replicate ((5 - length text % 5) % 5) 23
 
--- the indicators, the filled text enciphered from the internal key, and the indicators again
+-- the indicators, the filled text enciphered with the internal key showing at the start, and the indicators
+-- again
 abbrev pub pin_letters : Day → PinKeys → List ℕ → List ℕ → List ℕ
 pin_letters s k internal text = pin_indicators s k ++ cipher_from s internal (fill_last_group text)
     ++ pin_indicators s k
@@ -82,7 +83,7 @@ KeysSuitDay (OfPins s) (Pin k) =
 KeysSuitDay (OfRotors s) (Pin k) = ⊥
 KeysSuitDay (OfPins s) (Rotor k) = ⊥
 
--- `made` is part `part` of `parts`: `text`, enciphered with these keys.
+-- `made` is part `part` of `parts`: `text` enciphered with these keys.
 abbrev pub IsPartMade : Day → ℕ → ℕ → Keys → List ℕ → Part → Type 0
 IsPartMade s part parts (Rotor k) text made = made
     ≡ part_of part parts (Some (indicator_of s k)) (rotor_letters s k text)
@@ -90,7 +91,8 @@ IsPartMade s part parts (Pin k) text made =
     (internal : List ℕ) × IsInternalKey (enciphered_choice s k) internal
     × (made ≡ part_of part parts None (pin_letters s k internal text))
 
--- `bytes` are part `part` of `parts` as it is written.
+-- `bytes` are part `part` of `parts` as it is written: `text` enciphered with these keys, after its heading
+-- line.
 abbrev pub IsPartTextMade : Day → ℕ → ℕ → Keys → List ℕ → List ℕ → Type 0
 IsPartTextMade s part parts keys text bytes = (made : Part) × IsPartMade s part parts keys text made
     × (bytes ≡ part_text made)

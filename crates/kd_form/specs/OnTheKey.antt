@@ -1,4 +1,4 @@
--- Whether a machine is ready and on the day's key, and how a call answers one that isn't.
+-- Whether a machine is ready and on the day's key, and what a call returns for a machine that isn't.
 -- Test: orders_are_sent
 use Rattle.std.specs.Prelude.{◌≡◌, ◌⊎◌, Result, Err, MatchResult}
 use Rattle.kd_state.specs.declared.machine.parts.Parts.{Parts}
@@ -13,16 +13,17 @@ pub record IsReadyOnKey (m : Parts) (s : Day) : Type 0 where
   pub ready : IsReady m
   pub on_key : OnKey m s
 
--- The machine isn't ready; or it is ready, but not on the day's key.
+-- The fault is `NotReady` if the machine isn't ready. It is `NotOnKey` if the machine is ready, but not on
+-- the day's key.
 abbrev pub IsKeyFault : Parts → Day → FormFault → Type 0
 IsKeyFault m s fault = (¬ (IsReady m) × (fault ≡ NotReady)) ⊎ (IsReady m × ¬ (OnKey m s) × (fault ≡ NotOnKey))
 
--- The fault satisfies `is_fault`; or it is `NoMemory`, and the call takes memory.
+-- The fault satisfies `is_fault`. Or it is `NoMemory`, and `takes_memory` holds.
 abbrev pub IsFaultOrNoMemory : (FormFault → Type 0) → Type 0 → FormFault → Type 0
 IsFaultOrNoMemory is_fault takes_memory fault = (takes_memory × (fault ≡ NoMemory)) ⊎ is_fault fault
 
--- A machine that isn't ready or isn't on the key is refused. Otherwise the answer satisfies `is_due`, or is a
--- fault by `IsFaultOrNoMemory`.
+-- The answer for a machine that isn't ready or isn't on the key is this fault. Otherwise the answer is a
+-- result that satisfies `is_due`, or a fault that satisfies `IsFaultOrNoMemory`.
 pub data IsAnswerOnKey {X : Type 0} (m : Parts) (s : Day) (is_due : X → Type 0) (is_fault : FormFault → Type 0)
     (takes_memory : Type 0) (answer : Result X FormFault) : Type 0 where
   OffKey : (fault : FormFault) → IsKeyFault m s fault → answer ≡ Err fault

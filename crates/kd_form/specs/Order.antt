@@ -1,5 +1,5 @@
--- Orders: a line of keys for each part, the line TEXT, and the text; and where an order breaks off. Bytes are
--- counted from 1.
+-- Orders: a line of keys for each part, the line TEXT, and the text; and where the head of an order has a
+-- fault. Bytes are counted from 1.
 -- Test: orders_are_sent
 use Rattle.std.specs.Prelude.{codes, ◌≡◌, ◌≢◌, ◌⊎◌, ℕ, ◌+◌, ◌≤◌, List, [], ◌∷◌, ◌++◌, length}
 use Rattle.kd_state.specs.Words.{line_of}
@@ -29,7 +29,7 @@ pub record IsOrderHead (s : Day) (keys : List Keys) (bytes : List ℕ) : Type 0 
   pub lines : BeginsWithKeys s keys (IsLineWithEnd (codes "TEXT")) bytes
   pub few : length keys ≤ 99
 
--- `bytes` are the head of an order, with some keys.
+-- `bytes` are the head of an order, whatever its keys.
 abbrev pub IsAnyOrderHead : Day → List ℕ → Type 0
 IsAnyOrderHead s bytes = (keys : List Keys) × IsOrderHead s keys bytes
 
@@ -38,15 +38,14 @@ pub record IsOrder (s : Day) (order : List ℕ) (keys : List Keys) (head text : 
   pub joined : order ≡ head ++ text
   pub is_head : IsOrderHead s keys head
 
--- `Incomplete`: the bytes begin something that satisfies `Is`, and more has to follow. `Mismatch`: nothing that
--- satisfies
--- `Is` begins with these bytes.
+-- `Incomplete`: the bytes are a proper prefix of bytes that satisfy `Is`. `Mismatch`: no bytes that begin
+-- with these bytes satisfy `Is`.
 abbrev pub IsUnread : (List ℕ → Type 0) → List ℕ → Unread → Type 0
 IsUnread Is bytes Incomplete = (more : List ℕ) × (more ≢ []) × Is (bytes ++ more)
 IsUnread Is bytes Mismatch = (more : List ℕ) → ¬ (Is (bytes ++ more))
 
--- The position of the byte that breaks the head. The bytes before it begin a head but aren't a whole one, and
--- with this byte no head begins. If the order ends in its head, the position is one past its last byte.
+-- The byte at `position` is the first one with which the order can't begin with a head. The bytes before it
+-- are a proper prefix of a head. If the order ends in its head, `position` is one past its last byte.
 pub record IsOrderHeadFault (s : Day) (order : List ℕ) (position : ℕ) : Type 0 where
   pub before : List ℕ
   pub rest : List ℕ

@@ -19,16 +19,12 @@ fraction_text part parts = decimal part ++ codes "/" ++ decimal parts
 
 -- the ground and the enciphered message key, as words
 abbrev pub indicator_words : Option Indicator → List (List ℕ)
-indicator_words (Some indicator) = letters_text indicator.ground ∷ letters_text indicator.enciphered_key ∷ []
+indicator_words (Some indicator) = letters_text indicator.ground_setting ∷ letters_text indicator.enciphered_key ∷ []
 indicator_words None = []
 
 -- the words of a heading line
 abbrev pub heading_words : Heading → List (List ℕ)
 heading_words h = codes "PART" ∷ fraction_text h.part h.parts ∷ decimal h.letters ∷ indicator_words h.indicator
-
--- words, each after a space
-abbrev pub words_after_spaces : List (List ℕ) → List ℕ
-words_after_spaces words = flat_map (λ word. 32 ∷ word) words
 
 -- the line of these words, with LF at its end, and then `rest`
 abbrev pub line_then : List (List ℕ) → List ℕ → List ℕ
@@ -49,3 +45,9 @@ pub record Part : Type 0 where
 
 abbrev pub part_text : Part → List ℕ
 part_text part = line_then (heading_words part.heading) (body_text part.body)
+
+-- ---- What the code holds. No public contract cites these definitions.
+
+-- words, each after a space
+abbrev pub words_after_spaces : List (List ℕ) → List ℕ
+words_after_spaces words = flat_map (λ word. 32 ∷ word) words

@@ -11,7 +11,7 @@ filled_pattern (mark ∷ pattern) letters =
     if mark == 95 then (slice_index letters 0 + 65) ∷ filled_pattern pattern (drop 1 letters)
     else mark ∷ filled_pattern pattern letters
 
--- how many letters the pattern takes
+-- how many `_` the pattern has
 abbrev pub blank_count : List ℕ → ℕ
 blank_count [] = 0
 blank_count (mark ∷ pattern) = if mark == 95 then blank_count pattern + 1 else blank_count pattern
@@ -27,11 +27,12 @@ IsPatternLine pattern bytes = (letters : List ℕ) × IsFilledLine pattern lette
 
 -- ---- one byte
 
--- whether the byte fits the mark
+-- whether the byte fits `mark`, a byte of a pattern: any capital letter fits `_`, and only an equal byte fits
+-- any other mark
 abbrev pub fits_mark : ℕ → ℕ → Bool
 fits_mark mark byte = if mark == 95 then nat_le 65 byte && nat_le byte 90 else byte == mark
 
--- the letter that the byte gives, if the mark is `_`
+-- the letter of the byte if `mark` is `_`; otherwise none
 abbrev pub letters_for_mark : ℕ → ℕ → List ℕ
 letters_for_mark mark byte = if mark == 95 then (byte - 65) ∷ [] else []
 

@@ -1,15 +1,17 @@
--- What the letters of a part's body become: the letters of its text, or the first fault. Parts are counted from 1.
-use Rattle.std.specs.Prelude.{◌≡◌, ℕ, ◌-◌, List, length, take, drop, slice_index, Option, Some, None, Ok, Err}
+-- What the letters of a part's body become: the letters of the part's text, or the first fault. Parts are
+-- counted from 1.
+use Rattle.std.specs.Prelude.{◌≡◌, ℕ, ◌-◌, List, length, take, drop, slice_index, Option, Some, None}
 use Rattle.std.specs.List.{slice_range}
 use Rattle.kd_state.specs.Machine.{AreLetters}
+use Rattle.kd_state.specs.FirstFaults.{AnswerRule, ◌>>=◌, Yields, Finds, Demands}
 use Rattle.kd_state.specs.SheetDay.{Day, OfRotors, OfPins, AreADaysGroup}
 use Rattle.kd_state.specs.TwoCiphers.{sheet_key, IsWindow}
+use Rattle.kd_form.specs.declared.fault.FormFault.{FormFault}
 use Rattle.kd_form.specs.declared.fault.FormFault.TheVariants.{KeyNotOnWheel, WrongGroup, IndicatorSpent}
 use Rattle.kd_form.specs.declared.fault.FormFault.TheVariants.{IndicatorsDiffer}
 use Rattle.kd_form.specs.declared.keys.PinKeys.{PinKeys}
 use Rattle.kd_form.specs.declared.heading.Indicator.{Indicator}
-use Rattle.kd_form.specs.FirstFaults.{Answer, DemandsThen, FindsOrFaultThen}
-use Rattle.kd_form.specs.InternalKey.{IsInternalKey, HaveNoInternalKey}
+use Rattle.kd_form.specs.InternalKey.{IsInternalKey}
 use Rattle.kd_form.specs.Making.{cipher_from, list_letters, enciphered_choice}
 
 -- ---- The letters of a body on a rotor machine: two fillers, the group, and the text, deciphered from the
@@ -17,20 +19,20 @@ use Rattle.kd_form.specs.Making.{cipher_from, list_letters, enciphered_choice}
 -- Source: the singly enciphered message key of the Wehrmacht
 -- Test: a_message_of_1941
 
--- the group, after two fillers
+-- the group, which comes after the two fillers
 abbrev pub group_of_body : List ℕ → List ℕ
 group_of_body letters = slice_range letters 2 5
 
--- the message key in the indicator, deciphered from the ground
+-- the message key in the indicator, deciphered with the ground in the windows
 abbrev pub deciphered_key : Day → Indicator → List ℕ
-deciphered_key s indicator = cipher_from s indicator.ground indicator.enciphered_key
+deciphered_key s indicator = cipher_from s indicator.ground_setting indicator.enciphered_key
 
--- The answer is `WrongGroup` if the group is none of the day's. Otherwise it is the text, deciphered from the
--- message key.
-abbrev pub IsRotorAnswer : Day → ℕ → Indicator → List ℕ → Answer → Type 0
-IsRotorAnswer s part indicator letters =
-    DemandsThen (AreADaysGroup s (group_of_body letters)) (Err (WrongGroup part))
-    (λ v. v ≡ Ok (cipher_from s (deciphered_key s indicator) (drop 5 letters)))
+-- The answer is `WrongGroup` if the group is none of the day's. Otherwise it is the text, deciphered with the
+-- message key in the windows.
+abbrev pub IsRotorAnswer : Day → ℕ → Indicator → List ℕ → AnswerRule FormFault (List ℕ)
+IsRotorAnswer s part indicator letters = do
+  _ ← Demands (AreADaysGroup s (group_of_body letters)) (WrongGroup part)
+  Yields (cipher_from s (deciphered_key s indicator) (drop 5 letters))
 
 -- ---- The letters of a body on the Converter M-209: the indicators, the text, and the indicators again.
 -- Source: War Department TM 11-380
@@ -41,8 +43,8 @@ pub record HasIndicatorsAround (letters : List ℕ) : Type 0 where
   pub again : take 10 letters ≡ drop (length letters - 10) letters
   pub twice : slice_index letters 0 ≡ slice_index letters 1
 
--- What the letters have: the keys (the chosen letter twice, then the external letters), the two letters of the
--- list, and the enciphered text between the indicators.
+-- The sections of a body: the keys (the chosen letter twice, then the external letters), the two list
+-- letters, and the enciphered text between the indicators.
 abbrev pub keys_of_body : List ℕ → PinKeys
 keys_of_body letters = record { chosen = slice_index letters 1; external = slice_range letters 2 8 }
 
@@ -52,31 +54,31 @@ list_of_body letters = slice_range letters 8 10
 abbrev pub text_of_body : List ℕ → List ℕ
 text_of_body letters = slice_range letters 10 (length letters - 10)
 
--- The tests, in order: the indicators are around the text; each external letter is on its wheel; the list is
--- the day's; there is an internal key. The first test that fails gives the fault. Otherwise the answer is the
--- text, deciphered from the internal key.
-abbrev pub IsPinAnswer : Day → ℕ → List ℕ → Answer → Type 0
-IsPinAnswer s part letters =
-    DemandsThen (HasIndicatorsAround letters) (Err (IndicatorsDiffer part))
-    (DemandsThen (IsWindow (sheet_key s) (keys_of_body letters).external) (Err KeyNotOnWheel)
-    (DemandsThen (list_of_body letters ≡ list_letters s) (Err (WrongGroup part))
-    (FindsOrFaultThen (IsInternalKey (enciphered_choice s (keys_of_body letters)))
-    (HaveNoInternalKey (enciphered_choice s (keys_of_body letters)))
-    (Err (IndicatorSpent part)) (λ internal v. v ≡ Ok (cipher_from s internal (text_of_body letters))))))
+-- The tests, in order: the indicators before and after the text are the same; each external letter is on its
+-- wheel; the list letters are the day's; there is an internal key. The first test that fails gives the fault.
+-- Otherwise the answer is the text, deciphered with the internal key showing at the start.
+abbrev pub IsPinAnswer : Day → ℕ → List ℕ → AnswerRule FormFault (List ℕ)
+IsPinAnswer s part letters = do
+  _ ← Demands (HasIndicatorsAround letters) (IndicatorsDiffer part)
+  _ ← Demands (IsWindow (sheet_key s) (keys_of_body letters).external) KeyNotOnWheel
+  _ ← Demands (list_of_body letters ≡ list_letters s) (WrongGroup part)
+  internal ← Finds (IsInternalKey (enciphered_choice s (keys_of_body letters))) (IndicatorSpent part)
+  Yields (cipher_from s internal (text_of_body letters))
 
 -- ---- The letters of a body for either kind of machine.
 -- Test: forms_are_received
 
--- The heading has the indicator of the day's model. On a rotor machine it has a letter for each slot in the
--- ground and in the message key; on the Converter M-209 there is none.
+-- The indicator is one of the day's model. On a rotor machine, its ground and its message key have a letter
+-- for each slot. On the Converter M-209, there is no indicator.
 abbrev pub HasIndicator : Day → Option Indicator → Type 0
-HasIndicator (OfRotors s) (Some i) = AreLetters (length s.wheels) i.ground
+HasIndicator (OfRotors s) (Some i) = AreLetters (length s.wheels) i.ground_setting
     × AreLetters (length s.wheels) i.enciphered_key
 HasIndicator (OfPins s) None = Unit {0}
 HasIndicator (OfRotors s) None = ⊥
 HasIndicator (OfPins s) (Some i) = ⊥
 
--- The answer to the letters of a body, by the indicator of its heading.
-abbrev pub IsLettersAnswer : Day → ℕ → Option Indicator → List ℕ → Answer → Type 0
-IsLettersAnswer s part (Some i) letters v = IsRotorAnswer s part i letters v
-IsLettersAnswer s part None letters v = IsPinAnswer s part letters v
+-- The answer for the letters of a body: as on a rotor machine if the heading has an indicator, otherwise as on
+-- the Converter M-209.
+abbrev pub IsLettersAnswer : Day → ℕ → Option Indicator → List ℕ → AnswerRule FormFault (List ℕ)
+IsLettersAnswer s part (Some i) letters = IsRotorAnswer s part i letters
+IsLettersAnswer s part None letters = IsPinAnswer s part letters

@@ -3,6 +3,7 @@
 -- Test: forms_are_received
 use Rattle.std.specs.Prelude.{◌≡◌, ◌≢◌, ◌⊎◌, ℕ, ◌+◌, ◌-◌, List, length, All, IsTrue, Option, Some, None, Ok, Err}
 use Rattle.kd_tables.specs.Text.{is_text_byte}
+use Rattle.kd_state.specs.FirstFaults.{AnswerRule, ◌>>=◌, Demands}
 use Rattle.kd_state.specs.SheetDay.{Day}
 use Rattle.kd_state.specs.Words.{line_of}
 use Rattle.kd_form.specs.declared.fault.FormFault.{FormFault}
@@ -10,7 +11,6 @@ use Rattle.kd_form.specs.declared.fault.FormFault.TheVariants.{BadByte, BadHeadi
 use Rattle.kd_form.specs.declared.heading.Heading.{Heading}
 use Rattle.kd_form.specs.Part.{heading_words}
 use Rattle.kd_form.specs.Sending.{letters_from, IsFirstBadByteAt}
-use Rattle.kd_form.specs.FirstFaults.{Answer, DemandsThen}
 use Rattle.kd_form.specs.Reading.{IsLettersAnswer}
 use Rattle.kd_form.specs.FormParts.{IsHeading, HasFirstLine}
 
@@ -19,13 +19,14 @@ pub record HasHeading (s : Day) (part : List ℕ) (h : Heading) (body : List ℕ
   pub is_heading : IsHeading s h
   pub first : HasFirstLine part (line_of (heading_words h)) body
 
--- The answer is `CountWrong` if the body hasn't as many letters as its heading says. Otherwise its letters are
--- read.
-abbrev pub IsBodyAnswer : Day → ℕ → Heading → List ℕ → Answer → Type 0
-IsBodyAnswer s number h letters =
-    DemandsThen (length letters ≡ h.letters) (Err (CountWrong number)) (IsLettersAnswer s number h.indicator letters)
+-- The answer is `CountWrong` if the body has more or fewer letters than its heading says. Otherwise it is the
+-- answer for the body's letters.
+abbrev pub IsBodyAnswer : Day → ℕ → Heading → List ℕ → AnswerRule FormFault (List ℕ)
+IsBodyAnswer s number h letters = do
+  _ ← Demands (length letters ≡ h.letters) (CountWrong number)
+  IsLettersAnswer s number h.indicator letters
 
--- The part is part `number` of `parts`, and its body becomes `text`.
+-- The part is part `number` of `parts`, and `text` are the letters that its body deciphers to.
 pub record IsPartRead (s : Day) (number parts : ℕ) (part text : List ℕ) : Type 0 where
   pub heading : Heading
   pub body : List ℕ
@@ -35,13 +36,14 @@ pub record IsPartRead (s : Day) (number parts : ℕ) (part text : List ℕ) : Ty
   pub allowed : All (λ b. IsTrue (is_text_byte b)) body
   pub read : IsBodyAnswer s number heading (letters_from None body) (Ok text)
 
--- `parts` is the expected number of parts, if one is expected.
+-- `parts` is the expected number of parts, or no number is expected yet.
 abbrev pub IsExpectedCount : Option ℕ → ℕ → Type 0
 IsExpectedCount None parts = Unit {0}
 IsExpectedCount (Some first) parts = first ≡ parts
 
--- The first fault that shows before the part ends. It has no heading; or it is another part, or has another
--- number of parts; or a byte of its body isn't allowed. The form has `start` bytes before the part.
+-- The first fault of a part, if the fault shows before the part ends: the part has no valid heading; its
+-- heading has a wrong part number or a wrong number of parts; or a byte of its body isn't allowed. The form
+-- has `start` bytes before the part.
 pub data IsEarlyFault (s : Day) (number : ℕ) (expected : Option ℕ) (start : ℕ) (part : List ℕ)
     (fault : FormFault) : Type 0 where
   InHeading : ((h : Heading) (body : List ℕ) → ¬ (HasHeading s part h body)) → fault ≡ BadHeading number
@@ -54,7 +56,7 @@ pub data IsEarlyFault (s : Day) (number : ℕ) (expected : Option ℕ) (start : 
       → fault ≡ BadByte (start + (length part - length body) + place + 1)
       → IsEarlyFault s number expected start part fault
 
--- A fault that only the whole part shows: its letters are refused.
+-- The first fault of a part, if only the whole part shows it: the letters of its body are refused.
 pub record IsLateFault (s : Day) (number : ℕ) (expected : Option ℕ) (part : List ℕ) (fault : FormFault) : Type 0 where
   pub heading : Heading
   pub body : List ℕ
@@ -64,7 +66,7 @@ pub record IsLateFault (s : Day) (number : ℕ) (expected : Option ℕ) (part : 
   pub allowed : All (λ b. IsTrue (is_text_byte b)) body
   pub found : IsBodyAnswer s number heading (letters_from None body) (Err fault)
 
--- The part has this fault, and it is its first one.
+-- `fault` is the part's first fault.
 abbrev pub IsPartFault : Day → ℕ → Option ℕ → ℕ → List ℕ → FormFault → Type 0
 IsPartFault s number expected start part fault =
     IsEarlyFault s number expected start part fault ⊎ IsLateFault s number expected part fault

@@ -21,7 +21,8 @@ use Rattle.kd_form.specs.KeyPatterns.{IsAnyKeyLine}
 use Rattle.kd_form.specs.Sending.{text_letters, parts_needed, ArePartTextsMade, IsSendable}
 use Rattle.kd_form.specs.SendStream.{IsWritableCount}
 
--- After `count` lines of keys, the line is another line of keys, or the line TEXT.
+-- After `count` lines of keys, the line is another line of keys, if they are fewer than 99; or it is the line
+-- TEXT.
 abbrev pub IsHeadLine : Day → ℕ → List ℕ → Type 0
 IsHeadLine s count line = (IsAnyKeyLine s line × (count < 99)) ⊎ IsLineWithEnd (codes "TEXT") line
 
@@ -42,8 +43,8 @@ pub record AreSuitedKeys (s : Day) (keys : List Keys) : Type 0 where
   pub suited : All (KeysSuitDay s) keys
   pub few : length keys ≤ 99
 
--- All parts of these letters that can be written were made, with keys that suit the day. The writer keeps the
--- next letters, at most as many as a part has.
+-- All parts of these letters that can be written were written, with keys that suit the day. The writer keeps
+-- the next letters, at most as many as a part has.
 pub record AreLettersTaken (s : Day) (keys : List Keys) (w : PartWriter) (letters sent : List ℕ) : Type 0 where
   pub suited : AreSuitedKeys s keys
   pub counted : w.count ≡ length letters
@@ -60,7 +61,7 @@ IsTextEndFault s keys letters fault =
     ⊎ ((letters ≢ []) × (parts_needed s (length letters) ≢ length keys)
     × (fault ≡ PartKeys (parts_needed s (length letters)) (length keys)))
 
--- At the end of the text, the last part was made, or the text is refused.
+-- At the end of the text, the last part was written, or the text is refused.
 abbrev pub IsTextEndAnswer : Day → List Keys → List ℕ → List ℕ → List ℕ → Result (Unit {0}) FormFault → Type 0
 IsTextEndAnswer s keys letters sent made (Ok _) =
     (letters ≢ []) × (parts_needed s (length letters) ≡ length keys)
@@ -73,7 +74,7 @@ pub record IsFreshWriter (w : PartWriter) : Type 0 where
   pub unwritten : w.written ≡ 0
   pub empty : w.letters.items ≡ []
 
--- The order is read to some place in its text.
+-- The order is read up to some place in its text.
 pub record IsTextRead (s : Day) (keys : List Keys) (w : PartWriter) (order sent : List ℕ) : Type 0 where
   pub head : List ℕ
   pub text : List ℕ

@@ -17,14 +17,14 @@ pub record IsAllowedPrefix (text front : List ℕ) : Type 0 where
   pub allowed : All (λ b. IsTrue (is_text_byte b)) front
   pub ends : (byte : ℕ) (more : List ℕ) → rest ≡ byte ∷ more → IsFalse (is_text_byte byte)
 
--- Of `parts` parts, `written` can be written once `letters` letters have come. A part has at most `size`
--- letters, and can be written once a letter of the next part has come.
+-- Of `parts` parts, `written` can be written after `letters` letters. A part has at most `size` letters, and
+-- can be written once a letter of the next part has been read.
 pub record IsWritableCount (size parts letters written : ℕ) : Type 0 where
   pub due : (written ≡ 0) ⊎ ((written < parts) × (size * written < letters))
   pub most : (other : ℕ) → other < parts → size * other < letters → other ≤ written
 
--- What is written of an order before its end. If its text hasn't begun, or its keys don't suit the day, it is
--- nothing. Otherwise it is the parts that can be written.
+-- `sent` is what is written of an order before its end. If the text hasn't begun, or the keys don't suit the
+-- day, that is nothing. Otherwise it is the parts that can be written.
 pub data IsSentBefore (s : Day) (order sent : List ℕ) : Type 0 where
   NothingSent : ((keys : List Keys) (head text : List ℕ) → IsOrder s order keys head text
       → ¬ (All (KeysSuitDay s) keys))

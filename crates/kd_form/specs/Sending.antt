@@ -18,12 +18,12 @@ use Rattle.kd_form.specs.Order.{IsOrder, IsOrderHeadFault}
 -- ---- The letters that an order's text gives, and how many parts they need.
 -- Test: orders_are_sent
 
--- the letter that a space stands for: Z on the Converter M-209, and none on a rotor machine
+-- the letter that is sent for a space: Z on the Converter M-209; none on a rotor machine
 abbrev pub blank_of : Day → Option ℕ
 blank_of (OfRotors s) = None
 blank_of (OfPins s) = Some 25
 
--- the letter that a byte of a text gives; a space gives `blank`
+-- the letter that a byte of a text gives: a capital letter gives itself, a space `blank`, any other byte none
 abbrev pub letter_of_byte : Option ℕ → ℕ → Option ℕ
 letter_of_byte blank byte = if is_capital byte then Some (byte - 65) else if byte == 32 then blank else None
 
@@ -70,13 +70,15 @@ pub record IsFirstKeysFault (s : Day) (keys : List Keys) (fault : FormFault) : T
   pub suited : All (KeysSuitDay s) before
   pub is : IsKeysFault s (length before + 1) unsuited fault
 
--- The order has no fault that stands: its keys suit the day, and each byte of its text is allowed.
+-- The order has a whole head, its keys suit the day, and each byte of its text is allowed. So no fault stands
+-- in it.
 pub record IsSendable (s : Day) (order : List ℕ) (keys : List Keys) (head text : List ℕ) : Type 0 where
   pub is_order : IsOrder s order keys head text
   pub suited : All (KeysSuitDay s) keys
   pub allowed : All (λ b. IsTrue (is_text_byte b)) text
 
--- The fault that an order has whatever bytes follow: in its head, in its keys, or in a byte of its text.
+-- The fault that an order has and keeps, whatever bytes follow: in its head, in its keys, or in a byte of its
+-- text.
 pub data IsOrderFaultForGood (s : Day) (order : List ℕ) (fault : FormFault) : Type 0 where
   InHead : (position : ℕ) → IsOrderHeadFault s order position → position ≤ length order → fault ≡ BadByte position
       → IsOrderFaultForGood s order fault
@@ -97,15 +99,15 @@ pub data IsOrderFaultAtEnd (s : Day) (order : List ℕ) (fault : FormFault) : Ty
       → parts_needed s (length (text_letters s text)) ≢ length keys
       → fault ≡ PartKeys (parts_needed s (length (text_letters s text))) (length keys) → IsOrderFaultAtEnd s order fault
 
--- The order has this fault, and it is its first one.
+-- `fault` is the order's first fault.
 abbrev pub IsSendFault : Day → List ℕ → FormFault → Type 0
 IsSendFault s order fault = IsOrderFaultForGood s order fault ⊎ IsOrderFaultAtEnd s order fault
 
 -- ---- The form that an order becomes.
 -- Test: long_texts_are_sent_and_received
 
--- The bytes are parts of a form, from `part` on, of `parts` parts in all. Each is made from its piece of text
--- with its keys.
+-- The bytes are the parts of a form from part `part` on, of `parts` parts in all. Each part is made from its
+-- own piece of the text, with its own keys.
 abbrev pub ArePartTextsMade : Day → ℕ → ℕ → List Keys → List (List ℕ) → List ℕ → Type 0
 ArePartTextsMade s part parts [] [] bytes = bytes ≡ []
 ArePartTextsMade s part parts (k ∷ keys) (piece ∷ pieces) bytes =

@@ -10,7 +10,7 @@ use Rattle.kd_form.specs.declared.stream.interruption.Interruption.{Interruption
 use Rattle.kd_form.specs.declared.stream.interruption.Interruption.TheVariants.{Device, Refused}
 use Rattle.kd_form.specs.Streams.{Message, IsOpen, IsRefused, IsMessageAnswer, FallsShort}
 
--- The reader has read `bytes` and made `text`, and no fault stands in `bytes`.
+-- The reader has read `bytes` and output `text`, and no fault stands in `bytes`.
 pub record HasReadSoFar (m : Message) (holds : List ℕ → List ℕ → Type 0) (bytes text : List ℕ) : Type 0 where
   pub is : holds bytes text
   pub open_yet : IsOpen m bytes text
@@ -22,7 +22,7 @@ pub record HasRoom (m : Message) (holds : List ℕ → List ℕ → Type 0) (roo
   pub held : HasReadSoFar m holds bytes text
   pub within : length bytes + room < 2 ^ 63
 
--- The reader reads `byte` too, and makes `made`. Or a fault stands in the bytes with this one.
+-- The reader reads `byte` after the bytes before, and outputs `made`. Or a fault stands once `byte` is read.
 abbrev pub IsFeedAnswer : Message → (List ℕ → List ℕ → Type 0) → (List ℕ → List ℕ → Type 0) → ℕ → List ℕ
     → Result (Unit {0}) FormFault → Type 0
 IsFeedAnswer m old new byte made answer =
@@ -30,12 +30,12 @@ IsFeedAnswer m old new byte made answer =
     → MatchResult answer (λ _. HasReadSoFar m new (bytes ++ byte ∷ []) (text ++ made))
     (IsRefused m (bytes ++ byte ∷ []) text)
 
--- At the end of the message, the reader makes `made`.
+-- At the end of the message, the reader outputs `made`, the rest of the result.
 abbrev pub IsEndAnswer : Message → (List ℕ → List ℕ → Type 0) → List ℕ → Result (Unit {0}) FormFault → Type 0
 IsEndAnswer m old made answer = (bytes text : List ℕ) → HasReadSoFar m old bytes text
     → IsMessageAnswer m bytes (text ++ made) answer
 
--- the fault that is answered for a stop
+-- the fault that a call returns for an interruption
 abbrev pub fault_of_interruption : Interruption → FormFault
 fault_of_interruption Device = faults.Device
 fault_of_interruption (Refused fault) = fault
@@ -61,7 +61,7 @@ HasBeenFed m new bytes text (Ok _) = HasReadSoFar m new bytes text
 HasBeenFed m new bytes text (Err (Refused fault)) = IsRefused m bytes text fault
 HasBeenFed m new bytes text (Err Device) = IsPrefixOfDue m bytes text
 
--- The reader read more bytes, and what it made of them was written.
+-- The reader has read more bytes, and its output for them was written.
 pub record IsFed (m : Message) (new : List ℕ → List ℕ → Type 0) (bytes text : List ℕ) (sink : Port)
     (answer : Result (Unit {0}) Interruption) : Type 0 where
   pub made : List ℕ
@@ -75,7 +75,7 @@ IsFeedAllAnswer m old new more sink answer =
 
 -- ---- the end
 
--- The whole text was written. If the sink failed, only a prefix of it was.
+-- All that is due at the end was written. If the sink failed, only a proper prefix of it was.
 abbrev pub HasBeenEnded : Message → List ℕ → List ℕ → Result (Unit {0}) Interruption → Type 0
 HasBeenEnded m bytes text (Ok _) = IsMessageAnswer m bytes text (Ok tt)
 HasBeenEnded m bytes text (Err (Refused fault)) = IsMessageAnswer m bytes text (Err fault)
@@ -92,7 +92,7 @@ abbrev pub IsFinishAnswer : Message → (List ℕ → List ℕ → Type 0) → P
 IsFinishAnswer m old sink answer = (bytes text : List ℕ) → HasReadSoFar m old bytes text
     → IsClosed m bytes text sink answer
 
--- the answer, with the fault of a stop
+-- the answer, with an interruption as the fault that a call returns for it
 abbrev pub answer_with_fault : Result (Unit {0}) Interruption → Result (Unit {0}) FormFault
 answer_with_fault (Ok _) = Ok tt
 answer_with_fault (Err stop) = Err (fault_of_interruption stop)
@@ -106,7 +106,7 @@ pub record IsCloseAnswer (m : Message) (old : List ℕ → List ℕ → Type 0) 
 
 -- ---- a read
 
--- Why a read stops: the source failed, or reading its bytes stopped.
+-- Why reading a chunk stopped: the source failed, the bytes were refused, or the sink failed.
 pub data IsReadStopped (m : Message) (new : List ℕ → List ℕ → Type 0) (source sink : Port) (read text : List ℕ)
     (stop : Interruption) : Type 0 where
   AtSource : IsOpen m read text → FailsAlone source sink → stop ≡ Device
@@ -115,8 +115,8 @@ pub data IsReadStopped (m : Message) (new : List ℕ → List ℕ → Type 0) (s
       → sink.has_failed ≡ (sink.had_failed || is_device_interruption {T = Unit {0}} (Err stop))
       → IsReadStopped m new source sink read text stop
 
--- `count` bytes were taken from the source and read, and `count` is 0 only at the source's end. Or the read
--- stopped.
+-- `count` bytes were taken from the source and read, and `count` is 0 only at the source's end. Or reading
+-- them stopped.
 abbrev pub HasBeenRead : Message → (List ℕ → List ℕ → Type 0) → Port → Port → List ℕ → List ℕ → List ℕ
     → Result ℕ Interruption
     → Type 0
@@ -144,7 +144,7 @@ IsReadNextAnswer m old new room source sink answer =
 
 -- ---- a whole message
 
--- The text that the message becomes was written, or the message has a fault, or the sink failed.
+-- The text that the message becomes was written; or the message has a fault; or the sink failed.
 abbrev pub IsWriteMessageAnswer : Message → List ℕ → Port → Result (Unit {0}) Interruption → Type 0
 IsWriteMessageAnswer m bytes sink (Ok _) = (text : List ℕ) × m.becomes bytes text × Appends sink.had sink.has text
 IsWriteMessageAnswer m bytes sink (Err (Refused fault)) = m.refused bytes fault

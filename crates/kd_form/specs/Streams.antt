@@ -1,4 +1,4 @@
--- A kind of message, by its bytes: its faults, what it becomes, and what is written.
+-- Kinds of messages: which faults their bytes have, what they become, and what is written.
 use Rattle.std.specs.Prelude.{◌≡◌, ◌≢◌, ℕ, ◌≤◌, Bool, true, false, List, [], ◌∷◌, ◌++◌, length, Option, None, Some}
 use Rattle.std.specs.Prelude.{Result, Ok, Err, MatchResult}
 use Rattle.std.specs.Io.{StartsWith}
@@ -10,24 +10,19 @@ use Rattle.kd_form.specs.declared.fault.FormFault.{FormFault}
 use Rattle.kd_form.specs.declared.fault.FormFault.TheVariants.{NotReady, Device, NotOnKey, ReadTooLong}
 use Rattle.kd_form.specs.OnTheKey.{IsReadyOnKey, IsKeyFault}
 
--- A kind of message, by its bytes: which fault stands; which fault the whole message has; what the message
--- becomes; and what is written before a fault, or, without one, before more bytes are read.
+-- A kind of message, as properties of bytes: which fault stands in them; which fault they have as a whole
+-- message; what they become as a whole message; and what is written before a fault, or, without a fault,
+-- before more bytes are read.
 pub record Message : Type 1 where
   pub stands : List ℕ → FormFault → Type 0
   pub refused : List ℕ → FormFault → Type 0
   pub becomes : List ℕ → List ℕ → Type 0
   pub before : Option FormFault → List ℕ → List ℕ → Type 0
 
--- No fault stands in the bytes, and `text` is written by then.
+-- No fault stands in the bytes, and `text` is what is written before more bytes are read.
 pub record IsOpen (m : Message) (bytes text : List ℕ) : Type 0 where
   pub unrefused : (fault : FormFault) → ¬ (m.stands bytes fault)
   pub written : m.before None bytes text
-
--- The bytes have this fault whatever bytes follow, and `text` is written before it.
-pub record IsRefused (m : Message) (bytes text : List ℕ) (fault : FormFault) : Type 0 where
-  pub stands : (more : List ℕ) → m.stands (bytes ++ more) fault
-  pub refused : (more : List ℕ) → m.refused (bytes ++ more) fault
-  pub written : (more : List ℕ) → m.before (Some fault) (bytes ++ more) text
 
 -- The bytes are the whole message. It becomes `text`, or it has a fault, before which `text` is written.
 abbrev pub IsMessageAnswer : Message → List ℕ → List ℕ → Result (Unit {0}) FormFault → Type 0
@@ -38,7 +33,7 @@ IsMessageAnswer m bytes text answer =
 -- Code: chunk by chunk; orders and forms byte by byte.
 -- Test: orders_are_sent, forms_are_received
 
--- `text` has to be written: once a prefix of `read` has come, or at the end of the source.
+-- `text` has to be written: because a prefix of `read` was read, or because the source has ended.
 pub data IsDue (m : Message) (source : Port) (read text : List ℕ) : Type 0 where
   ByThen : (front : List ℕ) → StartsWith read front → IsOpen m front text → IsDue m source read text
   ByTheEnd : (answer : Result (Unit {0}) FormFault) → IsAtEnd source.has → IsMessageAnswer m read text answer
@@ -54,10 +49,10 @@ pub record FallsShort (due text : List ℕ) : Type 0 where
   pub some : missing ≢ []
   pub joined : due ≡ text ++ missing
 
--- What was read, up to the limit, and what was written, by the answer. `MessageComplete`: the message is complete.
--- `FaultForGood`: a fault stands, whatever bytes follow. `FaultAtEnd`: no fault stands, but the whole message has one.
--- `TooLong`: one byte more than the limit came. `SourceFails`: all that was due by then is written.
--- `SinkFails`: less than what was due is written.
+-- What was read, up to the limit, and what was written, for each answer. `MessageComplete`: the message is
+-- complete. `FaultForGood`: a fault stands, whatever bytes follow. `FaultAtEnd`: no fault stands, but the
+-- whole message has one. `TooLong`: one byte more than the limit was read. `SourceFails`: all that was
+-- due before is written. `SinkFails`: less than what was due is written.
 pub data IsStreamAnswer (m : Message) (source sink : Port) (read text : List ℕ)
     (answer : Result (Unit {0}) FormFault) : Type 0 where
   MessageComplete : length read ≤ read_limit → IsAtEnd source.has → m.becomes read text → HaveNotFailed source sink
@@ -104,8 +99,8 @@ pub record IsUntouched (p : Port) : Type 0 where
   pub has : p.has ≡ p.had
   pub well : HasNotFailed p
 
--- If there is a fault beforehand, it is the answer, and both ports are left as they were. Otherwise the message
--- is read and written.
+-- If there is a fault before anything is read, it is the answer, and both ports are left as they were.
+-- Otherwise `may` holds, the message is read, and its result is written.
 pub data StreamsUnlessFault (is_fault : FormFault → Type 0) (may : Type 0) (message : Message) (source sink : Port)
     (answer : Result (Unit {0}) FormFault) : Type 0 where
   FaultBefore : (fault : FormFault) → is_fault fault → answer ≡ Err fault → IsUntouched source → IsUntouched sink
@@ -117,3 +112,11 @@ pub data StreamsUnlessFault (is_fault : FormFault → Type 0) (may : Type 0) (me
 abbrev pub StreamsOnKey : Parts → Day → Message → Port → Port → Result (Unit {0}) FormFault → Type 0
 StreamsOnKey m s message source sink answer = StreamsUnlessFault (IsKeyFault m s) (IsReadyOnKey m s) message source
     sink answer
+
+-- ---- What the code holds. No public contract cites these definitions.
+
+-- The bytes have this fault whatever bytes follow, and `text` is written before it.
+pub record IsRefused (m : Message) (bytes text : List ℕ) (fault : FormFault) : Type 0 where
+  pub stands : (more : List ℕ) → m.stands (bytes ++ more) fault
+  pub refused : (more : List ℕ) → m.refused (bytes ++ more) fault
+  pub written : (more : List ℕ) → m.before (Some fault) (bytes ++ more) text

@@ -27,7 +27,7 @@ cipher_text enciphers bytes = letters_text (enciphers (typed_letters bytes))
 abbrev pub IsTextFault : List ℕ → FormFault → Type 0
 IsTextFault bytes fault = (place : ℕ) × IsFirstBadByteAt bytes place × (fault ≡ BadByte (place + 1))
 
--- texts, as a kind of message: each letter before the first byte that isn't allowed lights its lamp
+-- texts, as a kind of message: the letters before the first byte that isn't allowed are enciphered
 abbrev pub text_message : (List ℕ → List ℕ) → Message
 text_message enciphers = record {
   stands = IsTextFault;
@@ -44,7 +44,8 @@ TypesIfReady m source sink answer =
 
 -- ---- What the code holds. No public contract cites these definitions.
 
--- `lamps` is the ciphertext of the letters in `bytes`, and `left` is the key after as many steps.
+-- `lamps` is the ciphertext of the letters in `bytes`, and `left` is the key after a key press for each of
+-- these letters.
 pub record IsTypedChunk (key left : EngineKey) (bytes lamps : List ℕ) : Type 0 where
   pub cipher : lamps ≡ cipher_text (cipher key) bytes
   pub after : left ≡ engine_key_after key (length (typed_letters bytes))
@@ -55,8 +56,8 @@ pub record IsAllowedUpTo (bytes : List ℕ) (front : ℕ) : Type 0 where
   pub allowed : All (λ b. IsTrue (is_text_byte b)) (take front bytes)
   pub next : front < length bytes → IsFalse (is_text_byte (slice_index bytes front))
 
--- All of `bytes` are allowed and were typed. `text` is their ciphertext, and the engine enciphers the bytes
--- after them.
+-- All of `bytes` are allowed and were typed. `text` is their ciphertext, and the engine is set to encipher
+-- what follows them.
 pub record HasTyped (m : Parts) (t : Typist) (bytes text : List ℕ) : Type 0 where
   pub counted : t.read ≡ length bytes
   pub allowed : All (λ b. IsTrue (is_text_byte b)) bytes

@@ -26,9 +26,9 @@ pub enum FormFault {
     PartKeys { needed: usize, given: usize },
     /// An external letter isn't on its wheel.
     KeyNotOnWheel,
-    /// This part's group is none of the day's; on the Converter M-209, its list isn't the day's.
+    /// The part's group isn't one of the day's; on the Converter M-209, its list letters aren't the day's.
     WrongGroup(u8),
-    /// This part's enciphered letters run out before each wheel has a letter of the internal key.
+    /// This part's twelve enciphered letters run out before each wheel has a letter of the internal key.
     IndicatorSpent(u8),
     /// This part doesn't begin with a heading of the day's model.
     BadHeading(u8),
@@ -36,14 +36,14 @@ pub enum FormFault {
     CountWrong(u8),
     /// This part ends in other indicators than it begins with, or their first two letters differ.
     IndicatorsDiffer(u8),
-    /// The parts aren't numbered in order, their headings differ in the number of parts, or one is missing.
+    /// Parts are out of order or missing, or their headings differ in the number of parts.
     PartOrder,
     /// The source has more than `READ_LIMIT` bytes.
     ReadTooLong,
 }
 
 impl FormFault {
-    /// The refusal's number and name, followed by the numbers that the variant has.
+    /// Returns the refusal's number and name, followed by the numbers in the variant.
     pub fn text(&self) -> Text
         ensures { result.bytes ≡ form_fault_text self.now }
     {

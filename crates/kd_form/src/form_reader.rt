@@ -16,28 +16,28 @@ use super::text::is_text_byte;
 use arrayvec::ArrayVec;
 use kd_state::SheetDay;
 
-/// How many bytes of a heading line are held: more than any valid one has, its line end included.
+/// How many bytes of a heading line are kept: more than a valid heading line has, its line end included.
 const LINE: usize = 64;
 
-/// A reader of a form, which holds one part at a time.
+/// A reader of a form, which keeps one part at a time.
 #[derive(Drop)]
 pub(crate) struct FormReader {
     /// How many bytes of the form were read.
     pub(crate) position: usize,
     /// The number of the current part, counted from 1.
     pub(crate) number: u8,
-    /// How many parts the form has, once its first part has been read.
+    /// How many parts the headings say the form has; `None` until the first part has been read.
     pub(crate) expected: Option<u8>,
     /// Whether the next byte is in the heading line or in the body of the current part.
     pub(crate) stage: FormStage,
 }
 
-/// Whether the next byte is in a heading line or in a body, with what is held of it so far.
+/// The section of a part that the next byte belongs to, with what is kept of this section so far.
 #[derive(Drop)]
 pub(crate) enum FormStage {
-    /// In the heading line; its first `LINE` bytes are held.
+    /// The heading line; its first `LINE` bytes are kept.
     Heading(ArrayVec<u8, LINE>),
-    /// In the body.
+    /// The body.
     Body(PartBody),
 }
 
@@ -149,9 +149,9 @@ fn heading_from(digit: u8) -> ArrayVec<u8, LINE>
     line
 }
 
-/// Returns `heading` if its part is `number` and it has the expected number of parts.
+/// Returns `heading` if its part number is `number` and its number of parts is the expected one.
 ///
-/// The fault is `BadHeading` if there is no heading, and `PartOrder` if one of the numbers differs.
+/// The fault is `BadHeading` if there is no heading, and `PartOrder` if one of the two numbers is wrong.
 fn check_heading(
     number: u8,
     expected: Option<u8>,
@@ -170,7 +170,7 @@ fn check_heading(
     Ok(heading)
 }
 
-/// Whether `parts` is the number in the form's first heading, or there was no heading yet.
+/// Whether `parts` is `expected`, the number in the form's first heading; true if nothing is expected yet.
 fn is_expected(expected: Option<u8>, parts: u8) -> bool
     ensures { IsTrue result ↔ IsExpectedCount expected parts }
 {

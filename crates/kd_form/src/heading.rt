@@ -26,7 +26,7 @@ pub(crate) struct Heading {
 #[derive(Clone, Copy)]
 pub(crate) struct Indicator {
     /// The ground: the letters in the windows before the message key is deciphered.
-    pub(crate) ground: PerSlot<Letter>,
+    pub(crate) ground_setting: PerSlot<Letter>,
     /// The enciphered message key.
     pub(crate) enciphered_key: PerSlot<Letter>,
 }
@@ -58,13 +58,13 @@ fn push_indicator<const N: usize>(text: &mut ArrayString<N>, indicator: &Option<
 {
     if let Some(
         Indicator {
-            ground,
+            ground_setting,
             enciphered_key,
         },
     ) = indicator
     {
         text.push_str(" ");
-        push_letters(text, ground.as_slice());
+        push_letters(text, ground_setting.as_slice());
         text.push_str(" ");
         push_letters(text, enciphered_key.as_slice());
     }

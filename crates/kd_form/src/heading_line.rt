@@ -8,8 +8,8 @@ ghost use Rattle.kd_form.specs.declared.heading.Heading.{Heading};
 ghost use Rattle.kd_form.specs.Part.{fraction_text, indicator_words, heading_words};
 ghost use Rattle.kd_form.specs.FormParts.{IsFraction, AreFewLetters, IsLetterCount, IsHeading};
 ghost use Rattle.kd_form.specs.FormParts.{AreHeadingWords, IsLineText};
+ghost use Rattle.kd_form.specs.FormReading.{IsOpenHeading, IsEndedHeading};
 ghost use Rattle.kd_form.specs.Reading.{HasIndicator};
-ghost use Rattle.kd_form.specs.Receiving.{HasHeading};
 
 use super::heading::{Heading, Indicator};
 use super::key_line::slots_of;
@@ -33,7 +33,7 @@ fn read_fraction(word: &[u8]) -> Option<(u8, u8)>
     Some((part, parts))
 }
 
-/// Reads `word` as a number of letters that a body of the day's model can have.
+/// Reads `word` as a count of letters, if a body may have so many letters on the day's model.
 #[tactic(auto, using(crate::proofs::Headings::same_count))]
 fn read_letter_count(day: &SheetDay, word: &[u8]) -> Option<u16>
     ensures { MatchOption result
@@ -79,7 +79,9 @@ fn read_slots(slots: usize, word: &[u8]) -> Option<PerSlot<Letter>>
     PerSlot::new(letters.as_slice())
 }
 
-/// Reads the words after the count; on the Converter M-209, which has none, the answer is `Some(None)`.
+/// Reads the words after the letter count in a heading.
+///
+/// On the Converter M-209, a heading has no such words, and the result is `Some(None)`.
 fn read_indicator(day: &SheetDay, words: &[&[u8]]) -> Option<Option<Indicator>>
     ensures { MatchOption result
         ((found : _) → HasIndicator day.now found
@@ -89,11 +91,11 @@ fn read_indicator(day: &SheetDay, words: &[&[u8]]) -> Option<Option<Indicator>>
 {
     match (slots_of(day), words) {
         (None, []) => Some(None),
-        (Some(slots), [ground, enciphered_key]) => {
-            let ground = read_slots(slots, ground)?;
+        (Some(slots), [ground_setting, enciphered_key]) => {
+            let ground_setting = read_slots(slots, ground_setting)?;
             let enciphered_key = read_slots(slots, enciphered_key)?;
             Some(Some(Indicator {
-                ground,
+                ground_setting,
                 enciphered_key,
             }))
         }
@@ -101,7 +103,7 @@ fn read_indicator(day: &SheetDay, words: &[&[u8]]) -> Option<Option<Indicator>>
     }
 }
 
-/// Whether a body of the day's model can have `count` letters.
+/// Whether a body may have `count` letters on the day's model.
 fn is_letter_count(day: &SheetDay, count: u16) -> bool
     ensures { IsTrue result ↔ IsLetterCount day.now count }
 {
@@ -149,9 +151,8 @@ fn heading_of_line(day: &SheetDay, line: &[u8]) -> Option<Heading>
 ///
 /// `line` is the heading line, or its first 64 bytes if it is longer.
 pub(crate) fn heading_of_open(day: &SheetDay, line: &[u8]) -> Option<Heading>
-    ensures { (part : List ℕ) → IsWithout 10 part → line.now ≡ take 64 part → MatchOption result
-        ((h : Heading) (body : List ℕ) → ¬ HasHeading day.now part h body)
-        (λ h. HasHeading day.now part h []) }
+    ensures { (part : List ℕ) → IsWithout 10 part → line.now ≡ take 64 part
+        → IsOpenHeading day.now part result }
 {
     prove!(slots_of(day) != Some(0));
     heading_of_line(day, line)
@@ -161,9 +162,8 @@ pub(crate) fn heading_of_open(day: &SheetDay, line: &[u8]) -> Option<Heading>
 ///
 /// `line` is the heading line without the LF, or its first 64 bytes if it is longer.
 pub(crate) fn heading_of_ended(day: &SheetDay, line: &[u8]) -> Option<Heading>
-    ensures { (part : List ℕ) → IsWithout 10 part → line.now ≡ take 64 part → MatchOption result
-        ((h : Heading) (body : List ℕ) → ¬ HasHeading day.now (part ++ 10 ∷ []) h body)
-        (λ h. IsHeading day.now h × IsLineText part (line_of (heading_words h))) }
+    ensures { (part : List ℕ) → IsWithout 10 part → line.now ≡ take 64 part
+        → IsEndedHeading day.now part result }
 {
     prove!(slots_of(day) != Some(0));
     heading_of_line(day, without_return(line))

@@ -9,7 +9,7 @@ use super::own_machine::OwnMachine;
 use arrayvec::ArrayVec;
 use kd_tables::{Letter, place_on_wheel};
 
-/// The internal key that `keys` give on the day's machine, or `None` if the twelve letters run out.
+/// The internal key for `keys` on the day's machine; `None` if the enciphered letters give none.
 pub(crate) fn internal_key_of(own: &mut OwnMachine, keys: &PinKeys) -> Option<ArrayVec<Letter, 6>>
     requires { IsWindow (sheet_key own.old) keys.now.external }
     ensures day { own.new ≡ own.old }
@@ -22,7 +22,7 @@ pub(crate) fn internal_key_of(own: &mut OwnMachine, keys: &PinKeys) -> Option<Ar
     pick_internal_key(&letters)
 }
 
-/// Picks a letter for each of the six wheels, in order; `None` if `letters` run out.
+/// Picks a letter for each of the six wheels, in order; `None` if `letters` run out first.
 ///
 /// A letter that isn't on the next wheel is skipped.
 #[tactic(auto, using(crate::proofs::MadeParts::picking_none, crate::proofs::MadeParts::picking_more))]

@@ -1,4 +1,4 @@
-//! Checks that the keys of an order suit the day: its groups, its pin wheels and its cipher.
+//! Checks that the keys of an order suit the day: the day's groups, its pin wheels and its cipher.
 ghost use Rattle.std.specs.Prelude.{◌≤◌, length, All, MatchResult};
 ghost use Rattle.kd_form.specs.Keys.{AreKeys};
 ghost use Rattle.kd_form.specs.Making.{KeysSuitDay};

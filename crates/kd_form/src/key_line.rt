@@ -34,7 +34,7 @@ pub(crate) fn slots_of(day: &SheetDay) -> Option<usize>
     }
 }
 
-/// Makes keys from the letters of a line, in the line's order.
+/// Makes keys from the letters in a line of keys, in the order of the line.
 pub(crate) fn keys_of(day: &SheetDay, letters: &[Letter]) -> Keys
     requires { AreLetters (blank_count (key_pattern day.now)) letters.now }
     ensures letters { key_letters result ≡ letters.now }
@@ -46,30 +46,30 @@ pub(crate) fn keys_of(day: &SheetDay, letters: &[Letter]) -> Keys
     }
 }
 
-/// Makes keys from the letters of a line, for a machine with `slots` slots.
+/// Makes the keys for a machine with `slots` slots from the letters in a line of keys.
 fn rotor_keys(slots: usize, letters: &[Letter]) -> RotorKeys
     requires slots { (slots ≡ 3) ⊎ (slots ≡ 4) }
     requires letters { AreLetters (slots + slots + 5) letters.now }
     ensures letters { letters.now
-        ≡ result.ground ++ (result.message_key ++ (result.fillers ++ result.group)) }
+        ≡ result.ground_setting ++ (result.message_key ++ (result.fillers ++ result.group)) }
     ensures keys { AreRotorKeys slots result }
 {
-    let (ground, rest) = letters.split_at(slots);
+    let (ground_setting, rest) = letters.split_at(slots);
     let (message_key, rest) = rest.split_at(slots);
     let (fillers, group) = rest.split_at(2);
-    let ground = PerSlot::new(ground).unwrap();
+    let ground_setting = PerSlot::new(ground_setting).unwrap();
     let message_key = PerSlot::new(message_key).unwrap();
     let fillers = <[Letter; 2]>::try_from(fillers).unwrap();
     let group = <[Letter; 3]>::try_from(group).unwrap();
     RotorKeys {
-        ground,
+        ground_setting,
         message_key,
         fillers,
         group,
     }
 }
 
-/// Makes keys from the letters of a line, for the Converter M-209.
+/// Makes the keys for the Converter M-209 from the letters in a line of keys.
 fn pin_keys(letters: &[Letter]) -> PinKeys
     requires { AreLetters 7 letters.now }
     ensures letters { letters.now ≡ result.chosen ∷ result.external }

@@ -13,7 +13,7 @@ pub(crate) enum Keys {
 #[derive(Clone, Copy)]
 pub(crate) struct RotorKeys {
     /// The ground: the letters in the windows before the message key is enciphered.
-    pub(crate) ground: PerSlot<Letter>,
+    pub(crate) ground_setting: PerSlot<Letter>,
     /// The message key: the letters in the windows before the text is enciphered.
     pub(crate) message_key: PerSlot<Letter>,
     /// Two letters of the sender's choice, written before the group.

@@ -68,7 +68,7 @@ fn part_text(
     text
 }
 
-/// The indicator: the ground, and the message key enciphered from the ground.
+/// The indicator: the ground, and the message key enciphered with the ground in the windows.
 #[tactic(auto, using(crate::proofs::MadeParts::enciphered_length))]
 fn indicator_of(own: &mut OwnMachine, keys: &RotorKeys) -> Indicator
     requires { AreKeys own.old (Keys.Rotor keys.now) }
@@ -77,11 +77,11 @@ fn indicator_of(own: &mut OwnMachine, keys: &RotorKeys) -> Indicator
 {
     prove!(keys.message_key.as_slice().len() <= 4);
     let enciphered_key = own.encipher_text::<4>(
-        keys.ground.as_slice(),
+        keys.ground_setting.as_slice(),
         keys.message_key.as_slice(),
     );
     Indicator {
-        ground: keys.ground,
+        ground_setting: keys.ground_setting,
         enciphered_key: PerSlot::new(enciphered_key.as_slice()).unwrap(),
     }
 }
@@ -123,7 +123,7 @@ fn pin_letters(own: &mut OwnMachine, keys: &PinKeys, text: &[Letter]) -> ArrayVe
     letters
 }
 
-/// The ten indicators: the chosen letter twice, the external letters, and the letters of the day's list.
+/// The ten indicators: the chosen letter twice, the external letters, and the day's two list letters.
 pub(crate) fn indicators_of(day: &SheetDay, keys: &PinKeys) -> ArrayVec<Letter, 10>
     requires { AreKeys day.now (Keys.Pin keys.now) }
     ensures value { result.items ≡ pin_indicators day.now keys.now }
@@ -138,7 +138,7 @@ pub(crate) fn indicators_of(day: &SheetDay, keys: &PinKeys) -> ArrayVec<Letter, 
     indicators
 }
 
-/// `text`, filled with X to whole groups of five.
+/// `text`, filled with X to whole groups of five letters.
 fn fill_last_group(text: &[Letter]) -> ArrayVec<Letter, 500>
     requires { length text.now ≤ 500 }
     ensures { result.items ≡ fill_last_group text.now }

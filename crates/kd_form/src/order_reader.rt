@@ -1,4 +1,6 @@
 //! Reads an order byte by byte, and makes the parts of its form.
+//!
+//! An order says what to send: it has a line of keys for each part, then the line TEXT, then the text.
 ghost use Rattle.std.specs.Prelude.{◌≡◌, [], ◌∷◌, ◌++◌};
 
 pub(crate) mod head;

@@ -1,6 +1,6 @@
 //! Reads the body of a part of a form byte by byte.
 ghost use Rattle.std.specs.Prelude.{codes, ◌≡◌, ◌≢◌, ◌↔◌, ◌<◌, ◌≤◌, ℕ, List, [], ◌∷◌, ◌++◌, length};
-ghost use Rattle.std.specs.Prelude.{take, slice_index, IsTrue, MatchResult, MatchOption, OnErr};
+ghost use Rattle.std.specs.Prelude.{take, slice_index, IsTrue, MatchOption, OnErr};
 ghost use Rattle.std.specs.Prelude.{OnOk};
 ghost use Rattle.std.specs.Option.{option_to_list};
 ghost use Rattle.kd_tables.specs.Text.{is_text_byte};
@@ -9,8 +9,7 @@ ghost use Rattle.kd_form.specs.Order.{IsLineWithEnd};
 ghost use Rattle.kd_form.specs.Part.{heading_words};
 ghost use Rattle.kd_form.specs.Sending.{letters_from};
 ghost use Rattle.kd_form.specs.FormParts.{IsHeading};
-ghost use Rattle.kd_form.specs.Receiving.{IsBodyAnswer};
-ghost use Rattle.kd_form.specs.FormReading.{HoldsBody, IsBodyPlaintext};
+ghost use Rattle.kd_form.specs.FormReading.{HoldsBody, IsDecipherAnswer};
 
 use super::bounded_list::push_if_room;
 use super::fault::FormFault;
@@ -64,7 +63,7 @@ impl PartBody {
         is_text(self.line.as_slice(), b"PART ") && byte.is_ascii_digit()
     }
 
-    /// Takes the next byte, which must be allowed in a body.
+    /// Takes the next byte of the body: a capital letter, a space, CR or LF.
     pub(crate) fn push(&mut self, byte: u8)
         requires { IsTrue (is_text_byte byte) }
         ensures heading { self.new.heading ≡ self.old.heading }
@@ -88,11 +87,7 @@ impl PartBody {
         requires heading { IsHeading day.now self.now.heading }
         requires some { others ≤ length self.now.letters.items }
         requires few { others ≤ 4 }
-        ensures given { (letters more : List ℕ) → length more ≡ others
-            → self.now.letters.items ≡ take 525 (letters ++ more)
-            → MatchResult result
-            (λ _. IsBodyPlaintext day.now self.now.heading letters output.new.items)
-            (λ fault. IsBodyAnswer day.now self.now.heading.part self.now.heading letters (Err fault)) }
+        ensures given { IsDecipherAnswer day.now self.now others output.new.items result }
         ensures few { OnOk result (length output.new.items ≤ 500) }
         ensures unchanged { OnErr result (output.new ≡ output.old) }
     {
@@ -116,7 +111,8 @@ fn keep_letter(letters: &mut ArrayVec<Letter, KEPT>, letter: Option<Letter>)
 
 /// Appends `byte` while there is room; an LF begins a new line.
 ///
-/// Most bytes come after the first few of a line and store nothing, so the next byte needn't wait.
+/// Only the first six bytes of a line are stored. Most bytes come later and store nothing, so the next byte
+/// needn't wait for a store.
 fn keep_byte(line: &mut ArrayVec<u8, FIRST>, byte: u8)
     ensures ended { byte ≡ 10 → line.new.items ≡ [] }
     ensures longer { byte ≢ 10 → line.new.items ≡ take 6 (line.old.items ++ byte ∷ []) }

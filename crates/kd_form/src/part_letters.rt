@@ -39,7 +39,7 @@ fn read_rotor_letters(
     }
     let mut own = OwnMachine::new(day);
     let message_key = own.encipher_text::<4>(
-        indicator.ground.as_slice(),
+        indicator.ground_setting.as_slice(),
         indicator.enciphered_key.as_slice(),
     );
     Ok(own.encipher_text(message_key.as_slice(), &letters[5..]))
@@ -98,7 +98,7 @@ fn read_pin_letters(
 
 /// Deciphers `letters`, the body of the part with `heading`.
 ///
-/// Of a body that is too long, `letters` may be a prefix, if the prefix is longer than any heading allows.
+/// If the body is too long, `letters` may be a prefix of it that is longer than any heading allows.
 pub(crate) fn read_body(
     day: &SheetDay,
     heading: &Heading,

@@ -9,19 +9,19 @@ ghost use Rattle.kd_form.specs.Patterns.{AreLettersAppended};
 use arrayvec::ArrayVec;
 use kd_tables::Letter;
 
-/// The most letters that a pattern has: a line of keys for four slots has 13.
+/// How many `_` a pattern has at most: 13, in the pattern of a line of keys for four slots.
 const MOST: usize = 13;
 
-/// Why bytes can't be read as a line of a pattern.
+/// Why bytes can't be read as a line that fits a pattern.
 #[derive(Clone, Copy)]
 pub(crate) enum Unread {
-    /// The line is incomplete: the bytes are a prefix of a line that fits.
+    /// Bytes are missing at the end: the bytes are a prefix of a line that fits.
     Incomplete,
-    /// No line that fits begins with the bytes.
+    /// No line that fits the pattern begins with the bytes.
     Mismatch,
 }
 
-/// Reads `bytes` as a line of `pattern` with its line end; returns the letters for each `_`.
+/// Reads `bytes` as a line that fits `pattern`, with its line end; returns the letter at each `_`.
 pub(crate) fn read_pattern(pattern: &[u8], bytes: &[u8]) -> Result<ArrayVec<Letter, MOST>, Unread>
     requires { blank_count pattern.now ≤ 13 }
     ensures { MatchResult result
@@ -33,7 +33,7 @@ pub(crate) fn read_pattern(pattern: &[u8], bytes: &[u8]) -> Result<ArrayVec<Lett
     Ok(letters)
 }
 
-/// Reads `bytes` as a line of `pattern` with its line end, and appends the letters for each `_`.
+/// Reads `bytes` as a line that fits `pattern`, with its line end; appends the letter at each `_`.
 #[tactic(auto, using(crate::proofs::Lines::line_open, crate::proofs::Lines::line_off, crate::proofs::Lines::line_on, crate::proofs::Lines::line_ends))]
 fn read_pattern_letters(
     pattern: &[u8],
@@ -57,7 +57,7 @@ fn read_pattern_letters(
     read_pattern_letters(marks, rest, letters)
 }
 
-/// Whether `byte` fits `mark`; if `mark` is `_`, appends the byte's letter.
+/// Whether `byte` fits `mark`, a byte of a pattern; if it does and `mark` is `_`, appends its letter.
 fn take_marked_letter(letters: &mut ArrayVec<Letter, MOST>, mark: u8, byte: u8) -> bool
     requires { mark ≡ 95 → array_vec_len letters.old < 13 }
     ensures fits { result ≡ fits_mark mark byte }

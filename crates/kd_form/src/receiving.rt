@@ -1,4 +1,6 @@
 //! Receives a form: `receive` returns its text, and `receive_stream` writes it to a sink.
+//!
+//! A form is an enciphered message: each part has a heading line and a body of letters in groups of five.
 ghost use Rattle.std.specs.Prelude.{◌≡◌, ℕ, List, IsTrue};
 ghost use Rattle.kd_tables.specs.Ports.{FailureAgrees, port};
 ghost use Rattle.kd_form.specs.FormText.{form_message, IsTextOf, IsReceiveFault};
@@ -17,10 +19,10 @@ use std::alloc::Global;
 
 /// Deciphers `form` on `machine`, which must be on the day's key. The text ends in LF.
 ///
-/// On the Converter M-209, a space stands for each Z. `NotReady` and `NotOnKey` come first, then the form's
-/// first fault, part by part: `BadHeading`, `PartOrder`, `BadByte`, `CountWrong`, and the faults of the
-/// letters. At the end of the form, `PartOrder` means that parts are missing. `NoMemory` comes only for a form
-/// without a fault.
+/// On the Converter M-209, the text has a space in place of each Z. `NotReady` and `NotOnKey` come first,
+/// then the first fault of the first faulty part: `BadHeading`, `PartOrder`, `BadByte`, `CountWrong`, and the
+/// faults of the indicators, the group and the internal key. If parts are missing at the end of the form, the
+/// fault is `PartOrder`. `NoMemory` comes only for a form without a fault.
 pub fn receive(
     alloc: Global,
     machine: &Machine,
@@ -37,11 +39,11 @@ pub fn receive(
 
 /// Reads a form from `source`, and writes its text to `sink`, part by part.
 ///
-/// It holds at most one part, and allocates nothing. `NotReady` and `NotOnKey` come before anything is read.
-/// A fault that further bytes can't change comes before `ReadTooLong`, and before `Device` if the source
-/// fails; the other faults come at the end of the form. The texts of the parts before the fault are written
-/// by then. `ReadTooLong` means that the source has more than `READ_LIMIT` bytes, `Device` that a get or a
-/// put failed.
+/// At most one part is held, and nothing is allocated. `NotReady` and `NotOnKey` come before anything is
+/// read. A fault that further bytes can't change comes before `ReadTooLong`, and before `Device` if the
+/// source fails; the other faults come at the end of the form. Before a fault of the form is returned, the
+/// texts of the parts before the fault are written. `ReadTooLong` means that the source has more than
+/// `READ_LIMIT` bytes, `Device` that a get or a put failed.
 #[tactic(auto, using(crate::proofs::OneText::off_key, crate::proofs::OneText::form_told))]
 pub fn receive_stream<R: Source, W: Sink>(
     machine: &Machine,

@@ -1,4 +1,6 @@
 //! Sends an order: `send` returns its form, and `send_stream` writes it to a sink.
+//!
+//! An order says what to send: it has a line of keys for each part, then the line TEXT, then the text.
 ghost use Rattle.std.specs.Prelude.{◌≡◌, ◌≤◌, ℕ, List, IsTrue, MatchResult};
 ghost use Rattle.kd_tables.specs.Ports.{FailureAgrees, port};
 ghost use Rattle.kd_form.specs.Making.{part_size};
@@ -18,8 +20,9 @@ use std::alloc::Global;
 
 /// Enciphers `order` on `machine`, which must be on the day's key, into a form.
 ///
-/// `NotReady` and `NotOnKey` come first, then the order's first fault: in its head, in the keys of a part, in
-/// the bytes of its text, `EmptyText`, `PartKeys`. `NoMemory` comes only for an order without a fault.
+/// `NotReady` and `NotOnKey` come first, then the order's first fault: in its head, in the keys of a part, or
+/// in the bytes of its text; then `EmptyText` and `PartKeys`. `NoMemory` comes only for an order without a
+/// fault.
 pub fn send(
     alloc: Global,
     machine: &Machine,
@@ -36,7 +39,7 @@ pub fn send(
 
 /// Reads an order from `source`, and writes its form to `sink`, part by part.
 ///
-/// It holds at most one part, and allocates nothing. `NotReady` and `NotOnKey` come before anything is read
+/// At most one part is held, and nothing is allocated. `NotReady` and `NotOnKey` come before anything is read
 /// or written. A fault that further bytes can't change comes before `ReadTooLong`, and before `Device` if the
 /// source fails; the other faults come at the end of the source. A part is written once the first letter of
 /// the next part has been read. So the sink may have parts of an order that is refused. At most 1,048,576

@@ -17,9 +17,10 @@ use kd_tables::{Letter, Sink, Source, put_all};
 
 /// Types the text from `source` on `machine`, and writes the lamps as capital letters, then LF.
 ///
-/// `NotReady` comes before anything is read or written. The first byte that isn't allowed is refused after the
-/// lamps of the letters before it, whatever follows. This fault comes before `ReadTooLong`, and before `Device`
-/// if the source fails. At most 1,048,576 bytes are read, and one more to see whether there are more.
+/// `NotReady` comes before anything is read or written. The first byte that isn't allowed is refused,
+/// whatever follows it; the lamps of the letters before it are written. This fault comes before
+/// `ReadTooLong`, and before `Device` if the source fails. At most 1,048,576 bytes are read, and one more to
+/// see whether there are more.
 #[tactic(auto, using(crate::proofs::OneText::text_told))]
 pub fn type_stream<R: Source, W: Sink>(
     machine: &Machine,
@@ -43,17 +44,17 @@ pub fn type_stream<R: Source, W: Sink>(
     stream_message(machine, &mut typist, source, sink)
 }
 
-/// A reader that types a text.
+/// A reader of a text, which types the letters on a machine.
 #[derive(Drop)]
 pub(crate) struct Typist {
     engine: Engine,
     /// How many bytes of the text were read.
     read: usize,
-    /// The letters of the current piece.
+    /// The letters of the current chunk.
     ///
-    /// `letters` and `lamps` are reused, so that their places are filled only once.
+    /// `letters` and `lamps` are kept from chunk to chunk, so that their places are filled only once.
     letters: ArrayVec<Letter, CHUNK>,
-    /// The lamps that lit up, as capital letters.
+    /// The lamps that lit up for these letters, as capital letters.
     lamps: ArrayVec<u8, CHUNK>,
 }
 

@@ -3,7 +3,7 @@ use Rattle.{kd_tables.specs.Rings.IsRing, std.{proofs.lemmas.List.Elements.{All-
 use Rattle.std.proofs.Common.{All, List, [], arith, eqb, inl, inr, subst, sym, true, ℕ, ◌<◌, ◌∷◌, ◌≡◌, ◌≤◌, ◌⊎◌}
 use Rattle.std.proofs.lemmas.{Bool.{eqb-true, false≢true, or_cases}, Map.Steps.length-le_from_distinct_below}
 
--- A number that is one of some letters is below 26.
+-- A number is below 26 if it is in a list of letters.
 list_any-below_26 : (letters : List ℕ) (q : ℕ) → All (λ letter. letter < 26) letters
     → list_any (eqb q) letters ≡ true → q < 26
 list_any-below_26 [] q h e = absurd (false≢true e)

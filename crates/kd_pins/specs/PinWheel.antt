@@ -1,12 +1,12 @@
--- One pin wheel: the letter that it shows, and the pin that acts. Places are counted from 0, in the wheel's own
--- order.
+-- One pin wheel: the letter that it shows, and the acting pin, which acts on the drum while this letter shows.
+-- Places are counted from 0, in the wheel's own order.
 -- Source: War Department TM 11-380
--- Code: keeps the place of the acting pin; the shown letter is counted from it.
+-- Code: the place of the acting pin is kept, and the shown letter is counted back from it.
 -- Test: the_acting_pin_is_counted_in_the_wheels_own_order
 use Rattle.std.specs.Prelude.{◌≡◌, ℕ, ◌+◌, ◌-◌, ◌%◌, ◌<◌, Bool, false, List, slice_index, slice_index_or, unwrap_or}
 use Rattle.kd_tables.specs.Rings.{IsRing, place_on}
 
--- A wheel as contracts see it: its letters in order; how many places the acting pin is past the shown letter;
+-- What contracts say of a wheel: its letters in order; how many places the acting pin is past the shown letter;
 -- which pins are effective; and the place of the shown letter.
 pub record TurnedWheel : Type 0 where
   pub ring : List ℕ
@@ -14,7 +14,7 @@ pub record TurnedWheel : Type 0 where
   pub pins : List Bool
   pub place : ℕ
 
--- The wheel has `size` places.
+-- The wheel has `size` places, with a different letter at each; `offset` and the shown place are below `size`.
 pub record IsWheel (size : ℕ) (wheel : TurnedWheel) : Type 0 where
   pub ring : IsRing size wheel.ring
   pub offset : wheel.offset < size

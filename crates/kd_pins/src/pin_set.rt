@@ -1,7 +1,9 @@
 //! PinSet: the pins of all six wheels.
 ghost use Rattle.std.specs.Prelude.{◌≡◌, ◌↔◌, IsTrue};
 
-/// Which pins of the Converter's six wheels are effective: one entry for each letter of a wheel, from A on.
+/// Which pins of the Converter's six wheels are effective.
+///
+/// Each wheel has an entry for each of its letters, in the wheel's own order, from A on.
 #[derive(Clone, Copy, PartialEq, Eq)]
 pub struct PinSet {
     /// The pins of wheel 1: A to Z.

@@ -2,7 +2,8 @@
 pub mod Sparing
 unfoldable pub use Sparing.*
 
--- If all cables in use are among the first ones, these and the spare ones among the first are all of the first.
+-- If all cables in use are among the first `first` cables, then the cables in use and the spare cables among the
+-- first ones are `first` in number.
 all_first : (cables : List Cable) (first : ℕ) → first ≤ length cables
     → ((k : ℕ) → first ≤ k → is_spare_at cables k ≡ true)
     → spare_count (take first cables) + count_by (λ cable. not (is_spare cable)) cables ≡ first
@@ -54,7 +55,7 @@ in_use : (cable : Cable) (letter : ℕ) → has_letter (cable_letters cable) let
 in_use (None, None) letter h = absurd (cc)
 in_use _ letter h = refl
 
--- A change of a cable up to `number` leaves the cables above it spare.
+-- A change of a cable whose number is at most `number` leaves the cables above `number` spare.
 set_within : (number : ℕ) (m : RotorParts) (cable : ℕ) (ends : Cable) → UsesNoneAbove number (Rotor m) → cable ≤ number
     → is_none (numbered_item m.cables cable) ≡ false
     → UsesNoneAbove number (Rotor (record m { cables = set m.cables (cable - 1) ends }))
@@ -63,7 +64,8 @@ set_within number m cable ends none within there other above =
     (omega arith) in
     ap (λ ends. is_spare (unwrap_or ends (None, None))) same ∙ none other above
 
--- If each legal setting keeps a property of the machine, so does a list of settings.
+-- If each legal setting that satisfies `Bound` satisfies `Says` and keeps a property of the machine, then in a list
+-- of settings that satisfy `Bound` all satisfy `Says`, and the list keeps this property.
 settings_keep : (Keeps : Parts → Type 0) (Bound Says : Setting → Type 0)
     → ((m : Parts) (x : Setting) → Keeps m → Bound x → why_refused m x ≡ None → Says x × Keeps (machine_after m x))
     → (settings : List Setting) (m n : Parts) → Keeps m → AllByRecursion Bound settings → Leads m settings n

@@ -24,8 +24,8 @@ NamesNoneAbove number (Pull cable letter) = cable ≤ number
 NamesNoneAbove number (Put cable letter) = cable ≤ number
 NamesNoneAbove number _ = Unit {0}
 
--- If the first `number` cables suffice, settings that leave spare cables free neither name nor use any other
--- cable.
+-- If the cables in use are among the first `number`, and the day has at most `number` pairs, settings that leave
+-- spare cables free name no other cable, and no other cable is in use after them.
 abbrev pub FewCablesServe : Type 0
 FewCablesServe =
     (number : ℕ) (m n : Parts) (s : Day) (settings : List Setting) → UsesNoneAbove number m → HasPairsUpTo number s

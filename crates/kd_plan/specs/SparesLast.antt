@@ -1,4 +1,5 @@
--- Assignments in which spare cables become pairs last. No contract of a public function cites this file.
+-- Assignments that give pairs to cables in use first, and to spare cables last. No contract of a public function
+-- cites this file.
 use Rattle.std.specs.Prelude.{ℕ, ◌<◌, nat_lt, not, ◌||◌, Bool, IsTrue, List, slice_index, slice_index_or, Option, None}
 use Rattle.kd_plan.specs.Spares.{is_spare}
 

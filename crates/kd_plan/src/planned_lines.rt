@@ -8,9 +8,9 @@ use super::cable_lines::{CableMove, push_moves};
 use kd_card::{pin_settings, rotor_settings};
 use kd_state::{Machine, Parts, PinEntry, PinParts, RotorEntry, RotorParts, Settings};
 
-/// The settings for loose things, and then those that make each cable the column at its place in `to`.
+/// The settings for loose things, and then those that make each cable its column.
 ///
-/// Places are counted from 0. `parts` are the parts of `machine`.
+/// `to` has the place of each cable's column, counted from 0. `parts` are the parts of `machine`.
 pub(crate) fn planned_rotor_lines(
     machine: &Machine,
     parts: &RotorParts,
@@ -28,9 +28,9 @@ pub(crate) fn planned_rotor_lines(
     settings
 }
 
-/// The settings for loose things, and then those that make each bar read as the row at its place in `to`.
+/// The settings for loose things, and then those that make each bar read as its row.
 ///
-/// Places are counted from 0.
+/// `to` has the place of each bar's row, counted from 0.
 pub(crate) fn planned_pin_lines(parts: &PinParts, entry: &PinEntry, to: &[u8]) -> Settings
     requires { AllByRecursion (λ j. j < 27) to.now }
     ensures { let day = OfPins (pin_values entry.now) in

@@ -16,10 +16,10 @@ use kd_state::{
     cable_costs,
 };
 
-/// Plans the card that sets the machine to the day by the fewest settings, and leaves spare cables free.
+/// Plans a card that sets the machine to the day by the fewest settings, and leaves spare cables free.
 ///
-/// If several cards do, no promise says which one it is, nor which prices prove it. If cables and bars cost
-/// nothing, all prices are 0.
+/// If several cards do, the contract doesn't say which of them it is, or which prices prove it. If no cable and no
+/// bar has to change, all prices are 0.
 #[tactic(auto, using(crate::proofs::Planning::planned_card_is_proved))]
 pub fn plan(machine: &Machine, day: &SheetDay) -> Result<Card, OtherModel>
     ensures refused { IsErr result ↔ (model_of machine.now ≢ day_model day.now) }
@@ -31,7 +31,7 @@ pub fn plan(machine: &Machine, day: &SheetDay) -> Result<Card, OtherModel>
     Ok(card)
 }
 
-/// Plans the card, or returns `None` if machine and day are of different models.
+/// Plans a card, or returns `None` if the machine and the day are of different models.
 fn planned_card(machine: &Machine, day: &SheetDay) -> Option<Card>
     ensures planned { MatchOption result
         (model_of machine.now ≢ day_model day.now)
@@ -46,7 +46,7 @@ fn planned_card(machine: &Machine, day: &SheetDay) -> Option<Card>
     }
 }
 
-/// Plans the card of a rotor machine. `parts` are the parts of `machine`.
+/// Plans a card for a rotor machine. `parts` are the parts of `machine`.
 #[tactic(auto, using(crate::proofs::Planning::is_planned_card, crate::proofs::Planning::four_at_most, crate::proofs::Planning::all_within))]
 fn rotor_card(machine: &Machine, parts: &RotorParts, entry: &RotorEntry) -> Card
     requires parts { machine.now ≡ Parts.Rotor parts.now }
@@ -73,7 +73,7 @@ fn rotor_card(machine: &Machine, parts: &RotorParts, entry: &RotorEntry) -> Card
     Card { settings, prices }
 }
 
-/// Plans the card of a Converter M-209.
+/// Plans a card for a Converter M-209.
 #[tactic(auto, using(crate::proofs::Planning::is_planned_card, crate::proofs::Planning::two_at_most, crate::proofs::Planning::all_within))]
 fn pin_card(parts: &PinParts, entry: &PinEntry) -> Card
     ensures { let day = OfPins (pin_values entry.now) in

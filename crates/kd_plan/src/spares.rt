@@ -9,9 +9,9 @@ use kd_tables::Letter;
 
 /// Reassigns pairs in `to` from spare cables to cables in use, and to spare cables with lower numbers.
 ///
-/// The total cost doesn't grow. A spare cable that becomes a pair costs 2, and a cable that becomes a nothing
-/// costs its letters. After the exchange the spare cable costs 0, and the other cable at most 2 more than
-/// before.
+/// The total cost doesn't grow. A spare cable that becomes a pair costs 2, and a cable that becomes a column without
+/// a pair costs 1 for each of its letters. After the two exchange their columns, the spare cable costs 0, and the
+/// other cable at most 2 more than before.
 pub(crate) fn keep_spares_free(cables: &[Cable; 13], pairs: &[(Letter, Letter)], to: &mut [u8; 13])
     requires { IsOneToOne to.old }
     ensures one_to_one { IsOneToOne to.new }
@@ -29,9 +29,10 @@ pub(crate) fn keep_spares_free(cables: &[Cable; 13], pairs: &[(Letter, Letter)],
     }
 }
 
-/// Finds the first cable that comes before the spare one, but becomes a nothing.
+/// Finds the first cable that comes before the spare cable `spare`, but has a column without a pair.
 ///
-/// A cable comes before the spare one if it is in use or has a lower number. Places are counted from 0.
+/// A cable comes before the spare one if it is in use or has a lower number. Cables are counted from 0, and `pairs`
+/// is the number of pairs.
 fn find_left_out(spare: usize, cables: &[Cable; 13], pairs: usize, to: &[u8; 13]) -> Option<usize>
     ensures { MatchOption result
         ((place : ℕ) → place < 13 → IsTrue (comes_before cables.now place spare)

@@ -1,6 +1,6 @@
 -- The definitions and lemmas that most proofs of this crate use.
-pub use Rattle.kd_card.specs.FirstFaults.{GoesOn, HasOneAnswer, HasFault, HasOneAnswer-Demands, HasOneAnswer-Finds}
-pub use Rattle.kd_card.specs.FirstFaults.{HasOneAnswer-ThenNext, ThenNext-Ok}
+pub use Rattle.kd_state.specs.FirstFaults.{GoesOn, HasOneAnswer, HasFault, HasOneAnswer-Demands, HasOneAnswer-Finds}
+pub use Rattle.kd_state.specs.FirstFaults.{HasOneAnswer-ThenNext, ThenNext-Ok}
 pub use Rattle.std.proofs.Common.{Bool, Contains, FitsSigned, List, MatchOption, None, Option, SFits, Some, [], ap}
 pub use Rattle.std.proofs.Common.{append_assoc, arith, below_more, cond, count_by, eqb, false, get_or, inl, inr, length}
 pub use Rattle.std.proofs.Common.{length-append, length-drop, ltb, max, min, of_z, pos, refl, replicate, rules, set}

@@ -9,7 +9,7 @@ use Rattle.kd_state.specs.SheetDay.{Day, day_model}
 use Rattle.kd_state.specs.OnKey.{ReadsAs}
 use Rattle.kd_state.specs.Costs.{cost_table}
 use Rattle.kd_card.specs.declared.prices.PriceParts.{PriceParts}
-use Rattle.kd_card.specs.FirstFaults.{AnswerRule, ◌>>=◌, Finds, Demands}
+use Rattle.kd_state.specs.FirstFaults.{AnswerRule, ◌>>=◌, Finds, Demands}
 use Rattle.kd_card.specs.Prices.{PricesFit, PricesFitAt, table_rows, price_sum}
 use Rattle.kd_card.specs.CardText.{group_of}
 use Rattle.kd_card.specs.Proving.{AreModelPrices, Expands, group_of_machine, IsSettingNeeded, AreSettingsNeeded}

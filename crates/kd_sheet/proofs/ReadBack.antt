@@ -1,5 +1,5 @@
 -- Reading back what was written: the parts of a machine or a day, and a machine's file line by line. And each
--- legal day is described by a table.
+-- legal day is described by some table.
 pub mod Described
 unfoldable pub use Described.*
 
@@ -12,7 +12,8 @@ array_of_texts ts = array (items_of (map string ts))
 pub texts_read : (key : Key) (ts : List (List ℕ)) → items_in key (array_of_texts ts) ≡ Ok (map string ts)
 texts_read key ts = ap Ok (list_of-items_of (map string ts))
 
--- an array of `count` texts, or of at most `count`, is read as `things` if each text is read as its thing
+-- an array of the texts of `things` is read back as `things` if each text is read back as its thing; this holds for
+-- `read_each` and for `read_up_to`
 module _ {X : Type 0} (key : Key) (count : ℕ) (text_of : X → List ℕ) (things : List X)
     (reading : List X → Data → Result X SheetFault)
     (each : (k : ℕ) (x : X) → slice_get things k ≡ Some x → reading (take k things) (string (text_of x)) ≡ Ok x) where
@@ -55,7 +56,7 @@ pub reflector_again : (model : Model) (reflector : Reflector) → has_reflector 
 unfolding reflector_by_name
 reflector_again model reflector e = grind arith
 
--- an array at `key` may have this seat: only a machine file leaves slots empty
+-- an array at `key` may have an item for this seat: an empty one only at the key `slots`
 abbrev pub MayBeSeated : Key → Option Wheel → Type 0
 MayBeSeated key None = may_be_empty key ≡ true
 MayBeSeated key (Some wheel) = Unit {0}
@@ -89,11 +90,11 @@ seats_in_again key model table slots there may seated =
 
 -- ---- cables and pairs
 
--- the cable with a single letter in its first end, as reading makes it
+-- the cable as it is read back: a single letter comes to its first end
 abbrev pub single_first : Option ℕ × Option ℕ → Option ℕ × Option ℕ
 single_first cable = cable_with_ends (cable_letters cable)
 
--- with a single letter first, cables have the same letters and the same texts
+-- bringing single letters to first ends changes neither the letters in the cables nor their texts
 pub same_cables : (cables : List (Option ℕ × Option ℕ))
     → (letters_in_cables (map single_first cables) ≡ letters_in_cables cables)
     × (map cable_text (map single_first cables) ≡ map cable_text cables)
@@ -264,7 +265,7 @@ text_entry key text = (key, string text, quoted_text text)
 abbrev pub texts_entry : Key → List (List ℕ) → FileEntry
 texts_entry key ts = (key, array_of_texts ts, array_text ts)
 
--- the text is one of the value's texts in TOML, and the parser takes it
+-- the entry's text is a TOML text of its value, in ASCII, and the parser accepts this value
 pub record IsWritten (entry : FileEntry) : Type 0 where
   pub writes : IsValueText false entry.1 entry.2
   pub shallow : depth entry.1 ≤ 80
@@ -323,7 +324,7 @@ key_bare key = grind arith
 key_low : (key : Key) → list_all is_low (key_name key) ≡ true
 key_low key = grind arith
 
--- the lines are the text of the entries in TOML, the parser takes them, and their bytes are ASCII
+-- the lines are a TOML text of the entries, which the parser accepts, and their bytes are ASCII
 lines_text : (started : Bool) (entries : List FileEntry) → AllByRecursion IsWritten entries
     → IsLinesText false started (map expression_of entries) (concat (map line_of entries))
     × AllPrinted (map expression_of entries) × (list_all is_low (concat (map line_of entries)) ≡ true)
@@ -409,7 +410,7 @@ ruleset are_plain = (
   recursion_from_All,
 )
 
--- a table whose version, model and parts are read is read as the machine of these parts
+-- a table from which version, model and parts can be read is read as the machine of these parts
 machine_in-parts : (model : Model) (table : Members) (m : Parts) → version_in table ≡ Ok (file_version model)
     → model_in table ≡ Ok model → parts_in model table ≡ Ok m → machine_in table ≡ Ok m
 unfolding machine_in known_model_in
@@ -417,7 +418,7 @@ machine_in-parts model table m version is parts = grind (arith, then_read, deman
 
 -- ---- a rotor machine
 
--- putting a single letter first keeps the order of each cable's letters
+-- bringing single letters to first ends makes no difference once each cable's letters are put in order
 same_order : (cables : List (Option ℕ × Option ℕ))
     → map (λ cable. cable_in_order cable.0 cable.1) (map single_first cables)
     ≡ map (λ cable. cable_in_order cable.0 cable.1) cables

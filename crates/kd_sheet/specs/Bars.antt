@@ -12,12 +12,12 @@ use Rattle.kd_sheet.specs.declared.key.Key.TheVariants as keys
 use Rattle.kd_sheet.specs.declared.fault.SheetFault.{SheetFault}
 use Rattle.kd_sheet.specs.declared.fault.SheetFault.TheVariants.{BadRow}
 
--- The standing that an item names, for the bar after the bars of `earlier`. A fault has the bar's number,
+-- The standing that an item names, for the bar after those of `earlier`. The fault `BadRow` has the bar's number,
 -- counted from 1.
 abbrev pub standing_for : List (Place × Place) → Data → Result (Place × Place) SheetFault
 standing_for earlier item = ok_or (option_and_then standing_by_text (as_str item)) (BadRow (length earlier + 1))
 
--- the standings of the 27 bars, from an item for each
+-- the standings of the 27 bars, read from an array with an item for each bar
 unfoldable pub bars_in : Members → Result (List (Place × Place)) SheetFault
 bars_in table = read_each keys.Bars 27 standing_for table
 
@@ -25,7 +25,7 @@ bars_in table = read_each keys.Bars 27 standing_for table
 abbrev pub is_reading_digit : ℕ → Bool
 is_reading_digit byte = nat_le 48 byte && nat_le byte 54
 
--- whether a bar can read as these two digits: they differ, or both are 0
+-- whether a bar can read as these two digits, which are bytes: they differ, or both are 0
 abbrev pub can_read_as : ℕ → ℕ → Bool
 can_read_as one other = not (one == other) || one == 48
 
@@ -36,11 +36,11 @@ row_of_text (one ∷ dash ∷ other ∷ []) =
     then Some (smaller_first (one - 48) (other - 48)) else None
 row_of_text _ = None
 
--- The reading that an item gives, for the row after the rows of `earlier`. A fault has the row's number,
+-- The reading that an item gives, for the row after those of `earlier`. The fault `BadRow` has the row's number,
 -- counted from 1.
 abbrev pub row_for : List (ℕ × ℕ) → Data → Result (ℕ × ℕ) SheetFault
 row_for earlier item = ok_or (option_and_then row_of_text (as_str item)) (BadRow (length earlier + 1))
 
--- the readings of the 27 rows, from an item for each
+-- the readings of the 27 rows, read from an array with an item for each row
 unfoldable pub rows_in : Members → Result (List (ℕ × ℕ)) SheetFault
 rows_in table = read_each keys.Rows 27 row_for table

@@ -20,7 +20,7 @@ use Rattle.kd_sheet.specs.declared.fault.SheetFault.TheVariants.{BadValue, Lette
 unfoldable pub cable_letters_of_text : List ℕ → Option (List ℕ)
 cable_letters_of_text text = if nat_le (length text) 2 && list_all is_capital text then Some (letters_of text) else None
 
--- the cable with these letters in its ends
+-- the cable with the first of `letters` at its first end, and the second, if there is one, at its second end
 abbrev pub cable_with_ends : List ℕ → Option ℕ × Option ℕ
 cable_with_ends letters = (slice_get letters 0, slice_get letters 1)
 
@@ -31,7 +31,7 @@ cable_for cables item = do
   demand (are_new_letters letters (letters_in_cables cables)) LetterTwice
   Ok (cable_with_ends letters)
 
--- `cables`, and then empty cables up to 13
+-- `cables`, followed by as many empty ones as make 13 in all
 abbrev pub filled_to_thirteen : List (Option ℕ × Option ℕ) → List (Option ℕ × Option ℕ)
 filled_to_thirteen cables = cables ++ replicate (13 - length cables) (None, None)
 
@@ -52,6 +52,6 @@ pair_for pairs item = do
   demand (are_new_letters letters (flat_map pair_letters pairs)) LetterTwice
   Ok (slice_index letters 0, slice_index letters 1)
 
--- the pairs of a day
+-- the pairs of a day: at most 13
 unfoldable pub pairs_in : Members → Result (List (ℕ × ℕ)) SheetFault
 pairs_in table = value_at keys.Plugs table >>= read_up_to keys.Plugs 13 pair_for

@@ -1,4 +1,5 @@
--- How a document is read: its table, and the values in it. A reading gives a value or the first fault.
+-- How a document is read: its table, and the values in it. A reading gives a value or the first fault: readings in
+-- a `do` stand in the order of testing, and the answer is the fault of the first one that has one.
 -- Source: TOML 1.1, toml.io
 -- Code: the reader of the library `toml`, and `?`.
 -- Test: kd_trials/src/sheet/files.rt, kd_trials/src/sheet/faults.rt
@@ -13,18 +14,19 @@ use Rattle.kd_sheet.specs.declared.key.Key.{Key}
 use Rattle.kd_sheet.specs.declared.fault.SheetFault.{SheetFault}
 use Rattle.kd_sheet.specs.declared.fault.SheetFault.TheVariants.{NotToml, Missing, BadValue, NoMemory}
 
--- Goes on with `f` and the value if the reading succeeded, else gives its fault.
+-- `f` of the first reading's value, if this reading has a value; otherwise its fault.
 infixl 10 ◌>>=◌
 abbrev pub ◌>>=◌ : {A B : Type 0} → Result A SheetFault → (A → Result B SheetFault) → Result B SheetFault
 (Ok x) >>= f = f x
 (Err fault) >>= f = Err fault
 
--- Goes on with `reading` if the test passed, else gives its fault.
+-- `reading` if `test` is `Ok`; otherwise the fault of `test`.
 infixl 10 ◌>>◌
 abbrev pub ◌>>◌ : {B : Type 0} → Result (Unit {0}) SheetFault → Result B SheetFault → Result B SheetFault
 test >> reading = test >>= (λ _. reading)
 
--- The values of the items, in order, or the first fault. Each item is read with the values before it.
+-- The values of the items, in order, or the first fault. `reading` takes the values of the items before an item,
+-- and the item.
 abbrev pub read_items : {A : Type 0} → (List A → Data → Result A SheetFault) → List Data → Result (List A) SheetFault
 read_items reading [] = Ok []
 read_items reading (first ∷ rest) = do
@@ -32,16 +34,16 @@ read_items reading (first ∷ rest) = do
   values ← read_items (λ earlier. reading (value ∷ earlier)) rest
   Ok (value ∷ values)
 
--- `answer` is `meant`, or memory ran out.
+-- `answer` is `meant`, or it is the fault `NoMemory`.
 abbrev pub AgreesOrNoMemory : {A : Type 0} → Result A SheetFault → Result A SheetFault → Type 0
 AgreesOrNoMemory (Err NoMemory) meant = ⊤
 AgreesOrNoMemory answer meant = answer ≡ meant
 
--- `answer`, with `view` applied to its value
+-- `answer` with `view` applied to its value, if it has one
 abbrev pub result_map : {A B : Type 0} → (A → B) → Result A SheetFault → Result B SheetFault
 result_map view answer = result_map_both view (λ fault. fault) answer
 
--- `Ok` if the test passes, else the fault
+-- `Ok` if `test` is true, otherwise the fault
 abbrev pub demand : Bool → SheetFault → Result (Unit {0}) SheetFault
 demand test fault = if test then Ok tt else Err fault
 
@@ -53,11 +55,11 @@ document_of bytes = if is_utf8 bytes then ok_or (parse_document bytes) NotToml e
 abbrev pub value_at : Key → Members → Result Data SheetFault
 value_at key table = ok_or (get_member (key_name key) table) (Missing key)
 
--- the text at `key`, or its fault
+-- the text at `key`; `Missing` without this key, or `BadValue` if its value isn't a text
 abbrev pub text_at : Key → Members → Result (List ℕ) SheetFault
 text_at key table = value_at key table >>= (λ value. ok_or (as_str value) (BadValue key))
 
--- the items of an array, in order
+-- the items of an array, as a list
 abbrev pub items_list : Items → List Data
 items_list no_items = []
 items_list (item first rest) = first ∷ items_list rest
@@ -66,7 +68,7 @@ items_list (item first rest) = first ∷ items_list rest
 abbrev pub items_in : Key → Data → Result (List Data) SheetFault
 items_in key value = ok_or (option_map items_list (as_array value)) (BadValue key)
 
--- the items of the array at `key`
+-- the items of the array at `key`; `Missing` without this key, or `BadValue` if its value isn't an array
 abbrev pub items_at : Key → Members → Result (List Data) SheetFault
 items_at key table = value_at key table >>= items_in key
 

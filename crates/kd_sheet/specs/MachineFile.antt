@@ -29,7 +29,7 @@ version_in table = do
   value ← value_at keys.Version table
   ok_or (number_up_to 2 value) (BadValue keys.Version)
 
--- the model with the name that a file gives
+-- the model that a file names
 unfoldable pub model_in : Members → Result Model SheetFault
 model_in table = do
   name ← text_at keys.Model table
@@ -47,7 +47,7 @@ known_model_in version table = do
   demand (is_known_in version model) UnknownModel
   Ok model
 
--- the reflector with the name that a file gives, if it is one of the model's
+-- the reflector that a file names, if it is one of the model's
 unfoldable pub reflector_in : Model → Members → Result Reflector SheetFault
 reflector_in model table = do
   name ← text_at keys.Reflector table

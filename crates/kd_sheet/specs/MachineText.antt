@@ -32,7 +32,7 @@ array_text texts = codes "[" ++ join_by quoted_text (codes ", ") texts ++ codes 
 abbrev pub key_line : Key → List ℕ → List ℕ
 key_line key value = key_name key ++ codes " = " ++ value ++ codes "\n"
 
--- the version of a file that is written for `model`
+-- the version in which the file of a machine of `model` is written
 abbrev pub file_version : Model → ℕ
 file_version M4 = 2
 file_version _ = 1
@@ -53,7 +53,7 @@ effective_pin_text letter effective = if effective then (letter + 65) ∷ [] els
 abbrev pub pins_text : List ℕ → List Bool → List ℕ
 pins_text ring pins = flat_map (λ (pin : ℕ × Bool). effective_pin_text pin.0 pin.1) (zip ring pins)
 
--- the letters of the effective pins, wheel by wheel
+-- the letters of the effective pins: one text for each wheel
 abbrev pub pin_texts : PinSet → List (List ℕ)
 pin_texts pins =
     pins_text (ring_of 1) pins.w1 ∷ pins_text (ring_of 2) pins.w2 ∷ pins_text (ring_of 3) pins.w3

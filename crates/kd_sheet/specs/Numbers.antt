@@ -11,7 +11,7 @@ abbrev pub number_up_to : ℕ → Data → Option ℕ
 number_up_to last (integer (pos number)) = if nat_le 1 number && nat_le number last then Some number else None
 number_up_to last _ = None
 
--- the letter with a number from 1 to 26, where 1 is A
+-- the letter of an item that is a number from 1 to 26; 1 is A
 abbrev pub letter_of_number : Data → Option ℕ
 letter_of_number item = option_map (λ number. number - 1) (number_up_to 26 item)
 

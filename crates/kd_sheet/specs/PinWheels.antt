@@ -9,7 +9,7 @@ use Rattle.kd_tables.specs.Rings.{ring_of}
 use Rattle.kd_pins.specs.declared.pin_set.PinSet.{PinSet}
 use Rattle.kd_state.specs.Pins.{pin_set}
 use Rattle.kd_state.specs.Setting.{has_letter}
-use Rattle.kd_sheet.specs.Document.{◌>>=◌, read_each, text_at}
+use Rattle.kd_sheet.specs.Document.{◌>>=◌, read_each, read_items, text_at}
 use Rattle.kd_sheet.specs.Letters.{capital_letters}
 use Rattle.kd_sheet.specs.declared.key.Key.{Key}
 use Rattle.kd_sheet.specs.declared.key.Key.TheVariants as keys
@@ -47,18 +47,23 @@ is_pin_text ring text = list_all (λ byte. is_letter_of ring byte && stands_once
 abbrev pub has_capital : List ℕ → ℕ → Bool
 has_capital text letter = list_any (λ byte. byte == letter + 65) text
 
--- The pins of a wheel, in its own order. A pin is effective if the text has its letter.
+-- The pins of a wheel, in its own order. A pin is effective if the text has its letter. There is no result unless
+-- the text has only letters of the wheel, none of them twice.
 unfoldable pub pins_of_text : List ℕ → List ℕ → Option (List Bool)
 pins_of_text ring text = if is_pin_text ring text then Some (map (has_capital text) ring) else None
 
--- the pins of a wheel with the letters `ring`, from an item
+-- the pins that an item describes, for a wheel with the letters `ring`
 unfoldable pub pins_of_item : List ℕ → Data → Result (List Bool) SheetFault
 pins_of_item ring item = ok_or (option_and_then (pins_of_text ring) (as_str item)) (BadValue keys.Pins)
 
--- the pins of the wheel after the wheels of `earlier`, from an item
+-- the pins that an item describes, for the wheel after those of `earlier`
 abbrev pub pins_for : List (List Bool) → Data → Result (List Bool) SheetFault
 pins_for earlier item = pins_of_item (ring_of (length earlier + 1)) item
 
--- the pins of the six wheels, from an item for each
+-- the pins of the wheels, from items
+abbrev pub pins_of_items : List Data → Result PinSet SheetFault
+pins_of_items items = read_items pins_for items >>= (λ pins. Ok (pin_set pins))
+
+-- the pins of the six wheels, read from an array with an item for each wheel
 unfoldable pub pins_in : Members → Result PinSet SheetFault
 pins_in table = read_each keys.Pins 6 pins_for table >>= (λ pins. Ok (pin_set pins))

@@ -29,8 +29,8 @@ holds_wheel wheel seat = option_map_or (same_wheel wheel) seat false
 unfoldable pub is_seated : List (Option Wheel) → Wheel → Bool
 is_seated slots wheel = list_any (holds_wheel wheel) slots
 
--- The wheel with this name, or a fault. It has to be allowed in the slot right of `slots`, and may be in none
--- of these.
+-- The wheel with this name, or a fault. The model has to allow it in the slot right of `slots`, and no slot of
+-- these may have it.
 unfoldable pub wheel_for : Key → Model → List (Option Wheel) → List ℕ → Result Wheel SheetFault
 wheel_for key model slots name = do
   wheel ← ok_or (wheel_by_name name) (BadValue key)
@@ -38,19 +38,19 @@ wheel_for key model slots name = do
   demand (not (is_seated slots wheel)) WheelTwice
   Ok wheel
 
--- The wheel with this name, for the slot right of `slots`. The empty text leaves the slot empty, if `key`
--- allows it.
+-- The wheel with this name, for the slot right of `slots`. An empty name leaves the slot empty, if slots at `key`
+-- may be empty.
 unfoldable pub seat_for : Key → Model → List (Option Wheel) → List ℕ → Result (Option Wheel) SheetFault
 seat_for key model slots name =
     if may_be_empty key && length name == 0 then Ok None
     else wheel_for key model slots name >>= (λ wheel. Ok (Some wheel))
 
--- the wheel in the slot right of `slots`, from an item
+-- the wheel that an item names, for the slot right of `slots`
 unfoldable pub seat_of_item : Key → Model → List (Option Wheel) → Data → Result (Option Wheel) SheetFault
 seat_of_item key model slots item = do
   name ← ok_or (as_str item) (BadValue key)
   seat_for key model slots name
 
--- the wheels in the model's slots, from an item for each
+-- the wheels in the model's slots, read from an array with an item for each slot
 unfoldable pub seats_in : Key → Model → Members → Result (List (Option Wheel)) SheetFault
 seats_in key model table = read_each key (slots_of model) (seat_of_item key model) table

@@ -31,7 +31,7 @@ number_in table = do
   value ← value_at keys.Day table
   ok_or (number_up_to 31 value) (BadValue keys.Day)
 
--- the number of a day, if none of `days` has it
+-- the number of a day, or `DayTwice` if one of `days` has it
 unfoldable pub new_number_in : List Day → Members → Result ℕ SheetFault
 new_number_in days table = do
   number ← number_in table
@@ -54,7 +54,7 @@ rings_in model table = do
 unfoldable pub group_of_item : Data → Option (List ℕ)
 group_of_item item = option_and_then (capital_letters 3) (as_str item)
 
--- the group of an item, whatever groups are before it
+-- the group that an item describes; the groups before it don't matter
 abbrev pub group_for : List (List ℕ) → Data → Result (List ℕ) SheetFault
 group_for earlier item = ok_or (group_of_item item) (BadValue keys.Groups)
 
@@ -100,14 +100,14 @@ unfoldable pub model_day_in : ℕ → Model → Members → Result Day SheetFaul
 model_day_in number M209 table = pin_day_in number table
 model_day_in number model table = rotor_day_in number model table
 
--- The day that a table describes, or its first fault. None of `days` may have its number.
+-- The day that a table describes, or its first fault. If one of `days` has the day's number, this is a fault.
 unfoldable pub day_in : List Day → Members → Result Day SheetFault
 day_in days table = do
   number ← new_number_in days table
   model ← model_in table
   model_day_in number model table
 
--- the day that an item describes, if none of `days` has its number
+-- the day that an item describes, or its first fault; `days` are the days of the items before it
 unfoldable pub day_for : List Day → Data → Result Day SheetFault
 day_for days item = do
   table ← ok_or (as_table item) (BadValue keys.Day)

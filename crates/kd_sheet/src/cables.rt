@@ -26,7 +26,7 @@ type Pair = (Letter, Letter);
 /// The plugged pairs of a day, in the sheet's order.
 pub type Pairs = ArrayVec<Pair, CABLES>;
 
-/// Reads the letters in one cable: at most two.
+/// Reads a cable from a text of its letters, at most two.
 #[tactic(auto, unfolding(crate::specs::Cables::cable_letters_of_text))]
 fn cable_of_item(item: &Value) -> Option<Cable>
     ensures value { result
@@ -57,7 +57,7 @@ impl FromItem<()> for Cable {
     }
 }
 
-/// `cables`, followed by empty ones up to 13.
+/// `cables`, followed by as many empty ones as make 13 in all.
 fn fill_up_cables(cables: &[Cable]) -> [Cable; CABLES]
     requires { length cables.now ≤ 13 }
     ensures { result ≡ filled_to_thirteen cables.now }

@@ -74,7 +74,7 @@ fn groups_in(table: &Table) -> Result<ArrayVec<[Letter; 3], 4>, SheetFault>
     }
 }
 
-/// Reads the two letters of the key list.
+/// Reads the two letters that name the key list.
 #[tactic(auto, unfolding(crate::specs::Letters::letters_at))]
 fn list_in(table: &Table) -> Result<[Letter; 2], SheetFault>
     ensures { result ≡ letters_at keys.List 2 (table_view table.now) }

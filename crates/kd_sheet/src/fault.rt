@@ -18,17 +18,18 @@ pub enum SheetFault {
     Missing(Key),
     /// A key's value is wrong.
     ///
-    /// The value, or a part of it, has the wrong type, form or number of parts; is a number out of range; or
-    /// names no wheel, or no reflector of the model. Or a letter isn't on its pin wheel, or a pin is named
-    /// twice.
+    /// The value, or an item of it, has the wrong type, form or length; is a number out of range; or doesn't
+    /// name a wheel, or a reflector of the model. Or a letter isn't on its pin wheel, or a pin is named twice.
     BadValue(Key),
-    /// A letter is in two places of the cables, or of the pairs.
+    /// A letter occurs twice among the cables, or among the pairs.
     LetterTwice,
     /// A wheel is in two slots.
     WheelTwice,
-    /// A wheel is in a slot in which the model doesn't take it.
+    /// A wheel is in a slot in which the model doesn't allow it.
     WheelNotAllowed,
-    /// This bar has no valid standing, or this row no valid reading. Bars and rows are counted from 1.
+    /// The bar with this number has no valid standing, or the row with this number no valid reading.
+    ///
+    /// Bars and rows are counted from 1.
     BadRow(u8),
     /// Two days of a sheet have this number.
     DayTwice(u8),

@@ -10,12 +10,14 @@ use super::key::Key;
 use arrayvec::ArrayVec;
 use toml::{Table, Value};
 
-/// A type that an item of an array can be read as. `Given` is anything else that reading it takes.
+/// A type that an item of an array can be read as.
+///
+/// `Given` is what reading the item needs besides the items before it: for a wheel, the key and the model.
 pub trait FromItem<Given> {
-    /// What an item is read as, after the items `before`: a value or a fault.
+    /// What an item is read as, by the values of the items before it: a value or a fault.
     ghost reading: { Given → List Self → Data → Result Self SheetFault };
 
-    /// Reads `item`, which comes after the items `before`.
+    /// Reads `item`. `before` has the values of the items before it.
     fn read_item(given: &Given, before: &[Self], item: &Value) -> Result<Self, SheetFault>
         requires { length before.now < 27 }
         ensures { result ≡ reading given.now before.now (view item.now) };
@@ -39,7 +41,9 @@ fn read_items<T: FromItem<G> + Copy + Default, G, const N: usize>(
     Ok(values)
 }
 
-/// Reads the items of the array at `key`. The fault is `BadValue(key)` unless there are `count` items.
+/// Reads the items of the array at `key`, which must have exactly `count` of them.
+///
+/// If it has more or fewer, the fault is `BadValue(key)`.
 pub fn read_each<T: FromItem<G> + Copy + Default, G, const N: usize>(
     table: &Table,
     key: Key,

@@ -1,4 +1,4 @@
-//! Writes the lines of a machine file: a key, `=` and a value.
+//! Writes the lines of a machine file: each is a key, `=` and a value.
 ghost use Rattle.std.specs.{Prelude.{codes, ◌≡◌, ◌+◌, ◌*◌, ◌≤◌, ◌++◌, map, length}, List.{flat_map, join_by}};
 ghost use Rattle.arrayvec.specs.ArrayString.{array_string_len};
 ghost use Rattle.kd_sheet.specs.{Key.{key_name}, MachineText.{quoted_text, array_text, key_line}};
@@ -7,7 +7,7 @@ use super::item_text::ItemText;
 use super::key::Key;
 use arrayvec::ArrayString;
 
-/// The text of a machine file, shorter than 2048 bytes.
+/// The text of a machine file, at most 2048 bytes.
 pub type FileText = ArrayString<2048>;
 
 /// Appends `key` and ` = `.

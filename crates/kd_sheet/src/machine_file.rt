@@ -124,8 +124,8 @@ fn machine_in(table: &Table) -> Result<Machine, SheetFault>
 
 /// Reads a machine file of version 1 or 2, or returns its first fault. The M4 needs version 2.
 ///
-/// `NoMemory` may come instead of any other answer. Only parsing the document allocates memory, but the
-/// contract doesn't say that memory really ran out.
+/// `NoMemory` may be returned in place of any other result. Only parsing the document allocates memory, but the
+/// contract doesn't promise that memory really ran out.
 pub fn read_machine(alloc: Global, bytes: &[u8]) -> Result<Machine, SheetFault>
     ensures { AgreesOrNoMemory result (machine_of bytes.now) }
 {

@@ -1,12 +1,11 @@
 //! Reads the letters that the Converter's six wheels show, and their effective pins.
-ghost use Rattle.std.specs.Prelude.{◌≡◌, ◌+◌, ◌<◌, [], ◌∷◌, length, map, ok_or, Ok};
+ghost use Rattle.std.specs.Prelude.{◌≡◌, ◌+◌, ◌<◌, [], ◌∷◌, length, map, ok_or};
 ghost use Rattle.std.specs.{List.{enumerate_from, list_all}, Option.{option_and_then}};
 ghost use Rattle.toml.specs.{Data.{as_str}, View.{view, table_view}};
 ghost use Rattle.kd_tables.specs.Rings.{ring_of};
-ghost use Rattle.kd_state.specs.{Pins.{pin_set}, Setting.{has_letter}};
-ghost use Rattle.kd_sheet.specs.Document.{◌>>=◌ as ◌followed_by◌, read_items};
+ghost use Rattle.kd_state.specs.Setting.{has_letter};
 ghost use Rattle.kd_sheet.specs.PinWheels.{letters_on_wheels, shown_letters_in, is_letter_of, stands_once};
-ghost use Rattle.kd_sheet.specs.PinWheels.{is_pin_text, has_capital, pins_of_text, pins_for, pins_in};
+ghost use Rattle.kd_sheet.specs.PinWheels.{is_pin_text, has_capital, pins_of_text, pins_of_items, pins_in};
 ghost use Rattle.kd_sheet.specs.declared.fault.SheetFault.TheVariants as faults;
 ghost use Rattle.kd_sheet.specs.declared.key.Key.TheVariants as keys;
 
@@ -18,7 +17,7 @@ use kd_pins::PinSet;
 use kd_tables::{Letter, Ring, place_on_wheel, ring1, ring2, ring3, ring4, ring5, ring6};
 use toml::{Table, Value};
 
-/// Whether each letter is on its wheel. The first letter is on `wheel`, the next on the wheel after it.
+/// Whether each letter is on its wheel: the first on wheel number `wheel`, the next on the next wheel.
 #[tactic(auto, using(kd_state::proofs::Slots::on_wheels))]
 fn are_on_wheels(wheel: u8, letters: &[Letter]) -> bool
     requires { wheel + length letters.now < 256 }
@@ -81,7 +80,7 @@ fn is_pin_text(ring: &[Letter], text: &[u8]) -> bool
     true
 }
 
-/// For each of `letters`, whether `text` has it.
+/// Whether the pin beside each of `letters` is effective: it is if `text` has the letter.
 fn pins_of_letters<const N: usize>(letters: &[Letter; N], text: &[u8]) -> [bool; N]
     ensures { result ≡ map (has_capital text.now) letters.now }
 {
@@ -102,7 +101,7 @@ fn pins_of_item<const N: usize>(ring: &Ring<N>, item: &Value) -> Option<[bool; N
     is_pin_text(&letters, text).then_some(pins_of_letters(&letters, text))
 }
 
-/// Reads the effective pins of the six wheels, an item for each.
+/// Reads the effective pins of the six wheels, from an array with an item for each wheel.
 #[tactic(auto, unfolding(crate::specs::PinWheels::pins_in))]
 pub fn pins_in(table: &Table) -> Result<PinSet, SheetFault>
     ensures { result ≡ pins_in (table_view table.now) }
@@ -114,7 +113,7 @@ pub fn pins_in(table: &Table) -> Result<PinSet, SheetFault>
     pins_of_six(one, two, three, four, five, six).ok_or(SheetFault::BadValue(Key::Pins))
 }
 
-/// Reads the effective pins from the six items.
+/// Reads the effective pins of the six wheels from one item each.
 #[tactic(auto, unfolding(crate::specs::PinWheels::pins_of_item))]
 fn pins_of_six(
     one: &Value,
@@ -124,9 +123,8 @@ fn pins_of_six(
     five: &Value,
     six: &Value,
 ) -> Option<PinSet>
-    ensures { ok_or result (faults.BadValue keys.Pins) ≡ (read_items pins_for
-        (view one.now ∷ view two.now ∷ view three.now ∷ view four.now ∷ view five.now ∷ view six.now ∷ [])
-        followed_by (λ pins. Ok (pin_set pins))) }
+    ensures { ok_or result (faults.BadValue keys.Pins) ≡ pins_of_items
+        (view one.now ∷ view two.now ∷ view three.now ∷ view four.now ∷ view five.now ∷ view six.now ∷ []) }
 {
     Some(PinSet {
         w1: pins_of_item(&ring1(), one)?,

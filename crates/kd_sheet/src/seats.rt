@@ -41,7 +41,7 @@ fn wheel_for(
     Ok(wheel)
 }
 
-/// Reads an item as the wheel in the next slot. The empty text leaves the slot empty, if `key` allows it.
+/// Reads an item as the wheel in the next slot. At the key `slots`, the empty text leaves the slot empty.
 impl FromItem<(Key, Model)> for Option<Wheel> {
     ghost reading = { λ given. seat_of_item given.0 given.1 };
 

@@ -1,4 +1,4 @@
-//! A key sheet, as a month of days.
+//! A key sheet: a month, in which some days have an entry.
 ghost use Rattle.std.specs.Prelude.{◌≡◌, option_copied, slice_set, ◌-◌, IfSome, List, [], Option, Some};
 ghost use Rattle.kd_state.specs.SheetDay.{Day, day_number};
 ghost use Rattle.kd_sheet.specs.Sheet.{day_of, month_of, IsMonth};
@@ -9,7 +9,7 @@ use std::marker::Model;
 /// The number of days of the longest month.
 pub(crate) const DAYS: u8 = 31;
 
-/// A key sheet: a month in which some days have an entry. It allocates nothing.
+/// A key sheet: a month in which some days have an entry. The days are kept in place, without allocation.
 #[derive(Drop)]
 pub struct Sheet {
     /// Day `n` is at index `n - 1`.

@@ -30,7 +30,7 @@ fn new_number_in(sheet: &Sheet, table: &Table) -> Result<u8, SheetFault>
     Ok(number)
 }
 
-/// Reads the day that `item` describes, or returns its first fault. `sheet` has the days before it.
+/// Reads the day that `item` describes, or returns its first fault. `sheet` has the days read before it.
 #[tactic(auto, unfolding(crate::specs::SheetFile::day_for, crate::specs::SheetFile::day_in))]
 fn day_for(sheet: &Sheet, item: &Value) -> Result<SheetDay, SheetFault>
     ensures { (days : List Day) → sheet.now ≡ month_of days → result ≡ day_for days (view item.now) }
@@ -55,8 +55,8 @@ fn month_of_items(items: &[Value]) -> Result<Sheet, SheetFault>
 
 /// Reads a key sheet, or returns its first fault.
 ///
-/// `NoMemory` may come instead of any other answer. Only parsing the document allocates memory, but the
-/// contract doesn't say that memory really ran out.
+/// `NoMemory` may be returned in place of any other result. Only parsing the document allocates memory, but the
+/// contract doesn't promise that memory really ran out.
 #[tactic(auto, unfolding(crate::specs::SheetFile::sheet_in))]
 pub fn read_sheet(alloc: Global, bytes: &[u8]) -> Result<Sheet, SheetFault>
     ensures { AgreesOrNoMemory result (sheet_of bytes.now) }

@@ -39,7 +39,7 @@ fn push_letters_line(text: &mut FileText, key: Key, letters: &[Letter])
     push_text_line(text, key, letters_text(letters).as_str());
 }
 
-/// Appends the letters whose pins are effective.
+/// Appends those of `letters` whose pins are effective.
 fn push_pin_letters(text: &mut Item, letters: &[Letter], pins: &[bool])
     requires room { array_string_len text.old + length letters.now ≤ 32 }
     requires pins { length pins.now ≡ length letters.now }
@@ -64,7 +64,7 @@ fn pins_text<const N: usize>(ring: &Ring<N>, pins: &[bool; N]) -> Item
     text
 }
 
-/// Writes the letters of the effective pins, wheel by wheel.
+/// Writes the letters of the effective pins: one text for each wheel.
 fn pin_texts(pins: &PinSet) -> [Item; 6]
     ensures { map (λ text. text.bytes) result ≡ pin_texts pins.now }
 {
@@ -129,8 +129,8 @@ fn pin_machine_text(parts: &PinParts) -> FileText
 
 /// Writes the file of `machine`: in version 2 for the M4, otherwise in version 1.
 ///
-/// After `Device`, the sink has a prefix of the text. `read_machine` reads the whole text as the same
-/// machine.
+/// If it returns the fault `Device`, the sink has taken a prefix of the text. `read_machine` reads the whole text
+/// as the same machine.
 #[tactic(auto, using(crate::proofs::ReadBack::parts_are_read_back))]
 pub fn write_machine<W: Sink>(sink: &mut W, machine: &Machine) -> Result<(), Device>
     ensures text { Writes (W.taken sink.old) (W.taken sink.new) (machine_text machine.now) result }

@@ -7,6 +7,7 @@ pub mod Setting
 pub mod FaultText
 pub mod Changes
 pub mod Words
+pub mod FirstFaults
 pub mod Line
 pub mod SheetDay
 pub mod Entry

@@ -33,6 +33,20 @@ pub record PinDay : Type 0 where
   pub window : List ℕ
   pub list : List ℕ
 
+-- the values of a day of a rotor machine, and of a day of the Converter M-209, one by one
+abbrev pub rotor_day_of : ℕ → Model → Reflector → List SheetWheel → List (ℕ × ℕ) → List (List ℕ) → RotorDay
+rotor_day_of day model reflector wheels pairs groups = record {
+  day = day;
+  model = model;
+  reflector = reflector;
+  wheels = wheels;
+  pairs = pairs;
+  groups = groups;
+}
+
+abbrev pub pin_day_of : ℕ → List (ℕ × ℕ) → PinSet → List ℕ → List ℕ → PinDay
+pin_day_of day rows pins window list = record { day = day; rows = rows; pins = pins; window = window; list = list }
+
 pub data Day : Type 0 where
   OfRotors : RotorDay → Day
   OfPins : PinDay → Day

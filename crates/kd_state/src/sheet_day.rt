@@ -31,9 +31,9 @@ impl std::marker::Model for SheetDay {
 }
 
 impl SheetDay {
-    ghost use Rattle.std.specs.Prelude.{◌≡◌, ◌↔◌, ◌≤◌, length, IsTrue, IfSome, MatchOption};
-    ghost use Rattle.std.specs.Option.{option_copied, option_map};
-    ghost use Rattle.kd_state.specs.SheetDay.{RotorDay, PinDay, OfRotors, OfPins, IsLegalDay, IsLegalRotorDay};
+    ghost use Rattle.std.specs.Prelude.{◌≡◌, ◌↔◌, ◌≤◌, length, IsTrue, IfSome};
+    ghost use Rattle.std.specs.Option.{IsSome, option_copied, option_map};
+    ghost use Rattle.kd_state.specs.SheetDay.{OfRotors, OfPins, rotor_day_of, pin_day_of, IsLegalDay, IsLegalRotorDay};
     ghost use Rattle.kd_state.specs.SheetDay.{IsLegalPinDay, IsDayNumber, AreADaysGroup};
     ghost use Rattle.kd_state.specs.SheetDay.{day_number, day_model, rotor_day, pin_day, day_wheel, day_window_letter};
     ghost use Rattle.kd_state.specs.Entry.{values_of};
@@ -50,16 +50,10 @@ impl SheetDay {
         pairs: &[(Letter, Letter)],
         groups: &[[Letter; 3]],
     ) -> Option<SheetDay>
-        ensures { let values : RotorDay = record {
-          day = day;
-          model = model;
-          reflector = reflector;
-          wheels = wheels.now;
-          pairs = pairs.now;
-          groups = groups.now;
-        } in
-            MatchOption result (¬ (IsLegalRotorDay values))
-            (λ sheet_day. IsLegalRotorDay values × (sheet_day ≡ OfRotors values)) }
+        ensures exists { IsSome result
+            ↔ IsLegalRotorDay (rotor_day_of day model reflector wheels.now pairs.now groups.now) }
+        ensures value { IfSome result (λ sheet_day. sheet_day
+            ≡ OfRotors (rotor_day_of day model reflector wheels.now pairs.now groups.now)) }
     {
         let entry = RotorEntry {
             day,
@@ -90,15 +84,8 @@ impl SheetDay {
         window: [Letter; 6],
         list: [Letter; 2],
     ) -> Option<SheetDay>
-        ensures { let values : PinDay = record {
-          day = day;
-          rows = rows;
-          pins = pins;
-          window = window;
-          list = list;
-        } in
-            MatchOption result (¬ (IsLegalPinDay values))
-            (λ sheet_day. IsLegalPinDay values × (sheet_day ≡ OfPins values)) }
+        ensures exists { IsSome result ↔ IsLegalPinDay (pin_day_of day rows pins window list) }
+        ensures value { IfSome result (λ sheet_day. sheet_day ≡ OfPins (pin_day_of day rows pins window list)) }
     {
         let entry = PinEntry {
             day,

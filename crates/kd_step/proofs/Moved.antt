@@ -36,7 +36,7 @@ length-with_last_moved count window fits =
 abbrev slow_letters : List ℕ → List ℕ
 slow_letters window = take (length window - 1) window
 
--- if the middle wheel's letter stays in a step, the letters of all wheels but the right one stay
+-- if a step leaves the middle wheel's letter, it leaves the letters of all wheels but the right one
 pub slow_still : (wheels : List Wheel) (before after : List ℕ) → IsStep wheels before after → 3 ≤ length before
     → slice_index after (length before - 2) ≡ slice_index before (length before - 2)
     → slow_letters after ≡ slow_letters before

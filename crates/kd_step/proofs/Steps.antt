@@ -1,4 +1,4 @@
--- Steps lead to `window_after`, and to no other window.
+-- A chain of steps leads to `window_after`, and to no other window.
 use Rattle.std.proofs.Common.{◌≡◌, ℕ, zero, suc, Bool, true, false, cond, List, refl, sym, ap, ◌∙◌}
 use Rattle.kd_tables.specs.declared.wheel.Wheel.{Wheel}
 use Rattle.kd_step.specs.Stepper.{stands_at_notch, IsStep, LeadsInSteps, next_window, window_after}
@@ -11,7 +11,7 @@ cond-false : {X : Type 0} (b : Bool) (x y : X) → b ≡ false → cond b x y �
 cond-false true x y h = cc
 cond-false false x y h = refl
 
--- `next_window` is one step away
+-- one step leads from `window` to `next_window`
 pub IsStep-next_window : (wheels : List Wheel) (window : List ℕ) → IsStep wheels window (next_window wheels window)
 IsStep-next_window wheels window =
     let middle = stands_at_notch wheels window 1 in

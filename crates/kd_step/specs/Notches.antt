@@ -3,7 +3,7 @@ use Rattle.std.specs.Prelude.{◌≡◌, ℕ, ◌+◌, ◌-◌, ◌<◌, Bool, f
 use Rattle.kd_tables.specs.Tables.{is_notch}
 use Rattle.kd_tables.specs.declared.wheel.Wheel.{Wheel}
 
--- `table` says for each letter whether `wheel` is at a notch while the letter shows in its window.
+-- `table` has an entry for each letter: whether `wheel` is at a notch while this letter shows in its window.
 pub record IsNotchTable (wheel : Wheel) (table : List Bool) : Type 0 where
   pub size : length table ≡ 26
   pub each : (letter : ℕ) → letter < 26 → slice_index_or table letter false ≡ is_notch wheel letter

@@ -1,7 +1,7 @@
 -- One step of the wheels, by the letters in their windows. Wheels are counted from the right, from 0: the right
 -- wheel, the middle wheel, the left wheel, and on the M4 the Greek wheel, which never moves.
 -- Source: the published accounts of the stepping, with its double step
--- Code: a table says where a wheel is at a notch.
+-- Code: a table has an entry for each letter: whether a wheel is at a notch.
 -- Test: wheels_step
 use Rattle.std.specs.Prelude.{◌≡◌, ◌↔◌, ℕ, zero, suc, ◌+◌, ◌-◌, ◌%◌, ◌≤◌, List, ◌++◌, length, take, drop, map}
 use Rattle.std.specs.Prelude.{slice_get, slice_index, IsTrue, IsFalse, Bool, false, if◌then◌else◌}
@@ -9,7 +9,7 @@ use Rattle.std.specs.Option.{option_map_or}
 use Rattle.kd_tables.specs.Tables.{is_notch}
 use Rattle.kd_tables.specs.declared.wheel.Wheel.{Wheel}
 
--- A stepper as contracts see it: its wheels and the letters in their windows, from the left.
+-- What contracts say of a stepper: its wheels and the letters in their windows, both in order from the left.
 pub record Stepping : Type 0 where
   pub wheels : List Wheel
   pub window : List ℕ
@@ -29,8 +29,8 @@ abbrev pub with_last_moved : ℕ → List ℕ → List ℕ
 with_last_moved count window = take (length window - count) window
     ++ map next_letter (drop (length window - count) window)
 
--- One step. If the middle wheel stands at a notch, the left, middle and right wheels move. Otherwise the middle
--- and right wheels move if the right wheel stands at a notch, and else only the right wheel.
+-- One step. If the middle wheel is at a notch, the left, middle and right wheels move. Otherwise, if the right wheel
+-- is at a notch, the middle and right wheels move. If neither is at a notch, only the right wheel moves.
 pub record IsStep (wheels : List Wheel) (before after : List ℕ) : Type 0 where
   pub from_middle_notch : IsTrue (stands_at_notch wheels before 1) → after ≡ with_last_moved 3 before
   pub from_right_notch : IsFalse (stands_at_notch wheels before 1) → IsTrue (stands_at_notch wheels before 0)
@@ -64,7 +64,7 @@ ChainsEndInWindowAfter =
     (wheels : List Wheel) (first last : List ℕ) (n : ℕ)
     → LeadsInSteps wheels first n last ↔ (last ≡ window_after wheels first n)
 
--- If the middle wheel keeps its letter in a step, all wheels but the right one keep theirs.
+-- If the middle wheel shows the same letter after a step as before, so does each wheel but the right one.
 abbrev pub SlowWheelsMoveTogether : Type 0
 SlowWheelsMoveTogether =
     (wheels : List Wheel) (before after : List ℕ) → IsStep wheels before after → 3 ≤ length before

@@ -1,12 +1,12 @@
 //! Laws that follow from the definition of a step alone.
 ghost use Rattle.kd_step.specs.Stepper.{ChainsEndInWindowAfter, SlowWheelsMoveTogether};
 
-/// Each number of steps from a window leads to exactly one window: the one that `window_after` gives.
+/// Any number of steps leads from a window to exactly one window: to `window_after`.
 pub fn chains_end_in_window_after()
     ensures { ChainsEndInWindowAfter }
 {}
 
-/// If the middle wheel stays in a step, all wheels but the right one stay.
+/// A step that doesn't move the middle wheel moves no wheel but the right one.
 pub fn slow_wheels_move_together()
     ensures { SlowWheelsMoveTogether }
 {}

@@ -4,7 +4,7 @@ ghost use Rattle.kd_step.specs.Notches.{IsNotchTable};
 
 use kd_tables::{Letter, Wheel, notched};
 
-/// Tabulates the notches of `wheel`: entry `i` says whether letter `i` in its window is a notch.
+/// Tabulates the notches of `wheel`: entry `i` is true if it is at a notch while letter `i` shows.
 pub(crate) fn notches(wheel: Wheel) -> [bool; 26]
     ensures { IsNotchTable wheel result }
 {

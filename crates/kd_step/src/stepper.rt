@@ -81,7 +81,7 @@ impl<const S: usize> Stepper<S> {
     }
 }
 
-/// Moves each of the last `count` letters on by one, Z to A.
+/// Replaces each of the last `count` letters by the next letter, and Z by A.
 fn move_last(window: &mut [Letter], count: usize)
     requires { count ≤ length window.old }
     ensures { window.new ≡ with_last_moved count window.old }
@@ -90,7 +90,7 @@ fn move_last(window: &mut [Letter], count: usize)
     advance(&mut window[first..]);
 }
 
-/// Moves each letter on by one, Z to A.
+/// Replaces each letter by the next letter, and Z by A.
 fn advance(letters: &mut [Letter])
     ensures { letters.new ≡ map next_letter letters.old }
 {

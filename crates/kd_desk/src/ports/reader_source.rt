@@ -14,7 +14,7 @@ pub struct ReaderSource<R: Read + Drop> {
 }
 
 impl<R: Read + Drop> ReaderSource<R> {
-    /// Creates a source of the bytes that `reader` gives.
+    /// Creates a source of the bytes that `reader` reads.
     pub fn new(reader: R) -> Self
         ensures reader { result.reader ≡ reader }
         ensures failed { result.failed ≡ false }

@@ -14,7 +14,7 @@ use kd_state::SheetDay;
 /// Enough bytes for any line of a head, its line end included.
 const LINE: usize = 25;
 
-/// A reader of an order's head.
+/// A reader of the head of an order: the lines of keys and the line TEXT.
 #[derive(Drop)]
 pub(crate) struct HeadReader {
     keys: ArrayVec<Keys, 99>,
@@ -22,14 +22,14 @@ pub(crate) struct HeadReader {
     line: ArrayVec<u8, LINE>,
 }
 
-/// What the reader found after one more byte of a head.
+/// What a `HeadReader` found with the byte that it took last.
 #[derive(Clone, Copy)]
 pub(crate) enum HeadStep {
     /// The head isn't complete yet.
     Open,
     /// The head is complete; the text follows.
     Text,
-    /// No head has this byte here.
+    /// No order's head goes on with this byte.
     Bad,
 }
 
@@ -52,7 +52,7 @@ impl HeadReader {
         self.keys.as_slice()
     }
 
-    /// Takes the next byte.
+    /// Takes the next byte of the head.
     ///
     /// Not inlined: otherwise every byte read would pay for this frame.
     #[inline(never)]
@@ -77,9 +77,9 @@ impl HeadReader {
     }
 }
 
-/// Reads the line after `count` lines of keys: its keys, or `None` for the line TEXT.
+/// Reads the line after `count` lines of keys: returns its keys, or `None` for the line TEXT.
 ///
-/// The first byte decides between a line of keys and the line TEXT.
+/// The first byte decides which of the two is read; after 99 lines of keys, only TEXT is allowed.
 #[tactic(auto, using(crate::proofs::OrderSteps::next_text))]
 fn read_line(day: &SheetDay, count: usize, line: &[u8]) -> Result<Option<Keys>, Unread>
     ensures { MatchResult result

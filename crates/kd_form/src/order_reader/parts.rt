@@ -1,4 +1,4 @@
-//! Collects the letters of an order's text, and makes parts from them.
+//! Collects the letters of an order's text, and makes the parts of the form from them.
 ghost use Rattle.std.specs.Prelude.{◌≡◌, ◌<◌, ◌≤◌, ◌+◌, ◌^◌, List, ℕ, [], ◌∷◌, ◌++◌, length, Some};
 ghost use Rattle.std.specs.Prelude.{slice_get};
 ghost use Rattle.kd_form.specs.declared.keys.Keys.{Keys};
@@ -19,7 +19,7 @@ use kd_tables::Letter;
 /// A collector of the letters of an order's text, which makes parts from them.
 #[derive(Drop)]
 pub(crate) struct PartWriter {
-    /// The letters for the next part, at most as many as a part has.
+    /// The letters for the next part, at most `part_size`.
     letters: ArrayVec<Letter, 500>,
     /// How many letters the text has so far.
     count: usize,
@@ -39,7 +39,7 @@ impl PartWriter {
         }
     }
 
-    /// Takes the next byte of the text, and the letter that it gives, if any.
+    /// Takes the next byte of the text, and hands the letter that it gives, if any, to `take_letter`.
     pub(crate) fn take(&mut self, day: &SheetDay, keys: &[Keys], byte: u8, output: &mut PartText)
         requires taken { (letters sent : List ℕ) × AreLettersTaken day.now keys.now self.old letters sent
             × (length letters < 2 ^ 63) }
@@ -55,7 +55,7 @@ impl PartWriter {
 
     /// Takes the next letter of the text; if the current part is full, first writes that part to `output`.
     ///
-    /// When the part for the last keys is full, further letters are only counted.
+    /// The last part is written only by `end`. Once it is full, further letters are only counted.
     fn take_letter(&mut self, day: &SheetDay, keys: &[Keys], letter: Letter, output: &mut PartText)
         requires taken { (letters sent : List ℕ) × AreLettersTaken day.now keys.now self.old letters sent
             × (length letters < 2 ^ 63) }

@@ -1,4 +1,4 @@
-//! Reads one piece of a message from the source, feeds it to the reader, and writes the result.
+//! Reads one chunk of a message from the source, feeds it to the reader, and writes the result.
 ghost use Rattle.std.specs.Prelude.{◌≡◌, ◌<◌, ◌≤◌, ◌||◌, [], ◌∷◌, length, OnOk};
 ghost use Rattle.kd_tables.specs.Ports.{port};
 ghost use Rattle.kd_form.specs.StreamSteps.{HasRoom, IsFeedAllAnswer, IsFinishAnswer, IsCloseAnswer, IsReadNextAnswer};
@@ -11,7 +11,7 @@ use arrayvec::ArrayVec;
 use kd_state::SheetDay;
 use kd_tables::{Sink, Source, put_all};
 
-/// Feeds `bytes` to `reader`, and writes to `sink` what the reader makes of them.
+/// Feeds `bytes` to `reader`, and writes the output of `reader` to `sink`.
 pub(crate) fn feed_all<M: MessageReader, W: Sink>(
     reader: &mut M,
     day: &SheetDay,
@@ -31,7 +31,7 @@ pub(crate) fn feed_all<M: MessageReader, W: Sink>(
     Ok(())
 }
 
-/// Feeds `byte` to `reader`, and writes to `sink` what the reader makes of it.
+/// Feeds `byte` to `reader`, and writes the output of `reader` to `sink`.
 fn feed_one<M: MessageReader, W: Sink>(
     reader: &mut M,
     day: &SheetDay,
@@ -93,7 +93,7 @@ pub(crate) fn close<Context, M: ChunkReader<Context>, W: Sink>(
     Ok(())
 }
 
-/// Reads up to `room` bytes, feeds them to `reader`, and returns their number.
+/// Reads up to `room` bytes from `source`, feeds them to `reader`, and returns their number.
 ///
 /// Zero means that the source is at its end.
 pub(crate) fn read_next<Context, M: ChunkReader<Context>, R: Source, W: Sink>(
@@ -106,10 +106,10 @@ pub(crate) fn read_next<Context, M: ChunkReader<Context>, R: Source, W: Sink>(
 ) -> Result<usize, Interruption>
     requires some { 0 < room }
     requires room { HasRoom (M.message context.now) (M.holds context.now reader.old) room }
-    ensures { IsReadNextAnswer (M.message context.now)
-        (M.holds context.now reader.old) (M.holds context.now reader.new) room
-        (port R.remaining R.has_failed source.old source.new)
-        (port W.taken W.has_failed sink.old sink.new) result }
+    ensures { let holds = M.holds context.now in
+        let read = port R.remaining R.has_failed source.old source.new in
+        let written = port W.taken W.has_failed sink.old sink.new in
+        IsReadNextAnswer (M.message context.now) (holds reader.old) (holds reader.new) room read written result }
 {
     read_into(
         reader,
@@ -120,7 +120,7 @@ pub(crate) fn read_next<Context, M: ChunkReader<Context>, R: Source, W: Sink>(
     )
 }
 
-/// `read_next`, with a `buffer` no longer than the room.
+/// Fills at most `buffer` from `source`, feeds the bytes to `reader`, and returns their number.
 fn read_into<Context, M: ChunkReader<Context>, R: Source, W: Sink>(
     reader: &mut M,
     context: &Context,
@@ -131,10 +131,11 @@ fn read_into<Context, M: ChunkReader<Context>, R: Source, W: Sink>(
     requires some { 0 < length buffer.now }
     requires few { length buffer.now ≤ CHUNK }
     requires room { HasRoom (M.message context.now) (M.holds context.now reader.old) (length buffer.now) }
-    ensures { IsReadNextAnswer (M.message context.now)
-        (M.holds context.now reader.old) (M.holds context.now reader.new)
-        (length buffer.old) (port R.remaining R.has_failed source.old source.new)
-        (port W.taken W.has_failed sink.old sink.new) result }
+    ensures { let holds = M.holds context.now in
+        let read = port R.remaining R.has_failed source.old source.new in
+        let written = port W.taken W.has_failed sink.old sink.new in
+        let room = length buffer.old in
+        IsReadNextAnswer (M.message context.now) (holds reader.old) (holds reader.new) room read written result }
 {
     let Ok(count) = source.get(buffer) else {
         return Err(Interruption::Device);

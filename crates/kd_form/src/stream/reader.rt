@@ -16,17 +16,17 @@ use kd_tables::Sink;
 /// The most bytes that are read at once.
 pub(crate) const CHUNK: usize = 4096;
 
-/// A reader of one kind of message, piece by piece, on a day or on a machine.
+/// A reader of one kind of message, chunk by chunk, which works with a day or a machine as its context.
 pub(crate) trait ChunkReader<Context> {
     /// The kind of message.
     ghost message: { Context → Message };
 
-    /// Relates the reader to the bytes that it has read and the text that it has made from them.
+    /// Relates the reader to the bytes that it has read and the result that it has output for them.
     ghost holds: { Context → Self → List ℕ → List ℕ → Type 0 };
 
     /// Reads the next bytes of the message, and writes their result to `sink`.
     ///
-    /// After an error, it must not be called again.
+    /// After an error, the reader must not be called again.
     fn read_chunk<W: Sink>(
         &mut self,
         context: &Context,
@@ -47,31 +47,31 @@ pub(crate) trait ChunkReader<Context> {
         ensures failed { W.has_failed sink.new ≡ (W.has_failed sink.old || is_device_interruption result) };
 }
 
-/// The result of one byte: usually nothing, at most one part.
+/// What a reader outputs after one byte: usually nothing, at most one part.
 pub(crate) type PartText = ArrayVec<u8, LONGEST>;
 
-/// A reader of one kind of message, byte by byte, which holds one part at a time.
+/// A reader of one kind of message, byte by byte, which keeps one part at a time.
 pub(crate) trait MessageReader {
     /// The kind of message.
     ghost message: { Day → Message };
 
-    /// Relates the reader to the bytes that it has read and the text that it has made from them.
+    /// Relates the reader to the bytes that it has read and the result that it has output for them.
     ghost holds: { Day → Self → List ℕ → List ℕ → Type 0 };
 
     /// Creates a reader that has read nothing.
     fn start(day: &SheetDay) -> Self
         ensures { HasReadSoFar (message day.now) (holds day.now result) [] [] };
 
-    /// Takes the next byte, and leaves in `output` what can be written now.
+    /// Takes the next byte, and puts into `output` what can be written now.
     ///
-    /// After a fault, it must not be called again.
+    /// After a fault, the reader must not be called again.
     fn feed(&mut self, day: &SheetDay, byte: u8, output: &mut PartText) -> Result<(), FormFault>
         requires room { HasRoom (message day.now) (holds day.now self.old) 1 }
         requires empty { output.old.items ≡ [] }
         ensures { IsFeedAnswer (message day.now) (holds day.now self.old) (holds day.now self.new) byte
             output.new.items result };
 
-    /// Ends the message, and leaves the rest of its result in `output`, with or without a fault.
+    /// Ends the message, and puts the rest of its result into `output`, even if a fault is returned.
     fn end(&mut self, day: &SheetDay, output: &mut PartText) -> Result<(), FormFault>
         requires room { HasRoom (message day.now) (holds day.now self.old) 0 }
         requires empty { output.old.items ≡ [] }

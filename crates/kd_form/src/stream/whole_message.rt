@@ -13,7 +13,7 @@ use kd_state::SheetDay;
 use kd_tables::Sink;
 use std::alloc::Global;
 
-/// The form or text that `message` gives, or its fault.
+/// The form or text that `message` becomes, or its fault.
 ///
 /// `NoMemory` comes only for a message without a fault.
 pub(crate) fn message_result<M: MessageReader + Drop>(
@@ -50,7 +50,7 @@ pub(crate) fn check_message<M: MessageReader + Drop>(
     Ok(())
 }
 
-/// Writes to `sink` the form or text that `message` gives.
+/// Writes the form or text that `message` becomes to `sink`.
 fn write_message<M: MessageReader + Drop, W: Sink>(
     day: &SheetDay,
     message: &[u8],

@@ -1,4 +1,4 @@
-//! Types one piece of a text: finds its letters, and enciphers them into the lamps that light up.
+//! Types one chunk of a text: finds its letters, and enciphers them into the lamps that light up.
 ghost use Rattle.std.specs.Bool.{OnTrue};
 ghost use Rattle.std.specs.Prelude.{◌≡◌, All, ◌<◌, ◌≤◌, ◌+◌, ◌++◌, take, length, option_to_list};
 ghost use Rattle.arrayvec.specs.ArrayVec.{array_vec_len};
@@ -22,9 +22,9 @@ fn push_some_letter(letters: &mut ArrayVec<Letter, CHUNK>, letter: Option<Letter
     }
 }
 
-/// Reads `bytes` as capital letters, many at a time; returns false if one is something else.
+/// Reads `bytes` as capital letters, many at a time; returns false if a byte is something else.
 ///
-/// After false, `letters` has no meaning.
+/// If the result is false, the contents of `letters` mean nothing.
 fn read_capitals(bytes: &[u8], letters: &mut [Letter]) -> bool
     requires { length letters.old ≡ length bytes.now }
     ensures read { OnTrue result (letters_text letters.new ≡ bytes.now) }
@@ -39,7 +39,7 @@ fn read_capitals(bytes: &[u8], letters: &mut [Letter]) -> bool
     all
 }
 
-/// Writes `letters` as capital letters, many at a time.
+/// Writes `letters` into `bytes` as capital letters, many at a time.
 fn write_letters(letters: &[Letter], bytes: &mut [u8])
     requires { length bytes.old ≡ length letters.now }
     ensures { bytes.new ≡ letters_text letters.now }
@@ -49,16 +49,16 @@ fn write_letters(letters: &[Letter], bytes: &mut [u8])
     }
 }
 
-/// Collects the letters before the first byte that isn't allowed, and returns its index.
+/// Collects the letters before the first byte that isn't allowed, and returns the index of this byte.
 ///
-/// If all bytes are allowed, returns their number. On entry, `letters` is as long as `bytes`.
+/// If all bytes are allowed, returns their number. On entry, `letters` must be as long as `bytes`.
 fn collect_letters(bytes: &[u8], letters: &mut ArrayVec<Letter, CHUNK>) -> usize
     requires few { length bytes.now ≤ CHUNK }
     requires places { array_vec_len letters.old ≡ length bytes.now }
     ensures front { IsAllowedUpTo bytes.now result }
     ensures letters { letters.new.items ≡ typed_letters (take result bytes.now) }
 {
-    // Most pieces have only letters, so the bytes needn't be tested one by one.
+    // Most chunks have only letters, so the bytes needn't be tested one by one.
     if read_capitals(bytes, letters) {
         return bytes.len();
     }
@@ -72,9 +72,9 @@ fn collect_letters(bytes: &[u8], letters: &mut ArrayVec<Letter, CHUNK>) -> usize
     bytes.len()
 }
 
-/// Gives `items` the length `count`.
+/// Sets the length of `items` to `count`.
 ///
-/// It usually has this length already, from the piece before.
+/// `items` usually has this length already, from the chunk before.
 fn set_length<T: Copy + Default>(items: &mut ArrayVec<T, CHUNK>, count: usize)
     requires { count ≤ CHUNK }
     ensures { array_vec_len items.new ≡ count }
@@ -85,10 +85,10 @@ fn set_length<T: Copy + Default>(items: &mut ArrayVec<T, CHUNK>, count: usize)
     }
 }
 
-/// Types the letters before the first byte that isn't allowed, and returns its index.
+/// Types the letters before the first byte that isn't allowed, and returns the index of this byte.
 ///
-/// If all bytes are allowed, returns their number. Replaces `letters` and `lamps`; `lamps` gets the lamps that
-/// light up, as capital letters.
+/// If all bytes are allowed, returns their number. Replaces `letters` and `lamps`; `lamps` gets the lamps
+/// that light up, as capital letters.
 pub(super) fn type_chunk(
     engine: &mut Engine,
     bytes: &[u8],

@@ -4,8 +4,8 @@ unfoldable pub use Exchanging.*
 
 -- ---- the spare cables that become pairs are no more than the pairs need
 
--- If each cable in use and each of the first cables becomes a pair, these are at most as many as the cables
--- that do.
+-- If each cable in use and each of the first `first` cables becomes a pair, then the cables in use and the spare
+-- ones among the first are at most as many as the cables that become pairs.
 pairs-counted : (cables : List Cable) (to : List ℕ) (pairs first : ℕ) → length cables ≡ length to
     → ((k : ℕ) → k < length to → is_spare_at cables k ≡ false → get_or to k 0 < pairs)
     → ((k : ℕ) → k < length to → k < first → get_or to k 0 < pairs)
@@ -84,7 +84,7 @@ all_pull_lines P h pairs (cable ∷ cables) (j ∷ to) number =
     (letters_outside (cable_letters cable) (column_letters (column_at pairs j))) (λ k d lt. h _ _))
     (all_pull_lines P h pairs cables to (number + 1))
 
--- Settings none of which is priced.
+-- If `P` holds of each setting that isn't priced, it holds of all settings in a list without priced ones.
 All-unpriced : (P : Setting → Type 0) → ((x : Setting) → is_priced_setting x ≡ false → P x) → (xs : List Setting)
     → priced_count xs ≡ 0 → All P xs
 All-unpriced P h [] none = All-nil P
@@ -92,7 +92,7 @@ All-unpriced P h (x ∷ xs) none =
     let sum = sum_by-cons (λ y. cond {A = ℕ} (is_priced_setting y) 1 0) x xs in
     All-cons P x xs (h x (grind (arith, nat_tests))) (All-unpriced P h xs (omega arith))
 
--- what each setting satisfies
+-- what each setting satisfies if the settings leave spare cables free
 abbrev pub LeavesSpares : RotorParts → RotorDay → Setting → Type 0
 LeavesSpares m s (Put cable letter) = IsTrue (is_spare (cable_at m cable)) → spare_count (take cable m.cables) ≤
     spares_needed m.cables s.pairs

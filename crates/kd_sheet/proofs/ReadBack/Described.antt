@@ -1,5 +1,5 @@
--- The machine and the day that a table describes are legal; and the days that the entries of a sheet describe are a
--- month, each at its number.
+-- The machine and the day that a table describes are legal; and the days that the entries of a sheet describe make
+-- a month, each at its number.
 pub mod Values
 unfoldable pub use Values.*
 use Rattle.toml.specs.Data as toml
@@ -101,11 +101,6 @@ pin_parts_legal table =
 abbrev pub IsLegalDayNumbered : ℕ → Day → Type 0
 IsLegalDayNumbered number day = IsLegalDay day × (day_number day ≡ number)
 
--- a constructor that fails only for illegal values gives a value for legal ones
-pub legal_is_some : {A P : Type 0} (Q : A → Type 0) (made : Option A) → MatchOption made (P → ⊥) Q → P → IsSome made
-legal_is_some Q None none legal = absurd (none legal)
-legal_is_some Q (Some x) some legal = refl
-
 pub rotor_day : (number : ℕ) (model : Model) (table : Members) → IsDayNumber number
     → SucceedsWith (rotor_day_in number model table) (IsLegalDayNumbered number)
 unfolding rotor_day_in
@@ -146,7 +141,8 @@ pub day_again : (number : ℕ) (model : Model) (table : Members) (day : Day) →
 unfolding day_in new_number_in
 day_again number model table day is of_model rest = grind (arith, then_read, number_in)
 
--- the day of a table is legal, and no day before has its number
+-- what holds of the day that `table` describes after `days`: it is legal, none of `days` has its number, and the
+-- table alone describes it too
 pub record Tells (days : List Day) (table : Members) (day : Day) : Type 0 where
   pub legal : IsLegalDay day
   pub number : IsDayNumber (day_number day)
@@ -194,7 +190,7 @@ day_of_month days (suc place) is =
     ap (option_and_then (λ d. d)) (slice_get-get_or (month_of days) place None (omega (arith, month_size days)))
     ∙ month_at days place None (omega arith)
 
--- a day with this number is found exactly if there is one
+-- a search for a number finds a day exactly if a day has this number
 any_found : (days : List Day) (number : ℕ) → is_some (find (has_number number) days) ≡ list_any (has_number number) days
 any_found [] number = refl
 any_found (day ∷ days) number = grind (arith, cases_Bool, has_number, any_found days number)
@@ -209,11 +205,11 @@ within_month : (days : List Day) (number : ℕ) (day : Day) → day_of (month_of
 within_month days zero day e = absurd (none-some day e)
 within_month days (suc place) day e = grind (arith, slice_get_cases (month_of days) place)
 
--- the empty month is a month
+-- a month without days satisfies `IsMonth`
 pub empty_month : IsMonth (month_of [])
 empty_month = record { count = refl; each = λ number day e. grind (arith, within_month [] number day, day_of_month []) }
 
--- a month of 31 empty places is the empty month
+-- a list of 31 empty places is the month without days
 pub blank_month : (month : List (Option Day)) → AllOfLen (λ day. day ≡ None) month 31 → month ≡ month_of []
 blank_month month blank = grind (arith, same_lists, blank.at, get_or-map-range_with_len)
 
@@ -263,7 +259,7 @@ month_more days new is free =
 
 -- ---- the days of entries
 
--- an item that is read as a day is a table that describes the day
+-- the item is a table, and this table describes the day after `days`
 record IsEntry (days : List Day) (item : Data) (day : Day) : Type 0 where
   entry : Members
   is : item ≡ toml.table entry
@@ -279,7 +275,7 @@ entry_read days item day e =
       tells = Tells-day_in days members.0 day members.2;
     }
 
--- an entry among the items describes the day of this number
+-- one of the items is a table that describes the day, and the day has this number
 abbrev TellsOneOf : List Data → ℕ → Day → Type 0
 TellsOneOf items number day = (entry : Members) × Contains items (toml.table entry) × (day_in [] entry ≡ Ok day)
     × (day_number day ≡ number)
@@ -334,7 +330,7 @@ days_are_the_entries members items month number day at e =
 
 -- ---- a sheet that is read
 
--- the sheet has the days read so far; reading all items is reading the rest after these days
+-- the sheet has the days read so far; reading all items gives the same as reading the rest after these days
 pub record IsMonthOf (items : List Data) (sheet : List (Option Day)) (rest : List Data) : Type 0 where
   pub days : List Day
   pub read : read_items day_for items ≡ on day_for days rest
@@ -357,7 +353,7 @@ next_month sheet after items place item new left here so_far found put =
           ∙ month_more so_far.days new entry.tells.number entry.tells.free;
     }
 
--- ---- a machine file says a machine, and a sheet legal days
+-- ---- a machine file describes a machine, and a sheet describes legal days
 
 parts_are_machine : (model : Model) (table : Members) → SucceedsWith (parts_in model table) IsMachine
 unfolding parts_in

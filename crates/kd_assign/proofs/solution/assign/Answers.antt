@@ -1,6 +1,6 @@
 use Rattle.kd_assign.proofs.Counting.{scans_of_trees-all, scans_of_trees-most}
 use Rattle.kd_assign.proofs.Whole.{columns_at_most, fits, is_least, price_sum_is, rows_at_most}
-use Rattle.std.proofs.Common.{arith}
+use Rattle.std.proofs.Common.{arith, sym}
 use Rattle.kd_assign.proofs.solution.assign.Goals as goal
 
 pub assign_row-requires : goal.assign_row-requires
@@ -21,11 +21,15 @@ returns-clause-row_prices g c =
 pub returns-clause-col_prices : goal.returns-clause-col_prices
 returns-clause-col_prices g c = grind (arith, columns_at_most)
 
-pub returns-clause-least : goal.returns-clause-least
-returns-clause-least g c =
-    is_least _ _ (omega arith) c.loop-row.invariant.solved (omega arith) (omega arith) (omega arith) (omega arith)
-    c.columns_of_rows-to.ensures.columns c.row_prices-row.ensures.prices c.columns_of_rows-to.ensures.one_to_one
-    c.assignment_cost-total.ensures
+pub returns-clause-cheapest : goal.returns-clause-cheapest
+returns-clause-cheapest g c = record {
+  one_to_one = c.columns_of_rows-to.ensures.one_to_one;
+  cost_is = sym c.assignment_cost-total.ensures;
+  least =
+      is_least _ _ (omega arith) c.loop-row.invariant.solved (omega arith) (omega arith) (omega arith) (omega arith)
+      c.columns_of_rows-to.ensures.columns c.row_prices-row.ensures.prices c.columns_of_rows-to.ensures.one_to_one
+      c.assignment_cost-total.ensures;
+}
 
-pub returns-clause-most_scans : goal.returns-clause-most_scans
-returns-clause-most_scans g c = grind (arith, scans_of_trees-all g.row.N)
+pub returns-clause-scans : goal.returns-clause-scans
+returns-clause-scans g c = record { least = grind arith; most = grind (arith, scans_of_trees-all g.row.N) }

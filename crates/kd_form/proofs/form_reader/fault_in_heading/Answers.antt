@@ -1,5 +1,5 @@
 use Rattle.kd_form.proofs.FormSteps.{IsHeadingFault-IsEarlyFault, [], inl, inr, refl, ◌∙◌, arith, IsTrue, All-nil}
-use Rattle.kd_form.proofs.FormSteps.{is_text_byte}
+use Rattle.kd_form.proofs.FormSteps.{is_text_byte, HasFault}
 use Rattle.kd_form.proofs.form_reader.fault_in_heading.Goals as goal
 
 pub returns-in-Ok : goal.returns-in-Ok
@@ -14,7 +14,7 @@ returns-in-Ok c = λ part held start.
       numbered = due.numbered;
       due = due.due;
       allowed = All-nil (λ b. IsTrue (is_text_byte b));
-      found = inl (λ none. grind (arith, none, has.is_heading.letters), refl);
+      found = HasFault _ ((λ _ none. grind (arith, none, has.is_heading.letters)), refl) refl;
     })
 
 pub returns-in-Err : goal.returns-in-Err

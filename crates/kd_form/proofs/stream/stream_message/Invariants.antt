@@ -1,7 +1,7 @@
 use Rattle.kd_form.proofs.Streaming.{SoFar, ◌-◌, read_limit, port}
 use Rattle.kd_form.proofs.stream.stream_message.Given as goal
 
--- what was read so far is held, and nothing failed
+-- the reader holds what was read so far, and no port failed
 abbrev pub invariant-loop-read : goal.invariant-loop-read
 invariant-loop-read g l =
     SoFar (g.M.ChunkReader.message l.context) (g.M.ChunkReader.holds l.context l.reader)

@@ -1,4 +1,4 @@
--- A spare cable exchanges its pair for the nothing of another cable.
+-- A spare cable exchanges its pair for another cable's column, which has no pair.
 pub use Rattle.kd_assign.specs.Assignment.{IsOneToOne, assignment_cost}
 pub use Rattle.kd_assign.specs.Prices.{cost_at}
 pub use Rattle.kd_card.proofs.Counting.{all_counted}
@@ -44,7 +44,7 @@ pub use Rattle.std.proofs.lemmas.Option.{slice_get_past, slice_get_within, unwra
 pub use Rattle.std.specs.List.{AllByRecursion, SwappedAt}
 pub use Rattle.std.specs.Prelude.{Contains, IsTrue, is_none, take, unwrap_or}
 
--- The assignment stays one-to-one.
+-- An assignment whose columns are put in another order stays one-to-one.
 pub one_to_one_still : (xs ys : List ℕ) → IsPermutation xs ys → length ys ≡ length xs → IsOneToOne xs → IsOneToOne ys
 one_to_one_still xs ys order size h = record {
   in_range = grind (arith, All-permutation (λ j. j < length xs) xs ys order h.in_range);
@@ -73,7 +73,7 @@ cond-exchanged : (p q : Bool)
     ≤ cond (exactly_one false q) 1 0 + cond (exactly_one p false) 1 0
 cond-exchanged p q = grind arith
 
--- The other cable becomes the pair of the spare one, and the spare one becomes a nothing.
+-- It costs no more if the other cable becomes the pair, and the spare cable the column without a pair.
 cable_cost-exchanged : (spare cable : Cable) (column : Column) → is_spare spare ≡ true
     → cable_cost spare None + cable_cost cable column ≤ cable_cost spare column + cable_cost cable None
 cable_cost-exchanged (None, None) cable column h =
@@ -119,7 +119,7 @@ costs_no_more cables pairs xs ys spare place many size once swapped a b empty ta
     (λ column. cable_cost (cable_of cables place) column) nothing in
     rw (swapped.3 0) (omega (arith, ap (λ j. cost_at costs place j) stays))
 
--- ---- the spare cables from this one on become nothings, also the one that gave its pair away
+-- ---- the spare cables from `spare` on have columns without pairs, also the one that gave its pair away
 pub still_free : (cables : List Cable) (xs ys : List ℕ) (pairs spare place : ℕ) → SwappedAt xs ys spare place
     → comes_before cables place spare ≡ true → pairs ≤ get_or xs place 0
     → ((k : ℕ) → suc spare ≤ k → k < 13 → is_spare_at cables k ≡ true → pairs ≤ get_or xs k 0)

@@ -5,14 +5,15 @@ use Rattle.std.{proofs.lemmas.List.Folds.find_at, specs.List.position_or_len}
 
 -- ---- names
 
--- searching for a name that nothing has finds nothing
+-- a search for a name that nothing has finds nothing
 find_unnamed : {A : Type 0} (text_of : A → List ℕ) (name : List ℕ) → ((x : A) → text_of x ≢ name) → (xs : List A)
     → find (λ x. bytes_eq (text_of x) name) xs ≡ None
 find_unnamed text_of name none [] = refl
 find_unnamed text_of name none (x ∷ xs) =
     grind (arith, cases_Bool, none, bytes_eq-Decides, find_unnamed text_of name none xs)
 
--- searching for a name finds the thing that has it, if each thing is found by its own name
+-- a search for a name finds the thing with this name, or nothing if there is none; it has to find each thing by
+-- the thing's own name
 pub find_named : {A : Type 0} (text_of : A → List ℕ) (xs : List A)
     → ((x : A) → find (λ y. bytes_eq (text_of y) (text_of x)) xs ≡ Some x) → (name : List ℕ) (found : Option A)
     → MatchOption found ((x : A) → text_of x ≢ name) (λ x. text_of x ≡ name)
@@ -110,7 +111,7 @@ letters_at_are key count table letters e = grind (arith, bind-Ok, there_was, cap
 
 -- ---- one seat
 
--- `is_seated` decides whether the wheel stands in a slot
+-- `is_seated` decides whether the wheel is in one of the slots
 pub is_seated-Decides : (slots : List (Option Wheel)) (wheel : Wheel)
     → Decides (is_seated slots wheel) (Contains slots (Some wheel))
 unfolding is_seated
@@ -135,7 +136,7 @@ unfolding wheel_for
 wheel_read key model slots name wheel e = grind
     (arith, bind-Ok, demand-Ok, has_wheel-Decides, is_seated-Decides, not-true)
 
--- what a reader ensures of a seat: its wheel may stand there, and it is empty only in a machine file
+-- a seat as it is read: its wheel may be in the slot right of `slots`, and it is empty only in a machine file
 record IsSeatRead (key : Key) (model : Model) (slots : List (Option Wheel)) (seat : Option Wheel) : Type 0 where
   free : IfSome seat (CanBeSeated model slots)
   filled : may_be_empty key ≡ false → IsSome seat
@@ -147,7 +148,7 @@ seat_read key model slots item seat e = record { free = grind (arith, wheel_read
 
 -- ---- the slots that an array fills
 
--- each wheel of an array may stand in its slot, and stands in none before
+-- each wheel that is read from an array is allowed in its slot, and is in no slot before it
 stands_free : (key : Key) (model : Model) (items : List Data) (slots : List (Option Wheel))
     → read_items (seat_of_item key model) items ≡ Ok slots → (place : ℕ) (wheel : Wheel) → IsSeatedAt slots place wheel
     → (place < length slots) × CanBeSeated model (take place slots) wheel
@@ -160,13 +161,13 @@ stands_free key model items slots e place wheel stands =
           )).free,
     )
 
--- a wheel that can be seated in a slot stands in no slot further left
+-- a wheel that can be seated in a slot is in no slot further left
 not_free : (model : Model) (slots : List (Option Wheel)) (place other : ℕ) (wheel : Wheel)
     → IsSeatedAt slots place wheel
     → CanBeSeated model (take other slots) wheel → other ≤ length slots → other ≤ place
 not_free model slots place other wheel stands free within = grind (arith, common_steps, gets, cases_lt place other)
 
--- each wheel is allowed in its slot, none stands in two slots, and slots are empty only in a machine file
+-- each wheel is allowed in its slot, none is in two slots, and slots are empty only in a machine file
 pub record FillsSlots (key : Key) (model : Model) (slots : List (Option Wheel)) : Type 0 where
   pub allowed : AreWheelsAllowed model slots
   pub apart : AreSeatedOnce slots
@@ -194,7 +195,7 @@ seats_in_fill key model table = each_read _ (FillsSlots key model) (fill_slots k
 
 -- ---- the wheels of a day
 
--- the wheels of a day stand in its slots
+-- the wheels of a day that is read from `slots`, `rings` and `letters` are those of `slots`
 pub seats-sheet_wheels : (slots : List (Option Wheel)) (rings letters : List ℕ) → AllByRecursion IsSome slots
     → length rings ≡ length slots → length letters ≡ length slots
     → seats_of_wheels (sheet_wheels slots rings letters) ≡ slots
@@ -226,7 +227,7 @@ pub all_parts : {X : Type 0} (P : X → Type 0) (xs ys : List X) → AllByRecurs
 all_parts P [] ys all = (tt, all)
 all_parts P (x ∷ xs) ys all = let rest = all_parts P xs ys all.1 in ((all.0, rest.0), rest.1)
 
--- the letters of `x` are letters of the alphabet, and in nothing before it
+-- the letters of `x` are letters of the alphabet, all different, and nothing in `before` has one of them
 pub record IsFree {X : Type 0} (letters_in : X → List ℕ) (before : List X) (x : X) : Type 0 where
   pub within : All (λ letter. letter < 26) (letters_in x)
   pub new : are_new_letters (letters_in x) (flat_map letters_in before) ≡ true
@@ -246,7 +247,7 @@ module _ {X : Type 0} (letters_in : X → List ℕ) where
         apart = rw now ((apart_behind _ _).1 (free.new, so_far.apart));
       }
 
-  -- at most `count` items are read, and each is free of the letters before it
+  -- an array that is read has at most `count` items, and none of them shares a letter with another
   pub all_free : (reading : List X → Data → Result X SheetFault)
       → ((before : List X) (item : Data) (x : X) → reading before item ≡ Ok x → IsFree letters_in before x)
       → (key : Key) (count : ℕ) (value : Data)
@@ -257,7 +258,7 @@ module _ {X : Type 0} (letters_in : X → List ℕ) where
       (record { within = All-nil (λ letter. letter < 26); apart = IsDistinct-nil })
       (λ plugged item x so_far is. one_more plugged x so_far (free plugged item x is)))
 
-  -- of things that share no letters, each is free of the letters before it
+  -- of things that share no letters, each shares none with the things before it
   pub free_at : (plugged : List X) (k : ℕ) (x : X) → AreFree letters_in plugged → slice_get plugged k ≡ Some x
       → IsFree letters_in (take k plugged) x
   free_at plugged k x free at =
@@ -361,7 +362,7 @@ letters_below letters are place d within =
     All-contains (λ letter. letter < 26) _ _ (ring_letters (suc place))
     (are.each (suc place) _ (slice_get-get_or letters place d within))
 
--- no letter comes twice
+-- no letter occurs twice
 abbrev are_apart : List ℕ → Bool
 are_apart [] = true
 are_apart (letter ∷ letters) = not (has_letter letters letter) && are_apart letters
@@ -397,7 +398,7 @@ none_counted (x ∷ ring) [] letter absent = refl
 none_counted (x ∷ ring) (pin ∷ pins) letter absent =
     grind (arith, nat_tests, sum_by-cons, none_counted ring pins letter)
 
--- the text of a wheel's pins has a letter once if its pin is effective, and else not
+-- the text of a wheel's pins has a letter once if the letter's pin is effective, and otherwise not at all
 once_counted : (ring : List ℕ) (pins : List Bool) (k d : ℕ) (e : Bool) → are_apart ring ≡ true
     → length pins ≡ length ring → k < length ring
     → letter_count (pins_text ring pins) (get_or ring k d) ≡ cond (get_or pins k e) 1 0
@@ -407,7 +408,7 @@ once_counted (x ∷ ring) (pin ∷ pins) (suc k) d e apart same within =
     rw first_counted (grind (arith, nat_tests, once_counted ring pins k d e, letter_there ring k d))
 once_counted ring pins k d e apart same within = absurd (omega arith)
 
--- the text of a wheel's pins passes a test if the letter of each effective pin passes it
+-- all bytes of the text of a wheel's pins pass a test if the letter of each effective pin passes it
 all_of_pins : (test : ℕ → Bool) (ring : List ℕ) (pins : List Bool) → length pins ≡ length ring
     → ((k : ℕ) → k < length ring → get_or pins k false ≡ true → test (get_or ring k 0 + 65) ≡ true)
     → list_all test (pins_text ring pins) ≡ true

@@ -1,4 +1,4 @@
-use Rattle.kd_sheet.proofs.ReadBack.Described.{OfPins, arith, common_steps, legal_is_some, pin_day, pin_day_in}
+use Rattle.kd_sheet.proofs.ReadBack.Described.{OfPins, arith, common_steps, pin_day, pin_day_in}
 use Rattle.kd_sheet.proofs.ReadBack.Described.{table_view}
 use Rattle.kd_sheet.proofs.day_table.pin_day_in.Goals as goal
 
@@ -6,4 +6,4 @@ pub unwrap-requires : goal.unwrap-requires
 unfolding pin_day_in
 unwrap-requires c =
     let day = pin_day c.args.day (table_view c.args.table.now) c.requires (OfPins _) (grind (arith, common_steps)) in
-    legal_is_some _ _ c.pin.ensures day.0
+    c.pin.ensures.exists.1 day.0

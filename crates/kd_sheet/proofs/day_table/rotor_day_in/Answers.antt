@@ -1,4 +1,4 @@
-use Rattle.kd_sheet.proofs.ReadBack.Described.{OfRotors, arith, common_steps, legal_is_some, rotor_day, rotor_day_in}
+use Rattle.kd_sheet.proofs.ReadBack.Described.{OfRotors, arith, common_steps, rotor_day, rotor_day_in}
 use Rattle.kd_sheet.proofs.ReadBack.Described.{table_view}
 use Rattle.kd_sheet.proofs.day_table.rotor_day_in.Goals as goal
 
@@ -7,4 +7,4 @@ unfolding rotor_day_in
 unwrap-requires c =
     let table = table_view c.args.table.now in
     let day = rotor_day c.args.day c.args.model table c.requires.day (OfRotors _) (grind (arith, common_steps)) in
-    legal_is_some _ _ c.rotor-new.ensures day.0
+    c.rotor-new.ensures.exists.1 day.0

@@ -1,7 +1,7 @@
 use Rattle.kd_sheet.proofs.ReadBack.Described.Values.InTurn.{drop, read_items, length, map, on, view, ◌≡◌}
 use Rattle.kd_sheet.proofs.items.read_items.Given as goal
 
--- reading all items gives the same as reading the rest after the values so far
+-- reading all items gives the same result as reading the rest of them after the values so far
 abbrev pub invariant-loop-item : goal.invariant-loop-item
 invariant-loop-item g l = record {
   count : length l.values.items ≡ l.item-index;

@@ -2,7 +2,7 @@ use Rattle.{kd_sheet.specs.Numbers.letter_of_number, std.proofs.Common.{drop, fi
 use Rattle.{std.{proofs.Common.◌≡◌, specs.List.list_all}, toml.specs.View.view}
 use Rattle.kd_sheet.proofs.letters.slots_of_numbers.Given as goal
 
--- `letters` has the letters of the items so far, and reading all adds the letters of the rest
+-- `letters` has the letters of the items so far; reading all items gives these letters and those of the rest
 abbrev pub invariant-loop-item : goal.invariant-loop-item
 invariant-loop-item l = record {
   count : length l.letters.items ≡ l.item-index;

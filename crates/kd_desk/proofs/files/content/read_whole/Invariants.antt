@@ -1,7 +1,7 @@
 use Rattle.kd_desk.proofs.Prelude.{◌≡◌, ◌+◌, ◌-◌, ◌≤◌, length, Consumes, read_limit}
 use Rattle.kd_desk.proofs.files.content.read_whole.Given as goal
 
--- what was read so far, and no get failed
+-- the bytes kept are what was read so far, and no get failed
 abbrev pub invariant-loop-buffer : goal.invariant-loop-buffer
 invariant-loop-buffer g l = record {
   within : length l.bytes.items ≤ read_limit + 1;

@@ -1,5 +1,5 @@
--- Lemmas on reading a document, and on reading items one after another: what a reading that succeeds has passed
--- on its way, and what holds of its value.
+-- Lemmas on reading a document, and on reading items one after another: which tests a reading that succeeds has
+-- passed, and what holds of its value.
 pub use Rattle.kd_sheet.specs.Document.{demand, read_each, read_items, items_at, items_in, items_list, result_map}
 pub use Rattle.kd_sheet.specs.Document.{read_up_to}
 pub use Rattle.kd_sheet.specs.MachineText.{cable_text, key_line, array_text, pin_texts, pins_text, quoted_text}
@@ -81,7 +81,7 @@ pub use Rattle.kd_sheet.specs.declared.key.Key.TheVariants as keys
 
 -- ---- a document
 
--- bytes that the parser takes are this document
+-- if the parser reads `bytes` as `table`, `bytes` are the document `table`
 pub document_parsed : (bytes : List ℕ) (table : Members) → IsUtf8 bytes → parse_document bytes ≡ Some table
     → document_of bytes ≡ Ok table
 unfolding document_of
@@ -97,7 +97,7 @@ pub list_of-items_of : (items : List Data) → items_list (items_of items) ≡ i
 list_of-items_of [] = refl
 list_of-items_of (first ∷ rest) = ap (λ more. first ∷ more) (list_of-items_of rest)
 
--- reading an array's items gives what a call to the library gives
+-- `items_in` gives what the library's call for an array gives
 pub items_in_found : (key : Key) (value : Data) (found : Option (Bor (Vec Value Global)))
     → option_map (λ v. array_view v.now) found ≡ as_array value
     → result_map (λ items. map view items.now.items) (ok_or found (BadValue key)) ≡ items_in key value
@@ -147,7 +147,7 @@ pub if_there : {A : Type 0} (there : Option Data) (reading : Data → Result A S
 if_there None reading none P each holds = SucceedsWith-Ok P none holds
 if_there (Some value) reading none P each holds = each value
 
--- a required thing that was read was there
+-- if `ok_or` has the value `value` for an optional thing, the thing is there, and is `value`
 pub there_was : {A : Type 0} (thing : Option A) (fault : SheetFault) (value : A) → ok_or thing fault ≡ Ok value
     → thing ≡ Some value
 there_was thing fault value e = grind (arith, same_found)
@@ -192,7 +192,7 @@ module _ {A : Type 0} where
         let viewed = get_or-map view items place item (view item) left ∙ ap view (sym here) in
         rw (drop_more (map view items) place (view item) (omega (arith, length-map items view)), viewed) refl
 
-    -- an item that is read joins the values
+    -- an item that can be read adds its value to the values
     pub read_more : (value : A) → Ok value ≡ reading values (view item)
         → on reading values (drop place (map view items))
         ≡ on reading (values ++ value ∷ []) (drop (place + 1) (map view items))
@@ -243,7 +243,8 @@ module _ {A : Type 0} where
       (keeps (λ read. reading (value ∷ read)) (λ ys. Holds (value ∷ ys)) so_far (λ read. more (value ∷ read)) items)
       (λ values all. SucceedsWith-Ok Holds (value ∷ values) all))
 
-  -- `Holds` for the values of an array of exactly `count` items, or of at most `count`
+  -- if `Holds` holds of the values of all items that can be read, it holds of the result of `read_each` and of
+  -- `read_up_to`
   module _ (reading : List A → Data → Result A SheetFault) (Holds : List A → Type 0)
       (all : (items : List Data) → SucceedsWith (read_items reading items) Holds) (key : Key) (count : ℕ) where
     pub each_read : (table : Members)
@@ -262,7 +263,7 @@ module _ {A : Type 0} where
   again reading text_of (x ∷ all) each =
       rw (each 0 x refl, again (λ read. reading (x ∷ read)) text_of all (λ k. each (suc k))) refl
 
--- an element of a list satisfies what all elements do
+-- if all elements of a list satisfy `P`, the element at place `k` does
 pub All-slice_get : {X : Type 0} (P : X → Type 0) (xs : List X) (k : ℕ) (x : X) → All P xs → slice_get xs k ≡ Some x
     → P x
 All-slice_get P xs k x all at = grind (arith, common_steps, gets, slice_get_within)

@@ -3,7 +3,7 @@ use Rattle.kd_form.proofs.OrderSteps.{ℕ, inl, inr, ap, ◌∙◌, arith, cases
 use Rattle.kd_form.proofs.OrderSteps.{length-drop, length-take, le_of_mul-le-mul_left, part_size, take_all, take_at}
 use Rattle.kd_form.proofs.order_reader.parts.PartWriter.take_letter.Goals as goal
 
--- the letter belongs to the next part, so the full one is made
+-- the letter belongs to the next part, so the full part is written
 pub returns-then-from-keys : goal.returns-then-from-keys
 returns-then-from-keys c letters sent is =
     let (k, found, made) = c.write_part.ensures.made in

@@ -1,13 +1,14 @@
--- Answers that are found step by step: each step finds something or has a fault, and the first fault is the
--- answer.
+-- How a first fault is stated: a rule says which answer is right, what a step finds or its fault. Rules in a `do`
+-- stand in the order of testing, so the answer is the fault of the first step that has one.
 use Rattle.std.specs.Prelude.{◌≡◌, Result, Ok, Err, refl}
 use Rattle.std.proofs.Common.{sym, ap, ◌∙◌, subst}
 
--- a property of an answer: what was found, or a fault
+-- a rule for a result, which is a value or a fault: whether the result is right
 abbrev pub AnswerRule : Type 0 → Type 0 → Type 1
 AnswerRule F X = Result X F → Type 0
 
--- The first step has a fault, which is the answer; or it finds something, and the next steps give the answer.
+-- The first step has a fault, and the result is this fault; or the first step finds `x`, and the result is right by
+-- the rule `Next x` of the next steps.
 pub data ThenNext {F X Y : Type 0} (First : Result X F → Type 0) (Next : X → Result Y F → Type 0)
     (answer : Result Y F) : Type 0 where
   HasFault : (fault : F) → First (Err fault) → answer ≡ Err fault → ThenNext First Next answer
@@ -17,25 +18,25 @@ infixl 10 ◌>>=◌
 abbrev pub ◌>>=◌ : {F X Y : Type 0} → AnswerRule F X → (X → AnswerRule F Y) → AnswerRule F Y
 says >>= next = ThenNext says next
 
--- the answer is `x`
+-- the result is the value `x`
 abbrev pub Yields : {F X : Type 0} → X → AnswerRule F X
 Yields x answer = answer ≡ Ok x
 
--- an item that satisfies `Holds`, or the fault `due` if there is none
+-- the result is a value that satisfies `Holds`, or the fault `due` if no value does
 abbrev pub Finds : {F X : Type 0} → (X → Type 0) → F → AnswerRule F X
 Finds Holds due (Ok x) = Holds x
 Finds {X} Holds due (Err fault) = ((x : X) → ¬ (Holds x)) × (fault ≡ due)
 
--- success if `Holds`, else the fault `due`
+-- the result is success if `Holds`, and otherwise the fault `due`
 abbrev pub Demands : {F : Type 0} → Type 0 → F → AnswerRule F (Unit {0})
 Demands Holds due = Finds (λ _. Holds) due
 
--- an item that satisfies `Holds`; there always is one
+-- the result is a value that satisfies `Holds`, and never a fault
 abbrev pub FindsAlways : {F X : Type 0} → (X → Type 0) → AnswerRule F X
 FindsAlways Holds (Ok x) = Holds x
 FindsAlways Holds (Err fault) = ⊥
 
--- ---- at most one answer, if each step has at most one
+-- ---- At most one result is right, if this is so for each step. No public contract cites these definitions.
 
 abbrev pub HasOneAnswer : {F X : Type 0} → (Result X F → Type 0) → Type 0
 HasOneAnswer {F} {X} First = (v w : Result X F) → First v → First w → v ≡ w
@@ -86,7 +87,7 @@ HasOneAnswer-FindsAlways one (Ok x) (Ok y) a b = ap Ok (one x y a b)
 HasOneAnswer-FindsAlways one (Ok x) (Err f) a b = absurd b
 HasOneAnswer-FindsAlways one (Err f) w a b = absurd a
 
--- What the first step has found, if all steps find something.
+-- The value that the first step found, if it and the next steps found one.
 pub record BothSucceed {F X Y : Type 0} (First : Result X F → Type 0) (Next : X → Result Y F → Type 0) (y : Y) : Type
     0 where
   pub found : X
