@@ -19,8 +19,8 @@ PrecedesOrEquals (place ∷ places) [] = ⊥
 PrecedesOrEquals (place ∷ places) (other ∷ others) = (place < other)
     ⊎ ((place ≡ other) × PrecedesOrEquals places others)
 
--- `picked` are the letters at these places, which rise: six letters, the first on wheel 1, the second on
--- wheel 2, and so on.
+-- `picked` are the letters of `letters` at `places`, which are in rising order. There are six of them: the first
+-- is on wheel 1, the second on wheel 2, and so on.
 pub record ArePicked (letters places picked : List ℕ) : Type 0 where
   pub rising : AreRising 0 (length letters) places
   pub taken : picked ≡ map (λ place. slice_index letters place) places
