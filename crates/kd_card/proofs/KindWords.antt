@@ -1,39 +1,24 @@
--- The words of kinds' lines, and the looks that they give.
-use Rattle.kd_card.proofs.Prelude.{same_place, ltb, codes, ◌≡◌, ◌≢◌, ℕ, ◌<◌, true, List, [], ◌∷◌, ◌++◌, get_or, drop}
-use Rattle.kd_card.proofs.Prelude.{subst, ℤ, Option, sym, ap, ◌∙◌, append_assoc, length-append, arith, decimal, All}
-use Rattle.kd_card.proofs.Prelude.{list_all, decimal_injective, signed_decimal_injective, All-append, All-weaker}
-use Rattle.kd_card.proofs.Prelude.{All-from_recursion, Place, One, place_text, place_rank, places, standing_text}
-use Rattle.kd_card.proofs.Prelude.{IsWord, IsWithout, Look, Cable, Pair, Bar, Name, PricedKind, look_name, name_text}
-use Rattle.kd_card.proofs.Prelude.{look_text, look_rank, ends_rank, pair_rank, kind_words, AreEnds, IsPairInOrder}
-use Rattle.kd_card.proofs.Prelude.{IsInForm, IsPricedKind, kinds_text, HasKindWords, RanksTellLooks, signed_decimal}
+-- The words of kinds' lines, and the things for which they are written.
+use Rattle.kd_card.proofs.Prelude.{same_place, codes, ◌≡◌, ◌≢◌, ℕ, ◌<◌, List, [], ◌∷◌, ◌++◌, get_or, drop, subst, refl}
+use Rattle.kd_card.proofs.Prelude.{ℤ, Option, Some, None, sym, ap, ◌∙◌, append_assoc, length-append, arith, decimal}
+use Rattle.kd_card.proofs.Prelude.{All, decimal_injective, signed_decimal_injective, All-append, All-weaker}
+use Rattle.kd_card.proofs.Prelude.{All-from_recursion, Place, place_text, standing_text, IsWord, IsWithout, Sort}
+use Rattle.kd_card.proofs.Prelude.{KindOf, cable_sort, pair_sort, bar_sort, row_sort, kind_words, AreEnds, IsKind}
+use Rattle.kd_card.proofs.Prelude.{ComesAfter, kinds_text, HasKindWords, HasText, IsOnlyThing, signed_decimal}
 use Rattle.kd_card.proofs.Prelude.{append-nil, HasLineWords, BeginsWithWord, EndsGroup, AtNothing, AtOther, IsNextKind}
-use Rattle.kd_card.proofs.Prelude.{HasNoNext, common_steps, numbers_are_words, texts_tell_first_parts, word_by_bytes}
-use Rattle.kd_card.proofs.Prelude.{word_by_test, EndsKindsAt, IsBadKindAt}
+use Rattle.kd_card.proofs.Prelude.{HasNoNext, numbers_are_words, texts_tell_first_parts, word_by_bytes, word_by_test}
+use Rattle.kd_card.proofs.Prelude.{EndsKindsAt, IsBadKindAt, IsKindOfWords, letters_text, cable_letters, column_letters}
+use Rattle.kd_tables.specs.Places.{reading_text}
 use Rattle.kd_card.proofs.Lines.{bytes_above, same_words, some_bytes, bytes_are_word, signed_word, mag-small}
 
--- ---- texts of names and places
-
-pub same_name : (n m : Name) → name_text n ≡ name_text m → n ≡ m
-same_name n m e = grind arith
-
--- A place is determined by its rank, which is below 8, and each byte of its text comes after `-`.
-about_place : (p : Place)
-    → (get_or places (place_rank p) One ≡ p) × (place_rank p < 8) × (list_all (ltb 45) (place_text p) ≡ true)
-about_place p = grind arith
-
-same_rank : (p q : Place) → place_rank p ≡ place_rank q → p ≡ q
-same_rank p q e = sym (about_place p).0 ∙ ap (λ rank. get_or places rank One) e ∙ (about_place q).0
-
-pub low_rank : (p : Place) → place_rank p < 8
-low_rank p = (about_place p).1
+-- ---- the texts of things
 
 place_above : (p : Place) → All (λ b. 45 < b) (place_text p)
-place_above p = bytes_above 45 (place_text p) (about_place p).2
+place_above p = bytes_above 45 (place_text p) (grind arith)
 
--- ---- words
-
-name_is_word : (n : Name) → IsWord (name_text n)
-name_is_word n = grind (arith, word_by_test)
+place_without : (p : Place) → IsWithout 45 (place_text p)
+place_without p =
+    All-weaker (λ b. 45 < b) (λ b. b ≢ 45) (λ b above same. omega (arith, above, same)) (place_text p) (place_above p)
 
 standing_above : (left right : Place) → All (λ b. 32 < b) (standing_text (left, right))
 standing_above left right =
@@ -43,135 +28,184 @@ standing_above left right =
     (All-append (λ b. 32 < b) (place_text left) (codes "-") (near left)
     (All-from_recursion (λ b. 32 < b) (codes "-") (omega arith, tt))) (near right)
 
-look_is_word : (look : Look) → IsWord (look_text look)
-look_is_word look = grind (arith, bytes_are_word, word_by_bytes, length-append, standing_above)
+same_ends : (a b c d : Option ℕ) → AreEnds a b → AreEnds c d
+    → letters_text (cable_letters (a, b)) ≡ letters_text (cable_letters (c, d))
+    → ◌≡◌ {A = Option ℕ × Option ℕ} (a, b) (c, d)
+same_ends a b c d e g h = grind arith
 
-pub kind_is_words : (kind : PricedKind) → IsPricedKind kind → All IsWord (kind_words kind)
-kind_is_words kind good = grind (arith, All-from_recursion, name_is_word, look_is_word, numbers_are_words, signed_word)
+same_pair : (a b : Option (ℕ × ℕ)) → letters_text (column_letters a) ≡ letters_text (column_letters b) → a ≡ b
+same_pair a b e = grind arith
 
--- ---- texts of looks
-
-alike : {A B : Type 0} (make : A → B → Look) {a c : A} {b d : B} → a ≡ c → b ≡ d → make a b ≡ make c d
-alike make one other = cc
-
-same_ends : (a b c d : Option ℕ) → AreEnds a b → AreEnds c d → look_text (Cable (a, b)) ≡ look_text (Cable (c, d))
-    → Cable (a, b) ≡ Cable (c, d)
-same_ends a b c d e g h = grind (arith, alike)
-
-same_pair : (a b : Option (ℕ × ℕ)) → look_text (Pair a) ≡ look_text (Pair b) → Pair a ≡ Pair b
-same_pair a b e = grind (arith, alike)
-
-place_without : (p : Place) → IsWithout 45 (place_text p)
-place_without p =
-    All-weaker (λ b. 45 < b) (λ b. b ≢ 45) (λ b above same. omega (arith, above, same)) (place_text p) (place_above p)
-
-same_standing : (a b c d : Place) → look_text (Bar (a, b)) ≡ look_text (Bar (c, d)) → Bar (a, b) ≡ Bar (c, d)
+same_standing : (a b c d : Place) → standing_text (a, b) ≡ standing_text (c, d)
+    → ◌≡◌ {A = Place × Place} (a, b) (c, d)
 same_standing a b c d e =
     let parts = texts_tell_first_parts 45 (place_text a) (place_text c) _ _ (place_without a) (place_without c)
     (sym (append_assoc (place_text a) (codes "-") (place_text b)) ∙ e
     ∙ append_assoc (place_text c) (codes "-") (place_text d)) in
-    alike (λ m n. Bar (m, n)) (same_place a c parts.0) (same_place b d parts.1)
+    let left = same_place a c parts.0 in
+    let right = same_place b d parts.1 in
+    cc
 
-pub same_look : (look other : Look) → look_name look ≡ look_name other → IsInForm look → IsInForm other
-    → look_text look ≡ look_text other → look ≡ other
-same_look look other d g h o = grind (arith, common_steps, same_ends, same_pair, same_standing, alike)
+same_reading : (x y : ℕ × ℕ) → reading_text x ≡ reading_text y → x ≡ y
+same_reading (a, b) (c, d) e = grind arith
 
-pub same_kind : (kind other : PricedKind) → IsPricedKind kind → IsPricedKind other → kind_words kind ≡ kind_words other
-    → kind ≡ other
-same_kind kind other a b e =
-    let names : look_name kind.look ≡ look_name other.look =
-    same_name (look_name kind.look) (look_name other.look) (ap (λ w. get_or w 0 []) e) in
-    let looks = same_look kind.look other.look names a.form b.form (ap (λ w. get_or w 1 []) e) in
-    let counts : kind.count ≡ other.count =
-    decimal_injective kind.count other.count (omega arith) (omega arith) (ap (λ w. get_or w 2 []) e) in
-    let prices : kind.price ≡ other.price =
-    signed_decimal_injective kind.price other.price (mag-small kind.price a.reach) (mag-small other.price b.reach)
-    (ap (λ w. get_or w 3 []) e) in
-    let make : Look → ℕ → ℤ → PricedKind = λ look count price. record { look = look; count = count; price = price } in
-    ap (λ look. make look kind.count kind.price) looks ∙ ap (λ count. make other.look count kind.price) counts
-    ∙ ap (make other.look other.count) prices
+pub one_cable : (text : List ℕ) (x : Option ℕ × Option ℕ) → HasText cable_sort text x → IsOnlyThing cable_sort text x
+one_cable text (a, b) has = record {
+  has = has;
+  only = λ (c, d) other. same_ends c d a b other.form has.form (other.written ∙ sym has.written);
+}
 
--- ---- ranks of looks
+pub one_pair : (text : List ℕ) (x : Option (ℕ × ℕ)) → HasText pair_sort text x → IsOnlyThing pair_sort text x
+one_pair text x has = record { has = has; only = λ y other. same_pair y x (other.written ∙ sym has.written) }
 
-ranked_ends : (a b c d : Option ℕ) → AreEnds a b → AreEnds c d → ends_rank a b ≡ ends_rank c d
-    → Cable (a, b) ≡ Cable (c, d)
-ranked_ends a b c d e g h = grind (arith, alike)
+pub one_standing : (text : List ℕ) (x : Place × Place) → HasText bar_sort text x → IsOnlyThing bar_sort text x
+one_standing text (a, b) has = record {
+  has = has;
+  only = λ (c, d) other. same_standing c d a b (other.written ∙ sym has.written);
+}
 
-ranked_pair : (a b : Option (ℕ × ℕ)) → IsPairInOrder a → IsPairInOrder b → pair_rank a ≡ pair_rank b → Pair a ≡ Pair b
-ranked_pair a b e d g = grind (arith, alike)
+pub one_reading : (text : List ℕ) (x : ℕ × ℕ) → HasText row_sort text x → IsOnlyThing row_sort text x
+one_reading text x has = record { has = has; only = λ y other. same_reading y x (other.written ∙ sym has.written) }
 
-pub ranks_tell_looks : RanksTellLooks
-ranks_tell_looks = grind (arith, ranked_ends, ranked_pair, alike, same_rank, low_rank)
+-- ---- what the four sorts have in common
+
+pub record IsSort {K X : Type 0} (sort : Sort K X) : Type 0 where
+  pub word : IsWord sort.word
+  pub text : (x : X) → IsWord (sort.text x)
+  pub only : (text : List ℕ) (x : X) → HasText sort text x → IsOnlyThing sort text x
+  pub same : (k l : K) → sort.kind k ≡ sort.kind l → k ≡ l
+
+pub cables_are : IsSort cable_sort
+cables_are = record {
+  word = grind (arith, word_by_test);
+  text = λ (a, b). grind (arith, bytes_are_word, word_by_bytes);
+  only = one_cable;
+  same = λ k l e. grind arith;
+}
+
+pub pairs_are : IsSort pair_sort
+pairs_are = record {
+  word = grind (arith, word_by_test);
+  text = λ pair. grind (arith, bytes_are_word, word_by_bytes);
+  only = one_pair;
+  same = λ k l e. grind arith;
+}
+
+pub bars_are : IsSort bar_sort
+bars_are = record {
+  word = grind (arith, word_by_test);
+  text = λ (a, b). grind (arith, word_by_bytes, length-append, standing_above);
+  only = one_standing;
+  same = λ k l e. grind arith;
+}
+
+pub rows_are : IsSort row_sort
+rows_are = record {
+  word = grind (arith, word_by_test);
+  text = λ (a, b). grind (arith, bytes_are_word, word_by_bytes);
+  only = one_reading;
+  same = λ k l e. grind arith;
+}
+
+-- ---- the words of a line
+
+module _ {K X : Type 0} {sort : Sort K X} (is : IsSort sort) where
+  pub kind_is_words : (kind : K) → IsKind sort kind → All IsWord (kind_words sort kind)
+  kind_is_words kind good =
+      let word = is.word in
+      let text = is.text (sort.kind kind).thing in
+      grind (arith, All-from_recursion, numbers_are_words, signed_word)
+
+  pub same_kind : (kind other : K) → IsKind sort kind → IsKind sort other
+      → kind_words sort kind ≡ kind_words sort other
+      → kind ≡ other
+  same_kind kind other a b e =
+      let a_kind = sort.kind kind in
+      let b_kind = sort.kind other in
+      let things : a_kind.thing ≡ b_kind.thing =
+      (is.only (sort.text b_kind.thing) b_kind.thing (record { form = b.form; written = refl })).only a_kind.thing
+      (record { form = a.form; written = ap (λ w. get_or w 1 []) e }) in
+      let counts : a_kind.count ≡ b_kind.count =
+      decimal_injective a_kind.count b_kind.count (omega arith) (omega arith) (ap (λ w. get_or w 2 []) e) in
+      let prices : a_kind.price ≡ b_kind.price =
+      signed_decimal_injective a_kind.price b_kind.price (mag-small a_kind.price a.reach)
+          (mag-small b_kind.price b.reach)
+      (ap (λ w. get_or w 3 []) e) in
+      let make : X → ℕ → ℤ → KindOf X = λ thing count price. record { thing = thing; count = count; price = price } in
+      is.same kind other
+      (ap (λ thing. make thing a_kind.count a_kind.price) things
+      ∙ ap (λ count. make b_kind.thing count a_kind.price) counts ∙ ap (make b_kind.thing b_kind.count) prices)
 
 -- ---- reading a line of a group
-
-pub no_count : (name : Name) (look count price : List ℕ) → decimal 0 ≡ count
-    → (kind : PricedKind) → ¬ (HasKindWords name (name_text name ∷ look ∷ count ∷ price ∷ []) kind)
-no_count name look count price zero kind has =
-    let is : kind.count ≡ 0 =
-    decimal_injective kind.count 0 (omega arith) (omega arith) (ap (λ w. get_or w 2 []) has.written ∙ sym zero) in
-    omega arith
 
 one_word : {bytes word other : List ℕ} → BeginsWithWord word bytes → BeginsWithWord other bytes → word ≡ other
 one_word a b = ap (λ words. get_or words 0 []) (same_words a.has b.has).0
 
--- The line of a kind begins with the kind's name.
-pub kind_begins : {name : Name} {floor : ℕ} {bytes : List ℕ} {kind : PricedKind} {rest : List ℕ}
-    → IsNextKind name floor bytes kind rest → BeginsWithWord (name_text name) bytes
-kind_begins {bytes} {kind} {rest} next = record {
-  behind = drop 1 (kind_words kind);
-  rest = rest;
-  has = subst (λ n. HasLineWords bytes (name_text n ∷ drop 1 (kind_words kind)) rest) next.called next.line;
-}
+same_after : {K X : Type 0} (sort : Sort K X) (last : Option K) (kind other : K)
+    → (sort.kind other).thing ≡ (sort.kind kind).thing → ComesAfter sort last other → ComesAfter sort last kind
+same_after sort None kind other same after = tt
+same_after sort (Some before) kind other same after = subst (sort.ComesBefore (sort.kind before).thing) same after
 
-pub end_has_no_next : {name : Name} {bytes : List ℕ} (floor : ℕ) → EndsGroup name bytes → HasNoNext name floor bytes
-end_has_no_next floor (AtNothing none) kind rest next = some_bytes next.line none
-end_has_no_next floor (AtOther word begins differs) kind rest next = differs (one_word begins (kind_begins next))
+module _ {K X : Type 0} {sort : Sort K X} where
+  -- The line of a kind begins with the word of its sort.
+  pub kind_begins : {last : Option K} {bytes : List ℕ} {kind : K} {rest : List ℕ}
+      → IsNextKind sort last bytes kind rest → BeginsWithWord sort.word bytes
+  kind_begins {kind} {rest} next = record { behind = drop 1 (kind_words sort kind); rest = rest; has = next.line }
 
-pub ends_at : {name : Name} {bytes : List ℕ} (floor : ℕ) → EndsGroup name bytes → EndsKindsAt name floor bytes
-ends_at floor ends = record { ends = ends; none_more = end_has_no_next floor ends }
+  pub end_has_no_next : {bytes : List ℕ} (last : Option K) → EndsGroup sort.word bytes → HasNoNext sort last bytes
+  end_has_no_next last (AtNothing none) kind rest next = some_bytes next.line none
+  end_has_no_next last (AtOther word begins differs) kind rest next = differs (one_word begins (kind_begins next))
 
--- The group doesn't end, but no kind follows: there are bytes without a whole line.
-pub unended : {name : Name} {bytes : List ℕ} (floor : ℕ) → bytes ≢ []
-    → ((found : List (List ℕ) × List ℕ) → ¬ (HasLineWords bytes found.0 found.1)) → IsBadKindAt name floor bytes
-unended floor some none = record {
-  goes_on = λ ends. elim ends [
-    | AtNothing empty ↦ some empty
-    | AtOther word begins differs ↦ none (word ∷ begins.behind, begins.rest) begins.has
-  ];
-  none_more = λ kind rest next. none (kind_words kind, rest) next.line;
-}
+  pub ends_at : {bytes : List ℕ} (last : Option K) → EndsGroup sort.word bytes → EndsKindsAt sort last bytes
+  ends_at last ends = record { ends = ends; none_more = end_has_no_next last ends }
 
--- The group doesn't end, but no kind follows: the line with the name isn't that of a kind.
-pub no_kind : {name : Name} {bytes : List ℕ} (floor : ℕ) → BeginsWithWord (name_text name) bytes
-    → HasNoNext name floor bytes
-    → IsBadKindAt name floor bytes
-no_kind floor begins none = record {
-  goes_on = λ ends. elim ends [
-    | AtNothing empty ↦ some_bytes begins.has empty
-    | AtOther word other differs ↦ differs (one_word other begins)
-  ];
-  none_more = none;
-}
+  -- The group doesn't end, but no kind follows: there are bytes without a whole line.
+  pub unended : {bytes : List ℕ} (last : Option K) → bytes ≢ []
+      → ((found : List (List ℕ) × List ℕ) → ¬ (HasLineWords bytes found.0 found.1)) → IsBadKindAt sort last bytes
+  unended last some none = record {
+    goes_on = λ ends. elim ends [
+      | AtNothing empty ↦ some empty
+      | AtOther word begins differs ↦ none (word ∷ begins.behind, begins.rest) begins.has
+    ];
+    none_more = λ kind rest next. none (kind_words sort kind, rest) next.line;
+  }
 
-module _ {name : Name} {text : List ℕ} {words : List (List ℕ)} {rest : List ℕ} (has : HasLineWords text words rest)
-  where
-    pub words_are : {floor : ℕ} {kind : PricedKind} {more : List ℕ} → IsNextKind name floor text kind more
-        → HasKindWords name words kind
-    words_are next = record { called = next.called; good = next.good; written = (same_words next.line has).0 }
+  -- The group doesn't end, but no kind follows: the line with the sort's word isn't that of a kind.
+  pub no_kind : {bytes : List ℕ} (last : Option K) → BeginsWithWord sort.word bytes → HasNoNext sort last bytes
+      → IsBadKindAt sort last bytes
+  no_kind last begins none = record {
+    goes_on = λ ends. elim ends [
+      | AtNothing empty ↦ some_bytes begins.has empty
+      | AtOther word other differs ↦ differs (one_word other begins)
+    ];
+    none_more = none;
+  }
 
-    pub low_next : {floor rank : ℕ} {kind : PricedKind} → HasKindWords name words kind → rank ≡ look_rank kind.look
-        → rank < floor
-        → (other : PricedKind) (more : List ℕ) → ¬ (IsNextKind name floor text other more)
-    low_next {kind} is ranked low other more next =
-        let same : kind ≡ other = same_kind kind other is.good next.good (is.written ∙ sym (words_are next).written) in
-        omega (arith, ap (λ (k : PricedKind). look_rank k.look) same)
+  module _ {text : List ℕ} {words : List (List ℕ)} {rest : List ℕ} (has : HasLineWords text words rest) where
+    pub words_are : {last : Option K} {kind : K} {more : List ℕ} → IsNextKind sort last text kind more
+        → HasKindWords sort words kind
+    words_are next = record { good = next.good; written = (same_words next.line has).0 }
+
+    pub out_of_order : {last : Option K} {kind : K} → IsKindOfWords sort words kind → ¬ (ComesAfter sort last kind)
+        → HasNoNext sort last text
+    out_of_order {last} {kind} is low other more next =
+        low (same_after sort last kind other (is.only other (words_are next)) next.after)
+
+pub no_count : {K X : Type 0} (sort : Sort K X) (thing count price : List ℕ) → decimal 0 ≡ count
+    → (kind : K) → ¬ (HasKindWords sort (sort.word ∷ thing ∷ count ∷ price ∷ []) kind)
+no_count sort thing count price zero kind has =
+    let some = has.good.some in
+    let most = has.good.most in
+    let is : (sort.kind kind).count ≡ 0 =
+    decimal_injective (sort.kind kind).count 0 (omega arith) (omega arith)
+    (ap (λ w. get_or w 2 []) has.written ∙ sym zero) in
+    omega arith
 
 -- ---- writing a line
 
-pub line_in_pieces : (front : List ℕ) (kind : PricedKind)
-    → (((((((front ++ name_text (look_name kind.look)) ++ 32 ∷ []) ++ look_text kind.look) ++ 32 ∷ [])
-    ++ decimal kind.count) ++ 32 ∷ []) ++ signed_decimal kind.price)
+pub line_in_pieces : {K X : Type 0} (sort : Sort K X) (front : List ℕ) (kind : K)
+    → (((((((front ++ sort.word) ++ 32 ∷ []) ++ sort.text (sort.kind kind).thing) ++ 32 ∷ [])
+    ++ decimal (sort.kind kind).count) ++ 32 ∷ []) ++ signed_decimal (sort.kind kind).price)
     ++ 10 ∷ []
-    ≡ front ++ kinds_text (kind ∷ [])
-line_in_pieces front kind = simp (append_assoc, append-nil)
+    ≡ front ++ kinds_text sort (kind ∷ [])
+line_in_pieces sort front kind = simp (append_assoc, append-nil)

@@ -16,11 +16,11 @@ use Rattle.kd_card.proofs.Prelude.{IsPricesAnswer, BadLine, PriceMissing, HasFau
 use Rattle.kd_card.proofs.Prelude.{IsAscii-signed, ArePricesInRange, codes, zero, ◌+◌, ◌*◌, inl, inr, fold, decimal}
 use Rattle.kd_card.proofs.Prelude.{not, pointwise, not-false, Decides-eqb, slice_eq-Decides, err_from_is_err_and, ◌+ℤ◌}
 use Rattle.kd_card.proofs.Prelude.{digits_value, decimal_nonempty, digits_decimal, decimal_digit, first_decimal}
-use Rattle.kd_card.proofs.Prelude.{All-cons, All-append, All-from_get_or, table_rows, ArePrices, Group, Name}
-use Rattle.kd_card.proofs.Prelude.{PricedKind, CountWrong, BeginsWithHead, kinds_text, row_word, column_word}
-use Rattle.kd_card.proofs.Prelude.{version_text, IsGroup, IsDigit, IsNumberText, IsNumeral, IsValueAnswer, IsLineAnswer}
-use Rattle.kd_card.proofs.Prelude.{IsFirstWordAnswer, IsPriceLineAnswer, IsGroupAnswer, nil_from_length}
-use Rattle.kd_card.proofs.Prelude.{numbers_are_words, word_by_bytes, word_by_test, ThenNext-Ok, CardFault}
+use Rattle.kd_card.proofs.Prelude.{All-cons, All-append, All-from_get_or, table_rows, ArePrices, Group, Sort}
+use Rattle.kd_card.proofs.Prelude.{CountWrong, BeginsWithHead, kinds_text, row_word, column_word, version_text, IsGroup}
+use Rattle.kd_card.proofs.Prelude.{IsDigit, IsNumberText, IsNumeral, IsValueAnswer, IsLineAnswer, IsFirstWordAnswer}
+use Rattle.kd_card.proofs.Prelude.{IsPriceLineAnswer, IsGroupAnswer, nil_from_length, numbers_are_words, word_by_bytes}
+use Rattle.kd_card.proofs.Prelude.{word_by_test, ThenNext-Ok, CardFault}
 use Rattle.std.proofs.lemmas.List.Splits.{slice_split_none, slice_split_at, join_with_byte-slice_split}
 use Rattle.std.{proofs.lemmas.Str.IsUtf8-from_ascii, specs.{Result.{result_ok, IsErrAnd}, Int.Signed.mag}}
 use Rattle.kd_card.specs.Reading.{head_prefix}
@@ -411,10 +411,11 @@ line_said {K} word number {bytes} x says =
 
 -- ---- groups of kinds
 
-pub record HasGroup (name : Name) (number : ℕ) (bytes : List ℕ) (kinds : List PricedKind) (rest : List ℕ) : Type 0 where
-  pub lines : bytes ≡ kinds_text kinds ++ rest
-  pub group : IsGroup name number kinds
+pub record HasGroup {K X : Type 0} (sort : Sort K X) (number : ℕ) (bytes : List ℕ) (kinds : List K) (rest : List ℕ)
+    : Type 0 where
+  pub lines : bytes ≡ kinds_text sort kinds ++ rest
+  pub group : IsGroup sort number kinds
 
-pub group_said : {name : Name} {number : ℕ} (line : ℕ) {bytes : List ℕ} (x : List PricedKind × List ℕ)
-    → IsGroupAnswer name number line bytes (Ok x) → HasGroup name number bytes x.0 x.1
-group_said {name} {number} line {bytes} x says = grind (arith, ThenNext-Ok)
+pub group_said : {K X : Type 0} {sort : Sort K X} {number : ℕ} (line : ℕ) {bytes : List ℕ} (x : List K × List ℕ)
+    → IsGroupAnswer sort number line bytes (Ok x) → HasGroup sort number bytes x.0 x.1
+group_said line x says = grind (arith, ThenNext-Ok)

@@ -5,27 +5,27 @@ use Rattle.kd_card.proofs.Prelude.{arith, ℤ, unsigned_abs, append_assoc, AllBy
 use Rattle.kd_card.proofs.Prelude.{decimal_injective, signed_decimal_injective, append-nil, recursion_from_All, Setting}
 use Rattle.kd_card.proofs.Prelude.{IsWord, setting_line, list_text, BeginsWithSettingLines, BeginsWithNoSetting}
 use Rattle.kd_card.proofs.Prelude.{PriceParts, Cables, Bars, CableKinds, BarKinds, Version, ByNumber, ByKind, Group}
-use Rattle.kd_card.proofs.Prelude.{OfCables, OfBars, Name, PricedKind, Trailing, ThenNext, HasFault, GoesOn, Yields}
-use Rattle.kd_card.proofs.Prelude.{Demands, look_rank, name_text, kinds_text, AreKinds, AreCalled, version_of}
-use Rattle.kd_card.proofs.Prelude.{row_kinds, column_kinds, price_sum, ArePricesInRange, ArePrices, group_of, row_word}
-use Rattle.kd_card.proofs.Prelude.{column_word, row_name, column_name, price_count, settings_words, price_words}
-use Rattle.kd_card.proofs.Prelude.{sum_words, lines_text, price_lines, card_text, IsGroup, IsCard, line_then}
-use Rattle.kd_card.proofs.Prelude.{IsValueAnswer, IsFirstWordAnswer, BeginsWithHead, BeginsWithAllSettings}
-use Rattle.kd_card.proofs.Prelude.{IsSettingsAnswer, IsPriceLineAnswer, IsByNumberPricesAnswer, BeginsWithWord}
-use Rattle.kd_card.proofs.Prelude.{EndsGroup, AtOther, IsNextKind, floor_behind, IsGroupAnswer, IsByKindPricesAnswer}
-use Rattle.kd_card.proofs.Prelude.{IsAllPricesAnswer, IsRestAnswer, IsCardAnswer, TextsTellCards, NoCardBeginsAnother}
-use Rattle.kd_card.proofs.Prelude.{CardsHaveNoFault, OneCardFault, common_steps, word_by_test, BeginsWithKinds}
-use Rattle.kd_card.proofs.Prelude.{CardsAreSaid, HasOneAnswer, HasOneAnswer-Demands, HasOneAnswer-Finds}
-use Rattle.kd_card.proofs.Prelude.{HasOneAnswer-Yields, HasOneAnswer-FindsAlways, HasOneAnswer-ThenNext, ThenNext-Ok}
-use Rattle.kd_card.proofs.Prelude.{Yields-Ok, CardFault, head_words, kind_words}
+use Rattle.kd_card.proofs.Prelude.{OfCables, OfBars, Sort, Trailing, ThenNext, HasFault, GoesOn, Yields, Demands}
+use Rattle.kd_card.proofs.Prelude.{Option, Some, None, kinds_text, AreKinds, version_of, price_sum, cable_sort}
+use Rattle.kd_card.proofs.Prelude.{pair_sort, bar_sort, row_sort, ArePricesInRange, ArePrices, row_word, column_word}
+use Rattle.kd_card.proofs.Prelude.{price_count, settings_words, price_words, sum_words, lines_text, price_lines}
+use Rattle.kd_card.proofs.Prelude.{card_text, IsGroup, IsCard, line_then, IsValueAnswer, IsFirstWordAnswer}
+use Rattle.kd_card.proofs.Prelude.{BeginsWithHead, BeginsWithAllSettings, IsSettingsAnswer, IsPriceLineAnswer}
+use Rattle.kd_card.proofs.Prelude.{IsByNumberPricesAnswer, BeginsWithWord, EndsGroup, AtOther, IsNextKind, last_of}
+use Rattle.kd_card.proofs.Prelude.{IsGroupAnswer, IsGroupsAnswer, IsKindsOfAnswer, IsAllPricesAnswer, IsRestAnswer}
+use Rattle.kd_card.proofs.Prelude.{IsCardAnswer, TextsTellCards, NoCardBeginsAnother, CardsHaveNoFault, OneCardFault}
+use Rattle.kd_card.proofs.Prelude.{common_steps, word_by_test, BeginsWithKinds, CardsAreSaid, HasOneAnswer}
+use Rattle.kd_card.proofs.Prelude.{HasOneAnswer-Demands, HasOneAnswer-Finds, HasOneAnswer-Yields}
+use Rattle.kd_card.proofs.Prelude.{HasOneAnswer-FindsAlways, HasOneAnswer-ThenNext, ThenNext-Ok, Yields-Ok, CardFault}
+use Rattle.kd_card.proofs.Prelude.{head_words, kind_words}
 use Rattle.kd_card.specs.{CardFault.parts_by_number, Reading.head_prefix}
 use Rattle.kd_card.proofs.Lines.{line_has_words, value_line, same_words, two_lines, card_and_more, mag-small}
 use Rattle.kd_card.proofs.Lines.{numeral_word, signed_word, head_text, day_unbroken, first_is_word, prices_are_words}
 use Rattle.kd_card.proofs.Lines.{number_text, signed_text, price_sum_is_small, value_says, value_said, same_values}
 use Rattle.kd_card.proofs.Lines.{first_says, HasPrices, line_said, group_said}
-use Rattle.kd_card.proofs.KindWords.{kind_is_words, kind_begins, end_has_no_next, same_kind}
-use Rattle.kd_card.proofs.KindPrices.{text_of_more_kinds, text_by_kind, both_groups, size_of, of_two_groups}
-use Rattle.kd_card.proofs.KindPrices.{same_kind_parts, some_and_few}
+use Rattle.kd_card.proofs.KindWords.{IsSort, cables_are, pairs_are, bars_are, rows_are, kind_is_words, kind_begins}
+use Rattle.kd_card.proofs.KindWords.{end_has_no_next, same_kind}
+use Rattle.kd_card.proofs.KindPrices.{text_of_more_kinds, text_of_two, cables_are_prices, bars_are_prices}
 
 -- ---- texts that determine what they describe
 
@@ -63,6 +63,42 @@ by_number : (group : Group) (rows columns : List ℤ) {bytes middle rest : List 
     → AreAllPriceLines ByNumber bytes (parts_by_number group rows columns) rest
 by_number group rows columns a b = grind (arith, common_steps, two_lines)
 
+-- What two groups of kinds say of the bytes.
+pub groups_said : {R X C Y : Type 0} (rows : Sort R X) (columns : Sort C Y) (number line : ℕ) {bytes : List ℕ}
+    (x : List R × List C × List ℕ) → IsGroupsAnswer rows columns number line bytes (Ok x)
+    → (bytes ≡ lines_text (map (kind_words rows) x.0 ++ map (kind_words columns) x.1) ++ x.2)
+    × IsGroup rows number x.0 × IsGroup columns number x.1
+groups_said {R} {C} rows columns number line {bytes} x says =
+    let first = ThenNext-Ok says in
+    let second = ThenNext-Ok first.next in
+    let a = group_said _ first.found first.says in
+    let b = group_said _ second.found second.says in
+    let parts = append_assoc (kinds_text rows first.found.0) (kinds_text columns second.found.0) second.found.1 in
+    let lines = text_of_two rows columns first.found.0 second.found.0 in
+    subst (λ (y : List R × List C × List ℕ).
+    (bytes ≡ lines_text (map (kind_words rows) y.0 ++ map (kind_words columns) y.1) ++ y.2)
+    × IsGroup rows number y.0 × IsGroup columns number y.1) (sym (Yields-Ok second.next)) (cc, a.group, b.group)
+
+of_kinds : (group : Group) (line : ℕ) {bytes : List ℕ} (x : PriceParts × List ℕ)
+    → IsKindsOfAnswer group line bytes (Ok x)
+    → AreAllPriceLines ByKind bytes x.0 x.1
+of_kinds OfCables line {bytes} x says =
+    let groups = ThenNext-Ok says in
+    let said = groups_said cable_sort pair_sort 13 line groups.found groups.says in
+    subst (λ (y : PriceParts × List ℕ). AreAllPriceLines ByKind bytes y.0 y.1) (sym (Yields-Ok groups.next)) (record {
+      version = refl;
+      text = said.0;
+      are = (cables_are_prices groups.found.0 groups.found.1).1 (said.1, said.2);
+    })
+of_kinds OfBars line {bytes} x says =
+    let groups = ThenNext-Ok says in
+    let said = groups_said bar_sort row_sort 27 line groups.found groups.says in
+    subst (λ (y : PriceParts × List ℕ). AreAllPriceLines ByKind bytes y.0 y.1) (sym (Yields-Ok groups.next)) (record {
+      version = refl;
+      text = said.0;
+      are = (bars_are_prices groups.found.0 groups.found.1).1 (said.1, said.2);
+    })
+
 all_said : (version : Version) (line : ℕ) {bytes : List ℕ} (x : PriceParts × List ℕ)
     → IsAllPricesAnswer version line bytes (Ok x)
     → AreAllPriceLines version bytes x.0 x.1
@@ -75,22 +111,7 @@ all_said ByNumber line {bytes} x says =
     (by_number rows.found.0 rows.found.1 columns.found.1 a b)
 all_said ByKind line {bytes} x says =
     let first = ThenNext-Ok says in
-    let rows = ThenNext-Ok first.next in
-    let columns = ThenNext-Ok rows.next in
-    let both = ThenNext-Ok columns.next in
-    let have = both.says in
-    let group = first.found.0 in
-    let a = group_said _ rows.found rows.says in
-    let b = group_said _ columns.found columns.says in
-    let parts = append_assoc (kinds_text rows.found.0) (kinds_text columns.found.0) columns.found.1 in
-    let lines = text_by_kind both.found have.version in
-    subst (λ (y : PriceParts × List ℕ). AreAllPriceLines ByKind bytes y.0 y.1) (sym (Yields-Ok both.next)) (record {
-      version = have.version;
-      text = cc;
-      are =
-          of_two_groups group both.found have.version (ap price_count (sym have.of_group) ∙ size_of both.found)
-          have.row_kinds have.column_kinds a.group b.group;
-    })
+    of_kinds first.found.0 line x first.next
 
 pub up_to_settings : {bytes : List ℕ} {version : Version} {day : ℕ} {body : List ℕ} {xs : List Setting} {rest : List ℕ}
     {number : ℕ}
@@ -166,66 +187,83 @@ price_line_says word number key prices rest is_word reach count e =
 
 -- ---- groups of kinds
 
-next_kind : {name : Name} {floor : ℕ} (kind : PricedKind) (kinds : List PricedKind) (rest : List ℕ) {bytes : List ℕ}
-    → AreCalled name (kind ∷ kinds) → AreKinds floor (kind ∷ kinds) → bytes ≡ kinds_text (kind ∷ kinds) ++ rest
-    → IsNextKind name floor bytes kind (kinds_text kinds ++ rest)
-next_kind kind kinds rest called are e = record {
-  called = called.0;
-  good = are.0;
-  above = are.1;
-  line =
-      line_has_words (kind_words kind) (kinds_text kinds ++ rest) (λ none. cc) (kind_is_words kind are.0)
-      (e ∙ text_of_more_kinds kind kinds rest);
-}
+module _ {K X : Type 0} {sort : Sort K X} (is : IsSort sort) where
+  next_kind : {last : Option K} (kind : K) (kinds : List K) (rest : List ℕ) {bytes : List ℕ}
+      → AreKinds sort last (kind ∷ kinds) → bytes ≡ kinds_text sort (kind ∷ kinds) ++ rest
+      → IsNextKind sort last bytes kind (kinds_text sort kinds ++ rest)
+  next_kind kind kinds rest are e = record {
+    good = are.0;
+    after = are.1;
+    line =
+        line_has_words (kind_words sort kind) (kinds_text sort kinds ++ rest) (λ none. cc)
+        (kind_is_words is kind are.0) (e ∙ text_of_more_kinds sort kind kinds rest);
+  }
 
-behind : {name : Name} {floor : ℕ} {kind : PricedKind} {kinds : List PricedKind} {bytes rest : List ℕ}
-    → BeginsWithKinds name floor bytes (kind ∷ kinds) rest
-    → BeginsWithKinds name (look_rank kind.look + 1) (kinds_text kinds ++ rest) kinds rest
-behind b = record { lines = refl; called = b.called.1; in_order = b.in_order.2; none_more = b.none_more }
+  behind : {last : Option K} {kind : K} {kinds : List K} {bytes rest : List ℕ}
+      → BeginsWithKinds sort last bytes (kind ∷ kinds) rest
+      → BeginsWithKinds sort (Some kind) (kinds_text sort kinds ++ rest) kinds rest
+  behind b = record { lines = refl; in_order = b.in_order.2; none_more = b.none_more }
 
-kinds_end : (name : Name) (floor : ℕ) (xs ys : List PricedKind) {bytes : List ℕ} (rest more : List ℕ)
-    → BeginsWithKinds name floor bytes xs rest → BeginsWithKinds name floor bytes ys more → (xs ≡ ys) × (rest ≡ more)
-kinds_end name floor [] [] rest more a b = (refl, sym a.lines ∙ b.lines)
-kinds_end name floor [] (y ∷ ys) rest more a b =
-    absurd (a.none_more y (kinds_text ys ++ more) (next_kind y ys more b.called b.in_order (sym a.lines ∙ b.lines)))
-kinds_end name floor (x ∷ xs) [] rest more a b =
-    absurd (b.none_more x (kinds_text xs ++ rest) (next_kind x xs rest a.called a.in_order (sym b.lines ∙ a.lines)))
-kinds_end name floor (x ∷ xs) (y ∷ ys) rest more a b =
-    let first = next_kind x xs rest a.called a.in_order a.lines in
-    let same = same_words first.line (next_kind y ys more b.called b.in_order b.lines).line in
-    let heads : x ≡ y = same_kind x y a.in_order.0 b.in_order.0 same.0 in
-    let next = look_rank x.look + 1 in
-    let other : BeginsWithKinds name next (kinds_text xs ++ rest) ys more = rw (heads, same.1) (behind b) in
-    let tails = kinds_end name next xs ys rest more (behind a) other in
-    (cc, tails.1)
+  kinds_end : (last : Option K) (xs ys : List K) {bytes : List ℕ} (rest more : List ℕ)
+      → BeginsWithKinds sort last bytes xs rest → BeginsWithKinds sort last bytes ys more
+      → (xs ≡ ys) × (rest ≡ more)
+  kinds_end last [] [] rest more a b = (refl, sym a.lines ∙ b.lines)
+  kinds_end last [] (y ∷ ys) rest more a b =
+      absurd (a.none_more y (kinds_text sort ys ++ more) (next_kind y ys more b.in_order (sym a.lines ∙ b.lines)))
+  kinds_end last (x ∷ xs) [] rest more a b =
+      absurd (b.none_more x (kinds_text sort xs ++ rest) (next_kind x xs rest a.in_order (sym b.lines ∙ a.lines)))
+  kinds_end last (x ∷ xs) (y ∷ ys) rest more a b =
+      let first = next_kind x xs rest a.in_order a.lines in
+      let same = same_words first.line (next_kind y ys more b.in_order b.lines).line in
+      let heads : x ≡ y = same_kind is x y a.in_order.0 b.in_order.0 same.0 in
+      let other : BeginsWithKinds sort (Some x) (kinds_text sort xs ++ rest) ys more = rw (heads, same.1) (behind b) in
+      let tails = kinds_end (Some x) xs ys rest more (behind a) other in
+      (cc, tails.1)
 
-only_group : (name : Name) (number line : ℕ) (bytes : List ℕ) → HasOneAnswer (IsGroupAnswer name number line bytes)
-only_group name number line bytes =
-    HasOneAnswer-ThenNext
-    (HasOneAnswer-FindsAlways (λ x y a b. let same = kinds_end name 0 x.0 y.0 x.1 y.1 a b in same_pair x y same.0
-    same.1))
-    (λ group takes. HasOneAnswer-ThenNext (HasOneAnswer-Demands _ _)
-    (λ end ends. HasOneAnswer-ThenNext (HasOneAnswer-Demands _ _) (λ all count. HasOneAnswer-Yields group)))
+  only_group : (number line : ℕ) (bytes : List ℕ) → HasOneAnswer (IsGroupAnswer sort number line bytes)
+  only_group number line bytes =
+      HasOneAnswer-ThenNext
+      (HasOneAnswer-FindsAlways (λ x y a b. let same = kinds_end None x.0 y.0 x.1 y.1 a b in same_pair x y same.0
+          same.1))
+      (λ group takes. HasOneAnswer-ThenNext (HasOneAnswer-Demands _ _)
+      (λ end ends. HasOneAnswer-ThenNext (HasOneAnswer-Demands _ _) (λ all count. HasOneAnswer-Yields group)))
 
-group_says : {name : Name} {number : ℕ} (line : ℕ) {bytes : List ℕ} (kinds : List PricedKind) (rest : List ℕ)
-    → IsGroup name number kinds → bytes ≡ kinds_text kinds ++ rest → EndsGroup name rest
-    → IsGroupAnswer name number line bytes (Ok (kinds, rest))
-group_says line kinds rest group e ends =
-    GoesOn (kinds, rest)
-    (record {
-      lines = e;
-      called = group.called;
-      in_order = group.in_order;
-      none_more = end_has_no_next (floor_behind 0 kinds) ends;
-    })
-    (GoesOn tt ends (GoesOn tt group.count refl))
+  group_says : {number : ℕ} (line : ℕ) {bytes : List ℕ} (kinds : List K) (rest : List ℕ)
+      → IsGroup sort number kinds → bytes ≡ kinds_text sort kinds ++ rest → EndsGroup sort.word rest
+      → IsGroupAnswer sort number line bytes (Ok (kinds, rest))
+  group_says line kinds rest group e ends =
+      GoesOn (kinds, rest)
+      (record { lines = e; in_order = group.in_order; none_more = end_has_no_next (last_of None kinds) ends })
+      (GoesOn tt ends (GoesOn tt group.count refl))
 
--- A group of kinds begins with their name.
-group_begins : {name : Name} {number : ℕ} {bytes : List ℕ} (kinds : List PricedKind) (rest : List ℕ) → 0 < number
-    → IsGroup name number kinds → bytes ≡ kinds_text kinds ++ rest → BeginsWithWord (name_text name) bytes
-group_begins [] rest some group e = let count = group.count in absurd (omega arith)
-group_begins (kind ∷ kinds) rest some group e =
-    kind_begins (next_kind kind kinds rest group.called group.in_order e)
+  -- A group of kinds begins with the word of its sort.
+  group_begins : {number : ℕ} {bytes : List ℕ} (kinds : List K) (rest : List ℕ) → 0 < number
+      → IsGroup sort number kinds → bytes ≡ kinds_text sort kinds ++ rest → BeginsWithWord sort.word bytes
+  group_begins [] rest some group e = let count = group.count in absurd (omega arith)
+  group_begins (kind ∷ kinds) rest some group e =
+      kind_begins (next_kind {last = None} kind kinds rest group.in_order e)
+
+only_groups : {R X C Y : Type 0} {rows : Sort R X} {columns : Sort C Y} → IsSort rows → IsSort columns
+    → (number line : ℕ) (bytes : List ℕ) → HasOneAnswer (IsGroupsAnswer rows columns number line bytes)
+only_groups rows columns number line bytes =
+    HasOneAnswer-ThenNext (only_group rows number line bytes)
+    (λ first says. HasOneAnswer-ThenNext (only_group columns number _ _) (λ second say. HasOneAnswer-Yields _))
+
+groups_say : {R X C Y : Type 0} {rows : Sort R X} {columns : Sort C Y} → IsSort rows → IsSort columns
+    → columns.word ≢ rows.word → (number line : ℕ) (xs : List R) (ys : List C) {bytes : List ℕ} (rest : List ℕ)
+    → 0 < number → IsGroup rows number xs → IsGroup columns number ys → EndsGroup columns.word rest
+    → bytes ≡ lines_text (map (kind_words rows) xs ++ map (kind_words columns) ys) ++ rest
+    → BeginsWithWord rows.word bytes × IsGroupsAnswer rows columns number line bytes (Ok (xs, ys, rest))
+groups_say {rows} {columns} row column differ number line xs ys rest some a b ends e =
+    let lines =
+    e ∙ ap (λ t. t ++ rest) (text_of_two rows columns xs ys)
+    ∙ append_assoc (kinds_text rows xs) (kinds_text columns ys) rest in
+    let second = group_begins column ys rest some b refl in (
+      group_begins row xs (kinds_text columns ys ++ rest) some a lines,
+      GoesOn (xs, kinds_text columns ys ++ rest)
+          (group_says row _ xs (kinds_text columns ys ++ rest) a lines (AtOther columns.word second differ))
+          (GoesOn (ys, rest) (group_says column _ ys rest b refl ends) refl),
+    )
 
 -- ---- the prices
 
@@ -236,11 +274,13 @@ only_all_prices ByNumber line bytes =
     (λ columns say. HasOneAnswer-Yields _))
 only_all_prices ByKind line bytes =
     HasOneAnswer-ThenNext (only_first _ (λ group other e. grind arith) line bytes)
-    (λ first says. HasOneAnswer-ThenNext (only_group (row_name first.0) (price_count first.0) line bytes)
-    (λ rows say. HasOneAnswer-ThenNext (only_group (column_name first.0) (price_count first.0) (line + length rows.0)
-    rows.1)
-    (λ columns all. HasOneAnswer-ThenNext (HasOneAnswer-FindsAlways same_kind_parts)
-    (λ prices have. HasOneAnswer-Yields _))))
+    (λ first says. only_kinds_of first.0)
+  where
+    only_kinds_of : (group : Group) → HasOneAnswer (IsKindsOfAnswer group line bytes)
+    only_kinds_of OfCables = HasOneAnswer-ThenNext (only_groups cables_are pairs_are 13 line bytes)
+        (λ groups all. HasOneAnswer-Yields _)
+    only_kinds_of OfBars = HasOneAnswer-ThenNext (only_groups bars_are rows_are 27 line bytes)
+        (λ groups all. HasOneAnswer-Yields _)
 
 by_number_says : (group : Group) (line : ℕ) {bytes : List ℕ} (rows columns : List ℤ) (rest : List ℕ)
     → ArePricesInRange rows
@@ -252,28 +292,8 @@ by_number_says group line rows columns rest a b many also e =
     GoesOn (group, rows, second) (price_line_says _ _ group rows second (first_is_word group).0 a many e)
     (GoesOn (tt, columns, rest) (price_line_says _ _ tt columns rest (first_is_word group).1 b also refl) refl)
 
-by_kind_says : (line : ℕ) {bytes : List ℕ} (prices : PriceParts) (rest : List ℕ) → version_of prices ≡ ByKind
-    → ArePrices prices → EndsGroup (column_name (group_of prices)) rest
-    → bytes ≡ lines_text (price_lines prices) ++ rest
-    → IsByKindPricesAnswer line bytes (Ok (prices, rest))
-by_kind_says line prices rest by are ends e =
-    let group = group_of prices in
-    let rows = row_kinds prices in
-    let columns = column_kinds prices in
-    let groups = both_groups prices by are in
-    let lines =
-    e ∙ ap (λ t. t ++ rest) (text_by_kind prices by) ∙ append_assoc (kinds_text rows) (kinds_text columns) rest in
-    let first = group_begins rows (kinds_text columns ++ rest) (some_and_few group).0 groups.0 lines in
-    let second = group_begins columns rest (some_and_few group).0 groups.1 refl in
-    GoesOn (group, first.behind, first.rest) (first_says _ group first.behind first.rest first.has)
-    (GoesOn (rows, kinds_text columns ++ rest)
-    (group_says _ rows (kinds_text columns ++ rest) groups.0 lines
-    (AtOther (name_text (column_name group)) second (grind arith)))
-    (GoesOn (columns, rest) (group_says _ columns rest groups.1 refl ends)
-    (GoesOn prices (record { of_group = refl; version = by; row_kinds = refl; column_kinds = refl }) refl)))
-
 all_say : (prices : PriceParts) (line : ℕ) {bytes : List ℕ} (rest : List ℕ) → ArePrices prices
-    → ((name : Name) → EndsGroup name rest) → bytes ≡ lines_text (price_lines prices) ++ rest
+    → ((word : List ℕ) → word ≢ codes "SUM" → EndsGroup word rest) → bytes ≡ lines_text (price_lines prices) ++ rest
     → IsAllPricesAnswer (version_of prices) line bytes (Ok (prices, rest))
 all_say (Cables row col) line rest are ends e =
     by_number_says OfCables line row col rest are.row_reach are.column_reach are.rows are.columns
@@ -281,8 +301,20 @@ all_say (Cables row col) line rest are ends e =
 all_say (Bars row col) line rest are ends e =
     by_number_says OfBars line row col rest are.row_reach are.column_reach are.rows are.columns
     (e ∙ two_lines (price_words (row_word OfBars) row) (price_words (column_word OfBars) col) rest)
-all_say (CableKinds row col) line rest are ends e = by_kind_says line (CableKinds row col) rest refl are (ends _) e
-all_say (BarKinds row col) line rest are ends e = by_kind_says line (BarKinds row col) rest refl are (ends _) e
+all_say (CableKinds row col) line rest are ends e =
+    let groups = (cables_are_prices row.items col.items).0 are in
+    let say =
+    groups_say cables_are pairs_are (λ same. omega (arith, ap (λ t. get_or t 0 0) same)) 13 line row.items col.items rest (omega arith) groups.0 groups.1
+    (ends pair_sort.word (λ same. omega (arith, ap (λ t. get_or t 0 0) same))) e in
+    GoesOn (OfCables, say.0.behind, say.0.rest) (first_says _ OfCables say.0.behind say.0.rest say.0.has)
+    (GoesOn (row.items, col.items, rest) say.1 refl)
+all_say (BarKinds row col) line rest are ends e =
+    let groups = (bars_are_prices row.items col.items).0 are in
+    let say =
+    groups_say bars_are rows_are (λ same. omega (arith, ap (λ t. get_or t 0 0) same)) 27 line row.items col.items rest (omega arith) groups.0 groups.1
+    (ends row_sort.word (λ same. omega (arith, ap (λ t. get_or t 0 0) same))) e in
+    GoesOn (OfBars, say.0.behind, say.0.rest) (first_says _ OfBars say.0.behind say.0.rest say.0.has)
+    (GoesOn (row.items, col.items, rest) say.1 refl)
 
 -- ---- the head, and a name and a value
 
@@ -311,11 +343,11 @@ only_value signed front due line bytes =
     (λ found says. HasOneAnswer-ThenNext (HasOneAnswer-Demands _ _) (λ due is. HasOneAnswer-Yields _))
 
 -- The line of the sum ends a group of kinds.
-sum_ends : (sum : ℤ) (rest : List ℕ) → unsigned_abs sum < 2 ^ 64 → (name : Name)
-    → EndsGroup name (line_then (sum_words sum) rest)
-sum_ends sum rest near name =
+sum_ends : (sum : ℤ) (rest : List ℕ) → unsigned_abs sum < 2 ^ 64 → (word : List ℕ) → word ≢ codes "SUM"
+    → EndsGroup word (line_then (sum_words sum) rest)
+sum_ends sum rest near word differs =
     let has = value_line (codes "SUM") (signed_decimal sum) rest (word_by_test _ _ refl) (signed_word sum near) refl in
-    AtOther (codes "SUM") (record { behind = signed_decimal sum ∷ []; rest = rest; has = has }) (grind arith)
+    AtOther (codes "SUM") (record { behind = signed_decimal sum ∷ []; rest = rest; has = has }) (λ same. differs (sym same))
 
 -- ---- the card
 

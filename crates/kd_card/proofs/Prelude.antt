@@ -37,20 +37,20 @@ pub use Rattle.arrayvec.specs.ArrayString.{array_string_len}
 pub use Rattle.kd_card.specs.CardFault.{AtNothing, AtOther, BeginsWithHead, BeginsWithKinds, BeginsWithWord, EndsGroup}
 pub use Rattle.kd_card.specs.CardFault.{HasNoNext, HasLineWords, IsDigit, IsNextKind, IsNumberText, IsNumeral}
 pub use Rattle.kd_card.specs.CardFault.{IsAllPricesAnswer, IsRestAnswer, IsCardAnswer, IsFirstWordAnswer, IsGroupAnswer}
-pub use Rattle.kd_card.specs.CardFault.{IsByKindPricesAnswer, IsLineAnswer, IsByNumberPricesAnswer, IsPriceLineAnswer}
-pub use Rattle.kd_card.specs.CardFault.{IsPricesAnswer, IsSettingsAnswer, IsValueAnswer, floor_behind, line_then}
-pub use Rattle.kd_card.specs.CardText.{HaveKinds, IsCard, IsGroup, card_text, column_name, column_word, group_of}
-pub use Rattle.kd_card.specs.CardText.{head_words, lines_text, price_count, price_lines, price_words, row_name}
+pub use Rattle.kd_card.specs.CardFault.{IsGroupsAnswer, IsByKindPricesAnswer, IsKindsOfAnswer, IsLineAnswer, last_of}
+pub use Rattle.kd_card.specs.CardFault.{IsByNumberPricesAnswer, IsPriceLineAnswer, IsPricesAnswer, IsSettingsAnswer}
+pub use Rattle.kd_card.specs.CardFault.{IsValueAnswer, line_then}
+pub use Rattle.kd_card.specs.CardText.{IsCard, IsGroup, card_text, column_word, row_kind_word}
+pub use Rattle.kd_card.specs.CardText.{head_words, lines_text, price_count, price_lines, price_words}
 pub use Rattle.kd_card.specs.CardText.{row_word, settings_words, sum_words, version_text}
-pub use Rattle.kd_card.specs.Kinds.{AreCalled, AreEnds, AreKinds, HasKindWords, IsInForm, IsPairInOrder, IsPricedKind}
-pub use Rattle.kd_card.specs.Kinds.{bar_kind, cable_kind, counted, ends_rank, kind_words, kinds_text, look_name}
-pub use Rattle.kd_card.specs.Kinds.{look_rank, look_text, name_text, pair_kind, pair_rank, prices_of_kinds, row_kind}
+pub use Rattle.kd_card.specs.Kinds.{AreEnds, AreKinds, ComesAfter, HasKindWords, HasText, IsKind, IsOnlyThing}
+pub use Rattle.kd_card.specs.Kinds.{IsPairInOrder, Sort, bar_sort, cable_sort, counted, kind_words}
+pub use Rattle.kd_card.specs.Kinds.{kinds_text, letters_text, pair_sort, prices_of_kinds, row_sort}
 pub use Rattle.kd_card.specs.Laws.{CardsHaveNoFault, AsFewAreNeeded, FittingPricesBoundLists, NoCardBeginsAnother}
 pub use Rattle.kd_card.specs.Laws.{OneCardFault, ProvingCardsAreAsLong, ProvingCardsAreShortest, ProvingPricesAreTight}
-pub use Rattle.kd_card.specs.Laws.{RanksTellLooks, TextsTellCards, CardsAreSaid}
+pub use Rattle.kd_card.specs.Laws.{TextsTellCards, CardsAreSaid}
 pub use Rattle.kd_card.specs.Prices.{ArePrices, ArePricesTight, ArePricesInRange, PricesFit, IsPriceTightAt}
-pub use Rattle.kd_card.specs.Prices.{column_kinds, column_prices, cost_at, table_rows, price_at, price_sum, row_kinds}
-pub use Rattle.kd_card.specs.Prices.{row_prices, version_of}
+pub use Rattle.kd_card.specs.Prices.{column_prices, cost_at, table_rows, price_at, price_sum, row_prices, version_of}
 pub use Rattle.kd_card.specs.Proving.{AreSettingsNeeded, AreModelPrices, Expanded, IsSettingNeeded, Same}
 pub use Rattle.kd_card.specs.Proving.{is_priced_setting, priced_count}
 pub use Rattle.kd_state.specs.FirstFaults.{Demands, GoesOn, Yields, HasFault, ThenNext, HasOneAnswer}
@@ -58,9 +58,10 @@ pub use Rattle.kd_state.specs.FirstFaults.{HasOneAnswer-Demands, HasOneAnswer-Fi
 pub use Rattle.kd_state.specs.FirstFaults.{HasOneAnswer-FindsAlways, HasOneAnswer-ThenNext, ThenNext-Ok, Yields-Ok}
 pub use Rattle.kd_card.specs.declared.fault.CardFault.TheVariants.{BadHead, BadLine, CountWrong, PriceMissing, TooMany}
 pub use Rattle.kd_card.specs.declared.fault.CardFault.TheVariants.{Trailing}
-pub use Rattle.kd_card.specs.declared.{group.Group.Group, kinds.PricedKind.PricedKind, look.Look.Look, look.Name.Name}
+pub use Rattle.kd_card.specs.declared.group.Group.{Group}
+pub use Rattle.kd_card.specs.declared.kinds.{BarKind.BarKind, CableKind.CableKind, KindOf.KindOf}
+pub use Rattle.kd_card.specs.declared.kinds.{PairKind.PairKind, RowKind.RowKind}
 pub use Rattle.kd_card.specs.declared.group.Group.TheVariants.{OfBars, OfCables}
-pub use Rattle.kd_card.specs.declared.look.Look.TheVariants.{Bar, Cable, Pair, Row}
 pub use Rattle.kd_card.specs.declared.prices.{PriceParts.PriceParts, Version.Version}
 pub use Rattle.kd_card.specs.declared.prices.PriceParts.TheVariants.{BarKinds, Bars, CableKinds, Cables}
 pub use Rattle.kd_card.specs.declared.prices.Version.TheVariants.{ByKind, ByNumber}
@@ -98,5 +99,5 @@ pub use Rattle.kd_tables.specs.Places.{IsBefore, place_rank, place_text, places,
 pub use Rattle.kd_tables.specs.Tables.{reflector_text, reflectors_of, wheel_text}
 pub use Rattle.kd_tables.specs.declared.place.Place.TheVariants.{One}
 pub use lib.Pointwise.{pointwise}
-pub use Rattle.kd_card.specs.{Reading.EndsKindsAt, Reading.IsBadKindAt, Reading.IsPriceText, Reading.words_after_first}
+pub use Rattle.kd_card.specs.Reading.{EndsKindsAt, IsBadKindAt, IsKindOfWords, IsPriceText, words_after_first}
 pub use Rattle.kd_card.specs.declared.fault.CardFault.{CardFault}

@@ -481,8 +481,7 @@ proving_cards_are_shortest m s settings prices machine legal are_prices h others
     let are : ArePrices h.numbered =
     elim h.expands [
       | Same by same ↦ subst ArePrices same are_prices
-      | Expanded by other group here also rows columns ↦
-          also
+      | Expanded here also expanded ↦ also
     ] in
     let below = fitting_prices_bound_lists m s h.numbered others machine legal are proves.kind proves.fits reached in
     omega (arith, ints)

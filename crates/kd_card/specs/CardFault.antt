@@ -1,28 +1,25 @@
 -- The card that bytes describe, or the first fault of these bytes. Lines are counted from 1.
 use Rattle.std.specs.Prelude.{codes, decimal, ◌≡◌, ◌≢◌, ℕ, ◌+◌, ◌≤◌, ◌⊎◌, List, [], ◌∷◌, ◌++◌, length, map, All, ℤ}
-use Rattle.std.specs.Prelude.{Bool, true, false, Ok, Err}
+use Rattle.std.specs.Prelude.{Bool, true, false, Ok, Err, Option, Some, None}
 use Rattle.std.specs.Fmt.{signed_decimal}
 use Rattle.kd_state.specs.declared.setting.Setting.{Setting}
 use Rattle.kd_state.specs.Words.{words_of, line_of, IsFirstPart}
 use Rattle.kd_state.specs.Line.{BeginsWithSettingLines, BeginsWithAllSettings}
 use Rattle.kd_state.specs.SheetDay.{IsDayNumber}
 use Rattle.kd_card.specs.declared.prices.PriceParts.{PriceParts}
-use Rattle.kd_card.specs.declared.prices.PriceParts.TheVariants.{Cables, Bars}
+use Rattle.kd_card.specs.declared.prices.PriceParts.TheVariants.{Cables, Bars, CableKinds, BarKinds}
 use Rattle.kd_card.specs.declared.prices.Version.{Version}
 use Rattle.kd_card.specs.declared.prices.Version.TheVariants.{ByNumber, ByKind}
 use Rattle.kd_card.specs.declared.group.Group.{Group}
 use Rattle.kd_card.specs.declared.group.Group.TheVariants.{OfCables, OfBars}
-use Rattle.kd_card.specs.declared.look.Name.{Name}
-use Rattle.kd_card.specs.declared.kinds.PricedKind.{PricedKind}
 use Rattle.kd_card.specs.declared.fault.CardFault.{CardFault}
 use Rattle.kd_card.specs.declared.fault.CardFault.TheVariants.{BadHead, BadLine, TooMany, PriceMissing, CountWrong}
 use Rattle.kd_card.specs.declared.fault.CardFault.TheVariants.{Trailing}
 use Rattle.kd_state.specs.FirstFaults.{AnswerRule, ◌>>=◌, Yields, Finds, Demands, FindsAlways}
-use Rattle.kd_card.specs.Kinds.{name_text, look_name, look_rank, kind_words, kinds_text, counted, IsPricedKind}
-use Rattle.kd_card.specs.Kinds.{AreKinds, AreCalled}
+use Rattle.kd_card.specs.Kinds.{Sort, cable_sort, pair_sort, bar_sort, row_sort, kind_words, kinds_text, counted}
+use Rattle.kd_card.specs.Kinds.{IsKind, AreKinds, ComesAfter}
 use Rattle.kd_card.specs.Prices.{price_sum, ArePricesInRange}
-use Rattle.kd_card.specs.CardText.{row_word, column_word, row_name, column_name, price_count, head_words, price_lines}
-use Rattle.kd_card.specs.CardText.{HaveKinds}
+use Rattle.kd_card.specs.CardText.{row_word, column_word, row_kind_word, price_count, head_words, price_lines}
 
 -- ---- numbers and prices as they are written
 
@@ -100,7 +97,7 @@ IsCountAnswer number bytes = IsValueAnswer false (codes "SETTINGS ") (decimal nu
 -- the first word of a card's first price line
 abbrev pub first_text : Version → Group → List ℕ
 first_text ByNumber group = row_word group
-first_text ByKind group = name_text (row_name group)
+first_text ByKind group = row_kind_word group
 
 -- The words are `number` prices.
 abbrev pub IsPricesAnswer : ℕ → ℕ → List (List ℕ) → AnswerRule CardFault (List ℤ)
@@ -134,51 +131,64 @@ pub record BeginsWithWord (word bytes : List ℕ) : Type 0 where
   pub rest : List ℕ
   pub has : HasLineWords bytes (word ∷ behind) rest
 
--- A group of kinds ends before `bytes`: they are empty, or their first word isn't `name`.
-pub data EndsGroup (name : Name) (bytes : List ℕ) : Type 0 where
-  AtNothing : bytes ≡ [] → EndsGroup name bytes
-  AtOther : (word : List ℕ) → BeginsWithWord word bytes → word ≢ name_text name → EndsGroup name bytes
+-- A group of kinds ends before `bytes`: they are empty, or their first word isn't `word`.
+pub data EndsGroup (word bytes : List ℕ) : Type 0 where
+  AtNothing : bytes ≡ [] → EndsGroup word bytes
+  AtOther : (other : List ℕ) → BeginsWithWord other bytes → other ≢ word → EndsGroup word bytes
 
--- The first line of `bytes` is that of `kind`, whose rank is at least `floor`, and `rest` follows.
-pub record IsNextKind (name : Name) (floor : ℕ) (bytes : List ℕ) (kind : PricedKind) (rest : List ℕ) : Type 0 where
-  pub called : look_name kind.look ≡ name
-  pub good : IsPricedKind kind
-  pub above : floor ≤ look_rank kind.look
-  pub line : HasLineWords bytes (kind_words kind) rest
-
--- `bytes` don't begin with a kind called `name` of a rank from `floor` on.
-abbrev pub HasNoNext : Name → ℕ → List ℕ → Type 0
-HasNoNext name floor bytes = (kind : PricedKind) (rest : List ℕ) → ¬ (IsNextKind name floor bytes kind rest)
-
--- the lowest rank that may follow `kinds`
-abbrev pub floor_behind : ℕ → List PricedKind → ℕ
-floor_behind floor [] = floor
-floor_behind floor (kind ∷ kinds) = floor_behind (look_rank kind.look + 1) kinds
-
--- `bytes` are the lines of `kinds`, in the order of their ranks from `floor` on, and then `rest`. No further
--- kind in this order begins `rest`.
-pub record BeginsWithKinds (name : Name) (floor : ℕ) (bytes : List ℕ) (kinds : List PricedKind) (rest : List ℕ)
+-- The first line of `bytes` is that of `kind`, which comes after the kind `last`, and `rest` follows.
+pub record IsNextKind {K X : Type 0} (sort : Sort K X) (last : Option K) (bytes : List ℕ) (kind : K) (rest : List ℕ)
     : Type 0 where
-  pub lines : bytes ≡ kinds_text kinds ++ rest
-  pub called : AreCalled name kinds
-  pub in_order : AreKinds floor kinds
-  pub none_more : HasNoNext name (floor_behind floor kinds) rest
+  pub good : IsKind sort kind
+  pub after : ComesAfter sort last kind
+  pub line : HasLineWords bytes (kind_words sort kind) rest
+
+-- `bytes` don't begin with a kind that comes after the kind `last`.
+abbrev pub HasNoNext : {K X : Type 0} → Sort K X → Option K → List ℕ → Type 0
+HasNoNext {K} sort last bytes = (kind : K) (rest : List ℕ) → ¬ (IsNextKind sort last bytes kind rest)
+
+-- The last of `kinds`, or `last` if there are none.
+abbrev pub last_of : {K : Type 0} → Option K → List K → Option K
+last_of last [] = last
+last_of last (kind ∷ kinds) = last_of (Some kind) kinds
+
+-- `bytes` are the lines of `kinds`, in order after the kind `last`, and then `rest`. No further kind in this order
+-- begins `rest`.
+pub record BeginsWithKinds {K X : Type 0} (sort : Sort K X) (last : Option K) (bytes : List ℕ) (kinds : List K)
+    (rest : List ℕ) : Type 0 where
+  pub lines : bytes ≡ kinds_text sort kinds ++ rest
+  pub in_order : AreKinds sort last kinds
+  pub none_more : HasNoNext sort (last_of last kinds) rest
 
 -- A group of kinds: another word or the end follows it, and its kinds count `number` things.
-abbrev pub IsGroupAnswer : Name → ℕ → ℕ → List ℕ → AnswerRule CardFault (List PricedKind × List ℕ)
-IsGroupAnswer name number line bytes = do
-  group ← FindsAlways (λ (group : List PricedKind × List ℕ). BeginsWithKinds name 0 bytes group.0 group.1)
-  _ ← Demands (EndsGroup name group.1) (BadLine (line + length group.0))
-  _ ← Demands (counted group.0 ≡ number) PriceMissing
+-- Code: the reader keeps at most `number` kinds, and a number of things of at most one more.
+abbrev pub IsGroupAnswer : {K X : Type 0} → Sort K X → ℕ → ℕ → List ℕ → AnswerRule CardFault (List K × List ℕ)
+IsGroupAnswer {K} sort number line bytes = do
+  group ← FindsAlways (λ (group : List K × List ℕ). BeginsWithKinds sort None bytes group.0 group.1)
+  _ ← Demands (EndsGroup sort.word group.1) (BadLine (line + length group.0))
+  _ ← Demands (counted sort group.0 ≡ number) PriceMissing
   Yields group
+
+-- The group of the rows, and then the group of the columns.
+abbrev pub IsGroupsAnswer : {R X C Y : Type 0} → Sort R X → Sort C Y → ℕ → ℕ → List ℕ
+    → AnswerRule CardFault (List R × List C × List ℕ)
+IsGroupsAnswer row_sort column_sort number line bytes = do
+  rows ← IsGroupAnswer row_sort number line bytes
+  columns ← IsGroupAnswer column_sort number (line + length rows.0) rows.1
+  Yields (rows.0, columns.0, columns.1)
+
+abbrev pub IsKindsOfAnswer : Group → ℕ → List ℕ → AnswerRule CardFault (PriceParts × List ℕ)
+IsKindsOfAnswer OfCables line bytes = do
+  groups ← IsGroupsAnswer cable_sort pair_sort 13 line bytes
+  Yields (CableKinds (record { items = groups.0 }) (record { items = groups.1 }), groups.2)
+IsKindsOfAnswer OfBars line bytes = do
+  groups ← IsGroupsAnswer bar_sort row_sort 27 line bytes
+  Yields (BarKinds (record { items = groups.0 }) (record { items = groups.1 }), groups.2)
 
 abbrev pub IsByKindPricesAnswer : ℕ → List ℕ → AnswerRule CardFault (PriceParts × List ℕ)
 IsByKindPricesAnswer line bytes = do
   first ← IsFirstWordAnswer (first_text ByKind) line bytes
-  rows ← IsGroupAnswer (row_name first.0) (price_count first.0) line bytes
-  columns ← IsGroupAnswer (column_name first.0) (price_count first.0) (line + length rows.0) rows.1
-  prices ← FindsAlways (HaveKinds first.0 rows.0 columns.0)
-  Yields (prices, columns.1)
+  IsKindsOfAnswer first.0 line bytes
 
 -- ---- the card
 

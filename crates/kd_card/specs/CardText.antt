@@ -1,5 +1,5 @@
 -- The text of a card: lines of words, with one space between two words.
-use Rattle.std.specs.Prelude.{codes, decimal, ◌≡◌, ℕ, ◌≤◌, List, [], ◌∷◌, ◌++◌, length, map, All, ℤ}
+use Rattle.std.specs.Prelude.{codes, decimal, ◌≡◌, ℕ, ◌≤◌, List, [], ◌∷◌, ◌++◌, length, map, None, All, ℤ}
 use Rattle.std.specs.List.{flat_map}
 use Rattle.std.specs.Fmt.{signed_decimal}
 use Rattle.kd_state.specs.declared.setting.Setting.{Setting}
@@ -12,18 +12,8 @@ use Rattle.kd_card.specs.declared.prices.Version.{Version}
 use Rattle.kd_card.specs.declared.prices.Version.TheVariants.{ByNumber, ByKind}
 use Rattle.kd_card.specs.declared.group.Group.{Group}
 use Rattle.kd_card.specs.declared.group.Group.TheVariants.{OfCables, OfBars}
-use Rattle.kd_card.specs.declared.look.Name.{Name}
-use Rattle.kd_card.specs.declared.look.Name.TheVariants as names
-use Rattle.kd_card.specs.declared.kinds.PricedKind.{PricedKind}
-use Rattle.kd_card.specs.Kinds.{kind_words, cable_kind, pair_kind, bar_kind, row_kind, counted, AreKinds, AreCalled}
-use Rattle.kd_card.specs.Prices.{version_of, row_kinds, column_kinds, price_sum, ArePrices}
-
--- what prices belong to
-abbrev pub group_of : PriceParts → Group
-group_of (Cables row col) = OfCables
-group_of (Bars row col) = OfBars
-group_of (CableKinds row col) = OfCables
-group_of (BarKinds row col) = OfBars
+use Rattle.kd_card.specs.Kinds.{Sort, kind_words, cable_sort, pair_sort, bar_sort, row_sort, counted, AreKinds}
+use Rattle.kd_card.specs.Prices.{version_of, price_sum, ArePrices}
 
 -- the first words of the two price lines of a card by number
 abbrev pub row_word : Group → List ℕ
@@ -34,32 +24,20 @@ abbrev pub column_word : Group → List ℕ
 column_word OfCables = codes "PAIRS"
 column_word OfBars = codes "ROWS"
 
--- the names of rows and columns in the lines of kinds
-abbrev pub row_name : Group → Name
-row_name OfCables = names.Cable
-row_name OfBars = names.Bar
-
-abbrev pub column_name : Group → Name
-column_name OfCables = names.Pair
-column_name OfBars = names.Row
+-- The first word of each line of kinds: of the cables or bars, and of the columns.
+abbrev pub row_kind_word : Group → List ℕ
+row_kind_word OfCables = cable_sort.word
+row_kind_word OfBars = bar_sort.word
 
 -- the number of prices of rows, which is also the number of prices of columns
 abbrev pub price_count : Group → ℕ
 price_count OfCables = 13
 price_count OfBars = 27
 
--- Valid kinds of things called `name`, in order and each once, that count `number` things.
-pub record IsGroup (name : Name) (number : ℕ) (kinds : List PricedKind) : Type 0 where
-  pub called : AreCalled name kinds
-  pub in_order : AreKinds 0 kinds
-  pub count : counted kinds ≡ number
-
--- `prices` have these kinds of rows and columns.
-pub record HaveKinds (group : Group) (rows columns : List PricedKind) (prices : PriceParts) : Type 0 where
-  pub of_group : group_of prices ≡ group
-  pub version : version_of prices ≡ ByKind
-  pub row_kinds : row_kinds prices ≡ rows
-  pub column_kinds : column_kinds prices ≡ columns
+-- Valid kinds, in order and each once, that count `number` things.
+pub record IsGroup {K X : Type 0} (sort : Sort K X) (number : ℕ) (kinds : List K) : Type 0 where
+  pub in_order : AreKinds sort None kinds
+  pub count : counted sort kinds ≡ number
 
 -- the words of the head before the day: 1 is a card by number, 2 a card by kind
 abbrev pub version_text : Version → List ℕ
@@ -89,8 +67,8 @@ lines_text lines = flat_map (λ words. line_of words ++ 10 ∷ []) lines
 abbrev pub price_lines : PriceParts → List (List (List ℕ))
 price_lines (Cables row col) = price_words (row_word OfCables) row ∷ price_words (column_word OfCables) col ∷ []
 price_lines (Bars row col) = price_words (row_word OfBars) row ∷ price_words (column_word OfBars) col ∷ []
-price_lines (CableKinds row col) = map kind_words (map cable_kind row.items) ++ map kind_words (map pair_kind col.items)
-price_lines (BarKinds row col) = map kind_words (map bar_kind row.items) ++ map kind_words (map row_kind col.items)
+price_lines (CableKinds row col) = map (kind_words cable_sort) row.items ++ map (kind_words pair_sort) col.items
+price_lines (BarKinds row col) = map (kind_words bar_sort) row.items ++ map (kind_words row_sort) col.items
 
 -- the words of all lines: head, settings and their number, prices and their sum
 abbrev pub card_lines : ℕ → List Setting → PriceParts → List (List (List ℕ))

@@ -1,47 +1,55 @@
 -- Kinds: what equal cables, pairs, bars or rows have in common, how many there are, and the price of each.
-use Rattle.std.specs.Prelude.{codes, decimal, ◌≡◌, ℕ, ◌+◌, ◌*◌, ◌<◌, ◌≤◌, List, [], ◌∷◌, ◌++◌, replicate, flat_map, ℤ}
-use Rattle.std.specs.Prelude.{unsigned_abs, Option, Some, None}
+use Rattle.std.specs.Prelude.{codes, decimal, ◌≡◌, ℕ, ◌+◌, ◌<◌, ◌≤◌, List, [], ◌∷◌, ◌++◌, length, map, replicate}
+use Rattle.std.specs.Prelude.{flat_map, ℤ, unsigned_abs, Option, Some, None, ◌⊎◌, IsPermutation, zip}
 use Rattle.std.specs.Fmt.{signed_decimal}
 use Rattle.kd_tables.specs.declared.place.Place.{Place}
-use Rattle.kd_tables.specs.Places.{place_rank, standing_text, reading_text, IsBefore, IsReading}
+use Rattle.kd_tables.specs.Places.{standing_text, reading_text, IsBefore, IsReading}
 use Rattle.kd_state.specs.Words.{letter_text, line_of}
 use Rattle.kd_state.specs.Machine.{cable_letters}
 use Rattle.kd_state.specs.Costs.{column_letters}
-use Rattle.kd_card.specs.declared.look.Look.{Look}
-use Rattle.kd_card.specs.declared.look.Look.TheVariants.{Cable, Pair, Bar, Row}
-use Rattle.kd_card.specs.declared.look.Name.{Name}
-use Rattle.kd_card.specs.declared.look.Name.TheVariants as names
-use Rattle.kd_card.specs.declared.kinds.PricedKind.{PricedKind}
+use Rattle.kd_card.specs.declared.kinds.KindOf.{KindOf}
 use Rattle.kd_card.specs.declared.kinds.CableKind.{CableKind}
 use Rattle.kd_card.specs.declared.kinds.PairKind.{PairKind}
 use Rattle.kd_card.specs.declared.kinds.BarKind.{BarKind}
 use Rattle.kd_card.specs.declared.kinds.RowKind.{RowKind}
 
--- ---- looks
+-- ---- things: a cable's letters, a column's pair, a bar's standing, a row's reading
 
--- the name of the things that have this look
-abbrev pub look_name : Look → Name
-look_name (Cable ends) = names.Cable
-look_name (Pair pair) = names.Pair
-look_name (Bar standing) = names.Bar
-look_name (Row numbers) = names.Row
+-- Two numbers, or two letters as their places in the alphabet, are ordered by the first one, then by the second.
+-- Readings are ordered so. Code: the derived order of `Reading`.
+abbrev pub NumbersComeBefore : ℕ × ℕ → ℕ × ℕ → Type 0
+NumbersComeBefore x y = (x.0 < y.0) ⊎ ((x.0 ≡ y.0) × (x.1 < y.1))
 
-abbrev pub name_text : Name → List ℕ
-name_text names.Cable = codes "CABLE"
-name_text names.Pair = codes "PAIR"
-name_text names.Bar = codes "BAR"
-name_text names.Row = codes "ROW"
+-- Cables are ordered as words in a dictionary, and one without a first letter comes last.
+-- Code: the derived order of `Ends`; the law `ordered` of `Kind` says that it is this order.
+abbrev pub SecondComesBefore : Option ℕ → Option ℕ → Type 0
+SecondComesBefore None None = ⊥
+SecondComesBefore None (Some other) = Unit {0}
+SecondComesBefore (Some letter) None = ⊥
+SecondComesBefore (Some letter) (Some other) = letter < other
 
--- letters as they are written; `-` stands for no letters
+abbrev pub EndsComeBefore : Option ℕ × Option ℕ → Option ℕ × Option ℕ → Type 0
+EndsComeBefore (None, second) (None, other) = SecondComesBefore second other
+EndsComeBefore (None, second) (Some first, other) = ⊥
+EndsComeBefore (Some first, second) (None, other) = Unit {0}
+EndsComeBefore (Some one, second) (Some two, other) = (one < two) ⊎ ((one ≡ two) × SecondComesBefore second other)
+
+-- Pairs are ordered as words in a dictionary, and a nothing comes last.
+-- Code: the derived order of `Column`.
+abbrev pub PairComesBefore : Option (ℕ × ℕ) → Option (ℕ × ℕ) → Type 0
+PairComesBefore None other = ⊥
+PairComesBefore (Some pair) None = Unit {0}
+PairComesBefore (Some pair) (Some other) = NumbersComeBefore pair other
+
+-- Standings are ordered by the left lug's place, then by the right one's.
+-- Code: the derived order of `Standing`.
+abbrev pub StandingComesBefore : Place × Place → Place × Place → Type 0
+StandingComesBefore x y = IsBefore x.0 y.0 ⊎ ((x.0 ≡ y.0) × IsBefore x.1 y.1)
+
+-- Letters as they are written. `-` stands for no letters.
 abbrev pub letters_text : List ℕ → List ℕ
 letters_text [] = codes "-"
 letters_text (letter ∷ letters) = flat_map letter_text (letter ∷ letters)
-
-abbrev pub look_text : Look → List ℕ
-look_text (Cable ends) = letters_text (cable_letters ends)
-look_text (Pair pair) = letters_text (column_letters pair)
-look_text (Bar standing) = standing_text standing
-look_text (Row numbers) = reading_text numbers
 
 -- Two letters of a cable are in alphabetical order; a single one comes first. Those of a pair are in this order
 -- too.
@@ -55,96 +63,113 @@ abbrev pub IsPairInOrder : Option (ℕ × ℕ) → Type 0
 IsPairInOrder None = Unit {0}
 IsPairInOrder (Some pair) = (pair.0 < pair.1) × (pair.1 < 26)
 
--- The look has the one form that is written: its letters are in order.
-abbrev pub IsInForm : Look → Type 0
-IsInForm (Cable ends) = AreEnds ends.0 ends.1
-IsInForm (Pair pair) = IsPairInOrder pair
-IsInForm (Bar standing) = IsBefore standing.0 standing.1
-IsInForm (Row numbers) = IsReading numbers
+-- ---- the four sorts of kinds
 
--- Ranks order the looks that have one name. Letters are ordered as in a dictionary, and the empty cable or the
--- nothing comes last. Standings are ordered by the left place, then by the right one; readings by the smaller
--- number, then by the larger one.
-abbrev pub ends_rank : Option ℕ → Option ℕ → ℕ
-ends_rank None other = 702
-ends_rank (Some one) None = one * 27
-ends_rank (Some one) (Some other) = one * 27 + other + 1
+-- How the kinds of one sort are written and ordered: `word` begins their lines, `text` is what their things have in
+-- common as it is written. Things in form are written in the one way that can be read.
+pub record Sort (K X : Type 0) : Type 1 where
+  pub word : List ℕ
+  pub kind : K → KindOf X
+  pub text : X → List ℕ
+  pub InForm : X → Type 0
+  pub ComesBefore : X → X → Type 0
 
-abbrev pub pair_rank : Option (ℕ × ℕ) → ℕ
-pair_rank None = 676
-pair_rank (Some pair) = pair.0 * 26 + pair.1
+abbrev pub cable_sort : Sort CableKind (Option ℕ × Option ℕ)
+cable_sort = record {
+  word = codes "CABLE";
+  kind = λ k. record { thing = k.ends; count = k.count; price = k.price };
+  text = λ ends. letters_text (cable_letters ends);
+  InForm = λ ends. AreEnds ends.0 ends.1;
+  ComesBefore = EndsComeBefore;
+}
 
-abbrev pub standing_rank : Place × Place → ℕ
-standing_rank standing = place_rank standing.0 * 8 + place_rank standing.1
+abbrev pub pair_sort : Sort PairKind (Option (ℕ × ℕ))
+pair_sort = record {
+  word = codes "PAIR";
+  kind = λ k. record { thing = k.pair; count = k.count; price = k.price };
+  text = λ pair. letters_text (column_letters pair);
+  InForm = IsPairInOrder;
+  ComesBefore = PairComesBefore;
+}
 
-abbrev pub reading_rank : ℕ × ℕ → ℕ
-reading_rank numbers = numbers.0 * 7 + numbers.1
+abbrev pub bar_sort : Sort BarKind (Place × Place)
+bar_sort = record {
+  word = codes "BAR";
+  kind = λ k. record { thing = k.standing; count = k.count; price = k.price };
+  text = standing_text;
+  InForm = λ standing. IsBefore standing.0 standing.1;
+  ComesBefore = StandingComesBefore;
+}
 
-abbrev pub look_rank : Look → ℕ
-look_rank (Cable ends) = ends_rank ends.0 ends.1
-look_rank (Pair pair) = pair_rank pair
-look_rank (Bar standing) = standing_rank standing
-look_rank (Row numbers) = reading_rank numbers
+abbrev pub row_sort : Sort RowKind (ℕ × ℕ)
+row_sort = record {
+  word = codes "ROW";
+  kind = λ k. record { thing = k.reading; count = k.count; price = k.price };
+  text = reading_text;
+  InForm = IsReading;
+  ComesBefore = NumbersComeBefore;
+}
 
--- `text` is the look of a thing called `name`.
-pub record HasLook (name : Name) (text : List ℕ) (look : Look) : Type 0 where
-  pub called : look_name look ≡ name
-  pub form : IsInForm look
-  pub written : look_text look ≡ text
+-- `text` is what the thing has in common with equal ones, as it is written.
+pub record HasText {K X : Type 0} (sort : Sort K X) (text : List ℕ) (thing : X) : Type 0 where
+  pub form : sort.InForm thing
+  pub written : sort.text thing ≡ text
 
--- ---- kinds
+-- `text` is written for this thing, and for no other.
+pub record IsOnlyThing {K X : Type 0} (sort : Sort K X) (text : List ℕ) (thing : X) : Type 0 where
+  pub has : HasText sort text thing
+  pub only : (other : X) → HasText sort text other → other ≡ thing
+
+-- ---- kinds of a card
+
+-- `next` comes after the last kind before it, if there is one.
+abbrev pub ComesAfter : {K X : Type 0} → Sort K X → Option K → K → Type 0
+ComesAfter sort None next = Unit {0}
+ComesAfter sort (Some last) next = sort.ComesBefore (sort.kind last).thing (sort.kind next).thing
 
 -- A valid kind of a card.
-pub record IsPricedKind (kind : PricedKind) : Type 0 where
-  pub form : IsInForm kind.look
-  pub some : 1 ≤ kind.count
-  pub most : kind.count ≤ 255
-  pub reach : unsigned_abs kind.price ≤ 9999
+pub record IsKind {K X : Type 0} (sort : Sort K X) (kind : K) : Type 0 where
+  pub form : sort.InForm (sort.kind kind).thing
+  pub some : 1 ≤ (sort.kind kind).count
+  pub most : (sort.kind kind).count ≤ 255
+  pub reach : unsigned_abs (sort.kind kind).price ≤ 9999
 
--- Valid kinds, each once and in the order of their ranks from `floor` on.
-abbrev pub AreKinds : ℕ → List PricedKind → Type 0
-AreKinds floor [] = Unit {0}
-AreKinds floor (kind ∷ kinds) =
-    IsPricedKind kind × (floor ≤ look_rank kind.look) × AreKinds (look_rank kind.look + 1) kinds
-
--- All kinds are of things called `name`.
-abbrev pub AreCalled : Name → List PricedKind → Type 0
-AreCalled name [] = Unit {0}
-AreCalled name (kind ∷ kinds) = (look_name kind.look ≡ name) × AreCalled name kinds
+-- Valid kinds, each once and in the order of their sort, after the kind `last` if there is one.
+abbrev pub AreKinds : {K X : Type 0} → Sort K X → Option K → List K → Type 0
+AreKinds sort last [] = Unit {0}
+AreKinds sort last (kind ∷ kinds) = IsKind sort kind × ComesAfter sort last kind × AreKinds sort (Some kind) kinds
 
 -- the number of things that the kinds count
-abbrev pub counted : List PricedKind → ℕ
-counted [] = 0
-counted (kind ∷ kinds) = kind.count + counted kinds
+abbrev pub counted : {K X : Type 0} → Sort K X → List K → ℕ
+counted sort [] = 0
+counted sort (kind ∷ kinds) = (sort.kind kind).count + counted sort kinds
 
 -- the price of each thing that the kinds count
-abbrev pub prices_of_kinds : List PricedKind → List ℤ
-prices_of_kinds kinds = flat_map (λ kind. replicate kind.count kind.price) kinds
+abbrev pub prices_of_kinds : {K X : Type 0} → Sort K X → List K → List ℤ
+prices_of_kinds sort kinds = flat_map (λ k. replicate (sort.kind k).count (sort.kind k).price) kinds
 
--- the words of a kind's line: name, look, count and price
-abbrev pub kind_words : PricedKind → List (List ℕ)
-kind_words kind =
-    name_text (look_name kind.look) ∷ look_text kind.look ∷ decimal kind.count ∷ signed_decimal kind.price ∷ []
+-- Each thing that the kinds count, with its price, as often as it is counted.
+abbrev pub expansion : {X : Type 0} → List (KindOf X) → List (X × ℤ)
+expansion kinds = flat_map (λ kind. replicate kind.count (kind.thing, kind.price)) kinds
 
--- These are the words of the line of `kind`, whose things are called `name`.
-pub record HasKindWords (name : Name) (words : List (List ℕ)) (kind : PricedKind) : Type 0 where
-  pub called : look_name kind.look ≡ name
-  pub good : IsPricedKind kind
-  pub written : kind_words kind ≡ words
+-- The kinds count just these things, each with its price: written out, they are the things in some order.
+-- Code: `kinds_of` sorts things with their prices and counts equal ones; `prices_of` looks for each thing's kind and
+-- compares the counts. Neither writes the kinds out.
+pub record AreKindsOf {K X : Type 0} (sort : Sort K X) (things : List X) (prices : List ℤ) (kinds : List K) : Type 0 where
+  pub number : length prices ≡ length things
+  pub expand : IsPermutation (zip things prices) (expansion (map sort.kind kinds))
+
+-- ---- lines
+
+-- the words of a kind's line: what sort of thing it is, what its things have in common, count and price
+abbrev pub kind_words : {K X : Type 0} → Sort K X → K → List (List ℕ)
+kind_words sort k = sort.word ∷ sort.text (sort.kind k).thing ∷ decimal (sort.kind k).count ∷ signed_decimal (sort.kind k).price ∷ []
+
+-- These are the words of the line of `kind`.
+pub record HasKindWords {K X : Type 0} (sort : Sort K X) (words : List (List ℕ)) (kind : K) : Type 0 where
+  pub good : IsKind sort kind
+  pub written : kind_words sort kind ≡ words
 
 -- the line of each kind, with its LF
-abbrev pub kinds_text : List PricedKind → List ℕ
-kinds_text kinds = flat_map (λ kind. line_of (kind_words kind) ++ 10 ∷ []) kinds
-
--- a kind of cables, pairs, bars or rows, as a `PricedKind`
-abbrev pub cable_kind : CableKind → PricedKind
-cable_kind kind = record { look = Cable kind.ends; count = kind.count; price = kind.price }
-
-abbrev pub pair_kind : PairKind → PricedKind
-pair_kind kind = record { look = Pair kind.pair; count = kind.count; price = kind.price }
-
-abbrev pub bar_kind : BarKind → PricedKind
-bar_kind kind = record { look = Bar kind.standing; count = kind.count; price = kind.price }
-
-abbrev pub row_kind : RowKind → PricedKind
-row_kind kind = record { look = Row kind.reading; count = kind.count; price = kind.price }
+abbrev pub kinds_text : {K X : Type 0} → Sort K X → List K → List ℕ
+kinds_text sort kinds = flat_map (λ kind. line_of (kind_words sort kind) ++ 10 ∷ []) kinds

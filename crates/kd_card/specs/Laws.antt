@@ -7,8 +7,6 @@ use Rattle.kd_state.specs.SheetDay.{Day, IsLegalDay, day_model}
 use Rattle.kd_state.specs.Costs.{cost_table, loose_count}
 use Rattle.kd_card.specs.declared.prices.PriceParts.{PriceParts}
 use Rattle.kd_card.specs.declared.fault.CardFault.{CardFault}
-use Rattle.kd_card.specs.declared.look.Look.{Look}
-use Rattle.kd_card.specs.Kinds.{look_name, look_rank, IsInForm}
 use Rattle.kd_card.specs.Prices.{PricesFit, price_sum, ArePrices, ArePricesTight}
 use Rattle.kd_card.specs.CardText.{IsCard}
 use Rattle.kd_card.specs.Loose.{loose_lines}
@@ -58,12 +56,6 @@ ProvingPricesAreTight =
     (m : Parts) (s : Day) (settings : List Setting) (prices : PriceParts) → IsMachine m → IsLegalDay s
     → ArePrices prices → ProvesByNumber m s settings prices
     → ArePricesTight (cost_table m s) prices
-
--- Looks in valid form with the same name and the same rank are equal.
-abbrev pub RanksTellLooks : Type 0
-RanksTellLooks =
-    (look other : Look) → look_name look ≡ look_name other → IsInForm look → IsInForm other
-    → look_rank look ≡ look_rank other → look ≡ other
 
 -- Different cards have different texts, and no card's text is a proper prefix of another's.
 abbrev pub TextsTellCards : Type 0

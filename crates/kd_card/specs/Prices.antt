@@ -1,13 +1,12 @@
 -- The prices of a card, by number or by kind, and what it means that prices fit. Rows and columns are counted
 -- from 0.
-use Rattle.std.specs.Prelude.{◌≡◌, ℕ, ◌<◌, ◌≤◌, List, [], ◌++◌, length, map, All, fold, slice_index, slice_index_or, ℤ}
-use Rattle.std.specs.Prelude.{pos, unsigned_abs, ◌+ℤ◌, ◌≤ℤ◌}
+use Rattle.std.specs.Prelude.{◌≡◌, ℕ, ◌<◌, ◌≤◌, List, [], ◌++◌, length, All, fold, slice_index, slice_index_or, ℤ}
+use Rattle.std.specs.Prelude.{None, pos, unsigned_abs, ◌+ℤ◌, ◌≤ℤ◌}
 use Rattle.kd_card.specs.declared.prices.PriceParts.{PriceParts}
 use Rattle.kd_card.specs.declared.prices.PriceParts.TheVariants.{Cables, Bars, CableKinds, BarKinds}
 use Rattle.kd_card.specs.declared.prices.Version.{Version}
 use Rattle.kd_card.specs.declared.prices.Version.TheVariants.{ByNumber, ByKind}
-use Rattle.kd_card.specs.declared.kinds.PricedKind.{PricedKind}
-use Rattle.kd_card.specs.Kinds.{cable_kind, pair_kind, bar_kind, row_kind, prices_of_kinds, AreKinds}
+use Rattle.kd_card.specs.Kinds.{cable_sort, pair_sort, bar_sort, row_sort, prices_of_kinds, AreKinds}
 
 -- by number if each cable, pair, bar or row has its own price; by kind if each kind has one
 abbrev pub version_of : PriceParts → Version
@@ -16,33 +15,19 @@ version_of (Bars row col) = ByNumber
 version_of (CableKinds row col) = ByKind
 version_of (BarKinds row col) = ByKind
 
--- the kinds of the rows of the table of costs: of the cables or bars
-abbrev pub row_kinds : PriceParts → List PricedKind
-row_kinds (Cables row col) = []
-row_kinds (Bars row col) = []
-row_kinds (CableKinds row col) = map cable_kind row.items
-row_kinds (BarKinds row col) = map bar_kind row.items
-
--- the kinds of the columns of the table of costs: of pairs and nothings, or of the sheet's rows
-abbrev pub column_kinds : PriceParts → List PricedKind
-column_kinds (Cables row col) = []
-column_kinds (Bars row col) = []
-column_kinds (CableKinds row col) = map pair_kind col.items
-column_kinds (BarKinds row col) = map row_kind col.items
-
 -- the prices of the rows of the table of costs: of the cables or bars; those of one kind come together
 abbrev pub row_prices : PriceParts → List ℤ
 row_prices (Cables row col) = row
 row_prices (Bars row col) = row
-row_prices (CableKinds row col) = prices_of_kinds (map cable_kind row.items)
-row_prices (BarKinds row col) = prices_of_kinds (map bar_kind row.items)
+row_prices (CableKinds row col) = prices_of_kinds cable_sort row.items
+row_prices (BarKinds row col) = prices_of_kinds bar_sort row.items
 
 -- the prices of the columns of the table of costs: of pairs and nothings, or of the sheet's rows
 abbrev pub column_prices : PriceParts → List ℤ
 column_prices (Cables row col) = col
 column_prices (Bars row col) = col
-column_prices (CableKinds row col) = prices_of_kinds (map pair_kind col.items)
-column_prices (BarKinds row col) = prices_of_kinds (map row_kind col.items)
+column_prices (CableKinds row col) = prices_of_kinds pair_sort col.items
+column_prices (BarKinds row col) = prices_of_kinds row_sort col.items
 
 -- the number of rows of the table of costs, which is also its number of columns
 abbrev pub table_rows : PriceParts → ℕ
@@ -55,14 +40,20 @@ table_rows (BarKinds row col) = 27
 abbrev pub ArePricesInRange : List ℤ → Type 0
 ArePricesInRange prices = All (λ price. unsigned_abs price ≤ 9999) prices
 
+-- Prices by kind have valid kinds in order.
+abbrev pub HaveKindsInOrder : PriceParts → Type 0
+HaveKindsInOrder (Cables row col) = Unit {0}
+HaveKindsInOrder (Bars row col) = Unit {0}
+HaveKindsInOrder (CableKinds row col) = AreKinds cable_sort None row.items × AreKinds pair_sort None col.items
+HaveKindsInOrder (BarKinds row col) = AreKinds bar_sort None row.items × AreKinds row_sort None col.items
+
 -- Valid prices of a card.
 pub record ArePrices (prices : PriceParts) : Type 0 where
   pub rows : length (row_prices prices) ≡ table_rows prices
   pub columns : length (column_prices prices) ≡ table_rows prices
   pub row_reach : ArePricesInRange (row_prices prices)
   pub column_reach : ArePricesInRange (column_prices prices)
-  pub row_kinds : AreKinds 0 (row_kinds prices)
-  pub column_kinds : AreKinds 0 (column_kinds prices)
+  pub kinds : HaveKindsInOrder prices
 
 -- the cost of row `i` at column `j`
 abbrev pub cost_at : List (List ℕ) → ℕ → ℕ → ℕ

@@ -1,7 +1,7 @@
 -- A card that proves itself: its settings lead the machine to the day, and its prices show that no shorter list
 -- does.
-use Rattle.std.specs.Prelude.{◌≡◌, ℕ, ◌+◌, ◌<◌, ◌≤◌, nat_eq, Bool, true, false, List, [], ◌∷◌, length, map}
-use Rattle.std.specs.Prelude.{slice_index_or, count_by, All, ◌⊎◌, ℤ, pos, IsFalse, Option, Some, None}
+use Rattle.std.specs.Prelude.{◌≡◌, ℕ, ◌+◌, ◌≤◌, Bool, true, false, List, [], ◌∷◌, length, map, count_by, pos}
+use Rattle.std.specs.Prelude.{IsFalse, Option, Some, None}
 use Rattle.kd_tables.specs.Places.{smaller_first}
 use Rattle.kd_state.specs.declared.machine.parts.Parts.{Parts}
 use Rattle.kd_state.specs.declared.machine.parts.Parts.TheVariants.{Rotor, Pin}
@@ -14,17 +14,10 @@ use Rattle.kd_state.specs.SheetDay.{Day, OfRotors, OfPins, day_model}
 use Rattle.kd_state.specs.OnKey.{ReadsAs}
 use Rattle.kd_state.specs.Costs.{columns_of, cost_table, loose_count}
 use Rattle.kd_card.specs.declared.prices.PriceParts.{PriceParts}
-use Rattle.kd_card.specs.declared.prices.PriceParts.TheVariants.{Cables, Bars}
-use Rattle.kd_card.specs.declared.prices.Version.TheVariants.{ByNumber, ByKind}
-use Rattle.kd_card.specs.declared.group.Group.{Group}
-use Rattle.kd_card.specs.declared.group.Group.TheVariants.{OfCables, OfBars}
-use Rattle.kd_card.specs.declared.look.Look.{Look}
-use Rattle.kd_card.specs.declared.look.Look.TheVariants.{Cable, Pair, Bar, Row}
-use Rattle.kd_card.specs.declared.kinds.PricedKind.{PricedKind}
-use Rattle.kd_card.specs.Kinds.{look_rank}
-use Rattle.kd_card.specs.Prices.{version_of, row_kinds, column_kinds, row_prices, column_prices, price_at, price_sum}
-use Rattle.kd_card.specs.Prices.{PricesFit, ArePrices}
-use Rattle.kd_card.specs.CardText.{group_of}
+use Rattle.kd_card.specs.declared.prices.PriceParts.TheVariants.{Cables, Bars, CableKinds, BarKinds}
+use Rattle.kd_card.specs.declared.prices.Version.TheVariants.{ByNumber}
+use Rattle.kd_card.specs.Kinds.{cable_sort, pair_sort, bar_sort, row_sort, AreKindsOf}
+use Rattle.kd_card.specs.Prices.{version_of, price_sum, PricesFit, ArePrices}
 
 -- The prices are by number, and belong to the machine's model: cables of a rotor machine, or bars of a
 -- Converter M-209.
@@ -63,59 +56,28 @@ LeadsToTheDay m s settings = (n : Parts) × Leads m settings n × ReadsAs n s
 
 -- ---- prices by kind mean prices by number
 
--- the looks of the machine's cables or bars, and of the day's pairs and nothings or rows
-abbrev pub row_looks : Parts → List Look
-row_looks (Rotor m) = map (λ ends. Cable ends) m.cables
-row_looks (Pin m) = map (λ standing. Bar standing) m.bars
-
+-- A pair with its letters in alphabetical order, and the columns of a day's table of costs with their letters so.
 abbrev pub pair_in_order : Option (ℕ × ℕ) → Option (ℕ × ℕ)
 pair_in_order None = None
 pair_in_order (Some pair) = Some (smaller_first pair.0 pair.1)
 
-abbrev pub column_looks : Day → List Look
-column_looks (OfRotors s) = map (λ column. Pair (pair_in_order column)) (columns_of s.pairs)
-column_looks (OfPins s) = map (λ numbers. Row numbers) s.rows
+abbrev pub columns_in_order : List (ℕ × ℕ) → List (Option (ℕ × ℕ))
+columns_in_order pairs = map pair_in_order (columns_of pairs)
 
-abbrev pub look_at : List Look → ℕ → Look
-look_at looks place = slice_index_or looks place (Pair None)
-
--- the number of `looks` equal to `look`, as looks with one name and one rank are equal
-abbrev pub alike_count : Look → List Look → ℕ
-alike_count look looks = count_by (λ other. nat_eq (look_rank other) (look_rank look)) looks
-
--- The kind has this look, and this price.
-pub record HasPrice (look : Look) (due : ℤ) (kind : PricedKind) : Type 0 where
-  pub alike : look_rank kind.look ≡ look_rank look
-  pub price : kind.price ≡ due
-
--- One of the kinds has this look and this price.
-abbrev pub IsPriced : Look → ℤ → List PricedKind → Type 0
-IsPriced look price [] = ⊥
-IsPriced look price (kind ∷ kinds) = HasPrice look price kind ⊎ IsPriced look price kinds
-
--- The kind counts all things that have its look.
-pub record HasCount (looks : List Look) (kind : PricedKind) : Type 0 where
-  pub count : kind.count ≡ alike_count kind.look looks
-
--- `prices` has the price of its kind for each thing, and each kind counts all things that have its look.
-pub record AreExpanded (looks : List Look) (kinds : List PricedKind) (prices : List ℤ) : Type 0 where
-  pub number : length prices ≡ length looks
-  pub each : (place : ℕ) → place < length looks → IsPriced (look_at looks place) (price_at prices place) kinds
-  pub counts : All (HasCount looks) kinds
+-- The kinds count just the cables, pairs and nothings, or the bars and rows, of machine and day, each thing with its
+-- price by number.
+abbrev pub AreExpanded : Parts → Day → PriceParts → PriceParts → Type 0
+AreExpanded (Rotor m) (OfRotors s) (CableKinds row col) (Cables rows columns) =
+    AreKindsOf cable_sort m.cables rows row.items × AreKindsOf pair_sort (columns_in_order s.pairs) columns col.items
+AreExpanded (Pin m) (OfPins s) (BarKinds row col) (Bars rows columns) =
+    AreKindsOf bar_sort m.bars rows row.items × AreKindsOf row_sort s.rows columns col.items
+AreExpanded _ _ _ _ = ⊥
 
 -- Prices by number mean themselves. Prices by kind mean one price for each cable and pair, or for each bar and
 -- row.
 pub data Expands (m : Parts) (s : Day) (prices numbered : PriceParts) : Type 0 where
   Same : version_of prices ≡ ByNumber → prices ≡ numbered → Expands m s prices numbered
-  Expanded : version_of prices ≡ ByKind → version_of numbered ≡ ByNumber → group_of prices ≡ group_of numbered
-      → ArePrices prices → ArePrices numbered
-      → AreExpanded (row_looks m) (row_kinds prices) (row_prices numbered)
-      → AreExpanded (column_looks s) (column_kinds prices) (column_prices numbered) → Expands m s prices numbered
-
--- what the prices of a machine belong to
-abbrev pub group_of_machine : Parts → Group
-group_of_machine (Rotor m) = OfCables
-group_of_machine (Pin m) = OfBars
+  Expanded : ArePrices prices → ArePrices numbered → AreExpanded m s prices numbered → Expands m s prices numbered
 
 -- ---- the card proves itself
 

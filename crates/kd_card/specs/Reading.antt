@@ -3,9 +3,9 @@
 use Rattle.std.specs.Prelude.{codes, ◌≡◌, ◌≤◌, ℕ, ℤ, unsigned_abs, List, [], Option, Some, None}
 use Rattle.std.specs.Fmt.{signed_decimal}
 use Rattle.kd_state.specs.Words.{words_of}
-use Rattle.kd_card.specs.declared.look.Name.{Name}
 use Rattle.kd_card.specs.declared.prices.Version.{Version}
 use Rattle.kd_card.specs.declared.prices.Version.TheVariants.{ByNumber, ByKind}
+use Rattle.kd_card.specs.Kinds.{Sort, HasKindWords}
 use Rattle.kd_card.specs.CardFault.{EndsGroup, HasNoNext}
 
 -- the words of a line after its first one; the argument is the text after the first word's space
@@ -23,10 +23,15 @@ head_prefix ByNumber = codes "CARD 1 DAY "
 head_prefix ByKind = codes "CARD 2 DAY "
 
 -- The group of kinds ends before `bytes`; or it doesn't, and no valid kind follows.
-pub record EndsKindsAt (name : Name) (floor : ℕ) (bytes : List ℕ) : Type 0 where
-  pub ends : EndsGroup name bytes
-  pub none_more : HasNoNext name floor bytes
+pub record EndsKindsAt {K X : Type 0} (sort : Sort K X) (last : Option K) (bytes : List ℕ) : Type 0 where
+  pub ends : EndsGroup sort.word bytes
+  pub none_more : HasNoNext sort last bytes
 
-pub record IsBadKindAt (name : Name) (floor : ℕ) (bytes : List ℕ) : Type 0 where
-  pub goes_on : ¬ (EndsGroup name bytes)
-  pub none_more : HasNoNext name floor bytes
+pub record IsBadKindAt {K X : Type 0} (sort : Sort K X) (last : Option K) (bytes : List ℕ) : Type 0 where
+  pub goes_on : ¬ (EndsGroup sort.word bytes)
+  pub none_more : HasNoNext sort last bytes
+
+-- These are the words of the line of `kind`, and of no kind of other things.
+pub record IsKindOfWords {K X : Type 0} (sort : Sort K X) (words : List (List ℕ)) (kind : K) : Type 0 where
+  pub has : HasKindWords sort words kind
+  pub only : (other : K) → HasKindWords sort words other → (sort.kind other).thing ≡ (sort.kind kind).thing

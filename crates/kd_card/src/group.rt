@@ -1,14 +1,13 @@
 //! What the prices of a card belong to: cables and pairs, or bars and rows.
 ghost use Rattle.std.specs.Prelude.{◌≡◌};
-ghost use Rattle.kd_card.specs.CardText.{row_name, column_name, column_word, price_count};
+ghost use Rattle.kd_card.specs.CardText.{column_word, price_count};
 ghost use Rattle.kd_card.specs.CardFault.{first_text};
 
-use super::look::Name;
 use super::prices::Version;
 
 /// What the prices of a card belong to: the rows and the columns of one table of costs.
 #[derive(Clone, Copy)]
-pub enum Group {
+pub(crate) enum Group {
     /// Cables are the rows; pairs and nothings are the columns.
     OfCables,
     /// Bars are the rows; the rows of the key sheet are the columns.
@@ -16,26 +15,6 @@ pub enum Group {
 }
 
 impl Group {
-    /// The name of a row of the table of costs.
-    pub(crate) fn row_name(self) -> Name
-        ensures { result ≡ row_name self }
-    {
-        match self {
-            Group::OfCables => Name::Cable,
-            Group::OfBars => Name::Bar,
-        }
-    }
-
-    /// The name of a column of the table of costs.
-    pub(crate) fn column_name(self) -> Name
-        ensures { result ≡ column_name self }
-    {
-        match self {
-            Group::OfCables => Name::Pair,
-            Group::OfBars => Name::Row,
-        }
-    }
-
     /// The first word of the first price line.
     pub(crate) fn first_text(self, version: Version) -> &'static str
         ensures { result.now ≡ first_text version self }
@@ -43,7 +22,8 @@ impl Group {
         match (version, self) {
             (Version::ByNumber, Group::OfCables) => "CABLES",
             (Version::ByNumber, Group::OfBars) => "BARS",
-            (Version::ByKind, _) => self.row_name().text(),
+            (Version::ByKind, Group::OfCables) => "CABLE",
+            (Version::ByKind, Group::OfBars) => "BAR",
         }
     }
 
@@ -58,7 +38,7 @@ impl Group {
     }
 
     /// The number of rows of the table of costs, which is also its number of columns.
-    pub fn number(self) -> usize
+    pub(crate) fn number(self) -> usize
         ensures { result ≡ price_count self }
     {
         match self {

@@ -3,129 +3,133 @@ ghost use Rattle.std.specs.Prelude.{◌≡◌, ◌+◌, ◌*◌, ◌<◌, ◌≤
 ghost use Rattle.std.specs.Prelude.{MatchOption, MatchResult, Ok, Err};
 ghost use Rattle.arrayvec.specs.ArrayString.{array_string_len};
 ghost use Rattle.std.specs.Option.{option_copied};
-ghost use Rattle.kd_card.specs.Kinds.{name_text, kinds_text, HasKindWords, IsPricedKind};
+ghost use Rattle.kd_card.specs.Kinds.{kinds_text, HasKindWords, IsKind};
 ghost use Rattle.kd_card.specs.CardFault.{IsNextKind, IsGroupAnswer};
-ghost use Rattle.kd_card.specs.Reading.{words_after_first, EndsKindsAt, IsBadKindAt};
+ghost use Rattle.kd_card.specs.Reading.{words_after_first, EndsKindsAt, IsBadKindAt, IsKindOfWords};
 
 use super::fault::CardFault;
-use super::kinds::PricedKind;
-use super::look::{Look, Name};
+use super::kinds::{Kind, KindOf, comes_after};
 use super::price_text::{is_word, price_of_text, split_first};
 use arrayvec::{ArrayString, ArrayVec};
 use itoa::Buffer;
 use kd_state::{number_of_text, push_number, split_words};
 
-/// Parses a kind's line: its first word is `name`, and `behind` is the text after this word's space.
+/// Parses a kind's line; `behind` is the text after its first word's space.
 #[tactic(auto, using(crate::proofs::Lines::words_in_place))]
-fn kind_behind(name: Name, behind: Option<&[u8]>) -> Option<PricedKind>
-    ensures { let words = name_text name ∷ words_after_first (option_copied behind.entry) in
+fn kind_behind<K: Kind>(behind: Option<&[u8]>) -> Option<K>
+    ensures { let words = K.sort.word ∷ words_after_first (option_copied behind.entry) in
         MatchOption result
-        ((kind : _) → ¬ (HasKindWords name words kind))
-        (λ kind. HasKindWords name words kind) }
+        ((kind : K) → ¬ (HasKindWords K.sort words kind))
+        (IsKindOfWords K.sort words) }
 {
     let words = split_words::<3>(behind?)?;
     match words.as_slice() {
-        [look, count, price] => kind_of_parts(name, look, count, price),
+        [thing, count, price] => kind_of_words(thing, count, price),
         _ => None,
     }
 }
 
-/// Makes a kind of the words of its line, or `None` if a word isn't valid there.
+/// Makes a kind of the words of its line after the first, or `None` if one isn't valid there.
 #[tactic(auto, using(crate::proofs::KindWords::no_count))]
-fn kind_of_parts(name: Name, look: &[u8], count: &[u8], price: &[u8]) -> Option<PricedKind>
-    ensures { let words = name_text name ∷ look.now ∷ count.now ∷ price.now ∷ [] in
+fn kind_of_words<K: Kind>(thing: &[u8], count: &[u8], price: &[u8]) -> Option<K>
+    ensures { let words = K.sort.word ∷ thing.now ∷ count.now ∷ price.now ∷ [] in
         MatchOption result
-        ((kind : _) → ¬ (HasKindWords name words kind))
-        (λ kind. HasKindWords name words kind) }
+        ((kind : K) → ¬ (HasKindWords K.sort words kind))
+        (IsKindOfWords K.sort words) }
 {
-    let look = Look::from_text(name, look)?;
+    let thing = K::thing_of_text(thing)?;
     let count = number_of_text(count)?;
     let price = price_of_text(price)?;
     if count == 0 {
         return None;
     }
-    Some(PricedKind { look, count, price })
+    Some(K::of(KindOf {
+        thing,
+        count,
+        price,
+    }))
 }
 
-/// Reads the next kind of the group of things called `name`, and the text after its line.
+/// Reads the next kind of a group, and the text after its line.
 ///
-/// `None` if `text` is empty or begins with another word: the group ends there. The kind's rank is at least
-/// `floor`, and its line is line `line` of the card.
-fn next_kind(
+/// `None` if `text` is empty or begins with another word: the group ends there. The kind comes after the kind
+/// `last`, and its line is line `line` of the card.
+fn next_kind<K: Kind>(
     text: &[u8],
-    name: Name,
-    floor: usize,
+    last: Option<K>,
     line: usize,
-) -> Result<Option<(PricedKind, &[u8])>, CardFault>
+) -> Result<Option<(K, &[u8])>, CardFault>
     ensures { MatchResult result
         (λ next. MatchOption next
-        (EndsKindsAt name floor text.now)
-        (λ found. IsNextKind name floor text.now found.0 found.1.now))
-        (λ fault. IsBadKindAt name floor text.now × (fault ≡ CardFault.BadLine line)) }
+        (EndsKindsAt K.sort last text.now)
+        (λ found. IsNextKind K.sort last text.now found.0 found.1.now))
+        (λ fault. IsBadKindAt K.sort last text.now × (fault ≡ CardFault.BadLine line)) }
 {
     if text.is_empty() {
         return Ok(None);
     }
     let (first, behind, rest) = split_first(text, line)?;
-    if !is_word(first, name.text()) {
+    if !is_word(first, K::word()) {
         return Ok(None);
     }
-    match kind_behind(name, behind) {
-        Some(kind) if floor <= kind.look.rank() => Ok(Some((kind, rest))),
+    match kind_behind::<K>(behind) {
+        Some(kind) if comes_after(last, &kind) => Ok(Some((kind, rest))),
         _ => Err(CardFault::BadLine(line)),
     }
 }
 
-/// Reads the kinds of `number` things called `name`, and the text after them.
-///
-/// The first of these kinds has line `line` of the card. Kinds that would count more than `number` things are
-/// read and not kept: then the group is refused in any case.
+/// Reads the kinds of `N` things, and the text after them. The first of these kinds has line `line` of the card.
 #[tactic(auto, using(crate::proofs::KindPrices::reads_none))]
-pub(crate) fn read_kinds<'a>(
+pub(crate) fn read_kinds<'a, K: Kind, const N: usize>(
     text: &'a [u8],
-    name: Name,
-    number: usize,
     line: usize,
-) -> Result<(ArrayVec<PricedKind, 27>, &'a [u8]), CardFault>
-    requires few { number ≤ 27 }
+) -> Result<(ArrayVec<K, N>, &'a [u8]), CardFault>
+    requires few { N ≤ 27 }
     requires near { line < 300 }
     ensures { MatchResult result
-        (λ found. IsGroupAnswer name number line text.now (Ok (found.0.items, found.1.now)))
-        (λ fault. IsGroupAnswer name number line text.now (Err fault)) }
+        (λ found. IsGroupAnswer K.sort N line text.now (Ok (found.0.items, found.1.now)))
+        (λ fault. IsGroupAnswer K.sort N line text.now (Err fault)) }
 {
     let mut kinds = ArrayVec::new();
     let mut rest = text;
-    let mut floor = 0;
-    let mut total = 0;
+    let mut last = None;
+    let mut number = 0;
     let mut at = line;
     'kind: loop {
-        let next = match next_kind(rest, name, floor, at) {
-            Ok(next) => next,
+        match next_kind::<K>(rest, last, at) {
+            Ok(Some((kind, after))) => {
+                // All numbers of things above `N` are refused alike, and so are more kinds than `N`.
+                number = (number + usize::from(kind.parts().count)).min(N + 1);
+                push_if_room(&mut kinds, &kind);
+                last = Some(kind);
+                rest = after;
+                at += 1;
+            }
+            Ok(None) => break 'kind,
             Err(fault) => return Err(fault),
-        };
-        let Some((kind, after)) = next else {
-            break 'kind;
-        };
-        floor = kind.look.rank() + 1;
-        total += usize::from(kind.count);
-        if total <= number {
-            kinds.push(kind);
         }
-        rest = after;
-        at += 1;
     }
-    if total == number {
+    if number == N {
         Ok((kinds, rest))
     } else {
         Err(CardFault::PriceMissing)
     }
 }
 
+/// Appends `kind` if there is room for it.
+fn push_if_room<K: Kind, const N: usize>(kinds: &mut ArrayVec<K, N>, kind: &K)
+    ensures { length kinds.old.items < N → kinds.new.items ≡ kinds.old.items ++ kind.now ∷ [] }
+{
+    if !kinds.is_full() {
+        kinds.push(*kind);
+    }
+}
+
 /// Appends a line for each kind.
-pub(crate) fn push_kinds<const N: usize>(text: &mut ArrayString<N>, kinds: &[PricedKind])
+pub(crate) fn push_kinds<K: Kind, const N: usize>(text: &mut ArrayString<N>, kinds: &[K])
     requires room { array_string_len text.old + 26 * length kinds.now ≤ N }
-    requires kinds { All IsPricedKind kinds.now }
-    ensures bytes { text.new.bytes ≡ text.old.bytes ++ kinds_text kinds.now }
+    requires kinds { All (IsKind K.sort) kinds.now }
+    ensures bytes { text.new.bytes ≡ text.old.bytes ++ kinds_text K.sort kinds.now }
     ensures len { array_string_len text.new ≤ array_string_len text.old + 26 * length kinds.now }
 {
     for kind in kinds {
@@ -134,19 +138,20 @@ pub(crate) fn push_kinds<const N: usize>(text: &mut ArrayString<N>, kinds: &[Pri
 }
 
 /// Appends the line of `kind`.
-fn push_kind<const N: usize>(text: &mut ArrayString<N>, kind: &PricedKind)
+fn push_kind<K: Kind, const N: usize>(text: &mut ArrayString<N>, kind: &K)
     requires room { array_string_len text.old + 26 ≤ N }
-    requires kind { IsPricedKind kind.now }
-    ensures bytes { text.new.bytes ≡ text.old.bytes ++ kinds_text (kind.now ∷ []) }
+    requires kind { IsKind K.sort kind.now }
+    ensures bytes { text.new.bytes ≡ text.old.bytes ++ kinds_text K.sort (kind.now ∷ []) }
     ensures len { array_string_len text.new ≤ array_string_len text.old + 26 }
 {
+    let parts = kind.parts();
     let mut buffer = Buffer::new();
-    text.push_str(kind.look.name().text());
+    text.push_str(K::word());
     text.push_str(" ");
-    text.push_str(kind.look.text().as_str());
+    text.push_str(kind.text().as_str());
     text.push_str(" ");
-    push_number(text, kind.count);
+    push_number(text, parts.count);
     text.push_str(" ");
-    text.push_str(buffer.format(kind.price));
+    text.push_str(buffer.format(parts.price));
     text.push_str("\n");
 }

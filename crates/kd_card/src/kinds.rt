@@ -1,14 +1,14 @@
 //! Kinds: what equal cables, pairs, bars or rows have in common, how many there are, and the price of each.
-ghost use Rattle.std.specs.Prelude.{◌≡◌, ◌↔◌, ◌+◌, ◌<◌, ◌≤◌, ◌++◌, length, map, replicate, IsTrue};
+ghost use Rattle.std.specs.Prelude.{◌≡◌, ◌≢◌, ◌↔◌, ℕ, ◌+◌, ◌<◌, ◌≤◌, [], ◌∷◌, ◌++◌, length, replicate};
+ghost use Rattle.std.specs.Prelude.{IsTrue, MatchOption};
 ghost use Rattle.arrayvec.specs.ArrayVec.{array_vec_len};
-ghost use Rattle.kd_card.specs.declared.look.Name.{Name};
-ghost use Rattle.kd_card.specs.declared.look.Name.TheVariants as names;
-ghost use Rattle.kd_card.specs.declared.kinds.PricedKind.{PricedKind};
-ghost use Rattle.kd_card.specs.Kinds.{look_name, look_rank, counted, prices_of_kinds, IsPricedKind};
-ghost use Rattle.kd_card.specs.Kinds.{cable_kind, pair_kind, bar_kind, row_kind, AreKinds, AreCalled};
+ghost use Rattle.kd_state.specs.Machine.{cable_letters};
+ghost use Rattle.kd_card.specs.Kinds.{cable_sort, pair_sort, bar_sort, row_sort, letters_text};
+ghost use Rattle.kd_card.specs.Kinds.{ComesAfter, IsKind, AreKinds, counted, prices_of_kinds};
 
-use super::look::{Look, Name};
-use arrayvec::ArrayVec;
+use super::thing::{Column, Ends, Thing};
+use arrayvec::{ArrayString, ArrayVec};
+use kd_state::push_letter;
 use kd_tables::{Letter, Reading, Standing};
 
 /// Cables with equal letters.
@@ -53,188 +53,368 @@ pub struct RowKind {
     pub price: i16,
 }
 
-/// A kind of any of the four sorts: the common look, the number of things, and the price of each.
+/// Equal things of any sort: what they have in common, their number, and the price of each.
 #[derive(Clone, Copy, Default)]
-pub struct PricedKind {
-    pub look: Look,
+pub struct KindOf<T> {
+    pub thing: T,
     pub count: u8,
     pub price: i16,
 }
 
-/// A kind of one sort: of cables, of pairs, of bars or of rows.
-pub(crate) trait AsKind: Copy + Default {
-    /// The name of things of this sort.
-    ghost name: { Name };
+/// A kind of cables, of pairs, of bars or of rows.
+pub trait Kind: Copy + Default {
+    ghost use Rattle.std.specs.Prelude.{◌≡◌, ◌↔◌, ◌≤◌, length, List, IsTrue, MatchOption};
+    ghost use Rattle.std.specs.declared.cmp.Ordering.TheVariants.{Less};
+    ghost use Rattle.kd_card.specs.Kinds.{Sort, HasText, IsOnlyThing};
 
-    /// The kind, as a kind of any sort.
-    ghost kind: { Self → PricedKind };
+    /// What the things of one kind have in common.
+    type Thing: Thing;
 
-    fn kind(&self) -> PricedKind
-        ensures { result ≡ kind self.now };
+    /// How kinds of this sort are written and ordered.
+    ghost sort: { Sort Self Self.Thing };
 
-    /// Converts a kind of any sort to this sort, which it has to be of.
-    fn own(any: PricedKind) -> Self
-        requires { look_name any.look ≡ name }
-        ensures { kind result ≡ any };
+    /// The first word of a kind's line.
+    fn word() -> &'static str
+        ensures value { result.now ≡ sort.word }
+        ensures few { length result.now ≤ 5 };
+
+    /// Makes a kind of this sort.
+    fn of(kind: KindOf<Self::Thing>) -> Self
+        ensures { sort.kind result ≡ kind };
+
+    /// The things, their number and their price.
+    fn parts(&self) -> KindOf<Self::Thing>
+        ensures { result ≡ sort.kind self.now };
+
+    /// Whether the things are in the form that is written: their letters are in order.
+    fn is_in_form(&self) -> bool
+        ensures { IsTrue result ↔ sort.InForm (sort.kind self.now).thing };
+
+    /// What the things have in common, as it is written.
+    fn text(&self) -> ArrayString<8>
+        ensures { result.bytes ≡ sort.text (sort.kind self.now).thing };
+
+    /// Parses what the things of a kind have in common.
+    fn thing_of_text(text: &[u8]) -> Option<Self::Thing>
+        ensures { MatchOption result
+            ((thing : Self.Thing) → ¬ (HasText sort text.now thing))
+            (IsOnlyThing sort text.now) };
+
+    /// The derived order of things is the order of their lines.
+    ghost ordered: { (x y : Self.Thing) → sort.ComesBefore x y ↔ (Self.Thing.cmp x y ≡ Less) };
 }
 
-impl AsKind for CableKind {
-    ghost name = { names.Cable };
+impl Kind for CableKind {
+    ghost use Rattle.std.specs.Prelude.{Some, None};
+    ghost use Rattle.std.proofs.Common.{arith};
+    ghost use Rattle.std.proofs.lemmas.Bool.Decides.{nat_tests};
 
-    ghost kind = { cable_kind };
+    type Thing = Ends;
 
-    fn kind(&self) -> PricedKind {
-        PricedKind::of(Look::Cable(self.ends), self.count, self.price)
+    ghost sort = { cable_sort };
+
+    fn word() -> &'static str {
+        "CABLE"
     }
 
-    fn own(any: PricedKind) -> Self {
-        let PricedKind { look, count, price } = any;
-        match look {
-            Look::Cable(ends) => CableKind { ends, count, price },
-            _ => unreachable!(),
-        }
-    }
-}
-
-impl AsKind for PairKind {
-    ghost name = { names.Pair };
-
-    ghost kind = { pair_kind };
-
-    fn kind(&self) -> PricedKind {
-        PricedKind::of(Look::Pair(self.pair), self.count, self.price)
-    }
-
-    fn own(any: PricedKind) -> Self {
-        let PricedKind { look, count, price } = any;
-        match look {
-            Look::Pair(pair) => PairKind { pair, count, price },
-            _ => unreachable!(),
-        }
-    }
-}
-
-impl AsKind for BarKind {
-    ghost name = { names.Bar };
-
-    ghost kind = { bar_kind };
-
-    fn kind(&self) -> PricedKind {
-        PricedKind::of(Look::Bar(self.standing), self.count, self.price)
-    }
-
-    fn own(any: PricedKind) -> Self {
-        let PricedKind { look, count, price } = any;
-        match look {
-            Look::Bar(standing) => BarKind {
-                standing,
-                count,
-                price,
-            },
-            _ => unreachable!(),
-        }
-    }
-}
-
-impl AsKind for RowKind {
-    ghost name = { names.Row };
-
-    ghost kind = { row_kind };
-
-    fn kind(&self) -> PricedKind {
-        PricedKind::of(Look::Row(self.reading), self.count, self.price)
-    }
-
-    fn own(any: PricedKind) -> Self {
-        let PricedKind { look, count, price } = any;
-        match look {
-            Look::Row(reading) => RowKind {
-                reading,
-                count,
-                price,
-            },
-            _ => unreachable!(),
-        }
-    }
-}
-
-/// Converts `kinds` to kinds of any sort.
-pub(crate) fn kinds_of<K: AsKind>(kinds: &[K]) -> ArrayVec<PricedKind, 27>
-    requires { length kinds.now ≤ 27 }
-    ensures { result.items ≡ map K.kind kinds.now }
-{
-    let mut all = ArrayVec::new();
-    for kind in kinds {
-        all.push(kind.kind());
-    }
-    all
-}
-
-/// Converts `kinds` to their own sort, which is the same for all.
-pub(crate) fn own_kinds<K: AsKind, const N: usize>(kinds: &[PricedKind]) -> ArrayVec<K, N>
-    requires called { AreCalled K.name kinds.now }
-    requires room { length kinds.now ≤ N }
-    ensures { map K.kind result.items ≡ kinds.now }
-{
-    let mut own = ArrayVec::new();
-    for kind in kinds {
-        own.push(K::own(*kind));
-    }
-    own
-}
-
-impl PricedKind {
-    /// Makes a kind of `count` things with this look, each with this price.
-    fn of(look: Look, count: u8, price: i16) -> Self
-        ensures { result ≡ record { look = look; count = count; price = price } }
+    fn of(kind: KindOf<Ends>) -> Self
+        ensures { cable_sort.kind result ≡ kind }
     {
-        PricedKind { look, count, price }
+        CableKind {
+            ends: kind.thing.letters(),
+            count: kind.count,
+            price: kind.price,
+        }
     }
 
-    /// Whether this kind is valid after kinds of ranks below `floor`.
-    fn may_follow(&self, floor: usize) -> bool
-        ensures { IsTrue result ↔ (IsPricedKind self.now × (floor ≤ look_rank self.now.look)) }
+    fn parts(&self) -> KindOf<Ends>
+        ensures { result ≡ cable_sort.kind self.now }
     {
-        self.look.is_in_form()
-            && self.count > 0
-            && self.price.unsigned_abs() <= 9999
-            && floor <= self.look.rank()
+        KindOf {
+            thing: Ends::new(self.ends),
+            count: self.count,
+            price: self.price,
+        }
+    }
+
+    fn is_in_form(&self) -> bool {
+        match self.ends {
+            (None, None) => true,
+            (Some(letter), None) => letter.index() < 26,
+            (None, Some(_)) => false,
+            (Some(one), Some(other)) => is_before(one, other),
+        }
+    }
+
+    fn text(&self) -> ArrayString<8> {
+        text_of_letters(self.ends.0, self.ends.1)
+    }
+
+    #[tactic(auto, using(crate::proofs::KindWords::one_cable))]
+    fn thing_of_text(text: &[u8]) -> Option<Ends> {
+        match text {
+            [b'-'] => Some(Ends::new((None, None))),
+            [letter] => Some(Ends::new((Some(Letter::from_byte(*letter)?), None))),
+            _ => {
+                let (one, other) = two_letters(text)?;
+                Some(Ends::new((Some(one), Some(other))))
+            }
+        }
+    }
+
+    ghost ordered = { λ x y. let (a, b) = x in let (c, d) = y in elim (a) [
+      | Some e ↦ elim (b) [ Some f ↦ Prim.grind (arith, nat_tests) | None ↦ Prim.grind (arith, nat_tests) ]
+      | None ↦ elim (b) [ Some f ↦ Prim.grind (arith, nat_tests) | None ↦ Prim.grind (arith, nat_tests) ]
+    ] };
+}
+
+impl Kind for PairKind {
+    ghost use Rattle.std.specs.Prelude.{Some, None};
+    ghost use Rattle.std.proofs.Common.{arith};
+    ghost use Rattle.std.proofs.lemmas.Bool.Decides.{nat_tests};
+
+    type Thing = Column;
+
+    ghost sort = { pair_sort };
+
+    fn word() -> &'static str {
+        "PAIR"
+    }
+
+    fn of(kind: KindOf<Column>) -> Self
+        ensures { pair_sort.kind result ≡ kind }
+    {
+        PairKind {
+            pair: kind.thing.pair(),
+            count: kind.count,
+            price: kind.price,
+        }
+    }
+
+    fn parts(&self) -> KindOf<Column>
+        ensures { result ≡ pair_sort.kind self.now }
+    {
+        KindOf {
+            thing: Column::new(self.pair),
+            count: self.count,
+            price: self.price,
+        }
+    }
+
+    fn is_in_form(&self) -> bool {
+        match self.pair {
+            None => true,
+            Some((one, other)) => is_before(one, other),
+        }
+    }
+
+    fn text(&self) -> ArrayString<8> {
+        match self.pair {
+            None => text_of_letters(None, None),
+            Some((one, other)) => text_of_letters(Some(one), Some(other)),
+        }
+    }
+
+    #[tactic(auto, using(crate::proofs::KindWords::one_pair))]
+    fn thing_of_text(text: &[u8]) -> Option<Column> {
+        match text {
+            [b'-'] => Some(Column::new(None)),
+            _ => Some(Column::new(Some(two_letters(text)?))),
+        }
+    }
+
+    ghost ordered = { elim [
+      | Some p ↦ elim [ Some q ↦ Prim.grind (arith, nat_tests) | None ↦ Prim.grind arith ]
+      | None ↦ elim [ Some q ↦ Prim.grind arith | None ↦ Prim.grind arith ]
+    ] };
+}
+
+impl Kind for BarKind {
+    ghost use Rattle.kd_card.specs.Order.{standings_ordered};
+
+    type Thing = Standing;
+
+    ghost sort = { bar_sort };
+
+    fn word() -> &'static str {
+        "BAR"
+    }
+
+    fn of(kind: KindOf<Standing>) -> Self
+        ensures { bar_sort.kind result ≡ kind }
+    {
+        BarKind {
+            standing: kind.thing,
+            count: kind.count,
+            price: kind.price,
+        }
+    }
+
+    fn parts(&self) -> KindOf<Standing>
+        ensures { result ≡ bar_sort.kind self.now }
+    {
+        KindOf {
+            thing: self.standing,
+            count: self.count,
+            price: self.price,
+        }
+    }
+
+    fn is_in_form(&self) -> bool {
+        self.standing.left() < self.standing.right()
+    }
+
+    fn text(&self) -> ArrayString<8> {
+        self.standing.text()
+    }
+
+    #[tactic(auto, using(crate::proofs::KindWords::one_standing))]
+    fn thing_of_text(text: &[u8]) -> Option<Standing> {
+        Standing::from_text(text)
+    }
+
+    ghost ordered = { standings_ordered };
+}
+
+impl Kind for RowKind {
+    ghost use Rattle.std.proofs.Common.{arith};
+    ghost use Rattle.std.proofs.lemmas.Bool.Decides.{nat_tests};
+
+    type Thing = Reading;
+
+    ghost sort = { row_sort };
+
+    fn word() -> &'static str {
+        "ROW"
+    }
+
+    fn of(kind: KindOf<Reading>) -> Self
+        ensures { row_sort.kind result ≡ kind }
+    {
+        RowKind {
+            reading: kind.thing,
+            count: kind.count,
+            price: kind.price,
+        }
+    }
+
+    fn parts(&self) -> KindOf<Reading>
+        ensures { result ≡ row_sort.kind self.now }
+    {
+        KindOf {
+            thing: self.reading,
+            count: self.count,
+            price: self.price,
+        }
+    }
+
+    fn is_in_form(&self) -> bool {
+        self.reading.numbers().1 <= 6
+    }
+
+    fn text(&self) -> ArrayString<8> {
+        self.reading.text()
+    }
+
+    #[tactic(auto, using(crate::proofs::KindWords::one_reading))]
+    fn thing_of_text(text: &[u8]) -> Option<Reading> {
+        Reading::from_text(text)
+    }
+
+    ghost ordered = { λ x y. Prim.grind (arith, nat_tests) };
+}
+
+/// Whether `one` comes before `other` in the alphabet.
+fn is_before(one: Letter, other: Letter) -> bool
+    ensures { IsTrue result ↔ ((one < other) × (other < 26)) }
+{
+    one.index() < other.index()
+}
+
+/// Writes one letter or two, or `-` for none.
+fn text_of_letters(one: Option<Letter>, other: Option<Letter>) -> ArrayString<8>
+    ensures { result.bytes ≡ letters_text (cable_letters (one, other)) }
+{
+    let mut text = ArrayString::new();
+    match (one, other) {
+        (None, None) => text.push_str("-"),
+        (Some(letter), None) => push_letter(&mut text, letter),
+        (None, Some(letter)) => push_letter(&mut text, letter),
+        (Some(one), Some(other)) => {
+            push_letter(&mut text, one);
+            push_letter(&mut text, other);
+        }
+    }
+    text
+}
+
+/// Parses two different capital letters in alphabetical order.
+fn two_letters(text: &[u8]) -> Option<(Letter, Letter)>
+    ensures { MatchOption result
+        ((one other : ℕ) → one < other → other < 26 → letters_text (one ∷ other ∷ []) ≢ text.now)
+        (λ letters. (letters.0 < letters.1) × (letters.1 < 26)
+        × (letters_text (letters.0 ∷ letters.1 ∷ []) ≡ text.now)) }
+{
+    match text {
+        [one, other] => {
+            let one = Letter::from_byte(*one)?;
+            let other = Letter::from_byte(*other)?;
+            is_before(one, other).then_some((one, other))
+        }
+        _ => None,
     }
 }
 
-/// Whether `kinds` are valid, in the order of their ranks from `floor` on, and count `number` things.
-pub(crate) fn are_kinds<K: AsKind>(kinds: &[K], floor: usize, number: usize) -> bool
-    ensures value { let all = map K.kind kinds.now in
-        IsTrue result ↔ (AreKinds floor all × (counted all ≡ number)) }
+/// Whether `kind` comes after the kind `last`, if there is one.
+pub(crate) fn comes_after<K: Kind>(last: Option<K>, kind: &K) -> bool
+    ensures { IsTrue result ↔ ComesAfter K.sort last kind.now }
+{
+    match last {
+        Some(last) => last.parts().thing < kind.parts().thing,
+        None => true,
+    }
+}
+
+/// Whether a kind is valid: in form, with at least one thing, and with a price from -9999 to 9999.
+fn is_kind<K: Kind>(kind: &K) -> bool
+    ensures { IsTrue result ↔ IsKind K.sort kind.now }
+{
+    let parts = kind.parts();
+    kind.is_in_form() && parts.count > 0 && parts.price.unsigned_abs() <= 9999
+}
+
+/// Whether `kinds` are valid, in order after the kind `last`, and count `number` things.
+pub(crate) fn are_kinds<K: Kind>(kinds: &[K], last: Option<K>, number: usize) -> bool
+    ensures value { IsTrue result
+        ↔ (AreKinds K.sort last kinds.now × (counted K.sort kinds.now ≡ number)) }
     ensures few { IsTrue result → length kinds.now ≤ number }
 {
     match kinds {
         [] => number == 0,
-        [first, rest @ ..] => {
-            let kind = first.kind();
-            let count = usize::from(kind.count);
-            kind.may_follow(floor)
+        [kind, rest @ ..] => {
+            let count = usize::from(kind.parts().count);
+            is_kind(kind)
+                && comes_after(last, kind)
                 && count <= number
-                && are_kinds(rest, kind.look.rank() + 1, number - count)
+                && are_kinds(rest, Some(*kind), number - count)
         }
     }
 }
 
 /// The price of each thing that `kinds` count, kind after kind.
-#[tactic(auto, using(crate::proofs::KindPrices::counted_within, crate::proofs::KindPrices::length_of_kinds))]
-pub(crate) fn prices_of_kinds(kinds: &[PricedKind]) -> ArrayVec<i16, 27>
-    requires { counted kinds.now ≤ 27 }
-    ensures { result.items ≡ prices_of_kinds kinds.now }
+pub(crate) fn prices_of_kinds<K: Kind>(kinds: &[K]) -> ArrayVec<i16, 27>
+    requires { length (prices_of_kinds K.sort kinds.now) ≤ 27 }
+    ensures { result.items ≡ prices_of_kinds K.sort kinds.now }
 {
     let mut prices = ArrayVec::new();
     for kind in kinds {
-        push_prices(&mut prices, kind);
+        push_prices(&mut prices, &kind.parts());
     }
     prices
 }
 
 /// Appends the price of `kind` once for each of its things.
-fn push_prices(prices: &mut ArrayVec<i16, 27>, kind: &PricedKind)
+fn push_prices<T: Thing>(prices: &mut ArrayVec<i16, 27>, kind: &KindOf<T>)
     requires { array_vec_len prices.old + kind.now.count ≤ 27 }
     ensures { prices.new.items ≡ prices.old.items ++ replicate kind.now.count kind.now.price }
 {

@@ -1,5 +1,5 @@
 //! Laws on cards: their texts, the bound that prices give, and cards that prove themselves.
-ghost use Rattle.kd_card.specs.Laws.{RanksTellLooks, TextsTellCards, NoCardBeginsAnother, CardsAreSaid};
+ghost use Rattle.kd_card.specs.Laws.{TextsTellCards, NoCardBeginsAnother, CardsAreSaid};
 ghost use Rattle.kd_card.specs.Laws.{CardsHaveNoFault, OneCardFault, LooseThingsAreCounted, AsFewAreNeeded};
 ghost use Rattle.kd_card.specs.Laws.{FittingPricesBoundLists};
 ghost use Rattle.kd_card.specs.Months.{CardsAreFewestInAll};
@@ -28,14 +28,6 @@ pub fn loose_things_are_counted()
 #[tactic(auto, using(crate::proofs::Shortest::fitting_prices_bound_lists))]
 pub fn fitting_prices_bound_lists()
     ensures { FittingPricesBoundLists }
-{}
-
-/// Looks in valid form with the same name and the same rank are equal.
-///
-/// A look is what equal cables, pairs, bars or rows have in common: their letters, their standing or their reading.
-#[tactic(auto, using(crate::proofs::KindWords::ranks_tell_looks))]
-pub fn ranks_tell_looks()
-    ensures { RanksTellLooks }
 {}
 
 /// If a list that reaches the day has no more unpriced settings than loose things, each setting is needed.

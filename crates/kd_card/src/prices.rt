@@ -1,19 +1,15 @@
 //! The prices of a card, by number or by kind.
-ghost use Rattle.std.specs.Prelude.{◌≡◌, ◌↔◌, ◌+◌, ◌*◌, ◌<◌, ◌≤◌, length, map, fold, unsigned_abs, ◌+ℤ◌};
+ghost use Rattle.std.specs.Prelude.{◌≡◌, ◌↔◌, ◌+◌, ◌*◌, ◌≤◌, ◌++◌, length, fold, pos, unsigned_abs, ◌+ℤ◌};
 ghost use Rattle.std.specs.Prelude.{IsTrue, MatchOption};
-ghost use Rattle.kd_card.specs.Prices.{price_sum, version_of, row_kinds, column_kinds};
-ghost use Rattle.kd_card.specs.Prices.{row_prices, column_prices};
-ghost use Rattle.kd_card.specs.Kinds.{counted, AreKinds};
+ghost use Rattle.kd_card.specs.Prices.{price_sum, version_of};
+ghost use Rattle.kd_card.specs.Kinds.{prices_of_kinds as kind_prices};
 ghost use Rattle.kd_card.specs.CardFault.{parts_by_number};
 ghost use Rattle.kd_card.specs.Reading.{head_prefix};
 ghost use Rattle.kd_card.specs.Prices.{ArePricesInRange, ArePrices};
-ghost use Rattle.kd_card.specs.CardText.{row_name, column_name, price_count, price_lines, group_of, IsGroup, HaveKinds};
+ghost use Rattle.kd_card.specs.CardText.{price_count, price_lines, IsGroup};
 
 use super::group::Group;
-use super::kinds::{
-    AsKind, BarKind, CableKind, PairKind, PricedKind, RowKind, are_kinds, kinds_of, own_kinds,
-    prices_of_kinds,
-};
+use super::kinds::{BarKind, CableKind, Kind, PairKind, RowKind, are_kinds, prices_of_kinds};
 use arrayvec::ArrayVec;
 use std::marker::Model;
 
@@ -132,7 +128,7 @@ impl Prices {
     }
 
     /// Makes prices by number of the rows and columns of `group`.
-    pub fn numbered(group: Group, rows: &[i16], columns: &[i16]) -> Self
+    pub(crate) fn numbered(group: Group, rows: &[i16], columns: &[i16]) -> Self
         requires rows { length rows.now ≡ price_count group }
         requires columns { length columns.now ≡ price_count group }
         requires row_reach { ArePricesInRange rows.now }
@@ -145,34 +141,6 @@ impl Prices {
                 Prices::of_parts(PriceParts::Cables(array_of(rows), array_of(columns)))
             }
             Group::OfBars => Prices::of_parts(PriceParts::Bars(array_of(rows), array_of(columns))),
-        }
-    }
-
-    /// Makes prices by kind of the rows and columns of `group`.
-    #[tactic(auto, using(crate::proofs::KindPrices::group_fits))]
-    pub fn of_groups(group: Group, rows: &[PricedKind], columns: &[PricedKind]) -> Self
-        requires rows { IsGroup (row_name group) (price_count group) rows.now }
-        requires columns { IsGroup (column_name group) (price_count group) columns.now }
-        ensures kinds { HaveKinds group rows.now columns.now result }
-        ensures are_prices { ArePrices result }
-    {
-        match group {
-            Group::OfCables => {
-                Prices::of_parts(PriceParts::CableKinds(own_kinds(rows), own_kinds(columns)))
-            }
-            Group::OfBars => {
-                Prices::of_parts(PriceParts::BarKinds(own_kinds(rows), own_kinds(columns)))
-            }
-        }
-    }
-
-    /// What the prices belong to.
-    pub fn group(&self) -> Group
-        ensures { result ≡ group_of self.now }
-    {
-        match self.parts {
-            PriceParts::Cables(..) | PriceParts::CableKinds(..) => Group::OfCables,
-            PriceParts::Bars(..) | PriceParts::BarKinds(..) => Group::OfBars,
         }
     }
 
@@ -192,9 +160,10 @@ impl Prices {
         ensures value { result ≡ length (price_lines self.now) }
         ensures few { result ≤ 54 }
     {
-        match self.version() {
-            Version::ByNumber => 2,
-            Version::ByKind => self.row_kinds().len() + self.column_kinds().len(),
+        match &self.parts {
+            PriceParts::Cables(..) | PriceParts::Bars(..) => 2,
+            PriceParts::CableKinds(cables, pairs) => cables.len() + pairs.len(),
+            PriceParts::BarKinds(bars, rows) => bars.len() + rows.len(),
         }
     }
 
@@ -223,63 +192,47 @@ impl Prices {
         }
     }
 
-    /// The kinds of the cables or bars; empty if the prices are by number.
-    pub fn row_kinds(&self) -> ArrayVec<PricedKind, 27>
-        ensures { result.items ≡ row_kinds self.now }
-    {
-        match &self.parts {
-            PriceParts::Cables(..) | PriceParts::Bars(..) => ArrayVec::new(),
-            PriceParts::CableKinds(cables, _) => kinds_of(cables.as_slice()),
-            PriceParts::BarKinds(bars, _) => kinds_of(bars.as_slice()),
-        }
-    }
-
-    /// The kinds of the pairs and nothings, or of the sheet's rows; empty if the prices are by number.
-    pub fn column_kinds(&self) -> ArrayVec<PricedKind, 27>
-        ensures { result.items ≡ column_kinds self.now }
-    {
-        match &self.parts {
-            PriceParts::Cables(..) | PriceParts::Bars(..) => ArrayVec::new(),
-            PriceParts::CableKinds(_, pairs) => kinds_of(pairs.as_slice()),
-            PriceParts::BarKinds(_, rows) => kinds_of(rows.as_slice()),
-        }
-    }
-
-    /// The price of each cable or bar. If the prices are by kind, those of one kind come together.
-    #[tactic(auto, using(crate::proofs::Lines::few_prices, crate::proofs::KindPrices::are_prices, crate::proofs::KindPrices::prices_of))]
-    pub fn row_prices(&self) -> ArrayVec<i16, 27>
-        ensures value { result.items ≡ row_prices self.now }
-        ensures are_prices { ArePrices self.now }
-    {
-        match &self.parts {
-            PriceParts::Cables(cables, _) => copy_list(cables),
-            PriceParts::Bars(bars, _) => copy_list(bars),
-            _ => prices_of_kinds(self.row_kinds().as_slice()),
-        }
-    }
-
-    /// The price of each pair and nothing, or of each row. If they are by kind, those of one kind come
-    /// together.
-    #[tactic(auto, using(crate::proofs::Lines::few_prices, crate::proofs::KindPrices::are_prices, crate::proofs::KindPrices::prices_of))]
-    pub fn column_prices(&self) -> ArrayVec<i16, 27>
-        ensures value { result.items ≡ column_prices self.now }
-        ensures are_prices { ArePrices self.now }
-    {
-        match &self.parts {
-            PriceParts::Cables(_, pairs) => copy_list(pairs),
-            PriceParts::Bars(_, rows) => copy_list(rows),
-            _ => prices_of_kinds(self.column_kinds().as_slice()),
-        }
-    }
-
     /// The sum of the prices of all rows and columns.
     #[tactic(auto, using(crate::proofs::Lines::few_prices))]
     pub fn sum(&self) -> i32
         ensures { result ≡ price_sum self.now }
     {
-        let rows = sum_onto(0, self.row_prices().as_slice());
-        sum_onto(rows, self.column_prices().as_slice())
+        match &self.parts {
+            PriceParts::Cables(cables, pairs) => sum_of_prices(cables, pairs),
+            PriceParts::Bars(bars, rows) => sum_of_prices(bars, rows),
+            PriceParts::CableKinds(cables, pairs) => sum_of_kinds(
+                cables.as_slice(),
+                pairs.as_slice(),
+            ),
+            PriceParts::BarKinds(bars, rows) => sum_of_kinds(bars.as_slice(), rows.as_slice()),
+        }
     }
+}
+
+/// The sum of the prices of all things that the kinds count.
+fn sum_of_kinds<R: Kind, C: Kind>(rows: &[R], columns: &[C]) -> i32
+    requires rows { ArePricesInRange (kind_prices R.sort rows.now) }
+    requires columns { ArePricesInRange (kind_prices C.sort columns.now) }
+    requires few_rows { length (kind_prices R.sort rows.now) ≤ 27 }
+    requires few_columns { length (kind_prices C.sort columns.now) ≤ 27 }
+    ensures { let prices = kind_prices R.sort rows.now ++ kind_prices C.sort columns.now in
+        result ≡ fold (λ sum price. sum +ℤ price) (pos 0) prices }
+{
+    sum_of_prices(
+        prices_of_kinds(rows).as_slice(),
+        prices_of_kinds(columns).as_slice(),
+    )
+}
+
+/// The sum of the prices of rows and of columns.
+pub fn sum_of_prices(rows: &[i16], columns: &[i16]) -> i32
+    requires rows { ArePricesInRange rows.now }
+    requires columns { ArePricesInRange columns.now }
+    requires few_rows { length rows.now ≤ 27 }
+    requires few_columns { length columns.now ≤ 27 }
+    ensures { result ≡ fold (λ sum price. sum +ℤ price) (pos 0) (rows.now ++ columns.now) }
+{
+    sum_onto(sum_onto(0, rows), columns)
 }
 
 /// Whether all of `prices` are from -9999 to 9999.
@@ -313,13 +266,12 @@ fn array_of<const N: usize>(prices: &[i16]) -> [i16; N]
 }
 
 /// Copies `kinds`, or `None` if they are invalid or don't count `N` things.
-fn in_order<K: AsKind, const N: usize>(kinds: &[K]) -> Option<ArrayVec<K, N>>
-    ensures { let all = map K.kind kinds.now in
-        MatchOption result
-        (¬ (AreKinds 0 all × (counted all ≡ N)))
-        (λ own. (own.items ≡ kinds.now) × AreKinds 0 all × (counted all ≡ N)) }
+fn in_order<K: Kind, const N: usize>(kinds: &[K]) -> Option<ArrayVec<K, N>>
+    ensures { MatchOption result
+        (¬ (IsGroup K.sort N kinds.now))
+        (λ copied. (copied.items ≡ kinds.now) × IsGroup K.sort N kinds.now) }
 {
-    if are_kinds(kinds, 0, N) {
+    if are_kinds(kinds, None, N) {
         Some(copy_list(kinds))
     } else {
         None

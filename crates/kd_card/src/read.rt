@@ -3,14 +3,16 @@ ghost use Rattle.std.specs.Prelude.{◌≡◌, ◌≢◌, ℕ, ◌<◌, ◌≤�
 ghost use Rattle.kd_state.specs.Words.{IsWithout};
 ghost use Rattle.kd_card.specs.CardText.{IsCard};
 ghost use Rattle.kd_card.specs.CardFault.{BeginsWithHead, IsValueAnswer, IsCountAnswer, IsPriceLineAnswer};
-ghost use Rattle.kd_card.specs.CardFault.{IsByNumberPricesAnswer, IsByKindPricesAnswer, IsAllPricesAnswer, IsSumAnswer};
-ghost use Rattle.kd_card.specs.CardFault.{IsCardFault};
+ghost use Rattle.kd_card.specs.CardFault.{IsByNumberPricesAnswer, IsGroupsAnswer, IsByKindPricesAnswer};
+ghost use Rattle.kd_card.specs.CardFault.{IsAllPricesAnswer, IsSumAnswer, IsCardFault};
 
 use super::card::Card;
 use super::fault::CardFault;
+use super::group::Group;
 use super::kind_text::read_kinds;
+use super::kinds::Kind;
 use super::price_text::{first_group, is_numeral, is_word, prices_behind, split_first};
-use super::prices::{Prices, Version};
+use super::prices::{PriceParts, Prices, Version};
 use arrayvec::ArrayVec;
 use itoa::Buffer;
 use kd_state::{day_of_text, split_once, split_settings};
@@ -150,14 +152,36 @@ fn read_kinded(text: &[u8], line: usize) -> Result<(Prices, &[u8]), CardFault>
         (λ found. IsByKindPricesAnswer line text.now (Ok (found.0, found.1.now)))
         (λ fault. IsByKindPricesAnswer line text.now (Err fault)) }
 {
-    let group = first_group(text, Version::ByKind, line)?.0;
-    let number = group.number();
-    let (rows, rest) = read_kinds(text, group.row_name(), number, line)?;
-    let (columns, rest) = read_kinds(rest, group.column_name(), number, line + rows.len())?;
-    Ok((
-        Prices::of_groups(group, rows.as_slice(), columns.as_slice()),
-        rest,
-    ))
+    match first_group(text, Version::ByKind, line)?.0 {
+        Group::OfCables => {
+            let (cables, pairs, rest) = read_groups(text, line)?;
+            Ok((
+                Prices::of_parts(PriceParts::CableKinds(cables, pairs)),
+                rest,
+            ))
+        }
+        Group::OfBars => {
+            let (bars, rows, rest) = read_groups(text, line)?;
+            Ok((Prices::of_parts(PriceParts::BarKinds(bars, rows)), rest))
+        }
+    }
+}
+
+/// Reads the kinds of `N` rows and then of `N` columns, from line `line` on. Returns them, and the text after them.
+fn read_groups<'a, R: Kind, C: Kind, const N: usize>(
+    text: &'a [u8],
+    line: usize,
+) -> Result<(ArrayVec<R, N>, ArrayVec<C, N>, &'a [u8]), CardFault>
+    requires few { N ≤ 27 }
+    requires near { line < 200 }
+    ensures { let says = IsGroupsAnswer R.sort C.sort N line text.now in
+        MatchResult result
+        (λ found. says (Ok (found.0.items, found.1.items, found.2.now)))
+        (λ fault. says (Err fault)) }
+{
+    let (rows, rest) = read_kinds::<R, N>(text, line)?;
+    let (columns, rest) = read_kinds::<C, N>(rest, line + rows.len())?;
+    Ok((rows, columns, rest))
 }
 
 /// Reads line `line`, which has `word` and `number` prices. Returns these, and the text after the line.

@@ -111,9 +111,13 @@ fn push_prices<const N: usize>(text: &mut ArrayString<N>, prices: &Prices)
             push_price_line(text, "BARS", &bars);
             push_price_line(text, "ROWS", &rows);
         }
-        PriceParts::CableKinds(..) | PriceParts::BarKinds(..) => {
-            push_kinds(text, prices.row_kinds().as_slice());
-            push_kinds(text, prices.column_kinds().as_slice());
+        PriceParts::CableKinds(cables, pairs) => {
+            push_kinds(text, cables.as_slice());
+            push_kinds(text, pairs.as_slice());
+        }
+        PriceParts::BarKinds(bars, rows) => {
+            push_kinds(text, bars.as_slice());
+            push_kinds(text, rows.as_slice());
         }
     }
 }

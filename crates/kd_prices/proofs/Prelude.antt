@@ -12,31 +12,27 @@ pub use Rattle.std.proofs.lemmas.Int.{ints, to_z-of_z, to_z_pos}
 pub use Rattle.std.proofs.lemmas.List.{append-nil, drop_all, drop_more, ext_get_or, get_or-map, get_or-set_other}
 pub use Rattle.std.proofs.lemmas.List.{get_or-set_same, get_or_default, length-map, length-set, length-take}
 pub use Rattle.std.proofs.lemmas.List.{take-append-drop, take_all}
-pub use Rattle.std.proofs.lemmas.List.Elements.{All-cons, All-contains_itself, All-from_get_or, All-from_recursion}
-pub use Rattle.std.proofs.lemmas.List.Elements.{All-get_or, All-head, All-map, All-more, All-nil, All-push, All-same}
-pub use Rattle.std.proofs.lemmas.List.Elements.{All-tail, All-weaker, recursion_from_All}
+pub use Rattle.std.proofs.lemmas.List.Elements.{All-cons, All-contains, All-contains_itself, All-from_get_or}
+pub use Rattle.std.proofs.lemmas.List.Elements.{All-from_recursion, All-get_or, All-head, All-map, All-more, All-nil}
+pub use Rattle.std.proofs.lemmas.List.Elements.{All-push, All-same, All-tail, All-weaker, recursion_from_All}
 pub use Rattle.std.proofs.lemmas.Option.{slice_get-get_or, slice_get_past, unwrap_or-slice_get}
 pub use Rattle.std.specs.{List.{All, AllByRecursion}, Prelude.{drop, map, take, ◌↔◌, Err, IfErr, IsOk, Ok, Result}}
-pub use Rattle.kd_card.proofs.{KindPrices.{counted-append, few_kinds, size_of}, KindWords.{low_rank, ranks_tell_looks}}
-pub use Rattle.kd_card.specs.CardFault.{floor_behind}
-pub use Rattle.kd_card.specs.CardText.{column_name, group_of, price_count, row_name}
-pub use Rattle.kd_card.specs.Kinds.{AreCalled, AreEnds, AreKinds, IsInForm, IsPricedKind, counted, look_name, look_rank}
+pub use Rattle.kd_card.specs.Kinds.{AreEnds, AreKinds, AreKindsOf, ComesAfter, IsKind, IsPairInOrder, Sort, bar_sort}
+pub use Rattle.kd_card.specs.Kinds.{cable_sort, expansion, pair_sort, row_sort}
 pub use Rattle.kd_card.proofs.Shortest.{no_rotors, proving_cards_are_shortest, proving_prices_are_tight}
-pub use Rattle.kd_card.specs.Prices.{ArePrices, ArePricesTight, ArePricesInRange, PricesFit, column_kinds}
-pub use Rattle.kd_card.specs.Prices.{column_prices, cost_at, table_rows, price_at, price_sum, row_kinds, row_prices}
-pub use Rattle.kd_card.specs.Prices.{version_of}
-pub use Rattle.kd_card.specs.Proving.{AreExpanded, AreSettingsNeeded, AreModelPrices, Expanded, Expands, HasCount}
-pub use Rattle.kd_card.specs.Proving.{HasPrice, IsSettingNeeded, IsPriced, Proves, Same, alike_count, column_looks}
-pub use Rattle.kd_card.specs.Proving.{group_of_machine, look_at, pair_in_order, priced_count, row_looks}
-pub use Rattle.kd_card.specs.declared.{group.Group.{Group, TheVariants.{OfBars, OfCables}}, kinds.PricedKind.PricedKind}
-pub use Rattle.kd_card.specs.declared.look.Look.{Look, TheVariants.{Bar, Cable, Pair, Row}}
+pub use Rattle.kd_card.specs.Prices.{ArePrices, ArePricesTight, ArePricesInRange, PricesFit, column_prices, cost_at}
+pub use Rattle.kd_card.specs.Prices.{table_rows, price_at, price_sum, row_prices, version_of}
+pub use Rattle.kd_card.specs.Proving.{AreExpanded, AreSettingsNeeded, AreModelPrices, Expanded, Expands}
+pub use Rattle.kd_card.specs.Proving.{IsSettingNeeded, Proves, Same, columns_in_order, pair_in_order, priced_count}
+pub use Rattle.kd_card.specs.declared.kinds.KindOf.{KindOf}
 pub use Rattle.kd_card.specs.declared.prices.PriceParts.{PriceParts, TheVariants.{BarKinds, Bars, CableKinds, Cables}}
 pub use Rattle.kd_card.specs.declared.prices.Version.TheVariants.{ByKind, ByNumber}
 pub use Rattle.{kd_enigma.specs.Plugs.{NoLetterTwice, letters_in_pairs}, kd_prices.specs.Alike.{ReadAlike, StandAlike}}
 pub use Rattle.kd_prices.specs.Doubt.{AreNumbered, AreOfOneModel, IsFirstNeedless, IsFirstTooHigh, IsFirstWithout}
 pub use Rattle.kd_prices.specs.Fitting.{ListsFitAt, FitsAtColumn}
-pub use Rattle.kd_prices.specs.KindCards.{AreAlikePriced, AreByKind, AreKindsOf, AreOfGroup, AreThings, AreWithPrices}
-pub use Rattle.kd_prices.specs.KindCards.{CanBeByKind, IsKindAt, IsLowest}
+pub use Rattle.kd_prices.specs.KindCards.{AreByKind, CanBeByKind, IsByKind}
+pub use Rattle.kd_prices.specs.Grouping.{AreGroupsOf, AreInOrder, AreRunsOf, ArePricesOf, Ascend}
+pub use Rattle.kd_prices.specs.Grouping.{HaveOnePriceEach, IsPriceOf}
 pub use Rattle.kd_prices.specs.Laws.{AlikePricesAreEqual, AreEqualWhereAlike, RestIsShortest}
 pub use Rattle.kd_prices.specs.declared.doubt.Doubt.TheVariants.{IllegalAt, NeedlessLine, NotTheSheet, OtherModel}
 pub use Rattle.kd_prices.specs.declared.doubt.Doubt.TheVariants.{PriceMissing, PriceTooHigh, SumDiffers}

@@ -1,6 +1,6 @@
 -- Why a card doesn't prove itself: the first doubt, in a fixed order. Settings, rows and columns are counted
 -- from 1.
-use Rattle.std.specs.Prelude.{◌≡◌, ◌⊎◌, ℕ, ◌+◌, ◌<◌, List, ◌∷◌, ◌++◌, length, pos, Ok, Err}
+use Rattle.std.specs.Prelude.{◌≡◌, ◌⊎◌, ℕ, ◌+◌, ◌<◌, List, ◌∷◌, ◌++◌, length, ℤ, pos, Ok, Err}
 use Rattle.kd_state.specs.declared.machine.parts.Parts.{Parts}
 use Rattle.kd_state.specs.declared.setting.Setting.{Setting}
 use Rattle.kd_state.specs.Machine.{model_of}
@@ -8,20 +8,28 @@ use Rattle.kd_state.specs.Setting.{IsFirstIllegal, Leads}
 use Rattle.kd_state.specs.SheetDay.{Day, day_model}
 use Rattle.kd_state.specs.OnKey.{ReadsAs}
 use Rattle.kd_state.specs.Costs.{cost_table}
+use Rattle.kd_state.specs.declared.machine.parts.Parts.TheVariants.{Rotor, Pin}
 use Rattle.kd_card.specs.declared.prices.PriceParts.{PriceParts}
+use Rattle.kd_card.specs.declared.prices.PriceParts.TheVariants.{Cables, Bars, CableKinds, BarKinds}
 use Rattle.kd_state.specs.FirstFaults.{AnswerRule, ◌>>=◌, Finds, Demands}
-use Rattle.kd_card.specs.Prices.{PricesFit, PricesFitAt, table_rows, price_sum}
-use Rattle.kd_card.specs.CardText.{group_of}
-use Rattle.kd_card.specs.Proving.{AreModelPrices, Expands, group_of_machine, IsSettingNeeded, AreSettingsNeeded}
-use Rattle.kd_card.specs.Proving.{priced_count}
+use Rattle.kd_card.specs.Prices.{PricesFit, PricesFitAt, table_rows, price_sum, row_prices, column_prices}
+use Rattle.kd_card.specs.Proving.{AreModelPrices, Expands, IsSettingNeeded, AreSettingsNeeded, priced_count}
 use Rattle.kd_prices.specs.declared.doubt.Doubt.{Doubt}
 use Rattle.kd_prices.specs.declared.doubt.Doubt.TheVariants.{OtherModel, PriceMissing, IllegalAt, NotTheSheet}
 use Rattle.kd_prices.specs.declared.doubt.Doubt.TheVariants.{PriceTooHigh, SumDiffers, NeedlessLine}
 
+-- The prices belong to the machine's model: cables of a rotor machine, or bars of a Converter M-209.
+abbrev pub BelongTo : Parts → PriceParts → Type 0
+BelongTo (Rotor m) (Cables row col) = Unit {0}
+BelongTo (Rotor m) (CableKinds row col) = Unit {0}
+BelongTo (Pin m) (Bars row col) = Unit {0}
+BelongTo (Pin m) (BarKinds row col) = Unit {0}
+BelongTo _ _ = ⊥
+
 -- Machine, day and prices are of one model.
 pub record AreOfOneModel (m : Parts) (s : Day) (prices : PriceParts) : Type 0 where
   pub model : model_of m ≡ day_model s
-  pub group : group_of prices ≡ group_of_machine m
+  pub belong : BelongTo m prices
 
 -- Machine, day and prices are of one model, and the prices are by number.
 pub record AreNumbered (m : Parts) (s : Day) (prices : PriceParts) : Type 0 where
@@ -83,6 +91,20 @@ IsByNumberAnswer m s settings prices = do
   _ ← IsFitsAnswer (cost_table m s) prices
   _ ← Demands (price_sum prices ≡ pos (priced_count settings)) SumDiffers
   IsNeededAnswer m s settings
+
+-- Settings that these prices of `number` rows and as many columns of the table of costs prove shortest, or the first
+-- doubt about them.
+abbrev pub IsByPricesAnswer : Parts → Day → List Setting → ℕ → List ℤ → List ℤ → AnswerRule Doubt (Unit {0})
+IsByPricesAnswer m s settings number rows columns answer =
+    (prices : PriceParts) → row_prices prices ≡ rows → column_prices prices ≡ columns → table_rows prices ≡ number
+    → IsByNumberAnswer m s settings prices answer
+
+-- Settings for which prices of rows and of columns have to be found first, or the first doubt about them.
+abbrev pub IsByKindAnswer : Parts → Day → List Setting → ℕ → (List ℤ → Type 0) → (List ℤ → Type 0)
+    → AnswerRule Doubt (Unit {0})
+IsByKindAnswer m s settings number AreOfRows AreOfColumns = do
+  found ← Finds (λ (found : List ℤ × List ℤ). AreOfRows found.0 × AreOfColumns found.1) PriceMissing
+  IsByPricesAnswer m s settings number found.0 found.1
 
 -- Settings that prove themselves by prices of either version, or their first doubt. Prices by kind are expanded
 -- first.

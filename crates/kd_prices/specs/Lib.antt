@@ -4,3 +4,4 @@ pub mod Fitting
 pub mod Alike
 pub mod Laws
 pub mod KindCards
+pub mod Grouping

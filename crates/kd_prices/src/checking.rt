@@ -1,16 +1,19 @@
 //! Checks a card: whether it proves itself, or the first doubt about it.
-ghost use Rattle.std.specs.Prelude.{◌≡◌, ◌↔◌, ◌≤◌, length, IsOk, IfErr, MatchOption};
+ghost use Rattle.std.specs.Prelude.{◌≡◌, ◌↔◌, ◌≤◌, length, IsOk, IfErr};
 ghost use Rattle.kd_state.specs.Costs.{cost_table};
 ghost use Rattle.kd_state.specs.{Machine.{model_of}, SheetDay.{day_model}};
-ghost use Rattle.kd_card.specs.Prices.{PricesFit, table_rows};
+ghost use Rattle.kd_card.specs.Kinds.{AreKindsOf};
+ghost use Rattle.kd_card.specs.Prices.{ArePricesInRange};
+ghost use Rattle.kd_card.specs.CardText.{IsGroup};
 ghost use Rattle.kd_card.specs.Proving.{Proves, priced_count};
-ghost use Rattle.kd_prices.specs.Doubt.{AreOfOneModel, IsFirstTooHigh, IsCheckedAnswer, IsByNumberAnswer, IsDoubt};
+ghost use Rattle.kd_prices.specs.Doubt.{IsDoubt, IsCheckedAnswer, IsByPricesAnswer, IsByKindAnswer};
 
 use super::doubt::Doubt;
-use super::expanding::expanded;
-use super::fitting::{Cell, first_too_high};
-use super::walking::{is_priced_setting, walk_settings};
-use kd_card::{Card, Group, Prices};
+use super::expanding::prices_of;
+use super::fitting::first_too_high;
+use super::things::{columns_of, ends_of};
+use super::walking::{carry_settings, is_priced_setting};
+use kd_card::{Card, Kind, PriceParts, sum_of_prices};
 use kd_state::{Machine, OneModel, Setting, SheetDay, bar_costs, cable_costs};
 
 /// Checks that `card` proves itself, whoever made it, or finds the first doubt.
@@ -23,84 +26,118 @@ pub fn check(machine: &Machine, day: &SheetDay, card: &Card) -> Result<(), Doubt
     ensures doubt { IfErr result
         (IsDoubt machine.now day.now card.now.settings.items card.now.prices) }
 {
-    check_any_card(machine, day, card)
+    first_doubt(machine, day, card)
 }
 
 /// Finds the first doubt, if there is one: models first, then the card by its table of costs.
-fn check_any_card(machine: &Machine, day: &SheetDay, card: &Card) -> Result<(), Doubt>
+fn first_doubt(machine: &Machine, day: &SheetDay, card: &Card) -> Result<(), Doubt>
     ensures { IsCheckedAnswer machine.now day.now card.now.settings.items card.now.prices result }
 {
     let Some(one_model) = machine.of_one_model(day) else {
         return Err(Doubt::OtherModel);
     };
-    match (one_model, card.prices.group()) {
-        (OneModel::Rotor(parts, entry), Group::OfCables) => {
+    let settings = card.settings.as_slice();
+    match (one_model, card.prices.parts()) {
+        (OneModel::Rotor(parts, entry), PriceParts::Cables(rows, columns)) => {
             let costs = cable_costs(&parts.cables, entry.pairs.as_slice());
-            check_by_costs(machine, day, card, &costs)
+            doubt_by_prices(machine, day, settings, &costs, &rows, &columns)
         }
-        (OneModel::Pin(parts, entry), Group::OfBars) => {
+        (OneModel::Rotor(parts, entry), PriceParts::CableKinds(rows, columns)) => {
+            let costs = cable_costs(&parts.cables, entry.pairs.as_slice());
+            let ends = ends_of(&parts.cables);
+            let pairs = columns_of(entry.pairs.as_slice());
+            doubt_by_kinds(
+                machine,
+                day,
+                settings,
+                &costs,
+                ends.as_slice(),
+                pairs.as_slice(),
+                rows.as_slice(),
+                columns.as_slice(),
+            )
+        }
+        (OneModel::Pin(parts, entry), PriceParts::Bars(rows, columns)) => {
             let costs = bar_costs(&parts.bars, &entry.rows);
-            check_by_costs(machine, day, card, &costs)
+            doubt_by_prices(machine, day, settings, &costs, &rows, &columns)
+        }
+        (OneModel::Pin(parts, entry), PriceParts::BarKinds(rows, columns)) => {
+            let costs = bar_costs(&parts.bars, &entry.rows);
+            doubt_by_kinds(
+                machine,
+                day,
+                settings,
+                &costs,
+                &parts.bars,
+                &entry.rows,
+                rows.as_slice(),
+                columns.as_slice(),
+            )
         }
         _ => Err(Doubt::OtherModel),
     }
 }
 
-/// Finds the first doubt about a card whose machine, day and prices are of one model.
-fn check_by_costs<const N: usize>(
-    machine: &Machine,
-    day: &SheetDay,
-    card: &Card,
-    costs: &[[u8; N]; N],
-) -> Result<(), Doubt>
-    requires model { AreOfOneModel machine.now day.now card.now.prices }
-    requires costs { costs.now ≡ cost_table machine.now day.now }
-    requires size { table_rows card.now.prices ≡ N }
-    ensures { IsCheckedAnswer machine.now day.now card.now.settings.items card.now.prices result }
-{
-    let Some(numbered) = expanded(machine, day, &card.prices) else {
-        return Err(Doubt::PriceMissing);
-    };
-    check_by_number(machine, day, card.settings.as_slice(), costs, &numbered)
-}
-
-/// Finds the first doubt about settings with prices by number.
-fn check_by_number<const N: usize>(
+/// Finds the first doubt about settings with prices by kind, for the things of the rows and columns of the table.
+fn doubt_by_kinds<R: Kind, C: Kind, const N: usize>(
     machine: &Machine,
     day: &SheetDay,
     settings: &[Setting],
     costs: &[[u8; N]; N],
-    prices: &Prices,
+    row_things: &[R::Thing],
+    column_things: &[C::Thing],
+    rows: &[R],
+    columns: &[C],
 ) -> Result<(), Doubt>
     requires model { model_of machine.now ≡ day_model day.now }
     requires costs { costs.now ≡ cost_table machine.now day.now }
-    requires size { table_rows prices.now ≡ N }
     requires few { length settings.now ≤ 192 }
-    ensures { IsByNumberAnswer machine.now day.now settings.now prices.now result }
+    requires size { N ≤ 27 }
+    requires many_rows { length row_things.now ≡ N }
+    requires many_columns { length column_things.now ≡ N }
+    requires rows { IsGroup R.sort N rows.now }
+    requires columns { IsGroup C.sort N columns.now }
+    ensures { IsByKindAnswer machine.now day.now settings.now N
+        (λ prices. AreKindsOf R.sort row_things.now prices rows.now × ArePricesInRange prices)
+        (λ prices. AreKindsOf C.sort column_things.now prices columns.now × ArePricesInRange prices) result }
 {
-    let walk = walk_settings(machine, day, settings)?;
-    if !walk.reached.reads_as(day) {
-        return Err(Doubt::NotTheSheet);
-    }
-    if let Some(cell) = find_too_high(costs, prices) {
-        return Err(Doubt::PriceTooHigh(cell.row as u8 + 1, cell.column as u8 + 1));
-    }
-    if prices.sum() != priced_count(settings) as i32 {
-        return Err(Doubt::SumDiffers);
-    }
-    walk.needed
+    let Some(rows) = prices_of(row_things, rows) else {
+        return Err(Doubt::PriceMissing);
+    };
+    let Some(columns) = prices_of(column_things, columns) else {
+        return Err(Doubt::PriceMissing);
+    };
+    doubt_by_prices(machine, day, settings, costs, &rows, &columns)
 }
 
-/// Finds the first row and column whose prices are together above the cost where they meet.
-fn find_too_high<const N: usize>(costs: &[[u8; N]; N], prices: &Prices) -> Option<Cell>
-    requires { table_rows prices.now ≡ N }
-    ensures { MatchOption result
-        (PricesFit costs.now prices.now)
-        (λ cell. IsFirstTooHigh costs.now prices.now cell.row cell.column) }
+/// Finds the first doubt about settings with these prices of the rows and columns of the table of costs.
+fn doubt_by_prices<const N: usize>(
+    machine: &Machine,
+    day: &SheetDay,
+    settings: &[Setting],
+    costs: &[[u8; N]; N],
+    rows: &[i16; N],
+    columns: &[i16; N],
+) -> Result<(), Doubt>
+    requires model { model_of machine.now ≡ day_model day.now }
+    requires costs { costs.now ≡ cost_table machine.now day.now }
+    requires few { length settings.now ≤ 192 }
+    requires size { N ≤ 27 }
+    requires rows { ArePricesInRange rows.now }
+    requires columns { ArePricesInRange columns.now }
+    ensures { IsByPricesAnswer machine.now day.now settings.now N rows.now columns.now result }
 {
-    let rows = prices.row_prices();
-    let columns = prices.column_prices();
-    first_too_high(costs, rows.as_slice(), columns.as_slice())
+    let carried = carry_settings(machine, day, settings)?;
+    if !carried.reached.reads_as(day) {
+        return Err(Doubt::NotTheSheet);
+    }
+    if let Some(cell) = first_too_high(costs, rows, columns) {
+        return Err(Doubt::PriceTooHigh(cell.row as u8 + 1, cell.column as u8 + 1));
+    }
+    if sum_of_prices(rows, columns) != priced_count(settings) as i32 {
+        return Err(Doubt::SumDiffers);
+    }
+    carried.needed
 }
 
 /// Counts the settings that change a cable or a bar.

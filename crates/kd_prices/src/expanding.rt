@@ -1,106 +1,67 @@
-//! Expands prices by kind to prices by number, for a machine and a day.
-ghost use Rattle.std.specs.Prelude.{◌≡◌, ◌↔◌, ◌≤◌, length, ℤ, List, IsTrue, MatchOption};
-ghost use Rattle.std.specs.List.{AllByRecursion};
-ghost use Rattle.kd_card.specs.declared.prices.Version.{Version};
-ghost use Rattle.kd_card.specs.Kinds.{AreKinds};
-ghost use Rattle.kd_card.specs.Prices.{version_of, ArePrices, ArePricesInRange};
-ghost use Rattle.kd_card.specs.Proving as proving;
-ghost use Rattle.kd_card.specs.Proving.{IsPriced, HasCount, AreExpanded, Expands};
-ghost use Rattle.kd_prices.specs.Doubt.{AreOfOneModel};
+//! Finds the price of each thing from prices by kind.
+ghost use Rattle.std.specs.Prelude.{◌≡◌, ◌↔◌, ◌≤◌, length, map, count_by, ℤ, List, All, None, IsTrue, MatchOption};
+ghost use Rattle.kd_card.specs.Kinds.{AreKinds, AreKindsOf};
+ghost use Rattle.kd_card.specs.Prices.{ArePricesInRange};
+ghost use Rattle.kd_prices.specs.Grouping.{IsCounted, IsPriceOf, HasNoKind};
 
-use super::looks::{column_looks, row_looks};
 use arrayvec::ArrayVec;
-use kd_card::{Look, PriceParts, PricedKind, Prices};
-use kd_state::{Machine, SheetDay};
+use kd_card::{Kind, Thing};
 
-/// Expands prices to one price for each cable and pair, or for each bar and row. Prices by number stay.
-///
-/// `None` if the kinds or their counts aren't those of the machine and the day.
-pub(crate) fn expanded(machine: &Machine, day: &SheetDay, prices: &Prices) -> Option<Prices>
-    requires { AreOfOneModel machine.now day.now prices.now }
+/// The price of each of `N` things. `None` if the kinds or their counts aren't those of the things.
+pub(crate) fn prices_of<K: Kind, const N: usize>(
+    things: &[K::Thing],
+    kinds: &[K],
+) -> Option<[i16; N]>
+    requires few { N ≤ 27 }
+    requires number { length things.now ≡ N }
+    requires kinds { AreKinds K.sort None kinds.now }
     ensures { MatchOption result
-        ((numbered : _) → ¬ (Expands machine.now day.now prices.now numbered))
-        (λ numbered. Expands machine.now day.now prices.now numbered) }
+        ((prices : List ℤ) → ¬ (AreKindsOf K.sort things.now prices kinds.now))
+        (λ prices. AreKindsOf K.sort things.now prices kinds.now × ArePricesInRange prices) }
 {
-    match prices.parts() {
-        PriceParts::Cables(cables, pairs) => Prices::cables(cables, pairs),
-        PriceParts::Bars(bars, rows) => Prices::bars(bars, rows),
-        PriceParts::CableKinds(..) | PriceParts::BarKinds(..) => {
-            expanded_kinds(machine, day, prices)
-        }
-    }
-}
-
-/// Expands prices by kind.
-fn expanded_kinds(machine: &Machine, day: &SheetDay, prices: &Prices) -> Option<Prices>
-    requires model { AreOfOneModel machine.now day.now prices.now }
-    requires kinds { version_of prices.now ≡ Version.ByKind }
-    requires are_prices { ArePrices prices.now }
-    ensures { MatchOption result
-        ((numbered : _) → ¬ (Expands machine.now day.now prices.now numbered))
-        (λ numbered. Expands machine.now day.now prices.now numbered) }
-{
-    let group = prices.group();
-    let rows = priced(row_looks(machine).as_slice(), prices.row_kinds().as_slice())?;
-    let columns = priced(
-        column_looks(day).as_slice(),
-        prices.column_kinds().as_slice(),
-    )?;
-    Some(Prices::numbered(group, rows.as_slice(), columns.as_slice()))
-}
-
-/// The price of each of `looks`: that of its kind.
-///
-/// `None` if a look has no kind, or a kind doesn't count all looks equal to its own.
-pub(crate) fn priced(looks: &[Look], kinds: &[PricedKind]) -> Option<ArrayVec<i16, 27>>
-    requires few { length looks.now ≤ 27 }
-    requires kinds { AreKinds 0 kinds.now }
-    ensures { MatchOption result
-        ((prices : List ℤ) → ¬ (AreExpanded looks.now kinds.now prices))
-        (λ prices. AreExpanded looks.now kinds.now prices.items × ArePricesInRange prices.items) }
-{
-    if !are_counted(looks, kinds) {
+    if !are_counted(things, kinds) {
         return None;
     }
     let mut prices = ArrayVec::new();
-    for look in looks {
-        prices.push(price_of(look, kinds)?);
+    for thing in things {
+        let price = price_of(thing, kinds)?;
+        prices.push(price);
     }
-    Some(prices)
+    prices.into_inner().ok()
 }
 
-/// Whether each kind counts all of `looks` that are equal to its own.
-fn are_counted(looks: &[Look], kinds: &[PricedKind]) -> bool
-    ensures { IsTrue result ↔ AllByRecursion (HasCount looks.now) kinds.now }
+/// Whether each kind counts all things that are equal to its own, and there are some.
+fn are_counted<K: Kind>(things: &[K::Thing], kinds: &[K]) -> bool
+    ensures { IsTrue result
+        ↔ All (IsCounted K.Thing.eq things.now) (map K.sort.kind kinds.now) }
 {
-    match kinds {
-        [] => true,
-        [kind, rest @ ..] => {
-            usize::from(kind.count) == alike_count(&kind.look, looks) && are_counted(looks, rest)
+    for kind in kinds {
+        let parts = kind.parts();
+        let number = number_of(&parts.thing, things);
+        if number == 0 || number != usize::from(parts.count) {
+            return false;
         }
     }
+    true
 }
 
-/// The number of `looks` equal to `look`.
-pub(crate) fn alike_count(look: &Look, looks: &[Look]) -> usize
-    ensures value { result ≡ proving.alike_count look.now looks.now }
-    ensures few { result ≤ length looks.now }
+/// The number of things that are equal to `thing`.
+fn number_of<T: Thing>(thing: &T, things: &[T]) -> usize
+    ensures { result ≡ count_by (λ other. T.eq other thing.now) things.now }
 {
-    looks
-        .iter()
-        .filter(|other| other.rank() == look.rank())
-        .count()
+    things.iter().filter(|other| **other == *thing).count()
 }
 
-/// The price of the kind that has this look.
-fn price_of(look: &Look, kinds: &[PricedKind]) -> Option<i16>
-    ensures { MatchOption result
-        ((price : ℤ) → ¬ (IsPriced look.now price kinds.now))
-        (λ price. IsPriced look.now price kinds.now) }
+/// The price of the thing's kind.
+fn price_of<K: Kind>(thing: &K::Thing, kinds: &[K]) -> Option<i16>
+    ensures { let parts = map K.sort.kind kinds.now in
+        MatchOption result (HasNoKind parts thing.now) (IsPriceOf parts thing.now) }
 {
-    match kinds {
-        [] => None,
-        [kind, ..] if kind.look.rank() == look.rank() => Some(kind.price),
-        [_, rest @ ..] => price_of(look, rest),
+    for kind in kinds {
+        let parts = kind.parts();
+        if parts.thing == *thing {
+            return Some(parts.price);
+        }
     }
+    None
 }

@@ -5,9 +5,10 @@ mod checking;
 mod doubt;
 mod expanding;
 mod fitting;
+mod grouping;
 mod kind_cards;
 pub mod laws;
-mod looks;
+mod things;
 mod walking;
 
 pub use checking::check;

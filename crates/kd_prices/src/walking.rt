@@ -12,21 +12,21 @@ use kd_state::{Machine, Setting, SheetDay};
 
 /// The machine after all settings of a card, and the first doubt whether one of them is needed.
 #[derive(Drop)]
-pub(crate) struct Walk {
+pub(crate) struct Carried {
     pub reached: Machine,
     pub needed: Result<(), Doubt>,
 }
 
 /// Carries out `settings` in turn, and compares the number of loose things before and after each.
 #[tactic(auto, using(kd_state::proofs::Telling::Refusing::stops_at))]
-pub(crate) fn walk_settings(
+pub(crate) fn carry_settings(
     machine: &Machine,
     day: &SheetDay,
     settings: &[Setting],
-) -> Result<Walk, Doubt>
+) -> Result<Carried, Doubt>
     requires { model_of machine.now ≡ day_model day.now }
-    ensures leads { IfOk result (λ walk. Leads machine.now settings.now walk.reached) }
-    ensures needed { IfOk result (λ walk. IsNeededAnswer machine.now day.now settings.now walk.needed) }
+    ensures leads { IfOk result (λ carried. Leads machine.now settings.now carried.reached) }
+    ensures needed { IfOk result (λ carried. IsNeededAnswer machine.now day.now settings.now carried.needed) }
     ensures refused { IfErr result (λ doubt. IsCarriedAnswer machine.now settings.now (Err doubt)) }
 {
     let mut reached = *machine;
@@ -37,14 +37,14 @@ pub(crate) fn walk_settings(
             return Err(Doubt::IllegalAt(place + 1, illegal.why));
         }
         let left = loose_count(&reached, day);
-        needed = needed.and(check_needed(setting, place + 1, loose, left));
+        needed = needed.and(check_need(setting, place + 1, loose, left));
         loose = left;
     }
-    Ok(Walk { reached, needed })
+    Ok(Carried { reached, needed })
 }
 
 /// Whether the setting changes a cable or a bar, or one thing less is loose after it.
-fn check_needed(setting: &Setting, line: usize, before: usize, after: usize) -> Result<(), Doubt>
+fn check_need(setting: &Setting, line: usize, before: usize, after: usize) -> Result<(), Doubt>
     requires { after ≤ 137 }
     ensures { let is_needed = IsFalse (proving.is_priced_setting setting.now) → before ≡ after + 1 in
         MatchResult result (λ _. is_needed)

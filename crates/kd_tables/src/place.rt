@@ -8,7 +8,7 @@ use arrayvec::ArrayString;
 /// A place of a lug on a bar of the Converter M-209. Places are in order from left to right.
 ///
 /// At a place with a number, the pin wheel with this number acts. At the two zeros no wheel acts.
-#[derive(Clone, Copy, PartialEq, Eq, PartialOrd)]
+#[derive(Clone, Copy, PartialEq, Eq, PartialOrd, Ord)]
 pub enum Place {
     /// The place of wheel 1.
     One,

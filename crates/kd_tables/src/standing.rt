@@ -9,7 +9,9 @@ use arrayvec::ArrayString;
 use std::marker::Model;
 
 /// How a bar of the Converter M-209 stands: the places of its left lug and its right lug, in this order.
-#[derive(Clone, Copy, PartialEq, Eq)]
+///
+/// Standings are ordered by the left lug's place, then by the right lug's.
+#[derive(Clone, Copy, PartialEq, Eq, PartialOrd, Ord)]
 pub struct Standing {
     left: Place,
     right: Place,

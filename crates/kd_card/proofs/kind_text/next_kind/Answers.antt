@@ -1,35 +1,49 @@
 use Rattle.kd_card.proofs.Prelude.{◌∷◌, ◌∙◌, sym, refl, subst, eqb-true, nil_from_length, HasLineWords, AtOther}
 use Rattle.kd_card.proofs.Prelude.{common_steps, arith, option_copied, ThenNext-Ok, words_after_first}
 use Rattle.kd_card.proofs.Lines.{not_from_false, nonempty-by_length, no_line, MatchResult-err}
-use Rattle.kd_card.proofs.KindWords.{ends_at, unended, no_kind, words_are, low_next}
+use Rattle.kd_card.proofs.KindWords.{ends_at, unended, no_kind, words_are, out_of_order}
 use Rattle.kd_card.proofs.kind_text.next_kind.Goals as goal
-use Rattle.kd_card.proofs.kind_text.next_kind.Goals.{in_default-via-in-Some+else-floor-rank, in_default-via-in_default}
+use Rattle.kd_card.proofs.kind_text.next_kind.Goals.{in_default-via-in-Some+else-comes_after, in_default-via-in_default}
 
 pub returns-then-is_empty : goal.returns-then-is_empty
-returns-then-is_empty c = grind (arith, common_steps, ends_at, nil_from_length, eqb-true)
+returns-then-is_empty g c = grind (arith, common_steps, ends_at, nil_from_length, eqb-true)
 
 pub returns-in_err-first : goal.returns-in_err-first
-returns-in_err-first c =
+returns-in_err-first g c =
     let some = nonempty-by_length c.is_empty.ensures c.if-is_empty.false in
     let none = no_line some c.in_err-first.ensures in
-    MatchResult-err _ _ _ _ c.from_residual.ensures.1 (unended c.args.floor some none.0, none.1)
+    MatchResult-err _ _ _ _ c.from_residual.ensures.1 (unended c.args.last some none.0, none.1)
 
 pub returns-then-not-is_word : goal.returns-then-not-is_word
-returns-then-not-is_word c =
-    ends_at c.args.floor
+returns-then-not-is_word g c =
+    ends_at c.args.last
     (AtOther c.in_ok-first.first.now (record { behind = _; rest = _; has = (ThenNext-Ok c.in_ok-first.ensures).next })
-    (λ e. not_from_false c.is_word.ensures c.if-not-is_word.true (e ∙ sym c.text.ensures.value)))
+    (λ e. not_from_false c.is_word.ensures c.if-not-is_word.true (e ∙ sym c.word.ensures.value)))
+
+pub returns-in-Some : goal.returns-in-Some
+returns-in-Some g c =
+    let is = c.in-Some.ensures.has in
+    let word = c.is_word.ensures.0 c.if-not-is_word.false ∙ c.word.ensures.value in
+    let has =
+    subst (λ w. HasLineWords c.args.text.now (w ∷ words_after_first (option_copied c.in_ok-first.behind))
+        c.in_ok-first.rest.now)
+    word (ThenNext-Ok c.in_ok-first.ensures).next in
+    record {
+      good = is.good;
+      after = c.comes_after.ensures.0 c.if-comes_after.true;
+      line = subst (λ words. HasLineWords c.args.text.now words c.in_ok-first.rest.now) (sym is.written) has;
+    }
 
 pub returns-in_default : goal.returns-in_default
-returns-in_default c =
-    let word = c.is_word.ensures.0 c.if-not-is_word.false ∙ c.text.ensures.value in
+returns-in_default g c =
+    let word = c.is_word.ensures.0 c.if-not-is_word.false ∙ c.word.ensures.value in
     let has =
     subst (λ w. HasLineWords c.args.text.now (w ∷ words_after_first (option_copied c.in_ok-first.behind))
     c.in_ok-first.rest.now)
     word (ThenNext-Ok c.in_ok-first.ensures).next in (
-      no_kind c.args.floor (record { behind = _; rest = _; has = has }) (elim c.in_default.branch [
-        | in_default-via-in-Some+else-floor-rank w ↦
-            low_next has w.in-Some.ensures w.rank.ensures.value w.if-floor-rank.false
+      no_kind c.args.last (record { behind = _; rest = _; has = has }) (elim c.in_default.branch [
+        | in_default-via-in-Some+else-comes_after w ↦
+            out_of_order has w.in-Some.ensures (not_from_false w.comes_after.ensures w.if-comes_after.false)
         | in_default-via-in_default w ↦ λ kind more next. w.in_default.ensures kind (words_are has next)
       ]),
       refl,

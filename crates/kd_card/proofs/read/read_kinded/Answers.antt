@@ -1,28 +1,39 @@
-use Rattle.kd_card.proofs.{Prelude.{refl, arith, HasFault, GoesOn}, Lines.{group_said, MatchResult-err}}
-use Rattle.kd_card.proofs.KindPrices.{few_kinds, some_and_few}
+use Rattle.kd_card.proofs.{Prelude.{refl, HasFault, GoesOn}, Lines.MatchResult-err, OneCard.groups_said}
+use Rattle.kd_card.proofs.KindPrices.{cables_are_prices, bars_are_prices}
 use Rattle.kd_card.proofs.read.read_kinded.Goals as goal
 
-pub returns-in_err-group : goal.returns-in_err-group
-returns-in_err-group c = MatchResult-err _ _ _ _ c.from_residual.ensures.1 (HasFault _ c.in_err-group.ensures refl)
+pub returns-in_err-first_group : goal.returns-in_err-first_group
+returns-in_err-first_group c = MatchResult-err _ _ _ _ c.from_residual.ensures.1
+    (HasFault _ c.in_err-first_group.ensures refl)
 
-pub returns-in_err-rows : goal.returns-in_err-rows
-returns-in_err-rows c =
-    MatchResult-err _ _ _ _ c.from_residual-in_err-rows.ensures.1
-    (GoesOn _ c.in_ok-group.ensures (HasFault _ (rw (c.row_name.ensures, c.number-number.ensures)
-    at c.in_err-rows.ensures) refl))
+pub returns-in_err-cables-in-OfCables : goal.returns-in_err-cables-in-OfCables
+returns-in_err-cables-in-OfCables c =
+    MatchResult-err _ _ _ _ c.from_residual-in_err-cables-in-OfCables.ensures.1
+    (GoesOn _ c.in_ok-first_group.ensures
+    (rw c.in-OfCables.is (HasFault _ c.in_err-cables-in-OfCables.ensures refl)))
 
-pub returns-in_err-columns : goal.returns-in_err-columns
-returns-in_err-columns c =
-    MatchResult-err _ _ _ _ c.from_residual-in_err-columns.ensures.1 (GoesOn _ c.in_ok-group.ensures
-    (GoesOn _ (rw (c.row_name.ensures, c.number-number.ensures) at c.in_ok-rows.ensures)
-    (HasFault _ (rw (c.column_name.ensures, c.number-number.ensures, c.len.ensures.value) at c.in_err-columns.ensures)
-    refl)))
+pub of_parts-requires : goal.of_parts-requires
+of_parts-requires c =
+    let said = groups_said _ _ 13 c.args.line _ c.in_ok-cables-in-OfCables.ensures in
+    (cables_are_prices c.in_ok-cables-in-OfCables.cables.items c.in_ok-cables-in-OfCables.pairs.items).1 (said.1, said.2)
 
-pub read_kinds-requires-2-clause-near : goal.read_kinds-requires-2-clause-near
-read_kinds-requires-2-clause-near c = grind (arith, group_said, few_kinds, some_and_few)
+pub returns-in_ok-cables-in-OfCables : goal.returns-in_ok-cables-in-OfCables
+returns-in_ok-cables-in-OfCables c =
+    GoesOn _ c.in_ok-first_group.ensures
+    (rw (c.in-OfCables.is, c.of_parts.ensures) (GoesOn _ c.in_ok-cables-in-OfCables.ensures refl))
 
-pub returns : goal.returns
-returns c =
-    GoesOn _ c.in_ok-group.ensures (GoesOn _ (rw (c.row_name.ensures, c.number-number.ensures) at c.in_ok-rows.ensures)
-    (GoesOn _ (rw (c.column_name.ensures, c.number-number.ensures, c.len.ensures.value) at c.in_ok-columns.ensures)
-    (GoesOn _ (rw (c.as_slice.ensures.value, c.as_slice-2.ensures.value) at c.of_groups.ensures.kinds) refl)))
+pub returns-in_err-bars-in-OfBars : goal.returns-in_err-bars-in-OfBars
+returns-in_err-bars-in-OfBars c =
+    MatchResult-err _ _ _ _ c.from_residual-in_err-bars-in-OfBars.ensures.1
+    (GoesOn _ c.in_ok-first_group.ensures
+    (rw c.in-OfBars.is (HasFault _ c.in_err-bars-in-OfBars.ensures refl)))
+
+pub of_parts-requires-in-OfBars : goal.of_parts-requires-in-OfBars
+of_parts-requires-in-OfBars c =
+    let said = groups_said _ _ 27 c.args.line _ c.in_ok-bars-in-OfBars.ensures in
+    (bars_are_prices c.in_ok-bars-in-OfBars.bars.items c.in_ok-bars-in-OfBars.rows.items).1 (said.1, said.2)
+
+pub returns-in_ok-bars-in-OfBars : goal.returns-in_ok-bars-in-OfBars
+returns-in_ok-bars-in-OfBars c =
+    GoesOn _ c.in_ok-first_group.ensures
+    (rw (c.in-OfBars.is, c.of_parts-in-OfBars.ensures) (GoesOn _ c.in_ok-bars-in-OfBars.ensures refl))

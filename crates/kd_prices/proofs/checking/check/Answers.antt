@@ -4,6 +4,6 @@ use Rattle.kd_prices.proofs.checking.check.Goals as goal
 pub returns : goal.returns
 returns c =
     let card = c.args.card.now in record {
-      proves = told c.args.machine.now c.args.day.now card.settings.items card.prices _ c.check_any_card.ensures;
-      doubt = doubted c.args.machine.now c.args.day.now card.settings.items card.prices _ c.check_any_card.ensures;
+      proves = told c.args.machine.now c.args.day.now card.settings.items card.prices _ c.first_doubt.ensures;
+      doubt = doubted c.args.machine.now c.args.day.now card.settings.items card.prices _ c.first_doubt.ensures;
     }

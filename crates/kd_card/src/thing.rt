@@ -1,0 +1,143 @@
+//! Things: what equal cables, pairs, bars or rows have in common, in the order of a card's lines.
+ghost use Rattle.std.specs.Prelude.{◌≡◌};
+
+use kd_tables::{Letter, Reading, Standing};
+use std::marker::Model;
+
+/// What equal cables, pairs, bars or rows have in common, in the order of a card's lines.
+pub trait Thing: Copy + Default + Ord {
+    ghost use Rattle.std.specs.Prelude.{◌≡◌};
+    ghost use Rattle.std.specs.declared.cmp.Ordering.TheVariants.{Equal};
+
+    /// Things that compare as equal are the same.
+    ghost told_apart: { (x y : Self) → Self.cmp x y ≡ Equal → x ≡ y };
+}
+
+/// The letters of a cable. Cables are ordered as in a dictionary, and one without a first letter comes last.
+#[derive(Clone, Copy, PartialEq, Eq, PartialOrd, Ord)]
+pub struct Ends {
+    is_last: bool,
+    letters: (Option<Letter>, Option<Letter>),
+}
+
+impl Model for Ends {
+    ghost use Rattle.std.specs.Prelude.{ℕ, ◌≡◌, Option, is_none};
+
+    ghost Value = { Option ℕ × Option ℕ };
+
+    ghost view = { λ e. e.letters };
+
+    ghost invariant = { λ e. e.is_last ≡ is_none e.letters.0 };
+
+    ghost inverse = { λ letters. record { is_last = is_none letters.0; letters = letters } };
+}
+
+/// No letters.
+impl Default for Ends {
+    ghost is_default = { λ _. Unit {0} };
+
+    fn default() -> Self {
+        Ends::new((None, None))
+    }
+}
+
+impl Ends {
+    /// Wraps the letters of a cable.
+    pub fn new(letters: (Option<Letter>, Option<Letter>)) -> Self
+        ensures { result ≡ letters }
+    {
+        Ends {
+            is_last: letters.0.is_none(),
+            letters,
+        }
+    }
+
+    /// The letters of the cable.
+    pub fn letters(self) -> (Option<Letter>, Option<Letter>)
+        ensures { result ≡ self }
+    {
+        self.letters
+    }
+}
+
+/// A pair, or a nothing. Pairs are ordered as in a dictionary, and a nothing comes last.
+#[derive(Clone, Copy, PartialEq, Eq, PartialOrd, Ord)]
+pub struct Column {
+    is_last: bool,
+    pair: Option<(Letter, Letter)>,
+}
+
+impl Model for Column {
+    ghost use Rattle.std.specs.Prelude.{ℕ, ◌≡◌, Option, is_none};
+
+    ghost Value = { Option (ℕ × ℕ) };
+
+    ghost view = { λ c. c.pair };
+
+    ghost invariant = { λ c. c.is_last ≡ is_none c.pair };
+
+    ghost inverse = { λ pair. record { is_last = is_none pair; pair = pair } };
+}
+
+/// A nothing.
+impl Default for Column {
+    ghost is_default = { λ _. Unit {0} };
+
+    fn default() -> Self {
+        Column::new(None)
+    }
+}
+
+impl Column {
+    /// Wraps a pair, or `None` for a nothing.
+    pub fn new(pair: Option<(Letter, Letter)>) -> Self
+        ensures { result ≡ pair }
+    {
+        Column {
+            is_last: pair.is_none(),
+            pair,
+        }
+    }
+
+    /// The pair, or `None` for a nothing.
+    pub fn pair(self) -> Option<(Letter, Letter)>
+        ensures { result ≡ self }
+    {
+        self.pair
+    }
+}
+
+impl Thing for Ends {
+    ghost use Rattle.std.specs.Prelude.{Some, None};
+    ghost use Rattle.std.proofs.Common.{arith};
+    ghost use Rattle.std.proofs.lemmas.Bool.Decides.{nat_tests};
+
+    ghost told_apart = { λ x y. let (a, b) = x in let (c, d) = y in elim (a) [
+      | Some e ↦ elim (b) [ Some f ↦ Prim.grind (arith, nat_tests) | None ↦ Prim.grind (arith, nat_tests) ]
+      | None ↦ elim (b) [ Some f ↦ Prim.grind (arith, nat_tests) | None ↦ Prim.grind (arith, nat_tests) ]
+    ] };
+}
+
+impl Thing for Column {
+    ghost use Rattle.std.specs.Prelude.{Some, None};
+    ghost use Rattle.std.proofs.Common.{arith};
+    ghost use Rattle.std.proofs.lemmas.Bool.Decides.{nat_tests};
+
+    ghost told_apart = { elim [
+      | Some p ↦ elim [ Some q ↦ Prim.grind (arith, nat_tests) | None ↦ Prim.grind arith ]
+      | None ↦ elim [ Some q ↦ Prim.grind arith | None ↦ Prim.grind arith ]
+    ] };
+}
+
+impl Thing for Standing {
+    ghost use Rattle.kd_card.specs.Order.{standings_told_apart};
+
+    ghost told_apart = { standings_told_apart };
+}
+
+impl Thing for Reading {
+    ghost use Rattle.std.proofs.Common.{arith};
+    ghost use Rattle.std.proofs.lemmas.Bool.Decides.{nat_tests};
+
+    ghost told_apart = { λ x y same. Prim.grind (arith, nat_tests) };
+}
