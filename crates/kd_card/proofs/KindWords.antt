@@ -129,7 +129,7 @@ module _ {K X : Type 0} {sort : Sort K X} (is : IsSort sort) where
       decimal_injective a_kind.count b_kind.count (omega arith) (omega arith) (ap (λ w. get_or w 2 []) e) in
       let prices : a_kind.price ≡ b_kind.price =
       signed_decimal_injective a_kind.price b_kind.price (mag-small a_kind.price a.reach)
-          (mag-small b_kind.price b.reach)
+      (mag-small b_kind.price b.reach)
       (ap (λ w. get_or w 3 []) e) in
       let make : X → ℕ → ℤ → KindOf X = λ thing count price. record { thing = thing; count = count; price = price } in
       is.same kind other

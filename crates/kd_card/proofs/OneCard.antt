@@ -224,7 +224,7 @@ module _ {K X : Type 0} {sort : Sort K X} (is : IsSort sort) where
   only_group number line bytes =
       HasOneAnswer-ThenNext
       (HasOneAnswer-FindsAlways (λ x y a b. let same = kinds_end None x.0 y.0 x.1 y.1 a b in same_pair x y same.0
-          same.1))
+      same.1))
       (λ group takes. HasOneAnswer-ThenNext (HasOneAnswer-Demands _ _)
       (λ end ends. HasOneAnswer-ThenNext (HasOneAnswer-Demands _ _) (λ all count. HasOneAnswer-Yields group)))
 

@@ -61,7 +61,7 @@ cables_told m machine i k inside within =
     let cable = λ (place : ℕ). get_or m.cables place (None, None) in (
       λ same.
           inl (subst (λ ends. HaveSameLetters (cable_letters (cable i)) (cable_letters ends)) same
-              (λ letter. (λ h. h, λ h. h))),
+          (λ letter. (λ h. h, λ h. h))),
       λ alike. ends_told (cable i) (cable k) (forms i (None, None) inside) (forms k (None, None) within)
           ((tests_tell_letters (cable_letters (cable i)) (cable_letters (cable k))).0 alike),
     )

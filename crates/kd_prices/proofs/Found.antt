@@ -49,7 +49,7 @@ module _ (m : RotorParts) (s : RotorDay) (row : List CableKind) (col : List Pair
       → ArePrices cable_prices → length m.cables ≡ 13 → length (columns_in_order s.pairs) ≡ 13
       → (answer : Result (Unit {0}) Doubt)
       → IsByKindAnswer (Rotor m) (OfRotors s) settings 13
-          (λ r. AreKindsOf cable_sort m.cables r row × ArePricesInRange r)
+      (λ r. AreKindsOf cable_sort m.cables r row × ArePricesInRange r)
       (λ c. AreKindsOf pair_sort (columns_in_order s.pairs) c col × ArePricesInRange c) answer
       → IsCheckedAnswer (Rotor m) (OfRotors s) settings cable_prices answer
   cable_kinds_say settings one are many also answer =

@@ -26,7 +26,7 @@ returns-in-Some g c =
     let word = c.is_word.ensures.0 c.if-not-is_word.false ∙ c.word.ensures.value in
     let has =
     subst (λ w. HasLineWords c.args.text.now (w ∷ words_after_first (option_copied c.in_ok-first.behind))
-        c.in_ok-first.rest.now)
+    c.in_ok-first.rest.now)
     word (ThenNext-Ok c.in_ok-first.ensures).next in
     record {
       good = is.good;
