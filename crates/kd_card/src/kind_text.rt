@@ -9,10 +9,10 @@ ghost use Rattle.kd_card.specs.Reading.{words_after_first, EndsKindsAt, IsBadKin
 
 use super::fault::CardFault;
 use super::kinds::{Kind, KindOf, comes_after};
-use super::price_text::{is_word, price_of_text, split_first};
+use super::price_text::{price_of_text, split_first};
 use arrayvec::{ArrayString, ArrayVec};
 use itoa::Buffer;
-use kd_state::{number_of_text, push_number, split_words};
+use kd_state::{is_word, number_of_text, push_number, split_words};
 
 /// Parses a kind's line; `behind` is the text after its first word's space.
 #[tactic(auto, using(crate::proofs::Lines::words_in_place))]

@@ -14,7 +14,7 @@ use super::group::Group;
 use super::prices::Version;
 use arrayvec::ArrayVec;
 use itoa::Buffer;
-use kd_state::{split_once, split_words};
+use kd_state::{is_word, split_once, split_words};
 use std::str;
 
 /// Whether `text` is an unsigned number: digits without leading zeros.
@@ -51,13 +51,6 @@ pub(crate) fn price_of_text(text: &[u8]) -> Option<i16>
     }
     let mut buffer = Buffer::new();
     is_word(text, buffer.format(price)).then_some(price)
-}
-
-/// Whether `text` is `word`.
-pub(crate) fn is_word(text: &[u8], word: &str) -> bool
-    ensures { IsTrue result ↔ (text.now ≡ word.now) }
-{
-    text == word.as_bytes()
 }
 
 /// Splits the first price line off `text`: its first word, the text after this word's space, and the rest.

@@ -11,11 +11,11 @@ use super::fault::CardFault;
 use super::group::Group;
 use super::kind_text::read_kinds;
 use super::kinds::Kind;
-use super::price_text::{first_group, is_numeral, is_word, prices_behind, split_first};
+use super::price_text::{first_group, is_numeral, prices_behind, split_first};
 use super::prices::{PriceParts, Prices, Version};
 use arrayvec::ArrayVec;
 use itoa::Buffer;
-use kd_state::{day_of_text, split_once, split_settings};
+use kd_state::{day_of_text, is_word, split_once, split_settings};
 
 /// Reads a card and its day from `text`, or finds the first fault.
 pub fn read_card(text: &[u8]) -> Result<(u8, Card), CardFault>

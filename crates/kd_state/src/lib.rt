@@ -31,6 +31,6 @@ pub use sheet_day::entry::Entry;
 pub use sheet_day::pin_entry::PinEntry;
 pub use sheet_day::rotor_entry::{RotorEntry, SheetWheel};
 pub use words::{
-    day_of_text, letter_of_text, number_of_text, push_letter, push_number, split_once, split_words,
-    wide_number_of_text,
+    day_of_text, is_word, letter_of_text, number_of_text, push_letter, push_number, split_once,
+    split_words, wide_number_of_text,
 };

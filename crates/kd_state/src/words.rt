@@ -49,10 +49,10 @@ pub fn split_words<const N: usize>(line: &[u8]) -> Option<ArrayVec<&[u8], N>>
 }
 
 /// Whether `text` is `word`.
-pub(crate) fn is_word(text: &[u8], word: &str) -> bool
-    ensures { IsTrue result ↔ (word.now ≡ text.now) }
+pub fn is_word(text: &[u8], word: &str) -> bool
+    ensures { IsTrue result ↔ (text.now ≡ word.now) }
 {
-    word.as_bytes() == text
+    text == word.as_bytes()
 }
 
 /// Reads a number below 65,536 in decimal, without leading zeros and without a sign.
