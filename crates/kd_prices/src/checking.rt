@@ -16,7 +16,7 @@ use super::walking::{carry_settings, is_priced_setting};
 use kd_card::{Card, Kind, PriceParts, sum_of_prices};
 use kd_state::{Machine, OneModel, Setting, SheetDay, bar_costs, cable_costs};
 
-/// Checks that `card` proves itself, or finds the first doubt about it. Whoever made the card doesn't matter.
+/// Checks that `card`, whoever made it, proves itself, or finds the first doubt about it.
 ///
 /// A card proves itself if its settings lead `machine` to `day`, and its prices show that no shorter list does.
 /// The variants of `Doubt` are tested in their order; the first that applies is the result.
@@ -113,7 +113,7 @@ fn doubt_by_kinds<R: Kind, C: Kind, const N: usize>(
     doubt_by_prices(machine, day, settings, costs, &rows, &columns)
 }
 
-/// Finds the first doubt about `settings`, given a price for each row and each column of the table of costs.
+/// Finds the first doubt about `settings`, given a price for each row and column of the table of costs.
 fn doubt_by_prices<const N: usize>(
     machine: &Machine,
     day: &SheetDay,

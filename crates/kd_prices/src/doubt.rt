@@ -34,7 +34,7 @@ pub enum Doubt {
 }
 
 impl Doubt {
-    /// The refusal's number and name, and the numbers that the doubt has: a line, or a row and a column.
+    /// The refusal's number and name, and what the doubt has: a line, the reason, or a row and a column.
     pub fn text(&self) -> Text
         ensures { result.bytes ≡ doubt_text self.now }
     {

@@ -7,7 +7,9 @@ ghost use Rattle.kd_prices.specs.Grouping.{IsCounted, IsPriceOf, HasNoKind};
 use arrayvec::ArrayVec;
 use kd_card::{Kind, Thing};
 
-/// The price that each of `things` has by `kinds`. `None` if `kinds` or their counts aren't those of `things`.
+/// The price that each of `things` has by `kinds`.
+///
+/// `None` if `kinds` or their counts aren't those of `things`.
 pub(crate) fn prices_of<K: Kind, const N: usize>(
     things: &[K::Thing],
     kinds: &[K],
