@@ -1,4 +1,4 @@
--- Bytes are the text of at most one card, or have one fault.
+-- Bytes are the text of at most one card, and have at most one first fault; never both.
 use Rattle.kd_card.proofs.Prelude.{not_longer, same_end, Bool, true, false, codes, ◌≡◌, ◌≢◌, ℕ, ◌+◌, ◌*◌, ◌^◌, ◌<◌, ◌≤◌}
 use Rattle.kd_card.proofs.Prelude.{List, [], ◌∷◌, ◌++◌, length, map, get_or, Result, Ok, Err, refl, sym, ap, subst, ◌∙◌}
 use Rattle.kd_card.proofs.Prelude.{arith, ℤ, unsigned_abs, append_assoc, AllByRecursion, signed_decimal}
@@ -63,7 +63,8 @@ by_number : (group : Group) (rows columns : List ℤ) {bytes middle rest : List 
     → AreAllPriceLines ByNumber bytes (parts_by_number group rows columns) rest
 by_number group rows columns a b = grind (arith, common_steps, two_lines)
 
--- What two groups of kinds say of the bytes.
+-- If two groups of kinds are read from `bytes`, these are the lines of the kinds, and then the rest; and both
+-- groups are valid.
 pub groups_said : {R X C Y : Type 0} (rows : Sort R X) (columns : Sort C Y) (number line : ℕ) {bytes : List ℕ}
     (x : List R × List C × List ℕ) → IsGroupsAnswer rows columns number line bytes (Ok x)
     → (bytes ≡ lines_text (map (kind_words rows) x.0 ++ map (kind_words columns) x.1) ++ x.2)
