@@ -85,7 +85,7 @@ abbrev pub IsHeadAnswer : List ℕ → AnswerRule CardFault (Version × ℕ × L
 IsHeadAnswer bytes = Finds (λ (head : Version × ℕ × List ℕ). BeginsWithHead bytes head.0 head.1 head.2) BadHead
 
 -- Reading the settings has this result: all settings up to the first line that isn't one, and the bytes after
--- them; or the fault `TooMany` if 193 lines are settings.
+-- them; or the fault `TooMany` if the first 193 lines are settings.
 abbrev pub IsSettingsAnswer : List ℕ → AnswerRule CardFault (List Setting × List ℕ)
 IsSettingsAnswer bytes (Ok list) = BeginsWithAllSettings bytes list.0 list.1
 IsSettingsAnswer bytes (Err fault) =

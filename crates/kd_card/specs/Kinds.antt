@@ -67,9 +67,10 @@ IsPairInOrder (Some pair) = (pair.0 < pair.1) × (pair.1 < 26)
 
 -- ---- the four sorts of kinds
 
--- How kinds of one sort (of cables, columns, bars or rows) are written and ordered. `word` begins the line of
--- each kind; `kind` is its thing (what its things have in common), their number and price; `text` is the thing
--- as the line has it. A card only has things that satisfy `InForm`. `ComesBefore` is the order of their lines.
+-- How kinds of one sort (of cables, columns, bars or rows) are written and ordered. `word` begins each kind's
+-- line; `kind` gives what the kind's things have in common (`thing`), their number and their price; `text` is a
+-- thing as the line has it. On a card, each thing satisfies `InForm`, and `ComesBefore` is the order of the
+-- lines.
 pub record Sort (K X : Type 0) : Type 1 where
   pub word : List ℕ
   pub kind : K → KindOf X

@@ -375,7 +375,7 @@ pub(crate) fn comes_after<K: Kind>(last: Option<K>, kind: &K) -> bool
     }
 }
 
-/// Whether `kind` is valid: in the form of a card's lines, not empty, with a price from -9999 to 9999.
+/// Whether `kind` is valid: in the form of a card's lines, with a count above 0 and a price within ±9999.
 fn is_kind<K: Kind>(kind: &K) -> bool
     ensures { IsTrue result ↔ IsKind K.sort kind.now }
 {
