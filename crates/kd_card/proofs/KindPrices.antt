@@ -56,7 +56,7 @@ group_fits {sort} {kinds} group =
 
 -- ---- valid prices by kind
 
--- What is proved of kinds that are in order and count so many things.
+-- There are `number` prices, each from -9999 to 9999.
 pub record AreValued (number : ℕ) (prices : List ℤ) : Type 0 where
   pub count : length prices ≡ number
   pub reach : ArePricesInRange prices
@@ -127,9 +127,9 @@ first_kind {sort} {rest} {kind} {kinds} next behind = record {
   none_more = behind.none_more;
 }
 
--- `kept` are the first `room` of the kinds read so far, which count `number` things, or more than `room` if `number`
--- is one more. Together with those that begin `rest` they are all kinds. The next kind comes after the kind `last`, and
--- is on line `at`.
+-- Kinds have been read up to `rest`. They count `number` things, or more than `room` if `number` is `room + 1`;
+-- `kept` are these kinds, if there are at most `room`. With the kinds that begin `rest`, they are all kinds that
+-- begin `text`. The next kind comes after the kind `last`, and is on line `at`.
 pub record HasRead {K X : Type 0} (sort : Sort K X) (room line : ℕ) (text rest : List ℕ) (last : Option K)
     (number at : ℕ) (kept : List K) : Type 0 where
   pub read : List K

@@ -1,4 +1,4 @@
--- The words of kinds' lines, and the things for which they are written.
+-- The words of a kind's line determine what its things have in common, their number and their price.
 use Rattle.kd_card.proofs.Prelude.{same_place, codes, ◌≡◌, ◌≢◌, ℕ, ◌<◌, List, [], ◌∷◌, ◌++◌, get_or, drop, subst, refl}
 use Rattle.kd_card.proofs.Prelude.{ℤ, Option, Some, None, sym, ap, ◌∙◌, append_assoc, length-append, arith, decimal}
 use Rattle.kd_card.proofs.Prelude.{All, decimal_injective, signed_decimal_injective, All-append, All-weaker}
@@ -159,7 +159,7 @@ module _ {K X : Type 0} {sort : Sort K X} where
   pub ends_at : {bytes : List ℕ} (last : Option K) → EndsGroup sort.word bytes → EndsKindsAt sort last bytes
   ends_at last ends = record { ends = ends; none_more = end_has_no_next last ends }
 
-  -- The group doesn't end, but no kind follows: there are bytes without a whole line.
+  -- If there are bytes without a whole line, the group doesn't end before them, but no kind follows.
   pub unended : {bytes : List ℕ} (last : Option K) → bytes ≢ []
       → ((found : List (List ℕ) × List ℕ) → ¬ (HasLineWords bytes found.0 found.1)) → IsBadKindAt sort last bytes
   unended last some none = record {
@@ -170,7 +170,8 @@ module _ {K X : Type 0} {sort : Sort K X} where
     none_more = λ kind rest next. none (kind_words sort kind, rest) next.line;
   }
 
-  -- The group doesn't end, but no kind follows: the line with the sort's word isn't that of a kind.
+  -- If a line begins with the sort's word but isn't that of a kind after `last`, the group doesn't end, but no kind
+  -- follows.
   pub no_kind : {bytes : List ℕ} (last : Option K) → BeginsWithWord sort.word bytes → HasNoNext sort last bytes
       → IsBadKindAt sort last bytes
   no_kind last begins none = record {

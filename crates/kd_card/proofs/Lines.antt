@@ -78,7 +78,7 @@ card_text-joined version day count xs ys prices sum empty head list number lines
     let all : lines_text lines_of ≡ list_text xs = flat_map-map (λ words. line_of words ++ 10 ∷ []) setting_words xs in
     cc
 
--- Two lines, and the bytes after them.
+-- The text of two lines, and then `rest`, is the first line, then the second one, and then `rest`.
 pub two_lines : (a b : List (List ℕ)) (rest : List ℕ) → lines_text (a ∷ b ∷ []) ++ rest ≡ line_then a (line_then b rest)
 two_lines a b rest = simp (append_assoc, append-nil)
 
@@ -88,7 +88,7 @@ pub no_first_part : {byte : ℕ} {text part rest : List ℕ} → IsFirstPart byt
 no_first_part {byte} {text} {part} {rest} first without =
     grind (arith, without, length-append part (byte ∷ rest), get_or_at part byte rest 0 (length part) refl)
 
--- Splits the bytes after `front` at the first LF.
+-- The bytes after `front`, split at the first LF: the value before it, and the bytes after it; or there is no LF.
 pub value_split : (text front behind : List ℕ) (r : Option (Bor (List ℕ) × Bor (List ℕ))) → text ≡ front ++ behind
     → MatchOption r (IsWithout 10 behind) (λ parts. IsFirstPart 10 behind parts.0.now parts.1.now)
     → MatchOption r
@@ -142,7 +142,7 @@ pub value_line : {bytes : List ℕ} (name value rest : List ℕ) → IsWord name
     → bytes ≡ line_then (name ∷ value ∷ []) rest → HasLineWords bytes (name ∷ value ∷ []) rest
 value_line name value rest named valued e = grind (arith, line_has_words, All-from_recursion)
 
--- A line with three words.
+-- If a line has three words, they are its items 0, 1 and 2.
 pub words_in_place : (words : List (List ℕ)) (items : List (Bor (List ℕ))) (a b d : Bor (List ℕ))
     → map (λ (word : Bor (List ℕ)). word.now) items ≡ words
     → length items ≡ 3 → words ≡ (get_or items 0 a).now ∷ (get_or items 1 b).now ∷ (get_or items 2 d).now ∷ []
@@ -153,7 +153,7 @@ words_in_place words items a b d e h = grind (arith, common_steps)
 pub FitsSigned-price : (p : ℤ) → unsigned_abs p ≤ 9999 → FitsSigned w16 p
 FitsSigned-price p within = fits_signed_from_abs w16 p (omega (arith, within))
 
--- A price as it is written from its 16 bits.
+-- A price from -9999 to 9999 is the same after it has been kept in 16 bits, and so is its text.
 pub written_price : (text : List ℕ) (p : ℤ) → text ≡ signed_decimal (to_z w16 (of_z w16 p)) → unsigned_abs p ≤ 9999
     → text ≡ signed_decimal p
 written_price text p e within = e ∙ ap signed_decimal (to_z-of_z w16 p (FitsSigned-price p within))
@@ -241,7 +241,7 @@ module _ (number line : ℕ) {words : List (List ℕ)} where
 
 -- ---- results of steps
 
--- A caller passes the fault of a step on.
+-- If a step fails with `fault`, and `fault` is right for the caller, the step's result is right for the caller.
 pub MatchResult-err : {F Y : Type 0} (answer : Result Y F) (fault : F) (Good : Y → Type 0) (Bad : F → Type 0)
     → IsErrAnd answer (λ made. made ≡ fault) → Bad fault → MatchResult answer Good Bad
 MatchResult-err answer fault Good Bad made bad = let is = err_from_is_err_and answer made in rw (is.1, is.2) bad
@@ -253,7 +253,8 @@ not_from_false decides e is = false≢true (sym e ∙ decides.1 is)
 pub nonempty-by_length : {text : List ℕ} {test : Bool} → test ≡ eqb (length text) 0 → test ≡ false → text ≢ []
 nonempty-by_length is e none = false≢true (sym e ∙ is ∙ ap (λ t. eqb (length t) 0) none)
 
--- If there are bytes but no line, the line is bad.
+-- If reading a line fails although there are bytes, no whole line begins them, and the fault is that line `line`
+-- is bad.
 pub no_line : {line : ℕ} {bytes : List ℕ} {fault : CardFault} → bytes ≢ [] → IsLineAnswer line bytes (Err fault)
     → ((found : List (List ℕ) × List ℕ) → ¬ (HasLineWords bytes found.0 found.1)) × (fault ≡ BadLine line)
 no_line some (HasFault f none e) = absurd (none.0 tt some)
@@ -281,7 +282,7 @@ pub signed_word : (z : ℤ) → unsigned_abs z < 2 ^ 64 → IsWord (signed_decim
 signed_word (pos n) small = numbers_are_words n small
 signed_word (negsuc n) small = below_zero (decimal (suc n)) (numbers_are_words (suc n) small)
 
--- A head consists of the bytes before the day, and the day.
+-- A card's head is the text before the day, the day, and an LF.
 pub head_text : {front : List ℕ} (version : Version) (day : ℕ) (rest : List ℕ) → front ≡ head_prefix version
     → front ++ decimal day ++ 10 ∷ rest ≡ line_then (head_words version day) rest
 head_text version day rest e = rw e (grind arith)

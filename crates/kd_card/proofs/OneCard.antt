@@ -1,4 +1,4 @@
--- Bytes are the text of at most one card, or have one fault.
+-- Bytes are the text of at most one card, and have at most one first fault; never both.
 use Rattle.kd_card.proofs.Prelude.{not_longer, same_end, Bool, true, false, codes, ◌≡◌, ◌≢◌, ℕ, ◌+◌, ◌*◌, ◌^◌, ◌<◌, ◌≤◌}
 use Rattle.kd_card.proofs.Prelude.{List, [], ◌∷◌, ◌++◌, length, map, get_or, Result, Ok, Err, refl, sym, ap, subst, ◌∙◌}
 use Rattle.kd_card.proofs.Prelude.{arith, ℤ, unsigned_abs, append_assoc, AllByRecursion, signed_decimal}
@@ -63,7 +63,8 @@ by_number : (group : Group) (rows columns : List ℤ) {bytes middle rest : List 
     → AreAllPriceLines ByNumber bytes (parts_by_number group rows columns) rest
 by_number group rows columns a b = grind (arith, common_steps, two_lines)
 
--- What two groups of kinds say of the bytes.
+-- If two groups of kinds are read from `bytes`, these are the lines of the kinds, and then the rest; and both
+-- groups are valid.
 pub groups_said : {R X C Y : Type 0} (rows : Sort R X) (columns : Sort C Y) (number line : ℕ) {bytes : List ℕ}
     (x : List R × List C × List ℕ) → IsGroupsAnswer rows columns number line bytes (Ok x)
     → (bytes ≡ lines_text (map (kind_words rows) x.0 ++ map (kind_words columns) x.1) ++ x.2)
@@ -342,7 +343,7 @@ only_value signed front due line bytes =
     same_pair x y same.0 same.1))
     (λ found says. HasOneAnswer-ThenNext (HasOneAnswer-Demands _ _) (λ due is. HasOneAnswer-Yields _))
 
--- The line of the sum ends a group of kinds.
+-- The line with the sum ends each group of kinds, because it begins with another word than their lines.
 sum_ends : (sum : ℤ) (rest : List ℕ) → unsigned_abs sum < 2 ^ 64 → (word : List ℕ) → word ≢ codes "SUM"
     → EndsGroup word (line_then (sum_words sum) rest)
 sum_ends sum rest near word differs =
@@ -377,7 +378,8 @@ card_says {day} {xs} {prices} rest card end =
     (GoesOn (prices, sum) (all_say prices _ sum card.are_prices (sum_ends (price_sum prices) rest near) refl)
     (GoesOn rest (value_says true (codes "SUM ") _ _ (signed_text (price_sum prices) near) refl) end))))
 
--- If no line of a setting follows the settings, a second list of settings that begins the bytes is the same.
+-- Of two lists of settings whose lines begin the bytes, the one with all settings is at least as long. They are the
+-- same if no setting follows the other one, either.
 lists_meet : {body : List ℕ} {xs ys : List Setting} {rest more : List ℕ} → BeginsWithAllSettings body xs rest
     → BeginsWithSettingLines body ys more → (length ys ≤ length xs)
     × (BeginsWithNoSetting more → (xs ≡ ys) × (rest ≡ more))

@@ -49,7 +49,8 @@ pub record HasLineWords (bytes : List ℕ) (words : List (List ℕ)) (rest : Lis
   pub first : IsFirstPart 10 bytes line rest
   pub parts : words_of line ≡ words
 
--- A line of `front` and the number `due`: another form is a bad line, another number a wrong count.
+-- Reading a line of `front` and the number `due` has this result: the bytes after the line, or a fault. A line that
+-- isn't `front` and a number is bad; another number is a wrong count.
 abbrev pub IsValueAnswer : Bool → List ℕ → List ℕ → ℕ → List ℕ → AnswerRule CardFault (List ℕ)
 IsValueAnswer signed front due line bytes = do
   found ← Finds
@@ -58,13 +59,14 @@ IsValueAnswer signed front due line bytes = do
   _ ← Demands (found.0 ≡ due) CountWrong
   Yields found.1
 
--- Any line: its words, and the bytes after it.
+-- Reading any line has this result: its words and the bytes after it, or a fault.
 abbrev pub IsLineAnswer : ℕ → List ℕ → AnswerRule CardFault (List (List ℕ) × List ℕ)
 IsLineAnswer line bytes = do
   _ ← Demands (bytes ≢ []) PriceMissing
   Finds (λ (found : List (List ℕ) × List ℕ). HasLineWords bytes found.0 found.1) (BadLine line)
 
--- A line whose first word is one of `word`: which one it is, the other words, and the bytes after the line.
+-- Reading a line whose first word is `word` of some key has this result: the key, the words after the first, and
+-- the bytes after the line; or a fault.
 abbrev pub IsFirstWordAnswer : {K : Type 0} → (K → List ℕ) → ℕ → List ℕ
     → AnswerRule CardFault (K × List (List ℕ) × List ℕ)
 IsFirstWordAnswer {K} word line bytes = do
@@ -82,7 +84,8 @@ pub record BeginsWithHead (bytes : List ℕ) (version : Version) (day : ℕ) (re
 abbrev pub IsHeadAnswer : List ℕ → AnswerRule CardFault (Version × ℕ × List ℕ)
 IsHeadAnswer bytes = Finds (λ (head : Version × ℕ × List ℕ). BeginsWithHead bytes head.0 head.1 head.2) BadHead
 
--- All settings up to the first line that isn't one; or the fault that there are 193.
+-- Reading the settings has this result: all settings up to the first line that isn't one, and the bytes after
+-- them; or the fault `TooMany` if the first 193 lines are settings.
 abbrev pub IsSettingsAnswer : List ℕ → AnswerRule CardFault (List Setting × List ℕ)
 IsSettingsAnswer bytes (Ok list) = BeginsWithAllSettings bytes list.0 list.1
 IsSettingsAnswer bytes (Err fault) =
@@ -99,7 +102,8 @@ abbrev pub first_text : Version → Group → List ℕ
 first_text ByNumber group = row_word group
 first_text ByKind group = row_kind_word group
 
--- The words are `number` prices.
+-- Reading words as `number` prices has this result: the prices, or a fault. A word that isn't a price makes line
+-- `line` bad; with more or fewer prices, the fault is `PriceMissing`.
 abbrev pub IsPricesAnswer : ℕ → ℕ → List (List ℕ) → AnswerRule CardFault (List ℤ)
 IsPricesAnswer number line words = do
   prices ← Finds (λ prices. (words ≡ map signed_decimal prices) × ArePricesInRange prices) (BadLine line)
@@ -160,8 +164,10 @@ pub record BeginsWithKinds {K X : Type 0} (sort : Sort K X) (last : Option K) (b
   pub in_order : AreKinds sort last kinds
   pub none_more : HasNoNext sort (last_of last kinds) rest
 
--- A group of kinds: another word or the end follows it, and its kinds count `number` things.
--- Code: the reader keeps at most `number` kinds, and a number of things of at most one more.
+-- Reading a group of kinds has this result: the kinds and the bytes after them, or a fault. If these bytes begin
+-- with the sort's word or without a whole line, their line is bad; if the kinds don't count `number` things, the
+-- fault is `PriceMissing`.
+-- Code: the reader keeps at most `number` kinds, and stops counting things at `number + 1`.
 abbrev pub IsGroupAnswer : {K X : Type 0} → Sort K X → ℕ → ℕ → List ℕ → AnswerRule CardFault (List K × List ℕ)
 IsGroupAnswer {K} sort number line bytes = do
   group ← FindsAlways (λ (group : List K × List ℕ). BeginsWithKinds sort None bytes group.0 group.1)
@@ -169,7 +175,8 @@ IsGroupAnswer {K} sort number line bytes = do
   _ ← Demands (counted sort group.0 ≡ number) PriceMissing
   Yields group
 
--- The group of the rows, and then the group of the columns.
+-- Reading the group of kinds of rows, and then that of columns, has this result: both groups and the bytes after
+-- them, or a fault.
 abbrev pub IsGroupsAnswer : {R X C Y : Type 0} → Sort R X → Sort C Y → ℕ → ℕ → List ℕ
     → AnswerRule CardFault (List R × List C × List ℕ)
 IsGroupsAnswer row_sort column_sort number line bytes = do
@@ -199,7 +206,8 @@ IsAllPricesAnswer ByKind line bytes = IsByKindPricesAnswer line bytes
 abbrev pub IsSumAnswer : ℤ → ℕ → List ℕ → AnswerRule CardFault (List ℕ)
 IsSumAnswer sum line bytes = IsValueAnswer true (codes "SUM ") (signed_decimal sum) line bytes
 
--- The bytes after the settings: their number, the prices and the sum of the prices.
+-- Reading the bytes after the settings (the number of settings, the prices and their sum) has this result: the
+-- card with its day, or a fault.
 abbrev pub IsRestAnswer : Version → ℕ → List Setting → ℕ → List ℕ → AnswerRule CardFault (ℕ × List Setting × PriceParts)
 IsRestAnswer version day settings number bytes = do
   rest ← IsCountAnswer number bytes
@@ -208,7 +216,7 @@ IsRestAnswer version day settings number bytes = do
   _ ← Demands (end ≡ []) Trailing
   Yields (day, settings, prices.0)
 
--- The card that `bytes` describe: its day, settings and prices; or the first fault.
+-- Reading `bytes` has this result: the day, the settings and the prices of the card, or the first fault.
 abbrev pub IsCardAnswer : List ℕ → AnswerRule CardFault (ℕ × List Setting × PriceParts)
 IsCardAnswer bytes = do
   head ← IsHeadAnswer bytes

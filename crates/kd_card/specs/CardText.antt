@@ -15,7 +15,7 @@ use Rattle.kd_card.specs.declared.group.Group.TheVariants.{OfCables, OfBars}
 use Rattle.kd_card.specs.Kinds.{Sort, kind_words, cable_sort, pair_sort, bar_sort, row_sort, counted, AreKinds}
 use Rattle.kd_card.specs.Prices.{version_of, price_sum, ArePrices}
 
--- the first words of the two price lines of a card by number
+-- the first words of the two price lines of a card where each thing has its own price
 abbrev pub row_word : Group → List ℕ
 row_word OfCables = codes "CABLES"
 row_word OfBars = codes "BARS"
@@ -24,22 +24,22 @@ abbrev pub column_word : Group → List ℕ
 column_word OfCables = codes "PAIRS"
 column_word OfBars = codes "ROWS"
 
--- The first word of each line of kinds: of the cables or bars, and of the columns.
+-- the first word of each line for a kind of cables or bars, which are the rows of the table of costs
 abbrev pub row_kind_word : Group → List ℕ
 row_kind_word OfCables = cable_sort.word
 row_kind_word OfBars = bar_sort.word
 
--- the number of prices of rows, which is also the number of prices of columns
+-- the number of rows of the table of costs, which is also its number of columns: each has a price
 abbrev pub price_count : Group → ℕ
 price_count OfCables = 13
 price_count OfBars = 27
 
--- Valid kinds, in order and each once, that count `number` things.
+-- The kinds are valid, in order and each once, and count `number` things in all.
 pub record IsGroup {K X : Type 0} (sort : Sort K X) (number : ℕ) (kinds : List K) : Type 0 where
   pub in_order : AreKinds sort None kinds
   pub count : counted sort kinds ≡ number
 
--- the words of the head before the day: 1 is a card by number, 2 a card by kind
+-- the second word of a card's head: 1 if each thing has its own price, 2 if equal things share one
 abbrev pub version_text : Version → List ℕ
 version_text ByNumber = codes "1"
 version_text ByKind = codes "2"
@@ -63,7 +63,7 @@ sum_words sum = codes "SUM" ∷ signed_decimal sum ∷ []
 abbrev pub lines_text : List (List (List ℕ)) → List ℕ
 lines_text lines = flat_map (λ words. line_of words ++ 10 ∷ []) lines
 
--- the price lines: two with all prices, or one for each kind
+-- the words of the price lines: two lines if each thing has its own price, else one for each kind
 abbrev pub price_lines : PriceParts → List (List (List ℕ))
 price_lines (Cables row col) = price_words (row_word OfCables) row ∷ price_words (column_word OfCables) col ∷ []
 price_lines (Bars row col) = price_words (row_word OfBars) row ∷ price_words (column_word OfBars) col ∷ []

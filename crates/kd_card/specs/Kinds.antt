@@ -1,4 +1,4 @@
--- Kinds: what equal cables, pairs, bars or rows have in common, how many there are, and the price of each.
+-- Kinds: what equal cables, columns, bars or rows have in common, how many there are, and the price of each.
 use Rattle.std.specs.Prelude.{codes, decimal, ◌≡◌, ℕ, ◌+◌, ◌<◌, ◌≤◌, List, [], ◌∷◌, ◌++◌, length, map, replicate}
 use Rattle.std.specs.Prelude.{flat_map, ℤ, unsigned_abs, Option, Some, None, ◌⊎◌, IsPermutation, zip}
 use Rattle.std.specs.Fmt.{signed_decimal}
@@ -15,13 +15,15 @@ use Rattle.kd_card.specs.declared.kinds.RowKind.{RowKind}
 
 -- ---- things: a cable's letters, a column's pair, a bar's standing, a row's reading
 
--- Two numbers, or two letters as their places in the alphabet, are ordered by the first one, then by the second.
--- Readings are ordered so. Code: the derived order of `Reading`.
+-- The order of readings, and of pairs of letters as their places in the alphabet: by the first number, then by the
+-- second.
+-- Code: the derived order of `Reading`.
 abbrev pub NumbersComeBefore : ℕ × ℕ → ℕ × ℕ → Type 0
 NumbersComeBefore x y = (x.0 < y.0) ⊎ ((x.0 ≡ y.0) × (x.1 < y.1))
 
--- Cables are ordered as words in a dictionary, and one without a first letter comes last.
--- Code: the derived order of `Ends`; the law `ordered` of `Kind` says that it is this order.
+-- The order of cables: by their letters, as words in a dictionary; a cable without a first letter comes last.
+-- `SecondComesBefore` compares the second letters.
+-- Code: the derived order of `Ends`; the law `ordered` of `Kind` proves that it is this order.
 abbrev pub SecondComesBefore : Option ℕ → Option ℕ → Type 0
 SecondComesBefore None None = ⊥
 SecondComesBefore None (Some other) = Unit {0}
@@ -34,25 +36,25 @@ EndsComeBefore (None, second) (Some first, other) = ⊥
 EndsComeBefore (Some first, second) (None, other) = Unit {0}
 EndsComeBefore (Some one, second) (Some two, other) = (one < two) ⊎ ((one ≡ two) × SecondComesBefore second other)
 
--- Pairs are ordered as words in a dictionary, and a nothing comes last.
+-- The order of columns: pairs as words in a dictionary, and then the nothings, which are columns without a pair.
 -- Code: the derived order of `Column`.
 abbrev pub PairComesBefore : Option (ℕ × ℕ) → Option (ℕ × ℕ) → Type 0
 PairComesBefore None other = ⊥
 PairComesBefore (Some pair) None = Unit {0}
 PairComesBefore (Some pair) (Some other) = NumbersComeBefore pair other
 
--- Standings are ordered by the left lug's place, then by the right one's.
+-- The order of standings: by the left lug's place, then by the right one's.
 -- Code: the derived order of `Standing`.
 abbrev pub StandingComesBefore : Place × Place → Place × Place → Type 0
 StandingComesBefore x y = IsBefore x.0 y.0 ⊎ ((x.0 ≡ y.0) × IsBefore x.1 y.1)
 
--- Letters as they are written. `-` stands for no letters.
+-- the letters of a cable or a column as a kind's line has them, or `-` if there are none
 abbrev pub letters_text : List ℕ → List ℕ
 letters_text [] = codes "-"
 letters_text (letter ∷ letters) = flat_map letter_text (letter ∷ letters)
 
--- Two letters of a cable are in alphabetical order; a single one comes first. Those of a pair are in this order
--- too.
+-- A cable's letters are in the form that a card writes: two are in alphabetical order; a single one is in the first
+-- place. A column is in this form if it has no pair, or a pair with its letters in alphabetical order.
 abbrev pub AreEnds : Option ℕ → Option ℕ → Type 0
 AreEnds None None = Unit {0}
 AreEnds None (Some other) = ⊥
@@ -65,8 +67,10 @@ IsPairInOrder (Some pair) = (pair.0 < pair.1) × (pair.1 < 26)
 
 -- ---- the four sorts of kinds
 
--- How the kinds of one sort are written and ordered: `word` begins their lines, `text` is what their things have in
--- common as it is written. Things in form are written in the one way that can be read.
+-- How kinds of one sort (of cables, columns, bars or rows) are written and ordered. `word` begins each kind's
+-- line; `kind` gives what the kind's things have in common (`thing`), their number and their price; `text` is a
+-- thing as the line has it. On a card, each thing satisfies `InForm`, and `ComesBefore` is the order of the
+-- lines.
 pub record Sort (K X : Type 0) : Type 1 where
   pub word : List ℕ
   pub kind : K → KindOf X
@@ -110,31 +114,31 @@ row_sort = record {
   ComesBefore = NumbersComeBefore;
 }
 
--- `text` is what the thing has in common with equal ones, as it is written.
+-- The thing is in the form that a card writes, and is written as `text`.
 pub record HasText {K X : Type 0} (sort : Sort K X) (text : List ℕ) (thing : X) : Type 0 where
   pub form : sort.InForm thing
   pub written : sort.text thing ≡ text
 
--- `text` is written for this thing, and for no other.
+-- The thing is in the form that a card writes, and it alone is written as `text`.
 pub record IsOnlyThing {K X : Type 0} (sort : Sort K X) (text : List ℕ) (thing : X) : Type 0 where
   pub has : HasText sort text thing
   pub only : (other : X) → HasText sort text other → other ≡ thing
 
 -- ---- kinds of a card
 
--- `next` comes after the last kind before it, if there is one.
+-- The kind `next` comes after the kind `last` in the order of lines, or there is no `last`.
 abbrev pub ComesAfter : {K X : Type 0} → Sort K X → Option K → K → Type 0
 ComesAfter sort None next = Unit {0}
 ComesAfter sort (Some last) next = sort.ComesBefore (sort.kind last).thing (sort.kind next).thing
 
--- A valid kind of a card.
+-- The kind is valid: in the form that a card writes, with a count from 1 to 255 and a price from -9999 to 9999.
 pub record IsKind {K X : Type 0} (sort : Sort K X) (kind : K) : Type 0 where
   pub form : sort.InForm (sort.kind kind).thing
   pub some : 1 ≤ (sort.kind kind).count
   pub most : (sort.kind kind).count ≤ 255
   pub reach : unsigned_abs (sort.kind kind).price ≤ 9999
 
--- Valid kinds, each once and in the order of their sort, after the kind `last` if there is one.
+-- The kinds are valid, each once and in the order of lines; they come after the kind `last` if there is one.
 abbrev pub AreKinds : {K X : Type 0} → Sort K X → Option K → List K → Type 0
 AreKinds sort last [] = Unit {0}
 AreKinds sort last (kind ∷ kinds) = IsKind sort kind × ComesAfter sort last kind × AreKinds sort (Some kind) kinds
@@ -148,11 +152,12 @@ counted sort (kind ∷ kinds) = (sort.kind kind).count + counted sort kinds
 abbrev pub prices_of_kinds : {K X : Type 0} → Sort K X → List K → List ℤ
 prices_of_kinds sort kinds = flat_map (λ k. replicate (sort.kind k).count (sort.kind k).price) kinds
 
--- Each thing that the kinds count, with its price, as often as it is counted.
+-- the kinds written out: the thing of each kind, with its price, as often as the kind counts
 abbrev pub expansion : {X : Type 0} → List (KindOf X) → List (X × ℤ)
 expansion kinds = flat_map (λ kind. replicate kind.count (kind.thing, kind.price)) kinds
 
--- The kinds count just these things, each with its price: written out, they are the things in some order.
+-- The kinds count just these things, each with its price: written out, they are the things with their prices, in
+-- some order.
 -- Code: `kinds_of` sorts things with their prices and counts equal ones; `prices_of` looks for each thing's kind and
 -- compares the counts. Neither writes the kinds out.
 pub record AreKindsOf {K X : Type 0} (sort : Sort K X) (things : List X) (prices : List ℤ) (kinds : List K) : Type 0 where
@@ -161,11 +166,11 @@ pub record AreKindsOf {K X : Type 0} (sort : Sort K X) (things : List X) (prices
 
 -- ---- lines
 
--- the words of a kind's line: what sort of thing it is, what its things have in common, count and price
+-- the words of a kind's line: the word of its sort, what its things have in common, their number and their price
 abbrev pub kind_words : {K X : Type 0} → Sort K X → K → List (List ℕ)
 kind_words sort k = sort.word ∷ sort.text (sort.kind k).thing ∷ decimal (sort.kind k).count ∷ signed_decimal (sort.kind k).price ∷ []
 
--- These are the words of the line of `kind`.
+-- The kind is valid, and these are the words of its line.
 pub record HasKindWords {K X : Type 0} (sort : Sort K X) (words : List (List ℕ)) (kind : K) : Type 0 where
   pub good : IsKind sort kind
   pub written : kind_words sort kind ≡ words

@@ -1,4 +1,5 @@
--- The order of standings that their derived order gives: by the left lug's place, then by the right one's.
+-- The derived order of standings is `StandingComesBefore`: by the left lug's place, then by the right one's.
+-- Standings that compare as equal are the same.
 use Rattle.std.specs.Prelude.{◌≡◌, ◌↔◌, ◌⊎◌}
 use Rattle.std.proofs.Common.{arith}
 use Rattle.std.specs.Ordering.{ordering_then}

@@ -1,5 +1,6 @@
--- The prices of a card, by number or by kind, and what it means that prices fit. Rows and columns are counted
--- from 0.
+-- The prices of a card, and what it means that they fit a table of costs. By number, each cable, pair, nothing,
+-- bar or row of the sheet has its own price; by kind, equal ones share one. Rows and columns of the table are
+-- counted from 0.
 use Rattle.std.specs.Prelude.{◌≡◌, ℕ, ◌<◌, ◌≤◌, List, [], ◌++◌, length, All, fold, slice_index, slice_index_or, ℤ}
 use Rattle.std.specs.Prelude.{None, pos, unsigned_abs, ◌+ℤ◌, ◌≤ℤ◌}
 use Rattle.kd_card.specs.declared.prices.PriceParts.{PriceParts}
@@ -15,14 +16,15 @@ version_of (Bars row col) = ByNumber
 version_of (CableKinds row col) = ByKind
 version_of (BarKinds row col) = ByKind
 
--- the prices of the rows of the table of costs: of the cables or bars; those of one kind come together
+-- the prices of the rows of the table of costs, which are cables or bars; if prices are by kind, kind after kind
 abbrev pub row_prices : PriceParts → List ℤ
 row_prices (Cables row col) = row
 row_prices (Bars row col) = row
 row_prices (CableKinds row col) = prices_of_kinds cable_sort row.items
 row_prices (BarKinds row col) = prices_of_kinds bar_sort row.items
 
--- the prices of the columns of the table of costs: of pairs and nothings, or of the sheet's rows
+-- the prices of the columns of the table of costs, which are pairs and nothings, or the sheet's rows; if prices
+-- are by kind, kind after kind
 abbrev pub column_prices : PriceParts → List ℤ
 column_prices (Cables row col) = col
 column_prices (Bars row col) = col
@@ -40,14 +42,14 @@ table_rows (BarKinds row col) = 27
 abbrev pub ArePricesInRange : List ℤ → Type 0
 ArePricesInRange prices = All (λ price. unsigned_abs price ≤ 9999) prices
 
--- Prices by kind have valid kinds in order.
+-- If the prices are by kind, the kinds are valid, in order and each once.
 abbrev pub HaveKindsInOrder : PriceParts → Type 0
 HaveKindsInOrder (Cables row col) = Unit {0}
 HaveKindsInOrder (Bars row col) = Unit {0}
 HaveKindsInOrder (CableKinds row col) = AreKinds cable_sort None row.items × AreKinds pair_sort None col.items
 HaveKindsInOrder (BarKinds row col) = AreKinds bar_sort None row.items × AreKinds row_sort None col.items
 
--- Valid prices of a card.
+-- The prices are valid: one for each row and column of the table of costs, from -9999 to 9999; kinds are in order.
 pub record ArePrices (prices : PriceParts) : Type 0 where
   pub rows : length (row_prices prices) ≡ table_rows prices
   pub columns : length (column_prices prices) ≡ table_rows prices
@@ -63,7 +65,8 @@ cost_at costs i j = slice_index (slice_index_or costs i []) j
 abbrev pub price_at : List ℤ → ℕ → ℤ
 price_at prices i = slice_index_or prices i (pos 0)
 
--- The prices of row `i` and column `j` are together at most the cost where they meet.
+-- The prices of row `i` and column `j` add up to at most the cost where they meet. `PricesFit`: this holds for each
+-- row and each column.
 abbrev pub PricesFitAt : List (List ℕ) → PriceParts → ℕ → ℕ → Type 0
 PricesFitAt costs prices i j =
     (price_at (row_prices prices) i +ℤ price_at (column_prices prices) j) ≤ℤ pos (cost_at costs i j)
@@ -75,12 +78,12 @@ PricesFit costs prices = (i j : ℕ) → i < table_rows prices → j < table_row
 abbrev pub price_sum : PriceParts → ℤ
 price_sum prices = fold (λ sum price. sum +ℤ price) (pos 0) (row_prices prices ++ column_prices prices)
 
--- The prices of row `i` and column `j` are together exactly the cost where they meet.
+-- The prices of row `i` and column `j` add up to exactly the cost where they meet.
 abbrev pub IsPriceTightAt : List (List ℕ) → PriceParts → ℕ → ℕ → Type 0
 IsPriceTightAt costs prices i j =
     (price_at (row_prices prices) i +ℤ price_at (column_prices prices) j) ≡ pos (cost_at costs i j)
 
--- Each row has a column where its price is tight, and each column a row.
+-- Each row has a column, and each column a row, so that the prices of the two add up to exactly the cost.
 pub record ArePricesTight (costs : List (List ℕ)) (prices : PriceParts) : Type 0 where
   pub column_of : (i : ℕ) → i < table_rows prices → (j : ℕ) × (j < table_rows prices) × IsPriceTightAt costs prices i j
   pub row_of : (j : ℕ) → j < table_rows prices → (i : ℕ) × (i < table_rows prices) × IsPriceTightAt costs prices i j

@@ -19,8 +19,8 @@ use Rattle.kd_card.specs.declared.prices.Version.TheVariants.{ByNumber}
 use Rattle.kd_card.specs.Kinds.{cable_sort, pair_sort, bar_sort, row_sort, AreKindsOf}
 use Rattle.kd_card.specs.Prices.{version_of, price_sum, PricesFit, ArePrices}
 
--- The prices are by number, and belong to the machine's model: cables of a rotor machine, or bars of a
--- Converter M-209.
+-- The prices are by number (each thing has its own) and for this sort of machine: of cables for a rotor machine,
+-- or of bars for a Converter M-209.
 abbrev pub AreModelPrices : Parts → PriceParts → Type 0
 AreModelPrices (Rotor m) (Cables row col) = Unit {0}
 AreModelPrices (Pin m) (Bars row col) = Unit {0}
@@ -56,7 +56,8 @@ LeadsToTheDay m s settings = (n : Parts) × Leads m settings n × ReadsAs n s
 
 -- ---- prices by kind mean prices by number
 
--- A pair with its letters in alphabetical order, and the columns of a day's table of costs with their letters so.
+-- a pair with its letters in alphabetical order; and the columns of a day's table of costs, each with its
+-- letters in this order
 abbrev pub pair_in_order : Option (ℕ × ℕ) → Option (ℕ × ℕ)
 pair_in_order None = None
 pair_in_order (Some pair) = Some (smaller_first pair.0 pair.1)
@@ -64,8 +65,8 @@ pair_in_order (Some pair) = Some (smaller_first pair.0 pair.1)
 abbrev pub columns_in_order : List (ℕ × ℕ) → List (Option (ℕ × ℕ))
 columns_in_order pairs = map pair_in_order (columns_of pairs)
 
--- The kinds count just the cables, pairs and nothings, or the bars and rows, of machine and day, each thing with its
--- price by number.
+-- The first prices are by kind, the second ones by number. The kinds count just the machine's cables, and the day's
+-- pairs and nothings, with their prices by number; or the machine's bars and the day's rows.
 abbrev pub AreExpanded : Parts → Day → PriceParts → PriceParts → Type 0
 AreExpanded (Rotor m) (OfRotors s) (CableKinds row col) (Cables rows columns) =
     AreKindsOf cable_sort m.cables rows row.items × AreKindsOf pair_sort (columns_in_order s.pairs) columns col.items
@@ -73,15 +74,17 @@ AreExpanded (Pin m) (OfPins s) (BarKinds row col) (Bars rows columns) =
     AreKindsOf bar_sort m.bars rows row.items × AreKindsOf row_sort s.rows columns col.items
 AreExpanded _ _ _ _ = ⊥
 
--- Prices by number mean themselves. Prices by kind mean one price for each cable and pair, or for each bar and
--- row.
+-- `numbered` has the price of each thing by `prices`. If `prices` are by number, the two are equal. If they are
+-- by kind, equal things have the price of their kind.
 pub data Expands (m : Parts) (s : Day) (prices numbered : PriceParts) : Type 0 where
   Same : version_of prices ≡ ByNumber → prices ≡ numbered → Expands m s prices numbered
   Expanded : ArePrices prices → ArePrices numbered → AreExpanded m s prices numbered → Expands m s prices numbered
 
 -- ---- the card proves itself
 
--- The prices are by number, and prove the settings.
+-- A card with one price for each thing (by number) proves itself: the settings lead the machine to the day, and
+-- each is needed. The prices fit the table of costs, and their sum is the number of settings that change a cable
+-- or a bar.
 pub record ProvesByNumber (m : Parts) (s : Day) (settings : List Setting) (prices : PriceParts) : Type 0 where
   pub model : model_of m ≡ day_model s
   pub kind : AreModelPrices m prices
@@ -90,7 +93,7 @@ pub record ProvesByNumber (m : Parts) (s : Day) (settings : List Setting) (price
   pub sum : price_sum prices ≡ pos (priced_count settings)
   pub needed : AreSettingsNeeded m s settings
 
--- The prices mean prices by number that prove the settings.
+-- A card proves itself. Its prices are by number or by kind; `numbered` has the price of each thing.
 pub record Proves (m : Parts) (s : Day) (settings : List Setting) (prices : PriceParts) : Type 0 where
   pub numbered : PriceParts
   pub expands : Expands m s prices numbered

@@ -11,11 +11,11 @@ use thiserror::Error;
 pub enum CardFault {
     /// The first line isn't the head of a card.
     BadHead,
-    /// The line with this number is missing, has no LF, or doesn't have the form that its place wants.
+    /// The line with this number is missing, has no LF, or doesn't have the form that is expected there.
     BadLine(usize),
     /// There are more than 192 settings.
     TooMany,
-    /// A price line is missing or is for other things, or a group has too few or too many prices.
+    /// A price line is missing or is for other things, or rows or columns have too few or too many prices.
     PriceMissing,
     /// The number after `SETTINGS` isn't the number of settings, or the one after `SUM` isn't the sum.
     CountWrong,

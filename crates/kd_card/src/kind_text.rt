@@ -1,4 +1,4 @@
-//! Reads and writes the lines of kinds: one line for each kind of cable, pair, bar or row.
+//! Reads and writes the lines of kinds: one line for each kind of cables, columns, bars or rows.
 ghost use Rattle.std.specs.Prelude.{◌≡◌, ◌+◌, ◌*◌, ◌<◌, ◌≤◌, [], ◌∷◌, ◌++◌, length, All};
 ghost use Rattle.std.specs.Prelude.{MatchOption, MatchResult, Ok, Err};
 ghost use Rattle.arrayvec.specs.ArrayString.{array_string_len};
@@ -14,7 +14,7 @@ use arrayvec::{ArrayString, ArrayVec};
 use itoa::Buffer;
 use kd_state::{is_word, number_of_text, push_number, split_words};
 
-/// Parses a kind's line; `behind` is the text after its first word's space.
+/// Parses a kind's line; `behind` is its text after the first word and a space, if there is a space.
 #[tactic(auto, using(crate::proofs::Lines::words_in_place))]
 fn kind_behind<K: Kind>(behind: Option<&[u8]>) -> Option<K>
     ensures { let words = K.sort.word ∷ words_after_first (option_copied behind.entry) in
@@ -29,7 +29,7 @@ fn kind_behind<K: Kind>(behind: Option<&[u8]>) -> Option<K>
     }
 }
 
-/// Makes a kind of the words of its line after the first, or `None` if one isn't valid there.
+/// Makes a kind from the three words after the first in its line, or `None` if one of them isn't valid.
 #[tactic(auto, using(crate::proofs::KindWords::no_count))]
 fn kind_of_words<K: Kind>(thing: &[u8], count: &[u8], price: &[u8]) -> Option<K>
     ensures { let words = K.sort.word ∷ thing.now ∷ count.now ∷ price.now ∷ [] in
@@ -50,10 +50,10 @@ fn kind_of_words<K: Kind>(thing: &[u8], count: &[u8], price: &[u8]) -> Option<K>
     }))
 }
 
-/// Reads the next kind of a group, and the text after its line.
+/// Reads the next kind of a group, which has kinds of one sort. Returns it, and the text after its line.
 ///
-/// `None` if `text` is empty or begins with another word: the group ends there. The kind comes after the kind
-/// `last`, and its line is line `line` of the card.
+/// `None` if the group ends here: `text` is empty, or its first line begins with another word than this sort's.
+/// Line `line` of the card, the first of `text`, is bad if it isn't that of a kind after the kind `last`.
 fn next_kind<K: Kind>(
     text: &[u8],
     last: Option<K>,
@@ -78,7 +78,9 @@ fn next_kind<K: Kind>(
     }
 }
 
-/// Reads the kinds of `N` things, and the text after them. The first of these kinds has line `line` of the card.
+/// Reads a group of kinds, which count `N` things. Returns them, and the text after them.
+///
+/// The first of these kinds is on line `line` of the card.
 #[tactic(auto, using(crate::proofs::KindPrices::reads_none))]
 pub(crate) fn read_kinds<'a, K: Kind, const N: usize>(
     text: &'a [u8],
@@ -98,7 +100,8 @@ pub(crate) fn read_kinds<'a, K: Kind, const N: usize>(
     'kind: loop {
         match next_kind::<K>(rest, last, at) {
             Ok(Some((kind, after))) => {
-                // All numbers of things above `N` are refused alike, and so are more kinds than `N`.
+                // More than `N` things are refused, however many, so counting ends at `N + 1`. More than `N` kinds
+                // count more than `N` things.
                 number = (number + usize::from(kind.parts().count)).min(N + 1);
                 push_if_room(&mut kinds, &kind);
                 last = Some(kind);
@@ -125,7 +128,7 @@ fn push_if_room<K: Kind, const N: usize>(kinds: &mut ArrayVec<K, N>, kind: &K)
     }
 }
 
-/// Appends a line for each kind.
+/// Appends a line for each of `kinds`.
 pub(crate) fn push_kinds<K: Kind, const N: usize>(text: &mut ArrayString<N>, kinds: &[K])
     requires room { array_string_len text.old + 26 * length kinds.now ≤ N }
     requires kinds { All (IsKind K.sort) kinds.now }

@@ -1,4 +1,4 @@
-//! Kinds: what equal cables, pairs, bars or rows have in common, how many there are, and the price of each.
+//! Kinds: what equal cables, columns, bars or rows have in common, how many there are, and the price of each.
 ghost use Rattle.std.specs.Prelude.{◌≡◌, ◌≢◌, ◌↔◌, ℕ, ◌+◌, ◌<◌, ◌≤◌, [], ◌∷◌, ◌++◌, length, replicate};
 ghost use Rattle.std.specs.Prelude.{IsTrue, MatchOption};
 ghost use Rattle.arrayvec.specs.ArrayVec.{array_vec_len};
@@ -11,7 +11,7 @@ use arrayvec::{ArrayString, ArrayVec};
 use kd_state::push_letter;
 use kd_tables::{Letter, Reading, Standing};
 
-/// Cables with equal letters.
+/// A kind of cables: those with the same letters.
 #[derive(Clone, Copy, Default)]
 pub struct CableKind {
     /// The letters of each cable: a single letter comes first, two are in alphabetical order.
@@ -22,7 +22,7 @@ pub struct CableKind {
     pub price: i16,
 }
 
-/// Equal pairs, or the nothings.
+/// A kind of columns of the table of costs: equal pairs, or the nothings, which are columns without a pair.
 #[derive(Clone, Copy, Default)]
 pub struct PairKind {
     /// The letters of the pair in alphabetical order, or `None` for a nothing.
@@ -33,7 +33,7 @@ pub struct PairKind {
     pub price: i16,
 }
 
-/// Bars with one standing.
+/// A kind of bars: those with the same standing, the places of their two lugs.
 #[derive(Clone, Copy, Default)]
 pub struct BarKind {
     pub standing: Standing,
@@ -43,7 +43,7 @@ pub struct BarKind {
     pub price: i16,
 }
 
-/// Rows of a key sheet with one reading.
+/// A kind of rows of a key sheet: those with the same reading.
 #[derive(Clone, Copy, Default)]
 pub struct RowKind {
     pub reading: Reading,
@@ -53,7 +53,7 @@ pub struct RowKind {
     pub price: i16,
 }
 
-/// Equal things of any sort: what they have in common, their number, and the price of each.
+/// A kind of any sort: what its things have in common, their number, and the price of each.
 #[derive(Clone, Copy, Default)]
 pub struct KindOf<T> {
     pub thing: T,
@@ -61,7 +61,7 @@ pub struct KindOf<T> {
     pub price: i16,
 }
 
-/// A kind of cables, of pairs, of bars or of rows.
+/// A kind of cables, columns, bars or rows: equal things, which share one price.
 pub trait Kind: Copy + Default {
     ghost use Rattle.std.specs.Prelude.{◌≡◌, ◌↔◌, ◌≤◌, length, List, IsTrue, MatchOption};
     ghost use Rattle.std.specs.declared.cmp.Ordering.TheVariants.{Less};
@@ -70,37 +70,37 @@ pub trait Kind: Copy + Default {
     /// What the things of one kind have in common.
     type Thing: Thing;
 
-    /// How kinds of this sort are written and ordered.
+    /// How kinds of this sort (of cables, columns, bars or rows) are written and ordered.
     ghost sort: { Sort Self Self.Thing };
 
-    /// The first word of a kind's line.
+    /// The first word of the line of each kind of this sort.
     fn word() -> &'static str
         ensures value { result.now ≡ sort.word }
         ensures few { length result.now ≤ 5 };
 
-    /// Makes a kind of this sort.
+    /// Makes a kind of this sort from what its things have in common, their number and their price.
     fn of(kind: KindOf<Self::Thing>) -> Self
         ensures { sort.kind result ≡ kind };
 
-    /// The things, their number and their price.
+    /// What the kind's things have in common, their number, and the price of each.
     fn parts(&self) -> KindOf<Self::Thing>
         ensures { result ≡ sort.kind self.now };
 
-    /// Whether the things are in the form that is written: their letters are in order.
+    /// Whether the kind's things are in the form that a card writes, as with two letters in order.
     fn is_in_form(&self) -> bool
         ensures { IsTrue result ↔ sort.InForm (sort.kind self.now).thing };
 
-    /// What the things have in common, as it is written.
+    /// What the kind's things have in common, as the kind's line has it.
     fn text(&self) -> ArrayString<8>
         ensures { result.bytes ≡ sort.text (sort.kind self.now).thing };
 
-    /// Parses what the things of a kind have in common.
+    /// Parses what the things of a kind have in common, as the kind's line has it.
     fn thing_of_text(text: &[u8]) -> Option<Self::Thing>
         ensures { MatchOption result
             ((thing : Self.Thing) → ¬ (HasText sort text.now thing))
             (IsOnlyThing sort text.now) };
 
-    /// The derived order of things is the order of their lines.
+    /// The derived order of things is the order of lines that `sort` has.
     ghost ordered: { (x y : Self.Thing) → sort.ComesBefore x y ↔ (Self.Thing.cmp x y ≡ Less) };
 }
 
@@ -365,7 +365,7 @@ fn two_letters(text: &[u8]) -> Option<(Letter, Letter)>
     }
 }
 
-/// Whether `kind` comes after the kind `last`, if there is one.
+/// Whether `kind` comes after the kind `last` in the order of lines, or there is no `last`.
 pub(crate) fn comes_after<K: Kind>(last: Option<K>, kind: &K) -> bool
     ensures { IsTrue result ↔ ComesAfter K.sort last kind.now }
 {
@@ -375,7 +375,7 @@ pub(crate) fn comes_after<K: Kind>(last: Option<K>, kind: &K) -> bool
     }
 }
 
-/// Whether a kind is valid: in form, with at least one thing, and with a price from -9999 to 9999.
+/// Whether `kind` is valid: in the form of a card's lines, with a count above 0 and a price within ±9999.
 fn is_kind<K: Kind>(kind: &K) -> bool
     ensures { IsTrue result ↔ IsKind K.sort kind.now }
 {
@@ -383,7 +383,7 @@ fn is_kind<K: Kind>(kind: &K) -> bool
     kind.is_in_form() && parts.count > 0 && parts.price.unsigned_abs() <= 9999
 }
 
-/// Whether `kinds` are valid, in order after the kind `last`, and count `number` things.
+/// Whether `kinds` are valid, in order after the kind `last` if there is one, and count `number` things in all.
 pub(crate) fn are_kinds<K: Kind>(kinds: &[K], last: Option<K>, number: usize) -> bool
     ensures value { IsTrue result
         ↔ (AreKinds K.sort last kinds.now × (counted K.sort kinds.now ≡ number)) }

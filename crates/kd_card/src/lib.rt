@@ -1,5 +1,5 @@
-//! Cards: the settings that lead a machine to a day of a sheet, the prices that prove them fewest, and the text
-//! of both.
+//! Cards: the settings that lead a machine to a day of a sheet, the prices that prove that no fewer settings do,
+//! and the text of both.
 #![tactic(auto)]
 
 mod card;

@@ -55,7 +55,7 @@ pub(crate) fn price_of_text(text: &[u8]) -> Option<i16>
 
 /// Splits the first price line off `text`: its first word, the text after this word's space, and the rest.
 ///
-/// `line` is the number of this line in the card, for a fault.
+/// A price line is expected here; `line` is its number in the card, for a fault.
 pub(crate) fn split_first(
     text: &[u8],
     line: usize,
@@ -77,7 +77,7 @@ pub(crate) fn split_first(
     }
 }
 
-/// Finds out from the first word of the first price line what the prices belong to.
+/// Reads the first word of the first price line: it shows whether the card has prices of cables or of bars.
 ///
 /// Also returns the text after this word's space, and the text after the line, which is line `line` of the
 /// card.
@@ -98,7 +98,7 @@ pub(crate) fn first_group(
     }
 }
 
-/// The group whose price lines begin with `word`, if there is one.
+/// The group whose first price line begins with `word`, if there is one.
 fn group_of_word(word: &[u8], version: Version) -> Option<Group>
     ensures { MatchOption result
         ((group : _) → word.now ≢ first_text version group)
@@ -113,7 +113,7 @@ fn group_of_word(word: &[u8], version: Version) -> Option<Group>
     }
 }
 
-/// Parses the `number` prices after the first word of line `line`; `behind` is the text after its space.
+/// Parses `number` prices on line `line`; `behind` is the text after its first word and space, if any.
 pub(crate) fn prices_behind(
     behind: Option<&[u8]>,
     number: usize,

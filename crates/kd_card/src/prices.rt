@@ -1,4 +1,4 @@
-//! The prices of a card, by number or by kind.
+//! The prices of a card: by number, one for each thing, or by kind, one for equal things.
 ghost use Rattle.std.specs.Prelude.{◌≡◌, ◌↔◌, ◌+◌, ◌*◌, ◌≤◌, ◌++◌, length, fold, pos, unsigned_abs, ◌+ℤ◌};
 ghost use Rattle.std.specs.Prelude.{IsTrue, MatchOption};
 ghost use Rattle.kd_card.specs.Prices.{price_sum, version_of};
@@ -23,7 +23,7 @@ pub enum Version {
 }
 
 impl Version {
-    /// The head of a card up to its day.
+    /// The head of a card, which is its first line, up to the day.
     pub(crate) fn front(self) -> &'static str
         ensures value { result.now ≡ head_prefix self }
         ensures few { length result.now ≡ 11 }
@@ -42,13 +42,13 @@ pub enum PriceParts {
     Cables([i16; 13], [i16; 13]),
     /// A price for each bar, and for each row of the sheet.
     Bars([i16; 27], [i16; 27]),
-    /// A price for each kind of cable, and of pair or nothing.
+    /// A price for each kind of cables, and for each kind of pairs or nothings.
     CableKinds(ArrayVec<CableKind, 13>, ArrayVec<PairKind, 13>),
-    /// A price for each kind of bar, and of row.
+    /// A price for each kind of bars, and for each kind of rows of the sheet.
     BarKinds(ArrayVec<BarKind, 27>, ArrayVec<RowKind, 27>),
 }
 
-/// The prices of a card: valid numbers of them or valid kinds, each price from -9999 to 9999.
+/// Valid prices of a card: one for each thing, or valid kinds that count all things; each from -9999 to 9999.
 #[derive(Drop)]
 pub struct Prices {
     parts: PriceParts,
@@ -69,9 +69,9 @@ impl Model for Prices {
 }
 
 impl Prices {
-    /// Makes prices of cables and of pairs and nothings.
+    /// Makes prices by number: one for each cable, and one for each pair or nothing.
     ///
-    /// `None` if one is below -9999 or above 9999.
+    /// `None` if a price is below -9999 or above 9999.
     pub fn cables(cables: [i16; 13], pairs: [i16; 13]) -> Option<Self>
         ensures { MatchOption result
             (¬ (ArePrices (PriceParts.Cables cables pairs)))
@@ -84,9 +84,9 @@ impl Prices {
         }
     }
 
-    /// Makes prices of bars and of the sheet's rows.
+    /// Makes prices by number: one for each bar, and one for each row of the sheet.
     ///
-    /// `None` if one is below -9999 or above 9999.
+    /// `None` if a price is below -9999 or above 9999.
     pub fn bars(bars: [i16; 27], rows: [i16; 27]) -> Option<Self>
         ensures { MatchOption result
             (¬ (ArePrices (PriceParts.Bars bars rows)))
@@ -99,9 +99,9 @@ impl Prices {
         }
     }
 
-    /// Makes prices of kinds of cables and of kinds of pairs and nothings.
+    /// Makes prices by kind: one for each kind of cables, and one for each kind of pairs or nothings.
     ///
-    /// `None` if the kinds of a group aren't in order and each once, don't count 13 things, or if a kind has
+    /// `None` if `cables` or `pairs` aren't in order and each once, or don't count 13 things; or if a kind has
     /// letters out of order, the count 0, or a price below -9999 or above 9999.
     #[tactic(auto, using(crate::proofs::KindPrices::cables_are_prices))]
     pub fn cable_kinds(cables: &[CableKind], pairs: &[PairKind]) -> Option<Self>
@@ -127,7 +127,7 @@ impl Prices {
         Some(Prices::of_parts(parts))
     }
 
-    /// Makes prices by number of the rows and columns of `group`.
+    /// Makes prices by number: one for each row and each column of the table of costs of `group`.
     pub(crate) fn numbered(group: Group, rows: &[i16], columns: &[i16]) -> Self
         requires rows { length rows.now ≡ price_count group }
         requires columns { length columns.now ≡ price_count group }
@@ -209,7 +209,7 @@ impl Prices {
     }
 }
 
-/// The sum of the prices of all things that the kinds count.
+/// The sum of the prices of all things that the kinds `rows` and `columns` count.
 fn sum_of_kinds<R: Kind, C: Kind>(rows: &[R], columns: &[C]) -> i32
     requires rows { ArePricesInRange (kind_prices R.sort rows.now) }
     requires columns { ArePricesInRange (kind_prices C.sort columns.now) }
@@ -265,7 +265,7 @@ fn array_of<const N: usize>(prices: &[i16]) -> [i16; N]
     <[i16; N]>::try_from(prices).unwrap()
 }
 
-/// Copies `kinds`, or `None` if they are invalid or don't count `N` things.
+/// Copies `kinds`. `None` if one is invalid, if they aren't in order and each once, or don't count `N` things.
 fn in_order<K: Kind, const N: usize>(kinds: &[K]) -> Option<ArrayVec<K, N>>
     ensures { MatchOption result
         (¬ (IsGroup K.sort N kinds.now))

@@ -39,7 +39,9 @@ pub fn read_card(text: &[u8]) -> Result<(u8, Card), CardFault>
     Ok((day, Card { settings, prices }))
 }
 
-/// Splits the first line off `text`: the part of this line after `front`, and the text after the line.
+/// Splits off the first line of `text`, which begins with `front`: its part after `front`, and the next lines.
+///
+/// `None` if the line doesn't begin so, or has no LF.
 fn split_value<'a>(text: &'a [u8], front: &str) -> Option<(&'a [u8], &'a [u8])>
     ensures { MatchOption result
         ((value rest : List ℕ) → IsWithout 10 value → text.now ≢ front.now ++ value ++ 10 ∷ rest)
@@ -50,7 +52,7 @@ fn split_value<'a>(text: &'a [u8], front: &str) -> Option<(&'a [u8], &'a [u8])>
     split_once(behind, b'\n')
 }
 
-/// Reads the head: by number or by kind, and the day. Returns both, and the text after the line.
+/// Reads the head: whether prices are by number or by kind, and the day. Also returns the text after the line.
 fn read_head(text: &[u8]) -> Option<(Version, u8, &[u8])>
     ensures { MatchOption result
         ((version : _) (day : ℕ) (rest : List ℕ) → ¬ (BeginsWithHead text.now version day rest))
@@ -63,7 +65,7 @@ fn read_head(text: &[u8]) -> Option<(Version, u8, &[u8])>
     Some((Version::ByKind, day, rest))
 }
 
-/// Reads the day from a head for `version`. Returns it, and the text after the line.
+/// Reads the day from the head of a card of `version`. Returns it, and the text after the line.
 fn read_day(text: &[u8], version: Version) -> Option<(u8, &[u8])>
     ensures { MatchOption result
         ((day : ℕ) (rest : List ℕ) → ¬ (BeginsWithHead text.now version day rest))
@@ -73,7 +75,7 @@ fn read_day(text: &[u8], version: Version) -> Option<(u8, &[u8])>
     Some((day_of_text(day)?, rest))
 }
 
-/// Checks the line with the number of settings, and returns the text after it.
+/// Checks that the line after the settings has their number, `count`, and returns the text after this line.
 fn read_count(text: &[u8], count: usize) -> Result<&[u8], CardFault>
     requires { count ≤ 192 }
     ensures { MatchResult result
@@ -84,7 +86,7 @@ fn read_count(text: &[u8], count: usize) -> Result<&[u8], CardFault>
     read_value(text, "SETTINGS ", buffer.format(count), false, count + 2)
 }
 
-/// Checks that line `line` has the sum of prices, and returns the text after it.
+/// Checks that line `line` has the sum of the prices, `sum`, and returns the text after the line.
 fn read_sum(text: &[u8], sum: i32, line: usize) -> Result<&[u8], CardFault>
     ensures { MatchResult result
         (λ rest. IsSumAnswer sum line text.now (Ok rest.now))
@@ -94,7 +96,9 @@ fn read_sum(text: &[u8], sum: i32, line: usize) -> Result<&[u8], CardFault>
     read_value(text, "SUM ", buffer.format(sum), true, line)
 }
 
-/// Checks that line `line` has `front` and the number `due`, and returns the text after it.
+/// Checks that line `line` consists of `front` and the number `due`, and returns the text after the line.
+///
+/// If `signed`, the number may be negative.
 fn read_value<'a>(
     text: &'a [u8],
     front: &str,
@@ -117,7 +121,7 @@ fn read_value<'a>(
     Ok(rest)
 }
 
-/// Reads the prices, whose first line is line `line`. Returns them, and the text after them.
+/// Reads the prices, which begin on line `line`. Returns them, and the text after them.
 fn read_prices(text: &[u8], version: Version, line: usize) -> Result<(Prices, &[u8]), CardFault>
     requires { line < 200 }
     ensures { MatchResult result
@@ -130,7 +134,9 @@ fn read_prices(text: &[u8], version: Version, line: usize) -> Result<(Prices, &[
     }
 }
 
-/// Reads the two lines of prices by number, from line `line` on. Returns them, and the text after them.
+/// Reads the two price lines of a card where each thing has its own price, from line `line` on.
+///
+/// Returns the prices, and the text after these lines.
 fn read_numbered(text: &[u8], line: usize) -> Result<(Prices, &[u8]), CardFault>
     requires { line < 200 }
     ensures { MatchResult result
@@ -145,7 +151,9 @@ fn read_numbered(text: &[u8], line: usize) -> Result<(Prices, &[u8]), CardFault>
     Ok((prices, rest))
 }
 
-/// Reads the two groups of kinds, from line `line` on. Returns their prices, and the text after them.
+/// Reads the price lines of a card where equal things share one price, from line `line` on.
+///
+/// These are a group of kinds for rows and one for columns. Returns the prices, and the text after these lines.
 fn read_kinded(text: &[u8], line: usize) -> Result<(Prices, &[u8]), CardFault>
     requires { line < 200 }
     ensures { MatchResult result
@@ -167,7 +175,9 @@ fn read_kinded(text: &[u8], line: usize) -> Result<(Prices, &[u8]), CardFault>
     }
 }
 
-/// Reads the kinds of `N` rows and then of `N` columns, from line `line` on. Returns them, and the text after them.
+/// Reads the kinds of `N` rows and then of `N` columns of a table of costs, from line `line` on.
+///
+/// Returns both lists of kinds, and the text after their lines.
 fn read_groups<'a, R: Kind, C: Kind, const N: usize>(
     text: &'a [u8],
     line: usize,
@@ -184,7 +194,7 @@ fn read_groups<'a, R: Kind, C: Kind, const N: usize>(
     Ok((rows, columns, rest))
 }
 
-/// Reads line `line`, which has `word` and `number` prices. Returns these, and the text after the line.
+/// Reads line `line`, which has `word` and `number` prices. Returns the prices, and the text after the line.
 fn read_price_line<'a>(
     text: &'a [u8],
     word: &str,

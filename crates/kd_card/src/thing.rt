@@ -1,10 +1,12 @@
-//! Things: what equal cables, pairs, bars or rows have in common, in the order of a card's lines.
+//! Things: what equal cables, columns, bars or rows have in common, as values in the order of a card's lines.
 ghost use Rattle.std.specs.Prelude.{◌≡◌};
 
 use kd_tables::{Letter, Reading, Standing};
 use std::marker::Model;
 
-/// What equal cables, pairs, bars or rows have in common, in the order of a card's lines.
+/// What equal cables, columns, bars or rows have in common: letters, a pair, a standing or a reading.
+///
+/// Things have the order of a card's lines for their kinds.
 pub trait Thing: Copy + Default + Ord {
     ghost use Rattle.std.specs.Prelude.{◌≡◌};
     ghost use Rattle.std.specs.declared.cmp.Ordering.TheVariants.{Equal};
@@ -13,7 +15,7 @@ pub trait Thing: Copy + Default + Ord {
     ghost told_apart: { (x y : Self) → Self.cmp x y ≡ Equal → x ≡ y };
 }
 
-/// The letters of a cable. Cables are ordered as in a dictionary, and one without a first letter comes last.
+/// The letters of a cable, ordered as words in a dictionary. A cable without a first letter comes last.
 #[derive(Clone, Copy, PartialEq, Eq, PartialOrd, Ord)]
 pub struct Ends {
     is_last: bool,
@@ -32,7 +34,7 @@ impl Model for Ends {
     ghost inverse = { λ letters. record { is_last = is_none letters.0; letters = letters } };
 }
 
-/// No letters.
+/// By default, a cable has no letters.
 impl Default for Ends {
     ghost is_default = { λ _. Unit {0} };
 
@@ -60,7 +62,9 @@ impl Ends {
     }
 }
 
-/// A pair, or a nothing. Pairs are ordered as in a dictionary, and a nothing comes last.
+/// A column of the table of costs: a pair, or a nothing, which is a column without a pair.
+///
+/// Pairs are ordered as words in a dictionary, and a nothing comes last.
 #[derive(Clone, Copy, PartialEq, Eq, PartialOrd, Ord)]
 pub struct Column {
     is_last: bool,
@@ -79,7 +83,7 @@ impl Model for Column {
     ghost inverse = { λ pair. record { is_last = is_none pair; pair = pair } };
 }
 
-/// A nothing.
+/// By default, a column is a nothing.
 impl Default for Column {
     ghost is_default = { λ _. Unit {0} };
 

@@ -18,7 +18,7 @@ use itoa::Buffer;
 use kd_state::{Setting, push_number};
 use kd_tables::{Device, Sink, put_all};
 
-/// The most bytes of a card: head, 192 settings, their number, twice 27 prices or kinds, and the sum.
+/// Enough bytes for each card: its head, 192 settings, their number, twice 27 prices or kinds, and the sum.
 const LONGEST: usize = 6144;
 
 /// Writes the text of `card` for day `day`. A sink that fails has taken a prefix of the text.
@@ -122,7 +122,7 @@ fn push_prices<const N: usize>(text: &mut ArrayString<N>, prices: &Prices)
     }
 }
 
-/// Appends a line of `word` and `prices`.
+/// Appends a line that has `word` and then `prices`.
 fn push_price_line<const N: usize>(text: &mut ArrayString<N>, word: &str, prices: &[i16])
     requires room { array_string_len text.old + length word.now + 7 * length prices.now + 1 ≤ N }
     requires reach { ArePricesInRange prices.now }

@@ -1,5 +1,5 @@
--- In a card that proves itself, equal things have equal prices: they cost the same everywhere, and each price
--- is tight somewhere.
+-- In a card by number that proves itself, equal things have equal prices. For equal rows have equal costs in each
+-- column, and each row has a column where the two prices add up to the cost; likewise for equal columns.
 use Rattle.kd_prices.proofs.Prelude.{no_rotors, proving_prices_are_tight, ◌≡◌, ℕ, ◌<◌, ◌≤◌, List, get_or, length, None}
 use Rattle.kd_prices.proofs.Prelude.{unwrap_or, slice_get, sym, ap, ◌∙◌, arith, ints, get_or-map, unwrap_or-slice_get}
 use Rattle.kd_prices.proofs.Prelude.{slice_get_past, One, Rotor, Pin, cable_letters, Day, OfRotors, OfPins}
@@ -8,7 +8,8 @@ use Rattle.kd_prices.proofs.Prelude.{columns_of, PriceParts, Cables, Bars, table
 use Rattle.kd_prices.proofs.Prelude.{ArePricesTight, Parts, StandAlike, ReadAlike, AlikePricesAreEqual}
 use Rattle.kd_prices.proofs.Prelude.{AreEqualWhereAlike, map}
 
--- Prices that fit a table of costs, each of which is tight somewhere.
+-- Prices that fit a table of costs, so that each row has a column, and each column a row, where the two prices
+-- add up to the cost.
 module _ {A B : Type 0} (cost : A → B → ℕ) (rows : List A) (columns : List B) (a : A) (b : B) (m : Parts) (s : Day)
     (prices : PriceParts)
     (many_rows : length rows ≡ table_rows prices) (many_columns : length columns ≡ table_rows prices)

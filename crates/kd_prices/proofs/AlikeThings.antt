@@ -1,5 +1,5 @@
--- Cables, bars, columns and rows are equal exactly where they stand or read alike, and have one price exactly where
--- equal things have equal prices.
+-- Cables, bars and columns at two different places are equal exactly if `StandAlike` or `ReadAlike` holds for these
+-- places. So equal things have equal prices exactly if prices are equal wherever one of the two holds.
 use Rattle.kd_prices.proofs.{AlikePrices.nothing_at, AlikePrices.same_at, InForm.cables_are_in_form}
 use Rattle.{kd_state.specs.Setting.has_letter, std.specs.List.{IsDistinct, zip}}
 use Rattle.kd_prices.proofs.Prelude.{tests_tell_letters, nat_tests, unwrap_or, ◌≡◌, ◌⊎◌, ℕ, zero, suc, ◌<◌, ◌≤◌, false}
@@ -43,7 +43,8 @@ pairs_told (p ∷ pairs) (suc i) (suc k) apart e = grind (arith, pairs_told pair
 
 -- ---- things that are equal
 
--- Things are equal if they are alike, and else only at one place.
+-- Things at two places are equal if `Alike` holds for the places; if it doesn't, they are equal only if the two
+-- places are one.
 abbrev pub AreTold : {X : Type 0} → List X → X → (ℕ → ℕ → Type 0) → Type 0
 AreTold things d Alike =
     (i k : ℕ) → i < length things → k < length things

@@ -1,4 +1,5 @@
--- Kinds of things that ascend: what counts nothing past a thing counts none of the kinds past it.
+-- Kinds whose things ascend: a function that is 0 for all things after `x` has the sum 0 over kinds of things
+-- after `x`.
 use Rattle.std.proofs.Common.{◌≡◌, ℕ, ◌+◌, ◌*◌, ◌<◌, List, [], ◌∷◌, length, get_or, map, replicate, arith, refl, ap}
 use Rattle.std.proofs.Common.{◌∙◌, subst, suc, zero}
 use Rattle.std.specs.Prelude.{ℤ, if◌then◌else◌, Bool}
@@ -49,21 +50,21 @@ module _ {X : Type 0} (cmp : X → X → Ordering) (order : IsTotalOrder cmp) (t
       let next : suc k + 1 ≡ suc (k + 1) = omega arith in
       subst (λ n. cmp (get_or xs k d) (get_or (x ∷ xs) n d) ≡ Less) next (rise (suc k) d (omega arith))
 
-  -- the first comes before each that follows
+  -- the first item comes before each that follows
   pub ascend_first : (x : X) (xs : List X) → Ascend cmp (x ∷ xs) → (k : ℕ) (d : X) → k < length xs → cmp x (get_or xs k d) ≡ Less
   ascend_first x [] rise k d inside = absurd (omega arith)
   ascend_first x (y ∷ ys) rise zero d inside = rise 0 d (omega arith)
   ascend_first x (y ∷ ys) rise (suc k) d inside =
       order.trans x y (get_or ys k d) (rise 0 d (omega arith)) (ascend_first y ys (ascend_tail x (y ∷ ys) rise) k d (omega arith))
 
-  -- each comes before each that follows
+  -- each item comes before each that follows it
   pub ascend_far : (xs : List X) → Ascend cmp xs → (i j : ℕ) (d : X) → i < j → j < length xs → cmp (get_or xs i d) (get_or xs j d) ≡ Less
   ascend_far [] rise i j d before inside = absurd (omega arith)
   ascend_far (x ∷ xs) rise i zero d before inside = absurd (omega arith)
   ascend_far (x ∷ xs) rise zero (suc j) d before inside = ascend_first x xs rise j d (omega arith)
   ascend_far (x ∷ xs) rise (suc i) (suc j) d before inside = ascend_far xs (ascend_tail x xs rise) i j d (omega arith) (omega arith)
 
-  -- what counts no thing past x counts none of kinds past x
+  -- if `f` is 0 for all things after `x`, its sum is 0 over the things of kinds that ascend after `x`
   pub above : (f : X × ℤ → ℕ) (x : X) (kinds : List (KindOf X)) → ((z : X × ℤ) → cmp x z.0 ≡ Less → f z ≡ 0) → Ascend cmp (x ∷ things_of kinds)
       → sum_by f (expansion kinds) ≡ 0
   above f x kinds none rise = none_of f kinds (λ k d below.

@@ -1,4 +1,4 @@
--- Prices by number that can be by kind, and the prices by kind that they become.
+-- When prices by number, one for each thing, can become prices by kind, one for equal things; and which these are.
 use Rattle.kd_prices.proofs.Prelude.{◌≡◌, ℕ, ◌<◌, List, length, refl, sym, ◌∙◌, subst, arith, ℤ, Option, Some, None}
 use Rattle.kd_prices.proofs.Prelude.{MatchOption, Rotor, Pin, OfRotors, OfPins, PriceParts, Cables, Bars, One}
 use Rattle.kd_prices.proofs.Prelude.{CableKinds, BarKinds, ArePrices, IsMachine, IsLegalDay, cable_sort, pair_sort}

@@ -1,4 +1,5 @@
--- Things of which there are as many as kinds count, each with the price of its kind, are of just these kinds.
+-- If there are as many things of each kind as it counts, and each thing has the price of its kind, then the kinds,
+-- written out, are the things with their prices, in some order.
 use Rattle.std.proofs.Common.{◌≡◌, ◌≢◌, ℕ, ◌+◌, ◌-◌, ◌*◌, ◌<◌, ◌≤◌, List, [], ◌∷◌, ◌++◌, length, get_or, replicate}
 use Rattle.std.proofs.Common.{arith, refl, sym, ap, ◌∙◌, subst, suc, zero, true≢false}
 use Rattle.std.specs.Prelude.{IsTrue, ◌↔◌, ℤ, pos, All, IsPermutation, Bool, true, false, not, count_by}
@@ -30,7 +31,7 @@ all_same {X} (y ∷ xs) x same =
     let first : y ≡ x = All-head (λ (z : X). z ≡ x) y xs same in
     ap (λ z. z ∷ xs) first ∙ ap (λ zs. x ∷ zs) (all_same xs x (All-tail (λ (z : X). z ≡ x) y xs same))
 
--- a filter keeps all that is counted, if it drops nothing of that
+-- a filter that drops no counted item doesn't change how many items are counted
 kept_at : {X : Type 0} (counted keep : X → Bool) (x : X) (xs : List X) (b : Bool) → keep x ≡ b → (keep x ≡ false → counted x ≡ false)
     → count_by counted (filter keep xs) ≡ count_by counted xs → count_by counted (filter keep (x ∷ xs)) ≡ count_by counted (x ∷ xs)
 kept_at counted keep x xs true is none rest =
@@ -71,7 +72,8 @@ module _ {X : Type 0} (cmp : X → X → Ordering) (order : IsTotalOrder cmp) (t
       subst (λ t. cmp kind.thing t ≡ Less) (get_or-map (λ (other : KindOf X). other.thing) kinds k d kind.thing below)
       (ascend_first cmp order told kind.thing (things_of kinds) rise k kind.thing (omega (arith, length-map kinds (λ (other : KindOf X). other.thing))))
 
-  -- what is like the first kind's thing is that thing at its price
+  -- a thing that is equal to the first kind's, with its price, is the first kind's thing with the first kind's
+  -- price
   own_pair : (kind : KindOf X) (kinds : List (KindOf X)) → Ascend cmp (things_of (kind ∷ kinds)) → (z : X × ℤ) → like kind.thing z ≡ true
       → IsPriceOf (kind ∷ kinds) z.0 z.1 → ◌≡◌ {A = X × ℤ} z (kind.thing, kind.price)
   own_pair kind kinds rise z passes priced =
@@ -79,7 +81,7 @@ module _ {X : Type 0} (cmp : X → X → Ordering) (order : IsTotalOrder cmp) (t
       let here : IsPriceOf (kind ∷ kinds) z.0 kind.price = record { kind = kind; among = (0, omega arith, refl); of_thing = sym thing; of_price = refl } in
       sym (both_same (sym thing) (sym (one_price cmp order told (kind ∷ kinds) rise z.0 z.1 kind.price priced here)))
 
-  -- what is not has another kind
+  -- a thing that isn't equal to the first kind's has one of the other kinds
   other_kind : (kind : KindOf X) (kinds : List (KindOf X)) (z : X × ℤ) → not (like kind.thing z) ≡ true → IsPriceOf (kind ∷ kinds) z.0 z.1 → IsPriceOf kinds z.0 z.1
   other_kind kind kinds z passes priced =
       let differs : z.0 ≢ kind.thing = eq_isnt cmp order eq matches z.0 kind.thing (not_true (like kind.thing z) passes) in
@@ -130,7 +132,7 @@ module _ {X : Type 0} (cmp : X → X → Ordering) (order : IsTotalOrder cmp) (t
       sum_by-cons (λ (z : X × ℤ). once (eq z.0 x)) (t, q) (zip things prices) ∙ ap (λ n. once (eq t x) + n) (counted_beside x things prices (omega arith))
       ∙ sym (sum_by-cons (λ y. once (eq y x)) t things)
 
-  -- of each kind there are as many as it counts
+  -- kinds that are written out have the thing of each kind as often as the kind counts
   counted_in : (kinds : List (KindOf X)) → Ascend cmp (things_of kinds) → (k : ℕ) (d : KindOf X) → k < length kinds
       → count_by (like (get_or kinds k d).thing) (expansion kinds) ≡ (get_or kinds k d).count
   counted_in [] rise k d below = absurd (omega arith)
@@ -175,7 +177,7 @@ module _ {X : Type 0} (cmp : X → X → Ordering) (order : IsTotalOrder cmp) (t
           ∙ counted_beside (get_or kinds k d).thing things prices are.number;
     }
 
--- in order, by neighbours among the kinds
+-- the things of kinds ascend if each kind's thing comes before the next kind's, and conversely
 module _ {X : Type 0} (cmp : X → X → Ordering) (kinds : List (KindOf X)) where
   pub ascend_kinds : ((k : ℕ) (d : KindOf X) → k + 1 < length kinds → cmp (get_or kinds k d).thing (get_or kinds (k + 1) d).thing ≡ Less) → Ascend cmp (things_of kinds)
   ascend_kinds each = λ k x inside.

@@ -1,4 +1,4 @@
--- Kinds of the first of a list of things in order.
+-- The kinds of the first `number` items of a sorted list of things with prices, and how one more item changes them.
 use Rattle.std.proofs.Common.{◌≡◌, ◌≢◌, ℕ, ◌+◌, ◌-◌, ◌<◌, ◌≤◌, List, [], ◌∷◌, ◌++◌, length, get_or, set, take, map}
 use Rattle.std.proofs.Common.{replicate, arith, refl, sym, ap, ◌∙◌, subst, append_assoc, length-append, true≢false, ltb}
 use Rattle.std.proofs.Common.{true, inl, inr}
@@ -28,7 +28,7 @@ use Rattle.kd_prices.specs.Grouping.CountsIn.{Alike, Another, Refused}
 
 -- ---- lists
 
--- a list is its front and its last element; and a set of the last one
+-- a list is its prefix without the last item, and then the last item; `set_last` is about a replaced last item
 as_push : {X : Type 0} (xs : List X) (x : X) → 0 < length xs → x ≡ get_or xs (length xs - 1) x → xs ≡ take (length xs - 1) xs ++ x ∷ []
 as_push xs x some last =
     let inside : length xs - 1 < length xs = omega arith in
@@ -79,7 +79,7 @@ comes_before Less o back h apart = absurd (true≢false h)
 comes_before Equal o back h apart = absurd (apart refl)
 comes_before Greater o back h apart = back
 
--- the kinds are those of the first things
+-- `kinds` are those of the first `number` items of `sorted`
 pub record AreKindsUpTo {X : Type 0} (cmp : X → X → Ordering) (sorted : List (X × ℤ)) (number : ℕ) (kinds : List (KindOf X)) : Type 0 where
   pub in_order : Ascend cmp (map (λ kind. kind.thing) kinds)
   pub some : All (λ kind. 1 ≤ kind.count) kinds
@@ -104,7 +104,7 @@ module _ {X : Type 0} (cmp : X → X → Ordering) (order : IsTotalOrder cmp) (t
       ]
 
   module _ (sorted : List (X × ℤ)) (number : ℕ) where
-    -- one thing more of the last kind
+    -- the next item has the last kind's thing and price, so the last kind counts one more
     more_alike : (front : List (KindOf X)) (kind : KindOf X) (d : X × ℤ) → AreKindsUpTo cmp sorted number (front ++ kind ∷ []) → number < length sorted
         → ◌≡◌ {A = X × ℤ} (kind.thing, kind.price) (get_or sorted number d) → AreKindsUpTo cmp sorted (number + 1) (front ++ record kind { count = kind.count + 1 } ∷ [])
     more_alike front kind d are inside same = record {
@@ -113,7 +113,7 @@ module _ {X : Type 0} (cmp : X → X → Ordering) (order : IsTotalOrder cmp) (t
       expand = one_more front kind ∙ ap (λ t. t ++ (kind.thing, kind.price) ∷ []) are.expand ∙ ap (λ p. take number sorted ++ p ∷ []) same ∙ sym (take_more sorted number d inside);
     }
 
-    -- the last kind is of the thing before
+    -- the last kind has the thing and the price of item `number - 1`, the last that was counted
     last_before : (front : List (KindOf X)) (kind : KindOf X) (d : X × ℤ) → AreKindsUpTo cmp sorted number (front ++ kind ∷ []) → number ≤ length sorted
         → (0 < number) × ◌≡◌ {A = X × ℤ} (kind.thing, kind.price) (get_or sorted (number - 1) d)
     last_before front kind d are inside =
@@ -144,7 +144,7 @@ module _ {X : Type 0} (cmp : X → X → Ordering) (order : IsTotalOrder cmp) (t
             subst (AreKindsUpTo cmp sorted (number + 1)) (sym (set_last kinds (record kind { count = kind.count + 1 }) last.some))
             (more_alike (take (length kinds - 1) kinds) kind d (behind_front kind last) inside (both_same thing price))
 
-        -- the last kind has another price than the next thing, which is alike
+        -- if the next item has the last kind's thing, but another price, then equal things have different prices
         two_prices : (pairs : List (X × ℤ)) (kind : KindOf X) → IsPermutation pairs sorted → IsLast kinds kind
             → kind.thing ≡ (get_or sorted number d).0 → kind.price ≢ (get_or sorted number d).1 → ¬ (HaveOnePriceEach pairs)
         two_prices pairs kind moved last thing price one =
@@ -178,7 +178,8 @@ module _ {X : Type 0} (cmp : X → X → Ordering) (order : IsTotalOrder cmp) (t
             let is : get_or (map (λ (k : KindOf X). k.thing) kinds) (length kinds - 1) x ≡ kind.thing = get_or-map (λ (k : KindOf X). k.thing) kinds (length kinds - 1) none x within in
             rw length-map (subst (λ t. cmp t next.0 ≡ Less) (sym is) below)
 
-        -- there is no kind, or the last one is of other things than the next
+        -- if there is no kind yet, or the last one has another thing than the next item, this item begins a new
+        -- kind
         begins_another : IsSorted (pair_cmp cmp) sorted → ((kind : KindOf X) → IsLast kinds kind → kind.thing ≢ (get_or sorted number d).0)
             → AreKindsUpTo cmp sorted (number + 1) (kinds ++ record { thing = (get_or sorted number d).0; count = 1; price = (get_or sorted number d).1 } ∷ [])
         begins_another rise other =

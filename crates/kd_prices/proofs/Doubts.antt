@@ -11,7 +11,7 @@ use Rattle.kd_prices.proofs.{Meaning.one_expansion}
 use Rattle.kd_prices.specs.{declared.doubt.Doubt.Doubt}
 use Rattle.kd_prices.specs.{Doubt.{IsCarriedAnswer, IsFitsAnswer, IsNeededAnswer, IsCheckedAnswer, IsDoubt}}
 
--- A list has only one longest good prefix: with the next item it isn't the prefix of any good list.
+-- A list has only one good prefix that, with the item after it, begins no good list.
 one_front : {X : Type 0} (Good : List X → Type 0) (front other after behind : List X) (x y : X)
     → front ++ x ∷ after ≡ other ++ y ∷ behind → Good front → Good other
     → ((rest : List X) → ¬ (Good (front ++ x ∷ rest))) → ((rest : List X) → ¬ (Good (other ++ y ∷ rest)))
@@ -34,7 +34,7 @@ IsFirstWithout-one Holds number row column i j h k = grind (arith, cases_order, 
 
 -- ---- prices by number
 
--- A setting that the machine refuses after those before it is in no list that leads on.
+-- If the machine refuses a setting after those before it, no list that begins with these leads to a machine.
 IsFirstIllegal-not_Leads : {m : Parts} {settings : List Setting} {line : ℕ} {why : Why}
     (h : IsFirstIllegal m settings line why)
     (n : Parts)
@@ -42,7 +42,7 @@ IsFirstIllegal-not_Leads : {m : Parts} {settings : List Setting} {line : ℕ} {w
 IsFirstIllegal-not_Leads {m} h n rest leads = Leads-not_refused m h.between n h.front rest h.setting _ h.leads
     h.refused leads
 
--- A needless setting is in no list of needed ones.
+-- If a setting isn't needed after those before it, no list that begins with these has only needed settings.
 IsFirstNeedless-not_needed : {m : Parts} {s : Day} {settings : List Setting} {line : ℕ}
     (h : IsFirstNeedless m s settings line)
     (rest : List Setting) → ¬ (AreSettingsNeeded m s (h.front ++ h.setting ∷ rest))

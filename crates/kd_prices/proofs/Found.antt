@@ -1,4 +1,4 @@
--- What the check of a card finds, from what it finds of the card's prices.
+-- If a result is right for the prices that were found for rows and columns, it is right for the check of the card.
 use Rattle.kd_prices.proofs.Prelude.{◌≡◌, ℕ, List, length, refl, ◌∙◌, ap, ℤ, Parts, Rotor, Pin, Setting, Day, OfRotors}
 use Rattle.kd_prices.proofs.Prelude.{OfPins, PriceParts, Cables, Bars, CableKinds, BarKinds, ByNumber, version_of}
 use Rattle.kd_prices.proofs.Prelude.{row_prices, column_prices, table_rows, ArePrices, ArePricesInRange, AreKindsOf}

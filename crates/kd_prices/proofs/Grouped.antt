@@ -1,4 +1,5 @@
--- Groups of things in form, with prices within reach, are valid kinds of a card.
+-- If things are in the form that a card writes, and their prices from -9999 to 9999, their groups are valid
+-- kinds of a card.
 use Rattle.kd_prices.proofs.Prelude.{◌≡◌, ℕ, zero, suc, ◌<◌, ◌≤◌, List, [], ◌∷◌, ◌++◌, length, map, arith, sym, ◌∙◌}
 use Rattle.kd_prices.proofs.Prelude.{subst, ℤ, refl, replicate, Option, Some, None, All, AllByRecursion}
 use Rattle.kd_prices.proofs.Prelude.{recursion_from_All, All-from_get_or, All-head, All-tail, unsigned_abs}
@@ -10,7 +11,8 @@ use Rattle.std.proofs.lemmas.List.{length-replicate}
 use Rattle.std.proofs.lemmas.List.Sorted.{All-permutation, length_permutation}
 use Rattle.std.proofs.lemmas.Slice.Zip.{get_or-zip, length-zip}
 
--- What holds of each item of a run and of the items after it.
+-- What holds for all items of `xs ++ ys` holds for those of `ys`; `run` is about `n` equal items and the items
+-- after them.
 after : {X : Type 0} (P : X → Type 0) (xs ys : List X) → AllByRecursion P (xs ++ ys) → AllByRecursion P ys
 after P [] ys all = all
 after P (x ∷ xs) ys all = after P xs ys all.1
@@ -21,7 +23,7 @@ run P zero x rest some all = absurd (omega (arith, some))
 run P (suc n) x rest some all = (all.0, after P (replicate n x) rest all.1)
 
 module _ {K X : Type 0} (sort : Sort K X) where
-  -- A thing in form, with a price within reach.
+  -- A thing in the form that a card writes, with a price from -9999 to 9999.
   abbrev IsFine : X × ℤ → Type 0
   IsFine z = sort.InForm z.0 × (unsigned_abs z.1 ≤ 9999)
 

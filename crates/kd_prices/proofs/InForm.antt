@@ -1,4 +1,4 @@
--- The cables of a machine, its bars, and the columns of a day are in the form that is written.
+-- The cables of a machine and the columns of a day are in the form that a card writes: their letters are in order.
 use Rattle.std.specs.List.{IsDistinct}
 use Rattle.kd_prices.proofs.Prelude.{◌≡◌, ℕ, zero, suc, ◌-◌, ◌<◌, false, eqb, List, [], ◌∷◌, ◌++◌, length, replicate}
 use Rattle.kd_prices.proofs.Prelude.{Option, Some, None, ap, arith, AllByRecursion, eqb-false, All-from_recursion}

@@ -9,7 +9,8 @@ use Rattle.{kd_card.proofs.Falling.model_of-changed, kd_state.specs.Machine.mode
 use Rattle.{kd_state.specs.Setting.Carries, std.proofs.Math.Seq.drop-cons, std.proofs.lemmas.List.length-take-le}
 use Rattle.std.{proofs.lemmas.List.take_more, specs.Prelude.IsFalse, specs.Result.MatchResult, specs.Result.result_and}
 
--- The settings after those that have been carried out lead on.
+-- If `front` leads from `m` to `between`, and `front` with `rest` leads to `n`, then `rest` leads from `between`
+-- to `n`.
 pub leads_on : (m between n : Parts) (front rest : List Setting) → Leads m front between → Leads m (front ++ rest) n
     → Leads between rest n
 leads_on m between n [] rest first leads = subst (λ machine. Leads machine rest n) (sym first) leads
@@ -17,7 +18,7 @@ leads_on m between n (x ∷ front) rest first leads =
     leads_on leads.0 between n front rest (subst (λ machine. Leads machine front between)
     (first.1.made ∙ sym leads.1.made) first.2) leads.2
 
--- One setting of a list of needed ones is needed.
+-- If all settings of a list are needed, the setting after `front` is.
 pub needed_at : (m between : Parts) (s : Day) (front rest : List Setting) (x : Setting) → Leads m front between
     → AreSettingsNeeded m s (front ++ x ∷ rest) → IsSettingNeeded between s x
 needed_at m between s [] rest x leads needed = subst (λ machine. IsSettingNeeded machine s x) (sym leads) needed.0
@@ -25,14 +26,14 @@ needed_at m between s (y ∷ front) rest x leads needed =
     needed_at (machine_after m y) between s front rest x
     (subst (λ machine. Leads machine front between) leads.1.made leads.2) needed.1
 
--- In a list that leads on, no setting is refused.
+-- In a list that leads to a machine, no setting is refused.
 pub Leads-not_refused : (m between n : Parts) (front rest : List Setting) (x : Setting) (why : Why)
     → Leads m front between
     → why_refused between x ≡ Some why
     → Leads m (front ++ x ∷ rest) n → ⊥
 Leads-not_refused m between n front rest x why first refused leads = grind (arith, leads_on)
 
--- One more needed setting.
+-- If all settings of `front` are needed, and `x` is needed after them, then all settings of both are needed.
 needed_join : (m n : Parts) (s : Day) (front : List Setting) (x : Setting) → Leads m front n
     → AreSettingsNeeded m s front
     → IsSettingNeeded n s x → AreSettingsNeeded m s (front ++ x ∷ [])

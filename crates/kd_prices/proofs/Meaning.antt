@@ -1,4 +1,4 @@
--- Prices mean at most one list of prices by number, which are of the same model.
+-- A card's prices give things at most one list of prices by number, which are for the same sort of machine.
 use Rattle.kd_prices.proofs.Prelude.{◌≡◌, ◌↔◌, List, sym, ◌∙◌, ap, arith, ℤ, None, map, Parts, Setting, Day, PriceParts}
 use Rattle.kd_prices.proofs.Prelude.{ByNumber, version_of, ArePrices, AreModelPrices, AreExpanded, Expands, Same}
 use Rattle.kd_prices.proofs.Prelude.{Expanded, Proves, AreOfOneModel, AreNumbered, AreTakenApart, Sort, AreKinds}
@@ -103,7 +103,7 @@ are_numbered m s prices numbered model (Expanded are also is) = record {
   kind = (expanded_belong m s prices numbered is).1;
 }
 
--- A machine and a day whose parts are taken together are of one model.
+-- A machine and a day that are taken apart together are of one model.
 pub one_model : (m : Parts) (s : Day) (both : OneModel) → AreTakenApart m s both → model_of m ≡ day_model s
 one_model m s (both.Rotor parts entry) h = ap model_of h.0 ∙ h.2 ∙ sym (ap day_model h.1)
 one_model m s (both.Pin parts entry) h = ap model_of h.0 ∙ sym (ap day_model h.1)

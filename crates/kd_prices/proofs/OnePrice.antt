@@ -1,4 +1,4 @@
--- Kinds tell the price of each thing.
+-- Kinds determine the price of each thing.
 use Rattle.std.proofs.Common.{◌≡◌, ◌≢◌, ℕ, ◌+◌, ◌<◌, List, [], ◌∷◌, ◌++◌, length, get_or, replicate, arith, refl, sym}
 use Rattle.std.proofs.Common.{ap, ◌∙◌, subst, suc, inl, inr}
 use Rattle.std.specs.Prelude.{ℤ, pos}
@@ -22,7 +22,7 @@ some_of : {X : Type 0} (xs : List X) → 0 < length xs → X
 some_of [] some = absurd (omega arith)
 some_of (x ∷ xs) some = x
 
--- each of the things in an expansion has a kind, with its price
+-- each thing with a price in kinds that are written out has one of these kinds, with this price
 in_expansion : {X : Type 0} (kinds : List (KindOf X)) (p : X × ℤ) → Contains (expansion kinds) p → IsPriceOf kinds p.0 p.1
 in_expansion [] p among = let inside = among.1 in absurd (omega (arith, inside))
 in_expansion {X} (kind ∷ kinds) p among =
@@ -38,7 +38,7 @@ in_expansion {X} (kind ∷ kinds) p among =
           record { kind = far.kind; among = (suc far.among.0, omega (arith, below), far.among.2); of_thing = far.of_thing; of_price = far.of_price }
     ]
 
--- the first things have these prices, each that of its kind
+-- `prices` are those of the first `number` things: each is the price of the thing's kind
 pub record ArePricedUpTo {X : Type 0} (things : List X) (kinds : List (KindOf X)) (number : ℕ) (prices : List ℤ) : Type 0 where
   pub long : length prices ≡ number
   pub priced : (k : ℕ) (x : X) (q : ℤ) → k < number → IsPriceOf kinds (get_or things k x) (get_or prices k q)
@@ -72,7 +72,7 @@ module _ {X : Type 0} (cmp : X → X → Ordering) (order : IsTotalOrder cmp) (t
       let less : cmp a.thing b.thing ≡ Less = subst (λ x. cmp x b.thing ≡ Less) first (subst (λ y. cmp (get_or (things_of kinds) i a.thing) y ≡ Less) second far) in
       not_less_equal (cmp a.thing b.thing) less (subst (λ y. cmp a.thing y ≡ Equal) same (tied_itself order a.thing))
 
-  -- a thing has one kind
+  -- two kinds of one thing are the same kind
   one_kind : (kinds : List (KindOf X)) → Ascend cmp (things_of kinds) → (a b : KindOf X) → Contains kinds a → Contains kinds b → a.thing ≡ b.thing → a ≡ b
   one_kind kinds rise a b one other same =
       elim (cases_lt one.0 other.0) [
@@ -92,7 +92,7 @@ module _ {X : Type 0} (cmp : X → X → Ordering) (order : IsTotalOrder cmp) (t
   price_in : (pairs : List (X × ℤ)) (kinds : List (KindOf X)) → AreRunsOf cmp pairs kinds → (p : X × ℤ) → Contains pairs p → IsPriceOf kinds p.0 p.1
   price_in pairs kinds are p among = in_expansion kinds p (Contains-permutation pairs (expansion kinds) p are.expand among)
 
-  -- so grouping refuses only pairs that have no kinds
+  -- if things with prices have kinds, equal things have equal prices; so grouping refuses only what has no kinds
   pub one_price_each : (pairs : List (X × ℤ)) (kinds : List (KindOf X)) → AreRunsOf cmp pairs kinds → HaveOnePriceEach pairs
   one_price_each pairs kinds are = λ thing price other one two.
       one_price kinds are.in_order thing price other (price_in pairs kinds are (thing, price) one) (price_in pairs kinds are (thing, other) two)
@@ -106,7 +106,7 @@ module _ {X : Type 0} (cmp : X → X → Ordering) (order : IsTotalOrder cmp) (t
         let is : get_or (zip things prices) k d ≡ (get_or things k x, get_or prices k q) = get_or-zip things prices k d below there in
         subst (λ (p : X × ℤ). IsPriceOf kinds p.0 p.1) is (price_in (zip things prices) kinds are.of_kinds (get_or (zip things prices) k d) (Contains-get_or (zip things prices) k d inside))
 
-    -- each thing's price is that of its kind, so there are no other prices
+    -- if each of the prices is that of its thing's kind, no other prices have these kinds
     module _ (prices : List ℤ) (number : length prices ≡ length things)
         (priced : (k : ℕ) (x : X) (q : ℤ) → k < length things → IsPriceOf kinds (get_or things k x) (get_or prices k q)) where
       same_prices : (others : List ℤ) → ArePricesOf cmp things kinds others → prices ≡ others
@@ -119,6 +119,6 @@ module _ {X : Type 0} (cmp : X → X → Ordering) (order : IsTotalOrder cmp) (t
     pub no_kind_refused : (k : ℕ) (x : X) → k < length things → HasNoKind kinds (get_or things k x) → (others : List ℤ) → ¬ (ArePricesOf cmp things kinds others)
     no_kind_refused k x below none others are = let of = each_price others are k x (pos 0) below in none of.kind of.among of.of_thing
 
-    -- so the prices are told by the kinds
+    -- two lists of prices that have the same kinds for the same things are equal
     pub prices_alike : (prices others : List ℤ) → ArePricesOf cmp things kinds prices → ArePricesOf cmp things kinds others → prices ≡ others
     prices_alike prices others are other = same_prices prices are.number (each_price prices are) others other

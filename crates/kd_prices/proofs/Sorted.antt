@@ -1,4 +1,4 @@
--- Kinds in the order of their sort are kinds of things that ascend.
+-- Kinds are in the order of a card's lines exactly if their things ascend in their derived order.
 use Rattle.kd_prices.proofs.Prelude.{◌≡◌, ◌≢◌, ◌↔◌, ℕ, ◌+◌, ◌<◌, ◌≤◌, zero, suc, List, [], ◌∷◌, length, get_or, map}
 use Rattle.kd_prices.proofs.Prelude.{arith, ap, sym, ◌∙◌, subst, ℤ, pos, Option, Some, None, All, unsigned_abs}
 use Rattle.kd_prices.proofs.Prelude.{All-from_get_or, length-map, Sort, KindOf, AreKinds, AreKindsOf, ComesAfter}

@@ -6,7 +6,8 @@ use Rattle.kd_state.specs.Machine.{cable_letters}
 use Rattle.kd_state.specs.SheetDay.{Day, OfRotors, OfPins}
 use Rattle.kd_state.specs.OnKey.{HaveSameLetters}
 
--- The cables at the two places have the same letters, or the bars at these places stand alike.
+-- The cables at `place` and `other` have the same letters, or the bars numbered so have their lugs at the same
+-- places.
 abbrev pub StandAlike : Parts → ℕ → ℕ → Type 0
 StandAlike (Rotor m) place other =
     HaveSameLetters
@@ -14,7 +15,8 @@ StandAlike (Rotor m) place other =
     (cable_letters (slice_index_or m.cables other (None, None)))
 StandAlike (Pin m) place other = slice_get m.bars place ≡ slice_get m.bars other
 
--- The day has no pair for either of the two places, or its rows at these places have one reading.
+-- Columns `place` and `other` are both nothings, after the day's pairs; or the rows of the sheet numbered so
+-- have the same reading.
 abbrev pub ReadAlike : Day → ℕ → ℕ → Type 0
 ReadAlike (OfRotors s) place other = (length s.pairs ≤ place) × (length s.pairs ≤ other)
 ReadAlike (OfPins s) place other = slice_get s.rows place ≡ slice_get s.rows other

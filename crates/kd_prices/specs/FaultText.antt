@@ -1,4 +1,4 @@
--- The text of the first doubt about a card.
+-- The text of a doubt about a card.
 use Rattle.std.specs.Prelude.{decimal, ℕ, List, ◌++◌}
 use Rattle.kd_tables.specs.declared.refusal.Refusal.TheVariants as refusals
 use Rattle.kd_tables.specs.Refusals.{refusal_name, word_after_space}

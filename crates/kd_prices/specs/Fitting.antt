@@ -3,11 +3,12 @@
 use Rattle.std.specs.Prelude.{ℕ, ◌<◌, List, slice_index, ℤ, pos, ◌+ℤ◌, ◌≤ℤ◌}
 use Rattle.kd_card.specs.Prices.{cost_at, price_at}
 
--- The prices of row `i` and column `j` are together at most the cost where they meet.
+-- The prices of row `i` and column `j` add up to at most the cost where they meet.
 abbrev pub ListsFitAt : List (List ℕ) → List ℤ → List ℤ → ℕ → ℕ → Type 0
 ListsFitAt costs rows columns i j = (price_at rows i +ℤ price_at columns j) ≤ℤ pos (cost_at costs i j)
 
--- `price` and the price of column `j` are together at most the cost in one row of the table.
+-- In the row of the table that has these costs and this price, the price and that of column `j` add up to at
+-- most the cost in this column.
 abbrev pub FitsAtColumn : List ℕ → ℤ → List ℤ → ℕ → Type 0
 FitsAtColumn costs price columns j = (price +ℤ price_at columns j) ≤ℤ pos (slice_index costs j)
 

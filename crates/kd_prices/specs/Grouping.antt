@@ -1,5 +1,6 @@
--- Kinds of things with prices: the steps of grouping them, and of finding their prices again. No contract of a public
--- function cites these definitions.
+-- The steps of grouping things with prices into kinds, and of finding the price of each thing from the kinds. A
+-- kind has a thing, the number of things equal to it, and their price. No contract of a public function cites
+-- these definitions.
 use Rattle.std.specs.Prelude.{◌≡◌, ◌≢◌, ℕ, ◌+◌, ◌-◌, ◌<◌, ◌≤◌, List, [], ◌∷◌, ◌++◌, length, map, set, count_by, ℤ, All}
 use Rattle.std.specs.Prelude.{IsPermutation, slice_index_or, Bool, true, false, Option, Some, None}
 use Rattle.std.specs.List.{Contains, zip}
@@ -9,52 +10,55 @@ use Rattle.std.specs.declared.cmp.Ordering.TheVariants.{Less}
 use Rattle.kd_card.specs.declared.kinds.KindOf.{KindOf}
 use Rattle.kd_card.specs.Kinds.{Sort, ComesAfter, expansion}
 
--- Equal things have one price.
+-- Of these things with their prices, equal things have equal prices.
 abbrev pub HaveOnePriceEach : {X : Type 0} → List (X × ℤ) → Type 0
 HaveOnePriceEach {X} pairs =
     (thing : X) (price other : ℤ) → Contains pairs (thing, price) → Contains pairs (thing, other) → price ≡ other
 
--- Each thing comes before the next one.
+-- In the order `cmp`, each thing comes before the next one in the list.
 abbrev pub Ascend : {X : Type 0} → (X → X → Ordering) → List X → Type 0
 Ascend {X} cmp things =
     (k : ℕ) (d : X) → k + 1 < length things
     → cmp (slice_index_or things k d) (slice_index_or things (k + 1) d) ≡ Less
 
--- The kinds are in order, each once, and are of just these things with their prices.
+-- The kinds are in the order `cmp`, each once, and count at least one thing each. Written out, they are the
+-- things with their prices, in some order.
 pub record AreRunsOf {X : Type 0} (cmp : X → X → Ordering) (pairs : List (X × ℤ)) (kinds : List (KindOf X))
     : Type 0 where
   pub in_order : Ascend cmp (map (λ kind. kind.thing) kinds)
   pub some : All (λ kind. 1 ≤ kind.count) kinds
   pub expand : IsPermutation pairs (expansion kinds)
 
--- One of the kinds is of the thing, and has this price.
+-- One of the kinds is that of the thing, and has this price.
 pub record IsPriceOf {X : Type 0} (kinds : List (KindOf X)) (thing : X) (price : ℤ) : Type 0 where
   pub kind : KindOf X
   pub among : Contains kinds kind
   pub of_thing : kind.thing ≡ thing
   pub of_price : kind.price ≡ price
 
--- None of the kinds is of the thing.
+-- None of the kinds is that of the thing.
 abbrev pub HasNoKind : {X : Type 0} → List (KindOf X) → X → Type 0
 HasNoKind {X} kinds thing = (kind : KindOf X) → Contains kinds kind → kind.thing ≢ thing
 
--- The kind counts all things that are equal to its own, and there are some.
+-- The count of the kind is the number of things that are equal to the kind's, and isn't 0.
 pub record IsCounted {X : Type 0} (eq : X → X → Bool) (things : List X) (kind : KindOf X) : Type 0 where
   pub some : 1 ≤ kind.count
   pub number : kind.count ≡ count_by (λ thing. eq thing kind.thing) things
 
--- The things have these prices, and with them they are of just these kinds.
+-- There is a price for each thing, and things with these prices have just these kinds.
 pub record ArePricesOf {X : Type 0} (cmp : X → X → Ordering) (things : List X) (kinds : List (KindOf X))
     (prices : List ℤ) : Type 0 where
   pub number : length prices ≡ length things
   pub of_kinds : AreRunsOf cmp (zip things prices) kinds
 
--- The kinds come in the order of their sort, each after the kind before it.
+-- Each of the kinds comes after the kind before it, in the order of lines that `sort` has; the first one comes
+-- after the kind `last`, if there is one.
 abbrev pub AreInOrder : {K X : Type 0} → Sort K X → Option K → List K → Type 0
 AreInOrder sort last [] = Unit {0}
 AreInOrder sort last (kind ∷ kinds) = ComesAfter sort last kind × AreInOrder sort (Some kind) kinds
 
--- The kinds are in order, count something each, and are of just these things with these prices.
+-- The kinds are in order, and count at least one thing each. Written out, they are the things with their prices,
+-- in some order.
 pub record AreGroupsOf {K X : Type 0} (sort : Sort K X) (pairs : List (X × ℤ)) (kinds : List K) : Type 0 where
   pub in_order : AreInOrder sort None kinds
   pub some : All (λ kind. 1 ≤ (sort.kind kind).count) kinds
@@ -62,17 +66,18 @@ pub record AreGroupsOf {K X : Type 0} (sort : Sort K X) (pairs : List (X × ℤ)
 
 -- ---- one thing more
 
--- Things are ordered as they are, and equal things by their prices.
+-- the order of things with prices: first by the things, in the order `cmp`, then by the prices
 abbrev pub pair_cmp : {X : Type 0} → (X → X → Ordering) → X × ℤ → X × ℤ → Ordering
 pair_cmp cmp x y = ordering_then (cmp x.0 y.0) (int_cmp x.1 y.1)
 
--- The kind is the last one.
+-- `kind` is the last of `kinds`.
 pub record IsLast {X : Type 0} (kinds : List (KindOf X)) (kind : KindOf X) : Type 0 where
   pub some : 0 < length kinds
   pub last : kind ≡ slice_index_or kinds (length kinds - 1) kind
 
--- The thing is counted in the last kind, or it is the first of another one; or the last kind is of equal things, and
--- has another price.
+-- One more thing is counted: in the last kind if that has the thing and its price (`Alike`), in a new kind if
+-- there is none or the last one has another thing (`Another`). If the last kind has the thing, but another
+-- price, `done` is false (`Refused`).
 pub data CountsIn {X : Type 0} (kinds : List (KindOf X)) (thing : X) (price : ℤ) (done : Bool)
     (new : List (KindOf X)) : Type 0 where
   Alike : (kind : KindOf X) → IsLast kinds kind → kind.thing ≡ thing → kind.price ≡ price → done ≡ true

@@ -1,4 +1,5 @@
--- Cards by number that can be made by kind, and what the card by kind is.
+-- When a card by number, where each thing has its own price, can become a card by kind, where equal things share
+-- one; and which card that is.
 use Rattle.std.specs.Prelude.{◌≡◌}
 use Rattle.kd_state.specs.declared.machine.parts.Parts.{Parts}
 use Rattle.kd_state.specs.SheetDay.{Day}
@@ -10,18 +11,19 @@ use Rattle.kd_card.specs.Proving.{Expands}
 use Rattle.kd_prices.specs.Doubt.{AreNumbered}
 use Rattle.kd_prices.specs.Laws.{AreEqualWhereAlike}
 
--- Machine, day and prices are of one model, the prices are by number, and equal things have equal prices.
+-- Machine and day are of one model; the prices are for this sort of machine, and by number; and equal things
+-- have equal prices.
 pub record CanBeByKind (m : Parts) (s : Day) (prices : PriceParts) : Type 0 where
   pub numbered : AreNumbered m s prices
   pub equal : AreEqualWhereAlike m s prices
 
--- `by_kind` are prices by kind that expand to `prices`.
+-- `by_kind` are prices by kind that give each thing the price that it has in `prices`.
 pub record AreByKind (m : Parts) (s : Day) (prices by_kind : PriceParts) : Type 0 where
   pub can : CanBeByKind m s prices
   pub version : version_of by_kind ≡ ByKind
   pub expands : Expands m s by_kind prices
 
--- `other` has the settings of `card`, and prices by kind that expand to those of `card`.
+-- `other` has the settings of `card`, and prices by kind that give each thing the price that it has on `card`.
 pub record IsByKind (m : Parts) (s : Day) (card other : Card) : Type 0 where
   pub settings : other.settings.items ≡ card.settings.items
   pub version : version_of other.prices ≡ ByKind

@@ -16,10 +16,10 @@ use super::walking::{carry_settings, is_priced_setting};
 use kd_card::{Card, Kind, PriceParts, sum_of_prices};
 use kd_state::{Machine, OneModel, Setting, SheetDay, bar_costs, cable_costs};
 
-/// Checks that `card` proves itself, whoever made it, or finds the first doubt.
+/// Checks that `card`, whoever made it, proves itself, or finds the first doubt about it.
 ///
 /// A card proves itself if its settings lead `machine` to `day`, and its prices show that no shorter list does.
-/// Doubts come in the order of the variants of `Doubt`.
+/// The variants of `Doubt` are tested in their order; the first that applies is the result.
 pub fn check(machine: &Machine, day: &SheetDay, card: &Card) -> Result<(), Doubt>
     ensures proves { IsOk result
         ↔ Proves machine.now day.now card.now.settings.items card.now.prices }
@@ -29,7 +29,7 @@ pub fn check(machine: &Machine, day: &SheetDay, card: &Card) -> Result<(), Doubt
     first_doubt(machine, day, card)
 }
 
-/// Finds the first doubt, if there is one: models first, then the card by its table of costs.
+/// Compares the models, then makes the table of costs and checks `card` by it. An error is the first doubt.
 fn first_doubt(machine: &Machine, day: &SheetDay, card: &Card) -> Result<(), Doubt>
     ensures { IsCheckedAnswer machine.now day.now card.now.settings.items card.now.prices result }
 {
@@ -78,7 +78,10 @@ fn first_doubt(machine: &Machine, day: &SheetDay, card: &Card) -> Result<(), Dou
     }
 }
 
-/// Finds the first doubt about settings with prices by kind, for the things of the rows and columns of the table.
+/// Finds the first doubt about `settings` on a card by kind, where equal things share one price.
+///
+/// `row_things` are the machine's cables or bars, one for each row of the table of costs. `column_things` are the
+/// day's pairs and nothings, or the rows of the sheet, one for each column.
 fn doubt_by_kinds<R: Kind, C: Kind, const N: usize>(
     machine: &Machine,
     day: &SheetDay,
@@ -110,7 +113,7 @@ fn doubt_by_kinds<R: Kind, C: Kind, const N: usize>(
     doubt_by_prices(machine, day, settings, costs, &rows, &columns)
 }
 
-/// Finds the first doubt about settings with these prices of the rows and columns of the table of costs.
+/// Finds the first doubt about `settings`, given a price for each row and column of the table of costs.
 fn doubt_by_prices<const N: usize>(
     machine: &Machine,
     day: &SheetDay,

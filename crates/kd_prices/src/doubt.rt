@@ -7,31 +7,34 @@ use kd_tables::{Refusal, Text};
 use std::fmt;
 use thiserror::Error;
 
-/// Why a card doesn't prove itself. Its settings are lines, counted from 1.
+/// Why a card doesn't prove itself. A line is a setting of the card; lines are counted from 1.
 #[derive(Clone, Copy, Debug, PartialEq, Eq, Error)]
 pub enum Doubt {
-    /// Machine and day are of different models, or the prices belong to the other sort of machine.
+    /// Machine and day are of different models, or the prices are for the other sort of machine.
+    ///
+    /// Cards for rotor machines have prices of cables, and cards for the Converter have prices of bars.
     OtherModel,
-    /// The prices are by kind, but these kinds or their counts aren't those of the machine and the day.
+    /// Equal things share a price, but the card's kinds or their counts aren't those of machine and day.
     PriceMissing,
-    /// The machine refuses this line, for this reason, after it took the lines before it.
+    /// The machine refuses this line, for this reason, after the lines before it were carried out.
     IllegalAt(usize, Why),
     /// After the last line the machine doesn't read as the day.
     NotTheSheet,
-    /// The price of this row and that of this column, counted from 1, are together above the cost where they
-    /// meet.
+    /// The prices of this row and this column add up to more than the cost where they meet.
     ///
-    /// Rows are cables or bars; columns are pairs and nothings, or the sheet's rows. It is the first such
-    /// place, by row and then by column.
+    /// Rows and columns are those of the table of costs, counted from 1: rows are cables or bars; columns are
+    /// pairs and nothings, or the sheet's rows. These are the first that don't fit, row by row.
     PriceTooHigh(u8, u8),
     /// The sum of the prices isn't the number of lines that change a cable or a bar.
     SumDiffers,
-    /// This line changes no cable or bar, and no loose thing is put right by it. It is the first such line.
+    /// This line isn't needed: it changes no cable or bar, and doesn't lower the number of loose things by one.
+    ///
+    /// It is the first such line.
     NeedlessLine(usize),
 }
 
 impl Doubt {
-    /// The refusal's number and name, and the lines or places that it names.
+    /// The refusal's number and name, and what the doubt has: a line, the reason, or a row and a column.
     pub fn text(&self) -> Text
         ensures { result.bytes ≡ doubt_text self.now }
     {

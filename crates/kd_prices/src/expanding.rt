@@ -1,4 +1,4 @@
-//! Finds the price of each thing from prices by kind.
+//! Finds the price of each thing on a card by kind, where equal things share one price.
 ghost use Rattle.std.specs.Prelude.{◌≡◌, ◌↔◌, ◌≤◌, length, map, count_by, ℤ, List, All, None, IsTrue, MatchOption};
 ghost use Rattle.kd_card.specs.Kinds.{AreKinds, AreKindsOf};
 ghost use Rattle.kd_card.specs.Prices.{ArePricesInRange};
@@ -7,7 +7,9 @@ ghost use Rattle.kd_prices.specs.Grouping.{IsCounted, IsPriceOf, HasNoKind};
 use arrayvec::ArrayVec;
 use kd_card::{Kind, Thing};
 
-/// The price of each of `N` things. `None` if the kinds or their counts aren't those of the things.
+/// The price that each of `things` has by `kinds`.
+///
+/// `None` if `kinds` or their counts aren't those of `things`.
 pub(crate) fn prices_of<K: Kind, const N: usize>(
     things: &[K::Thing],
     kinds: &[K],
@@ -30,7 +32,7 @@ pub(crate) fn prices_of<K: Kind, const N: usize>(
     prices.into_inner().ok()
 }
 
-/// Whether each kind counts all things that are equal to its own, and there are some.
+/// Whether the count of each kind is the number of `things` that are equal to the kind's, and isn't 0.
 fn are_counted<K: Kind>(things: &[K::Thing], kinds: &[K]) -> bool
     ensures { IsTrue result
         ↔ All (IsCounted K.Thing.eq things.now) (map K.sort.kind kinds.now) }
@@ -45,14 +47,14 @@ fn are_counted<K: Kind>(things: &[K::Thing], kinds: &[K]) -> bool
     true
 }
 
-/// The number of things that are equal to `thing`.
+/// The number of `things` that are equal to `thing`.
 fn number_of<T: Thing>(thing: &T, things: &[T]) -> usize
     ensures { result ≡ count_by (λ other. T.eq other thing.now) things.now }
 {
     things.iter().filter(|other| **other == *thing).count()
 }
 
-/// The price of the thing's kind.
+/// The price of the kind of `thing`, or `None` if none of `kinds` is of it.
 fn price_of<K: Kind>(thing: &K::Thing, kinds: &[K]) -> Option<i16>
     ensures { let parts = map K.sort.kind kinds.now in
         MatchOption result (HasNoKind parts thing.now) (IsPriceOf parts thing.now) }

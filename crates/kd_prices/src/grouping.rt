@@ -1,11 +1,11 @@
-//! Groups things with prices: equal things are one kind.
+//! Groups things with prices: equal things become one kind, with their number and their price.
 ghost use Rattle.std.specs.Prelude.{◌≡◌, ◌<◌, ◌≤◌, length, map, MatchOption};
 ghost use Rattle.kd_prices.specs.Grouping.{AreGroupsOf, HaveOnePriceEach, CountsIn, IsLast};
 
 use arrayvec::ArrayVec;
 use kd_card::{Kind, KindOf};
 
-/// The kinds of things with these prices, in order. `None` if two equal things have different prices.
+/// Groups things with their prices into kinds, in order. `None` if two equal things have different prices.
 pub(crate) fn kinds_of<K: Kind, const N: usize>(
     pairs: ArrayVec<(K::Thing, i16), N>,
 ) -> Option<ArrayVec<K, N>>
@@ -25,7 +25,10 @@ pub(crate) fn kinds_of<K: Kind, const N: usize>(
     Some(kinds)
 }
 
-/// Counts one more thing. `false` if it is equal to those of the last kind, and has another price.
+/// Counts one more thing in the last of `kinds`, if it is equal to its things, or in a new kind.
+///
+/// `pair` is the thing and its price. `false` if the thing is equal to those of the last kind, but has another
+/// price.
 fn count_in<K: Kind, const N: usize>(kinds: &mut ArrayVec<K, N>, pair: &(K::Thing, i16)) -> bool
     requires few { length kinds.old.items < N }
     requires counts { (kind : KindOf K.Thing) → IsLast (map K.sort.kind kinds.old.items) kind

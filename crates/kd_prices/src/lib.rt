@@ -1,4 +1,5 @@
-//! Checks whether a card proves itself, and makes cards by kind from cards by number.
+//! Checks whether a card proves itself. Makes cards by kind, where equal things share one price, from cards by
+//! number, where each thing has its own.
 #![tactic(auto)]
 
 mod checking;

@@ -1,4 +1,4 @@
-//! The things of a machine and a day in the order of a card's lines, each with its price.
+//! Cables and columns as values that can be sorted in the order of a card's lines, and things with their prices.
 ghost use Rattle.std.specs.Prelude.{◌≡◌, ◌≤◌, length, zip};
 ghost use Rattle.kd_card.specs.Proving.{columns_in_order, pair_in_order};
 
@@ -7,7 +7,7 @@ use kd_card::{Column, Ends, Thing};
 use kd_state::{column_at, letters_in_order};
 use kd_tables::Letter;
 
-/// The letters of each cable.
+/// The letters of each of `cables`, as a value that can be sorted.
 pub(crate) fn ends_of(cables: &[(Option<Letter>, Option<Letter>); 13]) -> ArrayVec<Ends, 13>
     ensures { result.items ≡ cables.now }
 {
@@ -18,7 +18,7 @@ pub(crate) fn ends_of(cables: &[(Option<Letter>, Option<Letter>); 13]) -> ArrayV
     ends
 }
 
-/// The pairs of a day with their letters in alphabetical order, and then nothings up to 13.
+/// The 13 columns of a day: its pairs, each with its letters in alphabetical order, and then nothings.
 pub(crate) fn columns_of(pairs: &[(Letter, Letter)]) -> ArrayVec<Column, 13>
     requires { length pairs.now ≤ 13 }
     ensures { result.items ≡ columns_in_order pairs.now }
@@ -30,7 +30,7 @@ pub(crate) fn columns_of(pairs: &[(Letter, Letter)]) -> ArrayVec<Column, 13>
     columns
 }
 
-/// The pair with its letters in alphabetical order.
+/// `pair` with its letters in alphabetical order, or `None` if there is no pair.
 fn in_order(pair: Option<(Letter, Letter)>) -> Option<(Letter, Letter)>
     ensures { result ≡ pair_in_order pair }
 {
@@ -38,7 +38,7 @@ fn in_order(pair: Option<(Letter, Letter)>) -> Option<(Letter, Letter)>
     Some(letters_in_order(one, other))
 }
 
-/// Each thing with its price.
+/// Each of `things` with its price, which is at the same place of `prices`.
 pub(crate) fn beside<T: Thing, const N: usize>(
     things: &[T],
     prices: &[i16; N],

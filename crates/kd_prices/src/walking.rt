@@ -1,4 +1,4 @@
-//! Carries out the settings of a card, and finds the first that isn't needed.
+//! Carries out the settings of a card, and finds the first setting that isn't needed.
 ghost use Rattle.std.specs.Prelude.{◌≡◌, ◌+◌, ◌≤◌, IsFalse, MatchResult, IfOk, IfErr, Err};
 ghost use Rattle.kd_state.specs.Machine.{model_of};
 ghost use Rattle.kd_state.specs.Setting.{Leads};
@@ -10,7 +10,7 @@ use super::doubt::Doubt;
 use kd_card::loose_count;
 use kd_state::{Machine, Setting, SheetDay};
 
-/// The machine after all settings of a card, and the first doubt whether one of them is needed.
+/// The machine after all settings of a card, and the doubt about the first setting that isn't needed, if any.
 #[derive(Drop)]
 pub(crate) struct Carried {
     pub reached: Machine,
@@ -18,6 +18,8 @@ pub(crate) struct Carried {
 }
 
 /// Carries out `settings` in turn, and compares the number of loose things before and after each.
+///
+/// An error is the doubt about the first setting that the machine refuses.
 #[tactic(auto, using(kd_state::proofs::Telling::Refusing::stops_at))]
 pub(crate) fn carry_settings(
     machine: &Machine,
@@ -43,7 +45,9 @@ pub(crate) fn carry_settings(
     Ok(Carried { reached, needed })
 }
 
-/// Whether the setting changes a cable or a bar, or one thing less is loose after it.
+/// Checks that `setting`, on line `line`, changes a cable or a bar, or leaves one loose thing less.
+///
+/// `before` and `after` are the numbers of loose things before and after the setting.
 fn check_need(setting: &Setting, line: usize, before: usize, after: usize) -> Result<(), Doubt>
     requires { after ≤ 137 }
     ensures { let is_needed = IsFalse (proving.is_priced_setting setting.now) → before ≡ after + 1 in
@@ -57,7 +61,7 @@ fn check_need(setting: &Setting, line: usize, before: usize, after: usize) -> Re
     }
 }
 
-/// Whether the setting changes a cable or a bar.
+/// Whether `setting` changes a cable or a bar.
 pub(crate) fn is_priced_setting(setting: &Setting) -> bool
     ensures { result ≡ proving.is_priced_setting setting.now }
 {
