@@ -53,7 +53,7 @@ pub(crate) fn price_of_text(text: &[u8]) -> Option<i16>
     is_word(text, buffer.format(price)).then_some(price)
 }
 
-/// Splits the first price line off `text`: its first word, the text after this word's space, and the rest.
+/// Splits the first line off `text`: its first word, the text after this word's space, and the next lines.
 ///
 /// A price line is expected here; `line` is its number in the card, for a fault.
 pub(crate) fn split_first(
