@@ -305,14 +305,16 @@ all_say (Bars row col) line rest are ends e =
 all_say (CableKinds row col) line rest are ends e =
     let groups = (cables_are_prices row.items col.items).0 are in
     let say =
-    groups_say cables_are pairs_are (λ same. omega (arith, ap (λ t. get_or t 0 0) same)) 13 line row.items col.items rest (omega arith) groups.0 groups.1
+    groups_say cables_are pairs_are (λ same. omega (arith, ap (λ t. get_or t 0 0) same)) 13 line row.items col.items
+    rest (omega arith) groups.0 groups.1
     (ends pair_sort.word (λ same. omega (arith, ap (λ t. get_or t 0 0) same))) e in
     GoesOn (OfCables, say.0.behind, say.0.rest) (first_says _ OfCables say.0.behind say.0.rest say.0.has)
     (GoesOn (row.items, col.items, rest) say.1 refl)
 all_say (BarKinds row col) line rest are ends e =
     let groups = (bars_are_prices row.items col.items).0 are in
     let say =
-    groups_say bars_are rows_are (λ same. omega (arith, ap (λ t. get_or t 0 0) same)) 27 line row.items col.items rest (omega arith) groups.0 groups.1
+    groups_say bars_are rows_are (λ same. omega (arith, ap (λ t. get_or t 0 0) same)) 27 line row.items col.items
+    rest (omega arith) groups.0 groups.1
     (ends row_sort.word (λ same. omega (arith, ap (λ t. get_or t 0 0) same))) e in
     GoesOn (OfBars, say.0.behind, say.0.rest) (first_says _ OfBars say.0.behind say.0.rest say.0.has)
     (GoesOn (row.items, col.items, rest) say.1 refl)
@@ -348,7 +350,8 @@ sum_ends : (sum : ℤ) (rest : List ℕ) → unsigned_abs sum < 2 ^ 64 → (word
     → EndsGroup word (line_then (sum_words sum) rest)
 sum_ends sum rest near word differs =
     let has = value_line (codes "SUM") (signed_decimal sum) rest (word_by_test _ _ refl) (signed_word sum near) refl in
-    AtOther (codes "SUM") (record { behind = signed_decimal sum ∷ []; rest = rest; has = has }) (λ same. differs (sym same))
+    AtOther (codes "SUM") (record { behind = signed_decimal sum ∷ []; rest = rest; has = has })
+    (λ same. differs (sym same))
 
 -- ---- the card
 

@@ -160,15 +160,17 @@ expansion kinds = flat_map (λ kind. replicate kind.count (kind.thing, kind.pric
 -- some order.
 -- Code: `kinds_of` sorts things with their prices and counts equal ones; `prices_of` looks for each thing's kind and
 -- compares the counts. Neither writes the kinds out.
-pub record AreKindsOf {K X : Type 0} (sort : Sort K X) (things : List X) (prices : List ℤ) (kinds : List K) : Type 0 where
-  pub number : length prices ≡ length things
-  pub expand : IsPermutation (zip things prices) (expansion (map sort.kind kinds))
+pub record AreKindsOf {K X : Type 0} (sort : Sort K X) (things : List X) (prices : List ℤ) (kinds : List K) : Type 0
+  where
+    pub number : length prices ≡ length things
+    pub expand : IsPermutation (zip things prices) (expansion (map sort.kind kinds))
 
 -- ---- lines
 
 -- the words of a kind's line: the word of its sort, what its things have in common, their number and their price
 abbrev pub kind_words : {K X : Type 0} → Sort K X → K → List (List ℕ)
-kind_words sort k = sort.word ∷ sort.text (sort.kind k).thing ∷ decimal (sort.kind k).count ∷ signed_decimal (sort.kind k).price ∷ []
+kind_words sort k = sort.word ∷ sort.text (sort.kind k).thing ∷ decimal (sort.kind k).count
+    ∷ signed_decimal (sort.kind k).price ∷ []
 
 -- The kind is valid, and these are the words of its line.
 pub record HasKindWords {K X : Type 0} (sort : Sort K X) (words : List (List ℕ)) (kind : K) : Type 0 where

@@ -48,9 +48,11 @@ pairs_told (p ∷ pairs) (suc i) (suc k) apart e = grind (arith, pairs_told pair
 abbrev pub AreTold : {X : Type 0} → List X → X → (ℕ → ℕ → Type 0) → Type 0
 AreTold things d Alike =
     (i k : ℕ) → i < length things → k < length things
-    → (get_or things i d ≡ get_or things k d → Alike i k ⊎ (i ≡ k)) × (Alike i k → get_or things i d ≡ get_or things k d)
+    → (get_or things i d ≡ get_or things k d → Alike i k ⊎ (i ≡ k))
+    × (Alike i k → get_or things i d ≡ get_or things k d)
 
-pub each_told : {X : Type 0} (things : List X) (d : X) → AreTold things d (λ i k. slice_get things i ≡ slice_get things k)
+pub each_told : {X : Type 0} (things : List X) (d : X)
+    → AreTold things d (λ i k. slice_get things i ≡ slice_get things k)
 each_told things d i k inside within = (
   λ same. inl (slice_get-get_or things i d inside ∙ ap (λ x. Some x) same ∙ sym (slice_get-get_or things k d within)),
   λ alike. same_at things i k d alike,
@@ -87,7 +89,8 @@ columns_told s legal i k inside within =
 pair_at : {X : Type 0} (xs : List X) (i : ℕ) (d x : X) → i < length xs → get_or xs i x ≡ x → get_or xs i d ≡ x
 pair_at xs i d x inside is = get_or_default xs i d x inside ∙ is
 
-module _ {X : Type 0} (things : List X) (d : X) (Alike : ℕ → ℕ → Type 0) (told : AreTold things d Alike) (prices : List ℤ)
+module _ {X : Type 0} (things : List X) (d : X) (Alike : ℕ → ℕ → Type 0) (told : AreTold things d Alike)
+    (prices : List ℤ)
     (n : ℕ) (many : length things ≡ n) (size : length prices ≡ n) where
   at : (i : ℕ) → i < n → get_or (zip things prices) i (d, pos 0) ≡ (get_or things i d, price_at prices i)
   at i low = get_or-zip things prices i (d, pos 0) (omega (arith, many, low)) (omega (arith, size, low))

@@ -35,7 +35,8 @@ module _ (m : RotorParts) (s : RotorDay) (rows columns : List ℤ) (machine : Is
       one_price_is (columns_in_order s.pairs) None (ReadAlike (OfRotors s)) (columns_told s legal) columns 13 thirteen
       are.columns
 
-  pub no_cable_kinds : ¬ (HaveOnePriceEach (zip m.cables rows)) → ¬ (CanBeByKind (Rotor m) (OfRotors s) (Cables rows columns))
+  pub no_cable_kinds : ¬ (HaveOnePriceEach (zip m.cables rows))
+      → ¬ (CanBeByKind (Rotor m) (OfRotors s) (Cables rows columns))
   no_cable_kinds none can = none (rows_iff.1 can.equal.rows)
 
   pub no_pair_kinds : ¬ (HaveOnePriceEach (zip (columns_in_order s.pairs) columns))
@@ -101,38 +102,39 @@ module _ (m : PinParts) (s : PinDay) (rows columns : List ℤ) (machine : IsMach
 
   module _ (same : model_of (Pin m) ≡ day_model (OfPins s)) (row : List BarKind) (col : List RowKind)
       (one : HaveOnePriceEach (zip m.bars rows)) (other : HaveOnePriceEach (zip s.rows columns))
-      (first : AreGroupsOf bar_sort (zip m.bars rows) row) (second : AreGroupsOf row_sort (zip s.rows columns) col) where
-    abbrev made_bars : PriceParts
-    made_bars = BarKinds (record { items = row }) (record { items = col })
+      (first : AreGroupsOf bar_sort (zip m.bars rows) row) (second : AreGroupsOf row_sort (zip s.rows columns) col)
+    where
+      abbrev made_bars : PriceParts
+      made_bars = BarKinds (record { items = row }) (record { items = col })
 
-    valid_bars : ArePrices made_bars
-    valid_bars =
-        (bars_are_prices row col).1 (
-          is_group bar_sort m.bars rows 27 machine.legal.bars are.rows (omega arith) machine.legal.apart are.row_reach
-              row first,
-          is_group row_sort s.rows columns 27 legal.count are.columns (omega arith) legal.rows are.column_reach
-              col second,
-        )
-
-    are_by_kind : AreByKind (Pin m) (OfPins s) (Bars rows columns) made_bars
-    are_by_kind = record {
-      can = record {
-        numbered = record { model = same; kind = tt };
-        equal = record { rows = bars_iff.0 one; columns = readings_iff.0 other };
-      };
-      version = refl;
-      expands =
-          Expanded valid_bars are (
-            is_of bar_sort m.bars rows 27 machine.legal.bars are.rows (omega arith) machine.legal.apart are.row_reach
+      valid_bars : ArePrices made_bars
+      valid_bars =
+          (bars_are_prices row col).1 (
+            is_group bar_sort m.bars rows 27 machine.legal.bars are.rows (omega arith) machine.legal.apart are.row_reach
                 row first,
-            is_of row_sort s.rows columns 27 legal.count are.columns (omega arith) legal.rows are.column_reach
+            is_group row_sort s.rows columns 27 legal.count are.columns (omega arith) legal.rows are.column_reach
                 col second,
-          );
-    }
+          )
 
-    pub bars_by_kind : (r : Option PriceParts)
-        → MatchOption r (¬ (ArePrices made_bars)) (λ prices. prices ≡ made_bars)
-        → MatchOption r (¬ (CanBeByKind (Pin m) (OfPins s) (Bars rows columns)))
-        (AreByKind (Pin m) (OfPins s) (Bars rows columns))
-    bars_by_kind None h = absurd (h valid_bars)
-    bars_by_kind (Some prices) h = subst (AreByKind (Pin m) (OfPins s) (Bars rows columns)) (sym h) are_by_kind
+      are_by_kind : AreByKind (Pin m) (OfPins s) (Bars rows columns) made_bars
+      are_by_kind = record {
+        can = record {
+          numbered = record { model = same; kind = tt };
+          equal = record { rows = bars_iff.0 one; columns = readings_iff.0 other };
+        };
+        version = refl;
+        expands =
+            Expanded valid_bars are (
+              is_of bar_sort m.bars rows 27 machine.legal.bars are.rows (omega arith) machine.legal.apart are.row_reach
+                  row first,
+              is_of row_sort s.rows columns 27 legal.count are.columns (omega arith) legal.rows are.column_reach
+                  col second,
+            );
+      }
+
+      pub bars_by_kind : (r : Option PriceParts)
+          → MatchOption r (¬ (ArePrices made_bars)) (λ prices. prices ≡ made_bars)
+          → MatchOption r (¬ (CanBeByKind (Pin m) (OfPins s) (Bars rows columns)))
+          (AreByKind (Pin m) (OfPins s) (Bars rows columns))
+      bars_by_kind None h = absurd (h valid_bars)
+      bars_by_kind (Some prices) h = subst (AreByKind (Pin m) (OfPins s) (Bars rows columns)) (sym h) are_by_kind

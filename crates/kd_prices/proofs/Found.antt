@@ -68,7 +68,11 @@ module _ (m : RotorParts) (s : RotorDay) (row : List CableKind) (col : List Pair
         refl,
         refl,
       ))
-      (λ numbered expands. elim expands [ Same by same ↦ absurd (cc) | Expanded good fine is ↦ of_cables numbered fine is ])
+      (λ numbered expands. elim expands [
+        | Same by same ↦ absurd (cc)
+        | Expanded good fine is ↦ of_cables numbered
+            fine is
+      ])
 
 module _ (m : PinParts) (s : PinDay) (row : List BarKind) (col : List RowKind) where
   abbrev bar_prices : PriceParts
@@ -102,4 +106,8 @@ module _ (m : PinParts) (s : PinDay) (row : List BarKind) (col : List RowKind) w
         refl,
         refl,
       ))
-      (λ numbered expands. elim expands [ Same by same ↦ absurd (cc) | Expanded good fine is ↦ of_bars numbered fine is ])
+      (λ numbered expands. elim expands [
+        | Same by same ↦ absurd (cc)
+        | Expanded good fine is ↦ of_bars numbered fine
+            is
+      ])

@@ -65,7 +65,8 @@ module _ {K X : Type 0} (sort : Sort K X) where
     fine : AllByRecursion IsFine (expansion (map sort.kind kinds))
     fine =
         recursion_from_All IsFine (expansion (map sort.kind kinds))
-        (λ i z. All-permutation IsFine (zip things prices) (expansion (map sort.kind kinds)) groups.expand (all_fine z) i z)
+        (λ i z. All-permutation IsFine (zip things prices) (expansion (map sort.kind kinds)) groups.expand
+        (all_fine z) i z)
 
     whole : counted sort kinds ≡ n
     whole =

@@ -48,7 +48,8 @@ module _ {K X : Type 0} (sort : Sort K X) (cmp : X → X → Ordering) (order : 
   pub some_each : (last : Option K) (kinds : List K) → AreKinds sort last kinds
       → All (λ (k : KindOf X). 1 ≤ k.count) (map sort.kind kinds)
   some_each last kinds are =
-      All-map (λ (k : KindOf X). 1 ≤ k.count) sort.kind kinds (λ k d inside. (all_kinds sort last kinds are k d inside).some)
+      All-map (λ (k : KindOf X). 1 ≤ k.count) sort.kind kinds
+      (λ k d inside. (all_kinds sort last kinds are k d inside).some)
 
   pub prices_are_of : (things : List X) (prices : List ℤ) (kinds : List K)
       → ArePricesOf cmp things (map sort.kind kinds) prices
@@ -68,7 +69,8 @@ module _ {K X : Type 0} (sort : Sort K X) (cmp : X → X → Ordering) (order : 
   within_reach (x ∷ things) prices last kinds are of =
       let number = of.number in
       All-from_get_or (λ price. unsigned_abs price ≤ 9999) prices (pos 0) (λ i inside.
-      let has = each_price cmp order told (x ∷ things) (map sort.kind kinds) prices of i x (pos 0) (omega (arith, number, inside)) in
+      let has = each_price cmp order told (x ∷ things) (map sort.kind kinds) prices of i x (pos 0)
+      (omega (arith, number, inside)) in
       let all =
       All-map (λ (k : KindOf X). unsigned_abs k.price ≤ 9999) sort.kind kinds
       (λ k d within. (all_kinds sort last kinds are k d within).reach) in
@@ -86,7 +88,8 @@ among_parts parts kinds i kind part inside is same = (
 )
 
 pub no_part : {K X : Type 0} (parts : K → KindOf X) (kinds : List K) (thing : X)
-    → ((k : ℕ) (d : K) → k < length kinds → (parts (get_or kinds k d)).thing ≢ thing) → HasNoKind (map parts kinds) thing
+    → ((k : ℕ) (d : K) → k < length kinds → (parts (get_or kinds k d)).thing ≢ thing)
+    → HasNoKind (map parts kinds) thing
 no_part parts kinds thing none = λ part among.
     All-contains (λ (k : KindOf _). k.thing ≢ thing) (map parts kinds) part
     (All-map (λ (k : KindOf _). k.thing ≢ thing) parts kinds (λ k d inside. none k d inside)) among

@@ -13,7 +13,8 @@ returns-in-Err g c =
 pub kind-preserved : goal.kind-preserved
 kind-preserved g c =
     let next = rw c.in-Ok-Some.field-0-is at c.in-Ok-Some.ensures in
-    reads_on c.kind.invariant next (omega (arith, c.min-number.ensures, c.from.ensures, ap (λ (k : KindOf _). k.count) c.parts.ensures))
+    reads_on c.kind.invariant next (omega
+    (arith, c.min-number.ensures, c.from.ensures, ap (λ (k : KindOf _). k.count) c.parts.ensures))
     c.push_if_room.ensures
 
 pub returns-then-number : goal.returns-then-number

@@ -15,7 +15,8 @@ returns-in_err-cables-in-OfCables c =
 pub of_parts-requires : goal.of_parts-requires
 of_parts-requires c =
     let said = groups_said _ _ 13 c.args.line _ c.in_ok-cables-in-OfCables.ensures in
-    (cables_are_prices c.in_ok-cables-in-OfCables.cables.items c.in_ok-cables-in-OfCables.pairs.items).1 (said.1, said.2)
+    (cables_are_prices c.in_ok-cables-in-OfCables.cables.items c.in_ok-cables-in-OfCables.pairs.items).1
+    (said.1, said.2)
 
 pub returns-in_ok-cables-in-OfCables : goal.returns-in_ok-cables-in-OfCables
 returns-in_ok-cables-in-OfCables c =

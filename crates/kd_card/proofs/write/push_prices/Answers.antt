@@ -1,4 +1,5 @@
-use Rattle.kd_card.proofs.{Prelude.{append_assoc, arith, rules, cable_sort, pair_sort, bar_sort, row_sort, kinds_text}, KindPrices.{cables_are_prices, bars_are_prices, group_fits, text_of_two}}
+use Rattle.kd_card.proofs.{Prelude.{append_assoc, arith, rules, cable_sort, pair_sort, bar_sort, row_sort, kinds_text}}
+use Rattle.kd_card.proofs.{KindPrices.{cables_are_prices, bars_are_prices, group_fits, text_of_two}}
 use Rattle.kd_card.proofs.write.push_prices.Goals as goal
 
 pub push_kinds-requires : goal.push_kinds-requires

@@ -36,7 +36,8 @@ pub returns-in_default-2 : goal.returns-in_default-2
 returns-in_default-2 c =
     let parted = subst (AreTakenApart _ _) c.in_default-2.is-0 c.in-Some.ensures.parted in
     HasFault OtherModel (
-      (λ same one. other_rotor c.in_default-2.field-0-0.now c.parts.result c.in_default-2.not-Cables-1 c.in_default-2.not-CableKinds-1
+      (λ same one. other_rotor c.in_default-2.field-0-0.now c.parts.result c.in_default-2.not-Cables-1
+          c.in_default-2.not-CableKinds-1
           (subst (λ m. BelongTo m c.parts.result) parted.0 (rw c.parts.ensures.value one.belong))),
       refl,
     ) refl
@@ -45,7 +46,8 @@ pub returns-in_default-2-2 : goal.returns-in_default-2-2
 returns-in_default-2-2 c =
     let parted = subst (AreTakenApart _ _) c.in_default-2.is-0 c.in-Some.ensures.parted in
     HasFault OtherModel (
-      (λ same one. other_pin c.in_default-2.field-0-0.now c.parts.result c.in_default-2.not-Bars-1 c.in_default-2.not-BarKinds-1
+      (λ same one. other_pin c.in_default-2.field-0-0.now c.parts.result c.in_default-2.not-Bars-1
+          c.in_default-2.not-BarKinds-1
           (subst (λ m. BelongTo m c.parts.result) parted.0 (rw c.parts.ensures.value one.belong))),
       refl,
     ) refl
@@ -53,10 +55,13 @@ returns-in_default-2-2 c =
 pub doubt_by_kinds-requires : goal.doubt_by_kinds-requires
 doubt_by_kinds-requires c =
     let parted = subst (AreTakenApart _ _) c.in-Rotor-CableKinds.is-0 c.in-Some.ensures.parted in
-    let machine : IsMachine (Rotor c.in-Rotor-CableKinds.parts.now) = subst IsMachine parted.0 c.in-Some.ensures.machine in
-    let day : IsLegalDay (OfRotors (rotor_values c.in-Rotor-CableKinds.entry.now)) = subst IsLegalDay parted.1 c.in-Some.ensures.day in
+    let machine : IsMachine (Rotor c.in-Rotor-CableKinds.parts.now) = subst IsMachine parted.0
+    c.in-Some.ensures.machine in
+    let day : IsLegalDay (OfRotors (rotor_values c.in-Rotor-CableKinds.entry.now)) = subst IsLegalDay parted.1
+    c.in-Some.ensures.day in
     let pairs = (rotor_values c.in-Rotor-CableKinds.entry.now).pairs in
-    let columns : length (columns_in_order pairs) ≡ 13 = length-map (columns_of pairs) pair_in_order ∙ thirteen_columns pairs day.pairs.few in
+    let columns : length (columns_in_order pairs) ≡ 13 = length-map (columns_of pairs) pair_in_order
+    ∙ thirteen_columns pairs day.pairs.few in
     let groups = (cables_are_prices c.in-Rotor-CableKinds.rows.items c.in-Rotor-CableKinds.columns.items).0
     (subst ArePrices c.in-Rotor-CableKinds.is-1 c.parts.ensures.are_prices) in (
       omega arith,
@@ -71,10 +76,19 @@ doubt_by_kinds-requires c =
               (
                 omega arith,
                 (
-                  rw (c.as_slice-in-Rotor-CableKinds-3.ensures.value, c.ends_of-ends.ensures) machine.legal.cables.count,
+                  rw (c.as_slice-in-Rotor-CableKinds-3.ensures.value, c.ends_of-ends.ensures)
+                      machine.legal.cables.count,
                   (
-                    rw (c.as_slice-in-Rotor-CableKinds-4.ensures.value, c.columns_of-pairs.ensures, c.as_slice-in-Rotor-CableKinds-2.ensures.value) columns,
-                    (rw c.as_slice-in-Rotor-CableKinds-5.ensures.value groups.0, rw c.as_slice-in-Rotor-CableKinds-6.ensures.value groups.1),
+                    rw (
+                      c.as_slice-in-Rotor-CableKinds-4.ensures.value,
+                      c.columns_of-pairs.ensures,
+                      c.as_slice-in-Rotor-CableKinds-2.ensures.value,
+                    ) columns,
+                    (
+                      rw c.as_slice-in-Rotor-CableKinds-5.ensures.value groups.0,
+                      rw
+                          c.as_slice-in-Rotor-CableKinds-6.ensures.value groups.1,
+                    ),
                   ),
                 ),
               ),
@@ -108,7 +122,8 @@ doubt_by_kinds-requires-in-Pin-BarKinds c =
     let parted = subst (AreTakenApart _ _) h.is-0 c.in-Some.ensures.parted in
     let machine : IsMachine (Pin h.parts.now) = subst IsMachine parted.0 c.in-Some.ensures.machine in
     let day : IsLegalDay (OfPins (pin_values h.entry.now)) = subst IsLegalDay parted.1 c.in-Some.ensures.day in
-    let groups = (bars_are_prices h.rows.items h.columns.items).0 (subst ArePrices h.is-1 c.parts.ensures.are_prices) in (
+    let groups = (bars_are_prices h.rows.items h.columns.items).0
+    (subst ArePrices h.is-1 c.parts.ensures.are_prices) in (
       omega arith,
       (
         omega arith,
@@ -163,7 +178,8 @@ returns-in-Rotor-CableKinds c =
     )
     at c.doubt_by_kinds.ensures in
     rw (sym c.parts.ensures.value ∙ h.is-1, parted.0, parted.1)
-    (cable_kinds_say h.parts.now s h.rows.items h.columns.items _ (one_of same tt) are machine.legal.cables.count columns
+    (cable_kinds_say h.parts.now s h.rows.items h.columns.items _ (one_of same tt) are machine.legal.cables.count
+    columns
     _ says)
 
 pub returns-in-Pin-BarKinds : goal.returns-in-Pin-BarKinds
@@ -185,4 +201,5 @@ returns-in-Pin-BarKinds c =
     )
     at c.doubt_by_kinds-in-Pin-BarKinds.ensures in
     rw (sym c.parts.ensures.value ∙ h.is-1, parted.0, parted.1)
-    (bar_kinds_say h.parts.now s h.rows.items h.columns.items _ (one_of same tt) are machine.legal.bars day.count _ says)
+    (bar_kinds_say h.parts.now s h.rows.items h.columns.items _ (one_of same tt) are machine.legal.bars day.count _
+    says)

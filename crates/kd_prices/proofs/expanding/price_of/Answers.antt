@@ -28,10 +28,12 @@ loop-kind-preserved g c =
       | inl before ↦ c.loop-kind.invariant k d before
       | inr past ↦
           let here : c.loop-kind.kind-index ≡ k = omega arith in
-          let item = c.kind-item.is ∙ get_or_default c.args.kinds.now c.loop-kind.kind-index c.kind-item.result d c.loop-kind-test.true in
+          let item = c.kind-item.is ∙ get_or_default c.args.kinds.now c.loop-kind.kind-index c.kind-item.result d
+          c.loop-kind-test.true in
           subst (λ n. (g.K.Kind.sort.kind (get_or c.args.kinds.now n d)).thing ≢ c.args.thing.now) here
           (λ same. apart (ap (λ (z : KindOf _). z.thing) (c.parts-parts.ensures ∙ ap g.K.Kind.sort.kind item) ∙ same))
     ]
 
 pub returns : goal.returns
-returns g c = no_part g.K.Kind.sort.kind c.args.kinds.now c.args.thing.now (λ k d inside. c.loop-kind.invariant k d (omega (arith, inside)))
+returns g c = no_part g.K.Kind.sort.kind c.args.kinds.now c.args.thing.now
+    (λ k d inside. c.loop-kind.invariant k d (omega (arith, inside)))

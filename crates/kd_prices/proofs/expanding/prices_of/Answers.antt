@@ -12,7 +12,8 @@ returns-then-not-are_counted g c = λ prices are.
     let cmp = g.K.Thing.Ord.cmp in
     let total = g.met.K.Thing.Ord.total in
     let told = g.met.K.Thing.Thing.told_apart in
-    let of = are_prices_of sort cmp total told g.met.K.Kind.ordered c.args.things.now prices None c.args.kinds.now c.requires.kinds are in
+    let of = are_prices_of sort cmp total told g.met.K.Kind.ordered c.args.things.now prices None c.args.kinds.now
+    c.requires.kinds are in
     let counted =
     are_counted cmp total told g.K.Thing.PartialEq.eq g.met.K.Thing.Ord.matches_eq c.args.things.now
     (map sort.kind c.args.kinds.now) prices of in

@@ -11,14 +11,16 @@ pub overflow_add-parts : goal.overflow_add-parts
 overflow_add-parts g c =
     let parts = g.K.Kind.sort.kind in
     let last : IsLast (map parts c.args.kinds.now.items) (parts c.in-Some.kind.now) =
-    rw c.deref_mut.ensures.value at (last_of_map parts _ c.in-Some.kind.now c.in-Some.ensures.item.0 c.in-Some.ensures.item.1) in
+    rw c.deref_mut.ensures.value at (last_of_map parts _ c.in-Some.kind.now c.in-Some.ensures.item.0
+    c.in-Some.ensures.item.1) in
     omega (arith, c.requires.counts _ last, ap (λ (k : KindOf _). k.count) c.parts-parts.ensures)
 
 pub returns-then-parts-price : goal.returns-then-parts-price
 returns-then-parts-price g c =
     let parts = g.K.Kind.sort.kind in
     let last : IsLast (map parts c.args.kinds.now.items) (parts c.in-Some.kind.now) =
-    rw c.deref_mut.ensures.value at (last_of_map parts _ c.in-Some.kind.now c.in-Some.ensures.item.0 c.in-Some.ensures.item.1) in
+    rw c.deref_mut.ensures.value at (last_of_map parts _ c.in-Some.kind.now c.in-Some.ensures.item.0
+    c.in-Some.ensures.item.1) in
     let alike =
     eq_is g.K.Thing.Ord.cmp g.met.K.Thing.Ord.total g.K.Thing.PartialEq.eq g.met.K.Thing.Ord.matches_eq
     g.met.K.Thing.Thing.told_apart c.parts.result.thing c.args.pair.now.0 c.if-eq.ensures in
@@ -29,7 +31,8 @@ pub returns-else-parts-price : goal.returns-else-parts-price
 returns-else-parts-price g c =
     let parts = g.K.Kind.sort.kind in
     let last : IsLast (map parts c.args.kinds.now.items) (parts c.in-Some.kind.now) =
-    rw c.deref_mut.ensures.value at (last_of_map parts _ c.in-Some.kind.now c.in-Some.ensures.item.0 c.in-Some.ensures.item.1) in
+    rw c.deref_mut.ensures.value at (last_of_map parts _ c.in-Some.kind.now c.in-Some.ensures.item.0
+    c.in-Some.ensures.item.1) in
     let alike =
     eq_is g.K.Thing.Ord.cmp g.met.K.Thing.Ord.total g.K.Thing.PartialEq.eq g.met.K.Thing.Ord.matches_eq
     g.met.K.Thing.Thing.told_apart c.parts.result.thing c.args.pair.now.0 c.if-eq.ensures in
@@ -49,7 +52,8 @@ returns-in_default g c =
     let fits = to_z-of_z w16 c.args.pair.now.1 (search rules) in
     let pushed = λ (same : c.in_default.kinds.items ≡ items).
     ap (map parts) (c.push.ensures.items ∙ ap (λ xs. xs ++ c.of-in_default.result ∷ []) same)
-    ∙ map_push parts items c.of-in_default.result ∙ ap (λ k. map parts items ++ k ∷ []) (c.of-in_default.ensures ∙ ap new fits) in
+    ∙ map_push parts items c.of-in_default.result
+    ∙ ap (λ k. map parts items ++ k ∷ []) (c.of-in_default.ensures ∙ ap new fits) in
     elim c.in_default.branch [
       | in_default-via-in-Some+else-eq w ↦
           let kind = w.in-Some.kind.now in
@@ -59,8 +63,10 @@ returns-in_default g c =
           eq_isnt g.K.Thing.Ord.cmp g.met.K.Thing.Ord.total g.K.Thing.PartialEq.eq g.met.K.Thing.Ord.matches_eq
           w.parts.result.thing c.args.pair.now.0 w.if-eq.ensures in
           let some = last.some in
-          let same = unchanged items kind (omega (arith, some, length-map items parts)) (rw value at w.in-Some.ensures.item.1) in
-          Another (λ other is same. apart (ap (λ (k : KindOf _). k.thing) (w.parts.ensures ∙ one_last last is) ∙ same)) refl
+          let same = unchanged items kind (omega (arith, some, length-map items parts))
+          (rw value at w.in-Some.ensures.item.1) in
+          Another (λ other is same. apart (ap (λ (k : KindOf _). k.thing) (w.parts.ensures ∙ one_last last is)
+          ∙ same)) refl
           (pushed (ap (λ list. list.items) w.kinds-is ∙ rw value same))
       | in_default-via-in-None-1 w ↦
           let item = c.last_mut.ensures.item.0 in
