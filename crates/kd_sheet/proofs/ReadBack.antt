@@ -90,7 +90,7 @@ seats_in_again key model table slots there may seated =
 
 -- ---- cables and pairs
 
--- the cable as it is read back: a single letter comes to its first end
+-- the cable as it is read back: if it has a single letter, this letter is at its first end
 abbrev pub single_first : Option ℕ × Option ℕ → Option ℕ × Option ℕ
 single_first cable = cable_with_ends (cable_letters cable)
 
