@@ -63,7 +63,7 @@ module _ (s : Day) where
   reads_then q B p (part ∷ parts) others letters more (inr (count, one, left, is, due, reads, joined)) rest =
       grind (arith, reads_then q B (next_part_start p count part) parts others left more reads rest, append_assoc)
 
-  -- if `A` holds of the parts left, the next part can't be read so that `B` holds of the parts left later
+  -- if `A` holds of the parts left, then after the next part, no reading of further parts ends where `B` holds
   abbrev pub NeverPasses : PartsProperty → PartsProperty → Type 0
   NeverPasses A B =
       (p : PartStart) (part : List ℕ) (parts : List (List ℕ)) (count : ℕ) (one more : List ℕ) → A p (part ∷ parts)
