@@ -56,7 +56,7 @@ pub reflector_again : (model : Model) (reflector : Reflector) → has_reflector 
 unfolding reflector_by_name
 reflector_again model reflector e = grind arith
 
--- an array at `key` may have an item for this seat: an empty one only at the key `slots`
+-- an array at `key` can have an item for this seat: any key allows a wheel, only the key `slots` an empty seat
 abbrev pub MayBeSeated : Key → Option Wheel → Type 0
 MayBeSeated key None = may_be_empty key ≡ true
 MayBeSeated key (Some wheel) = Unit {0}
