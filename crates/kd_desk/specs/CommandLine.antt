@@ -140,7 +140,7 @@ abbrev pub command_opened : {F O : Type 0} → Command F O → Option O
 command_opened command = action_opened command.action
 
 -- ---- Which command a command line means, and the names of its files.
--- Code: `clap` parses the command line; `command_of` makes the command from the arguments that it found.
+-- Code: `clap` parses the command line; `command_of` makes the command from the arguments that `clap` found.
 -- Test: finds_the_machine_file, finds_the_day, refuses_other_words, stops_before_it_writes
 
 -- A command with the names of its files.
