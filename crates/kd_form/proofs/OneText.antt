@@ -138,7 +138,8 @@ module _ (s : Day) where
 
   -- -------- a form becomes one text, or has one fault
 
-  -- if parts are read up to `A` and up to `B`, the same parts are left
+  -- if parts can be read up to where `A` holds, and also up to where `B` holds, these are the same place, and the
+  -- letters read are the same
   pub reads_meet : (A B : PartsProperty) (R : Type 0) → NeverPasses s A B → NeverPasses s B A
       → ((p : PartStart) (parts : List (List ℕ)) → A p parts → B p parts → R)
       → (p : PartStart) (parts : List (List ℕ)) (letters more : List ℕ) → ReadsPartsTo s A p parts letters
@@ -247,7 +248,7 @@ order_told s source sink read text answer answers = grind arith
 abbrev IsOfForms : FormFault → Type 0
 IsOfForms fault = (is_device (Err fault) ≡ false) × (is_off_key (Err fault) ≡ false)
 
--- the letters of a body, and a whole body, are refused for a fault of forms
+-- a fault of a body's letters, or of a whole body, is neither `Device` nor `NotReady` nor `NotOnKey`
 letters_refused : (s : Day) (part : ℕ) (i : Option Indicator) (letters : List ℕ) (fault : FormFault)
     → IsLettersAnswer s part i letters (Err fault) → IsOfForms fault
 letters_refused s part (Some i) letters fault (HasFault f first is) = grind arith

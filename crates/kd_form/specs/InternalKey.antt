@@ -1,7 +1,7 @@
 -- The internal key of the Converter M-209: a letter for each of its six wheels, picked from twelve enciphered
 -- letters.
 -- Source: War Department TM 11-380
--- Code: `pick_internal_key` picks the letters in one pass over the twelve.
+-- Code: `pick_internal_key` goes over the enciphered letters once.
 -- Test: orders_are_sent
 use Rattle.std.specs.Prelude.{◌≡◌, ◌++◌, Contains, ◌⊎◌, ℕ, ◌+◌, ◌<◌, ◌≤◌, List, [], ◌∷◌, length, map, slice_index}
 use Rattle.kd_tables.specs.Rings.{ring_of}

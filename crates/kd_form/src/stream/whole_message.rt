@@ -50,7 +50,7 @@ pub(crate) fn check_message<M: MessageReader + Drop>(
     Ok(())
 }
 
-/// Writes the form or text that `message` becomes to `sink`.
+/// Writes to `sink` the form or text that `message` becomes.
 fn write_message<M: MessageReader + Drop, W: Sink>(
     day: &SheetDay,
     message: &[u8],
