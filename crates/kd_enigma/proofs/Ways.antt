@@ -74,7 +74,7 @@ turned_undone by p lt h =
       inverse_permutes,
     )
 
--- ---- permutations that take each letter to another one, and that one back
+-- ---- permutations that take each letter to another letter, and the other letter back
 
 pub record Exchanges (p : List ℕ) : Type 0 where
   pub permutes : IsPermutation26 p
@@ -137,7 +137,7 @@ Exchanges-conjugate there core back undo h =
       moves = λ x lt same. h.moves (slice_index there x) (in_lt x lt) (sym (again x lt) ∙ ap (slice_index there) same);
     }
 
--- ---- the way around
+-- ---- the path around a core
 
 -- the path in through a wheel, through `core`, and back; and next, the path through several wheels, from left to
 -- right, of which the first is next to `core`
