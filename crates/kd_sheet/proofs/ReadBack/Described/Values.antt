@@ -211,7 +211,7 @@ wheels_have_letters (Some wheel ∷ slots) (ring ∷ rings) (letter ∷ letters)
     (record { ring = within.0; letter = also.0 }, wheels_have_letters slots rings letters within.1 also.1)
 wheels_have_letters slots rings letters within also = tt
 
--- ---- what is plugged, each with letters of its own
+-- ---- cables or pairs that share no letter
 
 pub apart_behind : (plugged letters : List ℕ) → IsDistinct nat_eq (plugged ++ letters)
     ↔ ((are_new_letters letters plugged ≡ true) × IsDistinct nat_eq plugged)
