@@ -86,7 +86,7 @@ desk_grammar = record {
   subs = type_shape ∷ apply_shape ∷ card_shape ∷ check_shape ∷ direction_shape Send ∷ direction_shape Receive ∷ [];
 }
 
--- ---- A command with other files in place of its own.
+-- ---- A command with other values in place of its files.
 -- Code: `Command` has two type parameters: one for files that are read whole, and one for a file that is
 -- streamed.
 -- Test: stops_where_a_file_can_not_be_read_on

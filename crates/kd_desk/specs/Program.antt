@@ -68,7 +68,7 @@ known_command held command =
     with_file (content_of (held command.machine))
     (λ bytes. with_file (known_action held command.action) (λ a. Ok (record { machine = bytes; action = a })))
 
--- ---- What a command does, as the contract of its own call promises.
+-- ---- What each command does, as the contract of its function promises.
 
 -- A text was typed on the machine of a machine file, or the machine file was refused.
 pub record TypesOn (machine : List ℕ) (source sink : Port) (answer : Result (Unit {0}) DeskFault) : Type 0 where
