@@ -216,7 +216,7 @@ HoldsStage-not_early s (stages.Body b) number expected start part line body faul
     let same = one_heading s part b.heading h held.body rest (body_heading s b part held.body held.holds) has in
     no_bad_byte rest place (rw same.1 at held.holds.allowed) bad
 
--- ---- what is held
+-- ---- the form that the reader holds
 
 module _ (s : Day) (r : FormReader) (form text : List ℕ) (h : HoldsForm s r form text) where
   abbrev pub here : PartStart

@@ -294,7 +294,7 @@ allowed_one (byte ∷ front) rest others allowed is =
           All-get_or (λ b. IsTrue (is_text_byte b)) (bytes ++ 10 ∷ []) 5 0,
         )
 
--- -------- which part of how many, as it is written
+-- -------- the number of a part and the number of all parts, as they are written
 
 -- no byte is below `least`
 abbrev AreBytesFrom : ℕ → List ℕ → Type 0

@@ -296,7 +296,7 @@ pub off_key : (m : Parts) (s : Day) (source sink : Port) (fault : FormFault) →
     → HaveNotFailed source sink → FailureAgrees source sink (is_device (Err fault))
 off_key m s source sink fault off well = grind arith
 
--- -------- what refuses a form for good
+-- -------- faults that stand in a form
 
 -- an early fault depends only on the heading line, and on the first byte of the body that isn't allowed
 early_as_well : (s : Day) (number : ℕ) (expected : Option ℕ) (start : ℕ) (line body other : List ℕ) (fault : FormFault)
