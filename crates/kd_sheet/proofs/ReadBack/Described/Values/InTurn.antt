@@ -81,7 +81,7 @@ pub use Rattle.kd_sheet.specs.declared.key.Key.TheVariants as keys
 
 -- ---- a document
 
--- if the parser reads `bytes` as `table`, `document_of` gives `table`
+-- if `bytes` are UTF-8, and the parser reads them as `table`, `document_of` gives `table`
 pub document_parsed : (bytes : List ℕ) (table : Members) → IsUtf8 bytes → parse_document bytes ≡ Some table
     → document_of bytes ≡ Ok table
 unfolding document_of
