@@ -25,8 +25,8 @@ fault_of_message fault = faults.Message fault
 abbrev pub answer_to_message : Result (Unit {0}) FormFault → Result (Unit {0}) DeskFault
 answer_to_message answer = result_map_both (λ done. done) fault_of_message answer
 
--- `answer` is the desk's. It is made from the answer of typing, sending or receiving, and that one satisfies
--- `is_so`.
+-- `answer` is the desk's answer for `told`, which is the answer of typing, sending or receiving. And `told`
+-- satisfies `is_so`.
 pub record IsAnswered (is_so : Result (Unit {0}) FormFault → Type 0) (answer : Result (Unit {0}) DeskFault)
     : Type 0 where
   pub told : Result (Unit {0}) FormFault
