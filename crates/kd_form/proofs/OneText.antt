@@ -138,8 +138,8 @@ module _ (s : Day) where
 
   -- -------- a form becomes one text, or has one fault
 
-  -- if parts can be read up to where `A` holds, and also up to where `B` holds, these are the same place, and the
-  -- letters read are the same
+  -- if `A` never holds past `B`, nor `B` past `A`, reading up to `A` and reading up to `B` end at the same place,
+  -- with the same letters
   pub reads_meet : (A B : PartsProperty) (R : Type 0) → NeverPasses s A B → NeverPasses s B A
       → ((p : PartStart) (parts : List (List ℕ)) → A p parts → B p parts → R)
       → (p : PartStart) (parts : List (List ℕ)) (letters more : List ℕ) → ReadsPartsTo s A p parts letters
