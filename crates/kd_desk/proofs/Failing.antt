@@ -12,7 +12,7 @@ port_over had has before after = record { had = had; has = has; had_failed = bef
 pub failed_now : (before after : Bool) → after ≡ (before || true) → IsTrue after
 failed_now before after e = grind (arith, e)
 
--- a call that didn't fail leaves the failure as it was
+-- if a call didn't fail, the port has failed exactly if it had failed before the call
 pub well_now : (before after : Bool) → after ≡ (before || false) → after ≡ before
 well_now before after e = grind (arith, e)
 

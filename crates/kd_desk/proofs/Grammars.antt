@@ -32,7 +32,7 @@ pub one_word_more : {name : List ℕ} {words : List (Bor (List ℕ))} {old new :
     → IsMadeOf new name (words ++ more ∷ [])
 one_word_more word more has rule local adds = record { shape = grind (arith, map-append); local = grind arith }
 
--- a grammar with a command added, which has these arguments, is the old grammar and this command
+-- `new`, the grammar `old` with the command `sub` added, has the commands of `app` and then the command `name`
 pub one_command_more : {name : List ℕ} {words : List (Bor (List ℕ))} {app : App} {old sub new : Command}
     → app_of old ≡ app
     → IsMadeOf sub name words → AddsSubcommand old sub new

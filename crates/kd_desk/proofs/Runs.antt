@@ -46,7 +46,7 @@ pub misses_first : (name : List ℕ) (names : List (List ℕ)) (old new : List A
     → MissesOne (name ∷ names) old new
 misses_first name names old new is = record { before = []; name = name; after = names; names_are = refl; asked = is }
 
--- one file couldn't be read or opened, and the answer is the error that `?` returns
+-- if one file couldn't be read or opened, and the answer is its fault, as `?` returns it, `AreAskedFor` holds
 pub misses_so : {T : Type 0} (names : List (List ℕ)) (old new : List AskedName) (answer : Result T FileFault)
     (fault : FileFault) → IsErrAnd answer (λ made. made ≡ fault) → MissesOne names old new
     → AreAskedFor names old new (is_ok answer)
@@ -92,13 +92,13 @@ pub said_command : (words : List (List ℕ)) (one other : NamedCommand) → IsCo
     → IsCommandLineOf words other → one ≡ other
 said_command words one other says same = said_by (subcommand_of desk_grammar words) one other says.said same.said
 
--- ---- what is done
+-- ---- how a command was carried out
 
 -- nothing is known of a file that wasn't opened
 pub nothing_left : KnownFile
 nothing_left = record { bytes = None; failed = false }
 
--- ---- what is answered
+-- ---- the program's answer
 
 abbrev failed_command : FileFault → Result KnownCommand FileFault
 failed_command fault = Err fault

@@ -1,5 +1,5 @@
 -- The grammar of the desk's command line: the commands with their arguments, without options and help.
--- Code: built by calls of `clap`.
+-- Code: `grammar` builds the grammar by calls of the library `clap`.
 -- Test: refuses_other_words
 use Rattle.std.specs.Prelude.{codes, decimal, ◌≡◌, ℕ, true, false, List, [], ◌∷◌, ◌++◌, map, fold, Option, Some, None}
 use Rattle.std.specs.Prelude.{IsSomeAnd}
@@ -86,8 +86,9 @@ desk_grammar = record {
   subs = type_shape ∷ apply_shape ∷ card_shape ∷ check_shape ∷ direction_shape Send ∷ direction_shape Receive ∷ [];
 }
 
--- ---- A command with other files in place of its own.
--- Code: a command over any two kinds of file.
+-- ---- A command with other values in place of its files.
+-- Code: `Command` has two type parameters: one for files that are read whole, and one for a file that is
+-- streamed.
 -- Test: stops_where_a_file_can_not_be_read_on
 
 -- the task, with `f` applied to the file that is read whole, and `g` to the opened file
@@ -139,7 +140,7 @@ abbrev pub command_opened : {F O : Type 0} → Command F O → Option O
 command_opened command = action_opened command.action
 
 -- ---- Which command a command line means, and the names of its files.
--- Code: the parser of `clap`.
+-- Code: `clap` parses the command line; `command_of` makes the command from the arguments that `clap` found.
 -- Test: finds_the_machine_file, finds_the_day, refuses_other_words, stops_before_it_writes
 
 -- A command with the names of its files.

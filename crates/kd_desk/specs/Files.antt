@@ -1,5 +1,5 @@
 -- What is known of a file's bytes, as it is read whole or opened.
--- Code: chunk by chunk, into a vector that grows.
+-- Code: `read_whole` reads a file chunk by chunk, into a vector that grows.
 -- Test: reads_to_the_limit, a_file_that_is_not_there_is_a_failed_device, stops_where_an_order_is_too_long
 use Rattle.std.specs.Prelude.{◌≡◌, ◌⊎◌, ℕ, ◌+◌, ◌≤◌, nat_le, Bool, true, false, IsTrue, List, [], ◌∷◌, ◌++◌, map}
 use Rattle.std.specs.Prelude.{length, Option, Some, None, Result, Ok, Err, find, bytes_eq, option_map, if◌then◌else◌}
@@ -58,7 +58,7 @@ pub record IsReadWhole (source : Port) (answer : Result (List ℕ) FileFault) : 
   pub is : IsReadWholeAs source read answer
 
 -- ---- Which names of files were asked for.
--- Code: `Files` keep them.
+-- Code: `HostFiles` keeps the names in a record, `Asked`.
 -- Test: stops_before_it_writes
 
 -- A name that was asked for, and whether its file could be read or opened.

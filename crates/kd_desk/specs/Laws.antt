@@ -1,4 +1,5 @@
--- The laws of settings as bytes: the bytes give one list or have one fault.
+-- The laws of settings as bytes: bytes give at most one list of settings or have at most one fault, and never
+-- both.
 use Rattle.std.specs.Prelude.{◌≡◌, ◌≢◌, ◌≤◌, ℕ, List, Option, Ok}
 use Rattle.kd_tables.specs.declared.model.Model.TheVariants.{M209}
 use Rattle.kd_state.specs.declared.machine.parts.Parts.{Parts}

@@ -25,7 +25,8 @@ fault_of_message fault = faults.Message fault
 abbrev pub answer_to_message : Result (Unit {0}) FormFault → Result (Unit {0}) DeskFault
 answer_to_message answer = result_map_both (λ done. done) fault_of_message answer
 
--- The desk's answer is made from a message's answer, which satisfies `is_so`.
+-- `answer` is the desk's answer for `told`, which is the answer of typing, sending or receiving. And `told`
+-- satisfies `is_so`.
 pub record IsAnswered (is_so : Result (Unit {0}) FormFault → Type 0) (answer : Result (Unit {0}) DeskFault)
     : Type 0 where
   pub told : Result (Unit {0}) FormFault
@@ -44,9 +45,9 @@ IsStreamedOn m s message source sink answer = IsAnswered (StreamsOnKey m s messa
 abbrev pub Sends : Parts → Day → Port → Port → Result (Unit {0}) DeskFault → Type 0
 Sends m s order sink answer = IsStreamedOn m s (order_message s) order sink answer
 
--- What a form of the day says of orders. If it is the form of an order, its text is the one that the order's
--- receiver has to get. A form with a fault isn't the form of any order. If the fault stands, no longer form
--- that begins with this form is an order's form either.
+-- How forms and orders agree on day `s`. If a form is an order's form, its text is the one that the order's
+-- receiver has to get. If a form has a fault, it isn't the form of any order. If the fault stands, any form that
+-- begins with this form isn't the form of any order either.
 pub record TellOfOrders (s : Day) : Type 0 where
   pub back : (form text order given : List ℕ) → IsTextOf s form text → IsFormOf s order form
       → IsPlaintextOf s order given → text ≡ given

@@ -1,5 +1,5 @@
 -- A command with what is known of its files, or the fault of the first file that can't be read or opened.
--- Code: each file is read or opened in its turn.
+-- Code: `read_files` reads or opens one file after another, and returns the first fault.
 -- Test: carries_each_command_out
 use Rattle.std.specs.Prelude.{◌≡◌, ◌⊎◌, ℕ, Bool, true, false, List, [], Option, None, Some, IfSome}
 use Rattle.std.specs.Prelude.{Result, Ok, Err, IfOk, IfErr, IsTrue}
@@ -44,7 +44,7 @@ KnownAction = Action (List ℕ) KnownFile
 abbrev pub KnownCommand : Type 0
 KnownCommand = Command (List ℕ) KnownFile
 
--- goes on with `made`, applied to the file; or is the file's fault
+-- `made` applied to the file; or the fault, if the file couldn't be read or opened
 abbrev pub with_file : {F X : Type 0} → Result F FileFault → (F → Result X FileFault) → Result X FileFault
 with_file (Ok file) made = made file
 with_file (Err fault) made = Err fault
@@ -68,7 +68,7 @@ known_command held command =
     with_file (content_of (held command.machine))
     (λ bytes. with_file (known_action held command.action) (λ a. Ok (record { machine = bytes; action = a })))
 
--- ---- What a command does, as the contract of its own call promises.
+-- ---- What each command does, as the contract of its function promises.
 
 -- A text was typed on the machine of a machine file, or the machine file was refused.
 pub record TypesOn (machine : List ℕ) (source sink : Port) (answer : Result (Unit {0}) DeskFault) : Type 0 where
@@ -100,7 +100,7 @@ DoesCommand command source sink answer = DoesAction command.machine command.acti
 
 -- ---- How a command is carried out, and what is left of the file that it opened.
 
--- the opened file as a port, from what was known of it before to what is known after
+-- the opened file as a port: `file` is what is known of it before a call, and `left` what is known after the call
 abbrev pub file_port : KnownFile → KnownFile → Port
 file_port left file = record { had = file.bytes; has = left.bytes; had_failed = file.failed; has_failed = left.failed }
 
@@ -168,8 +168,8 @@ abbrev pub CarriesOutKnown : Option (List ℕ → Option (List ℕ)) → NamedCo
 CarriesOutKnown known command source sink answer =
     IfSome known (λ held. CarriesOut (known_command held command) source sink answer)
 
--- What holds of the program's answer to a command line: what is done, by what is known of the files; which
--- files are asked for; when it is `Usage`; and what happens to the ports.
+-- What holds of the program's answer to a command line: what is done, if the bytes of the files are known; which
+-- files are asked for; when the answer is `Usage`; and what happens to the ports.
 pub record IsRun (words : List (List ℕ)) (known : Option (List ℕ → Option (List ℕ))) (asked : List AskedName)
     (source sink : Port) (Untouched : Type 0) (answer : Result (Unit {0}) Stop) : Type 0 where
   pub carried : (command : NamedCommand) → IsCommandLineOf words command

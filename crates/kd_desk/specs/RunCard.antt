@@ -1,5 +1,6 @@
 -- What the desk writes as a card, and what this card promises.
--- Code: `plan`, `by_kind` and `write_card`, one after another.
+-- Code: `print_card` plans the card with `plan`, gives it prices by kind with `by_kind`, and writes it with
+-- `write_card`.
 -- Test: prints_cards_without_prices, prints_cards_with_prices
 use Rattle.std.specs.Prelude.{◌≡◌, ◌≢◌, ℕ, List, Result, Err}
 use Rattle.kd_state.specs.declared.machine.parts.Parts.{Parts}

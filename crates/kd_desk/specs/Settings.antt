@@ -1,5 +1,5 @@
 -- Settings as bytes: a card if the bytes begin as a card does, otherwise a list.
--- Code: one test, and then one of two readers.
+-- Code: `read_settings` looks at the first five bytes, and then calls the reader of cards or the reader of lists.
 -- Test: writes_the_machine_that_stands_then
 use Rattle.std.specs.Prelude.{codes, ◌≡◌, ℕ, nat_eq, Bool, List, IsTrue, IsFalse}
 use Rattle.std.specs.List.{starts_with}

@@ -19,7 +19,9 @@ pub trait Files<'n> {
     /// An opened file, which is streamed.
     type Opened: Source + Drop;
 
-    /// Maps a name to the bytes of its file, if there is such a file; unknown for the host's files.
+    /// Maps a name to the bytes of its file, if there is such a file.
+    ///
+    /// `None` in place of the map means that the bytes aren't known, as for the host's files.
     ghost known: { Self → Option (List ℕ → Option (List ℕ)) } = { λ _. None };
 
     /// The names asked for, in order, and for each whether the file could be read or opened.

@@ -11,7 +11,7 @@ use std::alloc::Global;
 
 /// Reads the machine in the machine file `machine`, and day `number` of the key sheet `sheet`.
 ///
-/// The machine file's faults come first, then the sheet's, then `NoSuchDay`.
+/// Faults are tested in this order: the machine file's, the sheet's, and `NoSuchDay`.
 pub fn find_day(
     alloc: Global,
     machine: &[u8],

@@ -15,9 +15,9 @@ use std::alloc::Global;
 
 /// Carries out the settings of `list` on the machine in the file `machine`; writes the new machine file.
 ///
-/// `list` is a list or a card; the card may be for any day, and have any prices. The machine file's faults
-/// come first, then the faults of `list`, then the first line that the machine refuses. After each of these,
-/// nothing is written. After `Device`, a prefix of the new file is written.
+/// `list` is a list or a card; the card may be for any day, and have any prices. Faults are tested in this order:
+/// the machine file's, those of `list`, and the first line that the machine refuses. With each of these, nothing
+/// is written. With `Device`, only a prefix of the new file is written.
 pub fn run_apply<W: Sink>(
     alloc: Global,
     machine: &[u8],

@@ -20,8 +20,8 @@ use std::alloc::Global;
 
 /// Writes the shortest card from the machine in the file `machine` to day `number` of the sheet `sheet`.
 ///
-/// The machine file's faults come first, then the sheet's, then `NoSuchDay`, then `OtherModel`. After each of
-/// these, nothing is written. After `Device`, a prefix of the card is written.
+/// Faults are tested in this order: the machine file's, the sheet's, `NoSuchDay`, and `OtherModel`. With each of
+/// these, nothing is written. With `Device`, only a prefix of the card is written.
 pub fn run_card<W: Sink>(
     alloc: Global,
     machine: &[u8],

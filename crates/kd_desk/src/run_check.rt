@@ -19,10 +19,10 @@ use std::alloc::Global;
 /// Checks that `card` proves itself shortest, from the machine in `machine` to day `number` of `sheet`.
 ///
 /// `machine` is a machine file, `sheet` a key sheet. If the card's prices prove the card shortest, writes
-/// SHORTEST and the number of its settings, whoever made the card. The machine file's faults come first, then
-/// the sheet's, then `NoSuchDay`, the card's faults and `OtherDay`, and last `Doubtful`, with the first
-/// reason why the card doesn't prove itself. After each of these, nothing is written. After `Device`, a
-/// prefix of the line is written.
+/// SHORTEST and the number of its settings, whoever made the card. Faults are tested in this order: the machine
+/// file's, the sheet's, `NoSuchDay`, the card's, `OtherDay`, and `Doubtful`, which has the first reason why the
+/// card doesn't prove itself. With each of these, nothing is written. With `Device`, only a prefix of the line is
+/// written.
 pub fn run_check<W: Sink>(
     alloc: Global,
     machine: &[u8],

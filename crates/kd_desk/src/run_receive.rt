@@ -13,12 +13,12 @@ use std::alloc::Global;
 
 /// Receives `form` on the machine in the file `machine`, and writes its text.
 ///
-/// The machine must be on the key of day `number` of the key sheet `sheet`. The form is streamed: a part's
-/// text is written once the next part begins. The machine file's faults come first, then the sheet's, then
-/// `NoSuchDay`, `NotReady` and `NotOnKey`. After each of these, nothing is read or written. Then come the
-/// form's faults, `ReadTooLong` if the form has more than 1,048,576 bytes, and `Device` if a read or a write
-/// fails. After each of these, the texts of the parts before the fault are written, or a prefix of them if a
-/// write failed.
+/// The machine must be on the key of day `number` of the key sheet `sheet`. The form is streamed: a part's text
+/// is written once the next part begins. Before any byte of the form is read, faults are tested in this order:
+/// the machine file's, the sheet's, `NoSuchDay`, `NotReady`, and `NotOnKey`. With each of these, nothing is read
+/// or written. While the form is read, the fault is the form's; or `ReadTooLong`, if the form has more than
+/// 1,048,576 bytes; or `Device`, if a read or a write fails. With each of these, the texts of the parts before
+/// the fault are written, or a prefix of them if a write failed.
 pub fn run_receive<R: Source, W: Sink>(
     alloc: Global,
     machine: &[u8],

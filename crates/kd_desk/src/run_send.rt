@@ -14,11 +14,11 @@ use std::alloc::Global;
 /// Sends `order` on the machine in the file `machine`, and writes its form.
 ///
 /// The machine must be on the key of day `number` of the key sheet `sheet`. The order is streamed: a part is
-/// written once the first letter of the next part is read. The machine file's faults come first, then the
-/// sheet's, then `NoSuchDay`, `NotReady` and `NotOnKey`. After each of these, nothing is read or written.
-/// Then come the order's faults, `ReadTooLong` if the order has more than 1,048,576 bytes, and `Device` if a
-/// read or a write fails. After each of these, the parts made before are written, or a prefix of them if a
-/// write failed.
+/// written once the first letter of the next part is read. Before any byte of the order is read, faults are
+/// tested in this order: the machine file's, the sheet's, `NoSuchDay`, `NotReady`, and `NotOnKey`. With each of
+/// these, nothing is read or written. While the order is read, the fault is the order's; or `ReadTooLong`, if the
+/// order has more than 1,048,576 bytes; or `Device`, if a read or a write fails. With each of these, the parts
+/// made before are written, or a prefix of them if a write failed.
 pub fn run_send<R: Source, W: Sink>(
     alloc: Global,
     machine: &[u8],

@@ -28,7 +28,7 @@ pub enum Stop {
 }
 
 impl Stop {
-    /// Returns the fault of a command as a `Stop`.
+    /// Turns the result of a command into the program's: a fault becomes a `Stop`.
     pub(crate) fn of_answer(done: Result<(), DeskFault>) -> Result<(), Stop>
         ensures { result ≡ stop_after false done }
     {
@@ -38,7 +38,7 @@ impl Stop {
         }
     }
 
-    /// Returns the fault of a command that streams a file, as a `Stop`.
+    /// Turns the result of a command that streams a file into the program's: a fault becomes a `Stop`.
     ///
     /// `file_failed` says whether a read of this file failed.
     pub(crate) fn of_file_answer(done: Result<(), DeskFault>, file_failed: bool) -> Result<(), Stop>

@@ -14,7 +14,7 @@ abbrev pub cipher_from : PinKey → ℕ → List ℕ → List ℕ
 cipher_from key start text =
     map (λ numbered. reversed_by (bars_met key numbered.0) numbered.1) (enumerate_from start text)
 
--- Enciphering the enciphered letter gives the letter back, if as many bars are met.
+-- Enciphering a letter twice gives it back, if the same number of bars is met both times.
 reversed_twice : (met letter : ℕ) → letter < 26 → reversed_by met (reversed_by met letter) ≡ letter
 reversed_twice met letter lt = omega arith
 
@@ -29,7 +29,7 @@ twice_from key start (letter ∷ text) h =
 pub twice_gives_back : ConverterTwiceGivesBack
 twice_gives_back key text = twice_from key 0 text
 
--- Enciphering from `m` letters later is enciphering with the key after `m` letters.
+-- A text that begins `m` letters later is enciphered with the key after `m` letters.
 cipher_from-add : (key : PinKey) (m start : ℕ) (text : List ℕ)
     → cipher_from key (m + start) text ≡ cipher_from (pin_key_after key m) start text
 cipher_from-add key m start [] = refl

@@ -4,8 +4,8 @@ use Rattle.std.proofs.Common.{get_or, slice_index, refl, arith}
 use Rattle.{kd_drum.{proofs.Starts.each_wheel, specs.Converter.IsEachOnItsWheel}, kd_tables.specs.Rings.ring_of}
 use Rattle.std.proofs.{Math.Bool.beq, lemmas.Bool.Decides.nat_tests, lemmas.List.get_or_default}
 
--- If `has` is true exactly if `ring` has the letter at `place` of a list, the same holds of `letters`, which equals
--- `ring`.
+-- `has` is true exactly if `letters` has the letter at `place` of `there`, because this holds of `ring`, and the
+-- lists `ring` and `letters` are equal.
 pub on_wheel : (ring letters there : List ℕ) (place d : ℕ) (has : Bool) → ring ≡ letters → place < length there
     → (IsTrue has ↔ Contains ring (get_or there place d)) → IsTrue has ↔ Contains letters (slice_index there place)
 on_wheel ring letters there place d has same lt h = grind (arith, get_or_default)

@@ -1,7 +1,8 @@
 -- The cipher of the Converter M-209, by the number of bars met. Wheels are numbered from 1 to 6. Letters of a
 -- text and places of a wheel are counted from 0.
 -- Source: War Department TM 11-380
--- Code: the wheels are advanced, and a table has the number of bars for each set of wheels.
+-- Code: `Converter` turns its wheels at each letter. It finds the number of bars met in a table, which has an
+-- entry for each set of wheels that may have an effective acting pin.
 -- Test: bars_are_met, files_are_refused
 use Rattle.std.specs.Prelude.{ℕ, ◌+◌, ◌-◌, ◌%◌, ◌≤◌, nat_le, Bool, ◌&&◌, ◌||◌, List, map, slice_index, unwrap_or}
 use Rattle.std.specs.Prelude.{Contains}
@@ -26,7 +27,7 @@ abbrev pub IsEachOnItsWheel : List ℕ → Type 0
 IsEachOnItsWheel letters = (wheel : ℕ) → 1 ≤ wheel → wheel ≤ 6
     → Contains (ring_of wheel) (slice_index letters (wheel - 1))
 
--- the place on a wheel of the letter that it shows by the key, or 0 if the wheel lacks the letter
+-- the place of the letter that the wheel shows, according to the key; 0 if the wheel lacks this letter
 abbrev pub shown_place_in_key : PinKey → ℕ → ℕ
 shown_place_in_key key wheel = unwrap_or (place_on (ring_of wheel) (slice_index key.letters (wheel - 1))) 0
 
@@ -41,8 +42,8 @@ is_acting_after key count wheel =
 abbrev pub bars_met : PinKey → ℕ → ℕ
 bars_met key count = count_by (λ row. is_acting_after key count row.0 || is_acting_after key count row.1) key.rows
 
--- The ciphertext of `text`: each letter at its place in the reversed alphabet, moved on by the number of bars
--- met.
+-- The ciphertext of `text`. Each letter becomes the letter that is as far before Z as it is after A. This letter
+-- is moved on by the number of bars met, with A after Z.
 abbrev pub converter_cipher : PinKey → List ℕ → List ℕ
 converter_cipher key text =
     map (λ numbered. (25 + bars_met key numbered.0 - numbered.1) % 26) (enumerate_from 0 text)

@@ -175,7 +175,7 @@ impl Converter {
     }
 }
 
-/// The letter at the place of `letter` in the reversed alphabet, moved on by `met` places.
+/// The letter that is as far before Z as `letter` is after A, moved on by `met` places, with A after Z.
 fn reversed_letter(met: u8, letter: Letter) -> Letter
     requires { met ≤ 27 }
     ensures { result ≡ (25 + met - letter) % 26 }

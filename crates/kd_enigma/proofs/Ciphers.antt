@@ -45,7 +45,7 @@ window_after_sum wheels window m (suc n) =
 pub key_in_turn : EnigmaKeyInTurn
 key_in_turn key m n = ap (key_turned key) (window_after_sum key.wheels key.window m n)
 
--- Enciphering from `m` steps later is enciphering with the key after `m` steps.
+-- A text that begins `m` steps later is enciphered with the key after `m` steps.
 cipher_from-add : (key : RotorKey) (m start : ℕ) (text : List ℕ)
     → cipher_from key (m + start) text ≡ cipher_from (key_after key m) start text
 cipher_from-add key m start [] = refl

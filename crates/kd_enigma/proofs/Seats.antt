@@ -1,4 +1,4 @@
--- The path around through the wheels in their slots, slot by slot, and the whole path of the current.
+-- The path around a core, in and back through the wheels in their slots, and the whole path of the current.
 use Rattle.kd_enigma.proofs.Ways.{Exchanges, core_in_wheel, followed_by-assoc, core_in_wheels, nothing_after}
 use Rattle.kd_enigma.proofs.Ways.{nothing_before, path_is}
 use Rattle.std.proofs.Common.{List, [], ap, arith, get_or, if◌then◌else◌, length, ltb, refl, rules, suc, take, zero, ℕ}
@@ -10,7 +10,7 @@ use Rattle.kd_tables.{proofs.Products.{inverse_permutes, product_permutes, shift
 use Rattle.kd_tables.specs.{Permutation.{IsPermutation26, alphabet, followed_by, shift}, declared.wheel.Wheel.Wheel}
 use Rattle.std.proofs.{Common.{◌+◌, ◌-◌, ◌<◌, ◌∙◌, ◌∷◌, ◌≡◌}, lemmas.{Bool.Decides.nat_tests, List.take_all}}
 
--- The path around through one more wheel is this wheel around the path through the wheels before it.
+-- One more wheel encloses the path through the wheels before it: `around_wheel`, with this path as its core.
 pub around_more : (core : List ℕ) (seated : List SeatedWheel) (window : List ℕ) (slot : ℕ) (s : SeatedWheel)
     (letter : ℕ) → slot < length seated → length seated ≡ length window
     → s ≡ get_or seated slot s → letter ≡ get_or window slot letter
@@ -74,7 +74,7 @@ around_seats plugs core (wheel ∷ next ∷ wheels) (ring ∷ rings) (letter ∷
     (wheel_exchanges core wheel ring letter k) (omega arith) (omega arith) (omega arith)
 around_seats plugs core wheels rings window h k some slots shown = absurd (omega arith)
 
--- So the whole path is the right wheel with the plugboard around the path through the slow wheels.
+-- So the whole path is the path through plugboard and right wheel, around the path through the slow wheels.
 pub IsWired-path : (key : RotorKey) (seated : List SeatedWheel) (reflecting slow_map path_map : List ℕ)
     (s : SeatedWheel)
     (shown size d : ℕ) → seated ≡ wheels_with_boards key.plugs key.wheels key.rings → IsPlugboard key.plugs

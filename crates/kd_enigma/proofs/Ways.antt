@@ -74,7 +74,7 @@ turned_undone by p lt h =
       inverse_permutes,
     )
 
--- ---- permutations that take each letter to another one, and that one back
+-- ---- permutations that take each letter to another letter, and the other letter back
 
 pub record Exchanges (p : List ℕ) : Type 0 where
   pub permutes : IsPermutation26 p
@@ -137,10 +137,10 @@ Exchanges-conjugate there core back undo h =
       moves = λ x lt same. h.moves (slice_index there x) (in_lt x lt) (sym (again x lt) ∙ ap (slice_index there) same);
     }
 
--- ---- the way around
+-- ---- the path around a core
 
--- the path in through a wheel, through `core`, and back; and the same through wheels from left to right, the first
--- next to `core`
+-- the path in through a wheel, through `core`, and back; and next, the path through several wheels, from left to
+-- right, of which the first is next to `core`
 abbrev pub core_in_wheel : List ℕ → List ℕ → List ℕ
 core_in_wheel core w = followed_by w (followed_by core (inverse w))
 
@@ -204,7 +204,7 @@ product_around core (w ∷ ws) rest h k =
     ∙ product-append (reverse ws) _ _ one
     ∙ product_around (core_in_wheel core w) ws rest h.1 (Exchanges-core_in_wheel core w h.0 k)
 
--- The path leads in through the plugboard, around through the wheels, and back through the plugboard.
+-- The path leads through the plugboard, in through the wheels to the reflector, back, and through the plugboard.
 pub path_is : (key : RotorKey) (window : List ℕ) → IsPlugboard key.plugs
     → path key window ≡ followed_by key.plugs
     (followed_by (core_in_wheels (reflector_of key.reflector) (rotors key.wheels key.rings window)) key.plugs)

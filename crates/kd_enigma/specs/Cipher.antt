@@ -1,5 +1,5 @@
 -- The key of a rotor machine, before and after key presses.
--- Code: the machine's own fields.
+-- Code: `Enigma` keeps each part of the key in a field; the window is in its stepper.
 -- Test: the_rings_do_not_turn_the_notches
 use Rattle.std.specs.Prelude.{ℕ, List, [], ◌∷◌, ◌++◌, map, reverse, slice_index}
 use Rattle.std.specs.List.{enumerate_from}
@@ -35,7 +35,7 @@ key_after key n = key_turned key (window_after key.wheels key.window n)
 -- ---- The path of the current as a product of permutations, and the cipher that steps the wheels before each
 -- letter.
 -- Source: the published accounts of the current's path
--- Code: one table for the window that shows, made anew after each step.
+-- Code: `Enigma` keeps the path for the current window as one table, and makes this table anew after each step.
 -- Test: machines_encipher
 
 -- the permutations of the wheels at these ring and window letters, from the left

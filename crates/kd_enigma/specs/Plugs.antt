@@ -1,6 +1,6 @@
 -- The cables of a plugboard: each exchanges the two letters of a pair.
 -- Source: the published accounts of the plugboard
--- Code: a table; a letter that the table already exchanges is refused.
+-- Code: `Plugs` has a table of the 26 letters; `from_pairs` refuses a letter that the table already exchanges.
 -- Test: no_letter_is_plugged_twice
 use Rattle.std.specs.Prelude.{◌≡◌, ◌⊎◌, ℕ, nat_eq, List, [], ◌∷◌, slice_index, Contains}
 use Rattle.std.specs.List.{flat_map, IsDistinct}

@@ -1,6 +1,6 @@
 -- The permutation of one wheel in the machine.
 -- Source: the published accounts of rings and windows
--- Code: a wheel's permutations for all window letters are made once.
+-- Code: `Rotor::new` makes the permutations of a wheel for all 26 window letters, once.
 -- Test: machines_encipher
 use Rattle.std.specs.Prelude.{ℕ, ◌+◌, ◌-◌, ◌%◌, List}
 use Rattle.kd_tables.specs.Permutation.{followed_by, shift}

@@ -136,7 +136,8 @@ abbrev pub HoldsWithMore : PartBody → ℕ → (List ℕ → Type 0) → Type 0
 HoldsWithMore b others P =
     (letters more : List ℕ) → length more ≡ others → b.letters.items ≡ take 525 (letters ++ more) → P letters
 
--- the part with this number is complete; the letters `more` of the next heading are kept after its body
+-- the part with this number is complete; after the letters of its body, the reader keeps `more`, letters of the
+-- next heading
 pub record IsNext (s : Day) (b : PartBody) (number : ℕ) (expected : Option ℕ) (part body more : List ℕ) : Type 0 where
   pub has : HasHeading s part b.heading body
   pub numbered : b.heading.part ≡ number
@@ -215,13 +216,14 @@ HoldsStage-not_early s (stages.Body b) number expected start part line body faul
     let same = one_heading s part b.heading h held.body rest (body_heading s b part held.body held.holds) has in
     no_bad_byte rest place (rw same.1 at held.holds.allowed) bad
 
--- ---- what is held
+-- ---- the form that the reader holds
 
 module _ (s : Day) (r : FormReader) (form text : List ℕ) (h : HoldsForm s r form text) where
   abbrev pub here : PartStart
   here = reader_place r h.front
 
-  -- if the last part with more bytes is read up to `B`, the whole form with these bytes is read up to `B`
+  -- if the last part, with more bytes, is read until the parts left satisfy `B`, so is the whole form with these
+  -- bytes
   pub reaches : (B : PartsProperty) (more made letters : List ℕ) (parts : List (List ℕ))
       → parts_of (h.last ++ more) ≡ parts
       → ReadsPartsTo s B here parts letters → made ≡ plaintext_bytes s letters
@@ -443,7 +445,7 @@ module _ (s : Day) (r : FormReader) (form text : List ℕ) (h : HoldsForm s r fo
     next_last = grind (arith, body_heading, append-nil, letters_from)
 
     module _ (given : List ℕ) (told : HoldsWithMore b 0 (λ letters. IsBodyPlaintext s b.heading letters given)) where
-      -- at the end of the form, the last part is read, and the form is read up to `B`
+      -- at the end of the form, the last part is read too; if `B` then holds, the whole form is read up to there
       ends_read : (B : PartsProperty) → B (next_part_start (here s r form text h) b.heading.parts h.last) []
           → IsFormReadTo s B form (text ++ given)
       ends_read B so =

@@ -24,8 +24,8 @@ use Rattle.kd_form.proofs.{Lines.AreAllowed, Lines.IsWithout-plain, OneOrder.all
 abbrev pub AreOfTheAlphabet : List ℕ → Type 0
 AreOfTheAlphabet letters = All (λ letter. letter < 26) letters
 
--- induction by pieces of `size` letters: `P` holds of all lists of letters if it holds of none, and of any
--- letters whenever it holds of those after their first piece
+-- induction by pieces of `size` letters: `P` holds of each list of letters if it holds of the empty list, and of
+-- any letters whenever it holds of the letters after their first piece
 by_length : (size : ℕ) (P : List ℕ → Type 0) → 0 < size → P []
     → ((letters : List ℕ) → 0 < length letters → P (drop size letters) → P letters)
     → (most : ℕ) (letters : List ℕ) → length letters ≤ most → P letters

@@ -294,7 +294,7 @@ allowed_one (byte ∷ front) rest others allowed is =
           All-get_or (λ b. IsTrue (is_text_byte b)) (bytes ++ 10 ∷ []) 5 0,
         )
 
--- -------- which part of how many, as it is written
+-- -------- the number of a part and the number of all parts, as they are written
 
 -- no byte is below `least`
 abbrev AreBytesFrom : ℕ → List ℕ → Type 0
@@ -315,7 +315,8 @@ letters_from letters = All-map (λ b. 65 ≤ b) (λ l. l + 65) letters (λ k d i
 fraction_from : (part parts : ℕ) → part < 2 ^ 64 → parts < 2 ^ 64 → AreBytesFrom 47 (fraction_text part parts)
 fraction_from part parts small few = grind (arith, common_steps, All-append, All-push, AreBytesFrom-weaker, number_from)
 
--- equal texts have the same number before a byte that is no digit, and the same rest
+-- if texts are equal, and each is a number, `byte`, which isn't a digit, and a rest, both numbers and both rests
+-- are equal
 one_number : (number found byte : ℕ) (rest more : List ℕ) → number < 2 ^ 64 → found < 2 ^ 64 → byte < 48
     → decimal number ++ byte ∷ rest ≡ decimal found ++ byte ∷ more → (number ≡ found) × (rest ≡ more)
 one_number number found byte rest more small little low same =
@@ -422,7 +423,7 @@ pub heading_there : (s : Day) (front body : List ℕ) (h : Heading) (rest : List
     → HasHeading s (front ++ 10 ∷ body) h rest → IsLineText front (line_of (heading_words h)) × (rest ≡ body)
 heading_there s front body h rest unbroken has = grind (arith, texts_tell_first_parts, has_byte)
 
--- only one text is the line without its CR
+-- two texts that are the line without its CR are equal
 one_line_text : (line text other : List ℕ) → IsLineText line text → IsLineText line other → text ≡ other
 one_line_text line text other e d = grind (arith, append_cancel_right)
 

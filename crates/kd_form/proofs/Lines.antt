@@ -95,7 +95,7 @@ line_less mark byte pattern letters bytes is =
 AreLetters-nil : AreLetters 0 []
 AreLetters-nil = record { count = refl; within = All-nil (λ l. l < 26) }
 
--- no bytes at all are a prefix of a line that fits: the letter A fills each place for a letter
+-- the empty list is a proper prefix of a line that fits the pattern: the line with the letter A at each `_`
 pub line_open : (pattern bytes : List ℕ) → length bytes ≡ 0 → IsUnread (IsPatternLine pattern) bytes Incomplete
 line_open pattern bytes none =
     let others : List ℕ = replicate (blank_count pattern) 0 in
@@ -152,7 +152,7 @@ line_ends [] bytes letters (Err Incomplete) none (more, some, ended) =
 line_ends [] bytes letters (Err Mismatch) none off = λ more line. off more line.1.ended
 line_ends (mark ∷ pattern) bytes letters answer none told = absurd (omega arith)
 
--- no bytes at all, and CR alone, are prefixes of a line end
+-- the empty list, and CR alone, are proper prefixes of a line end
 pub end_open : (bytes : List ℕ) → length bytes < 2 → (1 ≤ length bytes → get_or bytes 0 0 ≡ 13)
     → IsUnread (IsLineWithEnd []) bytes Incomplete
 end_open [] few first = (10 ∷ [], (λ none. cc), inl refl)
@@ -261,7 +261,8 @@ pub text_front : (last text : List ℕ) → IsLineWithEnd (codes "TEXT") last �
 text_front last text ended = grind arith
 
 module _ {P : List ℕ → Type 0} (Q : List ℕ → Type 0) (s : Day) (more : List ℕ) where
-  -- more lines of keys may follow lines of keys
+  -- bytes that begin with the lines of `keys`, after which the lines of `others` come, begin with the lines of
+  -- both
   pub lines_more : (keys others : List Keys) (bytes : List ℕ)
       → ((rest : List ℕ) → P rest → BeginsWithKeys s others Q (rest ++ more))
       → BeginsWithKeys s keys P bytes → BeginsWithKeys s (keys ++ others) Q (bytes ++ more)

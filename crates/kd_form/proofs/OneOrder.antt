@@ -25,11 +25,11 @@ FindsThen {X} Has Later v = (x : X) × Has x × Later x v
 abbrev pub FindsOrFaultThen : {X V : Type 0} → (X → Type 0) → Type 0 → V → (X → V → Type 0) → V → Type 0
 FindsOrFaultThen Has none refusal Later v = (none × (v ≡ refusal)) ⊎ FindsThen Has Later v
 
--- the answer is `refusal` unless `Holds`; otherwise it satisfies `Later`
+-- if `Holds` is true, the answer satisfies `Later`; if it is false, the answer is `refusal`
 abbrev pub DemandsThen : {V : Type 0} → Type 0 → V → (V → Type 0) → V → Type 0
 DemandsThen Holds refusal Later v = (¬ Holds × (v ≡ refusal)) ⊎ (Holds × Later v)
 
--- some `x` satisfies `Has`, and the answer is its refusal; or `Holds`, and the answer satisfies `Later`
+-- some `x` satisfies `Has`, and the answer is `refusal x`; or `Holds` is true, and the answer satisfies `Later`
 abbrev pub UnlessFoundThen : {X V : Type 0} → (X → Type 0) → (X → V) → Type 0 → (V → Type 0) → V → Type 0
 UnlessFoundThen Has refusal Holds Later v = FindsThen Has (λ x w. w ≡ refusal x) v ⊎ (Holds × Later v)
 
@@ -247,8 +247,8 @@ no_bad_byte text place all is =
 
 -- ---- one answer
 
--- the answer for letters whose order has keys that suit and only allowed bytes: it depends on how many
--- letters there are
+-- the answer for an order with these keys and letters, if its keys suit the day and all bytes of its text are
+-- allowed: it depends on the number of letters
 abbrev pub IsSizeAnswer : Day → List Keys → List ℕ → Answer → Type 0
 IsSizeAnswer s keys letters =
     DemandsThen (letters ≢ []) (Err EmptyText) (DemandsThen (parts_needed s (length letters) ≡ length keys)

@@ -63,7 +63,7 @@ module _ (s : Day) where
   reads_then q B p (part ∷ parts) others letters more (inr (count, one, left, is, due, reads, joined)) rest =
       grind (arith, reads_then q B (next_part_start p count part) parts others left more reads rest, append_assoc)
 
-  -- if `A` holds of the parts left, the next part can't be read so that `B` holds of the parts left later
+  -- if `A` holds of the parts left, then after the next part, no reading of further parts ends where `B` holds
   abbrev pub NeverPasses : PartsProperty → PartsProperty → Type 0
   NeverPasses A B =
       (p : PartStart) (part : List ℕ) (parts : List (List ℕ)) (count : ℕ) (one more : List ℕ) → A p (part ∷ parts)
@@ -138,7 +138,8 @@ module _ (s : Day) where
 
   -- -------- a form becomes one text, or has one fault
 
-  -- if parts are read up to `A` and up to `B`, the same parts are left
+  -- if `A` never holds past `B`, nor `B` past `A`, reading up to `A` and reading up to `B` end at the same place,
+  -- with the same letters
   pub reads_meet : (A B : PartsProperty) (R : Type 0) → NeverPasses s A B → NeverPasses s B A
       → ((p : PartStart) (parts : List (List ℕ)) → A p parts → B p parts → R)
       → (p : PartStart) (parts : List (List ℕ)) (letters more : List ℕ) → ReadsPartsTo s A p parts letters
@@ -247,7 +248,7 @@ order_told s source sink read text answer answers = grind arith
 abbrev IsOfForms : FormFault → Type 0
 IsOfForms fault = (is_device (Err fault) ≡ false) × (is_off_key (Err fault) ≡ false)
 
--- the letters of a body, and a whole body, are refused for a fault of forms
+-- a fault of a body's letters, or of a whole body, is neither `Device` nor `NotReady` nor `NotOnKey`
 letters_refused : (s : Day) (part : ℕ) (i : Option Indicator) (letters : List ℕ) (fault : FormFault)
     → IsLettersAnswer s part i letters (Err fault) → IsOfForms fault
 letters_refused s part (Some i) letters fault (HasFault f first is) = grind arith
@@ -295,7 +296,7 @@ pub off_key : (m : Parts) (s : Day) (source sink : Port) (fault : FormFault) →
     → HaveNotFailed source sink → FailureAgrees source sink (is_device (Err fault))
 off_key m s source sink fault off well = grind arith
 
--- -------- what refuses a form for good
+-- -------- faults that stand in a form
 
 -- an early fault depends only on the heading line, and on the first byte of the body that isn't allowed
 early_as_well : (s : Day) (number : ℕ) (expected : Option ℕ) (start : ℕ) (line body other : List ℕ) (fault : FormFault)

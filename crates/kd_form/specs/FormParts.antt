@@ -1,5 +1,6 @@
 -- The parts of a form: a heading line, and all lines before the next heading line. Places are counted from 0.
--- Code: byte by byte; keeps the first six bytes of a line, to see whether it begins a heading.
+-- Code: `FormReader` reads byte by byte; it keeps the first six bytes of a body's line, to see whether the line
+-- is a heading line.
 -- Test: forms_are_received
 use Rattle.std.specs.Prelude.{codes, ◌≡◌, ◌≢◌, ◌⊎◌, ℕ, ◌%◌, ◌<◌, ◌≤◌, ◌==◌, ◌&&◌, nat_le, Bool, IsTrue, if◌then◌else◌}
 use Rattle.std.specs.Prelude.{List, [], ◌∷◌, ◌++◌, length, take, slice_index, All, Option, MatchOption}

@@ -1,5 +1,5 @@
 -- How a form is read, part by part. Parts are counted from 1.
--- Code: holds one part.
+-- Code: `FormReader` keeps only the part that it is reading.
 -- Test: long_texts_are_sent_and_received
 use Rattle.std.specs.Prelude.{◌≡◌, ◌⊎◌, ℕ, ◌+◌, ◌≤◌, ◌==◌, List, [], ◌∷◌, ◌++◌, length, map, Option, Some, None}
 use Rattle.std.specs.Prelude.{if◌then◌else◌}
@@ -77,11 +77,11 @@ pub record IsTextOf (s : Day) (form text : List ℕ) : Type 0 where
   pub read : ReadsPartsTo s AreAllPartsRead first_part_start (parts_of form) letters
   pub is : text ≡ plaintext_with_end s letters
 
--- ---- Why a form has no text: its first fault, which stands or comes at its end, and the text before it.
+-- ---- Why a form has no text: its first fault, for good or at the form's end, and the text before this fault.
 -- Test: forms_are_received, parts_are_missing_or_exchanged
 
--- The part at `p` has this fault whatever bytes follow. Once the next part has begun, that is any fault;
--- before, an early fault, once the part's heading line has ended.
+-- The part at `p` has this fault whatever bytes follow. If another part has begun after it, the fault can be any
+-- of the part's. If not, the fault is an early one, and the part's heading line has ended.
 abbrev pub IsPartFaultForGood : Day → FormFault → PartsProperty
 IsPartFaultForGood s fault p [] = ⊥
 IsPartFaultForGood s fault p (part ∷ []) =
@@ -89,8 +89,8 @@ IsPartFaultForGood s fault p (part ∷ []) =
     × IsEarlyFault s p.number p.expected p.bytes_before part fault
 IsPartFaultForGood s fault p (part ∷ next ∷ others) = IsPartFault s p.number p.expected p.bytes_before part fault
 
--- The form has this fault whatever bytes follow, and `text` is the text of the parts before the fault. Either
--- no form that begins with a heading line begins with these bytes, or a part has the fault.
+-- The form has this fault whatever bytes follow, and `text` is the text of the parts before the fault. Either the
+-- form doesn't begin with a heading line, whatever bytes follow, or a part has the fault.
 pub data IsRefusedForGood (s : Day) (form text : List ℕ) (fault : FormFault) : Type 0 where
   NoHeading : ((more : List ℕ) → ¬ (BeginsHeading (form ++ more))) → text ≡ [] → fault ≡ BadHeading 1
       → IsRefusedForGood s form text fault

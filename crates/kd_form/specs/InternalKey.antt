@@ -1,13 +1,13 @@
 -- The internal key of the Converter M-209: a letter for each of its six wheels, picked from twelve enciphered
 -- letters.
 -- Source: War Department TM 11-380
--- Code: picks the letters in one pass.
+-- Code: `pick_internal_key` goes over the enciphered letters once.
 -- Test: orders_are_sent
 use Rattle.std.specs.Prelude.{◌≡◌, ◌++◌, Contains, ◌⊎◌, ℕ, ◌+◌, ◌<◌, ◌≤◌, List, [], ◌∷◌, length, map, slice_index}
 use Rattle.kd_tables.specs.Rings.{ring_of}
 use Rattle.kd_state.specs.Machine.{AreOnWheels}
 
--- The places rise; the first is at least `first`, and all are below `end`.
+-- The places are in rising order; the first place is at least `first`, and all are below `end`.
 abbrev pub AreRising : ℕ → ℕ → List ℕ → Type 0
 AreRising first end [] = Unit {0}
 AreRising first end (place ∷ places) = (first ≤ place) × (place < end) × AreRising (place + 1) end places
@@ -19,8 +19,8 @@ PrecedesOrEquals (place ∷ places) [] = ⊥
 PrecedesOrEquals (place ∷ places) (other ∷ others) = (place < other)
     ⊎ ((place ≡ other) × PrecedesOrEquals places others)
 
--- `picked` are the letters of `letters` at `places`, which are in rising order. There are six of them: the first
--- is on wheel 1, the second on wheel 2, and so on.
+-- `places` are in rising order, and `picked` are the letters of `letters` at these places. Six letters are
+-- picked: the first is on wheel 1, the second on wheel 2, and so on.
 pub record ArePicked (letters places picked : List ℕ) : Type 0 where
   pub rising : AreRising 0 (length letters) places
   pub taken : picked ≡ map (λ place. slice_index letters place) places

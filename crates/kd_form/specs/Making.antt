@@ -1,5 +1,5 @@
 -- The cipher of the day's own machine, which is a machine set as the day says; and the size of a part.
--- Code: one engine, whose windows are set anew for each text.
+-- Code: `OwnMachine` has one engine, and sets its windows anew for each text.
 use Rattle.std.specs.Prelude.{◌≡◌, ℕ, ◌-◌, ◌%◌, List, [], ◌∷◌, ◌++◌, length, Option, Some, None, replicate}
 use Rattle.kd_state.specs.Machine.{AreOnWheels}
 use Rattle.kd_state.specs.SheetDay.{Day, OfRotors, OfPins, AreOneOfGroups}

@@ -22,8 +22,8 @@ IsKeyFault m s fault = (¬ (IsReady m) × (fault ≡ NotReady)) ⊎ (IsReady m �
 abbrev pub IsFaultOrNoMemory : (FormFault → Type 0) → Type 0 → FormFault → Type 0
 IsFaultOrNoMemory is_fault takes_memory fault = (takes_memory × (fault ≡ NoMemory)) ⊎ is_fault fault
 
--- The answer for a machine that isn't ready or isn't on the key is this fault. Otherwise the answer is a
--- result that satisfies `is_due`, or a fault that satisfies `IsFaultOrNoMemory`.
+-- For a machine that isn't ready or isn't on the key, the answer is `NotReady` or `NotOnKey`. Otherwise the
+-- answer is a result that satisfies `is_due`, or a fault that satisfies `IsFaultOrNoMemory`.
 pub data IsAnswerOnKey {X : Type 0} (m : Parts) (s : Day) (is_due : X → Type 0) (is_fault : FormFault → Type 0)
     (takes_memory : Type 0) (answer : Result X FormFault) : Type 0 where
   OffKey : (fault : FormFault) → IsKeyFault m s fault → answer ≡ Err fault

@@ -44,8 +44,8 @@ abbrev pub IsUnread : (List ℕ → Type 0) → List ℕ → Unread → Type 0
 IsUnread Is bytes Incomplete = (more : List ℕ) × (more ≢ []) × Is (bytes ++ more)
 IsUnread Is bytes Mismatch = (more : List ℕ) → ¬ (Is (bytes ++ more))
 
--- The byte at `position` is the first one with which the order can't begin with a head. The bytes before it
--- are a proper prefix of a head. If the order ends in its head, `position` is one past its last byte.
+-- The bytes before `position` are a proper prefix of a head. No head begins with them and the byte at `position`.
+-- If the order ends within its head, `position` is one past its last byte.
 pub record IsOrderHeadFault (s : Day) (order : List ℕ) (position : ℕ) : Type 0 where
   pub before : List ℕ
   pub rest : List ℕ

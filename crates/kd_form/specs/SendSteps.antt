@@ -21,8 +21,8 @@ use Rattle.kd_form.specs.KeyPatterns.{IsAnyKeyLine}
 use Rattle.kd_form.specs.Sending.{text_letters, parts_needed, ArePartTextsMade, IsSendable}
 use Rattle.kd_form.specs.SendStream.{IsWritableCount}
 
--- After `count` lines of keys, the line is another line of keys, if they are fewer than 99; or it is the line
--- TEXT.
+-- The line may follow `count` lines of keys in a head. It is another line of keys, if `count` is below 99, or the
+-- line TEXT.
 abbrev pub IsHeadLine : Day → ℕ → List ℕ → Type 0
 IsHeadLine s count line = (IsAnyKeyLine s line × (count < 99)) ⊎ IsLineWithEnd (codes "TEXT") line
 

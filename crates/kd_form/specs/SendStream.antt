@@ -1,4 +1,4 @@
--- What is written of an order before its end. Parts are counted from 1.
+-- Which parts of an order's form are written before the end of the order is read. Parts are counted from 1.
 -- Test: orders_are_sent
 use Rattle.std.specs.Prelude.{◌≡◌, ◌⊎◌, ℕ, ◌*◌, ◌<◌, ◌≤◌, List, [], ◌∷◌, ◌++◌, length, take, All, IsTrue, IsFalse}
 use Rattle.kd_tables.specs.Text.{is_text_byte}
@@ -23,8 +23,8 @@ pub record IsWritableCount (size parts letters written : ℕ) : Type 0 where
   pub due : (written ≡ 0) ⊎ ((written < parts) × (size * written < letters))
   pub most : (other : ℕ) → other < parts → size * other < letters → other ≤ written
 
--- `sent` is what is written of an order before its end. If the text hasn't begun, or the keys don't suit the
--- day, that is nothing. Otherwise it is the parts that can be written.
+-- `sent` is written before the end of the order is read. If the text hasn't begun, or the keys don't suit the
+-- day, nothing is written. Otherwise, the parts that can be written are.
 pub data IsSentBefore (s : Day) (order sent : List ℕ) : Type 0 where
   NothingSent : ((keys : List Keys) (head text : List ℕ) → IsOrder s order keys head text
       → ¬ (All (KeysSuitDay s) keys))

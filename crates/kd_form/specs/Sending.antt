@@ -49,7 +49,7 @@ pub record IsFirstBadByteAt (text : List ℕ) (place : ℕ) : Type 0 where
 abbrev pub parts_needed : Day → ℕ → ℕ
 parts_needed s letters = div_ceil letters (part_size s)
 
--- ---- Why an order becomes no form: its first fault, which stands or comes at its end.
+-- ---- Why an order becomes no form: its first fault, for good or at the order's end.
 -- Test: orders_are_sent
 
 -- Why the keys of part `part` don't suit the day.

@@ -30,7 +30,7 @@ IsMessageAnswer m bytes text answer =
     MatchResult answer (λ _. m.becomes bytes text) (λ fault. m.refused bytes fault × m.before (Some fault) bytes text)
 
 -- ---- What a call answers, reads and writes for a message.
--- Code: chunk by chunk; orders and forms byte by byte.
+-- Code: `stream_message` reads a message chunk by chunk; the readers of orders and forms take it byte by byte.
 -- Test: orders_are_sent, forms_are_received
 
 -- `text` has to be written: because a prefix of `read` was read, or because the source has ended.
@@ -50,9 +50,9 @@ pub record FallsShort (due text : List ℕ) : Type 0 where
   pub joined : due ≡ text ++ missing
 
 -- What was read, up to the limit, and what was written, for each answer. `MessageComplete`: the message is
--- complete. `FaultForGood`: a fault stands, whatever bytes follow. `FaultAtEnd`: no fault stands, but the
--- whole message has one. `TooLong`: one byte more than the limit was read. `SourceFails`: all that was
--- due before is written. `SinkFails`: less than what was due is written.
+-- complete. `FaultForGood`: a fault stands, whatever bytes follow. `FaultAtEnd`: no fault stands, but the whole
+-- message has one. `TooLong`: one byte more than the limit was read. `SourceFails`: all that was due for the
+-- bytes read is written. `SinkFails`: less than what was due is written.
 pub data IsStreamAnswer (m : Message) (source sink : Port) (read text : List ℕ)
     (answer : Result (Unit {0}) FormFault) : Type 0 where
   MessageComplete : length read ≤ read_limit → IsAtEnd source.has → m.becomes read text → HaveNotFailed source sink

@@ -1,5 +1,5 @@
 -- A text that is typed, as a kind of message: it becomes the ciphertext of its letters, and LF.
--- Code: a key press for each letter, in chunks of at most 4,096 bytes.
+-- Code: `type_stream` reads chunks of at most 4,096 bytes, and presses a key for each letter of a chunk.
 -- Test: types_to_the_first_byte_that_is_not_allowed, stops_at_a_failed_read, stops_where_the_sink_fails,
 -- reads_to_the_limit
 use Rattle.std.specs.Prelude.{◌≡◌, ℕ, ◌+◌, ◌<◌, ◌≤◌, List, [], ◌∷◌, ◌++◌, length, take, slice_index, All, IsTrue}

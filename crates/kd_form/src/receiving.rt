@@ -19,10 +19,11 @@ use std::alloc::Global;
 
 /// Deciphers `form` on `machine`, which must be on the day's key. The text ends in LF.
 ///
-/// On the Converter M-209, the text has a space in place of each Z. `NotReady` and `NotOnKey` come first,
-/// then the first fault of the first faulty part: `BadHeading`, `PartOrder`, `BadByte`, `CountWrong`, and the
-/// faults of the indicators, the group and the internal key. If parts are missing at the end of the form, the
-/// fault is `PartOrder`. `NoMemory` comes only for a form without a fault.
+/// On the Converter M-209, the text has a space in place of each Z. `NotReady` and `NotOnKey` are tested first,
+/// then the parts of the form, one after another. A part is tested in this order: `BadHeading`, `PartOrder`,
+/// `BadByte`, `CountWrong`, and the faults of the indicators, the group and the internal key. If parts are
+/// missing at the end of the form, the fault is `PartOrder`. `NoMemory` is returned only for a form without a
+/// fault.
 pub fn receive(
     alloc: Global,
     machine: &Machine,
@@ -39,11 +40,11 @@ pub fn receive(
 
 /// Reads a form from `source`, and writes its text to `sink`, part by part.
 ///
-/// At most one part is held, and nothing is allocated. `NotReady` and `NotOnKey` come before anything is
-/// read. A fault that further bytes can't change comes before `ReadTooLong`, and before `Device` if the
-/// source fails; the other faults come at the end of the form. Before a fault of the form is returned, the
-/// texts of the parts before the fault are written. `ReadTooLong` means that the source has more than
-/// `READ_LIMIT` bytes, `Device` that a get or a put failed.
+/// At most one part is held, and nothing is allocated. `NotReady` and `NotOnKey` are returned before anything is
+/// read. A fault of the form that further bytes can't change is returned once it is found, even if the source is
+/// too long or would fail later. The other faults of the form are found at its end. Before a fault of the form is
+/// returned, the texts of the parts before the fault are written. `ReadTooLong` means that the source has more
+/// than `READ_LIMIT` bytes, `Device` that a get or a put failed.
 #[tactic(auto, using(crate::proofs::OneText::off_key, crate::proofs::OneText::form_told))]
 pub fn receive_stream<R: Source, W: Sink>(
     machine: &Machine,

@@ -20,9 +20,9 @@ use std::alloc::Global;
 
 /// Enciphers `order` on `machine`, which must be on the day's key, into a form.
 ///
-/// `NotReady` and `NotOnKey` come first, then the order's first fault: in its head, in the keys of a part, or
-/// in the bytes of its text; then `EmptyText` and `PartKeys`. `NoMemory` comes only for an order without a
-/// fault.
+/// Faults are tested in this order: `NotReady`, `NotOnKey`, those of the order's head, of the keys of each part,
+/// and of the bytes of its text, then `EmptyText` and `PartKeys`. `NoMemory` is returned only for an order
+/// without a fault.
 pub fn send(
     alloc: Global,
     machine: &Machine,
@@ -39,11 +39,11 @@ pub fn send(
 
 /// Reads an order from `source`, and writes its form to `sink`, part by part.
 ///
-/// At most one part is held, and nothing is allocated. `NotReady` and `NotOnKey` come before anything is read
-/// or written. A fault that further bytes can't change comes before `ReadTooLong`, and before `Device` if the
-/// source fails; the other faults come at the end of the source. A part is written once the first letter of
-/// the next part has been read. So the sink may have parts of an order that is refused. At most 1,048,576
-/// bytes are read, and one more to see whether there are more.
+/// At most one part is held, and nothing is allocated. `NotReady` and `NotOnKey` are returned before anything is
+/// read or written. A fault of the order that further bytes can't change is returned once it is found, even if
+/// the source is too long or would fail later. The other faults of the order are found at its end. A part is
+/// written once the first letter of the next part has been read. So the sink may have parts of an order that is
+/// refused. At most 1,048,576 bytes are read, and one more to see whether there are more.
 #[tactic(auto, using(crate::proofs::OneText::off_key))]
 pub fn send_stream<R: Source, W: Sink>(
     machine: &Machine,

@@ -17,10 +17,10 @@ use kd_tables::{Letter, Sink, Source, put_all};
 
 /// Types the text from `source` on `machine`, and writes the lamps as capital letters, then LF.
 ///
-/// `NotReady` comes before anything is read or written. The first byte that isn't allowed is refused,
-/// whatever follows it; the lamps of the letters before it are written. This fault comes before
-/// `ReadTooLong`, and before `Device` if the source fails. At most 1,048,576 bytes are read, and one more to
-/// see whether there are more.
+/// `NotReady` is returned before anything is read or written. The first byte that isn't allowed is refused once
+/// it is found, even if the source is too long or would fail later. Before that, the lamps of the letters before
+/// it are written; if the sink fails, `Device` is returned. At most 1,048,576 bytes are read, and one more to see
+/// whether there are more.
 #[tactic(auto, using(crate::proofs::OneText::text_told))]
 pub fn type_stream<R: Source, W: Sink>(
     machine: &Machine,

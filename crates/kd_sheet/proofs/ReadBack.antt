@@ -56,7 +56,7 @@ pub reflector_again : (model : Model) (reflector : Reflector) → has_reflector 
 unfolding reflector_by_name
 reflector_again model reflector e = grind arith
 
--- an array at `key` may have an item for this seat: an empty one only at the key `slots`
+-- an array at `key` can have an item for this seat: any key allows a wheel, only the key `slots` an empty seat
 abbrev pub MayBeSeated : Key → Option Wheel → Type 0
 MayBeSeated key None = may_be_empty key ≡ true
 MayBeSeated key (Some wheel) = Unit {0}
@@ -90,7 +90,7 @@ seats_in_again key model table slots there may seated =
 
 -- ---- cables and pairs
 
--- the cable as it is read back: a single letter comes to its first end
+-- the cable as it is read back: if it has a single letter, this letter is at its first end
 abbrev pub single_first : Option ℕ × Option ℕ → Option ℕ × Option ℕ
 single_first cable = cable_with_ends (cable_letters cable)
 

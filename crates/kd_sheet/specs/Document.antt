@@ -1,7 +1,7 @@
--- How a document is read: its table, and the values in it. A reading gives a value or the first fault: readings in
--- a `do` stand in the order of testing, and the answer is the fault of the first one that has one.
+-- How a document is read: its table, and the values in it. The result of a reading is a value or a fault. The
+-- readings in a `do` are tried in their order; at the first fault, this fault is the result of the `do`.
 -- Source: TOML 1.1, toml.io
--- Code: the reader of the library `toml`, and `?`.
+-- Code: the library `toml` parses the document, and `?` returns the first fault.
 -- Test: kd_trials/src/sheet/files.rt, kd_trials/src/sheet/faults.rt
 use Rattle.std.specs.Prelude.{◌≡◌, ◌==◌, ℕ, nat_le, Bool, List, [], ◌∷◌, length, Result, Ok, Err, ok_or, option_map, ⊤}
 use Rattle.std.specs.Prelude.{if◌then◌else◌}
@@ -14,7 +14,7 @@ use Rattle.kd_sheet.specs.declared.key.Key.{Key}
 use Rattle.kd_sheet.specs.declared.fault.SheetFault.{SheetFault}
 use Rattle.kd_sheet.specs.declared.fault.SheetFault.TheVariants.{NotToml, Missing, BadValue, NoMemory}
 
--- `f` of the first reading's value, if this reading has a value; otherwise its fault.
+-- `f` applied to the value of the reading on the left; if this reading has a fault, the fault.
 infixl 10 ◌>>=◌
 abbrev pub ◌>>=◌ : {A B : Type 0} → Result A SheetFault → (A → Result B SheetFault) → Result B SheetFault
 (Ok x) >>= f = f x

@@ -60,7 +60,7 @@ pins_of_item ring item = ok_or (option_and_then (pins_of_text ring) (as_str item
 abbrev pub pins_for : List (List Bool) → Data → Result (List Bool) SheetFault
 pins_for earlier item = pins_of_item (ring_of (length earlier + 1)) item
 
--- the pins of the wheels, from items
+-- the pins of the wheels, from a list with an item for each wheel, from wheel 1 on
 abbrev pub pins_of_items : List Data → Result PinSet SheetFault
 pins_of_items items = read_items pins_for items >>= (λ pins. Ok (pin_set pins))
 

@@ -29,8 +29,8 @@ holds_wheel wheel seat = option_map_or (same_wheel wheel) seat false
 unfoldable pub is_seated : List (Option Wheel) → Wheel → Bool
 is_seated slots wheel = list_any (holds_wheel wheel) slots
 
--- The wheel with this name, or a fault. The model has to allow it in the slot right of `slots`, and no slot of
--- these may have it.
+-- The wheel with this name, or a fault. The model has to allow the wheel in the slot to the right of `slots`, and
+-- none of `slots` may have it.
 unfoldable pub wheel_for : Key → Model → List (Option Wheel) → List ℕ → Result Wheel SheetFault
 wheel_for key model slots name = do
   wheel ← ok_or (wheel_by_name name) (BadValue key)

@@ -14,7 +14,7 @@ use toml::{Table, Value};
 ///
 /// `Given` is what reading the item needs besides the items before it: for a wheel, the key and the model.
 pub trait FromItem<Given> {
-    /// What an item is read as, by the values of the items before it: a value or a fault.
+    /// The rule for reading an item, given the values of the items before it: a value or a fault.
     ghost reading: { Given → List Self → Data → Result Self SheetFault };
 
     /// Reads `item`. `before` has the values of the items before it.

@@ -1,7 +1,8 @@
 -- One step of the wheels, by the letters in their windows. Wheels are counted from the right, from 0: the right
 -- wheel, the middle wheel, the left wheel, and on the M4 the Greek wheel, which never moves.
 -- Source: the published accounts of the stepping, with its double step
--- Code: a table has an entry for each letter: whether a wheel is at a notch.
+-- Code: `Stepper` has a table for the middle wheel, and one for the right wheel: whether the wheel is at a notch,
+-- for each letter in its window.
 -- Test: wheels_step
 use Rattle.std.specs.Prelude.{◌≡◌, ◌↔◌, ℕ, zero, suc, ◌+◌, ◌-◌, ◌%◌, ◌≤◌, List, ◌++◌, length, take, drop, map}
 use Rattle.std.specs.Prelude.{slice_get, slice_index, IsTrue, IsFalse, Bool, false, if◌then◌else◌}
@@ -39,7 +40,7 @@ pub record IsStep (wheels : List Wheel) (before after : List ℕ) : Type 0 where
       → after ≡ with_last_moved 1 before
 
 -- ---- Several steps: as a chain of steps, and as a function.
--- Code: the window is moved in place.
+-- Code: `Stepper` overwrites the letters of its window at each step.
 
 -- A chain of `n` steps leads from the window `first` to the window `last`.
 abbrev pub LeadsInSteps : List Wheel → List ℕ → ℕ → List ℕ → Type 0

@@ -120,7 +120,7 @@ pub(crate) fn read_next<Context, M: ChunkReader<Context>, R: Source, W: Sink>(
     )
 }
 
-/// Fills at most `buffer` from `source`, feeds the bytes to `reader`, and returns their number.
+/// Reads bytes from `source`, at most as many as fill `buffer`; feeds them to `reader`; returns their number.
 fn read_into<Context, M: ChunkReader<Context>, R: Source, W: Sink>(
     reader: &mut M,
     context: &Context,

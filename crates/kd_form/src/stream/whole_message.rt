@@ -15,7 +15,7 @@ use std::alloc::Global;
 
 /// The form or text that `message` becomes, or its fault.
 ///
-/// `NoMemory` comes only for a message without a fault.
+/// `NoMemory` is returned only for a message without a fault.
 pub(crate) fn message_result<M: MessageReader + Drop>(
     alloc: Global,
     day: &SheetDay,
@@ -50,7 +50,7 @@ pub(crate) fn check_message<M: MessageReader + Drop>(
     Ok(())
 }
 
-/// Writes the form or text that `message` becomes to `sink`.
+/// Writes to `sink` the form or text that `message` becomes.
 fn write_message<M: MessageReader + Drop, W: Sink>(
     day: &SheetDay,
     message: &[u8],

@@ -181,7 +181,7 @@ month_at : (days : List Day) (place : ℕ) (d : Option Day) → place < 31
 month_at days place d within = get_or-map-range_with_len (λ n. find (has_number n) days) 1 31 place (suc place) d within
     (omega arith)
 
--- the month's day of a number is the first of `days` with this number
+-- day `number` of the month is the first of `days` with this number
 pub day_of_month : (days : List Day) (number : ℕ) → IsDayNumber number
     → day_of (month_of days) number ≡ find (has_number number) days
 day_of_month days zero is = let first = is.first in absurd (omega arith)

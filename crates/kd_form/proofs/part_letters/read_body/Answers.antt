@@ -5,7 +5,7 @@ use Rattle.kd_form.proofs.part_letters.read_body.Goals as goal
 pub returns-then-letters-heading : goal.returns-then-letters-heading
 returns-then-letters-heading c = HasFault _ ((λ _. grind arith), refl) refl
 
--- a body with as many letters as its heading says is answered as its letters are
+-- for a body with as many letters as its heading says, the answer for the body is the answer for its letters
 body_answered : (s : Day) (h : Heading) (letters : List ℕ) (answer : Result (ArrayVec ℕ) FormFault)
     → length letters ≡ h.letters
     → MatchResult answer

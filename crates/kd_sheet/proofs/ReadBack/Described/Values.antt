@@ -5,15 +5,15 @@ use Rattle.std.{proofs.lemmas.List.Folds.find_at, specs.List.position_or_len}
 
 -- ---- names
 
--- a search for a name that nothing has finds nothing
+-- a search by name finds nothing if no value has this name
 find_unnamed : {A : Type 0} (text_of : A → List ℕ) (name : List ℕ) → ((x : A) → text_of x ≢ name) → (xs : List A)
     → find (λ x. bytes_eq (text_of x) name) xs ≡ None
 find_unnamed text_of name none [] = refl
 find_unnamed text_of name none (x ∷ xs) =
     grind (arith, cases_Bool, none, bytes_eq-Decides, find_unnamed text_of name none xs)
 
--- a search for a name finds the thing with this name, or nothing if there is none; it has to find each thing by
--- the thing's own name
+-- if a search finds each thing by the thing's own name, a search for any name finds the thing with this name, or
+-- nothing if there is none
 pub find_named : {A : Type 0} (text_of : A → List ℕ) (xs : List A)
     → ((x : A) → find (λ y. bytes_eq (text_of y) (text_of x)) xs ≡ Some x) → (name : List ℕ) (found : Option A)
     → MatchOption found ((x : A) → text_of x ≢ name) (λ x. text_of x ≡ name)
@@ -211,7 +211,7 @@ wheels_have_letters (Some wheel ∷ slots) (ring ∷ rings) (letter ∷ letters)
     (record { ring = within.0; letter = also.0 }, wheels_have_letters slots rings letters within.1 also.1)
 wheels_have_letters slots rings letters within also = tt
 
--- ---- what is plugged, each with letters of its own
+-- ---- cables or pairs that share no letter
 
 pub apart_behind : (plugged letters : List ℕ) → IsDistinct nat_eq (plugged ++ letters)
     ↔ ((are_new_letters letters plugged ≡ true) × IsDistinct nat_eq plugged)

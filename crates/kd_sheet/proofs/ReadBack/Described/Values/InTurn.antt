@@ -81,13 +81,13 @@ pub use Rattle.kd_sheet.specs.declared.key.Key.TheVariants as keys
 
 -- ---- a document
 
--- if the parser reads `bytes` as `table`, `bytes` are the document `table`
+-- if `bytes` are UTF-8, and the parser reads them as `table`, `document_of` gives `table`
 pub document_parsed : (bytes : List ℕ) (table : Members) → IsUtf8 bytes → parse_document bytes ≡ Some table
     → document_of bytes ≡ Ok table
 unfolding document_of
 document_parsed bytes table text parsed = rw (is_utf8-from_IsUtf8 bytes text, parsed)
 
--- bytes that aren't UTF-8, or that the parser refuses, are no document
+-- for bytes that aren't UTF-8, or that the parser refuses, `document_of` gives `NotToml`
 pub document_refused : (bytes : List ℕ) → (IsUtf8 bytes → parse_document bytes ≡ None) → document_of bytes ≡ Err NotToml
 unfolding document_of
 document_refused bytes refused = grind (arith, cases_Bool, bytes, refused, IsUtf8-from_is_utf8)
@@ -116,7 +116,7 @@ pub bind-Ok : {A B : Type 0} (first : Result A SheetFault) (next : A → Result 
     → (first >>= next) ≡ Ok value → (x : A) × (first ≡ Ok x) × (next x ≡ Ok value)
 bind-Ok first next value e = grind arith
 
--- if a test and a reading succeed, the test passed
+-- if a reading that comes after a test succeeds, the test is true, and the reading alone has the same value
 pub demand-Ok : {B : Type 0} (test : Bool) (fault : SheetFault) (next : Result B SheetFault) (value : B)
     → (demand test fault >> next) ≡ Ok value → (test ≡ true) × (next ≡ Ok value)
 demand-Ok test fault next value e = grind arith
@@ -231,7 +231,7 @@ module _ {A : Type 0} where
   each_is reading P has items values e k d within =
       grind (arith, as_many, read_at reading items values e k no_item d, has)
 
-  -- `Holds` holds of all values, if it holds of none and each further value keeps it
+  -- `Holds` holds of the list of all values, if it holds of the empty list and stays true with each further value
   pub keeps : (reading : List A → Data → Result A SheetFault) (Holds : List A → Type 0) → Holds []
       → ((done : List A) (item : Data) (value : A) → Holds done → reading done item ≡ Ok value
       → Holds (done ++ value ∷ []))
