@@ -1,9 +1,9 @@
--- Settings that leave spare cables free name no cable above a number of cables that suffices.
+-- If the first `number` cables suffice, settings that leave spare cables free name no other cable.
 pub mod Sparing
 unfoldable pub use Sparing.*
 
--- If all cables in use are among the first `first` cables, then the cables in use and the spare cables among the
--- first ones are `first` in number.
+-- If all cables in use are among the first `first` cables, then the number of cables in use, plus the number of
+-- spare ones among the first `first`, is `first`.
 all_first : (cables : List Cable) (first : ℕ) → first ≤ length cables
     → ((k : ℕ) → first ≤ k → is_spare_at cables k ≡ true)
     → spare_count (take first cables) + count_by (λ cable. not (is_spare cable)) cables ≡ first
