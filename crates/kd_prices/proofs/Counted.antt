@@ -72,8 +72,7 @@ module _ {X : Type 0} (cmp : X → X → Ordering) (order : IsTotalOrder cmp) (t
       subst (λ t. cmp kind.thing t ≡ Less) (get_or-map (λ (other : KindOf X). other.thing) kinds k d kind.thing below)
       (ascend_first cmp order told kind.thing (things_of kinds) rise k kind.thing (omega (arith, length-map kinds (λ (other : KindOf X). other.thing))))
 
-  -- a thing that is equal to the first kind's, with its price, is the first kind's thing with the first kind's
-  -- price
+  -- if a thing is equal to the first kind's thing, its price is the first kind's price
   own_pair : (kind : KindOf X) (kinds : List (KindOf X)) → Ascend cmp (things_of (kind ∷ kinds)) → (z : X × ℤ) → like kind.thing z ≡ true
       → IsPriceOf (kind ∷ kinds) z.0 z.1 → ◌≡◌ {A = X × ℤ} z (kind.thing, kind.price)
   own_pair kind kinds rise z passes priced =
@@ -81,7 +80,7 @@ module _ {X : Type 0} (cmp : X → X → Ordering) (order : IsTotalOrder cmp) (t
       let here : IsPriceOf (kind ∷ kinds) z.0 kind.price = record { kind = kind; among = (0, omega arith, refl); of_thing = sym thing; of_price = refl } in
       sym (both_same (sym thing) (sym (one_price cmp order told (kind ∷ kinds) rise z.0 z.1 kind.price priced here)))
 
-  -- a thing that isn't equal to the first kind's has one of the other kinds
+  -- if a thing isn't equal to the first kind's thing, its price comes from one of the other kinds
   other_kind : (kind : KindOf X) (kinds : List (KindOf X)) (z : X × ℤ) → not (like kind.thing z) ≡ true → IsPriceOf (kind ∷ kinds) z.0 z.1 → IsPriceOf kinds z.0 z.1
   other_kind kind kinds z passes priced =
       let differs : z.0 ≢ kind.thing = eq_isnt cmp order eq matches z.0 kind.thing (not_true (like kind.thing z) passes) in
@@ -132,7 +131,7 @@ module _ {X : Type 0} (cmp : X → X → Ordering) (order : IsTotalOrder cmp) (t
       sum_by-cons (λ (z : X × ℤ). once (eq z.0 x)) (t, q) (zip things prices) ∙ ap (λ n. once (eq t x) + n) (counted_beside x things prices (omega arith))
       ∙ sym (sum_by-cons (λ y. once (eq y x)) t things)
 
-  -- kinds that are written out have the thing of each kind as often as the kind counts
+  -- kinds, written out, have each kind's thing as often as the kind counts
   counted_in : (kinds : List (KindOf X)) → Ascend cmp (things_of kinds) → (k : ℕ) (d : KindOf X) → k < length kinds
       → count_by (like (get_or kinds k d).thing) (expansion kinds) ≡ (get_or kinds k d).count
   counted_in [] rise k d below = absurd (omega arith)

@@ -115,7 +115,7 @@ module _ (m : Parts) (s : Day) (settings : List Setting) (prices : PriceParts) w
   says_proving : IsCheckedAnswer m s settings prices (Ok tt) → Proves m s settings prices
   says_proving says = grind (arith, ThenNext-Ok, are_numbered)
 
-  -- The result of the check says whether the card proves itself.
+  -- The result of the check is `Ok` exactly if the card proves itself.
   pub told : (answer : Result (Unit {0}) Doubt) → IsCheckedAnswer m s settings prices answer
       → IsOk answer ↔ Proves m s settings prices
   told (Ok x) says = (λ ok. says_proving says, λ proves. refl)

@@ -67,7 +67,7 @@ pub record IsFirstNeedless (m : Parts) (s : Day) (settings : List Setting) (line
   pub needed : AreSettingsNeeded m s front
   pub needless : ¬ (IsSettingNeeded between s setting)
 
--- Carrying out the settings has this result: the machine to which they lead, or the first that the machine refuses.
+-- Carrying out the settings has this result: the machine to which they lead, or the first refused line and why.
 abbrev pub IsCarriedAnswer : Parts → List Setting → AnswerRule Doubt Parts
 IsCarriedAnswer m settings (Ok n) = Leads m settings n
 IsCarriedAnswer m settings (Err (IllegalAt line why)) = IsFirstIllegal m settings line why
@@ -104,7 +104,7 @@ IsByPricesAnswer m s settings number rows columns answer =
     → IsByNumberAnswer m s settings prices answer
 
 -- Checking the settings by prices that have to be found first has this result. The prices of rows satisfy
--- `AreOfRows`, and those of columns `AreOfColumns`; if there are none, the doubt is `PriceMissing`.
+-- `AreOfRows`, and those of columns `AreOfColumns`; if no prices do, the doubt is `PriceMissing`.
 abbrev pub IsByKindAnswer : Parts → Day → List Setting → ℕ → (List ℤ → Type 0) → (List ℤ → Type 0)
     → AnswerRule Doubt (Unit {0})
 IsByKindAnswer m s settings number AreOfRows AreOfColumns = do
