@@ -31,7 +31,7 @@ abbrev pub IsNumberText : List ℕ → Type 0
 IsNumberText [] = ⊥
 IsNumberText (digit ∷ digits) = IsDigit digit × All IsDigit digits × ((digit ≡ 48) → (digits ≡ []))
 
--- an unsigned number, or a signed one: `-` before it makes it negative, and `-0` isn't one
+-- With `false`: an unsigned number. With `true`: an unsigned number, or a negative one with `-` first, but not `-0`.
 abbrev pub IsNumeral : Bool → List ℕ → Type 0
 IsNumeral false text = IsNumberText text
 IsNumeral true text =
@@ -84,7 +84,7 @@ pub record BeginsWithHead (bytes : List ℕ) (version : Version) (day : ℕ) (re
 abbrev pub IsHeadAnswer : List ℕ → AnswerRule CardFault (Version × ℕ × List ℕ)
 IsHeadAnswer bytes = Finds (λ (head : Version × ℕ × List ℕ). BeginsWithHead bytes head.0 head.1 head.2) BadHead
 
--- Reading the settings has this result: all settings up to the first line that isn't one, and the bytes after
+-- Reading the settings has this result: all settings up to the first line that isn't a setting, and the bytes after
 -- them; or the fault `TooMany` if the first 193 lines are settings.
 abbrev pub IsSettingsAnswer : List ℕ → AnswerRule CardFault (List Setting × List ℕ)
 IsSettingsAnswer bytes (Ok list) = BeginsWithAllSettings bytes list.0 list.1
@@ -147,7 +147,7 @@ pub record IsNextKind {K X : Type 0} (sort : Sort K X) (last : Option K) (bytes 
   pub after : ComesAfter sort last kind
   pub line : HasLineWords bytes (kind_words sort kind) rest
 
--- `bytes` don't begin with a kind that comes after the kind `last`.
+-- `bytes` don't begin with the line of a kind that comes after the kind `last`.
 abbrev pub HasNoNext : {K X : Type 0} → Sort K X → Option K → List ℕ → Type 0
 HasNoNext {K} sort last bytes = (kind : K) (rest : List ℕ) → ¬ (IsNextKind sort last bytes kind rest)
 
@@ -164,9 +164,9 @@ pub record BeginsWithKinds {K X : Type 0} (sort : Sort K X) (last : Option K) (b
   pub in_order : AreKinds sort last kinds
   pub none_more : HasNoNext sort (last_of last kinds) rest
 
--- Reading a group of kinds has this result: the kinds and the bytes after them, or a fault. If these bytes begin
--- with the sort's word or without a whole line, their line is bad; if the kinds don't count `number` things, the
--- fault is `PriceMissing`.
+-- Reading a group of kinds has this result: the kinds and the bytes after them, or a fault. If there are bytes after
+-- the kinds, but they begin with the sort's word or have no whole line, their first line is bad. If the kinds don't
+-- count `number` things, the fault is `PriceMissing`.
 -- Code: the reader keeps at most `number` kinds, and stops counting things at `number + 1`.
 abbrev pub IsGroupAnswer : {K X : Type 0} → Sort K X → ℕ → ℕ → List ℕ → AnswerRule CardFault (List K × List ℕ)
 IsGroupAnswer {K} sort number line bytes = do

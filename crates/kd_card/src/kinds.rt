@@ -86,7 +86,7 @@ pub trait Kind: Copy + Default {
     fn parts(&self) -> KindOf<Self::Thing>
         ensures { result ≡ sort.kind self.now };
 
-    /// Whether the kind's things are in the form that a card writes, as with two letters in order.
+    /// Whether the kind's things are in the form that a card writes, as with letters in alphabetical order.
     fn is_in_form(&self) -> bool
         ensures { IsTrue result ↔ sort.InForm (sort.kind self.now).thing };
 
