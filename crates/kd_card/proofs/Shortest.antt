@@ -424,7 +424,7 @@ needed_all m n s (x ∷ xs) leads needed =
     needed.1 in
     omega (arith, needed_one m s x (is_priced_setting x) refl needed.0, count_by-cons is_priced_setting x xs, rest)
 
--- A setting that changes no cable and no bar lowers the number of loose things by at most one.
+-- Up to `loose_falls`: a setting that changes no cable and no bar lowers the number of loose things by at most one.
 cond-one_or_other : (b : Bool) → cond {A = ℕ} b 1 0 + cond {A = ℕ} b 0 1 ≡ 1
 cond-one_or_other b = grind arith
 

@@ -49,8 +49,8 @@ pub record HasLineWords (bytes : List ℕ) (words : List (List ℕ)) (rest : Lis
   pub first : IsFirstPart 10 bytes line rest
   pub parts : words_of line ≡ words
 
--- Reading a line of `front` and the number `due` has this result: the bytes after the line, or a fault. A line that
--- isn't `front` and a number is bad; another number is a wrong count.
+-- Reading a line that has to be `front` and the number `due` has this result: the bytes after the line, or a fault.
+-- If the line isn't `front` and a number, it is bad; if it has another number, the count is wrong.
 abbrev pub IsValueAnswer : Bool → List ℕ → List ℕ → ℕ → List ℕ → AnswerRule CardFault (List ℕ)
 IsValueAnswer signed front due line bytes = do
   found ← Finds
@@ -65,8 +65,8 @@ IsLineAnswer line bytes = do
   _ ← Demands (bytes ≢ []) PriceMissing
   Finds (λ (found : List (List ℕ) × List ℕ). HasLineWords bytes found.0 found.1) (BadLine line)
 
--- Reading a line whose first word is `word` of some key has this result: the key, the words after the first, and
--- the bytes after the line; or a fault.
+-- Reading a line that has to begin with `word key`, for some `key`, has this result: the key, the words after the
+-- first, and the bytes after the line; or a fault.
 abbrev pub IsFirstWordAnswer : {K : Type 0} → (K → List ℕ) → ℕ → List ℕ
     → AnswerRule CardFault (K × List (List ℕ) × List ℕ)
 IsFirstWordAnswer {K} word line bytes = do
@@ -140,7 +140,7 @@ pub data EndsGroup (word bytes : List ℕ) : Type 0 where
   AtNothing : bytes ≡ [] → EndsGroup word bytes
   AtOther : (other : List ℕ) → BeginsWithWord other bytes → other ≢ word → EndsGroup word bytes
 
--- The first line of `bytes` is that of `kind`, which comes after the kind `last`, and `rest` follows.
+-- The first line of `bytes` is the line of `kind`, which comes after the kind `last`, and `rest` follows.
 pub record IsNextKind {K X : Type 0} (sort : Sort K X) (last : Option K) (bytes : List ℕ) (kind : K) (rest : List ℕ)
     : Type 0 where
   pub good : IsKind sort kind
@@ -156,8 +156,8 @@ abbrev pub last_of : {K : Type 0} → Option K → List K → Option K
 last_of last [] = last
 last_of last (kind ∷ kinds) = last_of (Some kind) kinds
 
--- `bytes` are the lines of `kinds`, in order after the kind `last`, and then `rest`. No further kind in this order
--- begins `rest`.
+-- `bytes` are the lines of `kinds`, in order after the kind `last`, and then `rest`, which doesn't begin with the line
+-- of a further kind in this order.
 pub record BeginsWithKinds {K X : Type 0} (sort : Sort K X) (last : Option K) (bytes : List ℕ) (kinds : List K)
     (rest : List ℕ) : Type 0 where
   pub lines : bytes ≡ kinds_text sort kinds ++ rest
@@ -175,8 +175,8 @@ IsGroupAnswer {K} sort number line bytes = do
   _ ← Demands (counted sort group.0 ≡ number) PriceMissing
   Yields group
 
--- Reading the group of kinds of rows, and then that of columns, has this result: both groups and the bytes after
--- them, or a fault.
+-- Reading the group of the kinds of rows, and then the group of the kinds of columns, has this result: both groups
+-- and the bytes after them, or a fault.
 abbrev pub IsGroupsAnswer : {R X C Y : Type 0} → Sort R X → Sort C Y → ℕ → ℕ → List ℕ
     → AnswerRule CardFault (List R × List C × List ℕ)
 IsGroupsAnswer row_sort column_sort number line bytes = do

@@ -100,7 +100,7 @@ pub trait Kind: Copy + Default {
             ((thing : Self.Thing) → ¬ (HasText sort text.now thing))
             (IsOnlyThing sort text.now) };
 
-    /// The derived order of things is the order of lines that `sort` has.
+    /// The derived order of things is the order of lines that `sort` defines.
     ghost ordered: { (x y : Self.Thing) → sort.ComesBefore x y ↔ (Self.Thing.cmp x y ≡ Less) };
 }
 
