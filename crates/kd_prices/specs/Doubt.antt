@@ -86,8 +86,8 @@ IsNeededAnswer m s settings (Ok all) = AreSettingsNeeded m s settings
 IsNeededAnswer m s settings (Err (NeedlessLine line)) = IsFirstNeedless m s settings line
 IsNeededAnswer m s settings (Err doubt) = ⊥
 
--- Checking the settings by prices, one for each thing, has this result: the prices prove that no shorter list
--- leads to the day, or the first doubt.
+-- Checking the settings by prices, one for each thing, has this result: success, if the settings lead to the day and
+-- the prices prove that no list that does is shorter; or the first doubt.
 abbrev pub IsByNumberAnswer : Parts → Day → List Setting → PriceParts → AnswerRule Doubt (Unit {0})
 IsByNumberAnswer m s settings prices = do
   n ← IsCarriedAnswer m settings
@@ -97,7 +97,8 @@ IsByNumberAnswer m s settings prices = do
   IsNeededAnswer m s settings
 
 -- Checking the settings by the lists of prices for `number` rows and as many columns of the table of costs has this
--- result: the prices prove that no shorter list leads to the day, or the first doubt.
+-- result: success, if the settings lead to the day and the prices prove that no list that does is shorter; or the
+-- first doubt.
 abbrev pub IsByPricesAnswer : Parts → Day → List Setting → ℕ → List ℤ → List ℤ → AnswerRule Doubt (Unit {0})
 IsByPricesAnswer m s settings number rows columns answer =
     (prices : PriceParts) → row_prices prices ≡ rows → column_prices prices ≡ columns → table_rows prices ≡ number

@@ -51,7 +51,7 @@ pub record ArePricesOf {X : Type 0} (cmp : X → X → Ordering) (things : List 
   pub number : length prices ≡ length things
   pub of_kinds : AreRunsOf cmp (zip things prices) kinds
 
--- Each of the kinds comes after the kind before it, in the order of lines that `sort` has; the first one comes
+-- Each of the kinds comes after the kind before it, in the order of lines that `sort` defines; the first one comes
 -- after the kind `last`, if there is one.
 abbrev pub AreInOrder : {K X : Type 0} → Sort K X → Option K → List K → Type 0
 AreInOrder sort last [] = Unit {0}
