@@ -64,8 +64,8 @@ set_within number m cable ends none within there other above =
     (omega arith) in
     ap (λ ends. is_spare (unwrap_or ends (None, None))) same ∙ none other above
 
--- If each legal setting that satisfies `Bound` satisfies `Says` and keeps a property of the machine, then in a list
--- of settings that satisfy `Bound` all satisfy `Says`, and the list keeps this property.
+-- Let each legal setting that satisfies `Bound` also satisfy `Says`, and let the machine still satisfy `Keeps` after
+-- it. Then this holds also for a list of settings that all satisfy `Bound`.
 settings_keep : (Keeps : Parts → Type 0) (Bound Says : Setting → Type 0)
     → ((m : Parts) (x : Setting) → Keeps m → Bound x → why_refused m x ≡ None → Says x × Keeps (machine_after m x))
     → (settings : List Setting) (m n : Parts) → Keeps m → AllByRecursion Bound settings → Leads m settings n
