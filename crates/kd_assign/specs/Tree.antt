@@ -1,5 +1,6 @@
 -- A tree of rows and columns, as in the Hungarian method, grown from a row that has no column yet. A column's
--- ceiling is the lowest price that a row of the tree offers for it. No public contract cites this file.
+-- ceiling is the lowest price that a row of the tree offers for it; this row is its nearest row. No public contract
+-- cites this file.
 use Rattle.std.specs.Prelude.{◌≡◌, ◌≢◌, ℕ, ◌<◌, ◌≤◌, Bool, false, true, List, [], length, slice_index, Option, None}
 use Rattle.std.specs.Prelude.{is_some, slice_index_or, ◌⊎◌, ℤ, pos, neg_ℤ, ◌+ℤ◌, ◌-ℤ◌, ◌≤ℤ◌}
 use Rattle.kd_assign.specs.Prices.{cost_at, price_at}
