@@ -49,7 +49,7 @@ module _ {n root : ℕ} {cost : List (List ℕ)} {prices ceilings : List ℤ} {h
     rows_still : (i j : ℕ) → IsColumnTakenBy plan' j i → i < n
     rows_still i j h = grind (arith, plan-cases j h, plan_is.out_in_range, plan_is.rows, same_Some)
 
-    -- a row up to the root has a column in `plan'` unless it holds `end` in `holders`
+    -- each row from 0 to `root` that doesn't hold `end` in `holders` has a column in `plan'`
     seated_still : (i : ℕ) → i ≤ root → (IsColumnTakenBy holders end i → ⊥) → IsRowAssigned plan' i
     seated_still i few other = elim (cases_eq i from) [
       | inl same ↦ (end, rw same (get_or-set_same plan end (Some from) None has_end))
@@ -83,7 +83,7 @@ module _ {n root : ℕ} {cost : List (List ℕ)} {prices ceilings : List ℤ} {h
           IsCheapestColumn n cost ceilings' i j
       cheapest_still i j e cheapest k lt = omega (arith, ints, cheapest k lt, (compared.at k lt).least)
 
-      -- no column of the new tree has a price further below its ceiling than `end` has
+      -- no column of the new tree has more room (ceiling less price) than `end`
       no_further : (j : ℕ) → j < n → has_column reached' j ≡ true
           → room_at ceilings prices j ≤ℤ room_at ceilings prices end
       no_further j lt h = elim (cases_eq j end) [
@@ -176,14 +176,15 @@ module _ {n root : ℕ} {cost : List (List ℕ)} {prices ceilings : List ℤ} {h
             ];
       }
 
-    -- column `end` is free, and each price above its ceiling less the room at `end` is lowered to this value
+    -- column `end` is free, and `by` is its room; each price that is above its ceiling less `by` is lowered to this
+    -- difference
     module _ (free : IsColumnFree holders end) {by : ℤ} (by_is : by ≡ room_at ceilings prices end) (prices' : List ℤ)
         (lowered : (j : ℕ) → j < n → price_at prices' j ≡ int_min (price_at prices j) (price_at ceilings j -ℤ by)) where
       -- the prices of columns outside the tree stay as they were
       price_stays : (j : ℕ) → j < n → has_column reached j ≡ false → price_at prices' j ≡ price_at prices j
       price_stays j lt h = omega (arith, ints, clamps, nearest.least j lt h, lowered j lt)
 
-      -- with `plan'` and the new prices, the rows up to the root have their cheapest columns
+      -- in `plan'`, each row from 0 to `root` has its cheapest column at the new prices
       pub IsSolvedTo-with_root : IsSolvedTo n cost prices' plan' (root + 1)
       IsSolvedTo-with_root = record {
         places = length-set plan end (Some from) ∙ plan_is.places;

@@ -50,8 +50,8 @@ sum_of-columns : (col : List ℤ) (to : List ℕ) → length col ≡ length to �
     sum_of (map (price_at col) to) ≡ sum_of col
 sum_of-columns col to e once = grind (arith, sum_of-left, length, all_columns, get_or_past)
 
--- if `R` holds between the sum of each row's two prices and the row's cost, it holds between the sums over all
--- rows; `R` has to be kept by addition
+-- if `R` relates each row's price plus its column's price to the row's cost, it also relates the sums over all rows;
+-- `R` has to be kept by addition
 module _ (R : ℤ → ℤ → Type 0) (none : R (pos 0) (pos 0))
     (adds : (r s c t : ℤ) (k l : ℕ) → R (r +ℤ c) (pos k) → R (s +ℤ t) (pos l) → R ((r +ℤ s) +ℤ (c +ℤ t)) (pos (k + l)))
     (col : List ℤ) where
@@ -69,7 +69,7 @@ module _ (R : ℤ → ℤ → Type 0) (none : R (pos 0) (pos 0))
       adds r _ _ _ _ _ (each 0 (omega arith)) rest
   sums-by_rows _ _ _ e f each = absurd (omega arith)
 
-  -- for a one-to-one assignment, the columns' prices in the sum are those of all columns
+  -- for a one-to-one assignment, the columns' prices in the sum are the prices of all columns
   pub sums-one_to_one : (cost : List (List ℕ)) (row : List ℤ) (to : List ℕ) → length row ≡ length to
       → length col ≡ length to →
       length cost ≡ length to → HoldsOfRows cost row to → IsOneToOne to →
@@ -77,7 +77,7 @@ module _ (R : ℤ → ℤ → Type 0) (none : R (pos 0) (pos 0))
   sums-one_to_one cost row to rows columns lines each once =
       rw (← sum_of-columns col to columns once) (sums-by_rows cost row to rows lines each)
 
--- `R` is `≤` here: by prices that fit, each row's two prices add up to at most the row's cost
+-- here `R` is `≤`: if prices fit, each row's price and its column's price add up to at most the row's cost
 pub fitting_prices_bound_costs : FittingPricesBoundCosts
 fitting_prices_bound_costs cost row col to rows columns lines fits once =
     sums-one_to_one (λ x y. x ≤ℤ y) (omega (arith, ints))

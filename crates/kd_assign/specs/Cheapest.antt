@@ -1,6 +1,6 @@
--- Why prices that fit prove that no assignment costs less.
+-- Why prices that fit prove that no assignment costs less than their sum.
 -- Source: the assignment problem and its dual
--- Code: no assignment is tried.
+-- Code: `assign` doesn't try assignments one by one: it grows a tree from each row.
 -- Test: answers_small_tables, answers_three_rows
 use Rattle.std.specs.Prelude.{◌≡◌, ℕ, ◌≤◌, List, length, ℤ, pos, ◌≤ℤ◌}
 use Rattle.kd_assign.specs.Prices.{FitCosts, price_sum}

@@ -1,7 +1,7 @@
 -- Prices of the rows and columns of a cost table, and when they fit: a row's price and a column's add up to at
 -- most the cost where the two meet. Rows and columns are counted from 0.
 -- Source: the assignment problem and its dual
--- Code: the columns' prices are lowered once for each tree; the rows' prices are computed last.
+-- Code: `assign` lowers the columns' prices once for each tree, and computes the rows' prices last.
 -- Test: answers_three_rows
 use Rattle.std.specs.Prelude.{ℕ, ◌<◌, ◌≤◌, All, List, [], ◌∷◌, length, slice_index, slice_index_or, ℤ, pos, ◌+ℤ◌, ◌≤ℤ◌}
 

@@ -16,7 +16,7 @@ IsColumnFree holders j = slice_index_or holders j None ≡ None
 abbrev pub IsRowAssigned : List (Option ℕ) → ℕ → Type 0
 IsRowAssigned holders i = (j : ℕ) × IsColumnTakenBy holders j i
 
--- At `prices`, column `j` is cheapest for row `i`: no column has a lower cost less price for this row.
+-- Column `j` is cheapest for row `i`: the row's cost there minus the column's price is the least of all columns.
 abbrev pub IsCheapestColumn : ℕ → List (List ℕ) → List ℤ → ℕ → ℕ → Type 0
 IsCheapestColumn n cost prices i j =
     (k : ℕ) → k < n → (pos (cost_at cost i j) +ℤ price_at prices k) ≤ℤ (pos (cost_at cost i k) +ℤ price_at prices j)

@@ -1,5 +1,6 @@
 -- A tree of rows and columns, as in the Hungarian method, grown from a row that has no column yet. A column's
--- ceiling is the lowest price that a row of the tree offers for it. No public contract cites this file.
+-- ceiling is the lowest price that a row of the tree offers for it; this row is its nearest row. No public contract
+-- cites this file.
 use Rattle.std.specs.Prelude.{◌≡◌, ◌≢◌, ℕ, ◌<◌, ◌≤◌, Bool, false, true, List, [], length, slice_index, Option, None}
 use Rattle.std.specs.Prelude.{is_some, slice_index_or, ◌⊎◌, ℤ, pos, neg_ℤ, ◌+ℤ◌, ◌-ℤ◌, ◌≤ℤ◌}
 use Rattle.kd_assign.specs.Prices.{cost_at, price_at}
@@ -13,7 +14,7 @@ has_column reached j = slice_index_or reached j false
 abbrev pub room_at : List ℤ → List ℤ → ℕ → ℤ
 room_at ceilings prices j = price_at ceilings j -ℤ price_at prices j
 
--- No ceiling is below its price, and all prices and ceilings are from -128 to 4.
+-- No column's price is above its ceiling, and all prices and ceilings are from -128 to 4.
 pub record AreClose (n : ℕ) (prices ceilings : List ℤ) : Type 0 where
   pub low : (j : ℕ) → j < n → neg_ℤ (pos 128) ≤ℤ price_at prices j
   pub between : (j : ℕ) → j < n → price_at prices j ≤ℤ price_at ceilings j
@@ -43,9 +44,9 @@ pub record AreCompared (n : ℕ) (cost : List (List ℕ)) (reached : List Bool) 
 
 module _ (n : ℕ) (cost : List (List ℕ)) (prices : List ℤ) (holders : List (Option ℕ)) (root : ℕ) (reached : List Bool)
     (ceilings : List ℤ) where
-  -- `plan` has a column for each row up to the root, except `out`. A row that has a column of the tree has its
-  -- cheapest column at the ceilings. The columns that are taken are those taken in `holders`; outside the tree,
-  -- they have the rows that they have in `holders`.
+  -- `plan` gives a column to each row from 0 to `root`, except row `out`. If a row has a column of the tree, this is
+  -- its cheapest column at the ceilings. `plan` and `holders` take the same columns, and give each column outside
+  -- the tree to the same row.
   pub record IsAssignmentWithout (plan : List (Option ℕ)) (out : ℕ) : Type 0 where
     pub places : length plan ≡ n
     pub out_in_range : out < n
@@ -56,9 +57,9 @@ module _ (n : ℕ) (cost : List (List ℕ)) (prices : List ℤ) (holders : List 
     pub same : (j : ℕ) → has_column reached j ≡ false → slice_index_or plan j None ≡ slice_index_or holders j None
     pub taken : (j : ℕ) → is_some (slice_index_or plan j None) ≡ is_some (slice_index_or holders j None)
 
-  -- Each column of the tree is taken, and its price is no further below its ceiling than that of any column
-  -- outside. Each column outside is the cheapest one, at the ceilings, for its nearest row. For this row, `plans`
-  -- has an assignment that leaves only this row without a column.
+  -- Each column of the tree is taken, and no column outside the tree has less room (ceiling less price). Each column
+  -- outside is, at the ceilings, the cheapest column for its nearest row. For each nearest row, `plans` has an
+  -- assignment that gives a column to each row from 0 to `root`, except this nearest row.
   pub record IsGrownTree (near : List ℕ) (plans : List (List (Option ℕ))) : Type 0 where
     pub places : length reached ≡ n
     pub plan_places : length plans ≡ n

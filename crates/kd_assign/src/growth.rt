@@ -8,11 +8,11 @@ ghost use Rattle.kd_assign.specs.Solved.{IsSolvedTo};
 use crate::nearest::Nearest;
 use crate::scans::Scans;
 
-/// Gives the row `root` a column, and other rows another column where this costs the least.
+/// Gives row `root` a column. Rows before it may get other columns, so that all together cost the least.
 ///
 /// A tree of rows and columns grows from `root`. In each round the nearest column joins the tree, and then
 /// the row that holds this column. A free column ends the growth. For each row of the tree, `plans` keeps an
-/// assignment of the rows up to `root` that leaves only this row without a column.
+/// assignment that gives a column to each row from 0 to `root`, except this row.
 pub fn assign_row<const N: usize>(
     cost: &[[u8; N]; N],
     prices: &mut [i16; N],

@@ -13,8 +13,8 @@ pub struct Nearest<const N: usize> {
     pub row: [usize; N],
     /// The ceiling of each column: the lowest price that a row of the tree offers for it.
     ///
-    /// The nearest column is the one whose price is closest to its ceiling. All ceilings are too high by the room
-    /// (ceiling less price) of the free column that ends the tree.
+    /// The nearest column is the one whose price is closest to its ceiling. When a free column ends the tree, each
+    /// price is lowered to at most its ceiling less the room (ceiling less price) of this free column.
     pub ceiling: [i16; N],
 }
 

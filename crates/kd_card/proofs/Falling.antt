@@ -61,8 +61,8 @@ one_apart x fewer letters order letter =
     in
     in_front (nat_eq x letter) (has_letter letters letter) (has_letter fewer letter) (same letter)
 
--- `new` in place of cable number `cable` has the same letters except perhaps `letter`, and keeps `HasCables`. This is
--- so after the letter was pulled out or put in.
+-- If the cable with number `cable` becomes `new`, its letters stay the same except perhaps `letter`, and `HasCables`
+-- still holds. This is so if the letter is pulled out or put in.
 pub record ChangesCable (m : RotorParts) (cable letter : ℕ) (new : Option ℕ × Option ℕ) : Type 0 where
   pub here : get_or m.cables (cable - 1) (cable_at m cable) ≡ cable_at m cable
   pub same : SameBut letter (cable_letters (cable_at m cable)) (cable_letters new)

@@ -159,7 +159,7 @@ module _ {K X : Type 0} {sort : Sort K X} where
   pub ends_at : {bytes : List ℕ} (last : Option K) → EndsGroup sort.word bytes → EndsKindsAt sort last bytes
   ends_at last ends = record { ends = ends; none_more = end_has_no_next last ends }
 
-  -- If there are bytes without a whole line, the group doesn't end before them, but no kind follows.
+  -- If there are bytes, but no whole line begins them, the group doesn't end before them, and no kind follows.
   pub unended : {bytes : List ℕ} (last : Option K) → bytes ≢ []
       → ((found : List (List ℕ) × List ℕ) → ¬ (HasLineWords bytes found.0 found.1)) → IsBadKindAt sort last bytes
   unended last some none = record {
@@ -170,8 +170,8 @@ module _ {K X : Type 0} {sort : Sort K X} where
     none_more = λ kind rest next. none (kind_words sort kind, rest) next.line;
   }
 
-  -- If a line begins with the sort's word but isn't that of a kind after `last`, the group doesn't end, but no kind
-  -- follows.
+  -- If a line begins with the sort's word but isn't the line of a kind after `last`, the group doesn't end before it,
+  -- and no kind follows.
   pub no_kind : {bytes : List ℕ} (last : Option K) → BeginsWithWord sort.word bytes → HasNoNext sort last bytes
       → IsBadKindAt sort last bytes
   no_kind last begins none = record {

@@ -77,8 +77,8 @@ pub led_unless : (so : Bool) (m n : Parts) (x : Setting) → (so ≡ true → n 
 led_unless true m n x same made allowed = led_none (same refl)
 led_unless false m n x same made allowed = led_cons (allowed refl) (made refl) (led_none refl)
 
--- Things in turn, each with its settings. The machine depends on which things are done already, and which aren't
--- yet: `state` gives it.
+-- Things in turn, each with its settings. `state` gives the machine in which the things of the first list are set
+-- already, and those of the second list aren't yet.
 module _ {Z : Type 0} (state : List Z → List Z → Parts) (lines : ℕ → Z → List Setting) where
   abbrev pub LeadsOn : List Z → Z → List Z → Type 0
   LeadsOn front z back = Led (state front (z ∷ back)) (lines (suc (length front)) z) (state (front ++ z ∷ []) back)

@@ -94,7 +94,7 @@ differing-triangle p q r (letter ∷ letters) =
     let rest = differing-triangle p q r letters in
     simp count_by-cons (grind (arith, rest.0), grind (arith, rest.1))
 
--- The cost of cables `xs` at columns `us`: `f` and `g` are the tests which letters a cable and a column have.
+-- The cost of cables `xs` at columns `us`: `f` tests whether a cable has a letter, and `g` whether a column has it.
 module _ {A W : Type 0} (letters : List ℕ) (f : A → ℕ → Bool) (g : W → ℕ → Bool) where
   abbrev costs : List A → List W → ℕ
   costs xs us = sum_by (λ z. count_differing letters (f z.0) (g z.1)) (zip xs us)

@@ -381,8 +381,8 @@ card_says {day} {xs} {prices} rest card end =
     (GoesOn (prices, sum) (all_say prices _ sum card.are_prices (sum_ends (price_sum prices) rest near) refl)
     (GoesOn rest (value_says true (codes "SUM ") _ _ (signed_text (price_sum prices) near) refl) end))))
 
--- Of two lists of settings whose lines begin the bytes, the one with all settings is at least as long. They are the
--- same if no setting follows the other one, either.
+-- Let the bytes begin with the lines of `xs`, after which no setting follows, and also with the lines of `ys`. Then
+-- `xs` is at least as long as `ys`; and if no setting follows the lines of `ys` either, the two are equal.
 lists_meet : {body : List ℕ} {xs ys : List Setting} {rest more : List ℕ} → BeginsWithAllSettings body xs rest
     → BeginsWithSettingLines body ys more → (length ys ≤ length xs)
     × (BeginsWithNoSetting more → (xs ≡ ys) × (rest ≡ more))

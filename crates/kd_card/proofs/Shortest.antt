@@ -287,8 +287,8 @@ IsPermutation-place xs ys i d order lt =
     Contains-permutation ys xs (get_or ys i d) (IsPermutation-sym xs ys order) (Contains-get_or ys i d lt) in
     (there.0, there.1, sym there.2 ∙ get_or_default xs there.0 (get_or ys i d) d there.1)
 
--- The lower bound that prices that fit give for the number of settings, `lines`. If it is reached, each row has a
--- column, and each column a row, so that their prices add up to the cost where they meet.
+-- `lines`, the number of settings, is at least `loose`, the number of loose things, plus the sum of the prices. If it
+-- is exactly that, each row has a column, and each column a row, where the prices of the two add up to the cost.
 pub record AreBounds (costs : List (List ℕ)) (prices : PriceParts) (loose lines : ℕ) : Type 0 where
   pub bound : (pos loose +ℤ price_sum prices) ≤ℤ pos lines
   pub tight : pos lines ≡ (pos loose +ℤ price_sum prices) → ArePricesTight costs prices
@@ -410,7 +410,8 @@ pub fitting_prices_bound_lists : FittingPricesBoundLists
 fitting_prices_bound_lists m s prices settings machine legal are kind fits reached =
     (AreBounds-prices m reached.0 s prices settings machine legal are kind fits reached.1 reached.2).bound
 
--- If a list that reaches the day needs each setting, it has as many settings as loose things plus priced settings.
+-- A needed setting lowers the number of loose things by one, unless it is priced. So a list of needed settings
+-- (`needed_all`) lowers it by the number of its settings that aren't priced.
 needed_one : (m : Parts) (s : Day) (x : Setting) (b : Bool) → is_priced_setting x ≡ b → IsSettingNeeded m s x
     → loose_count m s + cond b 1 0 ≡ loose_count (machine_after m x) s + 1
 needed_one m s x b e d = grind (arith, loose_count-priced)
@@ -423,7 +424,7 @@ needed_all m n s (x ∷ xs) leads needed =
     needed.1 in
     omega (arith, needed_one m s x (is_priced_setting x) refl needed.0, count_by-cons is_priced_setting x xs, rest)
 
--- A setting that changes no cable and no bar lowers the number of loose things by at most one.
+-- Up to `loose_falls`: a setting that changes no cable and no bar lowers the number of loose things by at most one.
 cond-one_or_other : (b : Bool) → cond {A = ℕ} b 1 0 + cond {A = ℕ} b 0 1 ≡ 1
 cond-one_or_other b = grind arith
 

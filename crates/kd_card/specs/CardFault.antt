@@ -31,7 +31,7 @@ abbrev pub IsNumberText : List ℕ → Type 0
 IsNumberText [] = ⊥
 IsNumberText (digit ∷ digits) = IsDigit digit × All IsDigit digits × ((digit ≡ 48) → (digits ≡ []))
 
--- an unsigned number, or a signed one: `-` before it makes it negative, and `-0` isn't one
+-- With `false`: an unsigned number. With `true`: an unsigned number, or a negative one with `-` first, but not `-0`.
 abbrev pub IsNumeral : Bool → List ℕ → Type 0
 IsNumeral false text = IsNumberText text
 IsNumeral true text =
@@ -49,8 +49,8 @@ pub record HasLineWords (bytes : List ℕ) (words : List (List ℕ)) (rest : Lis
   pub first : IsFirstPart 10 bytes line rest
   pub parts : words_of line ≡ words
 
--- Reading a line of `front` and the number `due` has this result: the bytes after the line, or a fault. A line that
--- isn't `front` and a number is bad; another number is a wrong count.
+-- Reading a line that has to be `front` and the number `due` has this result: the bytes after the line, or a fault.
+-- If the line isn't `front` and a number, it is bad; if it has another number, the count is wrong.
 abbrev pub IsValueAnswer : Bool → List ℕ → List ℕ → ℕ → List ℕ → AnswerRule CardFault (List ℕ)
 IsValueAnswer signed front due line bytes = do
   found ← Finds
@@ -65,8 +65,8 @@ IsLineAnswer line bytes = do
   _ ← Demands (bytes ≢ []) PriceMissing
   Finds (λ (found : List (List ℕ) × List ℕ). HasLineWords bytes found.0 found.1) (BadLine line)
 
--- Reading a line whose first word is `word` of some key has this result: the key, the words after the first, and
--- the bytes after the line; or a fault.
+-- Reading a line that has to begin with `word key`, for some `key`, has this result: the key, the words after the
+-- first, and the bytes after the line; or a fault.
 abbrev pub IsFirstWordAnswer : {K : Type 0} → (K → List ℕ) → ℕ → List ℕ
     → AnswerRule CardFault (K × List (List ℕ) × List ℕ)
 IsFirstWordAnswer {K} word line bytes = do
@@ -84,7 +84,7 @@ pub record BeginsWithHead (bytes : List ℕ) (version : Version) (day : ℕ) (re
 abbrev pub IsHeadAnswer : List ℕ → AnswerRule CardFault (Version × ℕ × List ℕ)
 IsHeadAnswer bytes = Finds (λ (head : Version × ℕ × List ℕ). BeginsWithHead bytes head.0 head.1 head.2) BadHead
 
--- Reading the settings has this result: all settings up to the first line that isn't one, and the bytes after
+-- Reading the settings has this result: all settings up to the first line that isn't a setting, and the bytes after
 -- them; or the fault `TooMany` if the first 193 lines are settings.
 abbrev pub IsSettingsAnswer : List ℕ → AnswerRule CardFault (List Setting × List ℕ)
 IsSettingsAnswer bytes (Ok list) = BeginsWithAllSettings bytes list.0 list.1
@@ -140,14 +140,14 @@ pub data EndsGroup (word bytes : List ℕ) : Type 0 where
   AtNothing : bytes ≡ [] → EndsGroup word bytes
   AtOther : (other : List ℕ) → BeginsWithWord other bytes → other ≢ word → EndsGroup word bytes
 
--- The first line of `bytes` is that of `kind`, which comes after the kind `last`, and `rest` follows.
+-- The first line of `bytes` is the line of `kind`, which comes after the kind `last`, and `rest` follows.
 pub record IsNextKind {K X : Type 0} (sort : Sort K X) (last : Option K) (bytes : List ℕ) (kind : K) (rest : List ℕ)
     : Type 0 where
   pub good : IsKind sort kind
   pub after : ComesAfter sort last kind
   pub line : HasLineWords bytes (kind_words sort kind) rest
 
--- `bytes` don't begin with a kind that comes after the kind `last`.
+-- `bytes` don't begin with the line of a kind that comes after the kind `last`.
 abbrev pub HasNoNext : {K X : Type 0} → Sort K X → Option K → List ℕ → Type 0
 HasNoNext {K} sort last bytes = (kind : K) (rest : List ℕ) → ¬ (IsNextKind sort last bytes kind rest)
 
@@ -156,17 +156,17 @@ abbrev pub last_of : {K : Type 0} → Option K → List K → Option K
 last_of last [] = last
 last_of last (kind ∷ kinds) = last_of (Some kind) kinds
 
--- `bytes` are the lines of `kinds`, in order after the kind `last`, and then `rest`. No further kind in this order
--- begins `rest`.
+-- `bytes` are the lines of `kinds`, in order after the kind `last`, and then `rest`, which doesn't begin with the line
+-- of a further kind in this order.
 pub record BeginsWithKinds {K X : Type 0} (sort : Sort K X) (last : Option K) (bytes : List ℕ) (kinds : List K)
     (rest : List ℕ) : Type 0 where
   pub lines : bytes ≡ kinds_text sort kinds ++ rest
   pub in_order : AreKinds sort last kinds
   pub none_more : HasNoNext sort (last_of last kinds) rest
 
--- Reading a group of kinds has this result: the kinds and the bytes after them, or a fault. If these bytes begin
--- with the sort's word or without a whole line, their line is bad; if the kinds don't count `number` things, the
--- fault is `PriceMissing`.
+-- Reading a group of kinds has this result: the kinds and the bytes after them, or a fault. If there are bytes after
+-- the kinds, but they begin with the sort's word or have no whole line, their first line is bad. If the kinds don't
+-- count `number` things, the fault is `PriceMissing`.
 -- Code: the reader keeps at most `number` kinds, and stops counting things at `number + 1`.
 abbrev pub IsGroupAnswer : {K X : Type 0} → Sort K X → ℕ → ℕ → List ℕ → AnswerRule CardFault (List K × List ℕ)
 IsGroupAnswer {K} sort number line bytes = do
@@ -175,8 +175,8 @@ IsGroupAnswer {K} sort number line bytes = do
   _ ← Demands (counted sort group.0 ≡ number) PriceMissing
   Yields group
 
--- Reading the group of kinds of rows, and then that of columns, has this result: both groups and the bytes after
--- them, or a fault.
+-- Reading the group of the kinds of rows, and then the group of the kinds of columns, has this result: both groups
+-- and the bytes after them, or a fault.
 abbrev pub IsGroupsAnswer : {R X C Y : Type 0} → Sort R X → Sort C Y → ℕ → ℕ → List ℕ
     → AnswerRule CardFault (List R × List C × List ℕ)
 IsGroupsAnswer row_sort column_sort number line bytes = do

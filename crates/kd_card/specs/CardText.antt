@@ -47,7 +47,7 @@ version_text ByKind = codes "2"
 abbrev pub head_words : Version → ℕ → List (List ℕ)
 head_words version day = codes "CARD" ∷ version_text version ∷ codes "DAY" ∷ decimal day ∷ []
 
--- the words of the line after the settings: their number
+-- the words of the line after the settings, which has the number of settings
 abbrev pub settings_words : ℕ → List (List ℕ)
 settings_words number = codes "SETTINGS" ∷ decimal number ∷ []
 

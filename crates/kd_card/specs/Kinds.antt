@@ -15,15 +15,15 @@ use Rattle.kd_card.specs.declared.kinds.RowKind.{RowKind}
 
 -- ---- things: a cable's letters, a column's pair, a bar's standing, a row's reading
 
--- The order of readings, and of pairs of letters as their places in the alphabet: by the first number, then by the
+-- The order of readings, and of pairs of letters, given as places in the alphabet: by the first number, then by the
 -- second.
--- Code: the derived order of `Reading`.
+-- Code: readings are compared by the derived order of `Reading`.
 abbrev pub NumbersComeBefore : ℕ × ℕ → ℕ × ℕ → Type 0
 NumbersComeBefore x y = (x.0 < y.0) ⊎ ((x.0 ≡ y.0) × (x.1 < y.1))
 
 -- The order of cables: by their letters, as words in a dictionary; a cable without a first letter comes last.
 -- `SecondComesBefore` compares the second letters.
--- Code: the derived order of `Ends`; the law `ordered` of `Kind` proves that it is this order.
+-- Code: cables are compared by the derived order of `Ends`; the law `ordered` of `Kind` proves that it is this order.
 abbrev pub SecondComesBefore : Option ℕ → Option ℕ → Type 0
 SecondComesBefore None None = ⊥
 SecondComesBefore None (Some other) = Unit {0}
@@ -37,14 +37,14 @@ EndsComeBefore (Some first, second) (None, other) = Unit {0}
 EndsComeBefore (Some one, second) (Some two, other) = (one < two) ⊎ ((one ≡ two) × SecondComesBefore second other)
 
 -- The order of columns: pairs as words in a dictionary, and then the nothings, which are columns without a pair.
--- Code: the derived order of `Column`.
+-- Code: columns are compared by the derived order of `Column`.
 abbrev pub PairComesBefore : Option (ℕ × ℕ) → Option (ℕ × ℕ) → Type 0
 PairComesBefore None other = ⊥
 PairComesBefore (Some pair) None = Unit {0}
 PairComesBefore (Some pair) (Some other) = NumbersComeBefore pair other
 
 -- The order of standings: by the left lug's place, then by the right one's.
--- Code: the derived order of `Standing`.
+-- Code: standings are compared by the derived order of `Standing`.
 abbrev pub StandingComesBefore : Place × Place → Place × Place → Type 0
 StandingComesBefore x y = IsBefore x.0 y.0 ⊎ ((x.0 ≡ y.0) × IsBefore x.1 y.1)
 
@@ -156,8 +156,8 @@ prices_of_kinds sort kinds = flat_map (λ k. replicate (sort.kind k).count (sort
 abbrev pub expansion : {X : Type 0} → List (KindOf X) → List (X × ℤ)
 expansion kinds = flat_map (λ kind. replicate kind.count (kind.thing, kind.price)) kinds
 
--- The kinds count just these things, each with its price: written out, they are the things with their prices, in
--- some order.
+-- The kinds count exactly these things, each with its price: written out, each as often as it counts, they are the
+-- things with their prices, in some order.
 -- Code: `kinds_of` sorts things with their prices and counts equal ones; `prices_of` looks for each thing's kind and
 -- compares the counts. Neither writes the kinds out.
 pub record AreKindsOf {K X : Type 0} (sort : Sort K X) (things : List X) (prices : List ℤ) (kinds : List K) : Type 0

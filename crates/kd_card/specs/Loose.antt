@@ -20,7 +20,7 @@ use Rattle.kd_state.specs.Machine.{ring_at, letter_at}
 use Rattle.kd_state.specs.SheetDay.{Day, OfRotors, OfPins}
 use Rattle.kd_state.specs.Costs.{exactly_one}
 
--- the setting `x`, or none if `so`: if the thing is as on the day already
+-- the setting `x`, or none if `so` is true, that is, if the thing is as on the day already
 abbrev pub setting_unless : Bool → Setting → Option Setting
 setting_unless so x = if so then None else Some x
 

@@ -74,8 +74,8 @@ AreExpanded (Pin m) (OfPins s) (BarKinds row col) (Bars rows columns) =
     AreKindsOf bar_sort m.bars rows row.items × AreKindsOf row_sort s.rows columns col.items
 AreExpanded _ _ _ _ = ⊥
 
--- `numbered` has the price of each thing by `prices`. If `prices` are by number, the two are equal. If they are
--- by kind, equal things have the price of their kind.
+-- `numbered` are prices by number: each thing has the price that `prices` give it. If `prices` are by number, the two
+-- are equal. If they are by kind, equal things have the price of their kind.
 pub data Expands (m : Parts) (s : Day) (prices numbered : PriceParts) : Type 0 where
   Same : version_of prices ≡ ByNumber → prices ≡ numbered → Expands m s prices numbered
   Expanded : ArePrices prices → ArePrices numbered → AreExpanded m s prices numbered → Expands m s prices numbered

@@ -32,7 +32,7 @@ pub record IsBadKindAt {K X : Type 0} (sort : Sort K X) (last : Option K) (bytes
   pub goes_on : ¬ (EndsGroup sort.word bytes)
   pub none_more : HasNoNext sort last bytes
 
--- These are the words of the line of `kind`, and not of a kind whose things are different.
+-- These are the words of the line of `kind`, and of no kind with other things.
 pub record IsKindOfWords {K X : Type 0} (sort : Sort K X) (words : List (List ℕ)) (kind : K) : Type 0 where
   pub has : HasKindWords sort words kind
   pub only : (other : K) → HasKindWords sort words other → (sort.kind other).thing ≡ (sort.kind kind).thing

@@ -15,9 +15,9 @@ pub enum CardFault {
     BadLine(usize),
     /// There are more than 192 settings.
     TooMany,
-    /// A price line is missing or is for other things, or rows or columns have too few or too many prices.
+    /// A price line is missing or has a wrong first word, or there are too few or too many prices.
     PriceMissing,
-    /// The number after `SETTINGS` isn't the number of settings, or the one after `SUM` isn't the sum.
+    /// The number after `SETTINGS` isn't the number of settings, or the one after `SUM` isn't the sum of prices.
     CountWrong,
     /// Bytes follow the last line of the card.
     Trailing,

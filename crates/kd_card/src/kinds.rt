@@ -86,7 +86,7 @@ pub trait Kind: Copy + Default {
     fn parts(&self) -> KindOf<Self::Thing>
         ensures { result ≡ sort.kind self.now };
 
-    /// Whether the kind's things are in the form that a card writes, as with two letters in order.
+    /// Whether the kind's things are in the form that a card writes, as with letters in alphabetical order.
     fn is_in_form(&self) -> bool
         ensures { IsTrue result ↔ sort.InForm (sort.kind self.now).thing };
 
@@ -100,7 +100,7 @@ pub trait Kind: Copy + Default {
             ((thing : Self.Thing) → ¬ (HasText sort text.now thing))
             (IsOnlyThing sort text.now) };
 
-    /// The derived order of things is the order of lines that `sort` has.
+    /// The derived order of things is the order of lines that `sort` defines.
     ghost ordered: { (x y : Self.Thing) → sort.ComesBefore x y ↔ (Self.Thing.cmp x y ≡ Less) };
 }
 

@@ -6,7 +6,7 @@ use std::marker::Model;
 
 /// What equal cables, columns, bars or rows have in common: letters, a pair, a standing or a reading.
 ///
-/// Things have the order of a card's lines for their kinds.
+/// Things have the same order as the lines of their kinds on a card.
 pub trait Thing: Copy + Default + Ord {
     ghost use Rattle.std.specs.Prelude.{◌≡◌};
     ghost use Rattle.std.specs.declared.cmp.Ordering.TheVariants.{Equal};

@@ -1,9 +1,9 @@
--- Settings that leave spare cables free name no cable above a number of cables that suffices.
+-- If the first `number` cables suffice, settings that leave spare cables free name no other cable.
 pub mod Sparing
 unfoldable pub use Sparing.*
 
--- If all cables in use are among the first `first` cables, then the cables in use and the spare cables among the
--- first ones are `first` in number.
+-- If all cables in use are among the first `first` cables, then the number of cables in use, plus the number of
+-- spare ones among the first `first`, is `first`.
 all_first : (cables : List Cable) (first : ℕ) → first ≤ length cables
     → ((k : ℕ) → first ≤ k → is_spare_at cables k ≡ true)
     → spare_count (take first cables) + count_by (λ cable. not (is_spare cable)) cables ≡ first
@@ -64,8 +64,8 @@ set_within number m cable ends none within there other above =
     (omega arith) in
     ap (λ ends. is_spare (unwrap_or ends (None, None))) same ∙ none other above
 
--- If each legal setting that satisfies `Bound` satisfies `Says` and keeps a property of the machine, then in a list
--- of settings that satisfy `Bound` all satisfy `Says`, and the list keeps this property.
+-- Let each legal setting that satisfies `Bound` also satisfy `Says`, and let the machine still satisfy `Keeps` after
+-- it. Then this holds also for a list of settings that all satisfy `Bound`.
 settings_keep : (Keeps : Parts → Type 0) (Bound Says : Setting → Type 0)
     → ((m : Parts) (x : Setting) → Keeps m → Bound x → why_refused m x ≡ None → Says x × Keeps (machine_after m x))
     → (settings : List Setting) (m n : Parts) → Keeps m → AllByRecursion Bound settings → Leads m settings n

@@ -19,8 +19,8 @@ spare_count cables = count_by is_spare cables
 abbrev pub spares_needed : List (Option ℕ × Option ℕ) → List (ℕ × ℕ) → ℕ
 spares_needed cables pairs = length pairs - count_by (λ cable. not (is_spare cable)) cables
 
--- A letter is put into a spare cable only if the pairs need at least as many spare cables as the machine has up to
--- this cable's number. So the spare cables with the lowest numbers are used, and no more than the pairs need.
+-- A letter is put into a spare cable only if the pairs need at least as many spare cables as there are from cable 1
+-- to this one. So the spare cables with the lowest numbers are used, and no more than the pairs need.
 abbrev pub SparesStayFree : Parts → Day → List Setting → Type 0
 SparesStayFree (Rotor m) (OfRotors s) settings =
     (cable letter : ℕ) → Contains settings (Put cable letter) → IsTrue (is_spare (cable_at m cable))

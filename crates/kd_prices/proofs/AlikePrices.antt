@@ -8,8 +8,8 @@ use Rattle.kd_prices.proofs.Prelude.{columns_of, PriceParts, Cables, Bars, table
 use Rattle.kd_prices.proofs.Prelude.{ArePricesTight, Parts, StandAlike, ReadAlike, AlikePricesAreEqual}
 use Rattle.kd_prices.proofs.Prelude.{AreEqualWhereAlike, map}
 
--- Prices that fit a table of costs, so that each row has a column, and each column a row, where the two prices
--- add up to the cost.
+-- Prices that fit a table of costs. Each row has a column, and each column has a row, where the two prices add up
+-- to the cost.
 module _ {A B : Type 0} (cost : A → B → ℕ) (rows : List A) (columns : List B) (a : A) (b : B) (m : Parts) (s : Day)
     (prices : PriceParts)
     (many_rows : length rows ≡ table_rows prices) (many_columns : length columns ≡ table_rows prices)
@@ -55,7 +55,7 @@ module _ {A B : Type 0} (cost : A → B → ℕ) (rows : List A) (columns : List
         );
   }
 
--- Equal items at two places.
+-- If `slice_get` finds the same at two places of a list, so does `get_or`.
 pub same_at : {X : Type 0} (xs : List X) (i k : ℕ) (d : X) → slice_get xs i ≡ slice_get xs k
     → get_or xs i d ≡ get_or xs k d
 same_at xs i k d e = sym (unwrap_or-slice_get xs i d) ∙ ap (λ found. unwrap_or found d) e ∙ unwrap_or-slice_get xs k d

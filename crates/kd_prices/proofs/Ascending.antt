@@ -1,5 +1,5 @@
--- Kinds whose things ascend: a function that is 0 for all things after `x` has the sum 0 over kinds of things
--- after `x`.
+-- Kinds in ascending order of their things. If a function is 0 for all things after `x`, its sum over kinds that
+-- come after `x` is 0.
 use Rattle.std.proofs.Common.{◌≡◌, ℕ, ◌+◌, ◌*◌, ◌<◌, List, [], ◌∷◌, length, get_or, map, replicate, arith, refl, ap}
 use Rattle.std.proofs.Common.{◌∙◌, subst, suc, zero}
 use Rattle.std.specs.Prelude.{ℤ, if◌then◌else◌, Bool}

@@ -78,8 +78,7 @@ module _ {X : Type 0} (cmp : X → X → Ordering) (order : IsTotalOrder cmp) (t
       (ascend_first cmp order told kind.thing (things_of kinds) rise k kind.thing
       (omega (arith, length-map kinds (λ (other : KindOf X). other.thing))))
 
-  -- a thing that is equal to the first kind's, with its price, is the first kind's thing with the first kind's
-  -- price
+  -- if a thing is equal to the first kind's thing, its price is the first kind's price
   own_pair : (kind : KindOf X) (kinds : List (KindOf X)) → Ascend cmp (things_of (kind ∷ kinds)) → (z : X × ℤ)
       → like kind.thing z ≡ true
       → IsPriceOf (kind ∷ kinds) z.0 z.1 → ◌≡◌ {A = X × ℤ} z (kind.thing, kind.price)
@@ -89,7 +88,7 @@ module _ {X : Type 0} (cmp : X → X → Ordering) (order : IsTotalOrder cmp) (t
       { kind = kind; among = (0, omega arith, refl); of_thing = sym thing; of_price = refl } in
       sym (both_same (sym thing) (sym (one_price cmp order told (kind ∷ kinds) rise z.0 z.1 kind.price priced here)))
 
-  -- a thing that isn't equal to the first kind's has one of the other kinds
+  -- if a thing isn't equal to the first kind's thing, its price comes from one of the other kinds
   other_kind : (kind : KindOf X) (kinds : List (KindOf X)) (z : X × ℤ) → not (like kind.thing z) ≡ true
       → IsPriceOf (kind ∷ kinds) z.0 z.1 → IsPriceOf kinds z.0 z.1
   other_kind kind kinds z passes priced =
@@ -155,7 +154,7 @@ module _ {X : Type 0} (cmp : X → X → Ordering) (order : IsTotalOrder cmp) (t
       ∙ ap (λ n. once (eq t x) + n) (counted_beside x things prices (omega arith))
       ∙ sym (sum_by-cons (λ y. once (eq y x)) t things)
 
-  -- kinds that are written out have the thing of each kind as often as the kind counts
+  -- kinds, written out, have each kind's thing as often as the kind counts
   counted_in : (kinds : List (KindOf X)) → Ascend cmp (things_of kinds) → (k : ℕ) (d : KindOf X) → k < length kinds
       → count_by (like (get_or kinds k d).thing) (expansion kinds) ≡ (get_or kinds k d).count
   counted_in [] rise k d below = absurd (omega arith)

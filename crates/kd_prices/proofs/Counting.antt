@@ -91,7 +91,7 @@ comes_before Less o back h apart = absurd (true≢false h)
 comes_before Equal o back h apart = absurd (apart refl)
 comes_before Greater o back h apart = back
 
--- `kinds` are those of the first `number` items of `sorted`
+-- `kinds` are the kinds of the first `number` items of `sorted`
 pub record AreKindsUpTo {X : Type 0} (cmp : X → X → Ordering) (sorted : List (X × ℤ)) (number : ℕ)
     (kinds : List (KindOf X)) : Type 0 where
   pub in_order : Ascend cmp (map (λ kind. kind.thing) kinds)

@@ -34,7 +34,8 @@ IsFirstWithout-one Holds number row column i j h k = grind (arith, cases_order, 
 
 -- ---- prices by number
 
--- If the machine refuses a setting after those before it, no list that begins with these leads to a machine.
+-- If the machine refuses a setting of a list after the settings before it were carried out, no list that begins with
+-- all of these leads to a machine.
 IsFirstIllegal-not_Leads : {m : Parts} {settings : List Setting} {line : ℕ} {why : Why}
     (h : IsFirstIllegal m settings line why)
     (n : Parts)
@@ -42,7 +43,8 @@ IsFirstIllegal-not_Leads : {m : Parts} {settings : List Setting} {line : ℕ} {w
 IsFirstIllegal-not_Leads {m} h n rest leads = Leads-not_refused m h.between n h.front rest h.setting _ h.leads
     h.refused leads
 
--- If a setting isn't needed after those before it, no list that begins with these has only needed settings.
+-- If a setting of a list isn't needed after the settings before it, no list that begins with all of these has only
+-- needed settings.
 IsFirstNeedless-not_needed : {m : Parts} {s : Day} {settings : List Setting} {line : ℕ}
     (h : IsFirstNeedless m s settings line)
     (rest : List Setting) → ¬ (AreSettingsNeeded m s (h.front ++ h.setting ∷ rest))
@@ -115,7 +117,7 @@ module _ (m : Parts) (s : Day) (settings : List Setting) (prices : PriceParts) w
   says_proving : IsCheckedAnswer m s settings prices (Ok tt) → Proves m s settings prices
   says_proving says = grind (arith, ThenNext-Ok, are_numbered)
 
-  -- The result of the check says whether the card proves itself.
+  -- The result of the check is `Ok` exactly if the card proves itself.
   pub told : (answer : Result (Unit {0}) Doubt) → IsCheckedAnswer m s settings prices answer
       → IsOk answer ↔ Proves m s settings prices
   told (Ok x) says = (λ ok. says_proving says, λ proves. refl)

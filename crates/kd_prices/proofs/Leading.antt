@@ -42,8 +42,8 @@ needed_join m n s (y ∷ front) x leads needed here =
     let behind = subst (λ between. Leads between front n) leads.1.made leads.2 in
     (needed.0, needed_join (machine_after m y) n s front x behind needed.1 here)
 
--- The settings before `place` have been carried out, and `needed` is the first of them that isn't needed, if
--- any.
+-- The settings before `place` have been carried out. `needed` is `Ok` if all of them were needed, and otherwise has
+-- the first one that wasn't.
 pub record IsWalked (m n : Parts) (s : Day) (xs : List Setting) (place loose : ℕ)
     (needed : Result (Unit {0}) Doubt) : Type 0 where
   pub leads : Leads m (take place xs) n

@@ -1,4 +1,4 @@
--- A card's prices give things at most one list of prices by number, which are for the same sort of machine.
+-- A card's prices expand to at most one list of prices by number, which is for the same sort of machine.
 use Rattle.kd_prices.proofs.Prelude.{◌≡◌, ◌↔◌, List, sym, ◌∙◌, ap, arith, ℤ, None, map, Parts, Setting, Day, PriceParts}
 use Rattle.kd_prices.proofs.Prelude.{ByNumber, version_of, ArePrices, AreModelPrices, AreExpanded, Expands, Same}
 use Rattle.kd_prices.proofs.Prelude.{Expanded, Proves, AreOfOneModel, AreNumbered, AreTakenApart, Sort, AreKinds}

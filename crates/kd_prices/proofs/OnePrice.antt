@@ -22,7 +22,7 @@ some_of : {X : Type 0} (xs : List X) → 0 < length xs → X
 some_of [] some = absurd (omega arith)
 some_of (x ∷ xs) some = x
 
--- each thing with a price in kinds that are written out has one of these kinds, with this price
+-- if kinds, written out, have a thing with a price, one of these kinds has this thing and this price
 in_expansion : {X : Type 0} (kinds : List (KindOf X)) (p : X × ℤ) → Contains (expansion kinds) p
     → IsPriceOf kinds p.0 p.1
 in_expansion [] p among = let inside = among.1 in absurd (omega (arith, inside))
@@ -119,7 +119,7 @@ module _ {X : Type 0} (cmp : X → X → Ordering) (order : IsTotalOrder cmp)
   price_in pairs kinds are p among = in_expansion kinds p
       (Contains-permutation pairs (expansion kinds) p are.expand among)
 
-  -- if things with prices have kinds, equal things have equal prices; so grouping refuses only what has no kinds
+  -- if things with prices can be grouped into kinds, equal things have equal prices
   pub one_price_each : (pairs : List (X × ℤ)) (kinds : List (KindOf X)) → AreRunsOf cmp pairs kinds
       → HaveOnePriceEach pairs
   one_price_each pairs kinds are = λ thing price other one two.
@@ -139,7 +139,7 @@ module _ {X : Type 0} (cmp : X → X → Ordering) (order : IsTotalOrder cmp)
         (price_in (zip things prices) kinds are.of_kinds (get_or (zip things prices) k d)
         (Contains-get_or (zip things prices) k d inside))
 
-    -- if each of the prices is that of its thing's kind, no other prices have these kinds
+    -- if each price is the price of its thing's kind, no other list of prices has these kinds
     module _ (prices : List ℤ) (number : length prices ≡ length things)
         (priced : (k : ℕ) (x : X) (q : ℤ) → k < length things
         → IsPriceOf kinds (get_or things k x) (get_or prices k q)) where

@@ -67,7 +67,7 @@ pub record IsFirstNeedless (m : Parts) (s : Day) (settings : List Setting) (line
   pub needed : AreSettingsNeeded m s front
   pub needless : ¬ (IsSettingNeeded between s setting)
 
--- Carrying out the settings has this result: the machine to which they lead, or the first that the machine refuses.
+-- Carrying out the settings has this result: the machine to which they lead, or the first refused line and why.
 abbrev pub IsCarriedAnswer : Parts → List Setting → AnswerRule Doubt Parts
 IsCarriedAnswer m settings (Ok n) = Leads m settings n
 IsCarriedAnswer m settings (Err (IllegalAt line why)) = IsFirstIllegal m settings line why
@@ -86,8 +86,8 @@ IsNeededAnswer m s settings (Ok all) = AreSettingsNeeded m s settings
 IsNeededAnswer m s settings (Err (NeedlessLine line)) = IsFirstNeedless m s settings line
 IsNeededAnswer m s settings (Err doubt) = ⊥
 
--- Checking the settings by prices, one for each thing, has this result: the prices prove that no shorter list
--- leads to the day, or the first doubt.
+-- Checking the settings by prices, one for each thing, has this result: success, if the settings lead to the day and
+-- the prices prove that no list that does is shorter; or the first doubt.
 abbrev pub IsByNumberAnswer : Parts → Day → List Setting → PriceParts → AnswerRule Doubt (Unit {0})
 IsByNumberAnswer m s settings prices = do
   n ← IsCarriedAnswer m settings
@@ -97,14 +97,15 @@ IsByNumberAnswer m s settings prices = do
   IsNeededAnswer m s settings
 
 -- Checking the settings by the lists of prices for `number` rows and as many columns of the table of costs has this
--- result: the prices prove that no shorter list leads to the day, or the first doubt.
+-- result: success, if the settings lead to the day and the prices prove that no list that does is shorter; or the
+-- first doubt.
 abbrev pub IsByPricesAnswer : Parts → Day → List Setting → ℕ → List ℤ → List ℤ → AnswerRule Doubt (Unit {0})
 IsByPricesAnswer m s settings number rows columns answer =
     (prices : PriceParts) → row_prices prices ≡ rows → column_prices prices ≡ columns → table_rows prices ≡ number
     → IsByNumberAnswer m s settings prices answer
 
 -- Checking the settings by prices that have to be found first has this result. The prices of rows satisfy
--- `AreOfRows`, and those of columns `AreOfColumns`; if there are none, the doubt is `PriceMissing`.
+-- `AreOfRows`, and those of columns `AreOfColumns`; if no prices do, the doubt is `PriceMissing`.
 abbrev pub IsByKindAnswer : Parts → Day → List Setting → ℕ → (List ℤ → Type 0) → (List ℤ → Type 0)
     → AnswerRule Doubt (Unit {0})
 IsByKindAnswer m s settings number AreOfRows AreOfColumns = do

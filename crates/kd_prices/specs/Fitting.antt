@@ -7,8 +7,8 @@ use Rattle.kd_card.specs.Prices.{cost_at, price_at}
 abbrev pub ListsFitAt : List (List ℕ) → List ℤ → List ℤ → ℕ → ℕ → Type 0
 ListsFitAt costs rows columns i j = (price_at rows i +ℤ price_at columns j) ≤ℤ pos (cost_at costs i j)
 
--- In the row of the table that has these costs and this price, the price and that of column `j` add up to at
--- most the cost in this column.
+-- `costs` and `price` are those of one row of the table: `price` and the price of column `j` add up to at most the
+-- cost in this column.
 abbrev pub FitsAtColumn : List ℕ → ℤ → List ℤ → ℕ → Type 0
 FitsAtColumn costs price columns j = (price +ℤ price_at columns j) ≤ℤ pos (slice_index costs j)
 

@@ -21,44 +21,44 @@ Ascend {X} cmp things =
     (k : ℕ) (d : X) → k + 1 < length things
     → cmp (slice_index_or things k d) (slice_index_or things (k + 1) d) ≡ Less
 
--- The kinds are in the order `cmp`, each once, and count at least one thing each. Written out, they are the
--- things with their prices, in some order.
+-- The kinds are in the order `cmp`, each once, and count at least one thing each. Written out, each as often as it
+-- counts, they are the things with their prices, in some order.
 pub record AreRunsOf {X : Type 0} (cmp : X → X → Ordering) (pairs : List (X × ℤ)) (kinds : List (KindOf X))
     : Type 0 where
   pub in_order : Ascend cmp (map (λ kind. kind.thing) kinds)
   pub some : All (λ kind. 1 ≤ kind.count) kinds
   pub expand : IsPermutation pairs (expansion kinds)
 
--- One of the kinds is that of the thing, and has this price.
+-- One of the kinds is the kind of the thing, and has this price.
 pub record IsPriceOf {X : Type 0} (kinds : List (KindOf X)) (thing : X) (price : ℤ) : Type 0 where
   pub kind : KindOf X
   pub among : Contains kinds kind
   pub of_thing : kind.thing ≡ thing
   pub of_price : kind.price ≡ price
 
--- None of the kinds is that of the thing.
+-- None of the kinds is the kind of the thing.
 abbrev pub HasNoKind : {X : Type 0} → List (KindOf X) → X → Type 0
 HasNoKind {X} kinds thing = (kind : KindOf X) → Contains kinds kind → kind.thing ≢ thing
 
--- The count of the kind is the number of things that are equal to the kind's, and isn't 0.
+-- The count of the kind is the number of things that are equal to the kind's thing, and isn't 0.
 pub record IsCounted {X : Type 0} (eq : X → X → Bool) (things : List X) (kind : KindOf X) : Type 0 where
   pub some : 1 ≤ kind.count
   pub number : kind.count ≡ count_by (λ thing. eq thing kind.thing) things
 
--- There is a price for each thing, and things with these prices have just these kinds.
+-- There is a price for each thing, and these kinds are those of the things with these prices.
 pub record ArePricesOf {X : Type 0} (cmp : X → X → Ordering) (things : List X) (kinds : List (KindOf X))
     (prices : List ℤ) : Type 0 where
   pub number : length prices ≡ length things
   pub of_kinds : AreRunsOf cmp (zip things prices) kinds
 
--- Each of the kinds comes after the kind before it, in the order of lines that `sort` has; the first one comes
+-- Each of the kinds comes after the kind before it, in the order of lines that `sort` defines; the first one comes
 -- after the kind `last`, if there is one.
 abbrev pub AreInOrder : {K X : Type 0} → Sort K X → Option K → List K → Type 0
 AreInOrder sort last [] = Unit {0}
 AreInOrder sort last (kind ∷ kinds) = ComesAfter sort last kind × AreInOrder sort (Some kind) kinds
 
--- The kinds are in order, and count at least one thing each. Written out, they are the things with their prices,
--- in some order.
+-- The kinds are in order, and count at least one thing each. Written out, each as often as it counts, they are the
+-- things with their prices, in some order.
 pub record AreGroupsOf {K X : Type 0} (sort : Sort K X) (pairs : List (X × ℤ)) (kinds : List K) : Type 0 where
   pub in_order : AreInOrder sort None kinds
   pub some : All (λ kind. 1 ≤ (sort.kind kind).count) kinds

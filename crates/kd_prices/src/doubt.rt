@@ -14,7 +14,9 @@ pub enum Doubt {
     ///
     /// Cards for rotor machines have prices of cables, and cards for the Converter have prices of bars.
     OtherModel,
-    /// Equal things share a price, but the card's kinds or their counts aren't those of machine and day.
+    /// The card is by kind, but its kinds or their counts aren't those of machine and day.
+    ///
+    /// A card is by kind if equal things share one price.
     PriceMissing,
     /// The machine refuses this line, for this reason, after the lines before it were carried out.
     IllegalAt(usize, Why),

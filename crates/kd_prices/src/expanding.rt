@@ -7,7 +7,7 @@ ghost use Rattle.kd_prices.specs.Grouping.{IsCounted, IsPriceOf, HasNoKind};
 use arrayvec::ArrayVec;
 use kd_card::{Kind, Thing};
 
-/// The price that each of `things` has by `kinds`.
+/// The price of each of `things`: the price of its kind, which is one of `kinds`.
 ///
 /// `None` if `kinds` or their counts aren't those of `things`.
 pub(crate) fn prices_of<K: Kind, const N: usize>(
@@ -32,7 +32,7 @@ pub(crate) fn prices_of<K: Kind, const N: usize>(
     prices.into_inner().ok()
 }
 
-/// Whether the count of each kind is the number of `things` that are equal to the kind's, and isn't 0.
+/// Whether the count of each kind is the number of `things` equal to the kind's thing, and isn't 0.
 fn are_counted<K: Kind>(things: &[K::Thing], kinds: &[K]) -> bool
     ensures { IsTrue result
         ↔ All (IsCounted K.Thing.eq things.now) (map K.sort.kind kinds.now) }
@@ -54,7 +54,7 @@ fn number_of<T: Thing>(thing: &T, things: &[T]) -> usize
     things.iter().filter(|other| **other == *thing).count()
 }
 
-/// The price of the kind of `thing`, or `None` if none of `kinds` is of it.
+/// The price of the kind of `thing`, or `None` if this kind isn't among `kinds`.
 fn price_of<K: Kind>(thing: &K::Thing, kinds: &[K]) -> Option<i16>
     ensures { let parts = map K.sort.kind kinds.now in
         MatchOption result (HasNoKind parts thing.now) (IsPriceOf parts thing.now) }

@@ -25,10 +25,10 @@ pub(crate) fn kinds_of<K: Kind, const N: usize>(
     Some(kinds)
 }
 
-/// Counts one more thing in the last of `kinds`, if it is equal to its things, or in a new kind.
+/// Counts one more thing: in the last of `kinds` if it is equal to that kind's thing, or in a new kind.
 ///
-/// `pair` is the thing and its price. `false` if the thing is equal to those of the last kind, but has another
-/// price.
+/// `pair` is the thing and its price. The result is `false` if the thing is equal to the last kind's thing, but
+/// has another price.
 fn count_in<K: Kind, const N: usize>(kinds: &mut ArrayVec<K, N>, pair: &(K::Thing, i16)) -> bool
     requires few { length kinds.old.items < N }
     requires counts { (kind : KindOf K.Thing) → IsLast (map K.sort.kind kinds.old.items) kind

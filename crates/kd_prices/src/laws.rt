@@ -14,8 +14,8 @@ pub fn rest_of_a_card_is_shortest()
 
 /// In a card by number that proves itself, equal things have equal prices, though each has its own.
 ///
-/// Cables are equal if they have the same letters, and bars if their lugs are at the same places. Nothings
-/// (columns without a pair) are equal, and rows of the sheet are if they have the same reading.
+/// Cables are equal if they have the same letters, bars if their lugs are at the same places, and rows of the
+/// sheet if they have the same reading. All nothings (columns without a pair) are equal.
 #[tactic(auto, using(crate::proofs::AlikePrices::alike_prices_are_equal))]
 pub fn alike_prices_are_equal()
     ensures { AlikePricesAreEqual }

@@ -35,8 +35,8 @@ tests_tell_letters xs ys = (
   ),
 )
 
--- `letters` and `others` together are all different exactly if `are_new_letters` is true of them and `others`
--- are all different
+-- all of `letters` and `others` are different exactly if `others` are all different, and `are_new_letters` is true
+-- for `letters` and `others`
 pub new_tells : (letters others : List ℕ)
     → IsDistinct nat_eq (letters ++ others) ↔ ((are_new_letters letters others ≡ true) × IsDistinct nat_eq others)
 unfolding IsDistinct
@@ -81,13 +81,13 @@ pub without_ordered : (letter : ℕ) (one other : Option ℕ)
 unfolding IsCableOrdered
 without_ordered letter one other = grind (arith, cond_both, IsCableOrdered)
 
--- a letter of a cable and the letters that stay when it is taken out are together the cable's letters
+-- if a letter is taken out of a cable, this letter and those that stay are together the cable's letters
 pub without_moves : (letter : ℕ) (one other : Option ℕ) → has_letter (cable_letters (one, other)) letter ≡ true
     → IsPermutation (cable_letters (one, other)) (letter ∷ cable_letters (cable_without letter (one, other)))
 without_moves letter one other h =
     grind (arith, true≢false, eq-eqb, Some, IsPermutation-append_comm (cable_letters (one, None)) (letter ∷ []))
 
--- a letter put into a cable with one letter, and this letter, are together the cable's letters
+-- if `letter` is put into a cable that has only the letter `end`, these two are the cable's letters
 after_end : (letter end : ℕ) → IsPermutation (letter ∷ end ∷ [])
     (cable_letters (cable_in_order (Some end) (Some letter)))
 after_end letter end =

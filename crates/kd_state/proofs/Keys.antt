@@ -123,11 +123,11 @@ equally_set m n s text machine other legal h k same letters =
 pub turned_on_key : TurnedIsOnKey
 turned_on_key m n s window turned h = grind arith
 
--- the key of a machine turned to other letters is the key of the machine with these letters put in
+-- if a machine is turned to other letters, its new key is its old key with these letters
 pub turned_key : TurnedHasItsKey
 turned_key m n window turned = grind (arith, Rotor, Pin)
 
--- an engine turned to other letters enciphers as the turned machine
+-- an engine turned to other letters enciphers as its machine does once it is turned to these letters
 pub turned_engine : TurnedEngineIsTheTurnedMachine
 turned_engine m n window text turned =
     ap (λ key. cipher key text) (sym (turned_key m n window turned)) ∙ engine_cipher n text

@@ -66,7 +66,7 @@ pub key_of_seats : (m : RotorParts) (wheels : List SheetWheel) → AreSeats m m.
     → physical_key (Rotor m) ≡ OfWheels (key_of_wheels wheels m.reflector (exchange (plugged_pairs m)))
 key_of_seats m wheels h = grind (arith, wheels_of_slots, filter_map, read_all)
 
--- if `wheels` are in the slots with their rings and letters, the machine's key is theirs, and no slot is empty
+-- if `wheels` are in the slots with their rings and letters, the machine's key has them, and no slot is empty
 pub of_seated : (m : RotorParts) (wheels : List SheetWheel) → map Some wheels ≡ map (wheel_in_seat m) m.slots
     → (physical_key (Rotor m) ≡ OfWheels (key_of_wheels wheels m.reflector (exchange (plugged_pairs m))))
     × All (λ seated. IsSome seated) m.slots
@@ -136,8 +136,7 @@ module _ (place : Wheel → ℕ) where
         ∙ read_put wheels window (omega arith) are.1 below.1 apart.1)
     read_put wheels window same are below apart = absurd (omega arith)
 
--- a property of the wheel in each slot that isn't empty is a property of each wheel in the list of seated
--- wheels
+-- if the wheel in each slot that isn't empty satisfies `Q`, each wheel in the list of seated wheels does
 each_standing : (Q : Wheel → Type 0) (slots : List (Option Wheel))
     → ((k : ℕ) (wheel : Wheel) → IsSeatedAt slots k wheel → Q wheel)
     → AllByRecursion Q (filter_map (λ seated. seated) slots)

@@ -70,7 +70,8 @@ pub place_nowhere : (model : Model) (wheel : Wheel) → ¬ (Contains (box_of mod
     → place_in_box model wheel ≡ length (box_of model)
 place_nowhere model wheel h = grind (arith, first_nowhere, false_from_ne_true, has_wheel-Decides)
 
--- if a list that is empty unless `b` holds contains a wheel, then `b` holds, and `wheels` contains the wheel
+-- let a list be `wheels` if `b` is true, and empty otherwise; if it contains a wheel, then `b` is true, and `wheels`
+-- contains the wheel
 in_some : (b : Bool) (wheels : List Wheel) (wheel : Wheel) → Contains (cond b wheels []) wheel
     → (b ≡ true) × Contains wheels wheel
 in_some b wheels wheel e = grind arith
@@ -116,7 +117,7 @@ found_in_box model wheel place within before here =
 pub allowed_in_box : AllowedWheelsLieInTheBox
 allowed_in_box model slot wheel h = (IsAllowed-IsPlaced model slot wheel h).in_box
 
--- the wheel at `place_in_box` of a wheel is this wheel
+-- at the place that `place_in_box` gives for a wheel of the box, the box has this wheel
 at_its_place : (model : Model) (wheel : Wheel) → Contains (box_of model) wheel
     → wheel ≡ get_or (box_of model) (place_in_box model wheel) I
 at_its_place model wheel h = grind (arith, same_wheel-Decides, passes_at_first, place_within)
@@ -140,8 +141,7 @@ pub seats_Decides : (slots others : List (Option Wheel))
     → Decides (pointwise (option_eq (sameb the_type)) slots others) (slots ≡ others)
 seats_Decides = grind (arith, pointwise_decides, seat_Decides)
 
--- if `b` is true exactly if `P` holds of all elements of `xs`, it is also true exactly if `P` holds of all
--- elements of an equal list `ys`
+-- if `b` decides whether all elements of `xs` satisfy `P`, it also decides this for an equal list `ys`
 pub all_tested : {X : Type 0} (P : X → Type 0) (xs ys : List X) (b : Bool) → Decides b (AllByRecursion P xs) → xs ≡ ys
     → Decides b (All P ys)
 all_tested P xs ys b d e = grind (arith, All-from_recursion, recursion_from_All)

@@ -39,7 +39,7 @@ IsKept m n (ThePin wheel letter) = machine_pin n wheel letter ≡ machine_pin m 
 IsKept m n (TheShown wheel) = machine_pin_letter n wheel ≡ machine_pin_letter m wheel
 IsKept m n (TheBar bar) = machine_standing n bar ≡ machine_standing m bar
 
--- Both machines have the same model, and the readers show the same for each thing but those that `IsTouched`.
+-- Both machines have the same model. Of each thing that doesn't satisfy `IsTouched`, the readers show the same.
 pub record KeepsAllBut (IsTouched : Thing → Type 0) (m n : Parts) : Type 0 where
   pub model : model_of n ≡ model_of m
   pub others : (thing : Thing) → ¬ (IsTouched thing) → IsKept m n thing

@@ -68,7 +68,7 @@ standing_across one other = if nat_lt (place_rank one) (place_rank other) then (
 abbrev pub bar_cost : Place × Place → ℕ × ℕ → ℕ
 bar_cost standing row = fold min 2 (map (lugs_moved standing) (standings_as row))
 
--- the first standing that reads as the row and moves the fewest lugs
+-- of the standings that read as the row, the first that differs from `standing` in the fewest lugs
 abbrev pub nearest_standing : Place × Place → ℕ × ℕ → Option (Place × Place)
 nearest_standing standing row =
     find (λ other. nat_eq (lugs_moved standing other) (bar_cost standing row)) (standings_as row)

@@ -1,9 +1,9 @@
--- How a first fault is stated: a rule says which answer is right, what a step finds or its fault. Rules in a `do`
--- stand in the order of testing, so the answer is the fault of the first step that has one.
+-- How a first fault is stated: by rules, each of which says when the result of a step, a value or a fault, is right.
+-- The rules in a `do` are in the order of testing, so the result is the fault of the first step that has one.
 use Rattle.std.specs.Prelude.{◌≡◌, Result, Ok, Err, refl}
 use Rattle.std.proofs.Common.{sym, ap, ◌∙◌, subst}
 
--- a rule for a result, which is a value or a fault: whether the result is right
+-- a rule: for each result, which is a value or a fault, whether the result is right
 abbrev pub AnswerRule : Type 0 → Type 0 → Type 1
 AnswerRule F X = Result X F → Type 0
 
@@ -87,7 +87,7 @@ HasOneAnswer-FindsAlways one (Ok x) (Ok y) a b = ap Ok (one x y a b)
 HasOneAnswer-FindsAlways one (Ok x) (Err f) a b = absurd b
 HasOneAnswer-FindsAlways one (Err f) w a b = absurd a
 
--- The value that the first step found, if it and the next steps found one.
+-- The first step finds a value, and the next steps then find `y`.
 pub record BothSucceed {F X Y : Type 0} (First : Result X F → Type 0) (Next : X → Result Y F → Type 0) (y : Y) : Type
     0 where
   pub found : X

@@ -138,12 +138,12 @@ OneListFault =
 -- ---- The laws of ciphers: a machine on the day's key enciphers as the day asks, and an equally set machine
 -- deciphers the ciphertext.
 
--- An engine with a machine's key enciphers as the machine's own parts do.
+-- An engine with a machine's key enciphers as the machine does by its own parts.
 abbrev pub EngineIsTheMachine : Type 0
 EngineIsTheMachine = (m : Parts) (text : List ℕ) → cipher (physical_key m) text ≡ physical_cipher m text
 
--- An engine with a machine's key that is turned to other letters enciphers as the machine turned to these
--- letters.
+-- If an engine with a machine's key is turned to other letters, it enciphers as the machine does once the machine
+-- is turned to these letters.
 abbrev pub TurnedEngineIsTheTurnedMachine : Type 0
 TurnedEngineIsTheTurnedMachine = (m n : Parts) (window text : List ℕ) → IsTurnedTo m window n
     → cipher (key_with_window (physical_key m) window) text ≡ physical_cipher n text

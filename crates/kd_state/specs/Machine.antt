@@ -65,7 +65,7 @@ HasAllPins pins = (wheel : ℕ) → length (wheel_pins pins wheel) ≡ length (r
 -- ---- Which parts make a machine.
 -- Source: the published accounts of the models; War Department TM 11-380; how a bar may stand is this desk's
 -- own rule
--- Code: an invariant of `Machine`.
+-- Code: `Machine` has these rules as its invariant.
 
 -- The parts make a rotor machine.
 pub record IsLegalRotor (m : RotorParts) : Type 0 where

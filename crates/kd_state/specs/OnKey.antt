@@ -1,5 +1,6 @@
 -- When a machine is on a day's key, and when it reads as the day.
--- Code: looks for a pair for each cable, and for a cable for each pair; sorts readings and rows, and compares them.
+-- Code: `on_key` looks for a pair for each cable, and for a cable for each pair. It sorts readings and rows, and
+-- compares them.
 -- Test: kd_trials/src/state/days.rt
 use Rattle.std.specs.Prelude.{◌≡◌, ◌≢◌, ◌⊎◌, ◌↔◌, ℕ, List, [], ◌∷◌, map, All, Any, Contains, IsPermutation, Option}
 use Rattle.std.specs.Prelude.{Some}

@@ -1,5 +1,5 @@
 -- Wheels and reflectors compared by their names, and items found by their numbers.
--- Code: `==`, and a search.
+-- Code: wheels and reflectors are compared by `==`; a wheel's place in the box is found by a search.
 use Rattle.std.specs.Prelude.{ℕ, zero, suc, Bool, List, slice_get, Option, None}
 use Rattle.std.specs.List.{list_any, position_or_len}
 use Rattle.std.specs.Str.{bytes_eq}

@@ -73,8 +73,7 @@ lies_beyond Right place other = nat_lt (place_rank place) (place_rank other)
 abbrev pub other_place : PinParts → ℕ → Lug → Option Place
 other_place m bar lug = option_map (lug_place (other_lug lug)) (numbered_item m.bars bar)
 
--- The reasons for which a machine may refuse a setting, in the order of testing. With each reason goes
--- whether it holds.
+-- The reasons for which a machine may refuse a setting, in the order of testing, each with whether it holds.
 abbrev pub refusal_reasons : Parts → Setting → List (Bool × Why)
 refusal_reasons (Rotor m) (Pull cable letter) =
     (is_none (numbered_item m.cables cable), NoSuchCable)
@@ -113,7 +112,7 @@ abbrev pub why_refused : Parts → Setting → Option Why
 why_refused m x = option_map (λ reason. reason.1) (find (λ reason. reason.0) (refusal_reasons m x))
 
 -- ---- The machine after a setting.
--- Code: the machine is changed in place.
+-- Code: `carry` changes the machine in place.
 
 -- the cable without the letter, for a letter that is in it
 abbrev pub cable_without : ℕ → Option ℕ × Option ℕ → Option ℕ × Option ℕ
@@ -173,7 +172,7 @@ machine_after (Pin m) (SeatReflector reflector) = Pin m
 machine_after (Pin m) (RingTo wheel letter) = Pin m
 
 -- ---- Settings carried out one after another, and the first that is refused.
--- Code: a loop that stops at the first setting that is refused.
+-- Code: `carry_all` is a loop that stops at the first setting that is refused.
 -- Test: writes_the_machine_that_stands_then
 
 -- Machine `m` doesn't refuse setting `x`, and is machine `n` after it.

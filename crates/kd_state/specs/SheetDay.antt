@@ -54,7 +54,7 @@ pub data Day : Type 0 where
   OfPins : PinDay → Day
 
 -- ---- Which values a day can have.
--- Code: lists of bounded length.
+-- Code: a day keeps its pairs and groups in lists of bounded length.
 -- Test: kd_trials/src/state/days.rt
 
 -- The number is from 1 to 31.

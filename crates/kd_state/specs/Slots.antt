@@ -1,5 +1,5 @@
 -- Three or four values, one for each slot.
--- Code: arrays of each size.
+-- Code: `PerSlot` has an array of three values, or an array of four.
 use Rattle.std.specs.Prelude.{◌≡◌, ◌==◌, List, length, if◌then◌else◌}
 use Rattle.kd_state.specs.declared.machine.per_slot.Slots.{Slots}
 use Rattle.kd_state.specs.declared.machine.per_slot.Slots.TheVariants.{Three, Four}

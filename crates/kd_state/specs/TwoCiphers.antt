@@ -1,5 +1,5 @@
 -- The key of an engine for either kind of machine, and its cipher.
--- Code: one engine for all models.
+-- Code: one type, `Engine`, serves all models.
 -- Test: kd_trials/src/state/engine.rt
 use Rattle.std.specs.Prelude.{◌≡◌, ◌≢◌, ℕ, List, length, map, All, IsSome, Option, Some, None}
 use Rattle.std.specs.List.{filter_map}

@@ -1,5 +1,5 @@
 -- Five, eight or ten values, one for each wheel of a box.
--- Code: arrays of each size.
+-- Code: `PerWheel` has an array of five values, of eight or of ten.
 use Rattle.std.specs.Prelude.{◌≡◌, ◌==◌, List, length, if◌then◌else◌}
 use Rattle.kd_state.specs.declared.machine.per_wheel.Wheels.{Wheels}
 use Rattle.kd_state.specs.declared.machine.per_wheel.Wheels.TheVariants.{Five, Eight, Ten}

@@ -68,7 +68,7 @@ ProductsBackwards =
 abbrev pub ShiftsBackwards : Type 0
 ShiftsBackwards = (k : ℕ) → k ≤ 26 → inverse (shift k) ≡ shift (26 - k)
 
--- On a pin wheel, `place_on` finds the letter at each place at this place.
+-- For the letter at a place of a pin wheel, `place_on` finds this place.
 abbrev pub LettersLeadToPlaces : Type 0
 LettersLeadToPlaces =
     (size : ℕ) (ring : List ℕ) → IsRing size ring → (place : ℕ) → place < size

@@ -1,5 +1,5 @@
 -- Permutations of the alphabet, as lists: the number at place x is the letter that x becomes.
--- Code: a table of 32 bytes; a product is one shuffle of bytes, an inverse one loop over the letters.
+-- Code: a permutation is a table of 32 bytes; a product takes one shuffle of bytes, an inverse one loop over letters.
 -- Test: machines_encipher
 use Rattle.std.specs.Prelude.{◌≡◌, ◌≢◌, ℕ, ◌+◌, ◌%◌, ◌==◌, List, [], ◌∷◌, length, map, slice_index, All, if◌then◌else◌}
 use Rattle.std.specs.List.{range_with_len, position_or_len}

@@ -42,7 +42,7 @@ pub record MemoryTaken : Type 0 where
   pub failed : Bool
 
 -- ---- A port before and after a call: its bytes, and whether it has failed.
--- Code: a flag in each port.
+-- Code: a port that can fail keeps a flag, which is set when a get or a put fails.
 -- Test: stops_at_a_failed_read, stops_where_the_sink_fails
 
 -- A port before a call (`had`, `had_failed`) and after it (`has`, `has_failed`): the bytes that a source

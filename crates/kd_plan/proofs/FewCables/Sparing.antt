@@ -4,8 +4,8 @@ unfoldable pub use Exchanging.*
 
 -- ---- the spare cables that become pairs are no more than the pairs need
 
--- If each cable in use and each of the first `first` cables becomes a pair, then the cables in use and the spare
--- ones among the first are at most as many as the cables that become pairs.
+-- Let each cable in use, and each of the first `first` cables, become a pair. Then the number of cables in use, plus
+-- the number of spare ones among the first `first`, is at most the number of cables that become pairs.
 pairs-counted : (cables : List Cable) (to : List ℕ) (pairs first : ℕ) → length cables ≡ length to
     → ((k : ℕ) → k < length to → is_spare_at cables k ≡ false → get_or to k 0 < pairs)
     → ((k : ℕ) → k < length to → k < first → get_or to k 0 < pairs)

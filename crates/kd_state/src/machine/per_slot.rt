@@ -34,7 +34,7 @@ impl<T> Model for PerSlot<T> {
 }
 
 impl<T: Copy> PerSlot<T> {
-    /// `values`, if there are three or four.
+    /// Wraps `values`; `None` if there aren't three or four.
     pub fn new(values: &[T]) -> Option<Self>
         ensures exists { IsSome result ↔ ((length values.now ≡ 3) ⊎ (length values.now ≡ 4)) }
         ensures value { IfSome result (λ slots. slots ≡ values.now) }

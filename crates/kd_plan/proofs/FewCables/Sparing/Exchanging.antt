@@ -73,7 +73,7 @@ cond-exchanged : (p q : Bool)
     ≤ cond (exactly_one false q) 1 0 + cond (exactly_one p false) 1 0
 cond-exchanged p q = grind arith
 
--- It costs no more if the other cable becomes the pair, and the spare cable the column without a pair.
+-- Two cables cost no more after the exchange: `cable` becomes the pair, and `spare` the column without a pair.
 cable_cost-exchanged : (spare cable : Cable) (column : Column) → is_spare spare ≡ true
     → cable_cost spare None + cable_cost cable column ≤ cable_cost spare column + cable_cost cable None
 cable_cost-exchanged (None, None) cable column h =
