@@ -24,7 +24,7 @@ pub enum FormFault {
     EmptyText,
     /// The text needs `needed` parts, and the order has `given` lines of keys.
     PartKeys { needed: usize, given: usize },
-    /// An external letter isn't on its wheel.
+    /// A letter that the message gives for a wheel (an external letter) isn't on this wheel.
     KeyNotOnWheel,
     /// The part's group isn't one of the day's; on the Converter M-209, its list letters aren't the day's.
     WrongGroup(u8),

@@ -122,7 +122,7 @@ cable_without letter cable = if option_map_or (nat_eq letter) cable.0 false then
 abbrev pub cable_with : ℕ → Option ℕ × Option ℕ → Option ℕ × Option ℕ
 cable_with letter cable = cable_in_order (option_or cable.0 cable.1) (Some letter)
 
--- what a slot that holds `seated` holds after `wheel` was taken out of the machine
+-- what a slot with `seated` in it has after `wheel` was taken out of the machine
 abbrev pub seat_without : Wheel → Option Wheel → Option Wheel
 seat_without wheel seated = if option_map_or (same_wheel wheel) seated false then None else seated
 

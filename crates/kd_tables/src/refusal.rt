@@ -74,7 +74,7 @@ pub enum Refusal {
     EmptyText,
     /// An order has too few or too many lines of keys. The text has the number needed, then the number found.
     PartKeys,
-    /// An external letter isn't on its wheel.
+    /// A letter that a message gives for a wheel (an external letter) isn't on this wheel.
     KeyNotOnWheel,
     /// A part's group isn't one of the day's. On the Converter M-209: the part's key list isn't the day's.
     WrongGroup,
