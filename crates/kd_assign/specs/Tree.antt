@@ -57,9 +57,9 @@ module _ (n : ℕ) (cost : List (List ℕ)) (prices : List ℤ) (holders : List 
     pub same : (j : ℕ) → has_column reached j ≡ false → slice_index_or plan j None ≡ slice_index_or holders j None
     pub taken : (j : ℕ) → is_some (slice_index_or plan j None) ≡ is_some (slice_index_or holders j None)
 
-  -- Each column of the tree is taken, and no column outside the tree has less room (ceiling less price). Each column
-  -- outside is, at the ceilings, the cheapest column for its nearest row. For each nearest row, `plans` has an
-  -- assignment that gives a column to each row from 0 to `root`, except this nearest row.
+  -- Each column of the tree is taken. A column outside the tree has at least as much room (its ceiling minus its
+  -- price) as each column of the tree. At the ceilings, each column outside is the cheapest one for its nearest row.
+  -- For each nearest row, `plans` has an assignment that gives a column to all other rows from 0 to `root`.
   pub record IsGrownTree (near : List ℕ) (plans : List (List (Option ℕ))) : Type 0 where
     pub places : length reached ≡ n
     pub plan_places : length plans ≡ n

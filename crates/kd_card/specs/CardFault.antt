@@ -140,7 +140,8 @@ pub data EndsGroup (word bytes : List ℕ) : Type 0 where
   AtNothing : bytes ≡ [] → EndsGroup word bytes
   AtOther : (other : List ℕ) → BeginsWithWord other bytes → other ≢ word → EndsGroup word bytes
 
--- The first line of `bytes` is the line of `kind`, which comes after the kind `last`, and `rest` follows.
+-- The first line of `bytes` is the line of `kind`, and `rest` follows that line. If there is a kind `last`, `kind`
+-- comes after it in the order of kinds.
 pub record IsNextKind {K X : Type 0} (sort : Sort K X) (last : Option K) (bytes : List ℕ) (kind : K) (rest : List ℕ)
     : Type 0 where
   pub good : IsKind sort kind

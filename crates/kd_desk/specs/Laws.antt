@@ -37,7 +37,7 @@ LeadsOrRefuses =
 -- ---- The laws of a month: its cards set the machine to each day, by the fewest settings in all on a rotor
 -- machine.
 
--- Cards and files that are written for one day after another set the machine to each day.
+-- If cards and files are written for days in turn, they set the machine to each of these days in turn.
 abbrev pub MonthsSetTheMachine : Type 0
 MonthsSetTheMachine =
     (file sheet numbers : List ℕ) (papers : List Papers) → AreWrittenInTurn file sheet numbers papers
