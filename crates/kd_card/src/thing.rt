@@ -6,7 +6,7 @@ use std::marker::Model;
 
 /// What equal cables, columns, bars or rows have in common: letters, a pair, a standing or a reading.
 ///
-/// Things have the same order as the lines of their kinds on a card.
+/// The law `ordered` of `Kind` says that things have the same order as the lines of their kinds on a card.
 pub trait Thing: Copy + Default + Ord {
     ghost use Rattle.std.specs.Prelude.{◌≡◌};
     ghost use Rattle.std.specs.declared.cmp.Ordering.TheVariants.{Equal};
@@ -36,7 +36,9 @@ impl Model for Ends {
 
 /// By default, a cable has no letters.
 impl Default for Ends {
-    ghost is_default = { λ _. Unit {0} };
+    ghost use Rattle.std.specs.Prelude.{◌≡◌, None};
+
+    ghost is_default = { λ ends. ends ≡ (None, None) };
 
     fn default() -> Self {
         Ends::new((None, None))
@@ -85,7 +87,9 @@ impl Model for Column {
 
 /// By default, a column is a nothing.
 impl Default for Column {
-    ghost is_default = { λ _. Unit {0} };
+    ghost use Rattle.std.specs.Prelude.{◌≡◌, None};
+
+    ghost is_default = { λ column. column ≡ None };
 
     fn default() -> Self {
         Column::new(None)

@@ -96,6 +96,20 @@ IsByNumberAnswer m s settings prices = do
   _ ← Demands (price_sum prices ≡ pos (priced_count settings)) SumDiffers
   IsNeededAnswer m s settings
 
+-- Checking the settings of a card by its prices has this result: the card proves itself, or the first doubt
+-- about it. On a card by kind, where equal things share one price, the price of each thing is found first.
+abbrev pub IsCheckedAnswer : Parts → Day → List Setting → PriceParts → AnswerRule Doubt (Unit {0})
+IsCheckedAnswer m s settings prices = do
+  _ ← Demands (AreOfOneModel m s prices) OtherModel
+  numbered ← Finds (λ numbered. Expands m s prices numbered) PriceMissing
+  IsByNumberAnswer m s settings numbered
+
+-- `doubt` is the first doubt about the card that has these settings and prices.
+abbrev pub IsDoubt : Parts → Day → List Setting → PriceParts → Doubt → Type 0
+IsDoubt m s settings prices doubt = IsCheckedAnswer m s settings prices (Err doubt)
+
+-- ---- The steps of finding the first doubt. No public contract cites these definitions.
+
 -- Checking the settings by the lists of prices for `number` rows and as many columns of the table of costs has this
 -- result: success, if the settings lead to the day and the prices prove that no list that does is shorter; or the
 -- first doubt.
@@ -111,15 +125,3 @@ abbrev pub IsByKindAnswer : Parts → Day → List Setting → ℕ → (List ℤ
 IsByKindAnswer m s settings number AreOfRows AreOfColumns = do
   found ← Finds (λ (found : List ℤ × List ℤ). AreOfRows found.0 × AreOfColumns found.1) PriceMissing
   IsByPricesAnswer m s settings number found.0 found.1
-
--- Checking the settings of a card by its prices has this result: the card proves itself, or the first doubt
--- about it. On a card by kind, where equal things share one price, the price of each thing is found first.
-abbrev pub IsCheckedAnswer : Parts → Day → List Setting → PriceParts → AnswerRule Doubt (Unit {0})
-IsCheckedAnswer m s settings prices = do
-  _ ← Demands (AreOfOneModel m s prices) OtherModel
-  numbered ← Finds (λ numbered. Expands m s prices numbered) PriceMissing
-  IsByNumberAnswer m s settings numbered
-
--- `doubt` is the first doubt about the card that has these settings and prices.
-abbrev pub IsDoubt : Parts → Day → List Setting → PriceParts → Doubt → Type 0
-IsDoubt m s settings prices doubt = IsCheckedAnswer m s settings prices (Err doubt)
