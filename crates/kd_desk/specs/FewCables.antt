@@ -1,5 +1,5 @@
--- How many cables a month needs: a machine that uses only its first cables needs no others, if no day has more
--- pairs than these cables.
+-- How many cables a month needs: if no day has more than `number` pairs, and a machine uses only its first `number`
+-- cables, the machine needs no others.
 use Rattle.std.specs.Prelude.{◌≡◌, ℕ, List, Option, Some, Ok, All}
 use Rattle.kd_state.specs.declared.machine.parts.Parts.{Parts}
 use Rattle.kd_state.specs.declared.setting.Setting.{Setting}

@@ -36,7 +36,7 @@ bytes_in_files files name = option_map (λ file. file.1.now) (find (λ file. byt
 abbrev pub AgreesOrNoMemory : {X : Type 0} → Result X FileFault → Result X FileFault → Type 0
 AgreesOrNoMemory meant answer = (answer ≡ meant) ⊎ (answer ≡ Err NoMemory)
 
--- `answer` is `meant`, once the opened file in `answer` is replaced by what `known` says of the file.
+-- `answer` is `meant`, once `known` is applied to the opened file in `answer`.
 abbrev pub IsOpenAnswer : {O : Type 0} → Result KnownFile FileFault → (O → KnownFile) → Result O FileFault → Type 0
 IsOpenAnswer meant known answer = result_map_both known (λ fault. fault) answer ≡ meant
 

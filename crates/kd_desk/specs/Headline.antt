@@ -28,7 +28,7 @@ pub record AreEquallySet (s : Day) (one other : Parts) : Type 0 where
   pub other_on_key : OnKey other s
   pub letters : window_of one ≡ window_of other
 
--- A machine deciphers what a machine that is equally set has enciphered.
+-- A machine deciphers what another, equally set machine has enciphered.
 abbrev pub EquallySetDecipherOn : Day → Type 0
 EquallySetDecipherOn s =
     (one other : Parts) (text : List ℕ) → AreEquallySet s one other → All (λ letter. letter < 26) text

@@ -15,13 +15,13 @@ use Rattle.kd_desk.specs.declared.fault.DeskFault.{DeskFault}
 use Rattle.kd_desk.specs.declared.fault.DeskFault.TheVariants as faults
 use Rattle.kd_tables.specs.Ports.{Port}
 
--- the desk's fault for the fault of a message; a failed device and too many bytes are the desk's own faults
+-- the desk's fault for a message's fault: `Device` and `ReadTooLong` stay, any other becomes a `Message`
 abbrev pub fault_of_message : FormFault → DeskFault
 fault_of_message message.Device = faults.Device
 fault_of_message message.ReadTooLong = faults.ReadTooLong
 fault_of_message fault = faults.Message fault
 
--- the desk's answer, from the answer of the call that typed, sent or received the message
+-- the desk's answer for the answer of the call that typed, sent or received a message
 abbrev pub answer_to_message : Result (Unit {0}) FormFault → Result (Unit {0}) DeskFault
 answer_to_message answer = result_map_both (λ done. done) fault_of_message answer
 
@@ -45,9 +45,9 @@ IsStreamedOn m s message source sink answer = IsAnswered (StreamsOnKey m s messa
 abbrev pub Sends : Parts → Day → Port → Port → Result (Unit {0}) DeskFault → Type 0
 Sends m s order sink answer = IsStreamedOn m s (order_message s) order sink answer
 
--- How forms and orders agree on the day `s`. If a form is an order's form, the form's text is the text to which it
--- has to be deciphered. If a form has a fault, it is the form of no order. If the fault stands, no longer form that
--- begins with this form is the form of an order either.
+-- How forms and orders agree on the day `s`. If a form is an order's form, the form's text is the text that
+-- `IsPlaintextOf` says. If a form has a fault, it is the form of no order. If the fault stays whatever bytes
+-- follow, no longer form that begins with this form is the form of an order either.
 pub record TellOfOrders (s : Day) : Type 0 where
   pub back : (form text order given : List ℕ) → IsTextOf s form text → IsFormOf s order form
       → IsPlaintextOf s order given → text ≡ given

@@ -26,7 +26,7 @@ pub record Papers : Type 0 where
   pub card : List ℕ
   pub file : List ℕ
 
--- a sink that has taken exactly `text`; the next definition is the answer of a call without a fault
+-- a sink that was empty before a call, and has taken exactly `text` in the call
 abbrev pub sink_with : List ℕ → Port
 sink_with text = record { had = Some []; has = Some text; had_failed = false; has_failed = false }
 
@@ -77,7 +77,7 @@ SetTheMachineInTurn file sheet numbers papers = ⊥
 abbrev pub AreDaysOf : List (Option Day) → List ℕ → List Day → Type 0
 AreDaysOf month numbers days = AllZip (λ number s. day_of month number ≡ Some s) numbers days
 
--- `cards` are the settings of the cards in the papers, card by card.
+-- For each of the papers, `cards` has the settings of the card.
 abbrev pub AreCardsOf : List Papers → List (List Setting) → Type 0
 AreCardsOf papers cards = AllZip (λ paper settings. AreSettings paper.card settings) papers cards
 

@@ -80,14 +80,14 @@ pub record AppliesTo (machine list : List ℕ) (sink : Port) (answer : Result (U
   pub refused : IfErr (machine_of machine) (λ fault. AnswersFault answer (File fault))
   pub applied : IfOk (machine_of machine) (λ m. Applies m list sink answer ⊎ LacksMemory answer)
 
--- What a task does with a machine and a day. The message's file is read like a source.
+-- What a task does with a machine and a day. An order or a form is a port that is read.
 abbrev pub DoesTask : Task (List ℕ) Port → ℕ → Port → Result (Unit {0}) DeskFault → Parts → Day → Type 0
 DoesTask tasks.Card number sink answer m s = Prints m s number sink answer
 DoesTask (tasks.Check card) number sink answer m s = Checks m s number card sink answer
 DoesTask (tasks.Message Send order) number sink answer m s = Sends m s order sink answer
 DoesTask (tasks.Message Receive form) number sink answer m s = Receives m s form sink answer
 
--- What an action does with the machine of a machine file. Only typing reads the source.
+-- What an action does with the machine of a machine file. Only `Type` reads `source`.
 abbrev pub DoesAction : List ℕ → Action (List ℕ) Port → Port → Port → Result (Unit {0}) DeskFault → Type 0
 DoesAction machine actions.Type source sink answer = TypesOn machine source sink answer
 DoesAction machine (actions.Apply list) source sink answer = AppliesTo machine list sink answer × IsUntouched source

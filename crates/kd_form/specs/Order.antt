@@ -17,7 +17,7 @@ IsLineWithEnd line bytes = (bytes ≡ line ++ 10 ∷ []) ⊎ (bytes ≡ line ++ 
 abbrev pub IsKeyLine : Keys → List ℕ → Type 0
 IsKeyLine keys bytes = IsLineWithEnd (line_of (key_words keys)) bytes
 
--- `bytes` begin with a line for each of `keys`, which are for the day's model. The rest satisfies `Holds`.
+-- `bytes` begin with a line for each of `keys`, all for the day's model. The bytes after them satisfy `Holds`.
 abbrev pub BeginsWithKeys : Day → List Keys → (List ℕ → Type 0) → List ℕ → Type 0
 BeginsWithKeys s [] Holds bytes = Holds bytes
 BeginsWithKeys s (keys ∷ more) Holds bytes =

@@ -36,7 +36,7 @@ pub record IsPartRead (s : Day) (number parts : ℕ) (part text : List ℕ) : Ty
   pub allowed : All (λ b. IsTrue (is_text_byte b)) body
   pub read : IsBodyAnswer s number heading (letters_from None body) (Ok text)
 
--- `parts` is the expected number of parts, if a number is expected yet.
+-- `parts` is the number of parts that an earlier heading has given, if there is an earlier heading.
 abbrev pub IsExpectedCount : Option ℕ → ℕ → Type 0
 IsExpectedCount None parts = Unit {0}
 IsExpectedCount (Some first) parts = first ≡ parts

@@ -23,8 +23,7 @@ abbrev pub blank_of : Day → Option ℕ
 blank_of (OfRotors s) = None
 blank_of (OfPins s) = Some 25
 
--- the letter that a byte of a text gives: a capital letter gives itself, a space gives `blank`, other bytes give
--- none
+-- the letter that a byte gives: a capital letter gives itself, a space gives `blank`, other bytes give none
 abbrev pub letter_of_byte : Option ℕ → ℕ → Option ℕ
 letter_of_byte blank byte = if is_capital byte then Some (byte - 65) else if byte == 32 then blank else None
 
@@ -71,8 +70,8 @@ pub record IsFirstKeysFault (s : Day) (keys : List Keys) (fault : FormFault) : T
   pub suited : All (KeysSuitDay s) before
   pub is : IsKeysFault s (length before + 1) unsuited fault
 
--- The order has a whole head, its keys suit the day, and each byte of its text is allowed. So the order has no
--- fault for good.
+-- The order has a whole head, its keys suit the day, and each byte of its text is allowed. So there is no
+-- `IsOrderFaultForGood`.
 pub record IsSendable (s : Day) (order : List ℕ) (keys : List Keys) (head text : List ℕ) : Type 0 where
   pub is_order : IsOrder s order keys head text
   pub suited : All (KeysSuitDay s) keys

@@ -22,8 +22,7 @@ pub record HasRoom (m : Message) (holds : List ℕ → List ℕ → Type 0) (roo
   pub held : HasReadSoFar m holds bytes text
   pub within : length bytes + room < 2 ^ 63
 
--- The reader, of which `old` holds, reads `byte` and outputs `made`, and then `new` holds. Or a fault stands once
--- `byte` is read.
+-- The reader, of which `old` holds, reads `byte` and outputs `made`; then `new` holds. Or a fault stands.
 abbrev pub IsFeedAnswer : Message → (List ℕ → List ℕ → Type 0) → (List ℕ → List ℕ → Type 0) → ℕ → List ℕ
     → Result (Unit {0}) FormFault → Type 0
 IsFeedAnswer m old new byte made answer =
@@ -116,8 +115,8 @@ pub data IsReadStopped (m : Message) (new : List ℕ → List ℕ → Type 0) (s
       → sink.has_failed ≡ (sink.had_failed || is_device_interruption {T = Unit {0}} (Err stop))
       → IsReadStopped m new source sink read text stop
 
--- `count` bytes were taken from the source and read, and `count` is 0 only at the source's end. Or the reading
--- stopped.
+-- `count` bytes were taken from the source and fed to the reader; `count` is 0 only at the source's end. Or an
+-- interruption came.
 abbrev pub HasBeenRead : Message → (List ℕ → List ℕ → Type 0) → Port → Port → List ℕ → List ℕ → List ℕ
     → Result ℕ Interruption
     → Type 0

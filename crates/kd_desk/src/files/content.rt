@@ -8,7 +8,7 @@ use kd_tables::{READ_LIMIT, Source};
 use std::alloc::Global;
 use std::marker::Model;
 
-/// How many bytes are read at once, at most.
+/// The largest number of bytes that are read at once.
 const CHUNK: usize = 4096;
 
 /// The bytes of a file, at most 1,048,576.

@@ -13,7 +13,7 @@ use arrayvec::ArrayVec;
 use kd_state::SheetDay;
 use kd_tables::Sink;
 
-/// How many bytes are read at once, at most.
+/// The largest number of bytes that are read at once.
 pub(crate) const CHUNK: usize = 4096;
 
 /// A reader of one kind of message, chunk by chunk, which works with a day or a machine as its context.
