@@ -12,7 +12,7 @@ use kd_state::SheetDay;
 
 /// Checks that the keys of all parts suit the day; otherwise returns the fault of the first part whose keys don't.
 ///
-/// Not inlined: otherwise every byte read would pay for this frame.
+/// Not inlined: otherwise every byte read would pay for this function's stack frame.
 #[inline(never)]
 #[tactic(auto, using(crate::proofs::Prelude::err_is, crate::proofs::Lines::is_first_keys_fault))]
 pub(crate) fn check_keys(day: &SheetDay, keys: &[Keys]) -> Result<(), FormFault>

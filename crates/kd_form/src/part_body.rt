@@ -76,7 +76,7 @@ impl PartBody {
 
     /// Deciphers the body into `output`, without the last `others` letters, which are part of the next heading.
     ///
-    /// Not inlined: otherwise every byte read would pay for this frame.
+    /// Not inlined: otherwise every byte read would pay for this function's stack frame.
     #[inline(never)]
     pub(crate) fn decipher_into(
         &self,

@@ -1,5 +1,5 @@
--- How a TOML document is read: its table, and the values in its table. Each step gives a value or a fault. The
--- steps of a `do` run in order, and the first fault is the result of the whole `do`.
+-- How the values in a TOML document are read. Each step gives a value or a fault. The steps of a `do` run in order,
+-- and the first fault is the result of the whole `do`.
 -- Source: TOML 1.1, toml.io
 -- Code: the library `toml` parses the document, and `?` returns the first fault.
 -- Test: kd_trials/src/sheet/files.rt, kd_trials/src/sheet/faults.rt

@@ -100,7 +100,7 @@ unfoldable pub model_day_in : ℕ → Model → Members → Result Day SheetFaul
 model_day_in number M209 table = pin_day_in number table
 model_day_in number model table = rotor_day_in number model table
 
--- The day that `table` describes, or the first fault. It is `DayTwice` if one of `days` has the same number.
+-- The day that `table` describes, or the first fault. The fault is `DayTwice` if one of `days` has the same number.
 unfoldable pub day_in : List Day → Members → Result Day SheetFault
 day_in days table = do
   number ← new_number_in days table

@@ -39,7 +39,7 @@ fn push_letters_line(text: &mut FileText, key: Key, letters: &[Letter])
     push_text_line(text, key, letters_text(letters).as_str());
 }
 
-/// Appends each of `letters` whose pin is effective, by the flag at the same place in `pins`.
+/// Appends each of `letters` whose pin, at the same place in `pins`, is effective.
 fn push_pin_letters(text: &mut Item, letters: &[Letter], pins: &[bool])
     requires room { array_string_len text.old + length letters.now ≤ 32 }
     requires pins { length pins.now ≡ length letters.now }

@@ -54,7 +54,7 @@ impl HeadReader {
 
     /// Takes the next byte of the head.
     ///
-    /// Not inlined: otherwise every byte read would pay for this frame.
+    /// Not inlined: otherwise every byte read would pay for this function's stack frame.
     #[inline(never)]
     #[tactic(auto, using(crate::proofs::OrderSteps::line_short))]
     pub(crate) fn take(&mut self, day: &SheetDay, byte: u8) -> HeadStep
