@@ -1,5 +1,4 @@
--- Patterns of lines: `_` stands for any capital letter, each other byte for itself. No public contract cites this
--- file.
+-- Patterns of lines: `_` means any capital letter, other bytes themselves. No public contract cites this file.
 use Rattle.std.specs.Prelude.{◌≡◌, ℕ, ◌+◌, ◌-◌, ◌==◌, ◌++◌, ◌&&◌, nat_le, Bool, List, [], ◌∷◌, drop, slice_index}
 use Rattle.std.specs.Prelude.{if◌then◌else◌}
 use Rattle.kd_state.specs.Machine.{AreLetters}
