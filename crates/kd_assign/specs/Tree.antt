@@ -27,8 +27,8 @@ pub record IsNearest (n : ℕ) (prices : List ℤ) (reached : List Bool) (ceilin
   pub least : (j : ℕ) → j < n → has_column reached j ≡ false → room_at ceilings prices end ≤ℤ room_at ceilings prices j
 
 -- A column was compared with `row`, which offers the price `offer` for it. A column outside the tree keeps the
--- lower of `ceiling` and `offer`, and the row that offers this price. A column of the tree keeps its ceiling and its
--- row.
+-- lower of `ceiling` and `offer`, and the row that offers this price. A column of the tree keeps its ceiling and
+-- its row.
 pub record IsCompared (reached : Bool) (row : ℕ) (offer : ℤ) (near : ℕ) (ceiling : ℤ)
     (near' : ℕ) (ceiling' : ℤ) : Type 0 where
   pub one : ((near' ≡ near) × (ceiling' ≡ ceiling)) ⊎ ((reached ≡ false) × (near' ≡ row) × (ceiling' ≡ offer))
@@ -44,9 +44,9 @@ pub record AreCompared (n : ℕ) (cost : List (List ℕ)) (reached : List Bool) 
 
 module _ (n : ℕ) (cost : List (List ℕ)) (prices : List ℤ) (holders : List (Option ℕ)) (root : ℕ) (reached : List Bool)
     (ceilings : List ℤ) where
-  -- `plan` gives a column to each row from 0 to `root`, except row `out`. If a row has a column of the tree, this is
-  -- its cheapest column at the ceilings. `plan` and `holders` take the same columns, and give each column outside
-  -- the tree to the same row.
+  -- `plan` gives a column to each row from 0 to `root`, except row `out`. If a row has a column of the tree, this
+  -- is its cheapest column at the ceilings. `plan` and `holders` take the same columns, and give each column
+  -- outside the tree to the same row.
   pub record IsAssignmentWithout (plan : List (Option ℕ)) (out : ℕ) : Type 0 where
     pub places : length plan ≡ n
     pub out_in_range : out < n
@@ -58,8 +58,8 @@ module _ (n : ℕ) (cost : List (List ℕ)) (prices : List ℤ) (holders : List 
     pub taken : (j : ℕ) → is_some (slice_index_or plan j None) ≡ is_some (slice_index_or holders j None)
 
   -- Each column of the tree is taken. A column outside the tree has at least as much room (its ceiling minus its
-  -- price) as each column of the tree. At the ceilings, each column outside is the cheapest one for its nearest row.
-  -- For each nearest row, `plans` has an assignment that gives a column to all other rows from 0 to `root`.
+  -- price) as each column of the tree. At the ceilings, each column outside is the cheapest one for its nearest
+  -- row. For each nearest row, `plans` has an assignment that gives a column to all other rows from 0 to `root`.
   pub record IsGrownTree (near : List ℕ) (plans : List (List (Option ℕ))) : Type 0 where
     pub places : length reached ≡ n
     pub plan_places : length plans ≡ n

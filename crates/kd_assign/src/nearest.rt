@@ -87,8 +87,8 @@ impl<const N: usize> Nearest<N> {
 
     /// The level of `row`, which joins the tree together with `column`, the column that it holds.
     ///
-    /// The price that a row offers for a column is its level plus its cost there. For the column that it holds, this
-    /// is the column's ceiling.
+    /// The price that a row offers for a column is its level plus its cost there. For the column that it holds,
+    /// this is the column's ceiling.
     pub fn level(&self, cost: &[[u8; N]; N], row: usize, column: usize) -> i16
         requires row { row < N }
         requires column { column < N }
