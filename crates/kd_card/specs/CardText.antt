@@ -39,8 +39,7 @@ pub record IsGroup {K X : Type 0} (sort : Sort K X) (number : ℕ) (kinds : List
   pub in_order : AreKinds sort None kinds
   pub count : counted sort kinds ≡ number
 
--- the second word of a card's first line: 1 if each cable, pair, bar or row has its own price, 2 if each kind has
--- one
+-- the second word of a card's first line: 1 if each cable, pair, bar or row has a price, 2 if each kind has one
 abbrev pub version_text : Version → List ℕ
 version_text ByNumber = codes "1"
 version_text ByKind = codes "2"
@@ -64,8 +63,7 @@ sum_words sum = codes "SUM" ∷ signed_decimal sum ∷ []
 abbrev pub lines_text : List (List (List ℕ)) → List ℕ
 lines_text lines = flat_map (λ words. line_of words ++ 10 ∷ []) lines
 
--- the words of each price line: two lines if each cable, pair, bar or row has its own price, else a line for each
--- kind
+-- the words of each price line: two lines if each cable, pair, bar or row has a price, else one for each kind
 abbrev pub price_lines : PriceParts → List (List (List ℕ))
 price_lines (Cables row col) = price_words (row_word OfCables) row ∷ price_words (column_word OfCables) col ∷ []
 price_lines (Bars row col) = price_words (row_word OfBars) row ∷ price_words (column_word OfBars) col ∷ []

@@ -155,8 +155,8 @@ prices_of_kinds sort kinds = flat_map (λ k. replicate (sort.kind k).count (sort
 abbrev pub expansion : {X : Type 0} → List (KindOf X) → List (X × ℤ)
 expansion kinds = flat_map (λ kind. replicate kind.count (kind.thing, kind.price)) kinds
 
--- The kinds are those of `things` with `prices`: their `expansion`, which has each kind as many times as its count
--- says, is a permutation of the things with their prices.
+-- The kinds are those of `things` with `prices`: listing each kind as many times as its count says gives the things
+-- with their prices, in some order.
 -- Code: `kinds_of` sorts things with their prices and counts equal things; `prices_of` looks for each thing's kind
 -- and compares the counts. Neither makes the `expansion`.
 pub record AreKindsOf {K X : Type 0} (sort : Sort K X) (things : List X) (prices : List ℤ) (kinds : List K) : Type 0
