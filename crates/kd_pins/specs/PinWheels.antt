@@ -14,7 +14,7 @@ pin_wheels = range_with_len 1 6
 abbrev pub acting_offset : ℕ → ℕ
 acting_offset wheel = slice_index (15 ∷ 14 ∷ 13 ∷ 12 ∷ 11 ∷ 10 ∷ []) (wheel - 1)
 
--- how many letters a wheel has; it has as many pins
+-- the number of letters on a wheel, which is also its number of pins
 abbrev pub pin_wheel_size : ℕ → ℕ
 pin_wheel_size wheel = length (ring_of wheel)
 

@@ -11,9 +11,9 @@ use std::marker::Model;
 pub struct Stepper<const S: usize> {
     wheels: [Wheel; S],
     window: [Letter; S],
-    /// The notches of the middle wheel, by the letter in its window.
+    /// Whether the middle wheel is at a notch, for each letter in its window.
     middle: [bool; 26],
-    /// The notches of the right wheel, by the letter in its window.
+    /// Whether the right wheel is at a notch, for each letter in its window.
     right: [bool; 26],
 }
 
