@@ -8,7 +8,7 @@ pub record IsScanCount (n scans : ℕ) : Type 0 where
 
 -- ---- Tree by tree. No public contract cites these definitions.
 
--- the number of comparisons for a tree of `rows` rows: `n` for the first row, and one less for each next row
+-- the number of comparisons for a tree of `rows` rows: `n` for the first row, `n - 1` for the second row, and so on
 abbrev pub scans_of_tree : ℕ → ℕ → ℕ
 scans_of_tree n zero = 0
 scans_of_tree n (suc rows) = scans_of_tree n rows + (n - rows)

@@ -59,7 +59,7 @@ price_words word prices = word ∷ map signed_decimal prices
 abbrev pub sum_words : ℤ → List (List ℕ)
 sum_words sum = codes "SUM" ∷ signed_decimal sum ∷ []
 
--- the text of lines, each given by its words: a space between two words, and LF at the end of each line
+-- the text of `lines`: for each line, its words with a space between two words, and then LF
 abbrev pub lines_text : List (List (List ℕ)) → List ℕ
 lines_text lines = flat_map (λ words. line_of words ++ 10 ∷ []) lines
 

@@ -51,8 +51,8 @@ ProvingCardsAreShortest =
     → ArePrices prices → Proves m s settings prices
     → IsShortest m s settings
 
--- If a card proves itself by number, no price can be raised alone: each row and each column of the table of costs
--- has a cell where the prices of row and column add up to the cost.
+-- If a card with a price for each cable and column, or each bar and row, proves itself, no price can be raised
+-- alone: each row and each column of the table of costs has a cell where the two prices add up to the cost.
 abbrev pub ProvingPricesAreTight : Type 0
 ProvingPricesAreTight =
     (m : Parts) (s : Day) (settings : List Setting) (prices : PriceParts) → IsMachine m → IsLegalDay s

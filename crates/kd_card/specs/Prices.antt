@@ -9,22 +9,22 @@ use Rattle.kd_card.specs.declared.prices.Version.{Version}
 use Rattle.kd_card.specs.declared.prices.Version.TheVariants.{ByNumber, ByKind}
 use Rattle.kd_card.specs.Kinds.{cable_sort, pair_sort, bar_sort, row_sort, prices_of_kinds, AreKinds}
 
--- by number if each cable, pair, nothing, bar or row has its own price; by kind if each kind of them has one price
+-- whether prices are by number (one for each cable, pair, nothing, bar or row) or by kind (one for each kind)
 abbrev pub version_of : PriceParts → Version
 version_of (Cables row col) = ByNumber
 version_of (Bars row col) = ByNumber
 version_of (CableKinds row col) = ByKind
 version_of (BarKinds row col) = ByKind
 
--- a price for each row of the table of costs, which is a cable or a bar; kind after kind if prices are by kind
+-- a price for each row of the table of costs, a cable or a bar; if kinds have the prices, kind after kind
 abbrev pub row_prices : PriceParts → List ℤ
 row_prices (Cables row col) = row
 row_prices (Bars row col) = row
 row_prices (CableKinds row col) = prices_of_kinds cable_sort row.items
 row_prices (BarKinds row col) = prices_of_kinds bar_sort row.items
 
--- a price for each column of the table of costs, which is a pair, a nothing or a row of the sheet; kind after kind
--- if prices are by kind
+-- a price for each column of the table of costs, a pair, a nothing or a row of the sheet; if kinds have the prices,
+-- kind after kind
 abbrev pub column_prices : PriceParts → List ℤ
 column_prices (Cables row col) = col
 column_prices (Bars row col) = col
@@ -42,7 +42,7 @@ table_rows (BarKinds row col) = 27
 abbrev pub ArePricesInRange : List ℤ → Type 0
 ArePricesInRange prices = All (λ price. unsigned_abs price ≤ 9999) prices
 
--- If the prices are by kind, the kinds of rows and the kinds of columns are valid and strictly ascending.
+-- If each kind has a price, the kinds of rows and the kinds of columns are valid and strictly ascending.
 abbrev pub HaveKindsInOrder : PriceParts → Type 0
 HaveKindsInOrder (Cables row col) = Unit {0}
 HaveKindsInOrder (Bars row col) = Unit {0}

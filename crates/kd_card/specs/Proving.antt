@@ -19,8 +19,8 @@ use Rattle.kd_card.specs.declared.prices.Version.TheVariants.{ByNumber}
 use Rattle.kd_card.specs.Kinds.{cable_sort, pair_sort, bar_sort, row_sort, AreKindsOf}
 use Rattle.kd_card.specs.Prices.{version_of, price_sum, PricesFit, ArePrices}
 
--- The prices are by number, and for machines like `m`: if `m` is a rotor machine, each cable and column has a
--- price; if it is a Converter M-209, each bar and row has a price.
+-- Each cable and column has a price if the machine is a rotor machine. Each bar and row has a price if it is a
+-- Converter M-209.
 abbrev pub AreModelPrices : Parts → PriceParts → Type 0
 AreModelPrices (Rotor m) (Cables row col) = Unit {0}
 AreModelPrices (Pin m) (Bars row col) = Unit {0}
@@ -65,8 +65,8 @@ pair_in_order (Some pair) = Some (smaller_first pair.0 pair.1)
 abbrev pub columns_in_order : List (ℕ × ℕ) → List (Option (ℕ × ℕ))
 columns_in_order pairs = map pair_in_order (columns_of pairs)
 
--- The first prices are by kind, the second prices by number. The kinds are those of the machine's cables and the
--- day's columns, or of its bars and the day's rows, and each cable, column, bar or row has the price of its kind.
+-- The first prices belong to the kinds of the machine's cables and the day's columns, or of its bars and the day's
+-- rows. The second prices give each cable, column, bar or row the price of its kind.
 abbrev pub AreExpanded : Parts → Day → PriceParts → PriceParts → Type 0
 AreExpanded (Rotor m) (OfRotors s) (CableKinds row col) (Cables rows columns) =
     AreKindsOf cable_sort m.cables rows row.items × AreKindsOf pair_sort (columns_in_order s.pairs) columns col.items
@@ -74,8 +74,8 @@ AreExpanded (Pin m) (OfPins s) (BarKinds row col) (Bars rows columns) =
     AreKindsOf bar_sort m.bars rows row.items × AreKindsOf row_sort s.rows columns col.items
 AreExpanded _ _ _ _ = ⊥
 
--- `numbered` are the prices by number that `prices` stand for. If `prices` are by number, they are equal to
--- `numbered`. If they are by kind, `numbered` gives each cable, column, bar or row the price of its kind.
+-- `numbered` has a price for each cable and column, or each bar and row. If `prices` has these too, both are equal.
+-- If `prices` has a price for each kind, `numbered` gives each cable, column, bar or row the price of its kind.
 pub data Expands (m : Parts) (s : Day) (prices numbered : PriceParts) : Type 0 where
   Same : version_of prices ≡ ByNumber → prices ≡ numbered → Expands m s prices numbered
   Expanded : ArePrices prices → ArePrices numbered → AreExpanded m s prices numbered → Expands m s prices numbered
@@ -93,7 +93,7 @@ pub record ProvesByNumber (m : Parts) (s : Day) (settings : List Setting) (price
   pub sum : price_sum prices ≡ pos (priced_count settings)
   pub needed : AreSettingsNeeded m s settings
 
--- A card proves itself. Its prices may be by kind or by number; `numbered` are the same prices by number.
+-- A card proves itself. `numbered` has its prices, expanded to one for each cable and column, or each bar and row.
 pub record Proves (m : Parts) (s : Day) (settings : List Setting) (prices : PriceParts) : Type 0 where
   pub numbered : PriceParts
   pub expands : Expands m s prices numbered

@@ -17,7 +17,7 @@ words_after_first (Some text) = words_of text
 abbrev pub IsPriceText : List ℕ → Type 0
 IsPriceText word = (price : ℤ) × (unsigned_abs price ≤ 9999) × (signed_decimal price ≡ word)
 
--- the text of a card's first line before the day
+-- the text with which a card begins, before the day's number
 abbrev pub head_prefix : Version → List ℕ
 head_prefix ByNumber = codes "CARD 1 DAY "
 head_prefix ByKind = codes "CARD 2 DAY "

@@ -14,7 +14,7 @@ use arrayvec::{ArrayString, ArrayVec};
 use itoa::Buffer;
 use kd_state::{is_word, number_of_text, push_number, split_words};
 
-/// Parses a kind from `behind`: the text of its line after the first space, or `None` without a space.
+/// Parses a kind from `behind`: the text of its line after the first space, or `None` if the line has no space.
 #[tactic(auto, using(crate::proofs::Lines::words_in_place))]
 fn kind_behind<K: Kind>(behind: Option<&[u8]>) -> Option<K>
     ensures { let words = K.sort.word ∷ words_after_first (option_copied behind.entry) in

@@ -52,7 +52,7 @@ pub fn proving_cards_are_shortest()
     ensures { ProvingCardsAreShortest }
 {}
 
-/// If a card proves itself by number, none of its prices can be raised alone.
+/// If a card proves itself with a price for each cable and column, or bar and row, no price can be raised alone.
 ///
 /// Each row and each column of the table of costs has a cell where the prices of row and column add up to the cost.
 #[tactic(auto, using(crate::proofs::Shortest::proving_prices_are_tight))]

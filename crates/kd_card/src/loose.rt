@@ -46,7 +46,7 @@ fn loose_slots(slots: &[Option<Wheel>], wheels: &[SheetWheel]) -> usize
         .count()
 }
 
-/// 1 if the machine has another reflector than the day, otherwise 0.
+/// 1 if the machine's reflector `present` isn't the day's reflector `wanted`, otherwise 0.
 fn loose_reflector(present: Reflector, wanted: Reflector) -> usize
     ensures value { result ≡ one_unless (same_reflector present wanted) }
     ensures few { result ≤ 1 }

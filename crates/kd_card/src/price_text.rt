@@ -112,7 +112,7 @@ fn group_of_word(word: &[u8], version: Version) -> Option<Group>
     }
 }
 
-/// Parses `number` prices from `behind`: the text of line `line` after its first space, or `None` without a space.
+/// Parses `number` prices from `behind`: the text of line `line` after its first space, or `None` if it has none.
 pub(crate) fn prices_behind(
     behind: Option<&[u8]>,
     number: usize,

@@ -23,7 +23,7 @@ pub enum Version {
 }
 
 impl Version {
-    /// The text of a card's first line before the day.
+    /// The text with which a card begins, before the day's number.
     pub(crate) fn front(self) -> &'static str
         ensures value { result.now ≡ head_prefix self }
         ensures few { length result.now ≡ 11 }
@@ -35,7 +35,7 @@ impl Version {
     }
 }
 
-/// The prices of a card: one list for rows and one for columns of the table of costs, by number or by kind.
+/// The prices of a card: a list for the rows of the table of costs, and a list for its columns.
 #[derive(Drop)]
 pub enum PriceParts {
     /// A price for each cable, and for each pair or nothing.
@@ -242,7 +242,7 @@ fn are_within_reach(prices: &[i16]) -> bool
     prices.iter().all(|price| price.unsigned_abs() <= 9999)
 }
 
-/// Adds `prices` to `sum`.
+/// The sum of `sum` and all of `prices`.
 fn sum_onto(sum: i32, prices: &[i16]) -> i32
     requires reach { ArePricesInRange prices.now }
     requires few { length prices.now ≤ 27 }

@@ -1,4 +1,4 @@
-//! Laws on the definition of the Converter's cipher, independent of the code.
+//! Laws that follow from the definition of the Converter's cipher alone.
 ghost use Rattle.kd_drum.specs.Laws.{ConverterTwiceGivesBack, ConverterCipherInTurn, ConverterKeyInTurn};
 
 /// Enciphering twice with the same key gives the text back.

@@ -14,7 +14,7 @@ pub record TurnedWheel : Type 0 where
   pub pins : List Bool
   pub place : ℕ
 
--- The wheel has `size` places, with a different letter at each. The shown place and `offset` are below `size`.
+-- The wheel has `size` places, with a different letter at each. Its fields `place` and `offset` are below `size`.
 pub record IsWheel (size : ℕ) (wheel : TurnedWheel) : Type 0 where
   pub ring : IsRing size wheel.ring
   pub offset : wheel.offset < size
@@ -32,7 +32,7 @@ is_effective pins place = slice_index_or pins place false
 abbrev pub letter_shown : TurnedWheel → ℕ
 letter_shown wheel = slice_index wheel.ring wheel.place
 
--- whether the acting pin is effective
+-- whether the wheel's acting pin is effective
 abbrev pub is_acting_pin_effective : ℕ → TurnedWheel → Bool
 is_acting_pin_effective size wheel = is_effective wheel.pins (place_past size wheel.place wheel.offset)
 

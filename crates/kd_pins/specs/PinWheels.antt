@@ -6,7 +6,7 @@ use Rattle.std.specs.List.{range_with_len}
 use Rattle.kd_tables.specs.Rings.{ring_of}
 use Rattle.kd_pins.specs.declared.pin_set.PinSet.{PinSet}
 
--- the numbers of the wheels
+-- the numbers of the pin wheels, from 1 to 6
 abbrev pub pin_wheels : List ℕ
 pin_wheels = range_with_len 1 6
 

@@ -50,8 +50,8 @@ pub record IsFirstWithout (Holds : ℕ → ℕ → Type 0) (number row column : 
   pub here : ¬ (Holds row column)
   pub before : (i j : ℕ) → j < number → ComesBefore i j row column → Holds i j
 
--- The first cell, row by row, where the prices of row and column add up to more than the cost is in row `row` and
--- column `column`, counted from 0.
+-- Row `row` and column `column`, counted from 0, meet in the first cell, row by row, where their prices add up to
+-- more than the cost.
 abbrev pub IsFirstTooHigh : List (List ℕ) → PriceParts → ℕ → ℕ → Type 0
 IsFirstTooHigh costs prices row column = IsFirstWithout (PricesFitAt costs prices) (table_rows prices) row column
 

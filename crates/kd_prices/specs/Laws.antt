@@ -48,7 +48,8 @@ pub record AreEqualWhereAlike (m : Parts) (s : Day) (prices : PriceParts) : Type
       (place other : ℕ) → place < table_rows prices → other < table_rows prices → ReadAlike s place other
       → price_at (column_prices prices) place ≡ price_at (column_prices prices) other
 
--- If a card by number proves itself, equal cables, nothings, bars or rows have equal prices.
+-- If a card proves itself, and has a price for each cable and column, or each bar and row, equal cables, nothings,
+-- bars or rows have equal prices.
 abbrev pub AlikePricesAreEqual : Type 0
 AlikePricesAreEqual =
     (m : Parts) (s : Day) (settings : List Setting) (prices : PriceParts) → IsMachine m → IsLegalDay s

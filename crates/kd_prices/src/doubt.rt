@@ -14,7 +14,7 @@ pub enum Doubt {
     ///
     /// Cards for rotor machines have prices of cables, and cards for the Converter have prices of bars.
     OtherModel,
-    /// The card's prices are by kind, but its kinds or their counts aren't those of machine and day.
+    /// The card has a price for each kind, but its kinds or their counts aren't those of machine and day.
     PriceMissing,
     /// The machine refuses this line, for this reason, after the lines before it are carried out.
     IllegalAt(usize, Why),

@@ -8,11 +8,11 @@ use arrayvec::ArrayVec;
 use kd_card::{BarKind, CableKind, Card, PairKind, PriceParts, Prices, RowKind};
 use kd_state::{Machine, OneModel, SheetDay};
 
-/// Converts `card` to a card by kind: the settings stay, and each kind has the price that its members have.
+/// Converts `card` to a card where each kind has the price that its members have on `card`. The settings stay.
 ///
-/// `None` if machine and day are of different models, if the prices are for the other sort of machine, if `card` is
-/// by kind already, or if two equal cables, columns, bars or rows have different prices. If `card` proves itself
-/// and isn't by kind already, the result isn't `None`.
+/// `None` if machine and day are of different models, if the prices aren't for this machine, if `card` has one
+/// price for each kind already, or if two equal cables, columns, bars or rows have different prices. On a card that
+/// proves itself, equal cables, columns, bars or rows never have different prices.
 pub fn by_kind(machine: &Machine, day: &SheetDay, card: &Card) -> Option<Card>
     ensures some { IsSome result ↔ CanBeByKind machine.now day.now card.now.prices }
     ensures card { IfSome result (λ other. IsByKind machine.now day.now card.now other) }

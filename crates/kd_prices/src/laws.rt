@@ -12,7 +12,7 @@ pub fn rest_of_a_card_is_shortest()
     ensures { RestIsShortest }
 {}
 
-/// If a card by number proves itself, equal cables, nothings, bars or rows have equal prices.
+/// Equal cables, nothings, bars or rows have equal prices on a card that proves itself, though each has its own.
 ///
 /// Cables are equal if they have the same letters, bars if their lugs are at the same places, and rows of the
 /// sheet if they have the same reading. All nothings (columns without a pair) are equal.
