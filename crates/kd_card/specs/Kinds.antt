@@ -23,7 +23,7 @@ NumbersComeBefore x y = (x.0 < y.0) ⊎ ((x.0 ≡ y.0) × (x.1 < y.1))
 
 -- The order of cables is the dictionary order of their letters; a cable without a first letter comes last.
 -- `SecondComesBefore` compares the second letters.
--- Code: cables are compared by the derived order of `Ends`, which the law `ordered` of `Kind` proves equal.
+-- Code: cables are compared by the derived order of `Ends`; the law `ordered` of `Kind` proves both orders equal.
 abbrev pub SecondComesBefore : Option ℕ → Option ℕ → Type 0
 SecondComesBefore None None = ⊥
 SecondComesBefore None (Some other) = Unit {0}

@@ -120,8 +120,7 @@ fn find_wheel(wheels: &[SheetWheel], wheel: Wheel) -> Option<SheetWheel>
     wheels.iter().copied().find(|seated| wheel == seated.wheel)
 }
 
-/// The setting RING for the day's wheel `wanted`, or `None` if there is no wheel or its ring is at the day's
-/// letter.
+/// The setting RING for the day's wheel `wanted`, or `None` if this is `None` or its ring is at the day's letter.
 fn ring_line(machine: &Machine, wanted: Option<SheetWheel>) -> Option<Setting>
     ensures { result ≡ option_and_then (λ seated.
         let so = option_map_or (nat_eq seated.ring) (machine_ring machine.now seated.wheel) false in
