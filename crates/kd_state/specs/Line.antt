@@ -44,7 +44,7 @@ IsSettingInRange (Turn slot letter) = (slot < 2 ^ 8) × (letter < 26)
 IsSettingInRange (PinTo wheel letter effective) = (wheel < 2 ^ 8) × (letter < 26)
 IsSettingInRange (LugTo bar lug place) = bar < 2 ^ 8
 
--- `result` is the setting with these words, or `None` if no setting has them.
+-- The result is the setting whose line has these words, or `None` if no setting's line has them.
 abbrev pub IsSettingOfWords : List (List ℕ) → Option Setting → Type 0
 IsSettingOfWords words result =
     MatchOption result ((x : Setting) → IsSettingInRange x → setting_words x ≢ words)
@@ -67,7 +67,7 @@ pub record BeginsWithSettingLine (bytes : List ℕ) (x : Setting) (rest : List �
   pub line : bytes ≡ setting_line x ++ 10 ∷ rest
   pub in_range : IsSettingInRange x
 
--- The bytes don't begin with a setting's line and its LF.
+-- The bytes don't begin with the line of a setting and an LF.
 abbrev pub BeginsWithNoSetting : List ℕ → Type 0
 BeginsWithNoSetting bytes = (x : Setting) (rest : List ℕ) → IsSettingInRange x → bytes ≢ setting_line x ++ 10 ∷ rest
 

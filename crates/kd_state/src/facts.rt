@@ -50,7 +50,7 @@ pub(crate) fn learn_group_letters(groups: &[[Letter; 3]])
     }
 }
 
-/// Shows the prover that the numbers of each row are a reading's, as `IsReading` defines it.
+/// Shows the prover that each row satisfies `IsReading`.
 pub(crate) fn learn_readings(rows: &[Reading])
     ensures { All IsReading rows.now }
 {
@@ -98,7 +98,7 @@ pub(crate) fn learn_pins(pins: PinSet)
     prove!(pins.w1.len() == 26);
 }
 
-/// Shows the prover that the setting's number is below 256 and its letter below 26, if it has them.
+/// Shows the prover that a setting's number, if any, is below 256, and its letter, if any, below 26.
 pub(crate) fn learn_setting_range(setting: &Setting)
     ensures { IsSettingInRange setting.now }
 {

@@ -12,7 +12,7 @@ pub enum Lug {
     Right,
 }
 
-/// Applies the macro `$read`, which is `name_of` or `named`, to the table of lugs and their names.
+/// The names of lugs: finds a lug's name if `$read` is `name_of`, and the lug with a name if it is `named`.
 macro_rules! names {
     ($read:ident, $value:expr) => {
         $read!($value, {

@@ -28,7 +28,7 @@ pub enum Place {
     Six,
 }
 
-/// Applies a macro of `names` to the table of places and their names.
+/// The names of places: finds a place's name if `$read` is `name_of`, and the place with a name if it is `named`.
 macro_rules! names {
     ($read:ident, $value:expr) => {
         $read!($value, {

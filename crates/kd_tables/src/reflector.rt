@@ -20,7 +20,7 @@ pub enum Reflector {
     ThinC,
 }
 
-/// Applies the macro `$read`, which is `name_of` or `named`, to the table of reflectors and their names.
+/// The names of reflectors: finds a name if `$read` is `name_of`, and a reflector by its name if it is `named`.
 macro_rules! names {
     ($read:ident, $value:expr) => {
         $read!($value, {

@@ -46,7 +46,7 @@ impl Default for Standing {
 }
 
 impl Standing {
-    /// Makes a standing; `None` if the left lug's place isn't before the right lug's.
+    /// Makes a standing; `None` if the place `left` isn't to the left of the place `right`.
     pub fn new(left: Place, right: Place) -> Option<Self>
         ensures exists { IsSome result ↔ IsBefore left right }
         ensures value { IfSome result (λ standing. standing ≡ (left, right)) }
@@ -73,7 +73,7 @@ impl Standing {
         self.right
     }
 
-    /// What the bar reads as: the numbers of the two places.
+    /// The bar's reading: the numbers of the pin wheels at the bar's two lugs, 0 for a place without a wheel.
     pub fn reading(self) -> Reading
         ensures { result ≡ reading_of self.0 self.1 }
     {
@@ -102,7 +102,7 @@ impl Standing {
         Standing::from_names(&text[..dash], &text[dash + 1..])
     }
 
-    /// Parses the names of the two places.
+    /// Parses a standing from the names of its two places.
     fn from_names(left: &[u8], right: &[u8]) -> Option<Self>
         ensures { MatchOption result
             ((places : _) → IsBefore places.0 places.1 → ArePlaceNames places left.now right.now → ⊥)

@@ -4,7 +4,7 @@ ghost use Rattle.std.specs.Prelude.{◌≡◌, ◌⊎◌, ◌↔◌, ◌<◌, le
 use crate::numbered_items::set_item;
 use std::marker::Model;
 
-/// Five, eight or ten values: one for each wheel of a rotor machine's box, in box order.
+/// Five, eight or ten values: one for each wheel of a rotor machine's box, in the order of the box.
 #[derive(Clone, Copy)]
 pub struct PerWheel<T> {
     values: Wheels<T>,
@@ -48,7 +48,7 @@ impl<T: Copy> PerWheel<T> {
         Some(PerWheel { values })
     }
 
-    /// The values, in box order.
+    /// The values, in the order of the wheels in the box.
     pub fn as_slice(&self) -> &[T]
         ensures { result.now ≡ self.now }
     {
