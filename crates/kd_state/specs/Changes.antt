@@ -15,9 +15,8 @@ use Rattle.kd_state.specs.Machine.{cable_letters, model_of, machine_slot, machin
 use Rattle.kd_state.specs.Machine.{machine_letter, machine_cable, machine_pin, machine_pin_letter, machine_standing}
 use Rattle.kd_state.specs.Setting.{lug_place, other_lug, with_lug, HasLugsInOrder}
 
--- One thing of a machine that a setting can change. Numbers name slots, cables, bars, and the pin wheels whose
--- letters show. A wheel names its ring and its window letter. A pin is named by its pin wheel's number and its
--- letter.
+-- One thing of a machine that a setting can change, such as a slot or a ring. Slots, cables, pin wheels and bars
+-- are given by their numbers, and a pin by its pin wheel's number and its letter.
 pub data Thing : Type 0 where
   TheSlot : ℕ → Thing
   TheReflector : Thing

@@ -1,5 +1,5 @@
 -- How many settings it takes to give a cable a pair or a bar a row.
--- Code: a cable's cost is counted over the alphabet; for a bar, the one or two standings of the row are tried.
+-- Code: `cable_cost` goes through the alphabet; `bar_cost` tries the one or two standings that read as the row.
 -- Test: kd_trials/src/state/days.rt
 use Rattle.std.specs.Prelude.{ℕ, ◌+◌, ◌-◌, nat_eq, nat_lt, min, Bool, false, not, ◌&&◌, List, [], ◌∷◌, ◌++◌, length}
 use Rattle.std.specs.Prelude.{slice_index_or, map, filter, find, fold, zip, sum, count_by, replicate, Option, Some}
@@ -68,7 +68,7 @@ standing_across one other = if nat_lt (place_rank one) (place_rank other) then (
 abbrev pub bar_cost : Place × Place → ℕ × ℕ → ℕ
 bar_cost standing row = fold min 2 (map (lugs_moved standing) (standings_as row))
 
--- the first of the standings that read as the row and that need the fewest lugs to move
+-- of all standings that read as the row, the first that is reached by moving the fewest lugs
 abbrev pub nearest_standing : Place × Place → ℕ × ℕ → Option (Place × Place)
 nearest_standing standing row =
     find (λ other. nat_eq (lugs_moved standing other) (bar_cost standing row)) (standings_as row)

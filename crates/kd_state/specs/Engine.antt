@@ -1,4 +1,4 @@
--- The key of an engine, by the Enigma or the Converter in it. No public contract cites this file.
+-- The key to which an engine is set. No public contract cites this file.
 use Rattle.std.specs.Prelude.{◌≡◌, length}
 use Rattle.kd_state.specs.declared.engine.Mechanism.{Mechanism}
 use Rattle.kd_state.specs.declared.engine.Mechanism.TheVariants.{ThreeWheels, FourWheels, Drum}

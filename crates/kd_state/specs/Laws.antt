@@ -55,11 +55,11 @@ DaysWheelsHaveTheirPlaces = (model : Model) (wheels : List SheetWheel) → AreLe
 
 -- ---- The laws of settings: each is refused or has one result, which is just the change that the readers show.
 
--- After a setting, a machine's parts are still legal, and its cables' letters still in order.
+-- After a setting, a machine's parts are legal, and each cable's letters are in alphabetical order.
 abbrev pub SettingsKeepMachines : Type 0
 SettingsKeepMachines = (m n : Parts) (x : Setting) → IsMachine m → IsSettingInRange x → Carries m x n → IsMachine n
 
--- After a list of settings, a machine's parts are still legal, and its cables' letters still in order.
+-- After a list of settings, a machine's parts are legal, and each cable's letters are in alphabetical order.
 abbrev pub ListsKeepMachines : Type 0
 ListsKeepMachines = (m n : Parts) (xs : List Setting) → IsMachine m → All IsSettingInRange xs → Leads m xs n
     → IsMachine n
@@ -82,7 +82,7 @@ LeadsToOne = (m n o : Parts) (xs : List Setting) → Leads m xs n → Leads m xs
 abbrev pub SettingsAreTold : Type 0
 SettingsAreTold = (m n : Parts) (x : Setting) → IsMachine m → Carries m x n → ChangesTo m x n
 
--- If machine `m` allows a setting, and `n` differs from `m` by its change alone, the setting turns `m` into `n`.
+-- If machine `m` allows a setting, and `n` differs from `m` by the setting's change alone, the setting makes `n`.
 abbrev pub TellingIsMaking : Type 0
 TellingIsMaking =
     (m n : Parts) (x : Setting) → IsMachine m → IsMachine n → IsSettingInRange x → AllowsSetting m x
@@ -170,7 +170,7 @@ TurnedHasTheDaysCipher =
     (m n : Parts) (s : Day) (window text : List ℕ) → IsMachine m → IsLegalDay s → OnKey m s → IsTurnedTo m window n
     → physical_cipher n text ≡ cipher (key_with_window (sheet_key s) window) text
 
--- A ready machine can be turned to all letters that it can show, and its parts stay legal.
+-- A ready machine can be turned to any letters that fit its slots or pin wheels, and its parts stay legal.
 abbrev pub MachinesCanBeTurned : Type 0
 MachinesCanBeTurned =
     (m : Parts) (window : List ℕ) → IsMachine m → IsReady m → IsWindow (physical_key m) window

@@ -12,7 +12,7 @@ use Rattle.kd_pins.specs.PinWheel.{is_effective, place_past}
 use Rattle.kd_pins.specs.PinWheels.{pins_of, pins_on, acting_offset, pin_wheel_size}
 use Rattle.kd_state.specs.declared.machine.pin_parts.PinParts.{PinParts}
 
--- the place of the letter that a pin wheel shows before the text, counted from 0 on the wheel
+-- the place, counted from 0 on the wheel, of the letter that a pin wheel shows when the text begins
 abbrev pub shown_place_in_parts : PinParts → ℕ → ℕ
 shown_place_in_parts m wheel = unwrap_or (place_on (ring_of wheel) (slice_index m.letters (wheel - 1))) 0
 
@@ -31,7 +31,7 @@ is_lug_met m count place = nat_lt 0 (place_number place) && pin_acts m count (pl
 abbrev pub bars_moved : PinParts → ℕ → ℕ
 bars_moved m count = count_by (λ bar. is_lug_met m count bar.0 || is_lug_met m count bar.1) m.bars
 
--- The ciphertext of a text: each letter is replaced by the letter in its place in the reversed alphabet (A by Z),
--- and this letter is moved on by the number of bars that are moved.
+-- The ciphertext of a text: each letter is mirrored in the alphabet (A becomes Z), and then moved on in the
+-- alphabet by the number of bars that are moved.
 abbrev pub lugs_cipher : PinParts → List ℕ → List ℕ
 lugs_cipher m text = map (λ numbered. (25 + bars_moved m numbered.0 - numbered.1) % 26) (enumerate_from 0 text)

@@ -53,7 +53,7 @@ pub record AreCables (cables : List (Option ℕ × Option ℕ)) : Type 0 where
   pub within : All (λ letter. letter < 26) (letters_in_cables cables)
   pub apart : IsDistinct nat_eq (letters_in_cables cables)
 
--- There are six letters, one for each pin wheel, and each wheel has its letter.
+-- There are six letters, one for each pin wheel, and each letter is on its wheel.
 pub record AreOnWheels (letters : List ℕ) : Type 0 where
   pub count : length letters ≡ 6
   pub each : (wheel letter : ℕ) → numbered_item letters wheel ≡ Some letter → Contains (ring_of wheel) letter

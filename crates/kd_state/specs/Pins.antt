@@ -14,7 +14,7 @@ wheel_pins pins wheel = unwrap_or (numbered_item (pins_of pins) wheel) []
 abbrev pub pin_at : PinSet → ℕ → ℕ → Option Bool
 pin_at pins wheel letter = option_and_then (slice_get (wheel_pins pins wheel)) (place_on (ring_of wheel) letter)
 
--- the pins of the six pin wheels, made of six lists
+-- the pins of the six pin wheels, made of six lists, one for each wheel
 abbrev pub pin_set : List (List Bool) → PinSet
 pin_set lists = record {
   w1 = slice_index_or lists 0 [];
@@ -25,7 +25,7 @@ pin_set lists = record {
   w6 = slice_index_or lists 5 [];
 }
 
--- the pins of all wheels, with the pin at one letter of one wheel made effective, or not effective
+-- the pins of all wheels, after the pin at one letter of one wheel is made effective, or not effective
 abbrev pub with_pin : PinSet → ℕ → ℕ → Bool → PinSet
 with_pin pins wheel letter effective =
     pin_set (slice_set (pins_of pins) (wheel - 1)

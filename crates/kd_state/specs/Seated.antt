@@ -7,7 +7,7 @@ use Rattle.kd_state.specs.declared.machine.rotor_parts.RotorParts.{RotorParts}
 use Rattle.kd_state.specs.declared.sheet_day.rotor_entry.SheetWheel.{SheetWheel}
 use Rattle.kd_state.specs.Machine.{ring_at, letter_at}
 
--- the wheel with this ring and this window letter; `None` if one of the two is missing
+-- the wheel with this ring and this window letter; `None` if the ring or the letter is missing
 abbrev pub wheel_with_letters : Wheel → Option ℕ → Option ℕ → Option SheetWheel
 wheel_with_letters wheel (Some ring) (Some letter) = Some (record { wheel = wheel; ring = ring; letter = letter })
 wheel_with_letters wheel _ _ = None

@@ -49,7 +49,7 @@ pub record IsRotorReady (m : RotorParts) : Type 0 where
   pub slots : All (λ seated. IsSome seated) m.slots
   pub cables : All (λ cable. length (cable_letters cable) ≢ 1) m.cables
 
--- The machine is ready to encipher. A Converter always is.
+-- The machine is ready to encipher. A Converter is always ready.
 abbrev pub IsReady : Parts → Type 0
 IsReady (Rotor m) = IsRotorReady m
 IsReady (Pin m) = Unit {0}
@@ -63,7 +63,7 @@ abbrev pub window_of : Parts → List ℕ
 window_of (Rotor m) = filter_map (letter_at m) (seated_wheels m)
 window_of (Pin m) = m.letters
 
--- the pair of letters that a cable exchanges, if it has two letters
+-- the pair of letters that a cable exchanges, if the cable has two letters
 abbrev pub pair_of_ends : Option ℕ → Option ℕ → Option (ℕ × ℕ)
 pair_of_ends (Some letter) (Some other) = Some (letter, other)
 pair_of_ends _ _ = None

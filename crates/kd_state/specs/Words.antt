@@ -21,7 +21,7 @@ pub record IsWord (word : List ℕ) : Type 0 where
   pub spaceless : IsWithout 32 word
   pub unbroken : IsWithout 10 word
 
--- a letter, by its place in the alphabet, as a capital letter
+-- the text of a letter: a capital letter
 abbrev pub letter_text : ℕ → List ℕ
 letter_text letter = (letter + 65) ∷ []
 

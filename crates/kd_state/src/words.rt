@@ -11,7 +11,7 @@ use itoa::Buffer;
 use kd_tables::Letter;
 use std::str;
 
-/// The bytes of `text` before the first `byte`, and those after it. `None` if `byte` isn't in `text`.
+/// The parts of `text` before and after the first `byte`. `None` if `byte` isn't in `text`.
 pub fn split_once(text: &[u8], byte: u8) -> Option<(&[u8], &[u8])>
     ensures { MatchOption result
         (IsWithout byte text.now)
@@ -48,7 +48,7 @@ pub fn split_words<const N: usize>(line: &[u8]) -> Option<ArrayVec<&[u8], N>>
     Some(words)
 }
 
-/// Whether the bytes `text` are the text `word`.
+/// Whether `text` has exactly the bytes of `word`.
 pub fn is_word(text: &[u8], word: &str) -> bool
     ensures { IsTrue result ↔ (text.now ≡ word.now) }
 {
@@ -87,7 +87,7 @@ pub fn day_of_text(text: &[u8]) -> Option<u8>
     is_day_number(day).then_some(day)
 }
 
-/// Reads one capital letter.
+/// Reads a text of one capital letter. `None` for other texts.
 pub fn letter_of_text(text: &[u8]) -> Option<Letter>
     ensures { MatchOption result
         ((letter : ℕ) → letter < 26 → letter_text letter ≢ text.now)

@@ -28,13 +28,13 @@ abbrev pub ProductsByLetter : Type 0
 ProductsByLetter =
     (p q : List ℕ) (x : ℕ) → x < length p → slice_index (followed_by p q) x ≡ slice_index q (slice_index p x)
 
--- The inverse maps `y` to `x` exactly if the permutation maps `x` to `y`.
+-- The inverse of a permutation maps `y` to `x` exactly if the permutation maps `x` to `y`.
 abbrev pub InversesByLetter : Type 0
 InversesByLetter =
     (p : List ℕ) (x y : ℕ) → IsPermutation26 p → x < 26 → y < 26
     → (slice_index p x ≡ y) ↔ (slice_index (inverse p) y ≡ x)
 
--- A shift moves each letter on by `k` places, with A after Z.
+-- A shift by `k` moves each letter on by `k` places in the alphabet, with A after Z.
 abbrev pub ShiftsByLetter : Type 0
 ShiftsByLetter = (k x : ℕ) → x < 26 → slice_index (shift k) x ≡ (x + k) % 26
 

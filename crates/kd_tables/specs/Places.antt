@@ -54,7 +54,7 @@ lug_text lugs.Left = codes "L"
 lug_text lugs.Right = codes "R"
 
 -- ---- How a bar can stand: the places of its left and its right lug.
--- Code: a standing is checked by comparing its two places; its text is split at the hyphen.
+-- Code: `Standing::new` compares the two places; `Standing::from_text` splits a standing's text at the hyphen.
 
 -- All standings of a bar: the places of its two lugs, with the left lug left of the right lug. Standings are
 -- ordered by the left lug's place, then by the right lug's place.

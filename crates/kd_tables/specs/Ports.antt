@@ -42,7 +42,7 @@ pub record MemoryTaken : Type 0 where
   pub failed : Bool
 
 -- ---- A port before and after a call: its bytes, and whether it has failed.
--- Code: a port that can fail keeps a flag, which is set when a get or a put fails.
+-- Code: a source or a sink that can fail keeps a flag, which is set when a `get` or a `put` fails.
 -- Test: stops_at_a_failed_read, stops_where_the_sink_fails
 
 -- A port (a source or a sink) before a call and after the call. `had` and `has` are the bytes that a source can
@@ -67,9 +67,8 @@ pub record FailsAlone (p other : Port) : Type 0 where
   pub failed : IsTrue p.has_failed
   pub well : HasNotFailed other
 
--- A call's result tells whether its source or its sink failed. The flag is `true` if the call returns the error
--- `Device`: then one port has failed, and the other port didn't fail in the call. If the flag is `false`, neither
--- port failed in the call.
+-- The flag tells whether a call returns the error `Device`. If it does, one of its two ports has failed, and the
+-- other port didn't fail in the call. If it doesn't, neither port failed in the call.
 abbrev pub FailureAgrees : Port → Port → Bool → Type 0
 FailureAgrees source sink false = HasNotFailed source × HasNotFailed sink
 FailureAgrees source sink true = FailsAlone source sink ⊎ FailsAlone sink source

@@ -1,6 +1,6 @@
 -- Wheels: their names, their wirings and their notches.
 -- Source: the published wirings and notches of the Wehrmacht's and the Kriegsmarine's machines
--- Code: each call makes its table from the published text; notches are looked up in a short text.
+-- Code: each call of `wiring` makes the table from the published text; `notched` searches a short text.
 -- Test: wheels_are_as_published
 use Rattle.std.specs.Prelude.{codes, ℕ, ◌-◌, ◌==◌, nat_le, Bool, ◌&&◌, if◌then◌else◌, List, [], ◌∷◌, ◌++◌, map}
 use Rattle.std.specs.Prelude.{Contains}
@@ -82,7 +82,7 @@ reflector_of reflectors.ThinC = letters_of (codes "RDOBJNTKVEHMLFCWZAXGYIPSUQ")
 
 -- ---- Models: their names, their slots, and the wheels and reflectors of their boxes.
 -- Source: the published accounts of the models
--- Code: all boxes are prefixes of one array.
+-- Code: the box of each model is a prefix of one array.
 -- Test: models_have_names_and_parts
 
 -- the name of a model

@@ -1,4 +1,4 @@
--- Tests of the published text of a wiring or a pin wheel. The prover computes them, not the program.
+-- Tests of the published text of a wiring or a pin wheel. The prover computes these tests, not the program.
 use Rattle.std.specs.Prelude.{ℕ, ◌==◌, nat_eq, nat_le, nat_lt, Bool, not, ◌&&◌, List, length, slice_index}
 use Rattle.std.specs.List.{list_all}
 use Rattle.std.specs.Set.{distinct_count}

@@ -1,4 +1,4 @@
-//! Laws: published tables, pin wheels, permutations, the order of letters and readings, and the read limit.
+//! Laws of published tables, pin wheels, permutations, the order of letters and readings, and the read limit.
 ghost use Rattle.std.specs.Prelude.{◌≡◌, ℕ};
 ghost use Rattle.std.specs.Ordering.{ordering_then, nat_cmp};
 ghost use Rattle.kd_tables.specs.Ports.{read_limit};
@@ -54,7 +54,7 @@ pub fn letters_and_places_undo()
     ensures letters { PlacesLeadToLetters }
 {}
 
-/// Letters are ordered as in the alphabet; readings by the smaller number, then by the larger one.
+/// Letters are ordered as in the alphabet, and readings by the smaller number, then by the larger number.
 pub fn letters_and_readings_have_their_order()
     ensures letters { (one other : ℕ) → ⟦<Letter as Ord>⟧.cmp one other ≡ nat_cmp one other }
     ensures readings { (one other : ℕ × ℕ) → ⟦<Reading as Ord>⟧.cmp one other

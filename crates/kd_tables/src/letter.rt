@@ -45,7 +45,7 @@ impl Letter {
         }
     }
 
-    /// The letter at place `index` of the alphabet, counted from 0. The index isn't tested.
+    /// The letter at place `index` of the alphabet, counted from 0. `index` must be below 26.
     pub const fn at(index: u8) -> Self
         requires { index < 26 }
         ensures { result ≡ index }
@@ -73,7 +73,7 @@ impl Letter {
         self.index as usize
     }
 
-    /// The ASCII code of the capital letter.
+    /// The ASCII code of the letter, as a capital letter.
     pub const fn byte(self) -> u8
         ensures value { result ≡ self + 65 }
         ensures capital { result ≤ 90 }

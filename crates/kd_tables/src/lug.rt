@@ -12,7 +12,7 @@ pub enum Lug {
     Right,
 }
 
-/// The names of lugs: finds a lug's name if `$read` is `name_of`, and the lug with a name if it is `named`.
+/// The names of lugs, read by the macro `$read`: `name_of` finds a lug's name, `named` the lug with a name.
 macro_rules! names {
     ($read:ident, $value:expr) => {
         $read!($value, {

@@ -8,7 +8,7 @@ use super::failed::Failed;
 use super::source::Source;
 use std::marker::Model;
 
-/// A source in memory. One `get` gives at most `piece` bytes. From a chosen call on, every `get` can fail.
+/// A source in memory. One `get` gives at most `piece` bytes. After `gets_left` more calls, each `get` fails.
 #[derive(Drop)]
 pub struct MemorySource<'a> {
     rest: &'a [u8],

@@ -34,7 +34,7 @@ pub enum Model {
     M209,
 }
 
-/// The names of models: finds a model's name if `$read` is `name_of`, and the model with a name if it is `named`.
+/// The names of models, read by the macro `$read`: `name_of` finds a model's name, `named` the model with a name.
 macro_rules! names {
     ($read:ident, $value:expr) => {
         $read!($value, {

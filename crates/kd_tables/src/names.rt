@@ -1,7 +1,7 @@
 //! Macros for a table that pairs each value of an enum with its name.
 ghost use Rattle.std.specs.Prelude.{◌≡◌, ◌↔◌, IsTrue};
 
-/// Whether the bytes `text` are the text `name`.
+/// Whether `text` has exactly the bytes of `name`.
 pub(crate) fn is_name(text: &[u8], name: &str) -> bool
     ensures { IsTrue result ↔ (name.now ≡ text.now) }
 {

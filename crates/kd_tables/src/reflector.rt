@@ -20,7 +20,7 @@ pub enum Reflector {
     ThinC,
 }
 
-/// The names of reflectors: finds a name if `$read` is `name_of`, and a reflector by its name if it is `named`.
+/// The names of reflectors, read by the macro `$read`: `name_of` finds a name, `named` a reflector by its name.
 macro_rules! names {
     ($read:ident, $value:expr) => {
         $read!($value, {

@@ -16,7 +16,7 @@ pub enum Refusal {
     LetterTwice,
     /// A letter isn't on its pin wheel. The program never prints this refusal.
     NotOnWheel,
-    /// A machine refuses a setting, for the given reason. The program never prints this refusal.
+    /// A machine refuses a setting; the refusal names the reason. The program never prints this refusal.
     Illegal,
     /// A slot is empty, or a cable has exactly one letter.
     NotReady,
@@ -36,7 +36,7 @@ pub enum Refusal {
     CardCountWrong,
     /// Bytes follow the last line of a card.
     Trailing,
-    /// A machine carries out the lines before this line, and refuses this line, for the given reason.
+    /// A machine refuses a line of a list or a card; the refusal names the line and the reason.
     IllegalAt,
     /// After a card's lines, the machine doesn't read as the day.
     NotTheSheet,
@@ -58,7 +58,7 @@ pub enum Refusal {
     BadValue,
     /// A wheel is in two slots.
     WheelTwice,
-    /// A wheel is in a slot in which the model doesn't take it.
+    /// A wheel is in a slot in which the model doesn't allow this wheel.
     WheelNotAllowed,
     /// An item of a file's `bars` isn't a standing, or an item of its `rows` isn't a reading.
     BadRow,
@@ -72,7 +72,7 @@ pub enum Refusal {
     BadByte,
     /// The text of an order has no letter.
     EmptyText,
-    /// An order has too few or too many lines of keys. The text says how many are needed and how many are given.
+    /// An order has too few or too many lines of keys. The refusal says how many are needed, and how many given.
     PartKeys,
     /// A letter that a message gives for a pin wheel (an external letter) isn't on this wheel.
     KeyNotOnWheel,

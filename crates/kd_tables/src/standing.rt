@@ -10,7 +10,7 @@ use std::marker::Model;
 
 /// How a bar of the Converter M-209 stands: the places of its left lug and its right lug, in this order.
 ///
-/// Standings are ordered by the left lug's place, then by the right lug's.
+/// Standings are ordered by the left lug's place, then by the right lug's place.
 #[derive(Clone, Copy, PartialEq, Eq, PartialOrd, Ord)]
 pub struct Standing {
     left: Place,

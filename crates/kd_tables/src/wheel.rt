@@ -43,7 +43,7 @@ macro_rules! wirings {
     };
 }
 
-/// The names of wheels: finds a wheel's name if `$read` is `name_of`, and the wheel with a name if it is `named`.
+/// The names of wheels, read by the macro `$read`: `name_of` finds a wheel's name, `named` the wheel with a name.
 macro_rules! names {
     ($read:ident, $value:expr) => {
         $read!($value, {

@@ -11,7 +11,7 @@ use kd_tables::Letter;
 /// A cable's letters: none, one or two.
 pub type Cable = (Option<Letter>, Option<Letter>);
 
-/// The cable with the letters `one` and `other` in alphabetical order. A single letter is in the first end.
+/// The cable with the letters `one` and `other` in alphabetical order. A single letter is at the first end.
 pub(crate) fn cable_in_order(one: Option<Letter>, other: Option<Letter>) -> Cable
     ensures { result ≡ cable_in_order one other }
 {

@@ -34,7 +34,7 @@ impl<T> Model for PerSlot<T> {
 }
 
 impl<T: Copy> PerSlot<T> {
-    /// Wraps `values`; `None` if there aren't three or four.
+    /// Wraps `values`; `None` if there aren't three or four values.
     pub fn new(values: &[T]) -> Option<Self>
         ensures exists { IsSome result ↔ ((length values.now ≡ 3) ⊎ (length values.now ≡ 4)) }
         ensures value { IfSome result (λ slots. slots ≡ values.now) }
@@ -70,7 +70,7 @@ impl<T: Copy> PerSlot<T> {
 }
 
 impl PerSlot<Option<Wheel>> {
-    /// Empties the slot that holds `wheel`, if one does.
+    /// Empties the slot that holds `wheel`, if a slot holds it.
     pub(crate) fn take_out(&mut self, wheel: Wheel)
         ensures { self.new ≡ map (seat_without wheel) self.old }
     {

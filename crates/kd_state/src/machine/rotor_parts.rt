@@ -27,7 +27,7 @@ pub struct RotorParts {
 }
 
 impl RotorParts {
-    /// Whether the parts are legal, as the page of `Machine::rotor` says.
+    /// Whether the parts are legal, by the rules that `Machine::rotor` lists.
     pub(crate) fn is_legal(&self) -> bool
         ensures { IsTrue result ↔ IsLegalRotor self.now }
     {
