@@ -112,7 +112,7 @@ RingsAreByTheTables =
 
 -- ---- The laws of lines and lists: a text is the text of at most one list, and has at most one fault.
 
--- The parts of a setting's line are words: not empty, and without a space or LF.
+-- The parts of a setting's line are words: they aren't empty, and have no space and no LF.
 abbrev pub SettingsHaveWords : Type 0
 SettingsHaveWords = (x : Setting) → IsSettingInRange x → All IsWord (setting_words x)
 
@@ -222,11 +222,11 @@ abbrev pub ColumnsAreThePairs : Type 0
 ColumnsAreThePairs =
     (pairs : List (ℕ × ℕ)) (place : ℕ) → slice_index_or (columns_of pairs) place None ≡ slice_get pairs place
 
--- Giving a cable a column costs at most 4.
+-- Giving a cable a column costs at most 4 settings.
 abbrev pub CablesCostFour : Type 0
 CablesCostFour = (cable : Option ℕ × Option ℕ) (column : Option (ℕ × ℕ)) → cable_cost cable column ≤ 4
 
--- The cost tables are square: each list of costs is as long as the table has lists.
+-- The cost tables are square: each list in a table has as many costs as the table has lists.
 abbrev pub CostTablesAreSquare : Type 0
 CostTablesAreSquare =
     (m : Parts) (s : Day) → IsMachine m → IsLegalDay s

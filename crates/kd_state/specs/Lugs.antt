@@ -1,5 +1,5 @@
 -- The cipher of a Converter M-209, defined by its pins, the letters that it shows, and its lugs. Wheels are
--- counted from 1; letters of a text and places on a wheel from 0.
+-- counted from 1. Letters of a text, and places on a wheel, are counted from 0.
 -- Source: War Department TM 11-380
 -- Code: the bars that move are counted by their readings, not by their lugs.
 -- Test: kd_trials/src/state/engine.rt

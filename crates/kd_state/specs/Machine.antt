@@ -47,7 +47,7 @@ pub record AreLetters (number : ℕ) (letters : List ℕ) : Type 0 where
   pub count : length letters ≡ number
   pub within : All (λ letter. letter < 26) letters
 
--- There are 13 cables. All letters in them are below 26, and all are different.
+-- There are 13 cables. All letters in the cables are below 26, and all are different.
 pub record AreCables (cables : List (Option ℕ × Option ℕ)) : Type 0 where
   pub count : length cables ≡ 13
   pub within : All (λ letter. letter < 26) (letters_in_cables cables)

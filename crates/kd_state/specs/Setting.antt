@@ -125,7 +125,7 @@ cable_with letter cable = cable_in_order (option_or cable.0 cable.1) (Some lette
 abbrev pub seat_without : Wheel → Option Wheel → Option Wheel
 seat_without wheel seated = if option_map_or (same_wheel wheel) seated false then None else seated
 
--- the machine's window letters, after this wheel is turned to this letter; unchanged if no wheel is given
+-- the machine's window letters after this wheel is turned to this letter; unchanged if there is no wheel
 abbrev pub letters_with : RotorParts → Option Wheel → ℕ → List ℕ
 letters_with m None letter = m.letters
 letters_with m (Some wheel) letter = slice_set m.letters (place_in_box m.model wheel) letter
@@ -178,8 +178,8 @@ pub record Carries (m : Parts) (x : Setting) (n : Parts) : Type 0 where
   pub allowed : why_refused m x ≡ None
   pub made : n ≡ machine_after m x
 
--- The answer to a setting is right: the machine carries the setting out, or refuses the setting for the first
--- reason that holds, and stays as it was.
+-- The answer to a setting is right. Either the machine has carried the setting out; or the machine is unchanged,
+-- and the answer is the first reason to refuse the setting.
 abbrev pub IsCarryAnswer : Parts → Setting → Parts → Result ⊤ Why → Type 0
 IsCarryAnswer m x n answer = MatchResult answer (λ _. Carries m x n) (λ why. (why_refused m x ≡ Some why) × (n ≡ m))
 
@@ -188,8 +188,8 @@ abbrev pub Leads : Parts → List Setting → Parts → Type 0
 Leads m [] n = n ≡ m
 Leads m (x ∷ xs) n = (between : Parts) × Carries m x between × Leads between xs n
 
--- Machine `m` carries out the settings before line `line`, counted from 1, and then refuses the setting of
--- this line for the reason `why`.
+-- Machine `m` carries out the settings before setting `line`, counted from 1. Then it refuses setting `line`, for
+-- the reason `why`.
 pub record IsFirstIllegal (m : Parts) (settings : List Setting) (line : ℕ) (why : Why) : Type 0 where
   pub front : List Setting
   pub setting : Setting

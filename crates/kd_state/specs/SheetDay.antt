@@ -62,7 +62,7 @@ pub record IsDayNumber (number : ℕ) : Type 0 where
   pub first : 1 ≤ number
   pub last : number ≤ 31
 
--- There are at most 13 pairs. All letters in them are below 26, and all are different.
+-- There are at most 13 pairs. All letters in the pairs are below 26, and all are different.
 pub record ArePairs (pairs : List (ℕ × ℕ)) : Type 0 where
   pub few : length pairs ≤ 13
   pub within : All (λ letter. letter < 26) (letters_in_pairs pairs)
@@ -77,7 +77,7 @@ pub record HasWheelLetters (wheel : SheetWheel) : Type 0 where
 abbrev pub seats_of_wheels : List SheetWheel → List (Option Wheel)
 seats_of_wheels wheels = map (λ w. Some w.wheel) wheels
 
--- There is one item for each slot of the model. Each wheel is allowed in its slot, and none is in two slots.
+-- There is one item for each slot of the model. Each wheel is allowed in its slot, and no wheel is in two slots.
 pub record AreLegalSeats (model : Model) (slots : List (Option Wheel)) : Type 0 where
   pub count : length slots ≡ slots_of model
   pub allowed : AreWheelsAllowed model slots

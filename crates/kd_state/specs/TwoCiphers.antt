@@ -92,7 +92,7 @@ physical_key (Pin m) = OfDrum (record {
   rows = map (λ bar. reading_of bar.0 bar.1) m.bars;
 })
 
--- the key that a day asks for
+-- the key that a day asks for, with the day's letters in the windows or on the pin wheels
 abbrev pub sheet_key : Day → EngineKey
 sheet_key (OfRotors s) = OfWheels (record {
   wheels = map (λ w. w.wheel) s.wheels;
@@ -109,7 +109,7 @@ abbrev pub physical_cipher : Parts → List ℕ → List ℕ
 physical_cipher (Rotor m) text = cipher (physical_key (Rotor m)) text
 physical_cipher (Pin m) text = lugs_cipher m text
 
--- the ciphertext that the day asks for
+-- the ciphertext that the day asks for when this text is enciphered
 abbrev pub sheet_cipher : Day → List ℕ → List ℕ
 sheet_cipher s = cipher (sheet_key s)
 

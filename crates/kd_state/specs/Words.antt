@@ -15,7 +15,7 @@ line_of words = join_with_byte 32 words
 abbrev pub IsWithout : ℕ → List ℕ → Type 0
 IsWithout byte text = All (λ other. other ≢ byte) text
 
--- The text is a word: not empty, without a space and without LF.
+-- The text is a word: it isn't empty, and has no space and no LF.
 pub record IsWord (word : List ℕ) : Type 0 where
   pub filled : word ≢ []
   pub spaceless : IsWithout 32 word
@@ -46,7 +46,7 @@ LinesSplitIntoWords = (words : List (List ℕ)) → words ≢ [] → All IsWord 
 abbrev pub PartsMakeLines : Type 0
 PartsMakeLines = (line : List ℕ) → line_of (words_of line) ≡ line
 
--- A line of words has no LF.
+-- A line that is made of words has no LF.
 abbrev pub WordsMakeOneLine : Type 0
 WordsMakeOneLine = (words : List (List ℕ)) → All IsWord words → IsWithout 10 (line_of words)
 

@@ -31,14 +31,14 @@ pub fn texts_tell_first_parts()
     ensures { TextsTellFirstParts }
 {}
 
-/// Decimal numbers and single letters are words: not empty, and without a space or LF.
+/// Decimal numbers and single letters are words: they aren't empty, and have no space and no LF.
 #[tactic(auto, using(crate::proofs::Lines::numbers_are_words, crate::proofs::Lines::letters_are_words))]
 pub fn numbers_and_letters_are_words()
     ensures numbers { NumbersAreWords }
     ensures letters { LettersAreWords }
 {}
 
-/// The parts of a setting's line are words: not empty, and without a space or LF.
+/// The parts of a setting's line are words: they aren't empty, and have no space and no LF.
 #[tactic(auto, using(crate::proofs::Lines::setting_words_are_words))]
 pub fn settings_have_words()
     ensures { SettingsHaveWords }
@@ -46,8 +46,8 @@ pub fn settings_have_words()
 
 /// Different settings have different lines, and different lists have different texts.
 ///
-/// The text of a list has no fault, and no text has two faults. If a text isn't that of a list, `read_list`
-/// returns its fault.
+/// The text of a list has no fault, and no text has two faults. For a text that isn't a list, `read_list` returns
+/// the fault.
 pub fn texts_tell_settings()
     ensures setting { LinesTellSettings }
     ensures list { TextsTellLists }
@@ -162,7 +162,7 @@ pub fn pieces_are_enciphered_in_turn()
     ensures after { KeyInTurn }
 {}
 
-/// The cost tables are square, and giving a cable a column costs at most 4.
+/// The cost tables are square, and giving a cable a column costs at most 4 settings.
 ///
 /// A day has 13 columns: first its pairs in their order, then columns without a pair.
 #[tactic(auto, using(crate::proofs::CostTable::at_most_four, crate::proofs::CostTable::columns_are_the_pairs, crate::proofs::CostTable::cost_tables_are_square, crate::proofs::CostTable::thirteen_columns))]

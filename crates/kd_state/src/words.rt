@@ -76,7 +76,7 @@ pub fn number_of_text(text: &[u8]) -> Option<u8>
     u8::try_from(wide_number_of_text(text)?).ok()
 }
 
-/// Reads a day of a month in decimal: from 1 to 31.
+/// Reads a day of a month in decimal, from 1 to 31. `None` for other texts.
 #[tactic(auto, using(std::proofs::lemmas::Fmt::decimal_injective))]
 pub fn day_of_text(text: &[u8]) -> Option<u8>
     ensures { MatchOption result

@@ -53,7 +53,7 @@ impl Letter {
         Letter { index }
     }
 
-    /// The letter whose ASCII code is `byte`; `None` if it isn't a capital letter.
+    /// The letter whose ASCII code is `byte`; `None` if `byte` isn't a capital letter.
     pub const fn from_byte(byte: u8) -> Option<Self>
         ensures exists { IsSome result ↔ ((65 ≤ byte) × (byte ≤ 90)) }
         ensures value { IfSome result (λ letter. byte ≡ letter + 65) }

@@ -62,7 +62,7 @@ impl Reading {
         text
     }
 
-    /// Parses a reading; its smaller number has to come first.
+    /// Parses a reading from its text; the smaller number has to come first.
     pub fn from_text(text: &[u8]) -> Option<Self>
         ensures { MatchOption result
             ((numbers : _) → IsReading numbers → reading_text numbers ≢ text.now)

@@ -91,7 +91,7 @@ impl Standing {
         text
     }
 
-    /// Parses a standing: the names of two places, with `-` between them.
+    /// Parses a standing from its text: the names of two places, with `-` between the names.
     pub fn from_text(text: &[u8]) -> Option<Self>
         ensures value { MatchOption result
             ((places : _) → IsBefore places.0 places.1 → standing_text places ≢ text.now)

@@ -1,4 +1,4 @@
-//! Compares a machine with a day: whether it is on the day's key, and whether it reads as the day.
+//! Compares a machine with a day: is the machine on the day's key, and does it read as the day?
 ghost use Rattle.std.specs.Prelude.{◌≡◌, ◌↔◌, IsTrue, IsPermutation, Some, true, [], ◌∷◌, length, slice_get};
 ghost use Rattle.std.specs.List.{AllByRecursion};
 ghost use Rattle.std.specs.Option.{option_map_or};
@@ -117,7 +117,7 @@ fn are_same_readings(readings: [Reading; 27], rows: [Reading; 27]) -> bool
     readings == rows
 }
 
-/// Whether the cables that aren't empty are exactly `pairs`, in any order of cables and letters.
+/// Whether the cables that aren't empty have exactly the letters of `pairs`, in any order of cables and letters.
 fn are_the_pairs(cables: &[Cable], pairs: &[(Letter, Letter)]) -> bool
     ensures { IsTrue result ↔ AreThePairs cables.now pairs.now }
 {

@@ -27,7 +27,7 @@ impl Machine {
 
     /// The wheel in slot `slot`, counted from 1 from the left. `Some(None)` if the slot is empty.
     ///
-    /// `None` if there is no such slot.
+    /// `None` if the machine lacks the slot.
     pub fn slot(&self, slot: u8) -> Option<Option<Wheel>>
         ensures { result ≡ machine_slot self.now slot }
     {
