@@ -29,7 +29,7 @@ pub enum Setting {
         slot: u8,
         wheel: Wheel,
     },
-    /// Replaces the reflector.
+    /// Puts the reflector into the machine, in place of the old reflector.
     SeatReflector {
         reflector: Reflector,
     },

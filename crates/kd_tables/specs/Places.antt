@@ -84,7 +84,7 @@ pub record IsReading (numbers : ℕ × ℕ) : Type 0 where
   pub within : numbers.1 ≤ 6
   pub equal : numbers.0 ≡ numbers.1 → numbers.0 ≡ 0
 
--- the reading of a bar with its lugs at these places: the two wheels' numbers, the smaller one first
+-- the reading of a bar with its lugs at these places: the numbers of the wheels there, the smaller one first
 abbrev pub reading_of : Place → Place → ℕ × ℕ
 reading_of left right = smaller_first (place_number left) (place_number right)
 

@@ -10,21 +10,21 @@ use arrayvec::ArrayString;
 /// At a place with a number, the pin wheel with this number acts. At the two places called zero, no wheel acts.
 #[derive(Clone, Copy, PartialEq, Eq, PartialOrd, Ord)]
 pub enum Place {
-    /// The place of wheel 1.
+    /// The place where pin wheel 1 acts.
     One,
     /// The left one of the two places where no wheel acts.
     ZeroLeft,
-    /// The place of wheel 2.
+    /// The place where pin wheel 2 acts.
     Two,
-    /// The place of wheel 3.
+    /// The place where pin wheel 3 acts.
     Three,
-    /// The place of wheel 4.
+    /// The place where pin wheel 4 acts.
     Four,
-    /// The place of wheel 5.
+    /// The place where pin wheel 5 acts.
     Five,
     /// The right one of the two places where no wheel acts.
     ZeroRight,
-    /// The place of wheel 6.
+    /// The place where pin wheel 6 acts.
     Six,
 }
 

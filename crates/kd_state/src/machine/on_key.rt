@@ -77,7 +77,7 @@ fn is_rotor_on_key(parts: &RotorParts, entry: &RotorEntry) -> bool
     are_the_pairs(&parts.cables, entry.pairs.as_slice())
 }
 
-/// Whether the machine's `rings`, in the order of its box, have the day's ring for each of `wheels`.
+/// Whether a machine with these `rings`, in the order of its box, has the day's ring on each of `wheels`.
 fn have_rings(model: Model, rings: &PerWheel<Letter>, wheels: &[SheetWheel]) -> bool
     requires { length rings.now ≡ length (box_of model) }
     ensures { IsTrue result
@@ -92,7 +92,7 @@ fn have_rings(model: Model, rings: &PerWheel<Letter>, wheels: &[SheetWheel]) -> 
     }
 }
 
-/// Whether the machine's `letters`, in the order of its box, have the day's letter for each of `wheels`.
+/// Whether a machine with these `letters`, in the order of its box, shows the day's letter on each of `wheels`.
 fn have_letters(model: Model, letters: &PerWheel<Letter>, wheels: &[SheetWheel]) -> bool
     requires { length letters.now ≡ length (box_of model) }
     ensures { IsTrue result

@@ -78,7 +78,7 @@ impl RotorParts {
         Ok(())
     }
 
-    /// Replaces the machine's reflector by `reflector`.
+    /// Puts `reflector` into the machine, in place of the old reflector.
     fn seat_reflector(&mut self, reflector: Reflector) -> Result<(), Why>
         ensures { IsCarryAnswer (Parts.Rotor self.old) (Setting.SeatReflector reflector)
             (Parts.Rotor self.new) result }
