@@ -1,5 +1,5 @@
 -- Rules for results: a rule says whether a result, which is a value or a fault, is right. A `do` joins the rules
--- of steps in the order of testing. If steps have faults, the first step's fault is right.
+-- of steps in the order of testing. The fault of the first step that fails is right.
 use Rattle.std.specs.Prelude.{◌≡◌, Result, Ok, Err, refl}
 use Rattle.std.proofs.Common.{sym, ap, ◌∙◌, subst}
 

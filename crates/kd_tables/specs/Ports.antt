@@ -67,8 +67,8 @@ pub record FailsAlone (p other : Port) : Type 0 where
   pub failed : IsTrue p.has_failed
   pub well : HasNotFailed other
 
--- The flag tells whether a call returns the error `Device`. If it does, one of its two ports has failed, and the
--- other port didn't fail in the call. If it doesn't, neither port failed in the call.
+-- The flag tells whether a call returned the error `Device`. With `true`, the source or the sink has failed, and
+-- the other port didn't fail in the call. With `false`, neither port failed in the call.
 abbrev pub FailureAgrees : Port → Port → Bool → Type 0
 FailureAgrees source sink false = HasNotFailed source × HasNotFailed sink
 FailureAgrees source sink true = FailsAlone source sink ⊎ FailsAlone sink source
