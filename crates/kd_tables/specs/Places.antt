@@ -1,7 +1,7 @@
 -- A bar of the Converter M-209's drum: its eight places, and its two lugs.
 -- Test: bars_have_28_standings
-use Rattle.std.specs.Prelude.{codes, ◌≡◌, ℕ, ◌+◌, ◌<◌, ◌≤◌, nat_lt, min, max, List, [], ◌∷◌, ◌++◌, map, filter}
-use Rattle.std.specs.Prelude.{flat_map}
+use Rattle.std.specs.Prelude.{codes, ◌≡◌, ℕ, ◌+◌, ◌-◌, ◌<◌, ◌≤◌, nat_lt, min, max, List, [], ◌∷◌, ◌++◌, map, filter}
+use Rattle.std.specs.Prelude.{flat_map, slice_index}
 use Rattle.kd_tables.specs.declared.place.Place.{Place}
 use Rattle.kd_tables.specs.declared.place.Place.TheVariants.{One, ZeroLeft, Two, Three, Four, Five, ZeroRight, Six}
 use Rattle.kd_tables.specs.declared.lug.Lug.{Lug}
@@ -18,16 +18,9 @@ place_text Five = codes "5"
 place_text ZeroRight = codes "0R"
 place_text Six = codes "6"
 
--- the number of the pin wheel at a place, or 0 if there is none
+-- the number of the pin wheel at a place, or 0 if there is none: the digit in the place's name
 abbrev pub place_number : Place → ℕ
-place_number One = 1
-place_number ZeroLeft = 0
-place_number Two = 2
-place_number Three = 3
-place_number Four = 4
-place_number Five = 5
-place_number ZeroRight = 0
-place_number Six = 6
+place_number place = slice_index (place_text place) 0 - 48
 
 -- the places of a bar, from left to right
 abbrev pub places : List Place
