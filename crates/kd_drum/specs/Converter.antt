@@ -27,20 +27,21 @@ abbrev pub IsEachOnItsWheel : List ℕ → Type 0
 IsEachOnItsWheel letters = (wheel : ℕ) → 1 ≤ wheel → wheel ≤ 6
     → Contains (ring_of wheel) (slice_index letters (wheel - 1))
 
--- the place of the letter that the wheel shows, according to the key; 0 if the wheel lacks this letter
-abbrev pub shown_place_in_key : PinKey → ℕ → ℕ
-shown_place_in_key key wheel = unwrap_or (place_on (ring_of wheel) (slice_index key.letters (wheel - 1))) 0
+-- the place on wheel `wheel` of its letter in `letters`, the letters that the six wheels show; 0 if it isn't on the wheel
+abbrev pub shown_place : List ℕ → ℕ → ℕ
+shown_place letters wheel = unwrap_or (place_on (ring_of wheel) (slice_index letters (wheel - 1))) 0
 
--- whether `wheel` is a wheel's number, and the acting pin of this wheel is effective after `count` letters
-abbrev pub is_acting_after : PinKey → ℕ → ℕ → Bool
-is_acting_after key count wheel =
+-- whether `wheel` is a wheel's number, and its acting pin is effective after `count` letters that begin at `letters`
+abbrev pub is_acting_after : List (List Bool) → List ℕ → ℕ → ℕ → Bool
+is_acting_after pins letters count wheel =
     (nat_le 1 wheel && nat_le wheel 6)
-    && is_effective (pins_on key.pins wheel)
-    ((shown_place_in_key key wheel + count + acting_offset wheel) % pin_wheel_size wheel)
+    && is_effective (pins_on pins wheel)
+    ((shown_place letters wheel + count + acting_offset wheel) % pin_wheel_size wheel)
 
 -- how many bars are met after `count` letters: those with a lug at a wheel whose acting pin is effective
 abbrev pub bars_met : PinKey → ℕ → ℕ
-bars_met key count = count_by (λ row. is_acting_after key count row.0 || is_acting_after key count row.1) key.rows
+bars_met key count =
+    let acts = is_acting_after key.pins key.letters count in count_by (λ row. acts row.0 || acts row.1) key.rows
 
 -- The ciphertext of `text`. Each letter becomes the letter that is as far before Z as it is after A. This letter
 -- is moved on by the number of bars met, with A after Z.
@@ -51,7 +52,7 @@ converter_cipher key text =
 -- the letter that a wheel shows after `count` letters; the wheel turns by one place for each letter
 abbrev pub letter_after : PinKey → ℕ → ℕ → ℕ
 letter_after key count wheel = slice_index (ring_of wheel)
-    ((shown_place_in_key key wheel + count) % pin_wheel_size wheel)
+    ((shown_place key.letters wheel + count) % pin_wheel_size wheel)
 
 -- the key after `count` letters have been enciphered
 abbrev pub pin_key_after : PinKey → ℕ → PinKey

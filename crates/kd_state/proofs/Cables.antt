@@ -2,7 +2,7 @@
 use Rattle.kd_state.proofs.Prelude.{common_steps, NoLetterTwice, letters_in_pairs, AreCables, cable_letters}
 use Rattle.kd_state.proofs.Prelude.{cable_in_order, letters_in_cables, AreLettersOfPair, AreThePairs, IsPairJoined}
 use Rattle.kd_state.proofs.Prelude.{IsCablePaired, HasPairLetters, HaveSameLetters, are_new_letters, cable_with}
-use Rattle.kd_state.proofs.Prelude.{cable_without, has_letter, pair_of_ends, and_from, and_parts, cond_both, eq-eqb}
+use Rattle.kd_state.proofs.Prelude.{cable_without, has_letter, option_zip, is_some, and_from, and_parts, cond_both, eq-eqb}
 use Rattle.kd_state.proofs.Prelude.{eqb-false, le-leb, leb-false, not-true, or_from, or_parts, true≢false, nat_tests}
 use Rattle.kd_state.proofs.Prelude.{append_assoc, drop_more, All-contains, All-from_recursion, Contains-append_right}
 use Rattle.kd_state.proofs.Prelude.{recursion_from_All, IsPermutation-append, IsPermutation-append_comm}
@@ -95,7 +95,7 @@ after_end letter end =
     (cable_letters (cable_in_order (Some end) (Some letter)))
     (IsPermutation-append_comm (letter ∷ []) (end ∷ [])) (ordered_moves (Some end) (Some letter))
 
-pub with_moves : (letter : ℕ) (one other : Option ℕ) → (not (is_none one) && not (is_none other)) ≡ false
+pub with_moves : (letter : ℕ) (one other : Option ℕ) → (is_some one && is_some other) ≡ false
     → IsPermutation (letter ∷ cable_letters (one, other)) (cable_letters (cable_with letter (one, other)))
 with_moves letter one other e = grind (arith, after_end)
 
@@ -139,7 +139,7 @@ distinct_from cables place cable within is = grind (arith, drop_more, new_tells)
 -- ---- the pairs that cables with two letters exchange
 
 abbrev pub pairs_of : List (Option ℕ × Option ℕ) → List (ℕ × ℕ)
-pairs_of cables = filter_map (λ cable. pair_of_ends cable.0 cable.1) cables
+pairs_of cables = filter_map (λ cable. option_zip cable.0 cable.1) cables
 
 letters_of_pairs : (cables : List (Option ℕ × Option ℕ))
     → AllByRecursion (λ cable. length (cable_letters cable) ≢ 1) cables

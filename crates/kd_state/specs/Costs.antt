@@ -32,29 +32,20 @@ abbrev pub column_letters : Option (ℕ × ℕ) → List ℕ
 column_letters None = []
 column_letters (Some pair) = pair.0 ∷ pair.1 ∷ []
 
--- whether the letter is in the cable or in the column's pair, but not in both
-abbrev pub lies_in_exactly_one : Option ℕ × Option ℕ → Option (ℕ × ℕ) → ℕ → Bool
-lies_in_exactly_one cable column letter =
-    exactly_one (has_letter (cable_letters cable) letter) (has_letter (column_letters column) letter)
-
 -- the cost of giving a cable the column's pair, or of emptying it if the column has no pair: how many letters
 -- are in only one of the two
 abbrev pub cable_cost : Option ℕ × Option ℕ → Option (ℕ × ℕ) → ℕ
-cable_cost cable column = count_by (lies_in_exactly_one cable column) alphabet
+cable_cost cable column =
+    count_by (λ l. exactly_one (has_letter (cable_letters cable) l) (has_letter (column_letters column) l)) alphabet
 
 -- how many lugs have to move to change one standing into the other
 abbrev pub lugs_moved : Place × Place → Place × Place → ℕ
-lugs_moved standing other = one_unless (is_same_place standing.0 other.0)
-    + one_unless (is_same_place standing.1 other.1)
-
--- whether the standing reads as this row
-abbrev pub reads_as_row : ℕ × ℕ → Place × Place → Bool
-reads_as_row row standing =
-    let reading = reading_of standing.0 standing.1 in nat_eq reading.0 row.0 && nat_eq reading.1 row.1
+lugs_moved bar other = one_unless (is_same_place bar.0 other.0) + one_unless (is_same_place bar.1 other.1)
 
 -- the standings that read as this row, in order
 unfoldable pub standings_as : ℕ × ℕ → List (Place × Place)
-standings_as row = filter (reads_as_row row) standings
+standings_as row =
+    filter (λ bar. let reading = reading_of bar.0 bar.1 in nat_eq reading.0 row.0 && nat_eq reading.1 row.1) standings
 
 -- the place of this pin wheel; for 0, the left place that has no wheel
 abbrev pub place_of_pin_wheel : ℕ → Place
@@ -70,8 +61,7 @@ bar_cost standing row = fold min 2 (map (lugs_moved standing) (standings_as row)
 
 -- of the standings that read as the row, the first that differs from `standing` in the fewest lugs
 abbrev pub nearest_standing : Place × Place → ℕ × ℕ → Option (Place × Place)
-nearest_standing standing row =
-    find (λ other. nat_eq (lugs_moved standing other) (bar_cost standing row)) (standings_as row)
+nearest_standing bar row = find (λ other. nat_eq (lugs_moved bar other) (bar_cost bar row)) (standings_as row)
 
 -- ---- The cost tables: of cables and columns, and of bars and rows.
 -- Test: cards_are_planned
@@ -80,18 +70,11 @@ nearest_standing standing row =
 abbrev pub columns_of : List (ℕ × ℕ) → List (Option (ℕ × ℕ))
 columns_of pairs = map Some pairs ++ replicate (13 - length pairs) None
 
--- the cost of giving each cable each column of the day: a list for each cable
-abbrev pub cable_costs : List (Option ℕ × Option ℕ) → List (ℕ × ℕ) → List (List ℕ)
-cable_costs cables pairs = map (λ cable. map (cable_cost cable) (columns_of pairs)) cables
-
--- the cost of giving each bar each row of the day: a list for each bar
-abbrev pub bar_costs : List (Place × Place) → List (ℕ × ℕ) → List (List ℕ)
-bar_costs bars rows = map (λ bar. map (bar_cost bar) rows) bars
-
--- the cost table of a machine and a day of one model: of cables and columns, or of bars and rows
+-- the cost table of a machine and a day of one model: a list for each cable, of the costs of the columns; or a list for
+-- each bar, of the costs of the rows
 abbrev pub cost_table : Parts → Day → List (List ℕ)
-cost_table (Rotor m) (OfRotors s) = cable_costs m.cables s.pairs
-cost_table (Pin m) (OfPins s) = bar_costs m.bars s.rows
+cost_table (Rotor m) (OfRotors s) = map (λ cable. map (cable_cost cable) (columns_of s.pairs)) m.cables
+cost_table (Pin m) (OfPins s) = map (λ bar. map (bar_cost bar) s.rows) m.bars
 cost_table _ _ = []
 
 -- ---- How many things other than cables and bars differ from the day.
@@ -99,10 +82,6 @@ cost_table _ _ = []
 -- how many slots are empty or hold another wheel than the day's
 abbrev pub loose_slots : RotorParts → RotorDay → ℕ
 loose_slots m s = count_by (λ slot. not (option_map_or (same_wheel slot.1.wheel) slot.0 false)) (zip m.slots s.wheels)
-
--- 1 if the reflector isn't the day's, else 0
-abbrev pub loose_reflector : RotorParts → RotorDay → ℕ
-loose_reflector m s = one_unless (same_reflector m.reflector s.reflector)
 
 -- How many of the day's wheels have another ring than the day's. A wheel that is still in the box counts too.
 abbrev pub loose_rings : RotorParts → RotorDay → ℕ
@@ -118,12 +97,11 @@ loose_pins m s =
     sum (map (λ wheel. count_by (λ pin. exactly_one pin.0 pin.1) (zip wheel.0 wheel.1))
     (zip (pins_of m.pins) (pins_of s.pins)))
 
--- how many pin wheels show another letter than the day's
-abbrev pub loose_pin_letters : PinParts → PinDay → ℕ
-loose_pin_letters m s = count_by (λ letter. not (nat_eq letter.0 letter.1)) (zip m.letters s.window)
-
--- how many things other than cables and bars differ from the day
+-- How many things other than cables and bars differ from the day: slots, the reflector, rings and window letters; or
+-- pins, and letters that pin wheels show.
 abbrev pub loose_count : Parts → Day → ℕ
-loose_count (Rotor m) (OfRotors s) = loose_slots m s + loose_reflector m s + loose_rings m s + loose_letters m s
-loose_count (Pin m) (OfPins s) = loose_pins m s + loose_pin_letters m s
+loose_count (Rotor m) (OfRotors s) =
+    loose_slots m s + one_unless (same_reflector m.reflector s.reflector) + loose_rings m s + loose_letters m s
+loose_count (Pin m) (OfPins s) =
+    loose_pins m s + count_by (λ letter. not (nat_eq letter.0 letter.1)) (zip m.letters s.window)
 loose_count _ _ = 0

@@ -20,10 +20,6 @@ same_reflector reflector other = bytes_eq (reflector_text reflector) (reflector_
 abbrev pub has_wheel : List Wheel → Wheel → Bool
 has_wheel wheels wheel = list_any (same_wheel wheel) wheels
 
--- whether the list has the reflector
-abbrev pub has_reflector : List Reflector → Reflector → Bool
-has_reflector reflectors reflector = list_any (same_reflector reflector) reflectors
-
 -- the place of the wheel in the model's box, counted from 0; the length of the box if the wheel isn't in it
 abbrev pub place_in_box : Model → Wheel → ℕ
 place_in_box model wheel = position_or_len (same_wheel wheel) (box_of model)

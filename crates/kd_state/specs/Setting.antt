@@ -1,7 +1,7 @@
 -- Why a machine refuses a setting: the reasons in the order of testing, and the first that holds.
 -- Test: kd_trials/src/state/carrying.rt
 use Rattle.std.specs.Prelude.{◌≡◌, ℕ, ◌-◌, nat_eq, nat_lt, ◌+◌, Bool, true, false, not, ◌&&◌, List, [], ◌∷◌, ◌++◌, map}
-use Rattle.std.specs.Prelude.{find, slice_set, length, Option, Some, None, is_none, unwrap_or, Result, MatchResult, ⊤}
+use Rattle.std.specs.Prelude.{find, slice_set, length, Option, Some, None, is_none, is_some, unwrap_or, Result, MatchResult, ⊤}
 use Rattle.std.specs.Prelude.{if◌then◌else◌}
 use Rattle.std.specs.List.{list_any}
 use Rattle.std.specs.Option.{option_map, option_map_or, option_or}
@@ -11,7 +11,7 @@ use Rattle.kd_tables.specs.declared.lug.Lug.{Lug}
 use Rattle.kd_tables.specs.declared.lug.Lug.TheVariants.{Left, Right}
 use Rattle.kd_tables.specs.Tables.{wheels_for, box_of, reflectors_of}
 use Rattle.kd_tables.specs.Rings.{ring_of}
-use Rattle.kd_tables.specs.Places.{place_rank, IsBefore}
+use Rattle.kd_tables.specs.Places.{place_rank}
 use Rattle.kd_state.specs.Pins.{with_pin}
 use Rattle.kd_state.specs.declared.machine.rotor_parts.RotorParts.{RotorParts}
 use Rattle.kd_state.specs.declared.machine.pin_parts.PinParts.{PinParts}
@@ -24,7 +24,7 @@ use Rattle.kd_state.specs.declared.setting.why.Why.{Why}
 use Rattle.kd_state.specs.declared.setting.why.Why.TheVariants.{OtherModel, NoSuchCable, NotThere, NoLooseEnd}
 use Rattle.kd_state.specs.declared.setting.why.Why.TheVariants.{SocketTaken, WheelNotAllowed, SlotEmpty, NotOnWheel}
 use Rattle.kd_state.specs.declared.setting.why.Why.TheVariants.{NoSuchBar, PlaceTaken, WouldPass}
-use Rattle.kd_state.specs.SameParts.{same_wheel, has_wheel, has_reflector, place_in_box, numbered_item}
+use Rattle.kd_state.specs.SameParts.{same_wheel, same_reflector, has_wheel, place_in_box, numbered_item}
 use Rattle.kd_state.specs.Machine.{cable_letters, letters_in_cables, cable_in_order}
 
 -- whether the letter is in the list
@@ -45,33 +45,14 @@ cable_at m cable = unwrap_or (numbered_item m.cables cable) (None, None)
 abbrev pub wheel_in_slot : RotorParts → ℕ → Option Wheel
 wheel_in_slot m slot = unwrap_or (numbered_item m.slots slot) None
 
--- whether both ends of the cable have letters
-abbrev pub has_both_ends : Option ℕ × Option ℕ → Bool
-has_both_ends cable = not (is_none cable.0) && not (is_none cable.1)
-
--- the place of this lug of the bar
-abbrev pub lug_place : Lug → Place × Place → Place
-lug_place Left bar = bar.0
-lug_place Right bar = bar.1
-
--- the right lug for the left one, and the left lug for the right one
-abbrev pub other_lug : Lug → Lug
-other_lug Left = Right
-other_lug Right = Left
-
 -- whether the two places are equal
 abbrev pub is_same_place : Place → Place → Bool
 is_same_place place other = nat_eq (place_rank place) (place_rank other)
 
--- whether this lug, if it were at `place`, would be on the wrong side of the bar's other lug, which is at
--- `other`
-abbrev pub lies_beyond : Lug → Place → Place → Bool
-lies_beyond Left place other = nat_lt (place_rank other) (place_rank place)
-lies_beyond Right place other = nat_lt (place_rank place) (place_rank other)
-
--- the place of the other lug of bar `bar`; `None` if there is no such bar
-abbrev pub other_place : PinParts → ℕ → Lug → Option Place
-other_place m bar lug = option_map (lug_place (other_lug lug)) (numbered_item m.bars bar)
+-- the standing, with this lug at the place
+abbrev pub with_lug : Lug → Place → Place × Place → Place × Place
+with_lug Left place bar = (place, bar.1)
+with_lug Right place bar = (bar.0, place)
 
 -- The reasons for which a machine may refuse a setting, in the order of testing, each with whether it holds.
 abbrev pub refusal_reasons : Parts → Setting → List (Bool × Why)
@@ -81,31 +62,26 @@ refusal_reasons (Rotor m) (Pull cable letter) =
     ∷ []
 refusal_reasons (Rotor m) (Put cable letter) =
     (is_none (numbered_item m.cables cable), NoSuchCable)
-    ∷ (has_both_ends (cable_at m cable), NoLooseEnd)
+    ∷ (is_some (cable_at m cable).0 && is_some (cable_at m cable).1, NoLooseEnd)
     ∷ (has_letter (letters_in_cables m.cables) letter, SocketTaken)
     ∷ []
 refusal_reasons (Rotor m) (Seat slot wheel) = (not (has_wheel (wheels_for m.model slot) wheel), WheelNotAllowed) ∷ []
 refusal_reasons (Rotor m) (SeatReflector reflector) =
-    (not (has_reflector (reflectors_of m.model) reflector), WheelNotAllowed) ∷ []
+    (not (list_any (same_reflector reflector) (reflectors_of m.model)), WheelNotAllowed) ∷ []
 refusal_reasons (Rotor m) (RingTo wheel letter) = (not (has_wheel (box_of m.model) wheel), WheelNotAllowed) ∷ []
 refusal_reasons (Rotor m) (Turn slot letter) = (is_none (wheel_in_slot m slot), SlotEmpty) ∷ []
-refusal_reasons (Rotor m) (PinTo wheel letter effective) = (true, OtherModel) ∷ []
-refusal_reasons (Rotor m) (LugTo bar lug place) = (true, OtherModel) ∷ []
-refusal_reasons (Pin m) (Pull cable letter) = (true, OtherModel) ∷ []
-refusal_reasons (Pin m) (Put cable letter) = (true, OtherModel) ∷ []
-refusal_reasons (Pin m) (Seat slot wheel) = (true, OtherModel) ∷ []
-refusal_reasons (Pin m) (SeatReflector reflector) = (true, OtherModel) ∷ []
-refusal_reasons (Pin m) (RingTo wheel letter) = (true, OtherModel) ∷ []
 refusal_reasons (Pin m) (Turn wheel letter) =
     (is_none (numbered_item m.letters wheel), SlotEmpty)
     ∷ (not (has_letter (ring_of wheel) letter), NotOnWheel)
     ∷ []
 refusal_reasons (Pin m) (PinTo wheel letter effective) = (not (has_letter (ring_of wheel) letter), NotOnWheel) ∷ []
 refusal_reasons (Pin m) (LugTo bar lug place) =
+    let moved = option_map (with_lug lug place) (numbered_item m.bars bar) in
     (is_none (numbered_item m.bars bar), NoSuchBar)
-    ∷ (option_map_or (is_same_place place) (other_place m bar lug) false, PlaceTaken)
-    ∷ (option_map_or (lies_beyond lug place) (other_place m bar lug) false, WouldPass)
+    ∷ (option_map_or (λ standing. is_same_place standing.0 standing.1) moved false, PlaceTaken)
+    ∷ (option_map_or (λ standing. nat_lt (place_rank standing.1) (place_rank standing.0)) moved false, WouldPass)
     ∷ []
+refusal_reasons _ _ = (true, OtherModel) ∷ []
 
 -- the first reason that holds, for which the machine refuses the setting; `None` if it doesn't refuse it
 abbrev pub why_refused : Parts → Setting → Option Why
@@ -131,20 +107,10 @@ abbrev pub letters_with : RotorParts → Option Wheel → ℕ → List ℕ
 letters_with m None letter = m.letters
 letters_with m (Some wheel) letter = slice_set m.letters (place_in_box m.model wheel) letter
 
--- the standing, with this lug at the place
-abbrev pub with_lug : Lug → Place → Place × Place → Place × Place
-with_lug Left place bar = (place, bar.1)
-with_lug Right place bar = (bar.0, place)
-
--- The left lug is left of the right lug.
-abbrev pub HasLugsInOrder : Place × Place → Type 0
-HasLugsInOrder bar = IsBefore bar.0 bar.1
-
--- the bars, with this lug of bar `bar` at the place
+-- the bars, with this lug of bar `number` at the place
 abbrev pub bars_with_lug : PinParts → ℕ → Lug → Place → List (Place × Place)
-bars_with_lug m bar lug place =
-    option_map_or (λ standing. slice_set m.bars (bar - 1) (with_lug lug place standing)) (numbered_item m.bars bar)
-    m.bars
+bars_with_lug m number lug place =
+    option_map_or (λ bar. slice_set m.bars (number - 1) (with_lug lug place bar)) (numbered_item m.bars number) m.bars
 
 -- The machine after a setting, if the machine before it doesn't refuse the setting. A wheel that is put into
 -- a slot leaves its old slot, and the wheel that the new slot held goes to the box. Wheels keep their rings
@@ -160,16 +126,10 @@ machine_after (Rotor m) (SeatReflector reflector) = Rotor (record m { reflector 
 machine_after (Rotor m) (RingTo wheel letter) =
     Rotor (record m { rings = slice_set m.rings (place_in_box m.model wheel) letter })
 machine_after (Rotor m) (Turn slot letter) = Rotor (record m { letters = letters_with m (wheel_in_slot m slot) letter })
-machine_after (Rotor m) (PinTo wheel letter effective) = Rotor m
-machine_after (Rotor m) (LugTo bar lug place) = Rotor m
 machine_after (Pin m) (Turn wheel letter) = Pin (record m { letters = slice_set m.letters (wheel - 1) letter })
 machine_after (Pin m) (PinTo wheel letter effective) = Pin (record m { pins = with_pin m.pins wheel letter effective })
 machine_after (Pin m) (LugTo bar lug place) = Pin (record m { bars = bars_with_lug m bar lug place })
-machine_after (Pin m) (Pull cable letter) = Pin m
-machine_after (Pin m) (Put cable letter) = Pin m
-machine_after (Pin m) (Seat slot wheel) = Pin m
-machine_after (Pin m) (SeatReflector reflector) = Pin m
-machine_after (Pin m) (RingTo wheel letter) = Pin m
+machine_after m _ = m
 
 -- ---- Settings carried out one after another, and the first that is refused.
 -- Code: `carry_all` is a loop that stops at the first setting that is refused.

@@ -3,6 +3,7 @@
 -- Test: kd_trials/src/state/engine.rt
 use Rattle.std.specs.Prelude.{◌≡◌, ◌≢◌, ℕ, List, length, map, All, IsSome, Option, Some, None}
 use Rattle.std.specs.List.{filter_map}
+use Rattle.std.specs.Option.{option_zip}
 use Rattle.kd_tables.specs.declared.wheel.Wheel.{Wheel}
 use Rattle.kd_tables.specs.Permutation.{exchange}
 use Rattle.kd_tables.specs.Places.{reading_of}
@@ -44,14 +45,9 @@ IsWindow (OfDrum key) window = AreOnWheels window
 
 -- ---- When a machine is ready, and which wheels, letters and pairs it has.
 
--- No slot is empty, and no cable has exactly one letter.
-pub record IsRotorReady (m : RotorParts) : Type 0 where
-  pub slots : All (λ seated. IsSome seated) m.slots
-  pub cables : All (λ cable. length (cable_letters cable) ≢ 1) m.cables
-
--- The machine is ready to encipher. A Converter always is.
+-- The machine is ready to encipher: no slot is empty, and no cable has exactly one letter. A Converter always is ready.
 abbrev pub IsReady : Parts → Type 0
-IsReady (Rotor m) = IsRotorReady m
+IsReady (Rotor m) = All (λ seated. IsSome seated) m.slots × All (λ cable. length (cable_letters cable) ≢ 1) m.cables
 IsReady (Pin m) = Unit {0}
 
 -- the wheels in the slots, from the left
@@ -62,15 +58,6 @@ seated_wheels m = filter_map (λ seated. seated) m.slots
 abbrev pub window_of : Parts → List ℕ
 window_of (Rotor m) = filter_map (letter_at m) (seated_wheels m)
 window_of (Pin m) = m.letters
-
--- the pair of letters that a cable exchanges, if it has two letters
-abbrev pub pair_of_ends : Option ℕ → Option ℕ → Option (ℕ × ℕ)
-pair_of_ends (Some letter) (Some other) = Some (letter, other)
-pair_of_ends _ _ = None
-
--- the pairs of letters that the cables exchange
-abbrev pub plugged_pairs : RotorParts → List (ℕ × ℕ)
-plugged_pairs m = filter_map (λ cable. pair_of_ends cable.0 cable.1) m.cables
 
 -- ---- The cipher of a machine as it stands, and the cipher that a day asks for, defined apart: the machine's
 -- by its slots, cables and lugs, the day's by the wheels, pairs and rows of its entry.
@@ -85,7 +72,7 @@ physical_key (Rotor m) = OfWheels (record {
   rings = filter_map (ring_at m) (seated_wheels m);
   window = window_of (Rotor m);
   reflector = m.reflector;
-  plugs = exchange (plugged_pairs m);
+  plugs = exchange (filter_map (λ cable. option_zip cable.0 cable.1) m.cables);
 })
 physical_key (Pin m) = OfDrum (record {
   pins = pins_of m.pins;
