@@ -1,4 +1,4 @@
--- Which things a setting leaves as they are. `m` is the machine before the setting, `n` the machine after it.
+-- What a setting changes, and what it leaves unchanged. `m` is the machine before the setting, `n` after it.
 use Rattle.std.specs.Prelude.{◌≡◌, ◌≢◌, ◌⊎◌, ◌↔◌, ℕ, ◌<◌, List, [], length, Contains, Option, Some, None, IsSome}
 use Rattle.std.specs.Option.{option_map, option_map_or}
 use Rattle.kd_tables.specs.declared.wheel.Wheel.{Wheel}
@@ -17,9 +17,8 @@ use Rattle.kd_state.specs.Machine.{cable_letters, model_of, machine_slot, machin
 use Rattle.kd_state.specs.Machine.{machine_letter, machine_cable, machine_pin, machine_pin_letter, machine_standing}
 use Rattle.kd_state.specs.Setting.{with_lug}
 
--- A thing of a machine, which one of the machine's readers shows: a slot, a cable, the shown letter of a pin
--- wheel or a bar, by its number; the ring or the window letter of a wheel; a pin, by its wheel's number and
--- its letter.
+-- One thing of a machine that a setting can change, such as a slot or a ring. Slots, cables, pin wheels and bars
+-- are given by their numbers, and a pin by its pin wheel's number and its letter.
 pub data Thing : Type 0 where
   TheSlot : ℕ → Thing
   TheReflector : Thing
@@ -30,7 +29,7 @@ pub data Thing : Type 0 where
   TheShown : ℕ → Thing
   TheBar : ℕ → Thing
 
--- The reader of the thing shows the same value for both machines.
+-- The thing has the same value on both machines.
 abbrev pub IsKept : Parts → Parts → Thing → Type 0
 IsKept m n (TheSlot slot) = machine_slot n slot ≡ machine_slot m slot
 IsKept m n TheReflector = machine_reflector n ≡ machine_reflector m
@@ -41,12 +40,12 @@ IsKept m n (ThePin wheel letter) = machine_pin n wheel letter ≡ machine_pin m 
 IsKept m n (TheShown wheel) = machine_pin_letter n wheel ≡ machine_pin_letter m wheel
 IsKept m n (TheBar bar) = machine_standing n bar ≡ machine_standing m bar
 
--- Both machines have the same model. Of each thing that doesn't satisfy `IsTouched`, the readers show the same.
+-- Both machines have the same model. Each thing that doesn't satisfy `IsTouched` is the same on both.
 pub record KeepsAllBut (IsTouched : Thing → Type 0) (m n : Parts) : Type 0 where
   pub model : model_of n ≡ model_of m
   pub others : (thing : Thing) → ¬ (IsTouched thing) → IsKept m n thing
 
--- Both machines have the same model, and the readers show the same for each thing but `thing`.
+-- Both machines have the same model, and nothing but the given thing can differ between them.
 abbrev pub SetsOnly : Thing → Parts → Parts → Type 0
 SetsOnly thing m n = KeepsAllBut (λ other. other ≡ thing) m n
 
@@ -56,12 +55,12 @@ SetsOnly thing m n = KeepsAllBut (λ other. other ≡ thing) m n
 abbrev pub letters_at_cable : Parts → ℕ → List ℕ
 letters_at_cable m cable = option_map_or cable_letters (machine_cable m cable) []
 
--- the place of this lug of the bar
+-- the place of the left lug, or of the right lug, of a bar
 abbrev pub lug_place : Lug → Place × Place → Place
 lug_place Left bar = bar.0
 lug_place Right bar = bar.1
 
--- the right lug for the left one, and the left lug for the right one
+-- a bar's other lug: the right lug for the left lug, and the left lug for the right lug
 abbrev pub other_lug : Lug → Lug
 other_lug Left = Right
 other_lug Right = Left
@@ -70,46 +69,45 @@ other_lug Right = Left
 abbrev pub machine_lug : Parts → ℕ → Lug → Option Place
 machine_lug m bar lug = option_map (lug_place lug) (machine_standing m bar)
 
--- The thing is slot `slot`, or a slot of `m` that holds the wheel.
+-- The thing is the given slot, or a slot in which the machine has the given wheel.
 abbrev pub IsSeatOf : Parts → ℕ → Wheel → Thing → Type 0
 IsSeatOf m slot wheel thing =
     (thing ≡ TheSlot slot) ⊎ ((held : ℕ) × (thing ≡ TheSlot held) × (machine_slot m held ≡ Some (Some wheel)))
 
--- In `n`, the wheel is in slot `slot` and in no other; another slot that held it in `m` is empty. All other
--- things are as in `m`. So another wheel that was in slot `slot` before is in the box, with its ring and its
--- letter.
+-- Seating the wheel turns machine `m` into machine `n`. In `n`, the wheel is in slot `slot` alone, and the slot
+-- that it left is empty. Nothing else changes: a wheel that goes to the box keeps its ring and its letter.
 pub record SeatsWheel (m : Parts) (slot : ℕ) (wheel : Wheel) (n : Parts) : Type 0 where
   pub here : machine_slot n slot ≡ Some (Some wheel)
   pub only : (other : ℕ) → machine_slot n other ≡ Some (Some wheel) → other ≡ slot
   pub left : (held : ℕ) → held ≢ slot → machine_slot m held ≡ Some (Some wheel) → machine_slot n held ≡ Some None
   pub others : KeepsAllBut (IsSeatOf m slot wheel) m n
 
--- The wheel in the slot, or on a Converter M-209 the pin wheel with this number, shows the letter. All other
--- things are as in `m`.
+-- After the setting, the wheel in the slot (on a Converter M-209, the pin wheel with this number) shows the
+-- letter. Nothing else has changed.
 abbrev pub TurnsWheel : Parts → ℕ → ℕ → Parts → Type 0
 TurnsWheel (Rotor m) slot letter n =
     (wheel : Wheel) × (machine_slot (Rotor m) slot ≡ Some (Some wheel))
     × (machine_letter n wheel ≡ Some letter) × SetsOnly (TheLetter wheel) (Rotor m) n
 TurnsWheel (Pin m) wheel letter n = (machine_pin_letter n wheel ≡ Some letter) × SetsOnly (TheShown wheel) (Pin m) n
 
--- In `n`, the cable has the letters that it has in `m`, but not `letter`.
+-- After the setting, the cable has the same letters as before, except the given letter.
 abbrev pub TakesLetterOut : Parts → ℕ → ℕ → Parts → Type 0
 TakesLetterOut m cable letter n =
     (other : ℕ) → Contains (letters_at_cable n cable) other
     ↔ (Contains (letters_at_cable m cable) other × (other ≢ letter))
 
--- In `n`, the cable has the letters that it has in `m`, and `letter`.
+-- After the setting, the cable has the same letters as before, and also the given letter.
 abbrev pub PutsLetterIn : Parts → ℕ → ℕ → Parts → Type 0
 PutsLetterIn m cable letter n =
     (other : ℕ) → Contains (letters_at_cable n cable) other
     ↔ (Contains (letters_at_cable m cable) other ⊎ (other ≡ letter))
 
--- In `n`, the lug is at the place, and the bar's other lug is where it is in `m`.
+-- In machine `n`, the lug is at `place`. The bar's other lug is where it is in machine `m`.
 pub record MovesLug (m : Parts) (bar : ℕ) (lug : Lug) (place : Place) (n : Parts) : Type 0 where
   pub moved : machine_lug n bar lug ≡ Some place
   pub other : machine_lug n bar (other_lug lug) ≡ machine_lug m bar (other_lug lug)
 
--- From `m` to `n`, the readers show the setting's change and no other.
+-- The second machine differs from the first by what the setting changes, and by nothing else.
 abbrev pub ChangesTo : Parts → Setting → Parts → Type 0
 ChangesTo m (Pull cable letter) n = TakesLetterOut m cable letter n × SetsOnly (TheCable cable) m n
 ChangesTo m (Put cable letter) n = PutsLetterIn m cable letter n × SetsOnly (TheCable cable) m n
@@ -128,7 +126,7 @@ abbrev pub HasLooseEnd : Parts → ℕ → Type 0
 HasLooseEnd m cable = (held : Option ℕ × Option ℕ) × (machine_cable m cable ≡ Some held)
     × (length (cable_letters held) < 2)
 
--- The slot holds a wheel; or the number is a pin wheel's, and this wheel has the letter.
+-- The number is of a slot that holds a wheel, or of a pin wheel that has the letter.
 abbrev pub CanShow : Parts → ℕ → ℕ → Type 0
 CanShow m slot letter =
     ((wheel : Wheel) × (machine_slot m slot ≡ Some (Some wheel)))
@@ -138,12 +136,12 @@ CanShow m slot letter =
 abbrev pub HasLugsInOrder : Place × Place → Type 0
 HasLugsInOrder bar = IsBefore bar.0 bar.1
 
--- The machine has the bar. With this lug at the place, the bar's left lug is left of its right lug.
+-- The machine has the bar. If this lug moves to the place, the left lug is still left of the right lug.
 abbrev pub CanMoveLug : Parts → ℕ → Lug → Place → Type 0
 CanMoveLug m bar lug place =
     (standing : Place × Place) × (machine_standing m bar ≡ Some standing) × HasLugsInOrder (with_lug lug place standing)
 
--- By what the machine's readers show, it can carry the setting out.
+-- The machine has what it needs to carry the setting out.
 abbrev pub AllowsSetting : Parts → Setting → Type 0
 AllowsSetting m (Pull cable letter) = Contains (letters_at_cable m cable) letter
 AllowsSetting m (Put cable letter) = HasLooseEnd m cable

@@ -1,5 +1,5 @@
 -- How many settings it takes to give a cable a pair or a bar a row.
--- Code: a cable's cost is counted over the alphabet; for a bar, the one or two standings of the row are tried.
+-- Code: `cable_cost` goes through the alphabet; `bar_cost` tries the one or two standings that read as the row.
 -- Test: kd_trials/src/state/days.rt
 use Rattle.std.specs.Prelude.{ℕ, ◌+◌, ◌-◌, nat_eq, nat_lt, min, Bool, false, not, ◌&&◌, List, [], ◌∷◌, ◌++◌, length}
 use Rattle.std.specs.Prelude.{slice_index_or, map, filter, find, fold, zip, sum, count_by, replicate, Option, Some}
@@ -19,7 +19,7 @@ use Rattle.kd_state.specs.Machine.{cable_letters, ring_at, letter_at}
 use Rattle.kd_state.specs.Setting.{has_letter, is_same_place}
 use Rattle.kd_state.specs.SheetDay.{RotorDay, PinDay, Day, OfRotors, OfPins}
 
--- whether exactly one of the two holds
+-- whether exactly one of the two values is true
 abbrev pub exactly_one : Bool → Bool → Bool
 exactly_one a b = if a then not b else b
 
@@ -32,8 +32,7 @@ abbrev pub column_letters : Option (ℕ × ℕ) → List ℕ
 column_letters None = []
 column_letters (Some pair) = pair.0 ∷ pair.1 ∷ []
 
--- the cost of giving a cable the column's pair, or of emptying it if the column has no pair: how many letters
--- are in only one of the two
+-- the cost of giving a cable the column's pair, or of emptying it: how many letters are in only one of cable and pair
 abbrev pub cable_cost : Option ℕ × Option ℕ → Option (ℕ × ℕ) → ℕ
 cable_cost cable column =
     count_by (λ l. exactly_one (has_letter (cable_letters cable) l) (has_letter (column_letters column) l)) alphabet
@@ -42,16 +41,16 @@ cable_cost cable column =
 abbrev pub lugs_moved : Place × Place → Place × Place → ℕ
 lugs_moved bar other = one_unless (is_same_place bar.0 other.0) + one_unless (is_same_place bar.1 other.1)
 
--- the standings that read as this row, in order
+-- the standings with which a bar reads as this row, in the order of `standings`
 unfoldable pub standings_as : ℕ × ℕ → List (Place × Place)
 standings_as row =
     filter (λ bar. let reading = reading_of bar.0 bar.1 in nat_eq reading.0 row.0 && nat_eq reading.1 row.1) standings
 
--- the place of this pin wheel; for 0, the left place that has no wheel
+-- the place of a bar at which this pin wheel acts; for 0, the left one of the two places without a wheel
 abbrev pub place_of_pin_wheel : ℕ → Place
 place_of_pin_wheel wheel = slice_index_or (ZeroLeft ∷ One ∷ Two ∷ Three ∷ Four ∷ Five ∷ Six ∷ []) wheel Six
 
--- the standing with its lugs at these two places
+-- the standing whose two lugs are at these two places, given in either order
 abbrev pub standing_across : Place → Place → Place × Place
 standing_across one other = if nat_lt (place_rank one) (place_rank other) then (one, other) else (other, one)
 
@@ -59,7 +58,7 @@ standing_across one other = if nat_lt (place_rank one) (place_rank other) then (
 abbrev pub bar_cost : Place × Place → ℕ × ℕ → ℕ
 bar_cost standing row = fold min 2 (map (lugs_moved standing) (standings_as row))
 
--- of the standings that read as the row, the first that differs from `standing` in the fewest lugs
+-- of all standings that read as the row, the first that is reached by moving the fewest lugs
 abbrev pub nearest_standing : Place × Place → ℕ × ℕ → Option (Place × Place)
 nearest_standing bar row = find (λ other. nat_eq (lugs_moved bar other) (bar_cost bar row)) (standings_as row)
 
@@ -70,8 +69,7 @@ nearest_standing bar row = find (λ other. nat_eq (lugs_moved bar other) (bar_co
 abbrev pub columns_of : List (ℕ × ℕ) → List (Option (ℕ × ℕ))
 columns_of pairs = map Some pairs ++ replicate (13 - length pairs) None
 
--- the cost table of a machine and a day of one model: a list for each cable, of the costs of the columns; or a list for
--- each bar, of the costs of the rows
+-- the cost table of a machine and a day: a cost for each cable and column, or for each bar and row
 abbrev pub cost_table : Parts → Day → List (List ℕ)
 cost_table (Rotor m) (OfRotors s) = map (λ cable. map (cable_cost cable) (columns_of s.pairs)) m.cables
 cost_table (Pin m) (OfPins s) = map (λ bar. map (bar_cost bar) s.rows) m.bars
@@ -83,15 +81,15 @@ cost_table _ _ = []
 abbrev pub loose_slots : RotorParts → RotorDay → ℕ
 loose_slots m s = count_by (λ slot. not (option_map_or (same_wheel slot.1.wheel) slot.0 false)) (zip m.slots s.wheels)
 
--- How many of the day's wheels have another ring than the day's. A wheel that is still in the box counts too.
+-- How many of the day's wheels don't have the day's ring. Wheels that are still in the box count too.
 abbrev pub loose_rings : RotorParts → RotorDay → ℕ
 loose_rings m s = count_by (λ w. not (option_map_or (nat_eq w.ring) (ring_at m w.wheel) false)) s.wheels
 
--- How many of the day's wheels have another window letter than the day's. A wheel in the box counts too.
+-- How many of the day's wheels don't have the day's window letter. Wheels that are still in the box count too.
 abbrev pub loose_letters : RotorParts → RotorDay → ℕ
 loose_letters m s = count_by (λ w. not (option_map_or (nat_eq w.letter) (letter_at m w.wheel) false)) s.wheels
 
--- how many pins differ from the day's
+-- how many pins aren't as the day says
 abbrev pub loose_pins : PinParts → PinDay → ℕ
 loose_pins m s =
     sum (map (λ wheel. count_by (λ pin. exactly_one pin.0 pin.1) (zip wheel.0 wheel.1))

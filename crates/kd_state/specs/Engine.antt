@@ -1,16 +1,16 @@
--- The key of an engine, by its mechanism. No public contract cites this file.
+-- The key to which an engine is set. No public contract cites this file.
 use Rattle.std.specs.Prelude.{◌≡◌, length}
 use Rattle.kd_state.specs.declared.engine.Mechanism.{Mechanism}
 use Rattle.kd_state.specs.declared.engine.Mechanism.TheVariants.{ThreeWheels, FourWheels, Drum}
 use Rattle.kd_state.specs.TwoCiphers.{EngineKey, OfWheels, OfDrum}
 
--- the key that the mechanism is set to
+-- the key to which the Enigma or the Converter in an engine is set
 abbrev pub mechanism_key : Mechanism → EngineKey
 mechanism_key (ThreeWheels key) = OfWheels key
 mechanism_key (FourWheels key) = OfWheels key
 mechanism_key (Drum key) = OfDrum key
 
--- The key has three wheels in `ThreeWheels`, and four in `FourWheels`.
+-- The key of `ThreeWheels` has three wheels, and the key of `FourWheels` has four.
 abbrev pub HasKeyWheelCount : Mechanism → Type 0
 HasKeyWheelCount (ThreeWheels key) = length key.wheels ≡ 3
 HasKeyWheelCount (FourWheels key) = length key.wheels ≡ 4

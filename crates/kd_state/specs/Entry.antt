@@ -1,11 +1,11 @@
--- The values of a day's entry, in the types that contracts use.
+-- The values of a day: the code's types, such as `Entry`, turned into the types that contracts use.
 use Rattle.kd_state.specs.declared.sheet_day.rotor_entry.RotorEntry.{RotorEntry}
 use Rattle.kd_state.specs.declared.sheet_day.pin_entry.PinEntry.{PinEntry}
 use Rattle.kd_state.specs.declared.sheet_day.entry.Entry.{Entry}
 use Rattle.kd_state.specs.declared.sheet_day.entry.Entry.TheVariants.{Rotor, Pin}
 use Rattle.kd_state.specs.SheetDay.{RotorDay, PinDay, Day, OfRotors, OfPins}
 
--- the values of a day of a rotor model
+-- the values of a rotor machine's day
 abbrev pub rotor_values : RotorEntry → RotorDay
 rotor_values e = record {
   day = e.day;
@@ -16,11 +16,11 @@ rotor_values e = record {
   groups = e.groups.items;
 }
 
--- the values of a day of the Converter M-209
+-- the values of a Converter's day
 abbrev pub pin_values : PinEntry → PinDay
 pin_values e = record { day = e.day; rows = e.rows; pins = e.pins; window = e.window; list = e.list }
 
--- the values of an entry
+-- the values of a day of either kind
 abbrev pub values_of : Entry → Day
 values_of (Rotor e) = OfRotors (rotor_values e)
 values_of (Pin e) = OfPins (pin_values e)

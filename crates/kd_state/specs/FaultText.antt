@@ -23,16 +23,16 @@ why_name whys.NoSuchBar = codes "NoSuchBar"
 why_name whys.PlaceTaken = codes "PlaceTaken"
 why_name whys.WouldPass = codes "WouldPass"
 
--- the text of `Illegal`: its number, its name, and the name of the reason
+-- the text of `Illegal`: the refusal's number and name, and the name of the reason
 abbrev pub illegal_text : Illegal → List ℕ
 illegal_text fault = refusal_name refusals.Illegal ++ word_after_space (why_name fault.why)
 
--- the text of `IllegalAt`: its number, its name, the line, and the name of the reason
+-- the text of `IllegalAt`: the refusal's number and name, the number of the line, and the name of the reason
 abbrev pub illegal_at_text : IllegalAt → List ℕ
 illegal_at_text fault = refusal_name refusals.IllegalAt ++ word_after_space (decimal fault.line)
     ++ word_after_space (why_name fault.why)
 
--- the text of a list's fault: its number, its name, and the line of `BadLine`
+-- the text of a list's fault: the refusal's number and name, and for `BadLine` the number of the line
 abbrev pub list_fault_text : ListFault → List ℕ
 list_fault_text (BadLine line) = refusal_name refusals.BadLine ++ word_after_space (decimal line)
 list_fault_text TooMany = refusal_name refusals.TooMany

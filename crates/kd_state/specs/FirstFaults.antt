@@ -1,14 +1,14 @@
--- How a first fault is stated: by rules, each of which says when the result of a step, a value or a fault, is right.
--- The rules in a `do` are in the order of testing, so the result is the fault of the first step that has one.
+-- Rules for results: a rule says whether a result, which is a value or a fault, is right. A `do` joins the rules
+-- of steps in the order of testing. The fault of the first step that fails is right.
 use Rattle.std.specs.Prelude.{◌≡◌, Result, Ok, Err, refl}
 use Rattle.std.proofs.Common.{sym, ap, ◌∙◌, subst}
 
--- a rule: for each result, which is a value or a fault, whether the result is right
+-- a rule: says of each result, which is a value or a fault, whether the result is right
 abbrev pub AnswerRule : Type 0 → Type 0 → Type 1
 AnswerRule F X = Result X F → Type 0
 
--- The first step has a fault, and the result is this fault; or the first step finds `x`, and the result is right by
--- the rule `Next x` of the next steps.
+-- The rule of two steps. If the first step has a fault, the right result is this fault. If the first step finds a
+-- value `x`, the result must be right by the rule `Next x`.
 pub data ThenNext {F X Y : Type 0} (First : Result X F → Type 0) (Next : X → Result Y F → Type 0)
     (answer : Result Y F) : Type 0 where
   HasFault : (fault : F) → First (Err fault) → answer ≡ Err fault → ThenNext First Next answer
@@ -18,20 +18,20 @@ infixl 10 ◌>>=◌
 abbrev pub ◌>>=◌ : {F X Y : Type 0} → AnswerRule F X → (X → AnswerRule F Y) → AnswerRule F Y
 says >>= next = ThenNext says next
 
--- the result is the value `x`
+-- the rule that only this value is right
 abbrev pub Yields : {F X : Type 0} → X → AnswerRule F X
 Yields x answer = answer ≡ Ok x
 
--- the result is a value that satisfies `Holds`, or the fault `due` if no value does
+-- the rule that each value with this property is right; if no value has it, this fault is right
 abbrev pub Finds : {F X : Type 0} → (X → Type 0) → F → AnswerRule F X
 Finds Holds due (Ok x) = Holds x
 Finds {X} Holds due (Err fault) = ((x : X) → ¬ (Holds x)) × (fault ≡ due)
 
--- the result is success if `Holds`, and otherwise the fault `due`
+-- the rule that success is right if this statement holds, and that otherwise this fault is right
 abbrev pub Demands : {F : Type 0} → Type 0 → F → AnswerRule F (Unit {0})
 Demands Holds due = Finds (λ _. Holds) due
 
--- the result is a value that satisfies `Holds`, and never a fault
+-- the rule that each value with this property is right, and that no fault is right
 abbrev pub FindsAlways : {F X : Type 0} → (X → Type 0) → AnswerRule F X
 FindsAlways Holds (Ok x) = Holds x
 FindsAlways Holds (Err fault) = ⊥
@@ -87,7 +87,7 @@ HasOneAnswer-FindsAlways one (Ok x) (Ok y) a b = ap Ok (one x y a b)
 HasOneAnswer-FindsAlways one (Ok x) (Err f) a b = absurd b
 HasOneAnswer-FindsAlways one (Err f) w a b = absurd a
 
--- The first step finds a value, and the next steps then find `y`.
+-- The first step finds a value, and with this value the next steps find `y`.
 pub record BothSucceed {F X Y : Type 0} (First : Result X F → Type 0) (Next : X → Result Y F → Type 0) (y : Y) : Type
     0 where
   pub found : X

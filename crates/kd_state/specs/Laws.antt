@@ -38,7 +38,7 @@ abbrev pub AllowedWheelsLieInTheBox : Type 0
 AllowedWheelsLieInTheBox =
     (model : Model) (slot : ℕ) (wheel : Wheel) → IsAllowed model slot wheel → Contains (box_of model) wheel
 
--- Each wheel of a box has a place in the box.
+-- Each wheel of a box has a place below the box's length.
 abbrev pub WheelsHavePlaces : Type 0
 WheelsHavePlaces =
     (model : Model) (wheel : Wheel) → Contains (box_of model) wheel → place_in_box model wheel < length (box_of model)
@@ -48,18 +48,18 @@ abbrev pub PlacesTellWheels : Type 0
 PlacesTellWheels = (model : Model) (wheel other : Wheel) → Contains (box_of model) wheel → Contains (box_of model) other
     → place_in_box model wheel ≡ place_in_box model other → wheel ≡ other
 
--- Two wheels of a day have different places in the box.
+-- Two wheels of one day have different places in the model's box.
 abbrev pub DaysWheelsHaveTheirPlaces : Type 0
 DaysWheelsHaveTheirPlaces = (model : Model) (wheels : List SheetWheel) → AreLegalSeats model (seats_of_wheels wheels)
     → AllPairs (λ (w other : SheetWheel). place_in_box model w.wheel ≢ place_in_box model other.wheel) wheels
 
 -- ---- The laws of settings: each is refused or has one result, which is just the change that the readers show.
 
--- A setting that is carried out on a machine gives a machine.
+-- After a setting, a machine's parts are legal, and each cable's letters are in alphabetical order.
 abbrev pub SettingsKeepMachines : Type 0
 SettingsKeepMachines = (m n : Parts) (x : Setting) → IsMachine m → IsSettingInRange x → Carries m x n → IsMachine n
 
--- A list of settings that is carried out on a machine gives a machine.
+-- After a list of settings, a machine's parts are legal, and each cable's letters are in alphabetical order.
 abbrev pub ListsKeepMachines : Type 0
 ListsKeepMachines = (m n : Parts) (xs : List Setting) → IsMachine m → All IsSettingInRange xs → Leads m xs n
     → IsMachine n
@@ -70,50 +70,49 @@ RefusesOrCarries =
     (m : Parts) (x : Setting)
     → MatchOption (why_refused m x) ((n : Parts) × Carries m x n) (λ why. (n : Parts) → ¬ (Carries m x n))
 
--- Carrying out a setting has only one result.
+-- Carrying out a setting on a machine has only one result.
 abbrev pub CarriesToOne : Type 0
 CarriesToOne = (m n o : Parts) (x : Setting) → Carries m x n → Carries m x o → n ≡ o
 
--- Carrying out a list of settings has only one result.
+-- Carrying out a list of settings on a machine has only one result.
 abbrev pub LeadsToOne : Type 0
 LeadsToOne = (m n o : Parts) (xs : List Setting) → Leads m xs n → Leads m xs o → n ≡ o
 
--- A setting that is carried out makes its change and no other, as the readers show it.
+-- A setting that is carried out changes what it is meant to change, and nothing else.
 abbrev pub SettingsAreTold : Type 0
 SettingsAreTold = (m n : Parts) (x : Setting) → IsMachine m → Carries m x n → ChangesTo m x n
 
--- If a setting is allowed, and the readers show its change and no other, then it was carried out.
+-- If machine `m` allows a setting, and `n` differs from `m` by the setting's change alone, the setting makes `n`.
 abbrev pub TellingIsMaking : Type 0
 TellingIsMaking =
     (m n : Parts) (x : Setting) → IsMachine m → IsMachine n → IsSettingInRange x → AllowsSetting m x
     → ChangesTo m x n → Carries m x n
 
--- A machine doesn't refuse a setting exactly if the setting is allowed by what the readers show.
+-- A machine has no reason to refuse a setting exactly if `AllowsSetting` holds.
 abbrev pub RefusalsAreTold : Type 0
 RefusalsAreTold = (m : Parts) (x : Setting) → IsMachine m → (why_refused m x ≡ None) ↔ AllowsSetting m x
 
--- A rotor machine doesn't refuse to seat a wheel exactly if the wheel is allowed in the slot.
+-- A rotor machine lets a wheel be seated exactly if the wheel is allowed in the slot.
 abbrev pub SeatsAreByTheTables : Type 0
 SeatsAreByTheTables =
     (m : RotorParts) (slot : ℕ) (wheel : Wheel)
     → (why_refused (Rotor m) (Seat slot wheel) ≡ None) ↔ IsAllowed m.model slot wheel
 
--- A rotor machine doesn't refuse to seat a reflector exactly if the reflector is one of the model's.
+-- A rotor machine lets a reflector be seated exactly if the reflector is one of the model's.
 abbrev pub ReflectorsAreByTheTables : Type 0
 ReflectorsAreByTheTables =
     (m : RotorParts) (reflector : Reflector)
     → (why_refused (Rotor m) (SeatReflector reflector) ≡ None) ↔ Contains (reflectors_of m.model) reflector
 
--- A rotor machine doesn't refuse to set a wheel's ring exactly if the wheel is in the model's box.
+-- A rotor machine lets a wheel's ring be set exactly if the wheel is in the model's box.
 abbrev pub RingsAreByTheTables : Type 0
 RingsAreByTheTables =
     (m : RotorParts) (wheel : Wheel) (letter : ℕ)
     → (why_refused (Rotor m) (RingTo wheel letter) ≡ None) ↔ Contains (box_of m.model) wheel
 
--- ---- The laws of lines and lists: a line is of one setting at most, a text of one list at most; and a text
--- has one fault at most.
+-- ---- The laws of lines and lists: a text is the text of at most one list, and has at most one fault.
 
--- The parts of a setting's line are words: not empty, and without a space or LF.
+-- The parts of a setting's line are words: they aren't empty, and have no space and no LF.
 abbrev pub SettingsHaveWords : Type 0
 SettingsHaveWords = (x : Setting) → IsSettingInRange x → All IsWord (setting_words x)
 
@@ -121,29 +120,27 @@ SettingsHaveWords = (x : Setting) → IsSettingInRange x → All IsWord (setting
 abbrev pub LinesTellSettings : Type 0
 LinesTellSettings = (x y : Setting) → IsSettingInRange x → IsSettingInRange y → setting_line x ≡ setting_line y → x ≡ y
 
--- Bytes are the text of at most one list.
+-- Bytes are the text of at most one list of settings.
 abbrev pub TextsTellLists : Type 0
 TextsTellLists = (bytes : List ℕ) (xs ys : List Setting) → IsListText bytes xs → IsListText bytes ys → xs ≡ ys
 
--- The text of a list has no fault.
+-- The text of a list of settings has no fault.
 abbrev pub ListsHaveNoFault : Type 0
 ListsHaveNoFault =
     (bytes : List ℕ) (xs : List Setting) (fault : ListFault) → IsListText bytes xs → ¬ (IsListFault bytes fault)
 
--- A text has at most one fault.
+-- A text, read as a list of settings, has at most one fault.
 abbrev pub OneListFault : Type 0
 OneListFault =
     (bytes : List ℕ) (fault other : ListFault) → IsListFault bytes fault → IsListFault bytes other → fault ≡ other
 
--- ---- The laws of ciphers: a machine on the day's key enciphers as the day asks, and an equally set machine
--- deciphers the ciphertext.
+-- ---- The laws of ciphers: machines on the day's key encipher as the day asks, and read each other's texts.
 
--- An engine with a machine's key enciphers as the machine does by its own parts.
+-- An engine with a machine's key enciphers as the machine itself does.
 abbrev pub EngineIsTheMachine : Type 0
 EngineIsTheMachine = (m : Parts) (text : List ℕ) → cipher (physical_key m) text ≡ physical_cipher m text
 
--- If an engine with a machine's key is turned to other letters, it enciphers as the machine does once the machine
--- is turned to these letters.
+-- If an engine with a machine's key, and the machine, are turned to the same letters, both encipher alike.
 abbrev pub TurnedEngineIsTheTurnedMachine : Type 0
 TurnedEngineIsTheTurnedMachine = (m n : Parts) (window text : List ℕ) → IsTurnedTo m window n
     → cipher (key_with_window (physical_key m) window) text ≡ physical_cipher n text
@@ -162,18 +159,18 @@ ReadingIsItsCipher =
 abbrev pub OnKeyIsReady : Type 0
 OnKeyIsReady = (m : Parts) (s : Day) → IsMachine m → IsLegalDay s → OnKey m s → IsReady m
 
--- A machine on the day's key enciphers as the day asks from the letters that the machine shows.
+-- A machine on the day's key enciphers as the day asks, beginning with the letters that the machine shows.
 abbrev pub OnKeyIsItsCipher : Type 0
 OnKeyIsItsCipher = (m : Parts) (s : Day) (text : List ℕ) → IsMachine m → IsLegalDay s → OnKey m s
     → physical_cipher m text ≡ cipher (key_with_window (sheet_key s) (window_of m)) text
 
--- A machine on the day's key that is turned to other letters enciphers as the day asks from these letters.
+-- If a machine on the day's key is turned to other letters, it enciphers as the day asks from these letters on.
 abbrev pub TurnedHasTheDaysCipher : Type 0
 TurnedHasTheDaysCipher =
     (m n : Parts) (s : Day) (window text : List ℕ) → IsMachine m → IsLegalDay s → OnKey m s → IsTurnedTo m window n
     → physical_cipher n text ≡ cipher (key_with_window (sheet_key s) window) text
 
--- A ready machine can be turned to each window, and is still a machine then.
+-- A ready machine can be turned to any letters that fit its slots or pin wheels, and its parts stay legal.
 abbrev pub MachinesCanBeTurned : Type 0
 MachinesCanBeTurned =
     (m : Parts) (window : List ℕ) → IsMachine m → IsReady m → IsWindow (physical_key m) window
@@ -185,7 +182,7 @@ EquallySetDecipher =
     (m n : Parts) (s : Day) (text : List ℕ) → IsMachine m → IsMachine n → IsLegalDay s → OnKey m s → OnKey n s
     → window_of m ≡ window_of n → All (λ letter. letter < 26) text → physical_cipher n (physical_cipher m text) ≡ text
 
--- An engine set as the day says deciphers its own ciphertext, from the same letters.
+-- An engine on the day's key deciphers its own ciphertext, if it begins with the same letters again.
 abbrev pub TheDayDeciphersItself : Type 0
 TheDayDeciphersItself = (s : Day) (window text : List ℕ) → IsLegalDay s → All (λ letter. letter < 26) text
     → cipher (key_with_window (sheet_key s) window) (cipher (key_with_window (sheet_key s) window) text) ≡ text
@@ -194,7 +191,7 @@ TheDayDeciphersItself = (s : Day) (window text : List ℕ) → IsLegalDay s → 
 abbrev pub TurnedIsOnKey : Type 0
 TurnedIsOnKey = (m n : Parts) (s : Day) (window : List ℕ) → IsTurnedTo m window n → OnKey m s → OnKey n s
 
--- Turning a machine to other letters changes only the letters of its key.
+-- If a machine is turned to other letters, only the letters in its key change.
 abbrev pub TurnedHasItsKey : Type 0
 TurnedHasItsKey =
     (m n : Parts) (window : List ℕ) → IsTurnedTo m window n → physical_key n ≡ key_with_window (physical_key m) window
@@ -205,13 +202,13 @@ CipherInTurn =
     (key : EngineKey) (first rest : List ℕ)
     → cipher key (first ++ rest) ≡ cipher key first ++ cipher (engine_key_after key (length first)) rest
 
--- The key after `m` letters and then `n` more is the key after `m + n` letters.
+-- The key after `m` letters, and then `n` more letters, is the key after `m + n` letters.
 abbrev pub KeyInTurn : Type 0
 KeyInTurn = (key : EngineKey) (m n : ℕ) → engine_key_after (engine_key_after key m) n ≡ engine_key_after key (m + n)
 
 -- ---- The laws of columns and costs.
 
--- Two lists have the same letters exactly if `has_letter` has the same value for both lists at each letter.
+-- Two lists have the same letters exactly if `has_letter` finds the same letters in both lists.
 abbrev pub TestsTellLetters : Type 0
 TestsTellLetters = (xs ys : List ℕ) → HaveSameLetters xs ys
     ↔ ((letter : ℕ) → has_letter xs letter ≡ has_letter ys letter)
@@ -225,11 +222,11 @@ abbrev pub ColumnsAreThePairs : Type 0
 ColumnsAreThePairs =
     (pairs : List (ℕ × ℕ)) (place : ℕ) → slice_index_or (columns_of pairs) place None ≡ slice_get pairs place
 
--- Giving a cable a column costs at most 4.
+-- Giving a cable a column costs at most 4 settings.
 abbrev pub CablesCostFour : Type 0
 CablesCostFour = (cable : Option ℕ × Option ℕ) (column : Option (ℕ × ℕ)) → cable_cost cable column ≤ 4
 
--- The cost tables are square: each row has as many entries as the table has rows.
+-- The cost tables are square: each list in a table has as many costs as the table has lists.
 abbrev pub CostTablesAreSquare : Type 0
 CostTablesAreSquare =
     (m : Parts) (s : Day) → IsMachine m → IsLegalDay s

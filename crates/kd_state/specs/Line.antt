@@ -33,7 +33,7 @@ setting_words (LugTo bar lug place) = codes "LUG" ∷ decimal bar ∷ lug_text l
 abbrev pub setting_line : Setting → List ℕ
 setting_line x = line_of (setting_words x)
 
--- The setting's number, if it has one, is below 256, and its letter, if it has one, is below 26.
+-- The setting's number (if any) is below 256, and the setting's letter (if any) is below 26.
 abbrev pub IsSettingInRange : Setting → Type 0
 IsSettingInRange (Pull cable letter) = (cable < 2 ^ 8) × (letter < 26)
 IsSettingInRange (Put cable letter) = (cable < 2 ^ 8) × (letter < 26)
@@ -44,7 +44,7 @@ IsSettingInRange (Turn slot letter) = (slot < 2 ^ 8) × (letter < 26)
 IsSettingInRange (PinTo wheel letter effective) = (wheel < 2 ^ 8) × (letter < 26)
 IsSettingInRange (LugTo bar lug place) = bar < 2 ^ 8
 
--- `result` is the setting with these words, or `None` if no setting has them.
+-- The result is the setting whose line has these words, or `None` if no setting's line has them.
 abbrev pub IsSettingOfWords : List (List ℕ) → Option Setting → Type 0
 IsSettingOfWords words result =
     MatchOption result ((x : Setting) → IsSettingInRange x → setting_words x ≢ words)
@@ -67,7 +67,7 @@ pub record BeginsWithSettingLine (bytes : List ℕ) (x : Setting) (rest : List �
   pub line : bytes ≡ setting_line x ++ 10 ∷ rest
   pub in_range : IsSettingInRange x
 
--- The bytes don't begin with a setting's line and its LF.
+-- The bytes don't begin with the line of a setting and an LF.
 abbrev pub BeginsWithNoSetting : List ℕ → Type 0
 BeginsWithNoSetting bytes = (x : Setting) (rest : List ℕ) → IsSettingInRange x → bytes ≢ setting_line x ++ 10 ∷ rest
 
@@ -77,8 +77,8 @@ pub record BeginsWithAllSettings (bytes : List ℕ) (settings : List Setting) (r
   pub few : length settings ≤ 192
   pub none_more : BeginsWithNoSetting rest
 
--- Why `bytes` aren't the text of a list: `BadLine` with the number, counted from 1, of the first line that
--- isn't a setting's; or `TooMany` if they begin with the lines of 193 settings.
+-- Why the bytes aren't the text of a list. `BadLine` has the number, counted from 1, of the first line that isn't
+-- a setting's. `TooMany`: the bytes begin with the lines of 193 settings.
 abbrev pub IsListFault : List ℕ → ListFault → Type 0
 IsListFault bytes (BadLine line) =
     (settings : List Setting) × (rest : List ℕ)

@@ -1,5 +1,5 @@
 -- The cipher of a Converter M-209, defined by its pins, the letters that it shows, and its lugs. Wheels are
--- counted from 1; letters of a text and places on a wheel from 0.
+-- counted from 1. Letters of a text, and places on a wheel, are counted from 0.
 -- Source: War Department TM 11-380
 -- Code: the bars that move are counted by their readings, not by their lugs.
 -- Test: kd_trials/src/state/engine.rt
@@ -11,13 +11,13 @@ use Rattle.kd_pins.specs.PinWheels.{pins_of}
 use Rattle.kd_drum.specs.Converter.{is_acting_after}
 use Rattle.kd_state.specs.declared.machine.pin_parts.PinParts.{PinParts}
 
--- how many bars are moved after `count` letters: those with a lug at the place of a wheel whose acting pin is effective
+-- how many bars are moved, by one lug or by both, after this many letters: a lug at an effective acting pin moves its bar
 abbrev pub bars_moved : PinParts → ℕ → ℕ
 bars_moved m count =
     let acts = λ (place : Place). is_acting_after (pins_of m.pins) m.letters count (place_number place) in
     count_by (λ bar. acts bar.0 || acts bar.1) m.bars
 
--- The ciphertext of `text`: each letter becomes the letter at its place in the reversed alphabet (Z for A),
--- moved on by the number of bars that move.
+-- The ciphertext of a text: each letter is mirrored in the alphabet (A becomes Z), and then moved on in the
+-- alphabet by the number of bars that are moved.
 abbrev pub lugs_cipher : PinParts → List ℕ → List ℕ
 lugs_cipher m text = map (λ numbered. (25 + bars_moved m numbered.0 - numbered.1) % 26) (enumerate_from 0 text)

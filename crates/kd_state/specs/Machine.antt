@@ -1,4 +1,4 @@
--- Cables, slots, letters and pins, and which of them are legal.
+-- The parts of a machine (cables, slots, letters and pins), and when they are legal.
 -- Test: kd_trials/src/state/carrying.rt
 use Rattle.std.specs.Prelude.{◌≡◌, ℕ, ◌+◌, ◌<◌, nat_eq, nat_le, Bool, List, ◌++◌, length, map, All, Contains, slice_get}
 use Rattle.std.specs.Prelude.{Option, Some, None, if◌then◌else◌}
@@ -47,18 +47,18 @@ pub record AreLetters (number : ℕ) (letters : List ℕ) : Type 0 where
   pub count : length letters ≡ number
   pub within : All (λ letter. letter < 26) letters
 
--- There are 13 cables. All letters in them are below 26, and all are different.
+-- There are 13 cables. All letters in the cables are below 26, and all are different.
 pub record AreCables (cables : List (Option ℕ × Option ℕ)) : Type 0 where
   pub count : length cables ≡ 13
   pub within : All (λ letter. letter < 26) (letters_in_cables cables)
   pub apart : IsDistinct nat_eq (letters_in_cables cables)
 
--- There are six letters, each on its wheel.
+-- There are six letters, one for each pin wheel, and each letter is on its wheel.
 pub record AreOnWheels (letters : List ℕ) : Type 0 where
   pub count : length letters ≡ 6
   pub each : (wheel letter : ℕ) → numbered_item letters wheel ≡ Some letter → Contains (ring_of wheel) letter
 
--- Each wheel has a pin for each of its letters.
+-- Each pin wheel has a pin for each of its letters.
 abbrev pub HasAllPins : PinSet → Type 0
 HasAllPins pins = (wheel : ℕ) → length (wheel_pins pins wheel) ≡ length (ring_of wheel)
 
@@ -67,7 +67,7 @@ HasAllPins pins = (wheel : ℕ) → length (wheel_pins pins wheel) ≡ length (r
 -- own rule
 -- Code: `Machine` has these rules as its invariant.
 
--- The parts make a rotor machine.
+-- The parts of a rotor machine are legal.
 pub record IsLegalRotor (m : RotorParts) : Type 0 where
   pub slots : length m.slots ≡ slots_of m.model
   pub allowed : AreWheelsAllowed m.model m.slots
@@ -77,31 +77,31 @@ pub record IsLegalRotor (m : RotorParts) : Type 0 where
   pub letters : AreLetters (length (box_of m.model)) m.letters
   pub cables : AreCables m.cables
 
--- The parts make a Converter M-209.
+-- The parts of a Converter M-209 are legal.
 pub record IsLegalPin (m : PinParts) : Type 0 where
   pub pins : HasAllPins m.pins
   pub letters : AreOnWheels m.letters
   pub bars : length m.bars ≡ 27
   pub apart : All (λ bar. IsBefore bar.0 bar.1) m.bars
 
--- The parts make a machine, a rotor machine or a Converter M-209.
+-- The parts of a machine of any model are legal.
 abbrev pub IsLegal : Parts → Type 0
 IsLegal (Rotor m) = IsLegalRotor m
 IsLegal (Pin m) = IsLegalPin m
 
--- a cable with these letters in alphabetical order; a single letter is in the first end
+-- a cable with these letters in alphabetical order; a single letter is at the cable's first end
 abbrev pub cable_in_order : Option ℕ → Option ℕ → Option ℕ × Option ℕ
 cable_in_order None other = (other, None)
 cable_in_order (Some letter) None = (Some letter, None)
 cable_in_order (Some letter) (Some other) =
     if nat_le letter other then (Some letter, Some other) else (Some other, Some letter)
 
--- the machine with the letters of each cable in alphabetical order: which end has which letter doesn't matter
+-- the machine, with each cable's letters in alphabetical order; it doesn't matter which end has which letter
 abbrev pub with_cables_in_order : Parts → Parts
 with_cables_in_order (Rotor m) = Rotor (record m { cables = map (λ cable. cable_in_order cable.0 cable.1) m.cables })
 with_cables_in_order (Pin m) = Pin m
 
--- The parts are a machine's: legal, with the letters of each cable in order.
+-- The parts are legal, and the letters of each cable are in alphabetical order.
 pub record IsMachine (m : Parts) : Type 0 where
   pub legal : IsLegal m
   pub cables : with_cables_in_order m ≡ m

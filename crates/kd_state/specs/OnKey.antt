@@ -20,24 +20,24 @@ HaveSameLetters xs ys = (letter : ℕ) → Contains xs letter ↔ Contains ys le
 abbrev pub AreLettersOfPair : ℕ → ℕ → ℕ × ℕ → Type 0
 AreLettersOfPair one other pair = ((one ≡ pair.0) × (other ≡ pair.1)) ⊎ ((other ≡ pair.0) × (one ≡ pair.1))
 
--- The cable's letters are the letters of the pair.
+-- The cable's letters are the two letters of the pair.
 pub record HasPairLetters (cable : Option ℕ × Option ℕ) (pair : ℕ × ℕ) : Type 0 where
   pub letters : HaveSameLetters (cable_letters cable) (pair.0 ∷ pair.1 ∷ [])
 
--- The cable is empty, or joins one of the pairs.
+-- The cable is empty, or has the letters of one of the pairs.
 pub record IsCablePaired (pairs : List (ℕ × ℕ)) (cable : Option ℕ × Option ℕ) : Type 0 where
   pub joins : cable_letters cable ≢ [] → Any (HasPairLetters cable) pairs
 
--- One of the cables joins the pair.
+-- One of the cables has the letters of the pair.
 pub record IsPairJoined (cables : List (Option ℕ × Option ℕ)) (pair : ℕ × ℕ) : Type 0 where
   pub joins : Any (λ cable. HasPairLetters cable pair) cables
 
--- Each cable is empty or joins a pair, and each pair is joined by a cable. No order matters.
+-- Each cable is empty or has the letters of a pair, and each pair's letters are in a cable. No order matters.
 pub record AreThePairs (cables : List (Option ℕ × Option ℕ)) (pairs : List (ℕ × ℕ)) : Type 0 where
   pub pair : All (IsCablePaired pairs) cables
   pub cable : All (IsPairJoined cables) pairs
 
--- Each slot has the day's wheel with the day's ring. Reflector and cables are the day's.
+-- Each slot has the day's wheel with the day's ring, and the model, the reflector and the cables are the day's.
 pub record IsRotorOnKey (m : RotorParts) (s : RotorDay) : Type 0 where
   pub model : m.model ≡ s.model
   pub slots : m.slots ≡ seats_of_wheels s.wheels

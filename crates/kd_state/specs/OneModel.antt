@@ -8,8 +8,8 @@ use Rattle.kd_state.specs.declared.machine.one_model.OneModel.TheVariants.{Rotor
 use Rattle.kd_state.specs.SheetDay.{Day, OfRotors, OfPins}
 use Rattle.kd_state.specs.Entry.{rotor_values, pin_values}
 
--- The `OneModel` has the machine's parts and the day's entry: both of the same rotor model, or both of the
--- Converter M-209.
+-- The `OneModel` has the parts of the machine and the entry of the day. Machine and day are of the same rotor
+-- model, or both of the Converter M-209.
 abbrev pub AreTakenApart : Parts → Day → OneModel → Type 0
 AreTakenApart m s (Rotor m_parts entry) =
     (m ≡ parts.Rotor m_parts.now) × (s ≡ OfRotors (rotor_values entry.now))

@@ -6,15 +6,15 @@ use Rattle.kd_pins.specs.declared.pin_set.PinSet.{PinSet}
 use Rattle.kd_pins.specs.PinWheels.{pins_of}
 use Rattle.kd_state.specs.SameParts.{numbered_item}
 
--- the pins of a wheel, in the order of its letters; none for a number that no wheel has
+-- the pins of the pin wheel with this number, in the order of the wheel's letters; none for other numbers
 abbrev pub wheel_pins : PinSet → ℕ → List Bool
 wheel_pins pins wheel = unwrap_or (numbered_item (pins_of pins) wheel) []
 
--- whether the pin at a letter of a wheel is effective; `None` if the wheel lacks the letter
+-- whether the pin at this letter of this pin wheel is effective; `None` if the wheel lacks the letter
 abbrev pub pin_at : PinSet → ℕ → ℕ → Option Bool
 pin_at pins wheel letter = option_and_then (slice_get (wheel_pins pins wheel)) (place_on (ring_of wheel) letter)
 
--- the pins of the six wheels, from six lists
+-- the pins of the six pin wheels, made of six lists, one for each wheel
 abbrev pub pin_set : List (List Bool) → PinSet
 pin_set lists = record {
   w1 = slice_index_or lists 0 [];
@@ -25,7 +25,7 @@ pin_set lists = record {
   w6 = slice_index_or lists 5 [];
 }
 
--- the pins, with one of them made effective or not
+-- the pins of all wheels, after the pin at one letter of one wheel is made effective, or not effective
 abbrev pub with_pin : PinSet → ℕ → ℕ → Bool → PinSet
 with_pin pins wheel letter effective =
     pin_set (slice_set (pins_of pins) (wheel - 1)

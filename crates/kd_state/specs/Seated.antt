@@ -7,17 +7,17 @@ use Rattle.kd_state.specs.declared.machine.rotor_parts.RotorParts.{RotorParts}
 use Rattle.kd_state.specs.declared.sheet_day.rotor_entry.SheetWheel.{SheetWheel}
 use Rattle.kd_state.specs.Machine.{ring_at, letter_at}
 
--- the wheel with its ring and its letter, if it has both
+-- the wheel with this ring and this window letter; `None` if the ring or the letter is missing
 abbrev pub wheel_with_letters : Wheel → Option ℕ → Option ℕ → Option SheetWheel
 wheel_with_letters wheel (Some ring) (Some letter) = Some (record { wheel = wheel; ring = ring; letter = letter })
 wheel_with_letters wheel _ _ = None
 
--- the wheel in a slot with its ring and its window letter, if the slot holds one
+-- the wheel that a slot holds, with its ring and its window letter; `None` for an empty slot
 abbrev pub wheel_in_seat : RotorParts → Option Wheel → Option SheetWheel
 wheel_in_seat m None = None
 wheel_in_seat m (Some wheel) = wheel_with_letters wheel (ring_at m wheel) (letter_at m wheel)
 
--- the key of a rotor machine with these wheels
+-- the key of a rotor machine with these wheels, this reflector and this plugboard
 abbrev pub key_of_wheels : List SheetWheel → Reflector → List ℕ → RotorKey
 key_of_wheels wheels reflector plugs = record {
   wheels = map (λ w. w.wheel) wheels;

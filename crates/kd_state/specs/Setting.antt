@@ -31,7 +31,7 @@ use Rattle.kd_state.specs.Machine.{cable_letters, letters_in_cables, cable_in_or
 abbrev pub has_letter : List ℕ → ℕ → Bool
 has_letter letters letter = list_any (λ other. nat_eq other letter) letters
 
--- whether the letters differ from each other and from all of `others`
+-- whether the letters of the first list differ from each other, and from all letters of the second list
 abbrev pub are_new_letters : List ℕ → List ℕ → Bool
 are_new_letters [] others = true
 are_new_letters (letter ∷ letters) others = not (has_letter (letters ++ others) letter)
@@ -49,12 +49,12 @@ wheel_in_slot m slot = unwrap_or (numbered_item m.slots slot) None
 abbrev pub is_same_place : Place → Place → Bool
 is_same_place place other = nat_eq (place_rank place) (place_rank other)
 
--- the standing, with this lug at the place
+-- the standing after this lug is moved to this place
 abbrev pub with_lug : Lug → Place → Place × Place → Place × Place
 with_lug Left place bar = (place, bar.1)
 with_lug Right place bar = (bar.0, place)
 
--- The reasons for which a machine may refuse a setting, in the order of testing, each with whether it holds.
+-- The reasons to refuse a setting, in the order of testing. The flag beside a reason says whether it holds.
 abbrev pub refusal_reasons : Parts → Setting → List (Bool × Why)
 refusal_reasons (Rotor m) (Pull cable letter) =
     (is_none (numbered_item m.cables cable), NoSuchCable)
@@ -83,38 +83,37 @@ refusal_reasons (Pin m) (LugTo bar lug place) =
     ∷ []
 refusal_reasons _ _ = (true, OtherModel) ∷ []
 
--- the first reason that holds, for which the machine refuses the setting; `None` if it doesn't refuse it
+-- the first reason for which the machine refuses the setting; `None` if the machine carries the setting out
 abbrev pub why_refused : Parts → Setting → Option Why
 why_refused m x = option_map (λ reason. reason.1) (find (λ reason. reason.0) (refusal_reasons m x))
 
 -- ---- The machine after a setting.
 -- Code: `carry` changes the machine in place.
 
--- the cable without the letter, for a letter that is in it
+-- the cable without this letter; the letter must be in the cable
 abbrev pub cable_without : ℕ → Option ℕ × Option ℕ → Option ℕ × Option ℕ
 cable_without letter cable = if option_map_or (nat_eq letter) cable.0 false then (cable.1, None) else (cable.0, None)
 
--- the cable with the letter added, for a cable with a loose end; its letters are in alphabetical order
+-- the cable with this letter added, and the letters in alphabetical order; the cable must have a loose end
 abbrev pub cable_with : ℕ → Option ℕ × Option ℕ → Option ℕ × Option ℕ
 cable_with letter cable = cable_in_order (option_or cable.0 cable.1) (Some letter)
 
--- what a slot with `seated` in it has after `wheel` was taken out of the machine
+-- what a slot holds once this wheel is taken out of the machine: nothing if the slot held this wheel
 abbrev pub seat_without : Wheel → Option Wheel → Option Wheel
 seat_without wheel seated = if option_map_or (same_wheel wheel) seated false then None else seated
 
--- the window letters with `letter` for the given wheel; the machine's own letters if no wheel is given
+-- the machine's window letters after this wheel is turned to this letter; unchanged if there is no wheel
 abbrev pub letters_with : RotorParts → Option Wheel → ℕ → List ℕ
 letters_with m None letter = m.letters
 letters_with m (Some wheel) letter = slice_set m.letters (place_in_box m.model wheel) letter
 
--- the bars, with this lug of bar `number` at the place
+-- the machine's bars after this lug of bar `number` is moved to this place
 abbrev pub bars_with_lug : PinParts → ℕ → Lug → Place → List (Place × Place)
 bars_with_lug m number lug place =
     option_map_or (λ bar. slice_set m.bars (number - 1) (with_lug lug place bar)) (numbered_item m.bars number) m.bars
 
--- The machine after a setting, if the machine before it doesn't refuse the setting. A wheel that is put into
--- a slot leaves its old slot, and the wheel that the new slot held goes to the box. Wheels keep their rings
--- and window letters.
+-- The machine after a setting that it doesn't refuse. A wheel that is put into a slot leaves its old slot, and
+-- the wheel that was in the new slot goes to the box. Both keep their rings and window letters.
 abbrev pub machine_after : Parts → Setting → Parts
 machine_after (Rotor m) (Pull cable letter) =
     Rotor (record m { cables = slice_set m.cables (cable - 1) (cable_without letter (cable_at m cable)) })
@@ -135,23 +134,23 @@ machine_after m _ = m
 -- Code: `carry_all` is a loop that stops at the first setting that is refused.
 -- Test: writes_the_machine_that_stands_then
 
--- Machine `m` doesn't refuse setting `x`, and is machine `n` after it.
+-- Machine `m` doesn't refuse setting `x`, and the setting turns `m` into machine `n`.
 pub record Carries (m : Parts) (x : Setting) (n : Parts) : Type 0 where
   pub allowed : why_refused m x ≡ None
   pub made : n ≡ machine_after m x
 
--- The result of a setting: the machine carries the setting out, or refuses it for the first reason that holds
--- and stays as it was.
+-- The answer to a setting is right. Either the machine has carried the setting out; or the machine is unchanged,
+-- and the answer is the first reason to refuse the setting.
 abbrev pub IsCarryAnswer : Parts → Setting → Parts → Result ⊤ Why → Type 0
 IsCarryAnswer m x n answer = MatchResult answer (λ _. Carries m x n) (λ why. (why_refused m x ≡ Some why) × (n ≡ m))
 
--- The settings, carried out in order, lead from machine `m` to machine `n`.
+-- The settings, carried out in order, turn the first machine into the second.
 abbrev pub Leads : Parts → List Setting → Parts → Type 0
 Leads m [] n = n ≡ m
 Leads m (x ∷ xs) n = (between : Parts) × Carries m x between × Leads between xs n
 
--- Machine `m` carries out the settings before line `line`, counted from 1, and then refuses the setting of
--- this line for the reason `why`.
+-- Machine `m` carries out the settings before setting `line`, counted from 1. Then it refuses setting `line`, for
+-- the reason `why`.
 pub record IsFirstIllegal (m : Parts) (settings : List Setting) (line : ℕ) (why : Why) : Type 0 where
   pub front : List Setting
   pub setting : Setting

@@ -34,7 +34,7 @@ pub record PinDay : Type 0 where
   pub window : List ℕ
   pub list : List ℕ
 
--- the values of a day of a rotor machine, and of a day of the Converter M-209, one by one
+-- a rotor machine's day, made of its values; below it, a Converter's day, made of its values
 abbrev pub rotor_day_of : ℕ → Model → Reflector → List SheetWheel → List (ℕ × ℕ) → List (List ℕ) → RotorDay
 rotor_day_of day model reflector wheels pairs groups = record {
   day = day;
@@ -57,12 +57,12 @@ pub data Day : Type 0 where
 -- Code: a day keeps its pairs and groups in lists of bounded length.
 -- Test: kd_trials/src/state/days.rt
 
--- The number is from 1 to 31.
+-- The number can be a day of a month: it is from 1 to 31.
 pub record IsDayNumber (number : ℕ) : Type 0 where
   pub first : 1 ≤ number
   pub last : number ≤ 31
 
--- There are at most 13 pairs. All letters in them are below 26, and all are different.
+-- There are at most 13 pairs. All letters in the pairs are below 26, and all are different.
 pub record ArePairs (pairs : List (ℕ × ℕ)) : Type 0 where
   pub few : length pairs ≤ 13
   pub within : All (λ letter. letter < 26) (letters_in_pairs pairs)
@@ -73,17 +73,17 @@ pub record HasWheelLetters (wheel : SheetWheel) : Type 0 where
   pub ring : wheel.ring < 26
   pub letter : wheel.letter < 26
 
--- what each slot holds if these wheels are in the slots: the wheel, without its ring and letter
+-- what each slot holds if the slots hold these wheels: the wheel alone, without its ring and its letter
 abbrev pub seats_of_wheels : List SheetWheel → List (Option Wheel)
 seats_of_wheels wheels = map (λ w. Some w.wheel) wheels
 
--- There is one item for each slot of the model. Each wheel is allowed in its slot, and none is in two slots.
+-- There is one item for each slot of the model. Each wheel is allowed in its slot, and no wheel is in two slots.
 pub record AreLegalSeats (model : Model) (slots : List (Option Wheel)) : Type 0 where
   pub count : length slots ≡ slots_of model
   pub allowed : AreWheelsAllowed model slots
   pub apart : AreSeatedOnce slots
 
--- A key sheet can have a day of a rotor machine with these values.
+-- The values of a rotor machine's day are legal: a key sheet can have them.
 pub record IsLegalRotorDay (s : RotorDay) : Type 0 where
   pub day : IsDayNumber s.day
   pub reflector : Contains (reflectors_of s.model) s.reflector
@@ -93,7 +93,7 @@ pub record IsLegalRotorDay (s : RotorDay) : Type 0 where
   pub few_groups : length s.groups ≤ 4
   pub groups : All (AreLetters 3) s.groups
 
--- A key sheet can have a day of a Converter M-209 with these values.
+-- The values of a Converter's day are legal: a key sheet can have them.
 pub record IsLegalPinDay (s : PinDay) : Type 0 where
   pub day : IsDayNumber s.day
   pub count : length s.rows ≡ 27
@@ -102,7 +102,7 @@ pub record IsLegalPinDay (s : PinDay) : Type 0 where
   pub window : AreOnWheels s.window
   pub list : AreLetters 2 s.list
 
--- A key sheet can have this day.
+-- The values of the day are legal: a key sheet can have them.
 abbrev pub IsLegalDay : Day → Type 0
 IsLegalDay (OfRotors s) = IsLegalRotorDay s
 IsLegalDay (OfPins s) = IsLegalPinDay s
@@ -135,16 +135,16 @@ abbrev pub day_wheel : Day → ℕ → Option SheetWheel
 day_wheel (OfRotors s) slot = numbered_item s.wheels slot
 day_wheel (OfPins s) slot = None
 
--- the day's letter for the window of a slot, or for a pin wheel; `None` if the day's model lacks it
+-- the day's letter for the window of a slot, or for a pin wheel; `None` if the model lacks the slot or wheel
 abbrev pub day_window_letter : Day → ℕ → Option ℕ
 day_window_letter (OfRotors s) slot = option_map (λ w. w.letter) (numbered_item s.wheels slot)
 day_window_letter (OfPins s) wheel = numbered_item s.window wheel
 
--- The letters are one of the groups, in any order.
+-- The letters are the letters of one of the groups, in any order.
 abbrev pub AreOneOfGroups : List (List ℕ) → List ℕ → Type 0
 AreOneOfGroups groups letters = Any (λ group. IsPermutation group letters) groups
 
--- The letters are one of the day's groups, in any order. A Converter's day has no groups.
+-- The letters are the letters of one of the day's groups, in any order. A Converter's day has no groups.
 abbrev pub AreADaysGroup : Day → List ℕ → Type 0
 AreADaysGroup (OfRotors s) letters = AreOneOfGroups s.groups letters
 AreADaysGroup (OfPins s) letters = ⊥

@@ -1,4 +1,4 @@
--- The key of an engine for either kind of machine, and its cipher.
+-- The key of an engine, for either kind of machine, and the cipher that the engine makes by this key.
 -- Code: one type, `Engine`, serves all models.
 -- Test: kd_trials/src/state/engine.rt
 use Rattle.std.specs.Prelude.{◌≡◌, ◌≢◌, ℕ, List, length, map, All, IsSome, Option, Some, None}
@@ -22,30 +22,30 @@ pub data EngineKey : Type 0 where
   OfWheels : RotorKey → EngineKey
   OfDrum : PinKey → EngineKey
 
--- the ciphertext of a text by this key
+-- the ciphertext that an engine with this key makes of a text
 abbrev pub cipher : EngineKey → List ℕ → List ℕ
 cipher (OfWheels key) text = enigma_cipher key text
 cipher (OfDrum key) text = converter_cipher key text
 
--- the key after `n` letters were enciphered
+-- the key of an engine after this many letters were enciphered
 abbrev pub engine_key_after : EngineKey → ℕ → EngineKey
 engine_key_after (OfWheels key) n = OfWheels (key_after key n)
 engine_key_after (OfDrum key) n = OfDrum (pin_key_after key n)
 
--- the key with the letters of `window` in the windows, or shown by the pin wheels
+-- the key after the wheels or the pin wheels were turned until they show these letters
 abbrev pub key_with_window : EngineKey → List ℕ → EngineKey
 key_with_window (OfWheels key) window = OfWheels (key_turned key window)
 key_with_window (OfDrum key) window = OfDrum (pin_key_turned key window)
 
--- The letters are a window: one letter for each slot; or, for a Converter, one letter for each pin wheel,
--- which has this letter.
+-- A machine with this key can show these letters: there is one for each slot; or, on a Converter, one for each
+-- pin wheel, and each wheel has its letter.
 abbrev pub IsWindow : EngineKey → List ℕ → Type 0
 IsWindow (OfWheels key) window = AreLetters (length key.wheels) window
 IsWindow (OfDrum key) window = AreOnWheels window
 
 -- ---- When a machine is ready, and which wheels, letters and pairs it has.
 
--- The machine is ready to encipher: no slot is empty, and no cable has exactly one letter. A Converter always is ready.
+-- The machine is ready to encipher: no slot is empty, and no cable has exactly one letter. A Converter is always ready.
 abbrev pub IsReady : Parts → Type 0
 IsReady (Rotor m) = All (λ seated. IsSome seated) m.slots × All (λ cable. length (cable_letters cable) ≢ 1) m.cables
 IsReady (Pin m) = Unit {0}
@@ -54,13 +54,12 @@ IsReady (Pin m) = Unit {0}
 abbrev pub seated_wheels : RotorParts → List Wheel
 seated_wheels m = filter_map (λ seated. seated) m.slots
 
--- the letters in the windows of the slots, from the left, or the letters that the pin wheels show
+-- the letters that a machine shows: in the windows of its slots, from the left, or on its pin wheels
 abbrev pub window_of : Parts → List ℕ
 window_of (Rotor m) = filter_map (letter_at m) (seated_wheels m)
 window_of (Pin m) = m.letters
 
--- ---- The cipher of a machine as it stands, and the cipher that a day asks for, defined apart: the machine's
--- by its slots, cables and lugs, the day's by the wheels, pairs and rows of its entry.
+-- ---- The cipher of a machine, by its slots, cables and lugs, and of a day, by its wheels, pairs and rows.
 -- Source: the published accounts of the current's path; War Department TM 11-380
 
 -- The key of a machine as it stands. For a rotor machine: the wheels in its slots with their rings and
@@ -80,7 +79,7 @@ physical_key (Pin m) = OfDrum (record {
   rows = map (λ bar. reading_of bar.0 bar.1) m.bars;
 })
 
--- the key that a day asks for
+-- the key that a day asks for, with the day's letters in the windows or on the pin wheels
 abbrev pub sheet_key : Day → EngineKey
 sheet_key (OfRotors s) = OfWheels (record {
   wheels = map (λ w. w.wheel) s.wheels;
@@ -97,12 +96,12 @@ abbrev pub physical_cipher : Parts → List ℕ → List ℕ
 physical_cipher (Rotor m) text = cipher (physical_key (Rotor m)) text
 physical_cipher (Pin m) text = lugs_cipher m text
 
--- the ciphertext that the day asks for
+-- the ciphertext that the day asks for when this text is enciphered
 abbrev pub sheet_cipher : Day → List ℕ → List ℕ
 sheet_cipher s = cipher (sheet_key s)
 
--- `n` is machine `m` turned so that it shows the letters of `window`. The window letters of wheels in the box
--- may be other letters than in `m`.
+-- The second machine is the first, turned until it shows these letters. The window letters of wheels in the box
+-- may differ.
 abbrev pub IsTurnedTo : Parts → List ℕ → Parts → Type 0
 IsTurnedTo (Rotor m) window (Rotor n) = (n ≡ record m { letters = n.letters }) × (window_of (Rotor n) ≡ window)
 IsTurnedTo (Pin m) window (Pin n) = n ≡ record m { letters = window }

@@ -4,19 +4,19 @@ use Rattle.std.specs.Prelude.{◌≡◌, ◌==◌, List, length, if◌then◌els
 use Rattle.kd_state.specs.declared.machine.per_wheel.Wheels.{Wheels}
 use Rattle.kd_state.specs.declared.machine.per_wheel.Wheels.TheVariants.{Five, Eight, Ten}
 
--- the values, in box order
+-- the values, in the order of the wheels in the box
 abbrev pub wheel_values : {T : Type 0} → Wheels T → List T
 wheel_values (Five values) = values
 wheel_values (Eight values) = values
 wheel_values (Ten values) = values
 
--- There are five values in `Five`, eight in `Eight`, and ten in `Ten`.
+-- `Five` has five values, `Eight` has eight, and `Ten` has ten.
 abbrev pub HasWheelCount : {T : Type 0} → Wheels T → Type 0
 HasWheelCount (Five values) = length values ≡ 5
 HasWheelCount (Eight values) = length values ≡ 8
 HasWheelCount (Ten values) = length values ≡ 10
 
--- the values, as `Five` if there are five, as `Eight` if there are eight, and otherwise as `Ten`
+-- the list of values as `Five` if it has five values, as `Eight` if it has eight, and otherwise as `Ten`
 abbrev pub wheels_of_values : {T : Type 0} → List T → Wheels T
 wheels_of_values values =
     if length values == 5 then Five values else (if length values == 8 then Eight values else Ten values)

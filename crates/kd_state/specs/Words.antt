@@ -7,21 +7,21 @@ use Rattle.std.specs.List.{slice_split, join_with_byte}
 abbrev pub words_of : List ℕ → List (List ℕ)
 words_of line = slice_split (λ byte. byte == 32) line
 
--- the line of some words, with single spaces between them
+-- the line made of these words, with single spaces between them
 abbrev pub line_of : List (List ℕ) → List ℕ
 line_of words = join_with_byte 32 words
 
--- The text doesn't have the byte.
+-- The byte isn't in the text.
 abbrev pub IsWithout : ℕ → List ℕ → Type 0
 IsWithout byte text = All (λ other. other ≢ byte) text
 
--- The text is a word: not empty, without a space and without LF.
+-- The text is a word: it isn't empty, and has no space and no LF.
 pub record IsWord (word : List ℕ) : Type 0 where
   pub filled : word ≢ []
   pub spaceless : IsWithout 32 word
   pub unbroken : IsWithout 10 word
 
--- a letter, by its place in the alphabet, as a capital letter
+-- the text of a letter: a capital letter
 abbrev pub letter_text : ℕ → List ℕ
 letter_text letter = (letter + 65) ∷ []
 
@@ -32,25 +32,25 @@ pub record IsFirstPart (byte : ℕ) (text part rest : List ℕ) : Type 0 where
 
 -- ---- The laws of words and lines.
 
--- A line of words determines its words.
+-- Different lists of words make different lines.
 abbrev pub LinesTellWords : Type 0
 LinesTellWords =
     (words others : List (List ℕ)) → All IsWord words → All IsWord others → line_of words ≡ line_of others
     → words ≡ others
 
--- Joining words to a line and splitting the line gives the words again.
+-- If words are joined to a line, and the line is split at its spaces, the words come out again.
 abbrev pub LinesSplitIntoWords : Type 0
 LinesSplitIntoWords = (words : List (List ℕ)) → words ≢ [] → All IsWord words → words_of (line_of words) ≡ words
 
--- Splitting a line at its spaces and joining its parts with spaces gives the line again.
+-- If a line is split at its spaces, and the parts are joined with spaces, the line comes out again.
 abbrev pub PartsMakeLines : Type 0
 PartsMakeLines = (line : List ℕ) → line_of (words_of line) ≡ line
 
--- A line of words has no LF.
+-- A line that is made of words has no LF.
 abbrev pub WordsMakeOneLine : Type 0
 WordsMakeOneLine = (words : List (List ℕ)) → All IsWord words → IsWithout 10 (line_of words)
 
--- A text determines what is before its first `byte`, and what is after it.
+-- A text can be split at the first occurrence of a byte in only one way.
 abbrev pub TextsTellFirstParts : Type 0
 TextsTellFirstParts =
     (byte : ℕ) (first other rest more : List ℕ) → IsWithout byte first → IsWithout byte other

@@ -14,7 +14,7 @@ use kd_tables::{Letter, Place, Reading, Standing};
 
 /// The cost of giving `cable` the pair `column`, or of emptying the cable if `column` is `None`.
 ///
-/// It is the number of letters that are in only one of the two.
+/// The cost is the number of letters that are in the cable or in the pair, but not in both.
 #[tactic(auto, using(crate::proofs::CostTable::at_most_four, crate::proofs::CostTable::counted_more))]
 pub fn cable_cost(cable: Cable, column: Option<(Letter, Letter)>) -> u8
     ensures cost { result ≡ costs.cable_cost cable column }
@@ -29,7 +29,7 @@ pub fn cable_cost(cable: Cable, column: Option<(Letter, Letter)>) -> u8
     cost
 }
 
-/// Whether `letter` is in the pair `column`. If `column` is `None`, it has no letter.
+/// Whether `letter` is in the pair `column`. False if `column` is `None`.
 pub fn lies_in_column(column: Option<(Letter, Letter)>, letter: Letter) -> bool
     ensures { result ≡ has_letter (column_letters column) letter }
 {
@@ -39,7 +39,7 @@ pub fn lies_in_column(column: Option<(Letter, Letter)>, letter: Letter) -> bool
     }
 }
 
-/// The cost of making a bar read as `row`: the least number of lugs to move.
+/// The cost of making a bar at `standing` read as `row`: the least number of lugs to move.
 pub fn bar_cost(standing: Standing, row: Reading) -> u8
     ensures cost { result ≡ costs.bar_cost standing row }
     ensures bound { result ≤ 2 }
@@ -49,7 +49,7 @@ pub fn bar_cost(standing: Standing, row: Reading) -> u8
 
 /// The standing that reads as `row` and is reached from `standing` by moving the fewest lugs.
 ///
-/// If two standings need equally many moves, it is the first of them in the order of standings.
+/// If two standings need equally many moves, it is the first in the order of standings.
 #[tactic(auto, using(crate::proofs::Prelude::nat_tests))]
 pub fn nearest_standing(standing: Standing, row: Reading) -> Standing
     ensures nearest { costs.nearest_standing standing row ≡ Some result }
@@ -83,7 +83,7 @@ fn standings_of(row: Reading) -> (Standing, Option<Standing>)
     }
 }
 
-/// The standing with its lugs at the places `one` and `other`.
+/// The standing whose two lugs are at the places `one` and `other`, given in either order.
 fn standing_across(one: Place, other: Place) -> Standing
     requires { place_rank one ≢ place_rank other }
     ensures { result ≡ costs.standing_across one other }
@@ -95,7 +95,7 @@ fn standing_across(one: Place, other: Place) -> Standing
     }
 }
 
-/// The place at which the pin wheel `number` acts.
+/// The place of a bar at which pin wheel `number` acts.
 fn place_of_pin_wheel(number: u8) -> Place
     requires { (1 ≤ number) × (number ≤ 6) }
     ensures { result ≡ costs.place_of_pin_wheel number }

@@ -65,8 +65,8 @@ impl Engine {
 
     /// Turns the wheels until they show `letters`: from the left, or from pin wheel 1 on.
     ///
-    /// `letters` must have one letter for each slot or pin wheel, and a pin wheel must have its letter.
-    /// Otherwise returns false, and turns no wheel.
+    /// There must be one letter for each slot or pin wheel, and each letter must be on its pin wheel. Otherwise
+    /// returns false, and turns no wheel.
     pub fn turn_to(&mut self, letters: &[Letter]) -> bool
         ensures window { IsTrue result ↔ IsWindow self.old letters.now }
         ensures turned { OnTrue result (self.new ≡ key_with_window self.old letters.now) }
@@ -129,7 +129,7 @@ pub fn own_engine(day: &SheetDay) -> Engine
     }
 }
 
-/// Turns a rotor machine's wheels until they show `letters`. False if there isn't one letter for each wheel.
+/// Turns a rotor machine's wheels until they show `letters`. False if there aren't as many letters as wheels.
 fn turn_wheels<const S: usize>(enigma: &mut Enigma<S>, letters: &[Letter]) -> bool
     ensures window { IsTrue result ↔ AreLetters S letters.now }
     ensures turned { OnTrue result (enigma.new ≡ key_turned enigma.old letters.now) }
@@ -147,7 +147,7 @@ fn turn_wheels<const S: usize>(enigma: &mut Enigma<S>, letters: &[Letter]) -> bo
 
 /// Turns the Converter's wheels until they show `letters`.
 ///
-/// Returns false, and turns no wheel, if there aren't six letters or one of them isn't on its wheel.
+/// Returns false, and turns no wheel, if there aren't six letters, or if a wheel lacks its letter.
 fn turn_drum(converter: &mut Converter, letters: &[Letter]) -> bool
     ensures window { IsTrue result ↔ AreOnWheels letters.now }
     ensures turned { OnTrue result (converter.new ≡ pin_key_turned converter.old letters.now) }

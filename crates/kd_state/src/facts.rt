@@ -1,6 +1,6 @@
-//! Functions that show the prover facts that follow from the types of their arguments.
+//! Functions that show facts to the prover. The facts follow from the types of the arguments.
 //!
-//! They have no effect when the program runs.
+//! These functions have no effect when the program runs.
 ghost use Rattle.std.specs.Prelude.{◌≡◌, ◌<◌, ◌^◌, All, length};
 ghost use Rattle.kd_tables.specs.Places.{IsBefore, IsReading};
 ghost use Rattle.kd_enigma.specs.Plugs.{letters_in_pairs};
@@ -50,7 +50,7 @@ pub(crate) fn learn_group_letters(groups: &[[Letter; 3]])
     }
 }
 
-/// Shows the prover that the numbers of each row are a reading's, as `IsReading` defines it.
+/// Shows the prover that each row satisfies `IsReading`.
 pub(crate) fn learn_readings(rows: &[Reading])
     ensures { All IsReading rows.now }
 {
@@ -98,7 +98,7 @@ pub(crate) fn learn_pins(pins: PinSet)
     prove!(pins.w1.len() == 26);
 }
 
-/// Shows the prover that the setting's number is below 256 and its letter below 26, if it has them.
+/// Shows the prover that a setting's number (if any) is below 256, and its letter (if any) below 26.
 pub(crate) fn learn_setting_range(setting: &Setting)
     ensures { IsSettingInRange setting.now }
 {

@@ -25,20 +25,20 @@ pub fn lines_tell_words()
     ensures one_line { WordsMakeOneLine }
 {}
 
-/// A text determines what is before its first space, LF or other given byte, and what is after it.
+/// A text can be split at the first occurrence of a given byte, such as a space or LF, in only one way.
 #[tactic(auto, using(crate::proofs::Lines::texts_tell_first_parts))]
 pub fn texts_tell_first_parts()
     ensures { TextsTellFirstParts }
 {}
 
-/// Decimal numbers and single letters are words: not empty, and without a space or LF.
+/// Decimal numbers and single letters are words: they aren't empty, and have no space and no LF.
 #[tactic(auto, using(crate::proofs::Lines::numbers_are_words, crate::proofs::Lines::letters_are_words))]
 pub fn numbers_and_letters_are_words()
     ensures numbers { NumbersAreWords }
     ensures letters { LettersAreWords }
 {}
 
-/// The parts of a setting's line are words: not empty, and without a space or LF.
+/// The parts of a setting's line are words: they aren't empty, and have no space and no LF.
 #[tactic(auto, using(crate::proofs::Lines::setting_words_are_words))]
 pub fn settings_have_words()
     ensures { SettingsHaveWords }
@@ -46,8 +46,8 @@ pub fn settings_have_words()
 
 /// Different settings have different lines, and different lists have different texts.
 ///
-/// The text of a list has no fault, and no text has two faults. `read_list` finds the fault of each text that
-/// isn't a list's.
+/// The text of a list has no fault, and no text has two faults. For a text that isn't a list, `read_list` returns
+/// the fault.
 pub fn texts_tell_settings()
     ensures setting { LinesTellSettings }
     ensures list { TextsTellLists }
@@ -55,11 +55,11 @@ pub fn texts_tell_settings()
     ensures one_fault { OneListFault }
 {}
 
-/// Different wheels have different names, and so do different reflectors.
+/// Different wheels have different names, and different reflectors have different names.
 ///
-/// A wheel that is allowed in a slot is in the model's box. Each wheel of the box has its own place there, so
-/// two wheels of a day have different places. Two lists have the same letters exactly if each letter is in
-/// both or in neither.
+/// A wheel that is allowed in a slot is in the model's box. Each wheel has its own place in the box, so two
+/// wheels of a day have different places. Two lists have the same letters exactly if each letter is in both or in
+/// neither.
 pub fn parts_are_told_apart()
     ensures names { NamesTellWheels }
     ensures reflectors { NamesTellReflectors }
@@ -70,13 +70,13 @@ pub fn parts_are_told_apart()
     ensures letters { TestsTellLetters }
 {}
 
-/// A setting, or a list of settings, that is carried out on a machine gives a machine with legal parts.
+/// After a setting or a list of settings is carried out, the machine's parts are still legal.
 pub fn settings_keep_machines()
     ensures one { SettingsKeepMachines }
     ensures lists { ListsKeepMachines }
 {}
 
-/// A machine either refuses a setting or carries it out.
+/// A machine either refuses a setting or carries the setting out.
 ///
 /// Carrying out a setting, or a list of settings, has only one result.
 #[tactic(auto, using(crate::proofs::Telling::Refusing::refuses_or_carries, crate::proofs::Telling::Refusing::carries_to_one, crate::proofs::Telling::Refusing::leads_to_one))]
@@ -86,11 +86,11 @@ pub fn a_setting_is_refused_or_carried()
     ensures lists_to_one { LeadsToOne }
 {}
 
-/// A setting that is carried out makes its change and no other, as the machine's readers show.
+/// A setting that is carried out changes what it is meant to change, and nothing else.
 ///
-/// The readers are the calls that return one part, as `slot` and `ring` do. Conversely, if a machine doesn't
-/// refuse a setting, and the readers show the setting's change and no other, then the setting was carried
-/// out. What the readers show also determines which settings are refused.
+/// The machine's readers, such as `slot` and `ring`, show the change. Conversely, if a machine allows a setting,
+/// and another machine differs by the setting's change alone, the setting turns the first machine into the
+/// second. What the readers show also determines which settings are refused.
 #[tactic(auto, using(crate::proofs::Telling::Refusing::Changing::settings_are_told, crate::proofs::Telling::telling_is_making, crate::proofs::Telling::Refusing::refusals_are_told))]
 pub fn readers_tell_what_settings_change()
     ensures told { SettingsAreTold }
@@ -98,17 +98,17 @@ pub fn readers_tell_what_settings_change()
     ensures refused { RefusalsAreTold }
 {}
 
-/// Which wheels, reflectors and rings a rotor machine refuses to set, by the tables of its model.
+/// A rotor machine refuses wheels, reflectors and rings just as the tables of its model say.
 ///
-/// It refuses a wheel that isn't allowed in the slot, a reflector that isn't one of the model's, and the ring
-/// of a wheel that isn't in the box, and no others.
+/// The machine refuses a wheel that isn't allowed in the slot, a reflector that the model lacks, and the ring of
+/// a wheel that isn't in the box. It refuses no others.
 pub fn tables_say_what_is_refused()
     ensures seats { SeatsAreByTheTables }
     ensures reflectors { ReflectorsAreByTheTables }
     ensures rings { RingsAreByTheTables }
 {}
 
-/// An engine made from a machine enciphers as the machine does, also if both are turned to other letters.
+/// An engine made from a machine enciphers as the machine does, also after both are turned to new letters.
 #[tactic(auto, using(crate::proofs::Keys::engine_cipher, crate::proofs::Keys::turned_engine))]
 pub fn engines_encipher_as_their_machines()
     ensures standing { EngineIsTheMachine }
@@ -122,7 +122,7 @@ pub fn reading_as_the_day_is_its_cipher()
     ensures cipher { ReadingIsItsCipher }
 {}
 
-/// A machine on the day's key is ready, and enciphers as the day asks from the letters that it shows.
+/// A machine on the day's key is ready, and enciphers as the day asks, beginning with the letters shown.
 #[tactic(auto, using(crate::proofs::Keys::on_key_ready, crate::proofs::Keys::on_key_cipher))]
 pub fn being_on_the_key_is_its_cipher()
     ensures ready { OnKeyIsReady }
@@ -131,7 +131,7 @@ pub fn being_on_the_key_is_its_cipher()
 
 /// A machine that is turned to other letters keeps the rest of its key.
 ///
-/// If it was on the day's key, it stays on it, and enciphers as the day asks from the other letters.
+/// A machine on the day's key stays on it when turned, and enciphers as the day asks from the new letters on.
 #[tactic(auto, using(crate::proofs::Keys::turned_key, crate::proofs::Keys::turned_on_key, crate::proofs::Keys::turned_cipher))]
 pub fn turning_keeps_the_key()
     ensures key { TurnedHasItsKey }
@@ -141,15 +141,15 @@ pub fn turning_keeps_the_key()
 
 /// A ready machine can be turned to any window.
 ///
-/// A window is one letter for each slot; or, on a Converter, for each pin wheel a letter that is on it.
+/// A window is one letter for each slot; or, on a Converter, one letter of each pin wheel.
 #[tactic(auto, using(crate::proofs::Seating::can_be_turned))]
 pub fn ready_machines_can_be_turned()
     ensures { MachinesCanBeTurned }
 {}
 
-/// Of two machines on the day's key that show the same letters, one deciphers what the other enciphers.
+/// If two machines on the day's key show the same letters, each deciphers what the other enciphers.
 ///
-/// An engine set as the day says also deciphers its own ciphertext, from the same letters.
+/// An engine on the day's key also deciphers its own ciphertext, if it begins with the same letters again.
 pub fn equally_set_machines_decipher()
     ensures another { EquallySetDecipher }
     ensures itself { TheDayDeciphersItself }
@@ -162,7 +162,7 @@ pub fn pieces_are_enciphered_in_turn()
     ensures after { KeyInTurn }
 {}
 
-/// The cost tables are square, and giving a cable a column costs at most 4.
+/// The cost tables are square, and giving a cable a column costs at most 4 settings.
 ///
 /// A day has 13 columns: first its pairs in their order, then columns without a pair.
 #[tactic(auto, using(crate::proofs::CostTable::at_most_four, crate::proofs::CostTable::columns_are_the_pairs, crate::proofs::CostTable::cost_tables_are_square, crate::proofs::CostTable::thirteen_columns))]

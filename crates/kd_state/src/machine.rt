@@ -75,7 +75,7 @@ impl Machine {
 
     /// Carries `setting` out.
     ///
-    /// If the machine refuses it, the machine stays as it was, and the error has the first reason that holds.
+    /// If the machine refuses the setting, it stays as it was, and the error has the first reason to refuse.
     pub fn carry(&mut self, setting: Setting) -> Result<(), Illegal>
         ensures carried { OnOk result (Carries self.old setting self.new) }
         ensures refused { IfErr result
@@ -89,7 +89,7 @@ impl Machine {
         }
     }
 
-    /// The machine's parts.
+    /// The machine's parts, which are legal.
     pub fn parts(&self) -> &Parts
         ensures parts { result.now ≡ self.now }
         ensures legal { IsMachine self.now }

@@ -29,7 +29,7 @@ pub enum Setting {
         slot: u8,
         wheel: Wheel,
     },
-    /// Changes the reflector.
+    /// Puts the reflector into the machine, in place of the old reflector.
     SeatReflector {
         reflector: Reflector,
     },
@@ -57,7 +57,7 @@ pub enum Setting {
     },
 }
 
-/// The setting that fills the unused places of an array of settings.
+/// The default setting, which fills the unused places of an array of settings.
 impl Default for Setting {
     ghost use Rattle.std.specs.Prelude.{◌≡◌};
     ghost use Rattle.kd_tables.specs.declared.reflector.Reflector.TheVariants as reflectors;

@@ -177,7 +177,7 @@ impl SheetDay {
 
     /// The day's groups of three letters, at most 4. `None` on the Converter M-209.
     ///
-    /// Each part of a message has one of them. It shows the receiver that the part is of this day.
+    /// Each part of a message carries one of these groups, to show the receiver that the part is of this day.
     pub fn groups(&self) -> Option<&[[Letter; 3]]>
         ensures value { option_copied result ≡ option_map (λ s. s.groups) (rotor_day self.now) }
         ensures few { IfSome result (λ groups. length groups.now ≤ 4) }
@@ -188,7 +188,7 @@ impl SheetDay {
         }
     }
 
-    /// Whether `letters` are one of the day's groups, in any order. False on the Converter M-209.
+    /// Whether `letters` are the letters of one of the day's groups, in any order. False on the Converter M-209.
     pub fn has_group(&self, letters: [Letter; 3]) -> bool
         ensures { IsTrue result ↔ AreADaysGroup self.now letters }
     {

@@ -11,7 +11,7 @@ use itoa::Buffer;
 use kd_tables::Letter;
 use std::str;
 
-/// The bytes of `text` before the first `byte` and after it. `None` if `text` doesn't have this byte.
+/// The parts of `text` before and after the first `byte`. `None` if `byte` isn't in `text`.
 pub fn split_once(text: &[u8], byte: u8) -> Option<(&[u8], &[u8])>
     ensures { MatchOption result
         (IsWithout byte text.now)
@@ -25,7 +25,7 @@ pub fn split_once(text: &[u8], byte: u8) -> Option<(&[u8], &[u8])>
     None
 }
 
-/// Splits `line` at its spaces into words. `None` if there are more than `N` of them.
+/// Splits `line` at its spaces into words. `None` if there are more than `N` words.
 #[tactic(auto, using(crate::proofs::Lines::splitting))]
 pub fn split_words<const N: usize>(line: &[u8]) -> Option<ArrayVec<&[u8], N>>
     ensures { MatchOption result
@@ -48,7 +48,7 @@ pub fn split_words<const N: usize>(line: &[u8]) -> Option<ArrayVec<&[u8], N>>
     Some(words)
 }
 
-/// Whether `text` is `word`.
+/// Whether `text` has exactly the bytes of `word`.
 pub fn is_word(text: &[u8], word: &str) -> bool
     ensures { IsTrue result ↔ (text.now ≡ word.now) }
 {
@@ -76,7 +76,7 @@ pub fn number_of_text(text: &[u8]) -> Option<u8>
     u8::try_from(wide_number_of_text(text)?).ok()
 }
 
-/// Reads a day of a month in decimal: from 1 to 31.
+/// Reads a day of a month in decimal, from 1 to 31. `None` for other texts.
 #[tactic(auto, using(std::proofs::lemmas::Fmt::decimal_injective))]
 pub fn day_of_text(text: &[u8]) -> Option<u8>
     ensures { MatchOption result
@@ -87,7 +87,7 @@ pub fn day_of_text(text: &[u8]) -> Option<u8>
     is_day_number(day).then_some(day)
 }
 
-/// Reads one capital letter.
+/// Reads a text of one capital letter. `None` for other texts.
 pub fn letter_of_text(text: &[u8]) -> Option<Letter>
     ensures { MatchOption result
         ((letter : ℕ) → letter < 26 → letter_text letter ≢ text.now)
@@ -99,7 +99,7 @@ pub fn letter_of_text(text: &[u8]) -> Option<Letter>
     }
 }
 
-/// Appends `number` in decimal.
+/// Appends `number` to `text`, in decimal.
 pub fn push_number<const N: usize>(text: &mut ArrayString<N>, number: u8)
     requires { array_string_len text.old + 3 ≤ N }
     ensures bytes { text.new.bytes ≡ text.old.bytes ++ decimal number }
@@ -109,7 +109,7 @@ pub fn push_number<const N: usize>(text: &mut ArrayString<N>, number: u8)
     text.push_str(buffer.format(number));
 }
 
-/// Appends `letter` as a capital letter.
+/// Appends `letter` to `text`, as a capital letter.
 pub fn push_letter<const N: usize>(text: &mut ArrayString<N>, letter: Letter)
     requires { array_string_len text.old < N }
     ensures bytes { text.new.bytes ≡ text.old.bytes ++ letter_text letter }

@@ -1,4 +1,4 @@
--- The laws of permutations, published tables and pin wheels.
+-- What the laws of `kd_tables` say of permutations, published tables and pin wheels.
 use Rattle.std.specs.Prelude.{◌≡◌, ◌↔◌, ℕ, ◌+◌, ◌-◌, ◌%◌, ◌<◌, ◌≤◌, List, length, slice_index, Some}
 use Rattle.kd_tables.specs.declared.wheel.Wheel.{Wheel}
 use Rattle.kd_tables.specs.declared.reflector.Reflector.{Reflector}
@@ -23,18 +23,18 @@ ReflectorsLeadBack = (reflector : Reflector) → IsOwnInverse (reflector_of refl
 abbrev pub ReflectorsMoveEachLetter : Type 0
 ReflectorsMoveEachLetter = (reflector : Reflector) → MovesEachLetter (reflector_of reflector)
 
--- A product maps a letter by `p`, and the result by `q`.
+-- The product of `p` and `q` maps a letter by `p`, and then the result by `q`.
 abbrev pub ProductsByLetter : Type 0
 ProductsByLetter =
     (p q : List ℕ) (x : ℕ) → x < length p → slice_index (followed_by p q) x ≡ slice_index q (slice_index p x)
 
--- The inverse maps `y` to `x` exactly if the permutation maps `x` to `y`.
+-- The inverse of a permutation maps `y` to `x` exactly if the permutation maps `x` to `y`.
 abbrev pub InversesByLetter : Type 0
 InversesByLetter =
     (p : List ℕ) (x y : ℕ) → IsPermutation26 p → x < 26 → y < 26
     → (slice_index p x ≡ y) ↔ (slice_index (inverse p) y ≡ x)
 
--- A shift moves each letter on by `k` places, with A after Z.
+-- A shift by `k` moves each letter on by `k` places in the alphabet, with A after Z.
 abbrev pub ShiftsByLetter : Type 0
 ShiftsByLetter = (k x : ℕ) → x < 26 → slice_index (shift k) x ≡ (x + k) % 26
 
@@ -58,7 +58,7 @@ InverseUndoesAfter = (p : List ℕ) → IsPermutation26 p → followed_by p (inv
 abbrev pub InverseUndoesBefore : Type 0
 InverseUndoesBefore = (p : List ℕ) → IsPermutation26 p → followed_by (inverse p) p ≡ alphabet
 
--- The inverse of a product is the product of the inverses in the other order.
+-- The inverse of a product is the product of the inverses in reverse order.
 abbrev pub ProductsBackwards : Type 0
 ProductsBackwards =
     (p q : List ℕ) → IsPermutation26 p → IsPermutation26 q
@@ -68,13 +68,13 @@ ProductsBackwards =
 abbrev pub ShiftsBackwards : Type 0
 ShiftsBackwards = (k : ℕ) → k ≤ 26 → inverse (shift k) ≡ shift (26 - k)
 
--- For the letter at a place of a pin wheel, `place_on` finds this place.
+-- If a pin wheel has a letter at a place, `place_on` finds this place for the letter.
 abbrev pub LettersLeadToPlaces : Type 0
 LettersLeadToPlaces =
     (size : ℕ) (ring : List ℕ) → IsRing size ring → (place : ℕ) → place < size
     → place_on ring (slice_index ring place) ≡ Some place
 
--- The place that `place_on` finds for a letter of a pin wheel has this letter.
+-- If `place_on` finds a place for a letter, the pin wheel has this letter at this place.
 abbrev pub PlacesLeadToLetters : Type 0
 PlacesLeadToLetters =
     (size : ℕ) (ring : List ℕ) → IsRing size ring → (place letter : ℕ) → place_on ring letter ≡ Some place

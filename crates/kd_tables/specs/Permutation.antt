@@ -1,4 +1,4 @@
--- Permutations of the alphabet, as lists: the number at place x is the letter that x becomes.
+-- Permutations of the alphabet, as lists: the number at place `x` is the letter that letter `x` becomes.
 -- Code: a permutation is a table of 32 bytes; a product takes one shuffle of bytes, an inverse one loop over letters.
 -- Test: machines_encipher
 use Rattle.std.specs.Prelude.{◌≡◌, ◌≢◌, ℕ, ◌+◌, ◌%◌, ◌==◌, List, [], ◌∷◌, length, map, slice_index, All, if◌then◌else◌}
@@ -9,7 +9,7 @@ use Rattle.std.specs.Slice.Sort.{NamesEachOnce}
 abbrev pub alphabet : List ℕ
 alphabet = range_with_len 0 26
 
--- A list of 26 different numbers below 26.
+-- `p` is a permutation of the alphabet: a list of 26 different numbers below 26.
 pub record IsPermutation26 (p : List ℕ) : Type 0 where
   pub size : length p ≡ 26
   pub each_once : NamesEachOnce 26 p

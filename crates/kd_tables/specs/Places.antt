@@ -7,7 +7,7 @@ use Rattle.kd_tables.specs.declared.place.Place.TheVariants.{One, ZeroLeft, Two,
 use Rattle.kd_tables.specs.declared.lug.Lug.{Lug}
 use Rattle.kd_tables.specs.declared.lug.Lug.TheVariants as lugs
 
--- the name of a place
+-- the name of a lug's place on a bar
 abbrev pub place_text : Place → List ℕ
 place_text One = codes "1"
 place_text ZeroLeft = codes "0L"
@@ -18,7 +18,7 @@ place_text Five = codes "5"
 place_text ZeroRight = codes "0R"
 place_text Six = codes "6"
 
--- the number of the pin wheel at a place, or 0 if there is none: the digit in the place's name
+-- the number of the pin wheel that acts at a place; 0 if no wheel does: the digit in the place's name
 abbrev pub place_number : Place → ℕ
 place_number place = slice_index (place_text place) 0 - 48
 
@@ -26,7 +26,7 @@ place_number place = slice_index (place_text place) 0 - 48
 abbrev pub places : List Place
 places = One ∷ ZeroLeft ∷ Two ∷ Three ∷ Four ∷ Five ∷ ZeroRight ∷ Six ∷ []
 
--- the number of places to the left of a place
+-- how many places of the bar are to the left of this place
 abbrev pub place_rank : Place → ℕ
 place_rank One = 0
 place_rank ZeroLeft = 1
@@ -47,44 +47,44 @@ lug_text lugs.Left = codes "L"
 lug_text lugs.Right = codes "R"
 
 -- ---- How a bar can stand: the places of its left and its right lug.
--- Code: a standing is checked by comparing its two places; its text is split at the hyphen.
+-- Code: `Standing::new` compares the two places; `Standing::from_text` splits a standing's text at the hyphen.
 
--- All standings of a bar: the left lug is left of the right lug. They are in the order of the left lug's place,
--- then of the right lug's.
+-- All standings of a bar: the places of its two lugs, with the left lug left of the right lug. Standings are
+-- ordered by the left lug's place, then by the right lug's place.
 abbrev pub standings : List (Place × Place)
 standings =
     flat_map
     (λ left. map (λ right. (left, right)) (filter (λ right. nat_lt (place_rank left) (place_rank right)) places))
     places
 
--- the left lug's place, `-`, and the right lug's place
+-- a standing as text: the name of the left lug's place, `-`, and the name of the right lug's place
 abbrev pub standing_text : Place × Place → List ℕ
 standing_text standing = place_text standing.0 ++ codes "-" ++ place_text standing.1
 
--- `left` and `right` name the places of the two lugs.
+-- The first text is the name of the left lug's place, and the second text the name of the right lug's place.
 abbrev pub ArePlaceNames : Place × Place → List ℕ → List ℕ → Type 0
 ArePlaceNames standing left right = (place_text standing.0 ≡ left) × (place_text standing.1 ≡ right)
 
 -- ---- How a bar reads: the numbers of the wheels at its lugs' places, the smaller one first.
 
--- the two numbers, the smaller one first
+-- `a` and `b`, the smaller number first
 abbrev pub smaller_first : ℕ → ℕ → ℕ × ℕ
 smaller_first a b = (min a b, max a b)
 
--- Two numbers from 0 to 6 that differ or are both 0, the smaller one first.
+-- The two numbers are a reading: both from 0 to 6, the smaller one first, and different unless both are 0.
 pub record IsReading (numbers : ℕ × ℕ) : Type 0 where
   pub ordered : numbers.0 ≤ numbers.1
   pub within : numbers.1 ≤ 6
   pub equal : numbers.0 ≡ numbers.1 → numbers.0 ≡ 0
 
--- the numbers at the two lugs' places, the smaller one first
+-- the reading of a bar with its lugs at these places: the numbers of the wheels there, the smaller one first
 abbrev pub reading_of : Place → Place → ℕ × ℕ
 reading_of left right = smaller_first (place_number left) (place_number right)
 
--- a number from 0 to 9 as a digit
+-- the digit for a number from 0 to 9
 abbrev pub digit_text : ℕ → List ℕ
 digit_text number = (number + 48) ∷ []
 
--- the smaller number, `-`, and the larger one
+-- a reading as text: the smaller number, `-`, and the larger number
 abbrev pub reading_text : ℕ × ℕ → List ℕ
 reading_text numbers = digit_text numbers.0 ++ codes "-" ++ digit_text numbers.1

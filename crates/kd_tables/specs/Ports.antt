@@ -1,4 +1,4 @@
--- Sources and sinks: which bytes a get or a put moves, and what a port in memory has.
+-- Sources and sinks: which bytes one `get` or one `put` moves, and what a source or a sink in memory keeps.
 -- Code: a source is any type whose `get` satisfies `Gets`, a sink any type whose `put` satisfies `Puts`.
 -- Test: tells_that_the_sink_failed, a_source_or_a_sink_of_an_order_fails
 use Rattle.std.specs.Prelude.{◌≡◌, ◌⊎◌, ℕ, ◌<◌, ◌≤◌, Bool, true, false, List, [], ◌∷◌, length, take, Option, Result}
@@ -7,75 +7,74 @@ use Rattle.std.specs.Io.KnownBytes.{Appends, Consumes, Keeps, IsAtEnd}
 use Rattle.kd_tables.specs.declared.failed.Failed.{Failed}
 use Rattle.kd_tables.specs.declared.writing.Device.{Device}
 
--- the most bytes that are read from one source or file
+-- the most bytes that the desk reads from one source or file
 abbrev pub read_limit : ℕ
 read_limit = 1048576
 
--- A put takes a prefix of `bytes`, with at least one byte if there is one, and returns the prefix's length. A
--- refused put takes no byte.
+-- A `put` takes a prefix of `bytes`, and returns the prefix's length. It takes at least one byte, unless `bytes`
+-- is empty. A `put` that fails takes no byte.
 pub record Puts (old new : Option (List ℕ)) (bytes : List ℕ) (answer : Result ℕ Failed) : Type 0 where
   pub within : IfOk answer (λ count. count ≤ length bytes)
   pub some : IfOk answer (λ count. 0 < length bytes → 0 < count)
   pub taken : IfOk answer (λ count. Appends old new (take count bytes))
   pub refused : OnErr answer (Keeps old new)
 
--- A get fills a prefix of the buffer with the source's next bytes, and returns the prefix's length. It returns
--- 0 only at the end, or for an empty buffer. A refused get takes no byte.
+-- A `get` fills a prefix of the buffer with the source's next bytes, and returns the prefix's length. It returns
+-- 0 only at the source's end, or for an empty buffer. A `get` that fails takes no byte.
 pub record Gets (old new : Option (List ℕ)) (buffer : List ℕ) (answer : Result ℕ Failed) : Type 0 where
   pub within : IfOk answer (λ count. count ≤ length buffer)
   pub given : IfOk answer (λ count. Consumes old new (take count buffer))
   pub ended : answer ≡ Ok 0 → 0 < length buffer → IsAtEnd new
   pub refused : OnErr answer (Keeps old new)
 
--- A source in memory: the bytes to come; the most bytes for one get; the number of gets before one fails, or
--- `None` if none fails; and whether one has failed.
+-- A source in memory: the bytes still to come; the most bytes that one `get` gives; how many calls of `get`
+-- succeed before all fail, or `None` if none fails; and whether a `get` has failed.
 pub record MemoryBytes : Type 0 where
   pub rest : List ℕ
   pub piece : ℕ
   pub gets_left : Option ℕ
   pub failed : Bool
 
--- A sink in memory: the bytes taken, the most bytes that it takes, and whether a put has failed.
+-- A sink in memory: the bytes taken so far, the most bytes that it can take, and whether a `put` has failed.
 pub record MemoryTaken : Type 0 where
   pub taken : List ℕ
   pub limit : ℕ
   pub failed : Bool
 
 -- ---- A port before and after a call: its bytes, and whether it has failed.
--- Code: a port that can fail keeps a flag, which is set when a get or a put fails.
+-- Code: a source or a sink that can fail keeps a flag, which is set when a `get` or a `put` fails.
 -- Test: stops_at_a_failed_read, stops_where_the_sink_fails
 
--- A port before a call (`had`, `had_failed`) and after it (`has`, `has_failed`): the bytes that a source
--- still has or a sink has taken, `None` if they aren't known; and whether the port has failed.
+-- A port (a source or a sink) before a call and after the call. `had` and `has` are the bytes that a source can
+-- still give, or that a sink has taken; `None` if they aren't known.
 pub record Port : Type 0 where
   pub had : Option (List ℕ)
   pub has : Option (List ℕ)
   pub had_failed : Bool
   pub has_failed : Bool
 
--- the `Port` of a source or a sink that is `old` before a call and `new` after it
+-- the `Port` of a source or a sink whose value is `old` before a call, and `new` after the call
 abbrev pub port : {P : Type 0} → (P → Option (List ℕ)) → (P → Bool) → P → P → Port
 port bytes failed old new =
     record { had = bytes old; has = bytes new; had_failed = failed old; has_failed = failed new }
 
--- The call didn't change whether the port has failed.
+-- The port has failed after the call exactly if it had failed before the call.
 abbrev pub HasNotFailed : Port → Type 0
 HasNotFailed p = p.has_failed ≡ p.had_failed
 
--- The port `p` has failed, and the call didn't change whether the other port has failed.
+-- After the call, port `p` has failed. Port `other` has failed exactly if it had failed before the call.
 pub record FailsAlone (p other : Port) : Type 0 where
   pub failed : IsTrue p.has_failed
   pub well : HasNotFailed other
 
--- A call's result agrees with the failures of its source and its sink. The flag is `true` if the call returns
--- `Device`. Then one of the two ports has failed, and the other didn't fail in the call. Otherwise neither of
--- them failed in the call.
+-- The flag tells whether a call returned the error `Device`. With `true`, the source or the sink has failed, and
+-- the other port didn't fail in the call. With `false`, neither port failed in the call.
 abbrev pub FailureAgrees : Port → Port → Bool → Type 0
 FailureAgrees source sink false = HasNotFailed source × HasNotFailed sink
 FailureAgrees source sink true = FailsAlone source sink ⊎ FailsAlone sink source
 
--- The result of a test for the end agrees with what the source did: with `true` it is at its end, with `false`
--- it gave one byte, and with an error it gave none.
+-- The result of `is_at_end` agrees with what the source did. With `true`, the source is at its end. With `false`,
+-- the source gave one byte. With an error, the source gave no byte.
 abbrev pub EndAgrees : Option (List ℕ) → Option (List ℕ) → Result Bool Device → Type 0
 EndAgrees had has (Ok true) = Consumes had has [] × IsAtEnd has
 EndAgrees had has (Ok false) = (byte : ℕ) × Consumes had has (byte ∷ [])

@@ -1,4 +1,4 @@
--- The refusals: their numbers and names, and the words after them.
+-- The refusals: the number and the name of each, and the words that follow the name.
 -- Source: the table of refusals in docs/FORMATS.md
 -- Test: says_why_it_refuses
 use Rattle.std.specs.Prelude.{codes, ℕ, List, ◌∷◌}
@@ -48,6 +48,6 @@ refusal_name refusals.ReadTooLong = codes "38 ReadTooLong"
 refusal_name refusals.NoSuchDay = codes "39 NoSuchDay"
 refusal_name refusals.OtherDay = codes "40 OtherDay"
 
--- a space and a word
+-- the word, with a space before it
 abbrev pub word_after_space : List ℕ → List ℕ
 word_after_space word = 32 ∷ word

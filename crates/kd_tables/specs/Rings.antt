@@ -6,22 +6,22 @@ use Rattle.std.specs.Prelude.{codes, ◌≡◌, ℕ, ◌<◌, ◌==◌, nat_eq, 
 use Rattle.std.specs.List.{position, IsDistinct}
 use Rattle.kd_tables.specs.Tables.{letters_of}
 
--- The letters of each wheel in its own order. Wheels are counted from 1, so the first entry is empty.
+-- The letters of each pin wheel, in order. Wheels are counted from 1, so the first entry is empty.
 abbrev pub ring_texts : List (List ℕ)
 ring_texts =
     [] ∷ codes "ABCDEFGHIJKLMNOPQRSTUVWXYZ" ∷ codes "ABCDEFGHIJKLMNOPQRSTUVXYZ" ∷ codes "ABCDEFGHIJKLMNOPQRSTUVX"
     ∷ codes "ABCDEFGHIJKLMNOPQRSTU" ∷ codes "ABCDEFGHIJKLMNOPQRS" ∷ codes "ABCDEFGHIJKLMNOPQ" ∷ []
 
--- the letters of wheel `number`, from 1 to 6; none for any other number
+-- the letters of the pin wheel with this number, from 1 to 6; none for any other number
 unfoldable pub ring_of : ℕ → List ℕ
 ring_of number = letters_of (slice_index_or ring_texts number [])
 
--- There are `size` letters, all different and below 26.
+-- The letters can be those of a pin wheel: there are `size` letters, all different and below 26.
 pub record IsRing (size : ℕ) (letters : List ℕ) : Type 0 where
   pub full : length letters ≡ size
   pub within : All (λ letter. letter < 26) letters
   pub differ : IsDistinct nat_eq letters
 
--- the place of `letter` on a wheel, counted from 0, if the wheel has the letter
+-- the place of a letter on the pin wheel with these letters, counted from 0; `None` if the wheel lacks it
 abbrev pub place_on : List ℕ → ℕ → Option ℕ
 place_on letters letter = position (λ other. other == letter) letters

@@ -1,6 +1,6 @@
 -- Wheels: their names, their wirings and their notches.
 -- Source: the published wirings and notches of the Wehrmacht's and the Kriegsmarine's machines
--- Code: each call makes its table from the published text; notches are looked up in a short text.
+-- Code: each call of `wiring` makes the table from the published text; `notched` searches a short text.
 -- Test: wheels_are_as_published
 use Rattle.std.specs.Prelude.{codes, ℕ, ◌-◌, ◌==◌, nat_le, Bool, ◌&&◌, if◌then◌else◌, List, [], ◌∷◌, ◌++◌, map}
 use Rattle.std.specs.Prelude.{Contains}
@@ -12,12 +12,12 @@ use Rattle.kd_tables.specs.declared.reflector.Reflector.TheVariants as reflector
 use Rattle.kd_tables.specs.declared.model.Model.{Model}
 use Rattle.kd_tables.specs.declared.model.Model.TheVariants.{EnigmaI, M3, M4, M209}
 
--- the letters of a text that is in capital letters: A is 0, Z is 25
+-- the letters of a text of capital letters, as numbers: A is 0, Z is 25
 abbrev pub letters_of : List ℕ → List ℕ
 letters_of text = map (λ byte. byte - 65) text
 
--- The name, the wiring and the notches of each wheel. The wiring has the letters that A to Z become on the way in, from
--- right to left. While a notch shows in the wheel's window, its next step moves the wheel to its left too.
+-- The name, the wiring and the notches of each wheel. The wiring: the letters that A to Z become when the current passes
+-- from right to left. A notch: if the wheel shows this letter, the wheel's next step also moves the wheel on its left.
 abbrev pub wheel_table : Wheel → List ℕ × List ℕ × List ℕ
 wheel_table I = (codes "I", codes "EKMFLGDQVZNTOWYHXUSPAIBRCJ", codes "Q")
 wheel_table II = (codes "II", codes "AJDKSIRUXBLHWTMCQGZNPYFVOE", codes "E")
@@ -38,7 +38,7 @@ wheel_text wheel = (wheel_table wheel).0
 unfoldable pub wiring_of : Wheel → List ℕ
 wiring_of wheel = letters_of (wheel_table wheel).1
 
--- whether a wheel is at a notch while this letter shows in its window
+-- whether the wheel is at a notch when this letter shows in the wheel's window
 abbrev pub is_notch : Wheel → ℕ → Bool
 is_notch wheel letter = list_any (λ notch. notch == letter) (letters_of (wheel_table wheel).2)
 
@@ -54,7 +54,7 @@ reflector_text reflectors.C = codes "C"
 reflector_text reflectors.ThinB = codes "b"
 reflector_text reflectors.ThinC = codes "c"
 
--- the wiring of a reflector: the letters that A to Z become
+-- the wiring of a reflector: the letters into which the reflector turns A to Z
 unfoldable pub reflector_of : Reflector → List ℕ
 reflector_of reflectors.A = letters_of (codes "EJMZALYXVBWFCRQUONTSPIKHGD")
 reflector_of reflectors.B = letters_of (codes "YRUHQSLDPXNGOKMIEBFZCWVJAT")
@@ -64,7 +64,7 @@ reflector_of reflectors.ThinC = letters_of (codes "RDOBJNTKVEHMLFCWZAXGYIPSUQ")
 
 -- ---- Models: their names, their slots, and the wheels and reflectors of their boxes.
 -- Source: the published accounts of the models
--- Code: all boxes are prefixes of one array.
+-- Code: the box of each model is a prefix of one array.
 -- Test: models_have_names_and_parts
 
 -- the name of a model
@@ -91,12 +91,12 @@ wheels_for M4 slot =
     else (if nat_le 2 slot && nat_le slot 4 then I ∷ II ∷ III ∷ IV ∷ V ∷ VI ∷ VII ∷ VIII ∷ [] else [])
 wheels_for M209 slot = []
 
--- the wheels of a model's box, in box order: each wheel that may be in one of its slots
+-- the box of a model: all wheels that may be in the model's slots, from I to VIII, then Beta and Gamma
 abbrev pub box_of : Model → List Wheel
 box_of M4 = wheels_for M4 2 ++ wheels_for M4 1
 box_of model = wheels_for model 1
 
--- The wheel may be in the slot.
+-- The wheel may be in this slot of the model.
 abbrev pub IsAllowed : Model → ℕ → Wheel → Type 0
 IsAllowed model slot wheel = Contains (wheels_for model slot) wheel
 

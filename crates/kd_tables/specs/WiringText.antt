@@ -1,4 +1,4 @@
--- Tests of the published text of a wiring or a pin wheel. The prover computes them, not the program.
+-- Tests of the published text of a wiring or a pin wheel. The prover computes these tests, not the program.
 use Rattle.std.specs.Prelude.{ℕ, ◌==◌, nat_eq, nat_le, nat_lt, Bool, not, ◌&&◌, List, length, slice_index}
 use Rattle.std.specs.List.{list_all}
 use Rattle.std.specs.Set.{distinct_count}
@@ -13,7 +13,7 @@ are_capitals text = list_all (λ byte. nat_le 65 byte && nat_le byte 90) text
 abbrev pub are_distinct_letters : List ℕ → Bool
 are_distinct_letters p = list_all (λ x. nat_lt x 26) p && (distinct_count nat_eq p == length p)
 
--- whether the text is a pin wheel's: capital letters, none of them twice
+-- whether the text can be a pin wheel's: it has only capital letters, and none of them twice
 abbrev pub is_ring_text : List ℕ → Bool
 is_ring_text text = are_capitals text && are_distinct_letters (letters_of text)
 
@@ -21,6 +21,6 @@ is_ring_text text = are_capitals text && are_distinct_letters (letters_of text)
 abbrev pub is_permutation : List ℕ → Bool
 is_permutation p = (length p == 26) && are_distinct_letters p
 
--- whether the list maps each letter to another letter, and, applied twice, to itself
+-- whether the list maps each letter to another letter, and this letter back to the first
 abbrev pub is_reflection : List ℕ → Bool
 is_reflection p = list_all (λ x. not (slice_index p x == x) && (slice_index p (slice_index p x) == x)) alphabet

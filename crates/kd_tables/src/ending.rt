@@ -5,7 +5,7 @@ ghost use Rattle.kd_tables.specs.Ports.{EndAgrees};
 use super::source::Source;
 use super::writing::Device;
 
-/// Whether `source` is at its end. Tries to read one more byte; a byte that comes is dropped.
+/// Whether `source` is at its end. Tries to read one byte, and drops the byte if there is one.
 pub fn is_at_end<R: Source>(source: &mut R) -> Result<bool, Device>
     ensures ends { EndAgrees (R.remaining source.old) (R.remaining source.new) result }
     ensures failed { R.has_failed source.new ≡ (R.has_failed source.old || is_err result) }

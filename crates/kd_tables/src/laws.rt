@@ -1,4 +1,4 @@
-//! Laws of tables, pin wheels, permutations, the order of letters and readings, and the limit of a read.
+//! Laws of published tables, pin wheels, permutations, the order of letters and readings, and the read limit.
 ghost use Rattle.std.specs.Prelude.{◌≡◌, ℕ};
 ghost use Rattle.std.specs.Ordering.{ordering_then, nat_cmp};
 ghost use Rattle.kd_tables.specs.Ports.{read_limit};
@@ -22,7 +22,7 @@ pub fn tables_are_permutations()
     ensures none_fixed { ReflectorsMoveEachLetter }
 {}
 
-/// How a product or an inverse of permutations, or a shift of the alphabet, maps one letter.
+/// How a product of permutations, the inverse of a permutation, or a shift of the alphabet maps one letter.
 pub fn permutations_by_letter()
     ensures product { ProductsByLetter }
     ensures backwards { InversesByLetter }
@@ -38,8 +38,8 @@ pub fn products_are_permutations()
 
 /// A permutation and its inverse, one after the other, map each letter to itself.
 ///
-/// The inverse of a product is the product of the inverses in the other order. The inverse of a shift by `k`
-/// is the shift by 26 - `k`.
+/// The inverse of a product is the product of the inverses in reverse order. The inverse of a shift by `k` is the
+/// shift by 26 - `k`.
 #[tactic(auto, using(crate::proofs::Products::product_inverse, crate::proofs::Products::inverse_product, crate::proofs::Products::product_backwards, crate::proofs::Products::shift_backwards))]
 pub fn inverse_undoes()
     ensures after { InverseUndoesAfter }
@@ -54,14 +54,14 @@ pub fn letters_and_places_undo()
     ensures letters { PlacesLeadToLetters }
 {}
 
-/// Letters are ordered as in the alphabet; readings by the smaller number, then by the larger one.
+/// Letters are ordered as in the alphabet, and readings by the smaller number, then by the larger number.
 pub fn letters_and_readings_have_their_order()
     ensures letters { (one other : ℕ) → ⟦<Letter as Ord>⟧.cmp one other ≡ nat_cmp one other }
     ensures readings { (one other : ℕ × ℕ) → ⟦<Reading as Ord>⟧.cmp one other
         ≡ ordering_then (nat_cmp one.0 other.0) (nat_cmp one.1 other.1) }
 {}
 
-/// `READ_LIMIT`, the limit that the code uses, is `read_limit`, the limit in the definitions.
+/// The code's limit of bytes to read, `READ_LIMIT`, equals the limit in the definitions, `read_limit`.
 pub fn the_limit_is_the_definitions()
     ensures { READ_LIMIT ≡ read_limit }
 {}

@@ -3,7 +3,7 @@ ghost use Rattle.std.specs.Prelude.{◌≡◌, ℕ, ◌+◌, ◌-◌, ◌%◌, �
 
 use std::marker::Model;
 
-/// For each place of the alphabet, the place after it; after the last one, 0.
+/// For each letter's place in the alphabet, the place of the next letter; for Z, the place of A.
 ///
 /// A rotor machine calls `next` at each key press, and a table is faster than a comparison.
 static NEXT: [u8; 26] = [
@@ -45,7 +45,7 @@ impl Letter {
         }
     }
 
-    /// The letter at place `index` of the alphabet, counted from 0. The index isn't tested.
+    /// The letter at place `index` of the alphabet, counted from 0. `index` must be below 26.
     pub const fn at(index: u8) -> Self
         requires { index < 26 }
         ensures { result ≡ index }
@@ -53,7 +53,7 @@ impl Letter {
         Letter { index }
     }
 
-    /// The letter whose ASCII code is `byte`; `None` if it isn't a capital letter.
+    /// The letter whose ASCII code is `byte`; `None` if `byte` isn't a capital letter.
     pub const fn from_byte(byte: u8) -> Option<Self>
         ensures exists { IsSome result ↔ ((65 ≤ byte) × (byte ≤ 90)) }
         ensures value { IfSome result (λ letter. byte ≡ letter + 65) }
@@ -73,7 +73,7 @@ impl Letter {
         self.index as usize
     }
 
-    /// The ASCII code of the capital letter.
+    /// The ASCII code of the letter, as a capital letter.
     pub const fn byte(self) -> u8
         ensures value { result ≡ self + 65 }
         ensures capital { result ≤ 90 }

@@ -1,4 +1,4 @@
-//! Tables and ports: letters, wheels, reflectors, models, refusals, and where bytes come from and go to.
+//! Tables and ports: letters, wheels, reflectors, models, refusals, and the traits that read and write bytes.
 #![tactic(auto)]
 
 mod ending;

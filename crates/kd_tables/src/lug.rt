@@ -12,7 +12,7 @@ pub enum Lug {
     Right,
 }
 
-/// Applies the macro `$read`, which is `name_of` or `named`, to the table of lugs and their names.
+/// The names of lugs, read by the macro `$read`: `name_of` finds a lug's name, `named` the lug with a name.
 macro_rules! names {
     ($read:ident, $value:expr) => {
         $read!($value, {

@@ -8,7 +8,7 @@ use super::failed::Failed;
 use super::source::Source;
 use std::marker::Model;
 
-/// A source in memory. It limits how many bytes one `get` gives, and can fail from a given `get` on.
+/// A source in memory. One `get` gives at most `piece` bytes. After `gets_left` more calls, each `get` fails.
 #[derive(Drop)]
 pub struct MemorySource<'a> {
     rest: &'a [u8],
@@ -34,9 +34,9 @@ impl<'a> Model for MemorySource<'a> {
 }
 
 impl<'a> MemorySource<'a> {
-    /// Makes a source that gives `bytes`, at most `piece` of them at a time.
+    /// Makes a source that gives `bytes`, at most `piece` bytes at each `get`.
     ///
-    /// Calls of `get` are counted from 0. Call `fail_at` and all later ones fail; with `None`, no call fails.
+    /// Calls of `get` are counted from 0. Call `fail_at` and all later calls fail; with `None`, no call fails.
     pub fn new(bytes: &'a [u8], piece: usize, fail_at: Option<usize>) -> Self
         requires { 1 ≤ piece }
         ensures { result ≡ record {

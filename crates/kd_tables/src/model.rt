@@ -1,4 +1,4 @@
-//! The models of cipher machines, and the parts that each of them takes.
+//! The models of cipher machines, and the wheels and reflectors that each model takes.
 ghost use Rattle.std.specs.Prelude.{◌≡◌, ◌↔◌, ◌≢◌, IsTrue, MatchOption, Contains};
 ghost use Rattle.kd_tables.specs.Tables.{model_text, box_of, slots_of, wheels_for, reflectors_of, IsAllowed};
 
@@ -7,7 +7,7 @@ use super::reflector::Reflector;
 use super::wheel::Wheel;
 use arrayvec::ArrayString;
 
-/// All wheels, in box order. The box of each model has the first wheels of this list.
+/// All wheels. The box of a rotor model has the first 5, 8 or 10 wheels of this list, in this order.
 const WHEELS: [Wheel; 10] = [
     Wheel::I,
     Wheel::II,
@@ -34,7 +34,7 @@ pub enum Model {
     M209,
 }
 
-/// Applies the macro `$read`, which is `name_of` or `named`, to the table of models and their names.
+/// The names of models, read by the macro `$read`: `name_of` finds a model's name, `named` the model with a name.
 macro_rules! names {
     ($read:ident, $value:expr) => {
         $read!($value, {
@@ -76,9 +76,9 @@ impl Model {
         }
     }
 
-    /// The wheels that may be in slot `slot`, in box order. Empty if the model has no such slot.
+    /// The wheels that may be in slot `slot`. Empty if the model lacks this slot.
     ///
-    /// Slots are counted from 1, from left to right.
+    /// Slots are counted from 1, from left to right. Wheels are in order: I to VIII, then Beta and Gamma.
     pub fn wheels_for(self, slot: u8) -> &'static [Wheel]
         ensures { result.now ≡ wheels_for self slot }
     {
@@ -90,7 +90,7 @@ impl Model {
         }
     }
 
-    /// The model's box, in box order: all wheels that may be in one of its slots.
+    /// The model's box: all wheels that may be in the model's slots, from I to VIII, then Beta and Gamma.
     pub fn wheels(self) -> &'static [Wheel]
         ensures { result.now ≡ box_of self }
     {

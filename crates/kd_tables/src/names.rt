@@ -1,7 +1,7 @@
 //! Macros for a table that pairs each value of an enum with its name.
 ghost use Rattle.std.specs.Prelude.{◌≡◌, ◌↔◌, IsTrue};
 
-/// Whether `text` is `name`.
+/// Whether `text` has exactly the bytes of `name`.
 pub(crate) fn is_name(text: &[u8], name: &str) -> bool
     ensures { IsTrue result ↔ (name.now ≡ text.now) }
 {
@@ -17,7 +17,7 @@ macro_rules! name_of {
     };
 }
 
-/// Finds the value with the name `$text` in a table of values and names, if there is one.
+/// Finds the value with the name `$text` in a table of values and names; `None` if no value has it.
 macro_rules! named {
     ($text:expr, { $($variant:path => $name:literal,)* }) => {
         match $text {

@@ -7,28 +7,28 @@ use arrayvec::ArrayString;
 
 /// A place of a lug on a bar of the Converter M-209. Places are in order from left to right.
 ///
-/// At a place with a number, the pin wheel with this number acts. At the two zeros no wheel acts.
+/// At a place with a number, the pin wheel with this number acts. At the two places called zero, no wheel acts.
 #[derive(Clone, Copy, PartialEq, Eq, PartialOrd, Ord)]
 pub enum Place {
-    /// The place of wheel 1.
+    /// The place where pin wheel 1 acts.
     One,
     /// The left one of the two places where no wheel acts.
     ZeroLeft,
-    /// The place of wheel 2.
+    /// The place where pin wheel 2 acts.
     Two,
-    /// The place of wheel 3.
+    /// The place where pin wheel 3 acts.
     Three,
-    /// The place of wheel 4.
+    /// The place where pin wheel 4 acts.
     Four,
-    /// The place of wheel 5.
+    /// The place where pin wheel 5 acts.
     Five,
     /// The right one of the two places where no wheel acts.
     ZeroRight,
-    /// The place of wheel 6.
+    /// The place where pin wheel 6 acts.
     Six,
 }
 
-/// Applies a macro of `names` to the table of places and their names.
+/// The names of places, read by the macro `$read`: `name_of` finds a place's name, `named` the place with a name.
 macro_rules! names {
     ($read:ident, $value:expr) => {
         $read!($value, {
@@ -87,7 +87,7 @@ impl Place {
         names!(named, text)
     }
 
-    /// The number of the pin wheel that acts at the place, from 1 to 6, or 0 if none does.
+    /// The number of the pin wheel that acts at the place, from 1 to 6; 0 if no wheel acts there.
     pub fn number(self) -> u8
         ensures value { result ≡ place_number self }
         ensures within { result ≤ 6 }

@@ -31,7 +31,7 @@ impl Model for Reading {
 impl Reading {
     /// Makes a reading of the numbers `a` and `b`, which may come in either order.
     ///
-    /// `None` if one of them is above 6, or if they are equal and above 0.
+    /// `None` if one of the numbers is above 6, or if both are equal and above 0.
     pub fn new(a: u8, b: u8) -> Option<Self>
         ensures exists { IsSome result ↔ IsReading (smaller_first a b) }
         ensures value { IfSome result (λ reading. reading ≡ smaller_first a b) }
@@ -51,7 +51,7 @@ impl Reading {
         (self.smaller, self.larger)
     }
 
-    /// The smaller number and the larger one, with `-` between them.
+    /// The reading's text: the smaller number and the larger number, with `-` between them.
     pub fn text(self) -> ArrayString<8>
         ensures { result.bytes ≡ reading_text self }
     {
@@ -62,7 +62,7 @@ impl Reading {
         text
     }
 
-    /// Parses a reading; its smaller number has to come first.
+    /// Parses a reading from its text; the smaller number has to come first.
     pub fn from_text(text: &[u8]) -> Option<Self>
         ensures { MatchOption result
             ((numbers : _) → IsReading numbers → reading_text numbers ≢ text.now)
@@ -74,7 +74,7 @@ impl Reading {
         }
     }
 
-    /// Makes a reading of its two digits, given as ASCII codes. The smaller number has to come first.
+    /// Makes a reading from the ASCII codes of its two digits. The smaller digit has to come first.
     fn from_figures(first: u8, second: u8) -> Option<Self>
         ensures { MatchOption result
             ((numbers : _) → IsReading numbers → reading_text numbers ≢ first ∷ codes "-" ++ second ∷ [])

@@ -20,7 +20,7 @@ pub enum Reflector {
     ThinC,
 }
 
-/// Applies the macro `$read`, which is `name_of` or `named`, to the table of reflectors and their names.
+/// The names of reflectors, read by the macro `$read`: `name_of` finds a name, `named` a reflector by its name.
 macro_rules! names {
     ($read:ident, $value:expr) => {
         $read!($value, {

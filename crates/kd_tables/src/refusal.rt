@@ -6,27 +6,27 @@ ghost use Rattle.kd_tables.specs.Refusals.{refusal_name, word_after_space};
 use arrayvec::ArrayString;
 use itoa::Buffer;
 
-/// The text of a refusal: its number and name, and for some refusals places, a key's name or a reason.
+/// The text of a refusal: its number, its name, and for some refusals places, a file's key or a reason.
 pub type Text = ArrayString<64>;
 
 /// The refusals, in the order of their numbers.
 #[derive(Clone, Copy)]
 pub enum Refusal {
-    /// A letter is in two places of the machine's cables, or of the sheet's pairs.
+    /// A letter comes twice in a machine's cables, or twice in the pairs of a day of the sheet.
     LetterTwice,
     /// A letter isn't on its pin wheel. The program never prints this refusal.
     NotOnWheel,
-    /// A machine refuses a setting, for the given reason. The program never prints this refusal.
+    /// A machine refuses a setting; the refusal names the reason. The program never prints this refusal.
     Illegal,
-    /// A slot is empty, or a cable has one letter.
+    /// A slot is empty, or a cable has exactly one letter.
     NotReady,
     /// Machine and day are of different models, or a card's prices are for the other kind of machine.
     OtherModel,
-    /// A file or a port failed.
+    /// A file, a source or a sink failed.
     Device,
     /// The first line of a card isn't a card's head.
     BadHead,
-    /// A line doesn't have the form that a line in its place must have.
+    /// A line doesn't have the form that it must have at its place.
     BadLine,
     /// A card has more than 192 settings.
     TooMany,
@@ -36,15 +36,15 @@ pub enum Refusal {
     CardCountWrong,
     /// Bytes follow the last line of a card.
     Trailing,
-    /// A machine carries out the lines before this line, and refuses this line, for the given reason.
+    /// A machine refuses a line of a list or a card; the refusal names the line and the reason.
     IllegalAt,
     /// After a card's lines, the machine doesn't read as the day.
     NotTheSheet,
-    /// The prices of a cable and a column, or of a bar and a row, add up to more than their cost.
+    /// A cable's price and a column's price, or a bar's and a row's, add up to more than the cost.
     PriceTooHigh,
-    /// The sum of a card's prices isn't the number of its lines for cables or bars.
+    /// The sum of a card's prices isn't the number of the card's lines for cables or bars.
     SumDiffers,
-    /// A line of a card isn't needed: after it, no fewer things differ from the day than before it.
+    /// A line of a card isn't needed: after it, as many things differ from the day as before it, or more.
     ///
     /// Lines for cables and bars aren't refused for this reason.
     NeedlessLine,
@@ -58,7 +58,7 @@ pub enum Refusal {
     BadValue,
     /// A wheel is in two slots.
     WheelTwice,
-    /// A wheel is in a slot in which the model doesn't take it.
+    /// A wheel is in a slot in which the model doesn't allow this wheel.
     WheelNotAllowed,
     /// An item of a file's `bars` isn't a standing, or an item of its `rows` isn't a reading.
     BadRow,
@@ -72,19 +72,19 @@ pub enum Refusal {
     BadByte,
     /// The text of an order has no letter.
     EmptyText,
-    /// An order has too few or too many lines of keys. The text has the number needed, then the number found.
+    /// An order has too few or too many lines of keys. The refusal says how many are needed, and how many given.
     PartKeys,
-    /// A letter that a message gives for a wheel (an external letter) isn't on this wheel.
+    /// A letter that a message gives for a pin wheel (an external letter) isn't on this wheel.
     KeyNotOnWheel,
     /// A part's group isn't one of the day's. On the Converter M-209: the part's key list isn't the day's.
     WrongGroup,
-    /// The enciphered letters of a part run out before each wheel has a letter of the internal key.
+    /// A part's enciphered letters run out before each pin wheel has got a letter of the internal key.
     IndicatorSpent,
     /// A part doesn't begin with a heading of the day's model.
     BadHeading,
-    /// The number of letters of a part isn't the one in its heading.
+    /// A part has more or fewer letters than its heading says.
     PartCountWrong,
-    /// A part ends in other indicators than it begins with, or their first two letters differ.
+    /// A part's last ten letters aren't its first ten, or the first two letters differ from each other.
     IndicatorsDiffer,
     /// A part is missing, parts aren't in order, or their headings differ in the number of parts.
     PartOrder,
@@ -156,7 +156,7 @@ impl Refusal {
         text
     }
 
-    /// The text of a refusal with one place, as the number of a line or of a part.
+    /// The text of a refusal with one place, such as the number of a line or of a part.
     pub fn text_at(self, place: usize) -> Text
         ensures bytes { result.bytes ≡ refusal_name self ++ word_after_space (decimal place) }
         ensures short { array_string_len result ≤ 41 }
@@ -176,7 +176,7 @@ impl Refusal {
         text
     }
 
-    /// The text of a refusal with `word`, the name of a key or of a reason.
+    /// The text of a refusal with `word` at its end: the name of a file's key, or of a reason.
     pub fn text_with_word(self, word: &str) -> Text
         requires { length word.now ≤ 22 }
         ensures { result.bytes ≡ refusal_name self ++ word_after_space word.now }
@@ -186,7 +186,7 @@ impl Refusal {
         text
     }
 
-    /// The text of a refusal with one place and with `word`, the name of a reason.
+    /// The text of a refusal with one place, and then `word`, the name of a reason.
     pub fn text_at_with_word(self, place: usize, word: &str) -> Text
         requires { length word.now ≤ 22 }
         ensures { result.bytes ≡ refusal_name self ++ word_after_space (decimal place) ++ word_after_space word.now }
@@ -197,7 +197,7 @@ impl Refusal {
     }
 }
 
-/// Appends a space and a place.
+/// Appends a space and `place` in decimal.
 fn push_place(text: &mut Text, place: usize)
     requires { array_string_len text.old + 21 ≤ 64 }
     ensures bytes { text.new.bytes ≡ text.old.bytes ++ word_after_space (decimal place) }
@@ -208,7 +208,7 @@ fn push_place(text: &mut Text, place: usize)
     text.push_str(buffer.format(place));
 }
 
-/// Appends a space and `word`, the name of a key or of a reason.
+/// Appends a space and `word`, the name of a file's key or of a reason.
 fn push_word(text: &mut Text, word: &str)
     requires { array_string_len text.old + length word.now + 1 ≤ 64 }
     ensures { text.new.bytes ≡ text.old.bytes ++ word_after_space word.now }

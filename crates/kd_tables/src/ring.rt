@@ -26,7 +26,7 @@ impl<const N: usize> Model for Ring<N> {
 }
 
 impl<const N: usize> Ring<N> {
-    /// The wheel's letters in their order on it: one at each place, and all different.
+    /// The letters on the pin wheel, in order: one at each place, and all different.
     pub fn letters(&self) -> [Letter; N]
         ensures value { result ≡ self.now }
         ensures ring { IsRing N result }
@@ -34,7 +34,7 @@ impl<const N: usize> Ring<N> {
         self.letters
     }
 
-    /// The letter at `place`, counted from 0.
+    /// The pin wheel's letter at `place`, counted from 0.
     pub fn letter_of(&self, place: usize) -> Letter
         requires { place < N }
         ensures value { result ≡ slice_index self.now place }
@@ -44,7 +44,7 @@ impl<const N: usize> Ring<N> {
         self.letters[place]
     }
 
-    /// The place of `letter`, counted from 0, if it is on the wheel.
+    /// The place of `letter` on the pin wheel, counted from 0; `None` if the wheel lacks the letter.
     pub fn place_of(&self, letter: Letter) -> Option<usize>
         ensures value { result ≡ place_on self.now letter }
         ensures exists { IsSome result ↔ Contains self.now letter }
@@ -55,7 +55,7 @@ impl<const N: usize> Ring<N> {
     }
 }
 
-/// The letters of wheel 1: all 26. All six wheels are from War Department TM 11-380.
+/// The letters of pin wheel 1: all 26. The letters of all six wheels are from War Department TM 11-380.
 #[tactic(auto, unfolding(crate::specs::Rings::ring_of))]
 pub fn ring1() -> Ring<26>
     ensures { result ≡ ring_of 1 }
@@ -65,7 +65,7 @@ pub fn ring1() -> Ring<26>
     }
 }
 
-/// The letters of wheel 2: all but W.
+/// The letters of pin wheel 2: all but W.
 #[tactic(auto, unfolding(crate::specs::Rings::ring_of))]
 pub fn ring2() -> Ring<25>
     ensures { result ≡ ring_of 2 }
@@ -75,7 +75,7 @@ pub fn ring2() -> Ring<25>
     }
 }
 
-/// The letters of wheel 3: A to X without W.
+/// The letters of pin wheel 3: A to X without W.
 #[tactic(auto, unfolding(crate::specs::Rings::ring_of))]
 pub fn ring3() -> Ring<23>
     ensures { result ≡ ring_of 3 }
@@ -85,7 +85,7 @@ pub fn ring3() -> Ring<23>
     }
 }
 
-/// The letters of wheel 4: A to U.
+/// The letters of pin wheel 4: A to U.
 #[tactic(auto, unfolding(crate::specs::Rings::ring_of))]
 pub fn ring4() -> Ring<21>
     ensures { result ≡ ring_of 4 }
@@ -95,7 +95,7 @@ pub fn ring4() -> Ring<21>
     }
 }
 
-/// The letters of wheel 5: A to S.
+/// The letters of pin wheel 5: A to S.
 #[tactic(auto, unfolding(crate::specs::Rings::ring_of))]
 pub fn ring5() -> Ring<19>
     ensures { result ≡ ring_of 5 }
@@ -105,7 +105,7 @@ pub fn ring5() -> Ring<19>
     }
 }
 
-/// The letters of wheel 6: A to Q.
+/// The letters of pin wheel 6: A to Q.
 #[tactic(auto, unfolding(crate::specs::Rings::ring_of))]
 pub fn ring6() -> Ring<17>
     ensures { result ≡ ring_of 6 }
@@ -115,7 +115,7 @@ pub fn ring6() -> Ring<17>
     }
 }
 
-/// The place of `letter` on wheel `wheel`, counted from 0.
+/// The place of `letter` on pin wheel `wheel`, counted from 0.
 ///
 /// `None` if the letter isn't on the wheel, or if `wheel` isn't from 1 to 6.
 #[tactic(auto, using(crate::proofs::Rings::no_ring))]

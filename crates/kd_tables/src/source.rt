@@ -4,12 +4,12 @@ ghost use Rattle.kd_tables.specs.Ports.{Gets};
 
 use super::failed::Failed;
 
-/// Something that gives bytes, as a device or a buffer in memory.
+/// Something that gives bytes, such as a device or a buffer in memory.
 pub trait Source {
     /// The bytes still to come; `None` if they aren't known.
     ghost remaining: { Self → Option (List ℕ) } = { λ _. None };
 
-    /// Whether a get has failed.
+    /// Whether a `get` has failed so far.
     ghost has_failed: { Self → Bool };
 
     /// Puts the next bytes into a prefix of `buffer`, and returns the length of this prefix.
@@ -21,7 +21,7 @@ pub trait Source {
         ensures bytes { Gets (remaining self.old) (remaining self.new) buffer.new result }
         ensures failed { has_failed self.new ≡ (has_failed self.old || is_err result) };
 
-    /// Whether a get has failed.
+    /// Whether a `get` has failed so far.
     fn failed(&self) -> bool
         ensures { result ≡ has_failed self.now };
 }

@@ -10,7 +10,7 @@ use std::marker::Model;
 
 /// How a bar of the Converter M-209 stands: the places of its left lug and its right lug, in this order.
 ///
-/// Standings are ordered by the left lug's place, then by the right lug's.
+/// Standings are ordered by the left lug's place, then by the right lug's place.
 #[derive(Clone, Copy, PartialEq, Eq, PartialOrd, Ord)]
 pub struct Standing {
     left: Place,
@@ -46,7 +46,7 @@ impl Default for Standing {
 }
 
 impl Standing {
-    /// Makes a standing; `None` if the left lug's place isn't before the right lug's.
+    /// Makes a standing; `None` if the place `left` isn't to the left of the place `right`.
     pub fn new(left: Place, right: Place) -> Option<Self>
         ensures exists { IsSome result ↔ IsBefore left right }
         ensures value { IfSome result (λ standing. standing ≡ (left, right)) }
@@ -73,7 +73,7 @@ impl Standing {
         self.right
     }
 
-    /// What the bar reads as: the numbers of the two places.
+    /// The bar's reading: the numbers of the pin wheels at the bar's two lugs, 0 for a place without a wheel.
     pub fn reading(self) -> Reading
         ensures { result ≡ reading_of self.0 self.1 }
     {
@@ -91,7 +91,7 @@ impl Standing {
         text
     }
 
-    /// Parses a standing: the names of two places, with `-` between them.
+    /// Parses a standing from its text: the names of two places, with `-` between the names.
     pub fn from_text(text: &[u8]) -> Option<Self>
         ensures value { MatchOption result
             ((places : _) → IsBefore places.0 places.1 → standing_text places ≢ text.now)
@@ -102,7 +102,7 @@ impl Standing {
         Standing::from_names(&text[..dash], &text[dash + 1..])
     }
 
-    /// Parses the names of the two places.
+    /// Parses a standing from the names of its two places.
     fn from_names(left: &[u8], right: &[u8]) -> Option<Self>
         ensures { MatchOption result
             ((places : _) → IsBefore places.0 places.1 → ArePlaceNames places left.now right.now → ⊥)

@@ -9,8 +9,8 @@ use super::letter::Letter;
 
 /// Makes the table of `$part` from its published text. The text's first letter is what A becomes.
 ///
-/// `$make` is `letters` for the table, `letters_back` for its inverse, or `reflection` for a reflector's
-/// table. What these functions require of the text is proved when the program is checked.
+/// `$make` is `letters` for the table, `letters_back` for the inverse, or `reflection` for a reflector's table.
+/// What these functions require of the text is proved before the program is built.
 macro_rules! wiring {
     ($make:ident, $part:expr, { $($variant:path => $text:literal,)* }) => {
         match $part {
@@ -21,7 +21,7 @@ macro_rules! wiring {
 
 pub(crate) use wiring;
 
-/// The letters of `text`, which is in capital letters.
+/// The letters of `text`, which has only capital letters.
 #[tactic(auto, using(std::proofs::lemmas::List::FromFn::fill_by_all))]
 pub(crate) fn letters<const N: usize>(text: &[u8; N]) -> [Letter; N]
     requires { IsTrue (are_capitals text.now) }
@@ -43,7 +43,7 @@ fn letter_at<const N: usize>(text: &[u8; N], place: usize) -> Letter
     Letter::from_byte(text[place]).unwrap()
 }
 
-/// The inverse of the table that is written in `text`.
+/// The inverse of the permutation whose published text is `text`.
 #[tactic(auto, using(crate::proofs::Wirings::test_permutes))]
 pub(crate) fn letters_back(text: &[u8; 26]) -> [Letter; 26]
     requires capitals { IsTrue (are_capitals text.now) }
@@ -53,7 +53,7 @@ pub(crate) fn letters_back(text: &[u8; 26]) -> [Letter; 26]
     inverse_table(&letters(text))
 }
 
-/// The inverse of `table`.
+/// The inverse of the permutation `table`.
 #[tactic(auto, using(crate::proofs::Products::filled_is_inverse))]
 fn inverse_table(table: &[Letter; 26]) -> [Letter; 26]
     requires { IsPermutation26 table.now }

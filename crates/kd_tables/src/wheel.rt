@@ -25,7 +25,7 @@ pub enum Wheel {
     Gamma,
 }
 
-/// Makes a table from the published wiring of `$wheel`, by the function `$make`.
+/// Calls the function `$make` with the published wiring of `$wheel`.
 macro_rules! wirings {
     ($make:ident, $wheel:expr) => {
         wiring!($make, $wheel, {
@@ -43,7 +43,7 @@ macro_rules! wirings {
     };
 }
 
-/// Applies the macro `$read`, which is `name_of` or `named`, to the table of wheels and their names.
+/// The names of wheels, read by the macro `$read`: `name_of` finds a wheel's name, `named` the wheel with a name.
 macro_rules! names {
     ($read:ident, $value:expr) => {
         $read!($value, {
@@ -100,10 +100,10 @@ pub fn unwiring(wheel: Wheel) -> [Letter; 26]
     wirings!(letters_back, wheel)
 }
 
-/// Whether the wheel is at a published notch while `window` shows. The ring makes no difference.
+/// Whether `wheel` is at a notch when it shows the letter `window`. The ring makes no difference.
 ///
-/// When a wheel at a notch steps, the wheel to its left steps too, if the left wheel can step. Some wheels
-/// have two notches, and Beta and Gamma have none.
+/// When a wheel at a notch steps, the wheel to its left steps too, if the left wheel can step. Some wheels have
+/// two notches, and Beta and Gamma have none.
 pub fn notched(wheel: Wheel, window: Letter) -> bool
     ensures { result ≡ is_notch wheel window }
 {

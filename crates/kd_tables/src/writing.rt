@@ -22,7 +22,7 @@ impl Device {
     }
 }
 
-/// Writes all `bytes` to `sink`, with as many calls of `put` as it needs.
+/// Writes all `bytes` to `sink`, with as many calls of `put` as are needed.
 ///
 /// If a `put` fails, the sink has taken a prefix of `bytes`, but not all of them.
 #[tactic(auto, using(crate::proofs::Taken::takes_more, crate::proofs::Taken::still_failed))]

@@ -7,7 +7,7 @@ use crate::costs::{bar_cost, cable_cost};
 use crate::machine::cable::Cable;
 use kd_tables::{Letter, Reading, Standing};
 
-/// Column `place` of the day, counted from 0: one of its pairs, or `None` after the last pair.
+/// Column `place` of a day, counted from 0: one of the day's `pairs`, or `None` after the last pair.
 #[tactic(auto, using(std::proofs::lemmas::Option::gets, crate::proofs::CostTable::columns_are_the_pairs))]
 pub fn column_at(pairs: &[(Letter, Letter)], place: usize) -> Option<(Letter, Letter)>
     ensures { result ≡ slice_index_or (columns_of pairs.now) place None }
@@ -15,10 +15,10 @@ pub fn column_at(pairs: &[(Letter, Letter)], place: usize) -> Option<(Letter, Le
     pairs.get(place).copied()
 }
 
-/// The cost of giving each cable each column.
+/// The cost of giving each cable each of a day's 13 columns.
 ///
-/// Entry `[i][j]` is for cable `i` and column `j`, both counted from 0. The first of the 13 columns are the
-/// day's pairs; the others are `None`.
+/// Entry `[i][j]` is for cable `i` and column `j`, both counted from 0. The first columns are the day's pairs;
+/// the other columns have no pair.
 pub fn cable_costs(cables: &[Cable; 13], pairs: &[(Letter, Letter)]) -> [[u8; 13]; 13]
     requires { length pairs.now ≤ 13 }
     ensures { result ≡ map (λ cable. map (costs.cable_cost cable) (columns_of pairs.now)) cables.now }
@@ -30,7 +30,7 @@ pub fn cable_costs(cables: &[Cable; 13], pairs: &[(Letter, Letter)]) -> [[u8; 13
     costs
 }
 
-/// The cost of giving one cable each column.
+/// The cost of giving one cable each of a day's 13 columns.
 fn costs_of_cable(cable: &Cable, pairs: &[(Letter, Letter)]) -> [u8; 13]
     requires { length pairs.now ≤ 13 }
     ensures { result ≡ map (costs.cable_cost cable.now) (columns_of pairs.now) }

@@ -54,7 +54,7 @@ impl Machine {
         }
     }
 
-    /// Creates an engine that enciphers as this machine does, from the letters that the machine shows.
+    /// Creates an engine that enciphers as this machine does, beginning with the letters that the machine shows.
     ///
     /// Returns `NotReady` if a slot is empty or a cable has exactly one letter.
     pub fn engine(&self) -> Result<Engine, NotReady>
@@ -98,7 +98,7 @@ fn seated_wheels(parts: &RotorParts) -> Option<ArrayVec<SheetWheel, 4>>
     Some(wheels)
 }
 
-/// The wheel `seated` with its ring and its window letter. `None` if `seated` is `None`.
+/// The wheel in `seated` with its ring and its window letter. `None` if there is no wheel.
 fn seated_wheel(parts: &RotorParts, seated: Option<Wheel>) -> Option<SheetWheel>
     requires rings { length parts.now.rings ≡ length (box_of parts.now.model) }
     requires letters { length parts.now.letters ≡ length (box_of parts.now.model) }
@@ -147,7 +147,7 @@ fn plugged_pairs(cables: &[Cable; 13]) -> ArrayVec<(Letter, Letter), 13>
     pairs
 }
 
-/// Appends the letters of `cable`, if it has two.
+/// Appends the two letters of `cable` as a pair, if the cable has two letters.
 fn push_pair(pairs: &mut ArrayVec<(Letter, Letter), 13>, cable: Cable)
     requires { array_vec_len pairs.old < 13 }
     ensures pairs { pairs.new.items

@@ -11,7 +11,7 @@ use kd_tables::Letter;
 /// A cable's letters: none, one or two.
 pub type Cable = (Option<Letter>, Option<Letter>);
 
-/// The cable with the letters `one` and `other` in alphabetical order. A single letter is in the first end.
+/// The cable with the letters `one` and `other` in alphabetical order. A single letter is at the first end.
 pub(crate) fn cable_in_order(one: Option<Letter>, other: Option<Letter>) -> Cable
     ensures { result ≡ cable_in_order one other }
 {
@@ -47,7 +47,7 @@ fn is_letter(end: Option<Letter>, letter: Letter) -> bool
     end == Some(letter)
 }
 
-/// Whether `letter` is in one of the cables.
+/// Whether `letter` is in one of `cables`.
 pub(crate) fn lies_in_any(cables: &[Cable], letter: Letter) -> bool
     ensures { result ≡ has_letter (letters_in_cables cables.now) letter }
 {
@@ -70,7 +70,7 @@ pub fn letters_in_order(one: Letter, other: Letter) -> (Letter, Letter)
     }
 }
 
-/// `cable` without `letter`, for a letter that is in it.
+/// `cable` without `letter`, which must be one of the cable's letters.
 pub(crate) fn cable_without(cable: &Cable, letter: Letter) -> Cable
     ensures { result ≡ cable_without letter cable.now }
 {
@@ -94,7 +94,7 @@ pub(crate) fn have_no_letter_twice(cables: &[Cable]) -> bool
     true
 }
 
-/// Whether the letters of `cable` differ, and are in none of `others`.
+/// Whether the letters of `cable` differ from each other, and from all letters in `others`.
 pub fn are_new_letters(cable: &Cable, others: &[Cable]) -> bool
     ensures { result ≡ are_new_letters (cable_letters cable.now) (letters_in_cables others.now) }
 {

@@ -1,4 +1,4 @@
-//! Compares a machine with a day: whether it is on the day's key, and whether it reads as the day.
+//! Compares a machine with a day: is the machine on the day's key, and does it read as the day?
 ghost use Rattle.std.specs.Prelude.{◌≡◌, ◌↔◌, IsTrue, IsPermutation, Some, true, [], ◌∷◌, length, slice_get};
 ghost use Rattle.std.specs.List.{AllByRecursion};
 ghost use Rattle.std.specs.Option.{option_map_or};
@@ -59,7 +59,7 @@ impl Machine {
     }
 }
 
-/// Whether model, wheels, rings, reflector and cables are the day's.
+/// Whether a rotor machine's model, wheels, rings, reflector and cables are the day's.
 fn is_rotor_on_key(parts: &RotorParts, entry: &RotorEntry) -> bool
     requires { IsLegalRotor parts.now }
     ensures { IsTrue result ↔ IsRotorOnKey parts.now (rotor_values entry.now) }
@@ -77,7 +77,7 @@ fn is_rotor_on_key(parts: &RotorParts, entry: &RotorEntry) -> bool
     are_the_pairs(&parts.cables, entry.pairs.as_slice())
 }
 
-/// Whether each of the day's `wheels` has the day's ring in `rings`, which are in box order.
+/// Whether a machine with these `rings`, in the order of its box, has the day's ring on each of `wheels`.
 fn have_rings(model: Model, rings: &PerWheel<Letter>, wheels: &[SheetWheel]) -> bool
     requires { length rings.now ≡ length (box_of model) }
     ensures { IsTrue result
@@ -92,7 +92,7 @@ fn have_rings(model: Model, rings: &PerWheel<Letter>, wheels: &[SheetWheel]) -> 
     }
 }
 
-/// Whether each of the day's `wheels` has the day's letter in `letters`, which are in box order.
+/// Whether a machine with these `letters`, in the order of its box, shows the day's letter on each of `wheels`.
 fn have_letters(model: Model, letters: &PerWheel<Letter>, wheels: &[SheetWheel]) -> bool
     requires { length letters.now ≡ length (box_of model) }
     ensures { IsTrue result
@@ -107,7 +107,7 @@ fn have_letters(model: Model, letters: &PerWheel<Letter>, wheels: &[SheetWheel])
     }
 }
 
-/// Whether `readings` and `rows` have the same readings, each as often, in any order.
+/// Whether `rows` are the same readings as `readings`, in any order.
 fn are_same_readings(readings: [Reading; 27], rows: [Reading; 27]) -> bool
     ensures { IsTrue result ↔ IsPermutation readings rows }
 {
@@ -117,14 +117,14 @@ fn are_same_readings(readings: [Reading; 27], rows: [Reading; 27]) -> bool
     readings == rows
 }
 
-/// Whether the cables that aren't empty are exactly `pairs`, in any order of cables and letters.
+/// Whether the cables that aren't empty have exactly the letters of `pairs`, in any order of cables and letters.
 fn are_the_pairs(cables: &[Cable], pairs: &[(Letter, Letter)]) -> bool
     ensures { IsTrue result ↔ AreThePairs cables.now pairs.now }
 {
     are_paired(cables, pairs) && are_joined(pairs, cables)
 }
 
-/// Whether each cable is empty or joins one of `pairs`.
+/// Whether each cable is empty or has the letters of one of `pairs`.
 fn are_paired(cables: &[Cable], pairs: &[(Letter, Letter)]) -> bool
     ensures { IsTrue result ↔ AllByRecursion (IsCablePaired pairs.now) cables.now }
 {
@@ -134,7 +134,7 @@ fn are_paired(cables: &[Cable], pairs: &[(Letter, Letter)]) -> bool
     }
 }
 
-/// Whether each of `pairs` has a cable in `cables` that joins it.
+/// Whether the letters of each of `pairs` are in one of `cables`.
 fn are_joined(pairs: &[(Letter, Letter)], cables: &[Cable]) -> bool
     ensures { IsTrue result ↔ AllByRecursion (IsPairJoined cables.now) pairs.now }
 {
@@ -144,14 +144,14 @@ fn are_joined(pairs: &[(Letter, Letter)], cables: &[Cable]) -> bool
     }
 }
 
-/// Whether `cable` is empty or joins one of `pairs`.
+/// Whether `cable` is empty or has the letters of one of `pairs`.
 fn is_cable_paired(cable: Cable, pairs: &[(Letter, Letter)]) -> bool
     ensures { IsTrue result ↔ IsCablePaired pairs.now cable }
 {
     cable == (None, None) || pairs.iter().any(|pair| has_letters_of_pair(cable, *pair))
 }
 
-/// Whether one of `cables` joins `pair`.
+/// Whether one of `cables` has the letters of `pair`.
 fn is_pair_joined(cables: &[Cable], pair: (Letter, Letter)) -> bool
     ensures { IsTrue result ↔ IsPairJoined cables.now pair }
 {
@@ -169,7 +169,7 @@ fn has_letters_of_pair(cable: Cable, pair: (Letter, Letter)) -> bool
         && is_loose_or_of(cable.1, &pair)
 }
 
-/// Whether `end` has no letter, or a letter of `pair`.
+/// Whether `end`, one end of a cable, has no letter or a letter of `pair`.
 fn is_loose_or_of(end: Option<Letter>, pair: &(Letter, Letter)) -> bool
     ensures { result ≡ option_map_or (has_letter (pair.now.0 ∷ pair.now.1 ∷ [])) end true }
 {

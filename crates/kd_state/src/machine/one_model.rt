@@ -23,7 +23,7 @@ impl Machine {
     ghost use Rattle.kd_state.specs.SheetDay.{IsLegalDay, day_model};
     ghost use Rattle.kd_state.specs.OneModel.{AreTakenApart};
 
-    /// The parts of the machine and of `day`; `None` if they are of different models.
+    /// The parts of the machine and of `day`; `None` if machine and day are of different models.
     pub fn of_one_model<'a>(&'a self, day: &'a SheetDay) -> Option<OneModel<'a>>
         ensures parted { MatchOption result
             (model_of self.now ≢ day_model day.now)

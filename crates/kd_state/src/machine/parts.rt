@@ -17,7 +17,7 @@ pub enum Parts {
 }
 
 impl Parts {
-    /// Carries `setting` out, or refuses it for the first reason that holds.
+    /// Carries `setting` out, or returns the first reason to refuse the setting.
     pub(crate) fn carry(&mut self, setting: Setting) -> Result<(), Why>
         requires { IsLegal self.old }
         ensures { IsCarryAnswer self.old setting self.new result }

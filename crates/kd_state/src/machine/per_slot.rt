@@ -34,7 +34,7 @@ impl<T> Model for PerSlot<T> {
 }
 
 impl<T: Copy> PerSlot<T> {
-    /// Wraps `values`; `None` if there aren't three or four.
+    /// Wraps `values`; `None` if there aren't three or four values.
     pub fn new(values: &[T]) -> Option<Self>
         ensures exists { IsSome result ↔ ((length values.now ≡ 3) ⊎ (length values.now ≡ 4)) }
         ensures value { IfSome result (λ slots. slots ≡ values.now) }
@@ -46,7 +46,7 @@ impl<T: Copy> PerSlot<T> {
         Some(PerSlot { values })
     }
 
-    /// The values, from the left.
+    /// The values, from the left slot to the right slot.
     pub fn as_slice(&self) -> &[T]
         ensures value { result.now ≡ self.now }
         ensures few { (length self.now ≡ 3) ⊎ (length self.now ≡ 4) }
@@ -70,7 +70,7 @@ impl<T: Copy> PerSlot<T> {
 }
 
 impl PerSlot<Option<Wheel>> {
-    /// Empties the slot that holds `wheel`, if one does.
+    /// Empties the slot that holds `wheel`, if a slot holds it.
     pub(crate) fn take_out(&mut self, wheel: Wheel)
         ensures { self.new ≡ map (seat_without wheel) self.old }
     {
@@ -99,7 +99,7 @@ impl PerSlot<Option<Wheel>> {
 impl PerSlot<SheetWheel> {
     ghost use Rattle.kd_state.specs.SheetDay.{seats_of_wheels};
 
-    /// What each slot holds: the wheels, without their rings and letters.
+    /// The wheel for each slot, without its ring and its window letter.
     pub(crate) fn seats(&self) -> PerSlot<Option<Wheel>>
         ensures { result ≡ seats_of_wheels self.now }
     {
@@ -120,7 +120,7 @@ impl PerSlot<SheetWheel> {
     }
 }
 
-/// What a slot that holds `seated` holds after `wheel` was taken out of the machine.
+/// What a slot with `seated` holds once `wheel` is out of the machine: nothing if `seated` is `wheel`.
 fn seat_without(seated: Option<Wheel>, wheel: Wheel) -> Option<Wheel>
     ensures { result ≡ seat_without wheel seated }
 {

@@ -4,7 +4,7 @@ ghost use Rattle.std.specs.Prelude.{◌≡◌, ◌⊎◌, ◌↔◌, ◌<◌, le
 use crate::numbered_items::set_item;
 use std::marker::Model;
 
-/// Five, eight or ten values: one for each wheel of a rotor machine's box, in box order.
+/// Five, eight or ten values: one for each wheel of a rotor machine's box, in the order of the box.
 #[derive(Clone, Copy)]
 pub struct PerWheel<T> {
     values: Wheels<T>,
@@ -32,7 +32,7 @@ impl<T> Model for PerWheel<T> {
 }
 
 impl<T: Copy> PerWheel<T> {
-    /// Wraps `values`; `None` if there aren't five, eight or ten.
+    /// Wraps `values`; `None` if there aren't five, eight or ten values.
     pub fn new(values: &[T]) -> Option<Self>
         ensures exists { IsSome result
             ↔ ((length values.now ≡ 5) ⊎ (length values.now ≡ 8) ⊎ (length values.now ≡ 10)) }
@@ -48,7 +48,7 @@ impl<T: Copy> PerWheel<T> {
         Some(PerWheel { values })
     }
 
-    /// The values, in box order.
+    /// The values, in the order of the wheels in the box.
     pub fn as_slice(&self) -> &[T]
         ensures { result.now ≡ self.now }
     {

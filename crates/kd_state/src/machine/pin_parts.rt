@@ -20,7 +20,7 @@ pub struct PinParts {
 }
 
 impl PinParts {
-    /// Whether the parts are legal: each letter is on its wheel.
+    /// Whether the parts are legal: whether each pin wheel has the letter that it shows.
     pub(crate) fn is_legal(&self) -> bool
         ensures { IsTrue result ↔ IsLegalPin self.now }
     {
@@ -30,7 +30,7 @@ impl PinParts {
     }
 }
 
-/// Whether each letter is on its wheel.
+/// Whether each of the six pin wheels has its letter: the first letter is for wheel 1.
 #[tactic(auto, using(crate::proofs::Slots::is_numbered, crate::proofs::Slots::numbered_at))]
 pub(crate) fn are_on_wheels(letters: &[Letter; 6]) -> bool
     ensures { IsTrue result ↔ AreOnWheels letters.now }
@@ -43,7 +43,7 @@ pub(crate) fn are_on_wheels(letters: &[Letter; 6]) -> bool
     true
 }
 
-/// The reading of each bar.
+/// The readings of a Converter's bars, from bar 1 to bar 27.
 pub(crate) fn readings_of(bars: &[Standing; 27]) -> [Reading; 27]
     ensures { result ≡ map (λ bar. reading_of bar.0 bar.1) bars.now }
 {

@@ -1,4 +1,4 @@
-//! Readers of a machine: its slots, rings, letters, cables, pins and lugs.
+//! Readers of a machine: calls that return one slot, ring, letter, cable, pin or bar.
 ghost use Rattle.std.specs.Prelude.{◌≡◌, length, slice_get};
 ghost use Rattle.kd_tables.specs.Tables.{box_of};
 ghost use Rattle.kd_state.specs.SameParts.{place_in_box};
@@ -27,7 +27,7 @@ impl Machine {
 
     /// The wheel in slot `slot`, counted from 1 from the left. `Some(None)` if the slot is empty.
     ///
-    /// `None` if there is no such slot.
+    /// `None` if the machine lacks the slot.
     pub fn slot(&self, slot: u8) -> Option<Option<Wheel>>
         ensures { result ≡ machine_slot self.now slot }
     {
@@ -47,7 +47,7 @@ impl Machine {
         }
     }
 
-    /// The ring of `wheel`, in a slot or not; ring 01 is A. `None` if the machine's box lacks the wheel.
+    /// The ring of `wheel`, which may be in the box; ring 01 is A. `None` if the machine lacks the wheel.
     pub fn ring(&self, wheel: Wheel) -> Option<Letter>
         ensures { result ≡ machine_ring self.now wheel }
     {
@@ -57,7 +57,7 @@ impl Machine {
         }
     }
 
-    /// The window letter of `wheel`, in a slot or not. `None` if the machine's box lacks the wheel.
+    /// The window letter of `wheel`, which may be in the box. `None` if the machine lacks the wheel.
     pub fn letter(&self, wheel: Wheel) -> Option<Letter>
         ensures { result ≡ machine_letter self.now wheel }
     {
@@ -69,7 +69,7 @@ impl Machine {
 
     /// The letters in cable `cable`, counted from 1. `None` if there is no such cable.
     ///
-    /// They are in alphabetical order; a single letter is in the first end.
+    /// The letters are in alphabetical order; a single letter is at the first end.
     pub fn cable(&self, cable: u8) -> Option<Cable>
         ensures { result ≡ machine_cable self.now cable }
     {
@@ -79,7 +79,7 @@ impl Machine {
         }
     }
 
-    /// Whether the pin at `letter` of pin wheel `wheel` is effective. `None` if there is no such pin.
+    /// Whether the pin at `letter` of pin wheel `wheel` is effective. `None` if there is no pin there.
     ///
     /// Pin wheels are counted from 1.
     pub fn pin_at(&self, wheel: u8, letter: Letter) -> Option<bool>
@@ -112,7 +112,7 @@ impl Machine {
     }
 }
 
-/// The letter of `wheel` in `letters`, which are in box order. `None` if the model's box lacks the wheel.
+/// The letter for `wheel` in `letters`, which follow the order of the model's box. `None` if the box lacks it.
 #[tactic(auto, using(crate::proofs::Wheels::place_nowhere, crate::proofs::Prelude::slice_get_past))]
 pub(crate) fn letter_of_wheel(
     model: Model,

@@ -18,16 +18,16 @@ pub struct RotorParts {
     /// The wheel in each slot, from the left; `None` for an empty slot.
     pub slots: PerSlot<Option<Wheel>>,
     pub reflector: Reflector,
-    /// The ring of each wheel, in box order, whether the wheel is in a slot or not. Ring 01 is A.
+    /// The ring of each wheel in a slot or in the box: from I to VIII, then Beta and Gamma. Ring 01 is A.
     pub rings: PerWheel<Letter>,
-    /// The window letter of each wheel, in box order, whether the wheel is in a slot or not.
+    /// The window letter of each wheel in a slot or in the box: from I to VIII, then Beta and Gamma.
     pub letters: PerWheel<Letter>,
     /// The letters in each cable, from cable 1 to cable 13.
     pub cables: [Cable; 13],
 }
 
 impl RotorParts {
-    /// Whether the parts are legal, as `Machine::rotor` defines it.
+    /// Whether the parts are legal, by the rules that `Machine::rotor` lists.
     pub(crate) fn is_legal(&self) -> bool
         ensures { IsTrue result ↔ IsLegalRotor self.now }
     {

@@ -20,7 +20,7 @@ pub(crate) fn place_in_box(model: Model, wheel: Wheel) -> Option<usize>
     None
 }
 
-/// Whether there is one item for each slot of the model, each wheel is allowed in its slot, and none is in two.
+/// Whether each slot of the model has one item, each wheel is allowed in its slot, and no wheel is in two slots.
 pub(crate) fn are_legal_seats(model: Model, slots: &PerSlot<Option<Wheel>>) -> bool
     ensures { IsTrue result ↔ (length slots.now ≡ slots_of model) × AreWheelsAllowed model slots.now
         × AreSeatedOnce slots.now }
@@ -43,7 +43,7 @@ fn are_allowed(model: Model, slots: &[Option<Wheel>]) -> bool
     true
 }
 
-/// Whether slot `slot`, counted from 1 from the left, may hold `seated`, a wheel or none.
+/// Whether slot `slot`, counted from 1 from the left, may hold `seated`. A slot may always be empty.
 fn may_stand(model: Model, slot: u8, seated: Option<Wheel>) -> bool
     ensures { IsTrue result ↔ IfSome seated (IsAllowed model slot) }
 {
@@ -65,7 +65,7 @@ fn are_seated_once(slots: &[Option<Wheel>]) -> bool
     true
 }
 
-/// Whether `seated`, the wheel in the slot at `place`, is in no other slot. True if `seated` is `None`.
+/// Whether `seated`, what the slot at `place` holds, is in no other slot. True if `seated` is `None`.
 fn is_alone(slots: &[Option<Wheel>], place: usize, seated: Option<Wheel>) -> bool
     ensures { IsTrue result ↔ IfSome seated
         (λ wheel. (other : ℕ) → IsSeatedAt slots.now other wheel → other ≡ place) }

@@ -1,4 +1,4 @@
-//! Carries settings out one after another, up to the first that the machine refuses.
+//! Carries settings out one after another, up to the first setting that the machine refuses.
 ghost use Rattle.std.specs.Prelude.{◌≡◌, IfErr, IfOk};
 ghost use Rattle.kd_state.specs.FaultText.{illegal_at_text};
 ghost use Rattle.kd_state.specs.Setting.{IsFirstIllegal, Leads};
@@ -9,7 +9,7 @@ use crate::setting::why::Why;
 use kd_tables::{Refusal, Text};
 use thiserror::Error;
 
-/// The first setting of a list that the machine refuses. `line` is its number, counted from 1.
+/// The first setting of a list that the machine refuses. `line` is the setting's number, counted from 1.
 #[derive(Clone, Copy, Debug, PartialEq, Eq, Error)]
 #[error("{}", self.text())]
 pub struct IllegalAt {
@@ -18,7 +18,7 @@ pub struct IllegalAt {
 }
 
 impl IllegalAt {
-    /// The refusal's number and name, the line and the reason.
+    /// The refusal's number and name, the number of the line, and the reason.
     pub fn text(&self) -> Text
         ensures { result.bytes ≡ illegal_at_text self.now }
     {

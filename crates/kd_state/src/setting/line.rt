@@ -1,4 +1,4 @@
-//! The text of a setting, as in a card or in a list.
+//! The line of a setting, as it stands in a card or in a list.
 ghost use Rattle.std.specs.Prelude.{◌≡◌, ◌≢◌, ◌<◌, ◌≤◌, [], ◌∷◌, ◌++◌, length, map, decimal, IfSome, MatchOption};
 ghost use Rattle.arrayvec.specs.ArrayString.{array_string_len};
 ghost use Rattle.kd_state.specs.declared.setting.Setting.TheVariants.{SeatReflector, RingTo, LugTo};
@@ -14,7 +14,7 @@ use arrayvec::ArrayString;
 use kd_tables::{Letter, Lug, Place, Reflector, Wheel};
 
 impl Setting {
-    /// The setting's line without LF, as `PULL 3 K`.
+    /// The setting's line without LF, such as `PULL 3 K`.
     pub fn line(&self) -> ArrayString<24>
         ensures value { result.bytes ≡ setting_line self.now }
         ensures short { array_string_len result < 24 }
@@ -56,7 +56,7 @@ impl Setting {
         }
     }
 
-    /// The setting with the line `text`, which has no LF; `None` if it isn't the line of a setting.
+    /// The setting with the line `text`, which has no LF; `None` if `text` isn't the line of a setting.
     #[tactic(auto, using(crate::proofs::Lines::too_many_words, crate::proofs::Lines::read_by_words))]
     pub fn from_line(text: &[u8]) -> Option<Self>
         ensures value { MatchOption result
@@ -69,7 +69,7 @@ impl Setting {
     }
 }
 
-/// The first part of a setting's line: `word` and `number`, each with a space after it.
+/// The beginning of a setting's line: `word` and `number`, each with a space after it.
 fn line_prefix(word: &str, number: u8) -> ArrayString<24>
     requires { length word.now ≤ 4 }
     ensures bytes { result.bytes ≡ word.now ++ 32 ∷ decimal number ++ 32 ∷ [] }
@@ -83,7 +83,7 @@ fn line_prefix(word: &str, number: u8) -> ArrayString<24>
     line
 }
 
-/// A setting's line of three words: `word`, `number` and `letter`.
+/// A line of three words: `word`, `number` and `letter`.
 fn letter_line(word: &str, number: u8, letter: Letter) -> ArrayString<24>
     requires { length word.now ≤ 4 }
     ensures bytes { result.bytes ≡ word.now ++ 32 ∷ decimal number ++ 32 ∷ letter_text letter }
@@ -107,7 +107,7 @@ fn ring_setting_line(wheel: Wheel, letter: Letter) -> ArrayString<24>
     line
 }
 
-/// The setting whose line has these words; `None` if there is no such setting.
+/// The setting whose line has these words; `None` if no setting's line has them.
 fn setting_of_words(words: &[&[u8]]) -> Option<Setting>
     ensures { IsSettingOfWords (map (λ word. word.now) words.now) result }
 {
@@ -119,7 +119,7 @@ fn setting_of_words(words: &[&[u8]]) -> Option<Setting>
     }
 }
 
-/// Reads a line of two words as a setting.
+/// Reads a line of two words as a setting. `None` if the line isn't a setting's.
 fn setting_of_two_words(keyword: &[u8], value: &[u8]) -> Option<Setting>
     ensures { IsSettingOfWords (keyword.now ∷ value.now ∷ []) result }
 {
@@ -131,7 +131,7 @@ fn setting_of_two_words(keyword: &[u8], value: &[u8]) -> Option<Setting>
     })
 }
 
-/// Reads a line of three words as a setting.
+/// Reads a line of three words as a setting. `None` if the line isn't a setting's.
 fn setting_of_three_words(keyword: &[u8], first: &[u8], second: &[u8]) -> Option<Setting>
     ensures { IsSettingOfWords (keyword.now ∷ first.now ∷ second.now ∷ []) result }
 {
@@ -169,7 +169,7 @@ fn setting_of_three_words(keyword: &[u8], first: &[u8], second: &[u8]) -> Option
     }
 }
 
-/// Reads a line of four words as a setting.
+/// Reads a line of four words as a setting. `None` if the line isn't a setting's.
 fn setting_of_four_words(
     keyword: &[u8],
     first: &[u8],
@@ -196,7 +196,7 @@ fn setting_of_four_words(
     }
 }
 
-/// Reads whether a pin is effective: `ON` or `OFF`.
+/// Reads whether a pin is effective: true for `ON`, false for `OFF`, and `None` for other texts.
 fn effective_of_text(text: &[u8]) -> Option<bool>
     ensures { MatchOption result
         ((effective : _) → on_off_text effective ≢ text.now)

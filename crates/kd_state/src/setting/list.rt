@@ -17,9 +17,9 @@ pub type Settings = ArrayVec<Setting, 192>;
 /// Why bytes aren't a list of settings.
 #[derive(Clone, Copy, Debug, PartialEq, Eq, Error)]
 pub enum ListFault {
-    /// This line, counted from 1, is the first that isn't a setting, or has no LF.
+    /// The line with this number, counted from 1, is the first that isn't a setting or has no LF.
     BadLine(usize),
-    /// There are more than 192 lines.
+    /// There are more than 192 settings.
     TooMany,
 }
 
@@ -43,7 +43,7 @@ impl fmt::Display for ListFault {
     }
 }
 
-/// Reads a list of settings: one on each line, with LF at its end, and at most 192.
+/// Reads a list of at most 192 settings: one on each line, with LF at the end of the line.
 pub fn read_list(text: &[u8]) -> Result<Settings, ListFault>
     ensures { MatchResult result
         (λ settings. IsListText text.now settings.items)
@@ -57,7 +57,7 @@ pub fn read_list(text: &[u8]) -> Result<Settings, ListFault>
     }
 }
 
-/// Reads lines up to the first that isn't a setting's; returns the settings and the rest of `text`.
+/// Reads settings up to the first line that isn't a setting's; returns the settings and the rest of `text`.
 ///
 /// `None` if there are more than 192 settings.
 pub fn split_settings(text: &[u8]) -> Option<(Settings, &[u8])>

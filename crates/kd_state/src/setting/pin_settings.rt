@@ -1,6 +1,6 @@
 //! Carries settings out on a Converter M-209.
 //!
-//! A setting that is refused changes nothing. The error is the first reason that holds.
+//! A setting that is refused changes nothing. The error is the first reason to refuse it.
 ghost use Rattle.kd_state.specs.Changes.{HasLugsInOrder};
 ghost use Rattle.kd_state.specs.Setting.{IsCarryAnswer, is_same_place, with_lug};
 ghost use Rattle.std.specs.Prelude.{◌≡◌, ◌↔◌, IsSome, IfSome};
@@ -14,7 +14,7 @@ use crate::setting::why::Why;
 use kd_tables::{Letter, Lug, Place, Standing};
 
 impl PinParts {
-    /// Carries `setting` out.
+    /// Carries `setting` out on a Converter M-209.
     pub(crate) fn carry(&mut self, setting: Setting) -> Result<(), Why>
         ensures { IsCarryAnswer (Parts.Pin self.old) setting (Parts.Pin self.new) result }
     {
@@ -56,7 +56,7 @@ impl PinParts {
         Ok(())
     }
 
-    /// Moves the lug `lug` of bar `bar` to `place`.
+    /// Moves the left or the right lug of bar `bar` to `place`.
     #[tactic(auto, using(crate::proofs::Slots::is_numbered))]
     fn lug_to(&mut self, bar: u8, lug: Lug, place: Place) -> Result<(), Why>
         ensures { IsCarryAnswer (Parts.Pin self.old) (Setting.LugTo bar lug place)
@@ -76,7 +76,7 @@ impl PinParts {
     }
 }
 
-/// Whether the bar's other lug, the one that isn't `lug`, is at `place`.
+/// Whether the lug of `standing` that isn't `lug` is at `place`.
 fn is_taken(standing: Standing, lug: Lug, place: Place) -> bool
     ensures { let moved = with_lug lug place standing in result ≡ is_same_place moved.0 moved.1 }
 {
@@ -86,7 +86,7 @@ fn is_taken(standing: Standing, lug: Lug, place: Place) -> bool
     }
 }
 
-/// `standing` with its lug `lug` at `place`; `None` if its left lug wouldn't be before its right lug.
+/// `standing` with `lug` moved to `place`; `None` if the left lug would no longer be left of the right lug.
 fn with_lug(standing: Standing, lug: Lug, place: Place) -> Option<Standing>
     ensures exists { IsSome result ↔ HasLugsInOrder (with_lug lug place standing) }
     ensures value { IfSome result (λ moved. moved ≡ with_lug lug place standing) }

@@ -1,6 +1,6 @@
 //! Carries settings out on a rotor machine.
 //!
-//! A setting that is refused changes nothing. The error is the first reason that holds.
+//! A setting that is refused changes nothing. The error is the first reason to refuse it.
 ghost use Rattle.kd_state.specs.Machine.{IsLegalRotor};
 ghost use Rattle.kd_state.specs.Setting.{IsCarryAnswer};
 
@@ -14,7 +14,7 @@ use crate::setting::why::Why;
 use kd_tables::{Letter, Reflector, Wheel, allowed, allowed_reflector};
 
 impl RotorParts {
-    /// Carries `setting` out.
+    /// Carries `setting` out on a rotor machine.
     pub(crate) fn carry(&mut self, setting: Setting) -> Result<(), Why>
         requires { IsLegalRotor self.old }
         ensures { IsCarryAnswer (Parts.Rotor self.old) setting (Parts.Rotor self.new) result }
@@ -78,7 +78,7 @@ impl RotorParts {
         Ok(())
     }
 
-    /// Changes the reflector.
+    /// Puts `reflector` into the machine, in place of the old reflector.
     fn seat_reflector(&mut self, reflector: Reflector) -> Result<(), Why>
         ensures { IsCarryAnswer (Parts.Rotor self.old) (Setting.SeatReflector reflector)
             (Parts.Rotor self.new) result }
@@ -90,7 +90,7 @@ impl RotorParts {
         Ok(())
     }
 
-    /// Sets the ring of `wheel` to `letter`. The window letter stays.
+    /// Sets the ring of `wheel` to `letter`. The wheel's window letter stays.
     #[tactic(auto, using(crate::proofs::Wheels::lacks_wheel))]
     fn ring_to(&mut self, wheel: Wheel, letter: Letter) -> Result<(), Why>
         requires { IsLegalRotor self.old }

@@ -1,4 +1,4 @@
-//! A day's values, for rotor machines or for the Converter M-209.
+//! The values of a day, for a rotor machine or for the Converter M-209.
 ghost use Rattle.std.specs.Prelude.{◌↔◌, IsTrue};
 ghost use Rattle.kd_state.specs.SheetDay.{IsDayNumber};
 

@@ -9,7 +9,7 @@ use kd_tables::{Letter, Reading};
 #[derive(Clone, Copy)]
 pub struct PinEntry {
     pub day: u8,
-    /// The readings that the bars must have. It doesn't matter which bar has which of them.
+    /// The readings that the bars must have. It doesn't matter which bar has which reading.
     pub rows: [Reading; 27],
     /// Which pins are effective.
     pub pins: PinSet,
@@ -24,7 +24,7 @@ impl PinEntry {
     ghost use Rattle.kd_state.specs.SheetDay.{IsLegalPinDay};
     ghost use Rattle.kd_state.specs.Entry.{pin_values};
 
-    /// Whether a key sheet can have a day with these values.
+    /// Whether the values are legal: whether a key sheet can have this day.
     pub(crate) fn is_legal(&self) -> bool
         ensures { IsTrue result ↔ IsLegalPinDay (pin_values self.now) }
     {

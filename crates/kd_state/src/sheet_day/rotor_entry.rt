@@ -13,13 +13,13 @@ use kd_tables::{Letter, Model, Reflector, Wheel, allowed_reflector};
 #[derive(Clone, Copy)]
 pub struct SheetWheel {
     pub wheel: Wheel,
-    /// The ring: 01 is A.
+    /// The wheel's ring, as a letter: ring 01 is A.
     pub ring: Letter,
     /// The letter that shows in the window.
     pub letter: Letter,
 }
 
-/// Wheel I with ring and window letter A. It fills the unused places of an array of wheels.
+/// The default, which fills unused places of arrays, is wheel I with ring A and window letter A.
 impl Default for SheetWheel {
     ghost use Rattle.std.specs.Prelude.{◌≡◌};
     ghost use Rattle.kd_tables.specs.declared.wheel.Wheel.TheVariants.{I};
@@ -45,7 +45,7 @@ pub struct RotorEntry {
     pub wheels: PerSlot<SheetWheel>,
     /// The plugged pairs, in the sheet's order.
     pub pairs: ArrayVec<(Letter, Letter), 13>,
-    /// The day's groups of three letters; each part of a message has one of them.
+    /// The day's groups of three letters. Each part of a message carries one of these groups.
     pub groups: ArrayVec<[Letter; 3], 4>,
 }
 
@@ -53,7 +53,7 @@ impl RotorEntry {
     ghost use Rattle.kd_state.specs.SheetDay.{IsLegalRotorDay, AreOneOfGroups};
     ghost use Rattle.kd_state.specs.Entry.{rotor_values};
 
-    /// Whether a key sheet can have a day with these values.
+    /// Whether the values are legal: whether a key sheet can have this day.
     pub(crate) fn is_legal(&self) -> bool
         ensures { IsTrue result ↔ IsLegalRotorDay (rotor_values self.now) }
     {
@@ -67,7 +67,7 @@ impl RotorEntry {
             && Plugs::from_pairs(pairs).is_ok()
     }
 
-    /// Whether `letters` are the letters of a group, in any order.
+    /// Whether `letters` are the letters of one of the day's groups, in any order.
     pub(crate) fn has_group(&self, letters: [Letter; 3]) -> bool
         ensures { IsTrue result ↔ AreOneOfGroups self.now.groups.items letters }
     {
@@ -78,7 +78,7 @@ impl RotorEntry {
     }
 }
 
-/// Whether `group` and `letters` have the same letters, each as often, in any order.
+/// Whether `letters` are the letters of `group`, in any order.
 fn are_reordered(group: [Letter; 3], letters: [Letter; 3]) -> bool
     ensures { IsTrue result ↔ IsPermutation group letters }
 {
