@@ -27,11 +27,11 @@ abbrev pub IsEachOnItsWheel : List ℕ → Type 0
 IsEachOnItsWheel letters = (wheel : ℕ) → 1 ≤ wheel → wheel ≤ 6
     → Contains (ring_of wheel) (slice_index letters (wheel - 1))
 
--- the place on wheel `wheel` of its letter in `letters`, the letters that the six wheels show; 0 if it isn't on the wheel
+-- the place of the letter that a wheel shows, if the wheels show `letters`; 0 if the wheel lacks this letter
 abbrev pub shown_place : List ℕ → ℕ → ℕ
 shown_place letters wheel = unwrap_or (place_on (ring_of wheel) (slice_index letters (wheel - 1))) 0
 
--- whether `wheel` is a wheel's number, and its acting pin is effective after `count` letters that begin at `letters`
+-- whether `wheel` is a wheel's number, and its acting pin is effective `count` letters after the wheels show `letters`
 abbrev pub is_acting_after : List (List Bool) → List ℕ → ℕ → ℕ → Bool
 is_acting_after pins letters count wheel =
     (nat_le 1 wheel && nat_le wheel 6)

@@ -1,15 +1,16 @@
 -- Lemmas on the letters in cables, and on cables that join exactly a day's pairs.
+use Rattle.kd_state.proofs.Prelude.{option_zip}
 use Rattle.kd_state.proofs.Prelude.{common_steps, NoLetterTwice, letters_in_pairs, AreCables, cable_letters}
 use Rattle.kd_state.proofs.Prelude.{cable_in_order, letters_in_cables, AreLettersOfPair, AreThePairs, IsPairJoined}
 use Rattle.kd_state.proofs.Prelude.{IsCablePaired, HasPairLetters, HaveSameLetters, are_new_letters, cable_with}
-use Rattle.kd_state.proofs.Prelude.{cable_without, has_letter, option_zip, is_some, and_from, and_parts, cond_both, eq-eqb}
+use Rattle.kd_state.proofs.Prelude.{cable_without, has_letter, is_some, and_from, and_parts, cond_both, eq-eqb}
 use Rattle.kd_state.proofs.Prelude.{eqb-false, le-leb, leb-false, not-true, or_from, or_parts, true≢false, nat_tests}
 use Rattle.kd_state.proofs.Prelude.{append_assoc, drop_more, All-contains, All-from_recursion, Contains-append_right}
 use Rattle.kd_state.proofs.Prelude.{recursion_from_All, IsPermutation-append, IsPermutation-append_comm}
 use Rattle.kd_state.proofs.Prelude.{IsPermutation-append_left, IsPermutation-append_right, IsPermutation-refl}
 use Rattle.kd_state.proofs.Prelude.{IsPermutation-trans, none-some, same_Some, slice_get-get_or, All, AllByRecursion}
-use Rattle.kd_state.proofs.Prelude.{is_none, option_map_or, Contains, List, None, Option, Some, [], ap, arith, drop}
-use Rattle.kd_state.proofs.Prelude.{false, filter_map, get_or, length, map, nat_eq, not, refl, rules, set, slice_get}
+use Rattle.kd_state.proofs.Prelude.{option_map_or, Contains, List, None, Option, Some, [], ap, arith, drop}
+use Rattle.kd_state.proofs.Prelude.{false, filter_map, get_or, length, map, nat_eq, refl, rules, set, slice_get}
 use Rattle.kd_state.proofs.Prelude.{suc, true, zero, ℕ, ◌++◌, ◌+◌, ◌<◌, ◌↔◌, ◌∙◌, ◌∷◌, ◌≡◌, ◌≢◌, IsDistinct}
 use Rattle.kd_state.proofs.Prelude.{IsPermutation, TestsTellLetters, both_ways, sym, ◌&&◌}
 use Rattle.{kd_state.proofs.Slots.has_letter-Decides, std.proofs.Common.Any}

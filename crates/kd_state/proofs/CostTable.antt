@@ -137,7 +137,7 @@ cost_tables_are_square m s machine day = All-nil (λ row. length row ≡ 0)
 
 abbrev pub reads_as_row : ℕ × ℕ → Place × Place → Bool
 reads_as_row row standing =
-    let reading = reading_of standing.0 standing.1 in nat_eq reading.0 row.0 && nat_eq reading.1 row.1
+    let reading = reading_of standing in nat_eq reading.0 row.0 && nat_eq reading.1 row.1
 
 pub no_zero : (row : ℕ × ℕ) → IsReading row → row.0 ≢ 0
     → standings_as row ≡ standing_across (place_of_pin_wheel row.0) (place_of_pin_wheel row.1) ∷ []

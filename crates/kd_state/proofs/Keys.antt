@@ -2,7 +2,7 @@
 use Rattle.kd_state.proofs.Prelude.{AreCables, Bool, CipherInTurn, Day, EngineIsTheMachine, EngineKey}
 use Rattle.kd_state.proofs.Prelude.{EquallySetDecipher, IsLegalDay, IsLegalRotorDay, IsMachine, IsPermutation}
 use Rattle.kd_state.proofs.Prelude.{IsRotorOnKey, KeyInTurn, List, OfDrum, OfPins, OfRotors, OfWheels, OnKey}
-use Rattle.kd_state.proofs.Prelude.{OnKeyIsItsCipher, OnKeyIsReady, Parts, Pin, PinKey, PinParts, Place}
+use Rattle.kd_state.proofs.Prelude.{OnKeyIsItsCipher, OnKeyIsReady, Parts, Pin, PinKey, PinParts}
 use Rattle.kd_state.proofs.Prelude.{ReadingIsItsCipher, ReadingIsReady, Rotor, RotorDay, RotorParts, SheetWheel, Some}
 use Rattle.kd_state.proofs.Prelude.{TheDayDeciphersItself, TurnedEngineIsTheTurnedMachine, TurnedHasItsKey}
 use Rattle.kd_state.proofs.Prelude.{TurnedHasTheDaysCipher, TurnedIsOnKey, [], is_acting_after, ap, arith, bars_met}
@@ -31,12 +31,12 @@ count_by-map p f [] = refl
 count_by-map p f (x ∷ xs) = grind (arith, common_steps, sum_by-cons, count_by-map p f xs)
 
 abbrev pin_key : PinParts → PinKey
-pin_key m = record { pins = pins_of m.pins; letters = m.letters; rows = map (λ bar. reading_of bar.0 bar.1) m.bars }
+pin_key m = record { pins = pins_of m.pins; letters = m.letters; rows = map reading_of m.bars }
 
 moved_as_met : (m : PinParts) (count : ℕ) → bars_met (pin_key m) count ≡ bars_moved m count
 moved_as_met m count =
     let acts : ℕ → Bool = is_acting_after (pins_of m.pins) m.letters count in
-    sym (count_by-map (λ (row : ℕ × ℕ). acts row.0 || acts row.1) (λ (bar : Place × Place). reading_of bar.0 bar.1) m.bars)
+    sym (count_by-map (λ (row : ℕ × ℕ). acts row.0 || acts row.1) reading_of m.bars)
     ∙ (λ i. count_by (λ bar. sym (or-min_max acts (place_number bar.0) (place_number bar.1)) i) m.bars)
 
 pub engine_cipher : EngineIsTheMachine

@@ -22,7 +22,7 @@ pub use Rattle.kd_state.specs.Machine.{AreWheelsAllowed, AreSeatedOnce, AreCable
 pub use Rattle.kd_state.specs.Machine.{IsLegalPin, IsLegalRotor, IsMachine, IsSeatedAt, machine_cable, cable_letters}
 pub use Rattle.kd_state.specs.Machine.{with_cables_in_order, letter_at, machine_letter, model_of, cable_in_order}
 pub use Rattle.kd_state.specs.Machine.{letters_in_cables, ring_at, machine_ring, machine_slot, machine_standing}
-pub use Rattle.kd_state.specs.OnKey.{AreLettersOfPair, AreThePairs, IsPairJoined, IsCablePaired, IsPinOnKey}
+pub use Rattle.kd_state.specs.OnKey.{AreLettersOfPair, AreThePairs, IsPairJoined, IsCablePaired}
 pub use Rattle.kd_state.specs.OnKey.{IsRotorOnKey, HasPairLetters, OnKey, HaveSameLetters, ShowsWindow}
 pub use Rattle.kd_state.specs.Pins.{pin_at, pin_set, wheel_pins, with_pin}
 pub use Rattle.kd_state.specs.Setting.{Carries, Leads, are_new_letters, cable_at, cable_with}

@@ -10,14 +10,12 @@ use Rattle.kd_tables.specs.declared.place.Place.TheVariants.{One, ZeroLeft, Two,
 use Rattle.kd_tables.specs.Permutation.{alphabet}
 use Rattle.kd_tables.specs.Places.{standings, place_rank, reading_of}
 use Rattle.kd_pins.specs.PinWheels.{pins_of}
-use Rattle.kd_state.specs.declared.machine.rotor_parts.RotorParts.{RotorParts}
-use Rattle.kd_state.specs.declared.machine.pin_parts.PinParts.{PinParts}
 use Rattle.kd_state.specs.declared.machine.parts.Parts.{Parts}
 use Rattle.kd_state.specs.declared.machine.parts.Parts.TheVariants.{Rotor, Pin}
 use Rattle.kd_state.specs.SameParts.{same_wheel, same_reflector}
 use Rattle.kd_state.specs.Machine.{cable_letters, ring_at, letter_at}
 use Rattle.kd_state.specs.Setting.{has_letter, is_same_place}
-use Rattle.kd_state.specs.SheetDay.{RotorDay, PinDay, Day, OfRotors, OfPins}
+use Rattle.kd_state.specs.SheetDay.{Day, OfRotors, OfPins}
 
 -- whether exactly one of the two values is true
 abbrev pub exactly_one : Bool → Bool → Bool
@@ -44,7 +42,7 @@ lugs_moved bar other = one_unless (is_same_place bar.0 other.0) + one_unless (is
 -- the standings with which a bar reads as this row, in the order of `standings`
 unfoldable pub standings_as : ℕ × ℕ → List (Place × Place)
 standings_as row =
-    filter (λ bar. let reading = reading_of bar.0 bar.1 in nat_eq reading.0 row.0 && nat_eq reading.1 row.1) standings
+    filter (λ bar. let reading = reading_of bar in nat_eq reading.0 row.0 && nat_eq reading.1 row.1) standings
 
 -- the place of a bar at which this pin wheel acts; for 0, the left one of the two places without a wheel
 abbrev pub place_of_pin_wheel : ℕ → Place
@@ -75,31 +73,15 @@ cost_table (Rotor m) (OfRotors s) = map (λ cable. map (cable_cost cable) (colum
 cost_table (Pin m) (OfPins s) = map (λ bar. map (bar_cost bar) s.rows) m.bars
 cost_table _ _ = []
 
--- ---- How many things other than cables and bars differ from the day.
-
--- how many slots are empty or hold another wheel than the day's
-abbrev pub loose_slots : RotorParts → RotorDay → ℕ
-loose_slots m s = count_by (λ slot. not (option_map_or (same_wheel slot.1.wheel) slot.0 false)) (zip m.slots s.wheels)
-
--- How many of the day's wheels don't have the day's ring. Wheels that are still in the box count too.
-abbrev pub loose_rings : RotorParts → RotorDay → ℕ
-loose_rings m s = count_by (λ w. not (option_map_or (nat_eq w.ring) (ring_at m w.wheel) false)) s.wheels
-
--- How many of the day's wheels don't have the day's window letter. Wheels that are still in the box count too.
-abbrev pub loose_letters : RotorParts → RotorDay → ℕ
-loose_letters m s = count_by (λ w. not (option_map_or (nat_eq w.letter) (letter_at m w.wheel) false)) s.wheels
-
--- how many pins aren't as the day says
-abbrev pub loose_pins : PinParts → PinDay → ℕ
-loose_pins m s =
-    sum (map (λ wheel. count_by (λ pin. exactly_one pin.0 pin.1) (zip wheel.0 wheel.1))
-    (zip (pins_of m.pins) (pins_of s.pins)))
-
--- How many things other than cables and bars differ from the day: slots, the reflector, rings and window letters; or
--- pins, and letters that pin wheels show.
+-- How many things other than cables and bars differ from the day: slots, the reflector, and the rings and the window
+-- letters of the day's wheels, also of those still in the box; or pins, and the letters that pin wheels show.
 abbrev pub loose_count : Parts → Day → ℕ
 loose_count (Rotor m) (OfRotors s) =
-    loose_slots m s + one_unless (same_reflector m.reflector s.reflector) + loose_rings m s + loose_letters m s
+    count_by (λ slot. not (option_map_or (same_wheel slot.1.wheel) slot.0 false)) (zip m.slots s.wheels)
+    + one_unless (same_reflector m.reflector s.reflector)
+    + count_by (λ w. not (option_map_or (nat_eq w.ring) (ring_at m w.wheel) false)) s.wheels
+    + count_by (λ w. not (option_map_or (nat_eq w.letter) (letter_at m w.wheel) false)) s.wheels
 loose_count (Pin m) (OfPins s) =
-    loose_pins m s + count_by (λ letter. not (nat_eq letter.0 letter.1)) (zip m.letters s.window)
+    sum (map (λ w. count_by (λ pin. exactly_one pin.0 pin.1) (zip w.0 w.1)) (zip (pins_of m.pins) (pins_of s.pins)))
+    + count_by (λ letter. not (nat_eq letter.0 letter.1)) (zip m.letters s.window)
 loose_count _ _ = 0

@@ -1,8 +1,8 @@
 -- Why a machine refuses a setting: the reasons in the order of testing, and the first that holds.
 -- Test: kd_trials/src/state/carrying.rt
 use Rattle.std.specs.Prelude.{◌≡◌, ℕ, ◌-◌, nat_eq, nat_lt, ◌+◌, Bool, true, false, not, ◌&&◌, List, [], ◌∷◌, ◌++◌, map}
-use Rattle.std.specs.Prelude.{find, slice_set, length, Option, Some, None, is_none, is_some, unwrap_or, Result, MatchResult, ⊤}
-use Rattle.std.specs.Prelude.{if◌then◌else◌}
+use Rattle.std.specs.Prelude.{find, slice_set, length, Option, Some, None, is_none, unwrap_or, Result, MatchResult, ⊤}
+use Rattle.std.specs.Prelude.{if◌then◌else◌, is_some}
 use Rattle.std.specs.List.{list_any}
 use Rattle.std.specs.Option.{option_map, option_map_or, option_or}
 use Rattle.kd_tables.specs.declared.wheel.Wheel.{Wheel}
@@ -71,9 +71,7 @@ refusal_reasons (Rotor m) (SeatReflector reflector) =
 refusal_reasons (Rotor m) (RingTo wheel letter) = (not (has_wheel (box_of m.model) wheel), WheelNotAllowed) ∷ []
 refusal_reasons (Rotor m) (Turn slot letter) = (is_none (wheel_in_slot m slot), SlotEmpty) ∷ []
 refusal_reasons (Pin m) (Turn wheel letter) =
-    (is_none (numbered_item m.letters wheel), SlotEmpty)
-    ∷ (not (has_letter (ring_of wheel) letter), NotOnWheel)
-    ∷ []
+    (is_none (numbered_item m.letters wheel), SlotEmpty) ∷ (not (has_letter (ring_of wheel) letter), NotOnWheel) ∷ []
 refusal_reasons (Pin m) (PinTo wheel letter effective) = (not (has_letter (ring_of wheel) letter), NotOnWheel) ∷ []
 refusal_reasons (Pin m) (LugTo bar lug place) =
     let moved = option_map (with_lug lug place) (numbered_item m.bars bar) in

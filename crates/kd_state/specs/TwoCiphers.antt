@@ -1,7 +1,7 @@
 -- The key of an engine, for either kind of machine, and the cipher that the engine makes by this key.
 -- Code: one type, `Engine`, serves all models.
 -- Test: kd_trials/src/state/engine.rt
-use Rattle.std.specs.Prelude.{◌≡◌, ◌≢◌, ℕ, List, length, map, All, IsSome, Option, Some, None}
+use Rattle.std.specs.Prelude.{◌≡◌, ◌≢◌, ℕ, List, length, map, All, IsSome}
 use Rattle.std.specs.List.{filter_map}
 use Rattle.std.specs.Option.{option_zip}
 use Rattle.kd_tables.specs.declared.wheel.Wheel.{Wheel}
@@ -62,9 +62,8 @@ window_of (Pin m) = m.letters
 -- ---- The cipher of a machine, by its slots, cables and lugs, and of a day, by its wheels, pairs and rows.
 -- Source: the published accounts of the current's path; War Department TM 11-380
 
--- The key of a machine as it stands. For a rotor machine: the wheels in its slots with their rings and
--- letters, its reflector, and its cables that have two letters. For a Converter: its pins, the letters that
--- it shows, and the readings of its bars.
+-- the key of a machine as it stands: by its slots, its reflector and its cables that have two letters; or by its pins,
+-- the letters that it shows, and its bars
 abbrev pub physical_key : Parts → EngineKey
 physical_key (Rotor m) = OfWheels (record {
   wheels = seated_wheels m;
@@ -73,11 +72,7 @@ physical_key (Rotor m) = OfWheels (record {
   reflector = m.reflector;
   plugs = exchange (filter_map (λ cable. option_zip cable.0 cable.1) m.cables);
 })
-physical_key (Pin m) = OfDrum (record {
-  pins = pins_of m.pins;
-  letters = m.letters;
-  rows = map (λ bar. reading_of bar.0 bar.1) m.bars;
-})
+physical_key (Pin m) = OfDrum (record { pins = pins_of m.pins; letters = m.letters; rows = map reading_of m.bars })
 
 -- the key that a day asks for, with the day's letters in the windows or on the pin wheels
 abbrev pub sheet_key : Day → EngineKey
@@ -90,8 +85,7 @@ sheet_key (OfRotors s) = OfWheels (record {
 })
 sheet_key (OfPins s) = OfDrum (record { pins = pins_of s.pins; letters = s.window; rows = s.rows })
 
--- the ciphertext that a ready machine makes: a rotor machine by its wheels, reflector and cables, a Converter
--- by its pins, letters and lugs
+-- the ciphertext that a ready machine makes: a rotor machine by its key, a Converter by its pins, letters and lugs
 abbrev pub physical_cipher : Parts → List ℕ → List ℕ
 physical_cipher (Rotor m) text = cipher (physical_key (Rotor m)) text
 physical_cipher (Pin m) text = lugs_cipher m text

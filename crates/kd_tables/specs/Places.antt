@@ -78,8 +78,8 @@ pub record IsReading (numbers : ℕ × ℕ) : Type 0 where
   pub equal : numbers.0 ≡ numbers.1 → numbers.0 ≡ 0
 
 -- the reading of a bar with its lugs at these places: the numbers of the wheels there, the smaller one first
-abbrev pub reading_of : Place → Place → ℕ × ℕ
-reading_of left right = smaller_first (place_number left) (place_number right)
+abbrev pub reading_of : Place × Place → ℕ × ℕ
+reading_of standing = smaller_first (place_number standing.0) (place_number standing.1)
 
 -- the digit for a number from 0 to 9
 abbrev pub digit_text : ℕ → List ℕ

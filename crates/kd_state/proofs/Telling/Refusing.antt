@@ -105,7 +105,8 @@ loose_in : {P : Type 0} (cable : Option ℕ × Option ℕ) (taken : Bool) → De
 loose_in cable taken tells few = grind (arith, few, no_reason, false, false_from_ne_true, tells.0)
 
 put_allowed : {P : Type 0} (found : Option (Option ℕ × Option ℕ)) (taken : Bool) → Decides taken P
-    → (first_reason ((is_none found, NoSuchCable) ∷ (is_some (unwrap_or found (None, None)).0 && is_some (unwrap_or found (None, None)).1, NoLooseEnd)
+    → (let cable = unwrap_or found (None, None) in
+    first_reason ((is_none found, NoSuchCable) ∷ (is_some cable.0 && is_some cable.1, NoLooseEnd)
     ∷ (taken, SocketTaken) ∷ []) ≡ None)
     ↔ (((held : Option ℕ × Option ℕ) × (found ≡ Some held) × (length (cable_letters held) < 2)) × ¬ P)
 put_allowed found taken e = grind (arith, none-some, loose_in, same_Some)

@@ -1,4 +1,5 @@
-use Rattle.kd_state.proofs.Prelude.{alphabet, cable_letters, column_letters, count_by, exactly_one, has_letter, ◌≡◌, take}
+use Rattle.kd_state.proofs.Prelude.{alphabet, cable_letters, column_letters, count_by}
+use Rattle.kd_state.proofs.Prelude.{exactly_one, has_letter, ◌≡◌, take}
 use Rattle.kd_state.proofs.costs.cable_cost.Given as goal
 
 abbrev pub invariant-loop-index : goal.invariant-loop-index
