@@ -67,10 +67,18 @@ nearest_standing bar row = find (λ other. nat_eq (lugs_moved bar other) (bar_co
 abbrev pub columns_of : List (ℕ × ℕ) → List (Option (ℕ × ℕ))
 columns_of pairs = map Some pairs ++ replicate (13 - length pairs) None
 
+-- the cost of giving each cable each column of the day: a list for each cable
+abbrev pub cable_costs : List (Option ℕ × Option ℕ) → List (ℕ × ℕ) → List (List ℕ)
+cable_costs cables pairs = map (λ cable. map (cable_cost cable) (columns_of pairs)) cables
+
+-- the cost of giving each bar each row of the day: a list for each bar
+abbrev pub bar_costs : List (Place × Place) → List (ℕ × ℕ) → List (List ℕ)
+bar_costs bars rows = map (λ bar. map (bar_cost bar) rows) bars
+
 -- the cost table of a machine and a day: a cost for each cable and column, or for each bar and row
 abbrev pub cost_table : Parts → Day → List (List ℕ)
-cost_table (Rotor m) (OfRotors s) = map (λ cable. map (cable_cost cable) (columns_of s.pairs)) m.cables
-cost_table (Pin m) (OfPins s) = map (λ bar. map (bar_cost bar) s.rows) m.bars
+cost_table (Rotor m) (OfRotors s) = cable_costs m.cables s.pairs
+cost_table (Pin m) (OfPins s) = bar_costs m.bars s.rows
 cost_table _ _ = []
 
 -- How many things other than cables and bars differ from the day: slots, the reflector, and the rings and the window
