@@ -34,8 +34,7 @@ shown_place letters wheel = unwrap_or (place_on (ring_of wheel) (slice_index let
 -- whether `wheel` is a wheel's number, and its acting pin is effective `count` letters after the wheels show `letters`
 abbrev pub is_acting_after : List (List Bool) → List ℕ → ℕ → ℕ → Bool
 is_acting_after pins letters count wheel =
-    (nat_le 1 wheel && nat_le wheel 6)
-    && is_effective (pins_on pins wheel)
+    (nat_le 1 wheel && nat_le wheel 6) && is_effective (pins_on pins wheel)
     ((shown_place letters wheel + count + acting_offset wheel) % pin_wheel_size wheel)
 
 -- how many bars are met after `count` letters: those with a lug at a wheel whose acting pin is effective

@@ -1,7 +1,7 @@
 -- Names from other crates, and of this crate's definitions, that the proofs of this crate use.
 pub use Rattle.kd_drum.specs.Converter.{IsEachOnItsWheel, PinKey, is_acting_after, bars_met, converter_cipher}
 pub use Rattle.kd_enigma.specs.Plugs.{NoLetterTwice, letters_in_pairs}
-pub use Rattle.kd_state.specs.SameParts.{has_wheel, numbered_item, place_in_box, same_reflector}
+pub use Rattle.kd_state.specs.SameParts.{numbered_item, place_in_box, same_reflector}
 pub use Rattle.kd_state.specs.SameParts.{same_wheel}
 pub use Rattle.kd_state.specs.Changes.{IsKept, IsSeatOf, ChangesTo, MovesLug, SeatsWheel, SetsOnly, TheBar, TheCable}
 pub use Rattle.kd_state.specs.Changes.{TheLetter, ThePin, TheReflector, TheRing, TheShown, TheSlot, Thing, TurnsWheel}
@@ -27,8 +27,8 @@ pub use Rattle.kd_state.specs.OnKey.{IsRotorOnKey, HasPairLetters, OnKey, HaveSa
 pub use Rattle.kd_state.specs.Pins.{pin_at, pin_set, wheel_pins, with_pin}
 pub use Rattle.kd_state.specs.Setting.{Carries, Leads, are_new_letters, cable_at, cable_with}
 pub use Rattle.kd_state.specs.Setting.{cable_without, machine_after, has_letter, is_same_place}
-pub use Rattle.kd_state.specs.Setting.{refusal_reasons, why_refused, letters_with}
-pub use Rattle.kd_state.specs.Setting.{with_lug, bars_with_lug, seat_without}
+pub use Rattle.kd_state.specs.Setting.{refusal_reasons, why_refused}
+pub use Rattle.kd_state.specs.Setting.{with_lug, seat_without}
 pub use Rattle.kd_state.specs.SheetDay.{Day, HasWheelLetters, IsLegalDay, IsLegalRotorDay, OfPins, OfRotors, PinDay}
 pub use Rattle.kd_state.specs.SheetDay.{RotorDay, seats_of_wheels}
 pub use Rattle.kd_state.specs.TwoCiphers.{EngineKey, IsReady, OfDrum, OfWheels, cipher}

@@ -1,5 +1,5 @@
 -- Lemmas on wheels and reflectors by their names, and on the slots and places that wheels have.
-use Rattle.kd_state.proofs.Prelude.{has_wheel, place_in_box, same_reflector, same_wheel}
+use Rattle.kd_state.proofs.Prelude.{place_in_box, same_reflector, same_wheel}
 use Rattle.kd_state.proofs.Prelude.{AllowedWheelsLieInTheBox, DaysWheelsHaveTheirPlaces, PlacesTellWheels, IsSeatedAt}
 use Rattle.kd_state.proofs.Prelude.{ShowsWindow, Day, OfPins, PinDay, AllByRecursion, All-from_recursion}
 use Rattle.kd_state.proofs.Prelude.{recursion_from_All, seats_of_wheels, Parts, Pin, PinParts, SheetWheel, IsAllowed}
@@ -45,8 +45,9 @@ same_wheel_self wheel = grind (arith, same_wheel-Decides)
 pub same_wheel_differs : (wheel other : Wheel) → wheel ≢ other → same_wheel wheel other ≡ false
 same_wheel_differs wheel other h = grind (arith, false_from_ne_true, same_wheel-Decides)
 
--- `has_wheel` is true exactly if the list contains the wheel
-pub has_wheel-Decides : (wheels : List Wheel) (wheel : Wheel) → Decides (has_wheel wheels wheel) (Contains wheels wheel)
+-- the test for a wheel is true exactly if the list contains the wheel
+pub has_wheel-Decides : (wheels : List Wheel) (wheel : Wheel)
+    → Decides (list_any (same_wheel wheel) wheels) (Contains wheels wheel)
 has_wheel-Decides wheels wheel = is_member-Decides same_wheel-Decides wheels wheel
 
 -- the test for a reflector is true exactly if the list contains the reflector
@@ -99,7 +100,8 @@ pub IsAllowed-IsPlaced : (model : Model) (slot : ℕ) (wheel : Wheel) → IsAllo
 IsAllowed-IsPlaced M4 slot wheel h = placed_in_m4 (slot == 1) slot wheel refl h
 IsAllowed-IsPlaced model slot wheel h = grind (arith, in_some, lies_in_both)
 
-pub lacks_wheel : (wheels : List Wheel) (wheel : Wheel) → ¬ (Contains wheels wheel) → has_wheel wheels wheel ≡ false
+pub lacks_wheel : (wheels : List Wheel) (wheel : Wheel) → ¬ (Contains wheels wheel)
+    → list_any (same_wheel wheel) wheels ≡ false
 lacks_wheel wheels wheel h = grind (arith, false_from_ne_true, has_wheel-Decides)
 
 -- `==` in the program agrees with `same_wheel`

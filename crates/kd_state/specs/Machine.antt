@@ -34,13 +34,11 @@ IsSeatedAt slots place wheel = slice_get slots place ≡ Some (Some wheel)
 
 -- Each wheel is allowed in its slot.
 abbrev pub AreWheelsAllowed : Model → List (Option Wheel) → Type 0
-AreWheelsAllowed model slots = (place : ℕ) (wheel : Wheel) → IsSeatedAt slots place wheel
-    → IsAllowed model (place + 1) wheel
+AreWheelsAllowed model slots = (place : ℕ) (w : Wheel) → IsSeatedAt slots place w → IsAllowed model (place + 1) w
 
 -- No wheel is in two slots.
 abbrev pub AreSeatedOnce : List (Option Wheel) → Type 0
-AreSeatedOnce slots =
-    (place other : ℕ) (wheel : Wheel) → IsSeatedAt slots place wheel → IsSeatedAt slots other wheel → place ≡ other
+AreSeatedOnce slots = (p q : ℕ) (wheel : Wheel) → IsSeatedAt slots p wheel → IsSeatedAt slots q wheel → p ≡ q
 
 -- There are `number` letters, each below 26.
 pub record AreLetters (number : ℕ) (letters : List ℕ) : Type 0 where

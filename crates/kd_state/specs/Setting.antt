@@ -14,7 +14,6 @@ use Rattle.kd_tables.specs.Rings.{ring_of}
 use Rattle.kd_tables.specs.Places.{place_rank}
 use Rattle.kd_state.specs.Pins.{with_pin}
 use Rattle.kd_state.specs.declared.machine.rotor_parts.RotorParts.{RotorParts}
-use Rattle.kd_state.specs.declared.machine.pin_parts.PinParts.{PinParts}
 use Rattle.kd_state.specs.declared.machine.parts.Parts.{Parts}
 use Rattle.kd_state.specs.declared.machine.parts.Parts.TheVariants.{Rotor, Pin}
 use Rattle.kd_state.specs.declared.setting.Setting.{Setting}
@@ -24,7 +23,7 @@ use Rattle.kd_state.specs.declared.setting.why.Why.{Why}
 use Rattle.kd_state.specs.declared.setting.why.Why.TheVariants.{OtherModel, NoSuchCable, NotThere, NoLooseEnd}
 use Rattle.kd_state.specs.declared.setting.why.Why.TheVariants.{SocketTaken, WheelNotAllowed, SlotEmpty, NotOnWheel}
 use Rattle.kd_state.specs.declared.setting.why.Why.TheVariants.{NoSuchBar, PlaceTaken, WouldPass}
-use Rattle.kd_state.specs.SameParts.{same_wheel, same_reflector, has_wheel, place_in_box, numbered_item}
+use Rattle.kd_state.specs.SameParts.{same_wheel, same_reflector, place_in_box, numbered_item}
 use Rattle.kd_state.specs.Machine.{cable_letters, letters_in_cables, cable_in_order}
 
 -- whether the letter is in the list
@@ -34,8 +33,7 @@ has_letter letters letter = list_any (λ other. nat_eq other letter) letters
 -- whether the letters of the first list differ from each other, and from all letters of the second list
 abbrev pub are_new_letters : List ℕ → List ℕ → Bool
 are_new_letters [] others = true
-are_new_letters (letter ∷ letters) others = not (has_letter (letters ++ others) letter)
-    && are_new_letters letters others
+are_new_letters (first ∷ rest) others = not (has_letter (rest ++ others) first) && are_new_letters rest others
 
 -- the letters in cable `cable`, counted from 1; none if there is no such cable
 abbrev pub cable_at : RotorParts → ℕ → Option ℕ × Option ℕ
@@ -65,10 +63,11 @@ refusal_reasons (Rotor m) (Put cable letter) =
     ∷ (is_some (cable_at m cable).0 && is_some (cable_at m cable).1, NoLooseEnd)
     ∷ (has_letter (letters_in_cables m.cables) letter, SocketTaken)
     ∷ []
-refusal_reasons (Rotor m) (Seat slot wheel) = (not (has_wheel (wheels_for m.model slot) wheel), WheelNotAllowed) ∷ []
+refusal_reasons (Rotor m) (Seat slot wheel) =
+    (not (list_any (same_wheel wheel) (wheels_for m.model slot)), WheelNotAllowed) ∷ []
 refusal_reasons (Rotor m) (SeatReflector reflector) =
     (not (list_any (same_reflector reflector) (reflectors_of m.model)), WheelNotAllowed) ∷ []
-refusal_reasons (Rotor m) (RingTo wheel letter) = (not (has_wheel (box_of m.model) wheel), WheelNotAllowed) ∷ []
+refusal_reasons (Rotor m) (RingTo wheel letter) = (not (list_any (same_wheel wheel) (box_of m.model)), WheelNotAllowed) ∷ []
 refusal_reasons (Rotor m) (Turn slot letter) = (is_none (wheel_in_slot m slot), SlotEmpty) ∷ []
 refusal_reasons (Pin m) (Turn wheel letter) =
     (is_none (numbered_item m.letters wheel), SlotEmpty) ∷ (not (has_letter (ring_of wheel) letter), NotOnWheel) ∷ []
@@ -100,16 +99,6 @@ cable_with letter cable = cable_in_order (option_or cable.0 cable.1) (Some lette
 abbrev pub seat_without : Wheel → Option Wheel → Option Wheel
 seat_without wheel seated = if option_map_or (same_wheel wheel) seated false then None else seated
 
--- the machine's window letters after this wheel is turned to this letter; unchanged if there is no wheel
-abbrev pub letters_with : RotorParts → Option Wheel → ℕ → List ℕ
-letters_with m None letter = m.letters
-letters_with m (Some wheel) letter = slice_set m.letters (place_in_box m.model wheel) letter
-
--- the machine's bars after this lug of bar `number` is moved to this place
-abbrev pub bars_with_lug : PinParts → ℕ → Lug → Place → List (Place × Place)
-bars_with_lug m number lug place =
-    option_map_or (λ bar. slice_set m.bars (number - 1) (with_lug lug place bar)) (numbered_item m.bars number) m.bars
-
 -- The machine after a setting that it doesn't refuse. A wheel that is put into a slot leaves its old slot, and
 -- the wheel that was in the new slot goes to the box. Both keep their rings and window letters.
 abbrev pub machine_after : Parts → Setting → Parts
@@ -122,10 +111,14 @@ machine_after (Rotor m) (Seat slot wheel) =
 machine_after (Rotor m) (SeatReflector reflector) = Rotor (record m { reflector = reflector })
 machine_after (Rotor m) (RingTo wheel letter) =
     Rotor (record m { rings = slice_set m.rings (place_in_box m.model wheel) letter })
-machine_after (Rotor m) (Turn slot letter) = Rotor (record m { letters = letters_with m (wheel_in_slot m slot) letter })
+machine_after (Rotor m) (Turn slot letter) =
+    let turned = λ (wheel : Wheel). slice_set m.letters (place_in_box m.model wheel) letter in
+    Rotor (record m { letters = option_map_or turned (wheel_in_slot m slot) m.letters })
 machine_after (Pin m) (Turn wheel letter) = Pin (record m { letters = slice_set m.letters (wheel - 1) letter })
 machine_after (Pin m) (PinTo wheel letter effective) = Pin (record m { pins = with_pin m.pins wheel letter effective })
-machine_after (Pin m) (LugTo bar lug place) = Pin (record m { bars = bars_with_lug m bar lug place })
+machine_after (Pin m) (LugTo bar lug place) =
+    let moved = λ (standing : Place × Place). slice_set m.bars (bar - 1) (with_lug lug place standing) in
+    Pin (record m { bars = option_map_or moved (numbered_item m.bars bar) m.bars })
 machine_after m _ = m
 
 -- ---- Settings carried out one after another, and the first that is refused.

@@ -62,8 +62,7 @@ window_of (Pin m) = m.letters
 -- ---- The cipher of a machine, by its slots, cables and lugs, and of a day, by its wheels, pairs and rows.
 -- Source: the published accounts of the current's path; War Department TM 11-380
 
--- the key of a machine as it stands: by its slots, its reflector and its cables that have two letters; or by its pins,
--- the letters that it shows, and its bars
+-- the key of a machine as it stands: by its slots, reflector and cables with two letters; or by its pins, letters and bars
 abbrev pub physical_key : Parts → EngineKey
 physical_key (Rotor m) = OfWheels (record {
   wheels = seated_wheels m;

@@ -7,16 +7,20 @@ use Rattle.kd_tables.specs.declared.place.Place.TheVariants.{One, ZeroLeft, Two,
 use Rattle.kd_tables.specs.declared.lug.Lug.{Lug}
 use Rattle.kd_tables.specs.declared.lug.Lug.TheVariants as lugs
 
+-- the name of each place of a bar, and how many places are to its left
+abbrev pub place_table : Place → List ℕ × ℕ
+place_table One = (codes "1", 0)
+place_table ZeroLeft = (codes "0L", 1)
+place_table Two = (codes "2", 2)
+place_table Three = (codes "3", 3)
+place_table Four = (codes "4", 4)
+place_table Five = (codes "5", 5)
+place_table ZeroRight = (codes "0R", 6)
+place_table Six = (codes "6", 7)
+
 -- the name of a lug's place on a bar
 abbrev pub place_text : Place → List ℕ
-place_text One = codes "1"
-place_text ZeroLeft = codes "0L"
-place_text Two = codes "2"
-place_text Three = codes "3"
-place_text Four = codes "4"
-place_text Five = codes "5"
-place_text ZeroRight = codes "0R"
-place_text Six = codes "6"
+place_text place = (place_table place).0
 
 -- the number of the pin wheel that acts at a place; 0 if no wheel does: the digit in the place's name
 abbrev pub place_number : Place → ℕ
@@ -28,14 +32,7 @@ places = One ∷ ZeroLeft ∷ Two ∷ Three ∷ Four ∷ Five ∷ ZeroRight ∷ 
 
 -- how many places of the bar are to the left of this place
 abbrev pub place_rank : Place → ℕ
-place_rank One = 0
-place_rank ZeroLeft = 1
-place_rank Two = 2
-place_rank Three = 3
-place_rank Four = 4
-place_rank Five = 5
-place_rank ZeroRight = 6
-place_rank Six = 7
+place_rank place = (place_table place).1
 
 -- The place `first` is to the left of the place `second`.
 abbrev pub IsBefore : Place → Place → Type 0
@@ -49,13 +46,10 @@ lug_text lugs.Right = codes "R"
 -- ---- How a bar can stand: the places of its left and its right lug.
 -- Code: `Standing::new` compares the two places; `Standing::from_text` splits a standing's text at the hyphen.
 
--- All standings of a bar: the places of its two lugs, with the left lug left of the right lug. Standings are
--- ordered by the left lug's place, then by the right lug's place.
+-- all standings of a bar, with the left lug left of the right lug: in the order of the left, then of the right lug's place
 abbrev pub standings : List (Place × Place)
 standings =
-    flat_map
-    (λ left. map (λ right. (left, right)) (filter (λ right. nat_lt (place_rank left) (place_rank right)) places))
-    places
+    flat_map (λ l. map (λ r. (l, r)) (filter (λ r. nat_lt (place_rank l) (place_rank r)) places)) places
 
 -- a standing as text: the name of the left lug's place, `-`, and the name of the right lug's place
 abbrev pub standing_text : Place × Place → List ℕ

@@ -7,8 +7,8 @@ pub use Rattle.kd_state.proofs.Prelude.{AreSeatedOnce, AreCables, AreLetters, Ar
 pub use Rattle.kd_state.proofs.Prelude.{IsMachine, IsSeatedAt, cable_letters, with_cables_in_order, letter_at}
 pub use Rattle.kd_state.proofs.Prelude.{cable_in_order, letters_in_cables, pin_at, pin_set, wheel_pins, with_pin}
 pub use Rattle.kd_state.proofs.Prelude.{cable_at, cable_with, cable_without, machine_after, is_same_place}
-pub use Rattle.kd_state.proofs.Prelude.{lug_place, other_lug, refusal_reasons, why_refused, letters_with, with_lug}
-pub use Rattle.kd_state.proofs.Prelude.{bars_with_lug, seat_without, Parts, Pin, Rotor, PinParts, RotorParts, Setting}
+pub use Rattle.kd_state.proofs.Prelude.{lug_place, other_lug, refusal_reasons, why_refused, with_lug}
+pub use Rattle.kd_state.proofs.Prelude.{seat_without, Parts, Pin, Rotor, PinParts, RotorParts, Setting}
 pub use Rattle.kd_state.proofs.Prelude.{LugTo, PinTo, Pull, Put, RingTo, Seat, SeatReflector, Turn, Why, WouldPass}
 pub use Rattle.kd_state.proofs.Prelude.{IsBefore, place_on, box_of, reflectors_of, wheels_for, Lug, Model, Place, Wheel}
 pub use Rattle.kd_state.proofs.Prelude.{both_ways, cases_Bool, cases_eq, eqb-false, not-false, true_from_ne_false}
@@ -152,6 +152,11 @@ keeps_letters : (m : RotorParts) (wheel : Wheel) (letters : List ℕ)
     → SetsOnly (TheLetter wheel) (Rotor m) (Rotor (record m { letters = letters }))
 keeps_letters m wheel letters same = grind (arith, same)
 
+-- the window letters after the wheel is turned, if there is one
+abbrev pub letters_with : RotorParts → Option Wheel → ℕ → List ℕ
+letters_with m seated letter =
+    option_map_or (λ wheel. set m.letters (place_in_box m.model wheel) letter) seated m.letters
+
 is_seated : (held : Option (Option Wheel)) → is_none (unwrap_or held None) ≡ false
     → (wheel : Wheel) × (held ≡ Some (Some wheel))
 is_seated held e = grind arith
@@ -178,6 +183,11 @@ lug_set : (lug : Lug) (place : Place) (bar : Place × Place)
     → (lug_place lug (with_lug lug place bar) ≡ place)
     × (lug_place (other_lug lug) (with_lug lug place bar) ≡ lug_place (other_lug lug) bar)
 lug_set lug place bar = grind arith
+
+-- the bars after this lug of bar `number` is moved to this place
+abbrev pub bars_with_lug : PinParts → ℕ → Lug → Place → List (Place × Place)
+bars_with_lug m number lug place =
+    option_map_or (λ bar. set m.bars (number - 1) (with_lug lug place bar)) (numbered_item m.bars number) m.bars
 
 pub still_before : (bar : Place × Place) → is_same_place bar.0 bar.1 ≡ false
     → nat_lt (place_rank bar.1) (place_rank bar.0) ≡ false → IsBefore bar.0 bar.1
