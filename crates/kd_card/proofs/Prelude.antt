@@ -84,8 +84,9 @@ pub use Rattle.kd_state.specs.Machine.{IsLegal, IsMachine, cable_letters, letter
 pub use Rattle.kd_state.specs.Machine.{ring_at}
 pub use Rattle.kd_state.specs.OnKey.{AreThePairs, IsPairJoined, IsCablePaired, ReadsAs, HaveSameLetters}
 pub use Rattle.kd_state.specs.Setting.{Carries, Leads, cable_at, cable_with, cable_without, machine_after, has_letter}
-pub use Rattle.kd_state.specs.Setting.{refusal_reasons, wheel_in_slot, why_refused, letters_with, with_lug}
-pub use Rattle.kd_state.specs.{Changes.{HasLugsInOrder}, Setting.{seat_without, bars_with_lug}}
+pub use Rattle.kd_state.specs.Setting.{refusal_reasons, wheel_in_slot, why_refused, with_lug}
+pub use Rattle.kd_state.specs.{Changes.{HasLugsInOrder}, Setting.{seat_without}}
+pub use Rattle.kd_state.proofs.Telling.Refusing.Changing.{letters_with, bars_with_lug}
 pub use Rattle.kd_state.specs.SheetDay.{Day, IsLegalDay, OfPins, OfRotors, PinDay, RotorDay, day_model}
 pub use Rattle.kd_state.specs.Words.{IsFirstPart, IsWithout, IsWord, line_of, words_of}
 pub use Rattle.kd_state.specs.declared.{machine.parts.Parts.Parts, setting.Setting.Setting, setting.why.Why.Why}
