@@ -11,8 +11,7 @@ use Rattle.kd_tables.specs.Rings.{ring_of, place_on}
 use Rattle.kd_pins.specs.PinWheel.{is_effective}
 use Rattle.kd_pins.specs.PinWheels.{pin_wheels, pins_on, acting_offset, pin_wheel_size}
 
--- A key of the Converter: the effective pins of its six wheels, the letters that they show, and the readings of
--- the bars.
+-- A key of the Converter: the effective pins of its six wheels, the letters that they show, and the bars' readings.
 pub record PinKey : Type 0 where
   pub pins : List (List Bool)
   pub letters : List ℕ
@@ -45,8 +44,7 @@ bars_met key count =
 -- The ciphertext of `text`. Each letter becomes the letter that is as far before Z as it is after A. This letter
 -- is moved on by the number of bars met, with A after Z.
 abbrev pub converter_cipher : PinKey → List ℕ → List ℕ
-converter_cipher key text =
-    map (λ numbered. (25 + bars_met key numbered.0 - numbered.1) % 26) (enumerate_from 0 text)
+converter_cipher key text = map (λ numbered. (25 + bars_met key numbered.0 - numbered.1) % 26) (enumerate_from 0 text)
 
 -- the letter that a wheel shows after `count` letters; the wheel turns by one place for each letter
 abbrev pub letter_after : PinKey → ℕ → ℕ → ℕ

@@ -81,6 +81,8 @@ cost_table (Rotor m) (OfRotors s) = cable_costs m.cables s.pairs
 cost_table (Pin m) (OfPins s) = bar_costs m.bars s.rows
 cost_table _ _ = []
 
+-- ---- Loose things: those other than cables and bars that differ from the day.
+
 -- How many things other than cables and bars differ from the day: slots, the reflector, and the rings and the window
 -- letters of the day's wheels, also of those still in the box; or pins, and the letters that pin wheels show.
 abbrev pub loose_count : Parts → Day → ℕ

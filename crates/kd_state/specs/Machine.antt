@@ -3,7 +3,7 @@
 use Rattle.std.specs.Prelude.{◌≡◌, ℕ, ◌+◌, ◌<◌, nat_eq, nat_le, Bool, List, ◌++◌, length, map, All, Contains, slice_get}
 use Rattle.std.specs.Prelude.{Option, Some, None, if◌then◌else◌}
 use Rattle.std.specs.List.{flat_map, IsDistinct}
-use Rattle.std.specs.Option.{option_to_list}
+use Rattle.std.specs.Option.{option_or, option_to_list}
 use Rattle.kd_tables.specs.declared.model.Model.{Model}
 use Rattle.kd_tables.specs.declared.model.Model.TheVariants.{M209}
 use Rattle.kd_tables.specs.declared.wheel.Wheel.{Wheel}
@@ -89,10 +89,9 @@ IsLegal (Pin m) = IsLegalPin m
 
 -- a cable with these letters in alphabetical order; a single letter is at the cable's first end
 abbrev pub cable_in_order : Option ℕ → Option ℕ → Option ℕ × Option ℕ
-cable_in_order None other = (other, None)
-cable_in_order (Some letter) None = (Some letter, None)
 cable_in_order (Some letter) (Some other) =
     if nat_le letter other then (Some letter, Some other) else (Some other, Some letter)
+cable_in_order one other = (option_or one other, None)
 
 -- the machine, with each cable's letters in alphabetical order; it doesn't matter which end has which letter
 abbrev pub with_cables_in_order : Parts → Parts

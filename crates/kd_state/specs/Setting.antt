@@ -56,18 +56,17 @@ with_lug Right place bar = (bar.0, place)
 abbrev pub refusal_reasons : Parts → Setting → List (Bool × Why)
 refusal_reasons (Rotor m) (Pull cable letter) =
     (is_none (numbered_item m.cables cable), NoSuchCable)
-    ∷ (not (has_letter (cable_letters (cable_at m cable)) letter), NotThere)
-    ∷ []
+    ∷ (not (has_letter (cable_letters (cable_at m cable)) letter), NotThere) ∷ []
 refusal_reasons (Rotor m) (Put cable letter) =
     (is_none (numbered_item m.cables cable), NoSuchCable)
     ∷ (is_some (cable_at m cable).0 && is_some (cable_at m cable).1, NoLooseEnd)
-    ∷ (has_letter (letters_in_cables m.cables) letter, SocketTaken)
-    ∷ []
+    ∷ (has_letter (letters_in_cables m.cables) letter, SocketTaken) ∷ []
 refusal_reasons (Rotor m) (Seat slot wheel) =
     (not (list_any (same_wheel wheel) (wheels_for m.model slot)), WheelNotAllowed) ∷ []
 refusal_reasons (Rotor m) (SeatReflector reflector) =
     (not (list_any (same_reflector reflector) (reflectors_of m.model)), WheelNotAllowed) ∷ []
-refusal_reasons (Rotor m) (RingTo wheel letter) = (not (list_any (same_wheel wheel) (box_of m.model)), WheelNotAllowed) ∷ []
+refusal_reasons (Rotor m) (RingTo wheel letter) =
+    (not (list_any (same_wheel wheel) (box_of m.model)), WheelNotAllowed) ∷ []
 refusal_reasons (Rotor m) (Turn slot letter) = (is_none (wheel_in_slot m slot), SlotEmpty) ∷ []
 refusal_reasons (Pin m) (Turn wheel letter) =
     (is_none (numbered_item m.letters wheel), SlotEmpty) ∷ (not (has_letter (ring_of wheel) letter), NotOnWheel) ∷ []
@@ -76,8 +75,7 @@ refusal_reasons (Pin m) (LugTo bar lug place) =
     let moved = option_map (with_lug lug place) (numbered_item m.bars bar) in
     (is_none (numbered_item m.bars bar), NoSuchBar)
     ∷ (option_map_or (λ standing. is_same_place standing.0 standing.1) moved false, PlaceTaken)
-    ∷ (option_map_or (λ standing. nat_lt (place_rank standing.1) (place_rank standing.0)) moved false, WouldPass)
-    ∷ []
+    ∷ (option_map_or (λ standing. nat_lt (place_rank standing.1) (place_rank standing.0)) moved false, WouldPass) ∷ []
 refusal_reasons _ _ = (true, OtherModel) ∷ []
 
 -- the first reason for which the machine refuses the setting; `None` if the machine carries the setting out

@@ -43,7 +43,7 @@ abbrev pub IsWindow : EngineKey → List ℕ → Type 0
 IsWindow (OfWheels key) window = AreLetters (length key.wheels) window
 IsWindow (OfDrum key) window = AreOnWheels window
 
--- ---- When a machine is ready, and which wheels, letters and pairs it has.
+-- ---- When a machine is ready, and which wheels and letters it has.
 
 -- The machine is ready to encipher: no slot is empty, and no cable has exactly one letter. A Converter is always ready.
 abbrev pub IsReady : Parts → Type 0
@@ -62,7 +62,7 @@ window_of (Pin m) = m.letters
 -- ---- The cipher of a machine, by its slots, cables and lugs, and of a day, by its wheels, pairs and rows.
 -- Source: the published accounts of the current's path; War Department TM 11-380
 
--- the key of a machine as it stands: by its slots, reflector and cables with two letters; or by its pins, letters and bars
+-- a machine's key as it stands: by its slots, reflector and cables with two letters, or by its pins, letters and bars
 abbrev pub physical_key : Parts → EngineKey
 physical_key (Rotor m) = OfWheels (record {
   wheels = seated_wheels m;

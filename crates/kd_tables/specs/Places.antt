@@ -46,10 +46,9 @@ lug_text lugs.Right = codes "R"
 -- ---- How a bar can stand: the places of its left and its right lug.
 -- Code: `Standing::new` compares the two places; `Standing::from_text` splits a standing's text at the hyphen.
 
--- all standings of a bar, with the left lug left of the right lug: in the order of the left, then of the right lug's place
+-- all standings of a bar, with the left lug left of the right lug, ordered by the left and then by the right place
 abbrev pub standings : List (Place × Place)
-standings =
-    flat_map (λ l. map (λ r. (l, r)) (filter (λ r. nat_lt (place_rank l) (place_rank r)) places)) places
+standings = flat_map (λ l. map (λ r. (l, r)) (filter (λ r. nat_lt (place_rank l) (place_rank r)) places)) places
 
 -- a standing as text: the name of the left lug's place, `-`, and the name of the right lug's place
 abbrev pub standing_text : Place × Place → List ℕ

@@ -16,7 +16,7 @@ use Rattle.kd_tables.specs.declared.model.Model.TheVariants.{EnigmaI, M3, M4, M2
 abbrev pub letters_of : List ℕ → List ℕ
 letters_of text = map (λ byte. byte - 65) text
 
--- The name, the wiring and the notches of each wheel. The wiring: the letters that A to Z become when the current passes
+-- The name, the wiring and the notches of each wheel. The wiring: the letters that A to Z become as the current passes
 -- from right to left. A notch: if the wheel shows this letter, its next step also moves the wheel on its left.
 abbrev pub wheel_table : Wheel → List ℕ × List ℕ × List ℕ
 wheel_table I = (codes "I", codes "EKMFLGDQVZNTOWYHXUSPAIBRCJ", codes "Q")
