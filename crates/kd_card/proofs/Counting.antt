@@ -13,7 +13,8 @@ use Rattle.kd_card.specs.Loose.{wheel_ring_line, slot_seat_line, slot_turn_line,
 use Rattle.kd_card.specs.Laws.{LooseThingsAreCounted}
 use Rattle.kd_state.proofs.Wheels.{allowed_in_box, has_wheel-Decides, same_wheel-Decides, same_wheel_differs}
 use Rattle.kd_state.specs.{Machine.HasAllPins, Pins.wheel_pins, SheetDay.AreLegalSeats, SheetDay.seats_of_wheels}
-use Rattle.kd_state.specs.{SameParts.has_wheel, declared.sheet_day.rotor_entry.SheetWheel.SheetWheel}
+use Rattle.kd_state.specs.declared.sheet_day.rotor_entry.SheetWheel.{SheetWheel}
+use Rattle.std.specs.List.{list_any}
 use Rattle.kd_tables.specs.{Rings.ring_of, Tables.box_of, declared.wheel.Wheel.Wheel}
 use Rattle.std.proofs.Common.{◌&&◌, false, find, flat_map, option_to_list}
 use Rattle.std.proofs.lemmas.{List.Folds.fold-map, List.Sums.sum_by-le, Option.slice_get-get_or, Option.slice_get-map}
@@ -60,7 +61,7 @@ pub in_box : (model : Model) (wheels : List SheetWheel) → AreLegalSeats model 
 in_box model wheels h k d lt =
     allowed_in_box model (k + 1) _ (h.allowed k _ (grind (arith, slice_get-map, slice_get-get_or)))
 
-once_in_box : (model : Model) (wheel : Wheel) (b : Bool) → has_wheel (box_of model) wheel ≡ true
+once_in_box : (model : Model) (wheel : Wheel) (b : Bool) → list_any (same_wheel wheel) (box_of model) ≡ true
     → count_by (λ x. same_wheel x wheel && b) (box_of model) ≡ cond b 1 0
 once_in_box model wheel b e = grind arith
 
@@ -81,7 +82,7 @@ finds_first : (test : SheetWheel → Bool) (w : SheetWheel) (wheels : List Sheet
 finds_first test w wheels b none = grind (arith, same_wheel-Decides b w.wheel)
 
 found_once : (test : SheetWheel → Bool) (model : Model) (wheels : List SheetWheel)
-    → AllByRecursion (λ w. has_wheel (box_of model) w.wheel ≡ true) wheels → HaveTheirPlaces model wheels
+    → AllByRecursion (λ w. list_any (same_wheel w.wheel) (box_of model) ≡ true) wheels → HaveTheirPlaces model wheels
     → count_by (finds_wheel test wheels) (box_of model) ≡ count_by test wheels
 found_once test model [] there apart = sum_none (box_of model)
 found_once test model (w ∷ wheels) there apart =

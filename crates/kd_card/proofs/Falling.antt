@@ -17,14 +17,13 @@ use Rattle.kd_card.proofs.Prelude.{bytes_eq, cases_eq, eq-eqb, recursion_from_Al
 use Rattle.kd_card.proofs.Prelude.{unwrap_or-slice_get, bytes_eq-Decides, Model, wheel_text, reflector_text, Seat}
 use Rattle.kd_card.proofs.Prelude.{SeatReflector, RingTo, Turn, PinTo, same_wheel, same_reflector, place_in_box}
 use Rattle.kd_card.proofs.Prelude.{model_of, ring_at, letter_at, wheel_in_slot, seat_without, letters_with, RotorDay}
-use Rattle.kd_card.proofs.Prelude.{PinDay, Day, OfRotors, OfPins, IsLegalDay, day_model, ReadsAs, loose_slots}
-use Rattle.kd_card.proofs.Prelude.{loose_reflector, loose_rings, loose_letters, loose_pins, loose_pin_letters}
+use Rattle.kd_card.proofs.Prelude.{PinDay, Day, OfRotors, OfPins, IsLegalDay, day_model, ReadsAs}
 use Rattle.kd_card.proofs.Prelude.{loose_count, is_priced_setting, set_other, days_wheels_have_their_places, is_none}
 use Rattle.kd_state.specs.{Costs.standings_as, declared.sheet_day.rotor_entry.SheetWheel.SheetWheel}
 use Rattle.kd_state.specs.{Pins.wheel_pins, Pins.with_pin}
 use Rattle.kd_tables.specs.{declared.lug.Lug.Lug, declared.wheel.Wheel.Wheel, Rings.ring_of, Rings.place_on}
 use Rattle.kd_card.proofs.{Counts.{zip_set, at_most_one, once_in_alphabet}, Duality.pairing_cost}
-use Rattle.kd_pins.specs.{PinWheels.pins_of}
+use Rattle.kd_pins.specs.{PinWheels.pins_of, declared.pin_set.PinSet.PinSet}
 
 pub not_differing : (b : Bool) → exactly_one b b ≡ false
 not_differing b = grind arith
@@ -148,7 +147,7 @@ lug_moves m ws bar lug place e =
     let old = unwrap_or (numbered_item m.bars bar) (place, place) in
     let new = with_lug lug place old in
     let here = get_or_from_slice_get m.bars (bar - 1) old old there.here in
-    let before = still_before lug place old (rw there.is at allowed.1.0) (rw there.is at allowed.1.1.0) in
+    let before = still_before new (rw there.is at allowed.1.0) (rw there.is at allowed.1.1.0) in
     let all : bars_with_lug m bar lug place ≡ set m.bars (bar - 1) new = rw there.is refl in
     let cost = pairing_cost bar_cost m.bars ws in
     subst (λ bars. (cost ≤ pairing_cost bar_cost bars ws + 1) × (HasBars m.bars → HasBars bars)) (sym all) (
@@ -232,6 +231,9 @@ module _ {X : Type 0} (place target : X → ℕ) where
 abbrev wrong_slot : Option Wheel × SheetWheel → Bool
 wrong_slot slot = not (option_map_or (same_wheel slot.1.wheel) slot.0 false)
 
+abbrev pub loose_slots : List (Option Wheel) → RotorDay → ℕ
+loose_slots slots s = count_by wrong_slot (zip slots s.wheels)
+
 empty_wrong : (seated : Option Wheel) (wheel : Wheel) (wanted : SheetWheel)
     → cond {A = ℕ} (wrong_slot (seated, wanted)) 1 0 ≤ cond {A = ℕ} (wrong_slot (seat_without wheel seated, wanted)) 1 0
 empty_wrong seated wheel wanted = grind (arith, at_most_one)
@@ -307,9 +309,12 @@ wheel_set_lowers xss yss i p effective =
     simp sum-map
     (zip_set differing_pins xss yss i (set was p effective) [] (λ ys. zip_set_lowers differs was ys p effective))
 
+abbrev loose_pins : PinSet → PinSet → ℕ
+loose_pins pins wanted = sum (map differing_pins (zip (pins_of pins) (pins_of wanted)))
+
 pin_lowers : (m : PinParts) (s : PinDay) (wheel letter : ℕ) (effective : Bool)
     → why_refused (Pin m) (PinTo wheel letter effective) ≡ None
-    → loose_pins m s ≤ loose_pins (record m { pins = with_pin m.pins wheel letter effective }) s + 1
+    → loose_pins m.pins s.pins ≤ loose_pins (with_pin m.pins wheel letter effective) s.pins + 1
 unfolding ring_of
 pin_lowers m s zero letter effective e = cc
 pin_lowers m s (suc wheel) letter effective e =
@@ -320,7 +325,7 @@ pin_lowers m s (suc wheel) letter effective e =
     = six_lists m.pins (suc wheel - 1) new ∙ ap (λ i. set (pins_of m.pins) i new) (one_less wheel)
     ∙ ap (λ pins. set (pins_of m.pins) wheel (set pins place effective))
     (unwrap_or-slice_get (pins_of m.pins) wheel []) in
-    subst (λ pins. loose_pins m s ≤ sum (map differing_pins (zip pins (pins_of s.pins))) + 1) (sym all)
+    subst (λ pins. loose_pins m.pins s.pins ≤ sum (map differing_pins (zip pins (pins_of s.pins))) + 1) (sym all)
     (wheel_set_lowers (pins_of m.pins) (pins_of s.pins) wheel place effective)
 
 pin_machine_lowers : (columns : List (Option (ℕ × ℕ) × ℤ)) (rows : List ((ℕ × ℕ) × ℤ)) (m : PinParts) (s : PinDay)
@@ -372,15 +377,15 @@ none_wrong seen wanted (w ∷ wheels) h =
 rotor_not_loose : (n : RotorParts) (s : RotorDay) → ReadsAs (Rotor n) (OfRotors s)
     → loose_count (Rotor n) (OfRotors s) ≡ 0
 rotor_not_loose n s h =
-    let slots : loose_slots n s ≡ 0 = ap (λ slots. count_by wrong_slot (zip slots s.wheels)) h.key.slots
+    let slots : loose_slots n.slots s ≡ 0 = ap (λ slots. count_by wrong_slot (zip slots s.wheels)) h.key.slots
     ∙ zip_none (λ slot. cond (wrong_slot slot) 1 0) (λ w. Some w.wheel)
     (λ w. ap (λ b. cond (not b) 1 0) (bytes_eq-self (wheel_text w.wheel))) s.wheels in
-    let reflector : loose_reflector n s ≡ 0 =
+    let reflector : one_unless (same_reflector n.reflector s.reflector) ≡ 0 =
     ap (λ reflector. one_unless (same_reflector reflector s.reflector)) h.key.reflector
     ∙ ap one_unless (bytes_eq-self (reflector_text s.reflector)) in
-    let rings : loose_rings n s ≡ 0 = none_wrong (λ w. ring_at n w.wheel) (λ w. w.ring) s.wheels
+    let rings = none_wrong (λ w. ring_at n w.wheel) (λ w. w.ring) s.wheels
     (recursion_from_All (λ (w : SheetWheel). ring_at n w.wheel ≡ Some w.ring) s.wheels h.key.rings) in
-    let letters : loose_letters n s ≡ 0 = none_wrong (λ w. letter_at n w.wheel) (λ w. w.letter) s.wheels
+    let letters = none_wrong (λ w. letter_at n w.wheel) (λ w. w.letter) s.wheels
     (recursion_from_All (λ (w : SheetWheel). letter_at n w.wheel ≡ Some w.letter) s.wheels h.window) in
     omega (arith, slots, reflector, rings, letters)
 
@@ -391,11 +396,10 @@ no_pin_wrong pins =
 
 pin_not_loose : (n : PinParts) (s : PinDay) → ReadsAs (Pin n) (OfPins s) → loose_count (Pin n) (OfPins s) ≡ 0
 pin_not_loose n s h =
-    let pins : loose_pins n s ≡ 0 = ap (λ pins. sum (map differing_pins (zip (pins_of pins) (pins_of s.pins))))
-    h.key.pins
+    let pins : loose_pins n.pins s.pins ≡ 0 = ap (λ pins. loose_pins pins s.pins) h.key.0
     ∙ sum-map differing_pins (zip (pins_of s.pins) (pins_of s.pins))
     ∙ self_none differing_pins no_pin_wrong (pins_of s.pins) in
-    let letters : loose_pin_letters n s ≡ 0 =
+    let letters : count_by (λ letter. not (nat_eq letter.0 letter.1)) (zip n.letters s.window) ≡ 0 =
     ap (λ letters. count_by (λ (letter : ℕ × ℕ). not (nat_eq letter.0 letter.1)) (zip letters s.window)) h.window
     ∙ self_none (λ (letter : ℕ × ℕ). cond (not (nat_eq letter.0 letter.1)) 1 0)
     (λ l. ap (λ b. cond (not b) 1 0) (eq-eqb l l refl)) s.window in

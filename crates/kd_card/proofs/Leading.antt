@@ -20,7 +20,8 @@ use Rattle.kd_state.proofs.Wheels.{same_wheel-Decides, same_wheel_differs, same_
 use Rattle.kd_state.specs.Machine.{AreOnWheels, HasAllPins, IsSeatedAt}
 use Rattle.kd_state.specs.{Pins.{pin_set, with_pin}}
 use Rattle.kd_state.specs.{SheetDay.{AreLegalSeats, IsLegalPinDay, IsLegalRotorDay, seats_of_wheels}}
-use Rattle.kd_state.specs.{SameParts.has_wheel, declared.sheet_day.rotor_entry.SheetWheel.SheetWheel}
+use Rattle.kd_state.specs.declared.sheet_day.rotor_entry.SheetWheel.{SheetWheel}
+use Rattle.std.specs.List.{list_any}
 use Rattle.kd_tables.specs.{Tables.{IsAllowed, box_of}, declared.{reflector.Reflector.Reflector, wheel.Wheel.Wheel}}
 use Rattle.std.proofs.{Common.{find, option_to_list}, lemmas.{Bool.cond_both, Simd.map-map}}
 use Rattle.std.proofs.lemmas.List.{Quantifiers.all_pairs_remove, Recursion.found_at, map-append, set-get_or, set_at}
@@ -256,7 +257,7 @@ module _ (m : RotorParts) (s : RotorDay) (machine : IsMachine (Rotor m)) (legal 
       let same = is_the_one wheel s.wheels w e in
       let placed = rw (is, same) at (place_is m.model (length front) wheel lt) in
       let at = slice_get-get_or m.rings (length front) 0 (omega (arith, machine.legal.rings.count)) in
-      let has : has_wheel (box_of m.model) w.wheel ≡ true =
+      let has : list_any (same_wheel w.wheel) (box_of m.model) ≡ true =
       (has_wheel-Decides (box_of m.model) w.wheel).1 (rw (← same) (length front, lt, is)) in
       rw (e, same, placed, at) (grind (arith, led_unless, set_at, eqb-true, has, placed))
 

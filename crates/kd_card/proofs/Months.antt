@@ -11,11 +11,11 @@ use Rattle.kd_card.proofs.Prelude.{thirteen_columns, exactly_one, has_letter, Pa
 use Rattle.kd_card.proofs.Prelude.{Model, Day, OfRotors, OfPins, IsLegalDay, ReadsAs, Setting, RingTo, Turn, Leads}
 use Rattle.kd_card.proofs.Prelude.{machine_after, why_refused, letters_with, wheel_in_slot, place_in_box, model_of}
 use Rattle.kd_card.proofs.Prelude.{cable_cost, cable_letters, column_letters, columns_of, letters_in_pairs}
-use Rattle.kd_card.proofs.Prelude.{loose_reflector, loose_slots, loose_letters, PriceParts, Cables, ArePrices}
+use Rattle.kd_card.proofs.Prelude.{letter_at, one_unless, same_reflector, PriceParts, Cables, ArePrices}
 use Rattle.kd_card.proofs.Prelude.{AreSettingsNeeded, IsSettingNeeded, is_priced_setting, priced_count}
 use Rattle.kd_card.proofs.{Counts.once_of_distinct, Duality.pairing_cost, Duality.reordered}
 use Rattle.kd_card.proofs.Falling.{HasCables, list_keeps, left_to_do-lowered, machines_have_all, model_of-changed}
-use Rattle.kd_card.proofs.Falling.{nothing_loose}
+use Rattle.kd_card.proofs.Falling.{loose_slots, nothing_loose}
 use Rattle.kd_card.proofs.Shortest.{each_itself, bounded, cables_paired, model_of-list, with_prices}
 use Rattle.kd_card.specs.Months.{CardsAreFewestInAll, DayAfterDay, IsProvedCard, ReachesDay}
 use Rattle.{kd_card.specs.Proving.ProvesByNumber, kd_state.specs.SheetDay.IsLegalRotorDay}
@@ -164,15 +164,18 @@ module _ (s : RotorDay) (legal : IsLegalRotorDay s) (o : RotorParts) (reads : Re
   -- `loose_for` counts what differs, except cables: slots and the reflector from the day, rings and window letters
   -- from machine `o`. `left_for` adds the cost of the cables at the columns `ws`.
   abbrev loose_for : Parts → ℕ
-  loose_for (Rotor m) = loose_slots m s + loose_reflector m s + machine_gap m o
+  loose_for (Rotor m) = loose_slots m.slots s + one_unless (same_reflector m.reflector s.reflector) + machine_gap m o
   loose_for (Pin m) = 0
 
   abbrev left_for : List Priced → Parts → ℕ
   left_for ws (Rotor m) = loose_for (Rotor m) + pairing_cost cable_cost m.cables ws
   left_for ws (Pin m) = 0
 
+  abbrev loose_letters : RotorParts → ℕ
+  loose_letters m = count_by (λ w. not (option_map_or (nat_eq w.letter) (letter_at m w.wheel) false)) s.wheels
+
   turned : (m : RotorParts) (seated : Option Wheel) (letter : ℕ) → m.model ≡ s.model
-      → loose_letters (record m { letters = letters_with m seated letter }) s < loose_letters m s
+      → loose_letters (record m { letters = letters_with m seated letter }) < loose_letters m
       → gap_count (letters_with m seated letter) o.letters + 1 ≤ gap_count m.letters o.letters
   turned m None letter same = λ fewer. omega arith
   turned m (Some wheel) letter same =
@@ -246,8 +249,8 @@ module _ (g n h o : RotorParts) (s : RotorDay) (card list : List Setting) (legal
       let there = near.cables due.beside (omega (arith, due.count, last.count, near.second.count)) in
       let order = IsPermutation-trans _ due.beside there.0 due.order there.1 in
       let none = nothing_loose (Rotor o) (OfRotors s) by_list.reads in
-      let slots = ap (λ z. loose_slots (record g { slots = z.1 }) s) near.same in
-      let reflector = ap (λ z. loose_reflector (record g { reflector = z.2 }) s) near.same in
+      let slots = ap (λ z. loose_slots z.1 s) near.same in
+      let reflector = ap (λ z. one_unless (same_reflector z.2 s.reflector)) near.same in
       let rings_meet = gaps-self o.rings in
       let letters_meet = gaps-self o.letters in
       let bound = bounded (None, None) None cable_cost g.cables (columns_of s.pairs) (Cables row column)

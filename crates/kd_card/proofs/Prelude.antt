@@ -77,16 +77,16 @@ pub use Rattle.kd_state.proofs.Lines.{texts_tell_first_parts, word_by_bytes, wor
 pub use Rattle.kd_state.proofs.Wheels.{days_wheels_have_their_places, named_or, name-injective}
 pub use Rattle.kd_state.specs.SameParts.{numbered_item, place_in_box, same_reflector, same_wheel}
 pub use Rattle.kd_state.specs.Costs.{bar_cost, cable_cost, column_letters, columns_of, cost_table, exactly_one}
-pub use Rattle.kd_state.specs.Costs.{loose_count, loose_letters, loose_pin_letters, loose_pins, loose_reflector}
-pub use Rattle.kd_state.specs.Costs.{loose_rings, loose_slots, lugs_moved, one_unless}
+pub use Rattle.kd_state.specs.Costs.{loose_count, lugs_moved, one_unless}
 pub use Rattle.kd_state.specs.Line.{BeginsWithSettingLines, BeginsWithNoSetting, BeginsWithAllSettings}
 pub use Rattle.kd_state.specs.Line.{IsSettingInRange, list_text, setting_line, setting_words}
 pub use Rattle.kd_state.specs.Machine.{IsLegal, IsMachine, cable_letters, letter_at, model_of, letters_in_cables}
 pub use Rattle.kd_state.specs.Machine.{ring_at}
 pub use Rattle.kd_state.specs.OnKey.{AreThePairs, IsPairJoined, IsCablePaired, ReadsAs, HaveSameLetters}
 pub use Rattle.kd_state.specs.Setting.{Carries, Leads, cable_at, cable_with, cable_without, machine_after, has_letter}
-pub use Rattle.kd_state.specs.Setting.{refusal_reasons, wheel_in_slot, why_refused, letters_with, with_lug}
-pub use Rattle.kd_state.specs.Setting.{seat_without, HasLugsInOrder, bars_with_lug}
+pub use Rattle.kd_state.specs.Setting.{refusal_reasons, wheel_in_slot, why_refused, with_lug}
+pub use Rattle.kd_state.specs.{Changes.{HasLugsInOrder}, Setting.{seat_without}}
+pub use Rattle.kd_state.proofs.Telling.Refusing.Changing.{letters_with, bars_with_lug}
 pub use Rattle.kd_state.specs.SheetDay.{Day, IsLegalDay, OfPins, OfRotors, PinDay, RotorDay, day_model}
 pub use Rattle.kd_state.specs.Words.{IsFirstPart, IsWithout, IsWord, line_of, words_of}
 pub use Rattle.kd_state.specs.declared.{machine.parts.Parts.Parts, setting.Setting.Setting, setting.why.Why.Why}

@@ -229,21 +229,18 @@ cables_paired cables pairs prices has once few count h =
     record { beside = beside.0; order = beside.1; count = many; free = free_of_all cable_cost cables beside.0 beside.2 }
 
 -- A bar costs nothing at the row that it reads as.
-own_row : (left right : Place) → IsBefore left right → bar_cost (left, right) (reading_of left right) ≡ 0
+own_row : (left right : Place) → IsBefore left right → bar_cost (left, right) (reading_of (left, right)) ≡ 0
 unfolding standings_as
 own_row One One before = absurd (omega arith)
 own_row left One before = absurd (omega arith)
 own_row left right before = first_of (search rules, omega arith)
-
-abbrev reading_of_standing : Place × Place → ℕ × ℕ
-reading_of_standing bar = reading_of bar.0 bar.1
 
 pub each_itself : {X : Type 0} (xs : List X) → AllZip (λ x (other : X). x ≡ other) xs xs
 each_itself [] = tt
 each_itself (x ∷ xs) = (refl, each_itself xs)
 
 free_rows : (bars : List (Place × Place)) (ws : List ((ℕ × ℕ) × ℤ)) → AllByRecursion HasLugsInOrder bars
-    → AllZip (λ row (w : (ℕ × ℕ) × ℤ). row ≡ w.0) (map reading_of_standing bars) ws
+    → AllZip (λ row (w : (ℕ × ℕ) × ℤ). row ≡ w.0) (map reading_of bars) ws
     → AllZip (λ bar (w : (ℕ × ℕ) × ℤ). bar_cost bar w.0 ≡ 0) bars ws
 free_rows [] [] stand h = tt
 free_rows (bar ∷ bars) (w ∷ ws) stand h =
@@ -251,13 +248,13 @@ free_rows (bar ∷ bars) (w ∷ ws) stand h =
 free_rows bars ws stand h = absurd h
 
 pub bars_paired : (bars : List (Place × Place)) (rows : List (ℕ × ℕ)) (prices : List ℤ) → HasBars bars
-    → length rows ≡ length prices → IsPermutation (map (λ bar. reading_of bar.0 bar.1) bars) rows
+    → length rows ≡ length prices → IsPermutation (map reading_of bars) rows
     → FreePairing bar_cost bars rows prices
 bars_paired bars rows prices has count h =
-    let beside = reordered (λ row (w : (ℕ × ℕ) × ℤ). row ≡ w.0) rows (map reading_of_standing bars) (zip rows prices)
-    (IsPermutation-sym (map reading_of_standing bars) rows h)
+    let beside = reordered (λ row (w : (ℕ × ℕ) × ℤ). row ≡ w.0) rows (map reading_of bars) (zip rows prices)
+    (IsPermutation-sym (map reading_of bars) rows h)
     (with_prices (λ row (other : ℕ × ℕ). row ≡ other) rows rows prices count (each_itself rows)) in
-    let many = AllZip-long _ (map reading_of_standing bars) beside.0 beside.2 ∙ length-map bars reading_of_standing in
+    let many = AllZip-long _ (map reading_of bars) beside.0 beside.2 ∙ length-map bars reading_of in
     let rows_free = free_rows bars beside.0 (recursion_from_All HasLugsInOrder bars has.stand) beside.2 in
     record { beside = beside.0; order = beside.1; count = many; free = free_of_all bar_cost bars beside.0 rows_free }
 
@@ -391,7 +388,7 @@ AreBounds-prices (Rotor m) (Rotor n) (OfRotors s) (Cables row column) settings m
 AreBounds-prices (Pin m) (Pin n) (OfPins s) (Bars row column) settings machine legal are kind fits leads reads =
     let at_first = machines_have_all (Pin m) machine.legal in
     let at_last = list_keeps (Pin m) (Pin n) settings leads at_first in
-    let pairing = bars_paired n.bars s.rows column at_last (legal.count ∙ sym are.columns) reads.key.rows in
+    let pairing = bars_paired n.bars s.rows column at_last (legal.count ∙ sym are.columns) reads.key.1 in
     let falling = list_lowers [] pairing.beside (OfPins s) legal (Pin m) (Pin n) settings refl leads in
     bounded (One, One) (0, 0) bar_cost m.bars s.rows (Bars row column) (loose_count (Pin m) (OfPins s))
     (length settings) at_first.count legal.count are fits pairing.beside pairing.order

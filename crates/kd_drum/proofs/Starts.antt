@@ -9,7 +9,7 @@ use Rattle.std.proofs.{Math.Nat.mod-lt, lemmas.Bool.Decides.nat_tests, lemmas.Li
 use Rattle.std.proofs.lemmas.List.{Sums.sum_by-le-sum_by, ext_get_or}
 use Rattle.kd_pins.specs.PinWheel.{TurnedWheel, is_effective, letter_shown, is_acting_pin_effective, wheel_at_place}
 use Rattle.kd_pins.specs.PinWheels.{pin_wheels, pins_on, acting_offset, pin_wheel_size}
-use Rattle.kd_drum.specs.Converter.{PinKey, pin_key_turned, shown_place_in_key, is_acting_after, bars_met, letter_after}
+use Rattle.kd_drum.specs.Converter.{PinKey, pin_key_turned, shown_place, is_acting_after, bars_met, letter_after}
 use Rattle.kd_drum.specs.Converter.{pin_key_after}
 
 -- If `P` holds of 1, 2, 3, 4, 5 and 6, it holds of any wheel from 1 to 6.
@@ -34,10 +34,10 @@ is_ring =
     (is 5 refl) (is 6 refl)
 
 start_after : (key : PinKey) (count wheel : ℕ) → 1 ≤ wheel → wheel ≤ 6
-    → shown_place_in_key (pin_key_after key count) wheel ≡ (shown_place_in_key key wheel + count) % pin_wheel_size wheel
+    → shown_place (pin_key_after key count).letters wheel ≡ (shown_place key.letters wheel + count) % pin_wheel_size wheel
 start_after key count wheel low high =
-    let place = (shown_place_in_key key wheel + count) % pin_wheel_size wheel in
-    let within : place < pin_wheel_size wheel = mod-lt (shown_place_in_key key wheel + count)
+    let place = (shown_place key.letters wheel + count) % pin_wheel_size wheel in
+    let within : place < pin_wheel_size wheel = mod-lt (shown_place key.letters wheel + count)
     (has_places wheel low high) in
     ap (λ letter. unwrap_or (place_on (ring_of wheel) letter) 0)
     (get_or-map-range_with_len (letter_after key count) 1 6 (wheel - 1) wheel 0 (omega arith) (omega arith))
@@ -51,7 +51,7 @@ three_on s m i o n = grind (arith, mod-add-mod (s + m) n (i + o))
 letter_after_sum : (key : PinKey) (m n wheel : ℕ) → 1 ≤ wheel → wheel ≤ 6
     → letter_after (pin_key_after key m) n wheel ≡ letter_after key (m + n) wheel
 letter_after_sum key m n wheel low high =
-    grind (arith, start_after, mod-add-mod (shown_place_in_key key wheel + m) (pin_wheel_size wheel) n)
+    grind (arith, start_after, mod-add-mod (shown_place key.letters wheel + m) (pin_wheel_size wheel) n)
 
 pub key_in_turn : ConverterKeyInTurn
 key_in_turn key m n =
@@ -69,12 +69,12 @@ alike_on_wheels : (wheel : ℕ) (x y : Bool) → (1 ≤ wheel → wheel ≤ 6 �
 alike_on_wheels wheel x y same = grind (arith, nat_tests, same)
 
 acts_after_sum : (key : PinKey) (m i wheel : ℕ)
-    → is_acting_after (pin_key_after key m) i wheel ≡ is_acting_after key (m + i) wheel
+    → is_acting_after key.pins (pin_key_after key m).letters i wheel ≡ is_acting_after key.pins key.letters (m + i) wheel
 acts_after_sum key m i wheel = alike_on_wheels wheel _ _ (λ low high.
     ap (λ start. is_effective (pins_on key.pins wheel) ((start + i + acting_offset wheel) % pin_wheel_size wheel))
     (start_after key m wheel low high)
     ∙ ap (is_effective (pins_on key.pins wheel))
-    (three_on (shown_place_in_key key wheel) m i (acting_offset wheel) (pin_wheel_size wheel)))
+    (three_on (shown_place key.letters wheel) m i (acting_offset wheel) (pin_wheel_size wheel)))
 
 -- Tests that agree give equal counts.
 pub count_alike : {X : Type 0} (p q : X → Bool) (xs : List X) → ((x : X) → p x ≡ q x) → count_by p xs ≡ count_by q xs
@@ -105,7 +105,7 @@ pub acts_now : (key : PinKey) (number size : ℕ) (wheel : TurnedWheel) → IsPi
     → slice_index key.letters (number - 1) ≡ letter_shown wheel → pins_on key.pins number ≡ wheel.pins
     → is_acting_pin_effective size wheel
     ≡ is_effective (pins_on key.pins number)
-    ((shown_place_in_key key number + 0 + acting_offset number) % pin_wheel_size number)
+    ((shown_place key.letters number + 0 + acting_offset number) % pin_wheel_size number)
 acts_now key number size wheel h shown pins = grind (arith, key, start_place, size, size_is)
 
 -- Moving each wheel on by `count` places gives the key after `count` letters.

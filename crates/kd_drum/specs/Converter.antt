@@ -11,8 +11,7 @@ use Rattle.kd_tables.specs.Rings.{ring_of, place_on}
 use Rattle.kd_pins.specs.PinWheel.{is_effective}
 use Rattle.kd_pins.specs.PinWheels.{pin_wheels, pins_on, acting_offset, pin_wheel_size}
 
--- A key of the Converter: the effective pins of its six wheels, the letters that they show, and the readings of
--- the bars.
+-- A key of the Converter: the effective pins of its six wheels, the letters that they show, and the bars' readings.
 pub record PinKey : Type 0 where
   pub pins : List (List Bool)
   pub letters : List ℕ
@@ -27,31 +26,30 @@ abbrev pub IsEachOnItsWheel : List ℕ → Type 0
 IsEachOnItsWheel letters = (wheel : ℕ) → 1 ≤ wheel → wheel ≤ 6
     → Contains (ring_of wheel) (slice_index letters (wheel - 1))
 
--- the place of the letter that the wheel shows, according to the key; 0 if the wheel lacks this letter
-abbrev pub shown_place_in_key : PinKey → ℕ → ℕ
-shown_place_in_key key wheel = unwrap_or (place_on (ring_of wheel) (slice_index key.letters (wheel - 1))) 0
+-- the place of the letter that a wheel shows, if the wheels show `letters`; 0 if the wheel lacks this letter
+abbrev pub shown_place : List ℕ → ℕ → ℕ
+shown_place letters wheel = unwrap_or (place_on (ring_of wheel) (slice_index letters (wheel - 1))) 0
 
--- whether `wheel` is a wheel's number, and the acting pin of this wheel is effective after `count` letters
-abbrev pub is_acting_after : PinKey → ℕ → ℕ → Bool
-is_acting_after key count wheel =
-    (nat_le 1 wheel && nat_le wheel 6)
-    && is_effective (pins_on key.pins wheel)
-    ((shown_place_in_key key wheel + count + acting_offset wheel) % pin_wheel_size wheel)
+-- whether `wheel` is a wheel's number, and its acting pin is effective `count` letters after the wheels show `letters`
+abbrev pub is_acting_after : List (List Bool) → List ℕ → ℕ → ℕ → Bool
+is_acting_after pins letters count wheel =
+    (nat_le 1 wheel && nat_le wheel 6) && is_effective (pins_on pins wheel)
+    ((shown_place letters wheel + count + acting_offset wheel) % pin_wheel_size wheel)
 
 -- how many bars are met after `count` letters; a bar is met if it has a lug at a wheel with an effective acting pin
 abbrev pub bars_met : PinKey → ℕ → ℕ
-bars_met key count = count_by (λ row. is_acting_after key count row.0 || is_acting_after key count row.1) key.rows
+bars_met key count =
+    let acts = is_acting_after key.pins key.letters count in count_by (λ row. acts row.0 || acts row.1) key.rows
 
 -- The ciphertext of `text`. Each letter is reversed (A becomes Z, B becomes Y, and so on), and then moved on by the
 -- number of bars met, with A after Z.
 abbrev pub converter_cipher : PinKey → List ℕ → List ℕ
-converter_cipher key text =
-    map (λ numbered. (25 + bars_met key numbered.0 - numbered.1) % 26) (enumerate_from 0 text)
+converter_cipher key text = map (λ numbered. (25 + bars_met key numbered.0 - numbered.1) % 26) (enumerate_from 0 text)
 
 -- the letter that a wheel shows after `count` letters; the wheel turns by one place for each letter
 abbrev pub letter_after : PinKey → ℕ → ℕ → ℕ
 letter_after key count wheel = slice_index (ring_of wheel)
-    ((shown_place_in_key key wheel + count) % pin_wheel_size wheel)
+    ((shown_place key.letters wheel + count) % pin_wheel_size wheel)
 
 -- the key after `count` letters have been enciphered, each of which turns all wheels by one place
 abbrev pub pin_key_after : PinKey → ℕ → PinKey

@@ -151,7 +151,8 @@ impl Converter {
     /// The set is a number: the sum of 1 for wheel 1, 2 for wheel 2, and so on up to 32 for wheel 6.
     fn acting_wheels(&self) -> usize
         ensures set { result < 64 }
-        ensures each { (wheel : _) → is_in_set result wheel ≡ is_acting_after self.now 0 wheel }
+        ensures each { (wheel : _) → is_in_set result wheel
+            ≡ is_acting_after self.now.pins self.now.letters 0 wheel }
         ensures stands { pin_key_after self.now 0 ≡ self.now }
     {
         usize::from(self.w1.acting())

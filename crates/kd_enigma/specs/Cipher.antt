@@ -55,10 +55,8 @@ path key window =
     let wheels = rotors key.wheels key.rings window in
     product (key.plugs ∷ reverse wheels ++ reflector_of key.reflector ∷ map inverse wheels ++ key.plugs ∷ [])
 
--- The ciphertext of `text`. The wheels step before each letter, so the first letter takes the path after one
--- step.
+-- The ciphertext of `text`. The wheels step before each letter, so the first letter takes the path after one step.
 abbrev pub enigma_cipher : RotorKey → List ℕ → List ℕ
 enigma_cipher key text =
-    map
-    (λ numbered. slice_index (path key (window_after key.wheels key.window numbered.0)) numbered.1)
+    map (λ numbered. slice_index (path key (window_after key.wheels key.window numbered.0)) numbered.1)
     (enumerate_from 1 text)

@@ -51,7 +51,7 @@ window_again window are =
 
 -- ---- reflector and wheels
 
-pub reflector_again : (model : Model) (reflector : Reflector) → has_reflector (reflectors_of model) reflector ≡ true
+pub reflector_again : (model : Model) (reflector : Reflector) → list_any (same_reflector reflector) (reflectors_of model) ≡ true
     → reflector_by_name model (reflector_text reflector) ≡ Some reflector
 unfolding reflector_by_name
 reflector_again model reflector e = grind arith
@@ -155,7 +155,7 @@ pin_day_table s =
     (member (key_name keys.Window) (string (letters_text s.window)) no_members)))))
 
 day_by_model : (number : ℕ) (model : Model) (reflector : Reflector) (table : Members) (day : Day)
-    → has_reflector (reflectors_of model) reflector ≡ true
+    → list_any (same_reflector reflector) (reflectors_of model) ≡ true
     → rotor_day_in number model table ≡ Ok day → model_day_in number model table ≡ Ok day
 unfolding model_day_in
 day_by_model number model reflector table day e d = grind arith
@@ -459,7 +459,7 @@ rotor_parts_again m legal =
     grind (arith, common_steps, then_read, reflector_again, capitals_again, cables_again, append-nil)
 
 by_model : (model : Model) (reflector : Reflector) (table : Members) (m : RotorParts)
-    → has_reflector (reflectors_of model) reflector ≡ true → rotor_parts_in model table ≡ Ok m
+    → list_any (same_reflector reflector) (reflectors_of model) ≡ true → rotor_parts_in model table ≡ Ok m
     → parts_in model table ≡ Ok (with_cables_in_order (Rotor m))
 unfolding parts_in
 by_model model reflector table m e d = grind arith

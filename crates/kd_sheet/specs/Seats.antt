@@ -8,7 +8,7 @@ use Rattle.toml.specs.Data.{Data, Members, as_str}
 use Rattle.kd_tables.specs.Tables.{slots_of, wheels_for}
 use Rattle.kd_tables.specs.declared.model.Model.{Model}
 use Rattle.kd_tables.specs.declared.wheel.Wheel.{Wheel}
-use Rattle.kd_state.specs.SameParts.{same_wheel, has_wheel}
+use Rattle.kd_state.specs.SameParts.{same_wheel}
 use Rattle.kd_sheet.specs.Document.{◌>>=◌, ◌>>◌, demand, read_each}
 use Rattle.kd_sheet.specs.Names.{wheel_by_name}
 use Rattle.kd_sheet.specs.declared.key.Key.{Key}
@@ -34,7 +34,7 @@ is_seated slots wheel = list_any (holds_wheel wheel) slots
 unfoldable pub wheel_for : Key → Model → List (Option Wheel) → List ℕ → Result Wheel SheetFault
 wheel_for key model slots name = do
   wheel ← ok_or (wheel_by_name name) (BadValue key)
-  demand (has_wheel (wheels_for model (length slots + 1)) wheel) WheelNotAllowed
+  demand (list_any (same_wheel wheel) (wheels_for model (length slots + 1))) WheelNotAllowed
   demand (not (is_seated slots wheel)) WheelTwice
   Ok wheel
 

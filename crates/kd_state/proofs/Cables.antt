@@ -1,15 +1,16 @@
 -- Lemmas on the letters in cables, and on cables that join exactly a day's pairs.
+use Rattle.kd_state.proofs.Prelude.{option_zip}
 use Rattle.kd_state.proofs.Prelude.{common_steps, NoLetterTwice, letters_in_pairs, AreCables, cable_letters}
 use Rattle.kd_state.proofs.Prelude.{cable_in_order, letters_in_cables, AreLettersOfPair, AreThePairs, IsPairJoined}
 use Rattle.kd_state.proofs.Prelude.{IsCablePaired, HasPairLetters, HaveSameLetters, are_new_letters, cable_with}
-use Rattle.kd_state.proofs.Prelude.{cable_without, has_letter, pair_of_ends, and_from, and_parts, cond_both, eq-eqb}
+use Rattle.kd_state.proofs.Prelude.{cable_without, has_letter, is_some, and_from, and_parts, cond_both, eq-eqb}
 use Rattle.kd_state.proofs.Prelude.{eqb-false, le-leb, leb-false, not-true, or_from, or_parts, true≢false, nat_tests}
 use Rattle.kd_state.proofs.Prelude.{append_assoc, drop_more, All-contains, All-from_recursion, Contains-append_right}
 use Rattle.kd_state.proofs.Prelude.{recursion_from_All, IsPermutation-append, IsPermutation-append_comm}
 use Rattle.kd_state.proofs.Prelude.{IsPermutation-append_left, IsPermutation-append_right, IsPermutation-refl}
 use Rattle.kd_state.proofs.Prelude.{IsPermutation-trans, none-some, same_Some, slice_get-get_or, All, AllByRecursion}
-use Rattle.kd_state.proofs.Prelude.{is_none, option_map_or, Contains, List, None, Option, Some, [], ap, arith, drop}
-use Rattle.kd_state.proofs.Prelude.{false, filter_map, get_or, length, map, nat_eq, not, refl, rules, set, slice_get}
+use Rattle.kd_state.proofs.Prelude.{option_map_or, Contains, List, None, Option, Some, [], ap, arith, drop}
+use Rattle.kd_state.proofs.Prelude.{false, filter_map, get_or, length, map, nat_eq, refl, rules, set, slice_get}
 use Rattle.kd_state.proofs.Prelude.{suc, true, zero, ℕ, ◌++◌, ◌+◌, ◌<◌, ◌↔◌, ◌∙◌, ◌∷◌, ◌≡◌, ◌≢◌, IsDistinct}
 use Rattle.kd_state.proofs.Prelude.{IsPermutation, TestsTellLetters, both_ways, sym, ◌&&◌}
 use Rattle.{kd_state.proofs.Slots.has_letter-Decides, std.proofs.Common.Any}
@@ -95,7 +96,7 @@ after_end letter end =
     (cable_letters (cable_in_order (Some end) (Some letter)))
     (IsPermutation-append_comm (letter ∷ []) (end ∷ [])) (ordered_moves (Some end) (Some letter))
 
-pub with_moves : (letter : ℕ) (one other : Option ℕ) → (not (is_none one) && not (is_none other)) ≡ false
+pub with_moves : (letter : ℕ) (one other : Option ℕ) → (is_some one && is_some other) ≡ false
     → IsPermutation (letter ∷ cable_letters (one, other)) (cable_letters (cable_with letter (one, other)))
 with_moves letter one other e = grind (arith, after_end)
 
@@ -139,7 +140,7 @@ distinct_from cables place cable within is = grind (arith, drop_more, new_tells)
 -- ---- the pairs that cables with two letters exchange
 
 abbrev pub pairs_of : List (Option ℕ × Option ℕ) → List (ℕ × ℕ)
-pairs_of cables = filter_map (λ cable. pair_of_ends cable.0 cable.1) cables
+pairs_of cables = filter_map (λ cable. option_zip cable.0 cable.1) cables
 
 letters_of_pairs : (cables : List (Option ℕ × Option ℕ))
     → AllByRecursion (λ cable. length (cable_letters cable) ≢ 1) cables

@@ -7,11 +7,11 @@ use Rattle.kd_state.proofs.Prelude.{columns_of, common_steps, count_by, exactly_
 use Rattle.kd_state.proofs.Prelude.{le-leb, length, length-append, length-map, length-replicate, letters_in_pairs}
 use Rattle.kd_state.proofs.Prelude.{ltb-true, map, nat_eq, nat_tests, option_to_list, range_with_len}
 use Rattle.kd_state.proofs.Prelude.{recursion_from_All, refl, rules, slice_get, suc, sum_by-cons, sum_by_more, sym}
-use Rattle.kd_state.proofs.Prelude.{take, true, unwrap_or, zero, ℕ, ◌&&◌}
+use Rattle.kd_state.proofs.Prelude.{take, true, unwrap_or, zero, ℕ, ◌&&◌, reading_of}
 use Rattle.kd_state.proofs.{Cables.has_letter-AllByRecursion}
 use Rattle.kd_state.proofs.{Prelude.{◌++◌, ◌+◌, ◌-◌, ◌<◌, ◌||◌, ◌∙◌, ◌∷◌, ◌≡◌, ◌≢◌, ◌≤◌}}
 use Rattle.kd_state.proofs.SortedAlike.{count_by-cons, one_if}
-use Rattle.kd_state.specs.Costs.{standing_across, lugs_moved, nearest_standing, place_of_pin_wheel, reads_as_row}
+use Rattle.kd_state.specs.Costs.{standing_across, lugs_moved, nearest_standing, place_of_pin_wheel}
 use Rattle.kd_state.specs.Costs.{standings_as}
 use Rattle.kd_tables.specs.{Places.{place_rank, standings}, declared.place.Place.TheVariants.{ZeroLeft, ZeroRight}}
 use Rattle.std.{proofs.Common.{cond, fold, min, nat_lt, replicate, sum_by}, specs.Prelude.nat_le}
@@ -134,6 +134,10 @@ cost_tables_are_square (Pin m) (OfPins s) machine day =
 cost_tables_are_square m s machine day = All-nil (λ row. length row ≡ 0)
 
 -- ---- the standings that read as each row
+
+abbrev pub reads_as_row : ℕ × ℕ → Place × Place → Bool
+reads_as_row row standing =
+    let reading = reading_of standing in nat_eq reading.0 row.0 && nat_eq reading.1 row.1
 
 pub no_zero : (row : ℕ × ℕ) → IsReading row → row.0 ≢ 0
     → standings_as row ≡ standing_across (place_of_pin_wheel row.0) (place_of_pin_wheel row.1) ∷ []

@@ -2,15 +2,15 @@
 use Rattle.kd_state.proofs.Prelude.{AreCables, Bool, CipherInTurn, Day, EngineIsTheMachine, EngineKey}
 use Rattle.kd_state.proofs.Prelude.{EquallySetDecipher, IsLegalDay, IsLegalRotorDay, IsMachine, IsPermutation}
 use Rattle.kd_state.proofs.Prelude.{IsRotorOnKey, KeyInTurn, List, OfDrum, OfPins, OfRotors, OfWheels, OnKey}
-use Rattle.kd_state.proofs.Prelude.{OnKeyIsItsCipher, OnKeyIsReady, Parts, Pin, PinKey, PinParts, Place}
+use Rattle.kd_state.proofs.Prelude.{OnKeyIsItsCipher, OnKeyIsReady, Parts, Pin, PinKey, PinParts}
 use Rattle.kd_state.proofs.Prelude.{ReadingIsItsCipher, ReadingIsReady, Rotor, RotorDay, RotorParts, SheetWheel, Some}
 use Rattle.kd_state.proofs.Prelude.{TheDayDeciphersItself, TurnedEngineIsTheTurnedMachine, TurnedHasItsKey}
 use Rattle.kd_state.proofs.Prelude.{TurnedHasTheDaysCipher, TurnedIsOnKey, [], is_acting_after, ap, arith, bars_met}
 use Rattle.kd_state.proofs.Prelude.{cipher, common_steps, converter_cipher, count_by, enumerate_from, filter_map}
 use Rattle.kd_state.proofs.Prelude.{key_with_window, letter_at, map, physical_cipher, physical_key, pins_of}
-use Rattle.kd_state.proofs.Prelude.{plugged_pairs, reading_of, recursion_from_All, refl, ring_at, sheet_key}
+use Rattle.kd_state.proofs.Prelude.{place_number, reading_of, recursion_from_All, refl, ring_at, sheet_key}
 use Rattle.kd_enigma.proofs.Cables.{pairs_make_a_plugboard, same_pairs_exchange_alike}
-use Rattle.kd_state.{proofs.Cables.{no_letter_twice, pairs_joined, whole_cables}, specs.Lugs.{bars_moved, is_lug_met}}
+use Rattle.kd_state.{proofs.Cables.{no_letter_twice, pairs_of, pairs_joined, whole_cables}, specs.Lugs.{bars_moved}}
 use Rattle.kd_state.proofs.Prelude.{sum_by-IsPermutation, sum_by-cons, sym, window_of, ℕ, ◌+◌, ◌-◌, ◌||◌, ◌∙◌, ◌∷◌, ◌≡◌}
 use Rattle.{kd_state.proofs.Seating.{all_seated, read_all, wheels_of_slots}, std.proofs.Common.{max, min, ◌%◌}}
 use Rattle.std.proofs.Math.{Bool.or_comm, Nat.{max-eq_left, max-eq_right, min-eq_left, min-eq_right}}
@@ -31,20 +31,13 @@ count_by-map p f [] = refl
 count_by-map p f (x ∷ xs) = grind (arith, common_steps, sum_by-cons, count_by-map p f xs)
 
 abbrev pin_key : PinParts → PinKey
-pin_key m = record { pins = pins_of m.pins; letters = m.letters; rows = map (λ bar. reading_of bar.0 bar.1) m.bars }
-
-bar_met : (m : PinParts) (count : ℕ) (bar : Place × Place)
-    → (is_lug_met m count bar.0 || is_lug_met m count bar.1)
-    ≡ (is_acting_after (pin_key m) count (reading_of bar.0 bar.1).0
-    || is_acting_after (pin_key m) count (reading_of bar.0 bar.1).1)
-bar_met m count bar = grind (arith, or-min_max)
+pin_key m = record { pins = pins_of m.pins; letters = m.letters; rows = map reading_of m.bars }
 
 moved_as_met : (m : PinParts) (count : ℕ) → bars_met (pin_key m) count ≡ bars_moved m count
 moved_as_met m count =
-    sym (count_by-map (λ (row : ℕ × ℕ). is_acting_after (pin_key m) count row.0
-    || is_acting_after (pin_key m) count row.1)
-    (λ (bar : Place × Place). reading_of bar.0 bar.1) m.bars)
-    ∙ (λ i. count_by (λ bar. sym (bar_met m count bar) i) m.bars)
+    let acts : ℕ → Bool = is_acting_after (pins_of m.pins) m.letters count in
+    sym (count_by-map (λ (row : ℕ × ℕ). acts row.0 || acts row.1) reading_of m.bars)
+    ∙ (λ i. count_by (λ bar. sym (or-min_max acts (place_number bar.0) (place_number bar.1)) i) m.bars)
 
 pub engine_cipher : EngineIsTheMachine
 engine_cipher (Rotor m) text = refl
@@ -72,7 +65,7 @@ rotor_key m s window cables legal h =
     (recursion_from_All (λ (w : SheetWheel). ring_at m w.wheel ≡ Some w.ring) s.wheels h.rings) in
     let whole = whole_cables m.cables s.pairs legal.pairs.apart h.cables in
     let plugs =
-    same_pairs_exchange_alike (plugged_pairs m) s.pairs (no_letter_twice m.cables cables whole) legal.pairs.apart
+    same_pairs_exchange_alike (pairs_of m.cables) s.pairs (no_letter_twice m.cables cables whole) legal.pairs.apart
     (pairs_joined m.cables s.pairs whole h.cables) in
     grind (arith, wheels, rings, h.reflector, plugs)
 

@@ -1,12 +1,12 @@
 -- Names from other crates, and of this crate's definitions, that the proofs of this crate use.
 pub use Rattle.kd_drum.specs.Converter.{IsEachOnItsWheel, PinKey, is_acting_after, bars_met, converter_cipher}
 pub use Rattle.kd_enigma.specs.Plugs.{NoLetterTwice, letters_in_pairs}
-pub use Rattle.kd_state.specs.SameParts.{has_reflector, has_wheel, numbered_item, place_in_box, same_reflector}
+pub use Rattle.kd_state.specs.SameParts.{numbered_item, place_in_box, same_reflector}
 pub use Rattle.kd_state.specs.SameParts.{same_wheel}
 pub use Rattle.kd_state.specs.Changes.{IsKept, IsSeatOf, ChangesTo, MovesLug, SeatsWheel, SetsOnly, TheBar, TheCable}
 pub use Rattle.kd_state.specs.Changes.{TheLetter, ThePin, TheReflector, TheRing, TheShown, TheSlot, Thing, TurnsWheel}
-pub use Rattle.kd_state.specs.Changes.{letters_at_cable}
-pub use Rattle.kd_state.specs.Costs.{bar_cost, cable_cost, column_letters, columns_of, exactly_one, lies_in_exactly_one}
+pub use Rattle.kd_state.specs.Changes.{letters_at_cable, lug_place, other_lug, HasLugsInOrder}
+pub use Rattle.kd_state.specs.Costs.{bar_cost, cable_cost, column_letters, columns_of, exactly_one}
 pub use Rattle.kd_state.specs.Laws.{AllowedWheelsLieInTheBox, CipherInTurn, ColumnsAreThePairs, CostTablesAreSquare}
 pub use Rattle.kd_state.specs.Laws.{DaysWheelsHaveTheirPlaces, EngineIsTheMachine, EquallySetDecipher, KeyInTurn}
 pub use Rattle.kd_state.specs.Laws.{ListsHaveNoFault, MachinesCanBeTurned, OnKeyIsItsCipher, OnKeyIsReady, OneListFault}
@@ -22,17 +22,17 @@ pub use Rattle.kd_state.specs.Machine.{AreWheelsAllowed, AreSeatedOnce, AreCable
 pub use Rattle.kd_state.specs.Machine.{IsLegalPin, IsLegalRotor, IsMachine, IsSeatedAt, machine_cable, cable_letters}
 pub use Rattle.kd_state.specs.Machine.{with_cables_in_order, letter_at, machine_letter, model_of, cable_in_order}
 pub use Rattle.kd_state.specs.Machine.{letters_in_cables, ring_at, machine_ring, machine_slot, machine_standing}
-pub use Rattle.kd_state.specs.OnKey.{AreLettersOfPair, AreThePairs, IsPairJoined, IsCablePaired, IsPinOnKey}
+pub use Rattle.kd_state.specs.OnKey.{AreLettersOfPair, AreThePairs, IsPairJoined, IsCablePaired}
 pub use Rattle.kd_state.specs.OnKey.{IsRotorOnKey, HasPairLetters, OnKey, HaveSameLetters, ShowsWindow}
 pub use Rattle.kd_state.specs.Pins.{pin_at, pin_set, wheel_pins, with_pin}
-pub use Rattle.kd_state.specs.Setting.{Carries, Leads, HasLugsInOrder, are_new_letters, cable_at, cable_with}
-pub use Rattle.kd_state.specs.Setting.{cable_without, machine_after, has_letter, is_same_place, has_both_ends}
-pub use Rattle.kd_state.specs.Setting.{lies_beyond, lug_place, other_lug, refusal_reasons, why_refused, letters_with}
-pub use Rattle.kd_state.specs.Setting.{with_lug, bars_with_lug, seat_without}
+pub use Rattle.kd_state.specs.Setting.{Carries, Leads, are_new_letters, cable_at, cable_with}
+pub use Rattle.kd_state.specs.Setting.{cable_without, machine_after, has_letter, is_same_place}
+pub use Rattle.kd_state.specs.Setting.{refusal_reasons, why_refused}
+pub use Rattle.kd_state.specs.Setting.{with_lug, seat_without}
 pub use Rattle.kd_state.specs.SheetDay.{Day, HasWheelLetters, IsLegalDay, IsLegalRotorDay, OfPins, OfRotors, PinDay}
 pub use Rattle.kd_state.specs.SheetDay.{RotorDay, seats_of_wheels}
-pub use Rattle.kd_state.specs.TwoCiphers.{EngineKey, IsRotorReady, OfDrum, OfWheels, pair_of_ends, cipher}
-pub use Rattle.kd_state.specs.TwoCiphers.{key_with_window, physical_cipher, physical_key, plugged_pairs, seated_wheels}
+pub use Rattle.kd_state.specs.TwoCiphers.{EngineKey, IsReady, OfDrum, OfWheels, cipher}
+pub use Rattle.kd_state.specs.TwoCiphers.{key_with_window, physical_cipher, physical_key, seated_wheels}
 pub use Rattle.kd_state.specs.TwoCiphers.{sheet_key, window_of}
 pub use Rattle.kd_state.specs.declared.machine.parts.Parts.{Parts, TheVariants.Pin, TheVariants.Rotor}
 pub use Rattle.kd_state.specs.declared.machine.{pin_parts.PinParts.PinParts, rotor_parts.RotorParts.RotorParts}
@@ -45,7 +45,7 @@ pub use Rattle.kd_state.specs.declared.setting.why.Why.TheVariants.{SocketTaken,
 pub use Rattle.kd_state.specs.declared.sheet_day.rotor_entry.SheetWheel.{SheetWheel}
 pub use Rattle.kd_tables.specs.{Permutation.alphabet, Permutation.exchange, Rings.place_on}
 pub use Rattle.kd_tables.specs.Places.{IsBefore, IsReading, lug_text, place_number, place_text, places, reading_of}
-pub use Rattle.kd_tables.specs.Tables.{IsAllowed, box_of, is_from_to, reflector_text, reflectors_of, slots_of}
+pub use Rattle.kd_tables.specs.Tables.{IsAllowed, box_of, reflector_text, reflectors_of, slots_of}
 pub use Rattle.kd_tables.specs.Tables.{wheel_text, wheels_for}
 pub use Rattle.kd_tables.specs.declared.{lug.Lug.Lug, lug.Lug.TheVariants.Left, model.Model.Model, place.Place.Place}
 pub use Rattle.kd_tables.specs.declared.{model.Model.TheVariants.M209, place.Place.TheVariants.One}
@@ -80,7 +80,7 @@ pub use Rattle.std.specs.Cmp.{IsStrictWeakOrder, nat_cmp_total, on_total, then_t
 pub use Rattle.std.specs.List.{All, AllByRecursion, AllWithin, cons_option, count_by, enumerate_from, list_all}
 pub use Rattle.std.specs.List.{list_any, position_or_len, range_with_len, slice_split}
 pub use Rattle.std.specs.Option.{IsSome, SomeIff, is_none, is_some, option_and_then, option_eq, option_map}
-pub use Rattle.std.specs.Option.{option_map_or, option_or, option_to_list, unwrap_or}
+pub use Rattle.std.specs.Option.{option_map_or, option_or, option_to_list, option_zip, unwrap_or}
 pub use Rattle.kd_pins.specs.{PinWheels.pins_of, declared.pin_set.PinSet.PinSet}
 unfoldable pub use Rattle.{kd_tables.specs.Rings.ring_of, std.specs.List.IsDistinct}
 pub use Rattle.std.proofs.Common.{Bool, Contains, List, MatchOption, None, Option, Some, [], ap, arith, drop, false}

@@ -1,13 +1,14 @@
 -- Lemmas on the wheels in the slots: their rings and letters, and turning them to any window.
 use Rattle.kd_state.proofs.Prelude.{place_in_box, MachinesCanBeTurned, AreSeatedOnce, AreLetters, IsLegalRotor}
-use Rattle.kd_state.proofs.Prelude.{IsSeatedAt, letter_at, ring_at, seats_of_wheels, IsRotorReady, OfWheels}
-use Rattle.kd_state.proofs.Prelude.{physical_key, plugged_pairs, seated_wheels, Pin, Rotor, RotorParts, SheetWheel}
+use Rattle.kd_state.proofs.Prelude.{IsSeatedAt, letter_at, ring_at, seats_of_wheels, IsReady, OfWheels}
+use Rattle.kd_state.proofs.Prelude.{physical_key, seated_wheels, Pin, Rotor, RotorParts, SheetWheel}
 use Rattle.kd_state.proofs.Prelude.{exchange, box_of, Model, Wheel, false≢true, get_or-map, length-map, All-map}
 use Rattle.kd_state.proofs.Prelude.{recursion_from_All, none-some, slice_get-get_or, All, AllByRecursion, cons_option}
 use Rattle.kd_state.proofs.Prelude.{IsSome, Contains, List, None, Option, Some, [], ap, arith, filter_map, get_or}
 use Rattle.kd_state.proofs.Prelude.{length, map, refl, set, slice_get, subst, suc, sym, zero, ℕ, ◌+◌, ◌<◌, ◌∙◌, ◌∷◌}
 use Rattle.kd_state.proofs.Prelude.{◌≡◌, ◌≢◌}
 use Rattle.kd_state.proofs.{Telling.Refusing.Changing.{letters_set, with_letters}, Slots.set_here, Slots.set_other}
+use Rattle.kd_state.proofs.Cables.{pairs_of}
 use Rattle.kd_state.proofs.Wheels.{place_within, IsAllowed-IsPlaced, places_tell_wheels}
 use Rattle.kd_state.specs.Seated.{key_of_wheels, wheel_in_seat, wheel_with_letters}
 
@@ -63,12 +64,12 @@ pub wheels_of_slots : (m : RotorParts) (wheels : List SheetWheel) → m.slots �
 wheels_of_slots m wheels e = grind (arith, wheels_seated)
 
 pub key_of_seats : (m : RotorParts) (wheels : List SheetWheel) → AreSeats m m.slots wheels
-    → physical_key (Rotor m) ≡ OfWheels (key_of_wheels wheels m.reflector (exchange (plugged_pairs m)))
+    → physical_key (Rotor m) ≡ OfWheels (key_of_wheels wheels m.reflector (exchange (pairs_of m.cables)))
 key_of_seats m wheels h = grind (arith, wheels_of_slots, filter_map, read_all)
 
 -- if `wheels` are in the slots with their rings and letters, the machine's key has them, and no slot is empty
 pub of_seated : (m : RotorParts) (wheels : List SheetWheel) → map Some wheels ≡ map (wheel_in_seat m) m.slots
-    → (physical_key (Rotor m) ≡ OfWheels (key_of_wheels wheels m.reflector (exchange (plugged_pairs m))))
+    → (physical_key (Rotor m) ≡ OfWheels (key_of_wheels wheels m.reflector (exchange (pairs_of m.cables))))
     × All (λ seated. IsSome seated) m.slots
 of_seated m wheels e =
     let seats = are_seats m m.slots wheels e in
@@ -88,11 +89,12 @@ filled_seat m legal place (Some wheel) at there none =
     slice_get-get_or m.letters box 0 (omega (arith, within, legal.letters.count)) in
     none-some _ (sym (rw (ring, letter) at none))
 
-pub not_ready : (m : RotorParts) → IsLegalRotor m → Contains (map (wheel_in_seat m) m.slots) None → IsRotorReady m → ⊥
+pub not_ready : (m : RotorParts) → IsLegalRotor m → Contains (map (wheel_in_seat m) m.slots) None → IsReady (Rotor m)
+    → ⊥
 not_ready m legal h ready =
     let k = h.0 in
     let within : k < length m.slots = omega (arith, h.1, length-map m.slots (wheel_in_seat m)) in
-    filled_seat m legal k (get_or m.slots k None) (slice_get-get_or m.slots k None within) (ready.slots k None within)
+    filled_seat m legal k (get_or m.slots k None) (slice_get-get_or m.slots k None within) (ready.0 k None within)
     (sym (get_or-map (wheel_in_seat m) m.slots k None None within) ∙ h.2)
 
 -- writing a letter for each wheel at the wheel's own place

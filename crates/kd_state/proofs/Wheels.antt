@@ -1,16 +1,17 @@
 -- Lemmas on wheels and reflectors by their names, and on the slots and places that wheels have.
-use Rattle.kd_state.proofs.Prelude.{has_reflector, has_wheel, place_in_box, same_reflector, same_wheel}
+use Rattle.kd_state.proofs.Prelude.{place_in_box, same_reflector, same_wheel}
 use Rattle.kd_state.proofs.Prelude.{AllowedWheelsLieInTheBox, DaysWheelsHaveTheirPlaces, PlacesTellWheels, IsSeatedAt}
 use Rattle.kd_state.proofs.Prelude.{ShowsWindow, Day, OfPins, PinDay, AllByRecursion, All-from_recursion}
 use Rattle.kd_state.proofs.Prelude.{recursion_from_All, seats_of_wheels, Parts, Pin, PinParts, SheetWheel, IsAllowed}
-use Rattle.kd_state.proofs.Prelude.{box_of, is_from_to, reflector_text, slots_of, wheel_text, wheels_for, Model}
+use Rattle.kd_state.proofs.Prelude.{box_of, reflector_text, slots_of, wheel_text, wheels_for, Model}
 use Rattle.kd_state.proofs.Prelude.{Reflector, Wheel, I, cases_Bool, eqb-true, false_from_ne_true, leb-true}
 use Rattle.kd_state.proofs.Prelude.{Decides-like, Contains-append_left, Contains-append_right, Contains-get_or}
 use Rattle.kd_state.proofs.Prelude.{passes_at_first, position_or_len_is, is_member-Decides, same_Some, slice_get-get_or}
 use Rattle.kd_state.proofs.Prelude.{slice_get-map, Decides, pointwise_decides, All, list_any, position_or_len}
 use Rattle.kd_state.proofs.Prelude.{option_eq, unwrap_or, Bool, Contains, List, Option, [], ap, arith, false, find}
 use Rattle.kd_state.proofs.Prelude.{get_or, length, refl, rules, sym, true, ℕ, ◌<◌, ◌↔◌, ◌∙◌, ◌∷◌, ◌≡◌, ◌≢◌, ◌≤◌}
-use Rattle.kd_state.proofs.Prelude.{pointwise}
+use Rattle.kd_state.proofs.Prelude.{pointwise, ◌&&◌}
+use Rattle.std.specs.Prelude.{nat_le}
 use Rattle.{kd_tables.specs.contracts.wheel.Wheel.the_type, kd_tables.specs.declared.model.Model.TheVariants.M4}
 use Rattle.{std.proofs.Common.{cond, ◌==◌}, std.proofs.lemmas.Slice.Eq.bytes_eq-Decides, std.specs.Str.bytes_eq}
 use denote.Enum.Bare.{sameb, same_true, same_false}
@@ -44,13 +45,14 @@ same_wheel_self wheel = grind (arith, same_wheel-Decides)
 pub same_wheel_differs : (wheel other : Wheel) → wheel ≢ other → same_wheel wheel other ≡ false
 same_wheel_differs wheel other h = grind (arith, false_from_ne_true, same_wheel-Decides)
 
--- `has_wheel` is true exactly if the list contains the wheel
-pub has_wheel-Decides : (wheels : List Wheel) (wheel : Wheel) → Decides (has_wheel wheels wheel) (Contains wheels wheel)
+-- the test for a wheel is true exactly if the list contains the wheel
+pub has_wheel-Decides : (wheels : List Wheel) (wheel : Wheel)
+    → Decides (list_any (same_wheel wheel) wheels) (Contains wheels wheel)
 has_wheel-Decides wheels wheel = is_member-Decides same_wheel-Decides wheels wheel
 
--- `has_reflector` is true exactly if the list contains the reflector
+-- the test for a reflector is true exactly if the list contains the reflector
 pub has_reflector-Decides : (reflectors : List Reflector) (reflector : Reflector)
-    → Decides (has_reflector reflectors reflector) (Contains reflectors reflector)
+    → Decides (list_any (same_reflector reflector) reflectors) (Contains reflectors reflector)
 has_reflector-Decides reflectors reflector = is_member-Decides same_reflector-Decides reflectors reflector
 
 -- if an element passes the test, the place of the first that passes is below the length
@@ -76,7 +78,8 @@ in_some : (b : Bool) (wheels : List Wheel) (wheel : Wheel) → Contains (cond b 
     → (b ≡ true) × Contains wheels wheel
 in_some b wheels wheel e = grind arith
 
-lies_in_both : (first last number : ℕ) → is_from_to first last number ≡ true → (first ≤ number) × (number ≤ last)
+lies_in_both : (first last number : ℕ) → (nat_le first number && nat_le number last) ≡ true
+    → (first ≤ number) × (number ≤ last)
 lies_in_both first last number e = grind (arith, leb-true)
 
 -- the slot is one of the model's, and the wheel is in the model's box
@@ -86,7 +89,7 @@ pub record IsPlaced (model : Model) (slot : ℕ) (wheel : Wheel) : Type 0 where
   pub in_box : Contains (box_of model) wheel
 
 placed_in_m4 : (first : Bool) (slot : ℕ) (wheel : Wheel) → (slot == 1) ≡ first
-    → Contains (cond first (wheels_for M4 1) (cond (is_from_to 2 4 slot) (wheels_for M4 2) [])) wheel
+    → Contains (cond first (wheels_for M4 1) (cond (nat_le 2 slot && nat_le slot 4) (wheels_for M4 2) [])) wheel
     → IsPlaced M4 slot wheel
 placed_in_m4 true slot wheel e h = search (rules, eqb-true, Contains-append_right)
 placed_in_m4 false slot wheel e h = grind (arith, in_some, lies_in_both, Contains-append_left)
@@ -97,7 +100,8 @@ pub IsAllowed-IsPlaced : (model : Model) (slot : ℕ) (wheel : Wheel) → IsAllo
 IsAllowed-IsPlaced M4 slot wheel h = placed_in_m4 (slot == 1) slot wheel refl h
 IsAllowed-IsPlaced model slot wheel h = grind (arith, in_some, lies_in_both)
 
-pub lacks_wheel : (wheels : List Wheel) (wheel : Wheel) → ¬ (Contains wheels wheel) → has_wheel wheels wheel ≡ false
+pub lacks_wheel : (wheels : List Wheel) (wheel : Wheel) → ¬ (Contains wheels wheel)
+    → list_any (same_wheel wheel) wheels ≡ false
 lacks_wheel wheels wheel h = grind (arith, false_from_ne_true, has_wheel-Decides)
 
 -- `==` in the program agrees with `same_wheel`

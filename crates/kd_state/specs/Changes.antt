@@ -4,6 +4,8 @@ use Rattle.std.specs.Option.{option_map, option_map_or}
 use Rattle.kd_tables.specs.declared.wheel.Wheel.{Wheel}
 use Rattle.kd_tables.specs.declared.place.Place.{Place}
 use Rattle.kd_tables.specs.declared.lug.Lug.{Lug}
+use Rattle.kd_tables.specs.declared.lug.Lug.TheVariants.{Left, Right}
+use Rattle.kd_tables.specs.Places.{IsBefore}
 use Rattle.kd_tables.specs.Rings.{ring_of}
 use Rattle.kd_tables.specs.Tables.{box_of, reflectors_of, IsAllowed}
 use Rattle.kd_state.specs.declared.machine.parts.Parts.{Parts}
@@ -13,7 +15,7 @@ use Rattle.kd_state.specs.declared.setting.Setting.TheVariants.{Pull, Put, Seat,
 use Rattle.kd_state.specs.declared.setting.Setting.TheVariants.{LugTo}
 use Rattle.kd_state.specs.Machine.{cable_letters, model_of, machine_slot, machine_reflector, machine_ring}
 use Rattle.kd_state.specs.Machine.{machine_letter, machine_cable, machine_pin, machine_pin_letter, machine_standing}
-use Rattle.kd_state.specs.Setting.{lug_place, other_lug, with_lug, HasLugsInOrder}
+use Rattle.kd_state.specs.Setting.{with_lug}
 
 -- One thing of a machine that a setting can change, such as a slot or a ring. Slots, cables, pin wheels and bars
 -- are given by their numbers, and a pin by its pin wheel's number and its letter.
@@ -52,6 +54,16 @@ SetsOnly thing m n = KeepsAllBut (λ other. other ≡ thing) m n
 -- the letters in cable `cable`; none if the machine lacks this cable
 abbrev pub letters_at_cable : Parts → ℕ → List ℕ
 letters_at_cable m cable = option_map_or cable_letters (machine_cable m cable) []
+
+-- the place of the left lug, or of the right lug, of a bar
+abbrev pub lug_place : Lug → Place × Place → Place
+lug_place Left bar = bar.0
+lug_place Right bar = bar.1
+
+-- a bar's other lug: the right lug for the left lug, and the left lug for the right lug
+abbrev pub other_lug : Lug → Lug
+other_lug Left = Right
+other_lug Right = Left
 
 -- the place of one lug of a bar; `None` if the machine lacks this bar
 abbrev pub machine_lug : Parts → ℕ → Lug → Option Place
@@ -119,6 +131,10 @@ abbrev pub CanShow : Parts → ℕ → ℕ → Type 0
 CanShow m slot letter =
     ((wheel : Wheel) × (machine_slot m slot ≡ Some (Some wheel)))
     ⊎ (IsSome (machine_pin_letter m slot) × Contains (ring_of slot) letter)
+
+-- The left lug is left of the right lug.
+abbrev pub HasLugsInOrder : Place × Place → Type 0
+HasLugsInOrder bar = IsBefore bar.0 bar.1
 
 -- The machine has the bar. If this lug moves to the place, the left lug is still left of the right lug.
 abbrev pub CanMoveLug : Parts → ℕ → Lug → Place → Type 0

@@ -10,14 +10,12 @@ use Rattle.kd_tables.specs.declared.place.Place.TheVariants.{One, ZeroLeft, Two,
 use Rattle.kd_tables.specs.Permutation.{alphabet}
 use Rattle.kd_tables.specs.Places.{standings, place_rank, reading_of}
 use Rattle.kd_pins.specs.PinWheels.{pins_of}
-use Rattle.kd_state.specs.declared.machine.rotor_parts.RotorParts.{RotorParts}
-use Rattle.kd_state.specs.declared.machine.pin_parts.PinParts.{PinParts}
 use Rattle.kd_state.specs.declared.machine.parts.Parts.{Parts}
 use Rattle.kd_state.specs.declared.machine.parts.Parts.TheVariants.{Rotor, Pin}
 use Rattle.kd_state.specs.SameParts.{same_wheel, same_reflector}
 use Rattle.kd_state.specs.Machine.{cable_letters, ring_at, letter_at}
 use Rattle.kd_state.specs.Setting.{has_letter, is_same_place}
-use Rattle.kd_state.specs.SheetDay.{RotorDay, PinDay, Day, OfRotors, OfPins}
+use Rattle.kd_state.specs.SheetDay.{Day, OfRotors, OfPins}
 
 -- whether exactly one of the two values is true
 abbrev pub exactly_one : Bool → Bool → Bool
@@ -32,29 +30,19 @@ abbrev pub column_letters : Option (ℕ × ℕ) → List ℕ
 column_letters None = []
 column_letters (Some pair) = pair.0 ∷ pair.1 ∷ []
 
--- whether the letter is in the cable or in the column's pair, but not in both
-abbrev pub lies_in_exactly_one : Option ℕ × Option ℕ → Option (ℕ × ℕ) → ℕ → Bool
-lies_in_exactly_one cable column letter =
-    exactly_one (has_letter (cable_letters cable) letter) (has_letter (column_letters column) letter)
-
--- the cost of giving a cable the column's pair, or of emptying the cable if the column has no pair: how many
--- letters are in the cable or in the pair, but not in both
+-- the cost of giving a cable the column's pair, or of emptying it: how many letters are in only one of cable and pair
 abbrev pub cable_cost : Option ℕ × Option ℕ → Option (ℕ × ℕ) → ℕ
-cable_cost cable column = count_by (lies_in_exactly_one cable column) alphabet
+cable_cost cable column =
+    count_by (λ l. exactly_one (has_letter (cable_letters cable) l) (has_letter (column_letters column) l)) alphabet
 
 -- how many lugs have to move to change one standing into the other
 abbrev pub lugs_moved : Place × Place → Place × Place → ℕ
-lugs_moved standing other = one_unless (is_same_place standing.0 other.0)
-    + one_unless (is_same_place standing.1 other.1)
-
--- whether a bar with this standing reads as this row
-abbrev pub reads_as_row : ℕ × ℕ → Place × Place → Bool
-reads_as_row row standing =
-    let reading = reading_of standing.0 standing.1 in nat_eq reading.0 row.0 && nat_eq reading.1 row.1
+lugs_moved bar other = one_unless (is_same_place bar.0 other.0) + one_unless (is_same_place bar.1 other.1)
 
 -- the standings with which a bar reads as this row, in the order of `standings`
 unfoldable pub standings_as : ℕ × ℕ → List (Place × Place)
-standings_as row = filter (reads_as_row row) standings
+standings_as row =
+    filter (λ bar. let reading = reading_of bar in nat_eq reading.0 row.0 && nat_eq reading.1 row.1) standings
 
 -- the place of a bar at which this pin wheel acts; for 0, the left one of the two places without a wheel
 abbrev pub place_of_pin_wheel : ℕ → Place
@@ -70,8 +58,7 @@ bar_cost standing row = fold min 2 (map (lugs_moved standing) (standings_as row)
 
 -- of all standings that read as the row, the first that is reached by moving the fewest lugs
 abbrev pub nearest_standing : Place × Place → ℕ × ℕ → Option (Place × Place)
-nearest_standing standing row =
-    find (λ other. nat_eq (lugs_moved standing other) (bar_cost standing row)) (standings_as row)
+nearest_standing bar row = find (λ other. nat_eq (lugs_moved bar other) (bar_cost bar row)) (standings_as row)
 
 -- ---- The cost tables: of cables and columns, and of bars and rows.
 -- Test: cards_are_planned
@@ -94,36 +81,17 @@ cost_table (Rotor m) (OfRotors s) = cable_costs m.cables s.pairs
 cost_table (Pin m) (OfPins s) = bar_costs m.bars s.rows
 cost_table _ _ = []
 
--- ---- How many things other than cables and bars differ from the day.
+-- ---- Loose things: those other than cables and bars that differ from the day.
 
--- how many slots are empty or hold another wheel than the day's
-abbrev pub loose_slots : RotorParts → RotorDay → ℕ
-loose_slots m s = count_by (λ slot. not (option_map_or (same_wheel slot.1.wheel) slot.0 false)) (zip m.slots s.wheels)
-
--- 1 if the reflector isn't the day's, else 0
-abbrev pub loose_reflector : RotorParts → RotorDay → ℕ
-loose_reflector m s = one_unless (same_reflector m.reflector s.reflector)
-
--- How many of the day's wheels don't have the day's ring. Wheels that are still in the box count too.
-abbrev pub loose_rings : RotorParts → RotorDay → ℕ
-loose_rings m s = count_by (λ w. not (option_map_or (nat_eq w.ring) (ring_at m w.wheel) false)) s.wheels
-
--- How many of the day's wheels don't have the day's window letter. Wheels that are still in the box count too.
-abbrev pub loose_letters : RotorParts → RotorDay → ℕ
-loose_letters m s = count_by (λ w. not (option_map_or (nat_eq w.letter) (letter_at m w.wheel) false)) s.wheels
-
--- how many pins aren't as the day says
-abbrev pub loose_pins : PinParts → PinDay → ℕ
-loose_pins m s =
-    sum (map (λ wheel. count_by (λ pin. exactly_one pin.0 pin.1) (zip wheel.0 wheel.1))
-    (zip (pins_of m.pins) (pins_of s.pins)))
-
--- how many pin wheels don't show the day's letter
-abbrev pub loose_pin_letters : PinParts → PinDay → ℕ
-loose_pin_letters m s = count_by (λ letter. not (nat_eq letter.0 letter.1)) (zip m.letters s.window)
-
--- how many things other than cables and bars differ from the day
+-- How many things other than cables and bars differ from the day: slots, the reflector, and the rings and the window
+-- letters of the day's wheels, also of those still in the box; or pins, and the letters that pin wheels show.
 abbrev pub loose_count : Parts → Day → ℕ
-loose_count (Rotor m) (OfRotors s) = loose_slots m s + loose_reflector m s + loose_rings m s + loose_letters m s
-loose_count (Pin m) (OfPins s) = loose_pins m s + loose_pin_letters m s
+loose_count (Rotor m) (OfRotors s) =
+    count_by (λ slot. not (option_map_or (same_wheel slot.1.wheel) slot.0 false)) (zip m.slots s.wheels)
+    + one_unless (same_reflector m.reflector s.reflector)
+    + count_by (λ w. not (option_map_or (nat_eq w.ring) (ring_at m w.wheel) false)) s.wheels
+    + count_by (λ w. not (option_map_or (nat_eq w.letter) (letter_at m w.wheel) false)) s.wheels
+loose_count (Pin m) (OfPins s) =
+    sum (map (λ w. count_by (λ pin. exactly_one pin.0 pin.1) (zip w.0 w.1)) (zip (pins_of m.pins) (pins_of s.pins)))
+    + count_by (λ letter. not (nat_eq letter.0 letter.1)) (zip m.letters s.window)
 loose_count _ _ = 0

@@ -1,6 +1,6 @@
 -- The line of a setting, and its words.
 -- Test: kd_trials/src/state/line.rt
-use Rattle.std.specs.Prelude.{codes, decimal, ◌≡◌, ◌≢◌, ℕ, ◌+◌, ◌^◌, ◌<◌, ◌≤◌, Bool, true, false, List, [], ◌∷◌, ◌++◌}
+use Rattle.std.specs.Prelude.{codes, decimal, ◌≡◌, ◌≢◌, ℕ, ◌+◌, ◌^◌, ◌<◌, ◌≤◌, Bool, if◌then◌else◌, List, [], ◌∷◌, ◌++◌}
 use Rattle.std.specs.Prelude.{length, All, Option, MatchOption}
 use Rattle.std.specs.List.{flat_map}
 use Rattle.kd_tables.specs.Tables.{wheel_text, reflector_text}
@@ -14,8 +14,7 @@ use Rattle.kd_state.specs.declared.setting.list.ListFault.TheVariants.{BadLine, 
 
 -- `ON` for an effective pin, `OFF` for a pin that isn't effective
 abbrev pub on_off_text : Bool → List ℕ
-on_off_text true = codes "ON"
-on_off_text false = codes "OFF"
+on_off_text effective = if effective then codes "ON" else codes "OFF"
 
 -- the words of a setting's line
 abbrev pub setting_words : Setting → List (List ℕ)

@@ -3,7 +3,7 @@
 use Rattle.std.specs.Prelude.{◌≡◌, ℕ, ◌+◌, ◌<◌, nat_eq, nat_le, Bool, List, ◌++◌, length, map, All, Contains, slice_get}
 use Rattle.std.specs.Prelude.{Option, Some, None, if◌then◌else◌}
 use Rattle.std.specs.List.{flat_map, IsDistinct}
-use Rattle.std.specs.Option.{option_to_list}
+use Rattle.std.specs.Option.{option_or, option_to_list}
 use Rattle.kd_tables.specs.declared.model.Model.{Model}
 use Rattle.kd_tables.specs.declared.model.Model.TheVariants.{M209}
 use Rattle.kd_tables.specs.declared.wheel.Wheel.{Wheel}
@@ -34,13 +34,11 @@ IsSeatedAt slots place wheel = slice_get slots place ≡ Some (Some wheel)
 
 -- Each wheel is allowed in its slot.
 abbrev pub AreWheelsAllowed : Model → List (Option Wheel) → Type 0
-AreWheelsAllowed model slots = (place : ℕ) (wheel : Wheel) → IsSeatedAt slots place wheel
-    → IsAllowed model (place + 1) wheel
+AreWheelsAllowed model slots = (place : ℕ) (w : Wheel) → IsSeatedAt slots place w → IsAllowed model (place + 1) w
 
 -- No wheel is in two slots.
 abbrev pub AreSeatedOnce : List (Option Wheel) → Type 0
-AreSeatedOnce slots =
-    (place other : ℕ) (wheel : Wheel) → IsSeatedAt slots place wheel → IsSeatedAt slots other wheel → place ≡ other
+AreSeatedOnce slots = (p q : ℕ) (wheel : Wheel) → IsSeatedAt slots p wheel → IsSeatedAt slots q wheel → p ≡ q
 
 -- There are `number` letters, each below 26.
 pub record AreLetters (number : ℕ) (letters : List ℕ) : Type 0 where
@@ -91,10 +89,9 @@ IsLegal (Pin m) = IsLegalPin m
 
 -- a cable with these letters in alphabetical order; a single letter is at the cable's first end
 abbrev pub cable_in_order : Option ℕ → Option ℕ → Option ℕ × Option ℕ
-cable_in_order None other = (other, None)
-cable_in_order (Some letter) None = (Some letter, None)
 cable_in_order (Some letter) (Some other) =
     if nat_le letter other then (Some letter, Some other) else (Some other, Some letter)
+cable_in_order one other = (option_or one other, None)
 
 -- the machine, with each cable's letters in alphabetical order; it doesn't matter which end has which letter
 abbrev pub with_cables_in_order : Parts → Parts

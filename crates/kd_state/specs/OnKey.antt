@@ -6,11 +6,10 @@ use Rattle.std.specs.Prelude.{◌≡◌, ◌≢◌, ◌⊎◌, ◌↔◌, ℕ, L
 use Rattle.std.specs.Prelude.{Some}
 use Rattle.kd_tables.specs.Places.{reading_of}
 use Rattle.kd_state.specs.declared.machine.rotor_parts.RotorParts.{RotorParts}
-use Rattle.kd_state.specs.declared.machine.pin_parts.PinParts.{PinParts}
 use Rattle.kd_state.specs.declared.machine.parts.Parts.{Parts}
 use Rattle.kd_state.specs.declared.machine.parts.Parts.TheVariants.{Rotor, Pin}
 use Rattle.kd_state.specs.Machine.{cable_letters, ring_at, letter_at}
-use Rattle.kd_state.specs.SheetDay.{RotorDay, PinDay, Day, OfRotors, OfPins, seats_of_wheels}
+use Rattle.kd_state.specs.SheetDay.{RotorDay, Day, OfRotors, OfPins, seats_of_wheels}
 
 -- The two lists have the same letters.
 abbrev pub HaveSameLetters : List ℕ → List ℕ → Type 0
@@ -45,15 +44,10 @@ pub record IsRotorOnKey (m : RotorParts) (s : RotorDay) : Type 0 where
   pub reflector : m.reflector ≡ s.reflector
   pub cables : AreThePairs m.cables s.pairs
 
--- The pins are the day's, and the bars read as the day's rows in any order.
-pub record IsPinOnKey (m : PinParts) (s : PinDay) : Type 0 where
-  pub pins : m.pins ≡ s.pins
-  pub rows : IsPermutation (map (λ bar. reading_of bar.0 bar.1) m.bars) s.rows
-
--- The machine is set as the day says, whatever letters it shows.
+-- The machine is set as the day says, whatever letters it shows; a Converter's bars read as its rows, in any order.
 abbrev pub OnKey : Parts → Day → Type 0
 OnKey (Rotor m) (OfRotors s) = IsRotorOnKey m s
-OnKey (Pin m) (OfPins s) = IsPinOnKey m s
+OnKey (Pin m) (OfPins s) = (m.pins ≡ s.pins) × IsPermutation (map reading_of m.bars) s.rows
 OnKey _ _ = ⊥
 
 -- The machine shows the day's letters.

@@ -16,14 +16,9 @@ pin_at pins wheel letter = option_and_then (slice_get (wheel_pins pins wheel)) (
 
 -- the pins of the six pin wheels, made of six lists, one for each wheel
 abbrev pub pin_set : List (List Bool) → PinSet
-pin_set lists = record {
-  w1 = slice_index_or lists 0 [];
-  w2 = slice_index_or lists 1 [];
-  w3 = slice_index_or lists 2 [];
-  w4 = slice_index_or lists 3 [];
-  w5 = slice_index_or lists 4 [];
-  w6 = slice_index_or lists 5 [];
-}
+pin_set lists =
+    let at = λ (place : ℕ). slice_index_or lists place [] in
+    record { w1 = at 0; w2 = at 1; w3 = at 2; w4 = at 3; w5 = at 4; w6 = at 5 }
 
 -- the pins of all wheels, after the pin at one letter of one wheel is made effective, or not effective
 abbrev pub with_pin : PinSet → ℕ → ℕ → Bool → PinSet

@@ -1,7 +1,7 @@
 -- Wheels and reflectors compared by their names, and items found by their numbers.
 -- Code: wheels and reflectors are compared by `==`; a wheel's place in the box is found by a search.
 use Rattle.std.specs.Prelude.{ℕ, zero, suc, Bool, List, slice_get, Option, None}
-use Rattle.std.specs.List.{list_any, position_or_len}
+use Rattle.std.specs.List.{position_or_len}
 use Rattle.std.specs.Str.{bytes_eq}
 use Rattle.kd_tables.specs.declared.model.Model.{Model}
 use Rattle.kd_tables.specs.declared.wheel.Wheel.{Wheel}
@@ -15,14 +15,6 @@ same_wheel wheel other = bytes_eq (wheel_text wheel) (wheel_text other)
 -- whether two reflectors have the same name
 abbrev pub same_reflector : Reflector → Reflector → Bool
 same_reflector reflector other = bytes_eq (reflector_text reflector) (reflector_text other)
-
--- whether the list has the wheel
-abbrev pub has_wheel : List Wheel → Wheel → Bool
-has_wheel wheels wheel = list_any (same_wheel wheel) wheels
-
--- whether the list has the reflector
-abbrev pub has_reflector : List Reflector → Reflector → Bool
-has_reflector reflectors reflector = list_any (same_reflector reflector) reflectors
 
 -- the place of the wheel in the model's box, counted from 0; the length of the box if the wheel isn't in it
 abbrev pub place_in_box : Model → Wheel → ℕ

@@ -2,7 +2,7 @@
 -- Test: kd_trials/src/state/carrying.rt
 use Rattle.std.specs.Prelude.{◌≡◌, ℕ, ◌-◌, nat_eq, nat_lt, ◌+◌, Bool, true, false, not, ◌&&◌, List, [], ◌∷◌, ◌++◌, map}
 use Rattle.std.specs.Prelude.{find, slice_set, length, Option, Some, None, is_none, unwrap_or, Result, MatchResult, ⊤}
-use Rattle.std.specs.Prelude.{if◌then◌else◌}
+use Rattle.std.specs.Prelude.{if◌then◌else◌, is_some}
 use Rattle.std.specs.List.{list_any}
 use Rattle.std.specs.Option.{option_map, option_map_or, option_or}
 use Rattle.kd_tables.specs.declared.wheel.Wheel.{Wheel}
@@ -11,10 +11,9 @@ use Rattle.kd_tables.specs.declared.lug.Lug.{Lug}
 use Rattle.kd_tables.specs.declared.lug.Lug.TheVariants.{Left, Right}
 use Rattle.kd_tables.specs.Tables.{wheels_for, box_of, reflectors_of}
 use Rattle.kd_tables.specs.Rings.{ring_of}
-use Rattle.kd_tables.specs.Places.{place_rank, IsBefore}
+use Rattle.kd_tables.specs.Places.{place_rank}
 use Rattle.kd_state.specs.Pins.{with_pin}
 use Rattle.kd_state.specs.declared.machine.rotor_parts.RotorParts.{RotorParts}
-use Rattle.kd_state.specs.declared.machine.pin_parts.PinParts.{PinParts}
 use Rattle.kd_state.specs.declared.machine.parts.Parts.{Parts}
 use Rattle.kd_state.specs.declared.machine.parts.Parts.TheVariants.{Rotor, Pin}
 use Rattle.kd_state.specs.declared.setting.Setting.{Setting}
@@ -24,7 +23,7 @@ use Rattle.kd_state.specs.declared.setting.why.Why.{Why}
 use Rattle.kd_state.specs.declared.setting.why.Why.TheVariants.{OtherModel, NoSuchCable, NotThere, NoLooseEnd}
 use Rattle.kd_state.specs.declared.setting.why.Why.TheVariants.{SocketTaken, WheelNotAllowed, SlotEmpty, NotOnWheel}
 use Rattle.kd_state.specs.declared.setting.why.Why.TheVariants.{NoSuchBar, PlaceTaken, WouldPass}
-use Rattle.kd_state.specs.SameParts.{same_wheel, has_wheel, has_reflector, place_in_box, numbered_item}
+use Rattle.kd_state.specs.SameParts.{same_wheel, same_reflector, place_in_box, numbered_item}
 use Rattle.kd_state.specs.Machine.{cable_letters, letters_in_cables, cable_in_order}
 
 -- whether the letter is in the list
@@ -34,8 +33,7 @@ has_letter letters letter = list_any (λ other. nat_eq other letter) letters
 -- whether the letters of the first list differ from each other, and from all letters of the second list
 abbrev pub are_new_letters : List ℕ → List ℕ → Bool
 are_new_letters [] others = true
-are_new_letters (letter ∷ letters) others = not (has_letter (letters ++ others) letter)
-    && are_new_letters letters others
+are_new_letters (first ∷ rest) others = not (has_letter (rest ++ others) first) && are_new_letters rest others
 
 -- the letters in cable `cable`, counted from 1; none if there is no such cable
 abbrev pub cable_at : RotorParts → ℕ → Option ℕ × Option ℕ
@@ -45,66 +43,40 @@ cable_at m cable = unwrap_or (numbered_item m.cables cable) (None, None)
 abbrev pub wheel_in_slot : RotorParts → ℕ → Option Wheel
 wheel_in_slot m slot = unwrap_or (numbered_item m.slots slot) None
 
--- whether both ends of the cable have letters
-abbrev pub has_both_ends : Option ℕ × Option ℕ → Bool
-has_both_ends cable = not (is_none cable.0) && not (is_none cable.1)
-
--- the place of the left lug, or of the right lug, of a bar
-abbrev pub lug_place : Lug → Place × Place → Place
-lug_place Left bar = bar.0
-lug_place Right bar = bar.1
-
--- a bar's other lug: the right lug for the left lug, and the left lug for the right lug
-abbrev pub other_lug : Lug → Lug
-other_lug Left = Right
-other_lug Right = Left
-
 -- whether the two places are equal
 abbrev pub is_same_place : Place → Place → Bool
 is_same_place place other = nat_eq (place_rank place) (place_rank other)
 
--- whether this lug, moved to the first place, would pass the bar's other lug, which is at the second place
-abbrev pub lies_beyond : Lug → Place → Place → Bool
-lies_beyond Left place other = nat_lt (place_rank other) (place_rank place)
-lies_beyond Right place other = nat_lt (place_rank place) (place_rank other)
-
--- the place of the bar's other lug; `None` if the machine lacks this bar
-abbrev pub other_place : PinParts → ℕ → Lug → Option Place
-other_place m bar lug = option_map (lug_place (other_lug lug)) (numbered_item m.bars bar)
+-- the standing after this lug is moved to this place
+abbrev pub with_lug : Lug → Place → Place × Place → Place × Place
+with_lug Left place bar = (place, bar.1)
+with_lug Right place bar = (bar.0, place)
 
 -- The reasons to refuse a setting, in the order of testing. The flag beside a reason says whether it holds.
 abbrev pub refusal_reasons : Parts → Setting → List (Bool × Why)
 refusal_reasons (Rotor m) (Pull cable letter) =
     (is_none (numbered_item m.cables cable), NoSuchCable)
-    ∷ (not (has_letter (cable_letters (cable_at m cable)) letter), NotThere)
-    ∷ []
+    ∷ (not (has_letter (cable_letters (cable_at m cable)) letter), NotThere) ∷ []
 refusal_reasons (Rotor m) (Put cable letter) =
     (is_none (numbered_item m.cables cable), NoSuchCable)
-    ∷ (has_both_ends (cable_at m cable), NoLooseEnd)
-    ∷ (has_letter (letters_in_cables m.cables) letter, SocketTaken)
-    ∷ []
-refusal_reasons (Rotor m) (Seat slot wheel) = (not (has_wheel (wheels_for m.model slot) wheel), WheelNotAllowed) ∷ []
+    ∷ (is_some (cable_at m cable).0 && is_some (cable_at m cable).1, NoLooseEnd)
+    ∷ (has_letter (letters_in_cables m.cables) letter, SocketTaken) ∷ []
+refusal_reasons (Rotor m) (Seat slot wheel) =
+    (not (list_any (same_wheel wheel) (wheels_for m.model slot)), WheelNotAllowed) ∷ []
 refusal_reasons (Rotor m) (SeatReflector reflector) =
-    (not (has_reflector (reflectors_of m.model) reflector), WheelNotAllowed) ∷ []
-refusal_reasons (Rotor m) (RingTo wheel letter) = (not (has_wheel (box_of m.model) wheel), WheelNotAllowed) ∷ []
+    (not (list_any (same_reflector reflector) (reflectors_of m.model)), WheelNotAllowed) ∷ []
+refusal_reasons (Rotor m) (RingTo wheel letter) =
+    (not (list_any (same_wheel wheel) (box_of m.model)), WheelNotAllowed) ∷ []
 refusal_reasons (Rotor m) (Turn slot letter) = (is_none (wheel_in_slot m slot), SlotEmpty) ∷ []
-refusal_reasons (Rotor m) (PinTo wheel letter effective) = (true, OtherModel) ∷ []
-refusal_reasons (Rotor m) (LugTo bar lug place) = (true, OtherModel) ∷ []
-refusal_reasons (Pin m) (Pull cable letter) = (true, OtherModel) ∷ []
-refusal_reasons (Pin m) (Put cable letter) = (true, OtherModel) ∷ []
-refusal_reasons (Pin m) (Seat slot wheel) = (true, OtherModel) ∷ []
-refusal_reasons (Pin m) (SeatReflector reflector) = (true, OtherModel) ∷ []
-refusal_reasons (Pin m) (RingTo wheel letter) = (true, OtherModel) ∷ []
 refusal_reasons (Pin m) (Turn wheel letter) =
-    (is_none (numbered_item m.letters wheel), SlotEmpty)
-    ∷ (not (has_letter (ring_of wheel) letter), NotOnWheel)
-    ∷ []
+    (is_none (numbered_item m.letters wheel), SlotEmpty) ∷ (not (has_letter (ring_of wheel) letter), NotOnWheel) ∷ []
 refusal_reasons (Pin m) (PinTo wheel letter effective) = (not (has_letter (ring_of wheel) letter), NotOnWheel) ∷ []
 refusal_reasons (Pin m) (LugTo bar lug place) =
+    let moved = option_map (with_lug lug place) (numbered_item m.bars bar) in
     (is_none (numbered_item m.bars bar), NoSuchBar)
-    ∷ (option_map_or (is_same_place place) (other_place m bar lug) false, PlaceTaken)
-    ∷ (option_map_or (lies_beyond lug place) (other_place m bar lug) false, WouldPass)
-    ∷ []
+    ∷ (option_map_or (λ standing. is_same_place standing.0 standing.1) moved false, PlaceTaken)
+    ∷ (option_map_or (λ standing. nat_lt (place_rank standing.1) (place_rank standing.0)) moved false, WouldPass) ∷ []
+refusal_reasons _ _ = (true, OtherModel) ∷ []
 
 -- the first reason for which the machine refuses the setting; `None` if the machine carries the setting out
 abbrev pub why_refused : Parts → Setting → Option Why
@@ -125,26 +97,6 @@ cable_with letter cable = cable_in_order (option_or cable.0 cable.1) (Some lette
 abbrev pub seat_without : Wheel → Option Wheel → Option Wheel
 seat_without wheel seated = if option_map_or (same_wheel wheel) seated false then None else seated
 
--- the machine's window letters after this wheel is turned to this letter; unchanged if there is no wheel
-abbrev pub letters_with : RotorParts → Option Wheel → ℕ → List ℕ
-letters_with m None letter = m.letters
-letters_with m (Some wheel) letter = slice_set m.letters (place_in_box m.model wheel) letter
-
--- the standing after this lug is moved to this place
-abbrev pub with_lug : Lug → Place → Place × Place → Place × Place
-with_lug Left place bar = (place, bar.1)
-with_lug Right place bar = (bar.0, place)
-
--- The left lug is left of the right lug.
-abbrev pub HasLugsInOrder : Place × Place → Type 0
-HasLugsInOrder bar = IsBefore bar.0 bar.1
-
--- the machine's bars after this lug of this bar is moved to this place
-abbrev pub bars_with_lug : PinParts → ℕ → Lug → Place → List (Place × Place)
-bars_with_lug m bar lug place =
-    option_map_or (λ standing. slice_set m.bars (bar - 1) (with_lug lug place standing)) (numbered_item m.bars bar)
-    m.bars
-
 -- The machine after a setting that it doesn't refuse. A wheel that is put into a slot leaves its old slot, and
 -- the wheel that was in the new slot goes to the box. Both keep their rings and window letters.
 abbrev pub machine_after : Parts → Setting → Parts
@@ -157,17 +109,15 @@ machine_after (Rotor m) (Seat slot wheel) =
 machine_after (Rotor m) (SeatReflector reflector) = Rotor (record m { reflector = reflector })
 machine_after (Rotor m) (RingTo wheel letter) =
     Rotor (record m { rings = slice_set m.rings (place_in_box m.model wheel) letter })
-machine_after (Rotor m) (Turn slot letter) = Rotor (record m { letters = letters_with m (wheel_in_slot m slot) letter })
-machine_after (Rotor m) (PinTo wheel letter effective) = Rotor m
-machine_after (Rotor m) (LugTo bar lug place) = Rotor m
+machine_after (Rotor m) (Turn slot letter) =
+    let turned = λ (wheel : Wheel). slice_set m.letters (place_in_box m.model wheel) letter in
+    Rotor (record m { letters = option_map_or turned (wheel_in_slot m slot) m.letters })
 machine_after (Pin m) (Turn wheel letter) = Pin (record m { letters = slice_set m.letters (wheel - 1) letter })
 machine_after (Pin m) (PinTo wheel letter effective) = Pin (record m { pins = with_pin m.pins wheel letter effective })
-machine_after (Pin m) (LugTo bar lug place) = Pin (record m { bars = bars_with_lug m bar lug place })
-machine_after (Pin m) (Pull cable letter) = Pin m
-machine_after (Pin m) (Put cable letter) = Pin m
-machine_after (Pin m) (Seat slot wheel) = Pin m
-machine_after (Pin m) (SeatReflector reflector) = Pin m
-machine_after (Pin m) (RingTo wheel letter) = Pin m
+machine_after (Pin m) (LugTo bar lug place) =
+    let moved = λ (standing : Place × Place). slice_set m.bars (bar - 1) (with_lug lug place standing) in
+    Pin (record m { bars = option_map_or moved (numbered_item m.bars bar) m.bars })
+machine_after m _ = m
 
 -- ---- Settings carried out one after another, and the first that is refused.
 -- Code: `carry_all` is a loop that stops at the first setting that is refused.

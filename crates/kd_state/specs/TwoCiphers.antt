@@ -1,8 +1,9 @@
 -- The key of an engine, for either kind of machine, and the cipher that the engine makes by this key.
 -- Code: one type, `Engine`, serves all models.
 -- Test: kd_trials/src/state/engine.rt
-use Rattle.std.specs.Prelude.{◌≡◌, ◌≢◌, ℕ, List, length, map, All, IsSome, Option, Some, None}
+use Rattle.std.specs.Prelude.{◌≡◌, ◌≢◌, ℕ, List, length, map, All, IsSome}
 use Rattle.std.specs.List.{filter_map}
+use Rattle.std.specs.Option.{option_zip}
 use Rattle.kd_tables.specs.declared.wheel.Wheel.{Wheel}
 use Rattle.kd_tables.specs.Permutation.{exchange}
 use Rattle.kd_tables.specs.Places.{reading_of}
@@ -42,16 +43,11 @@ abbrev pub IsWindow : EngineKey → List ℕ → Type 0
 IsWindow (OfWheels key) window = AreLetters (length key.wheels) window
 IsWindow (OfDrum key) window = AreOnWheels window
 
--- ---- When a machine is ready, and which wheels, letters and pairs it has.
+-- ---- When a machine is ready, and which wheels and letters it has.
 
--- No slot is empty, and no cable has exactly one letter.
-pub record IsRotorReady (m : RotorParts) : Type 0 where
-  pub slots : All (λ seated. IsSome seated) m.slots
-  pub cables : All (λ cable. length (cable_letters cable) ≢ 1) m.cables
-
--- The machine is ready to encipher. A Converter is always ready.
+-- The machine is ready to encipher: no slot is empty, and no cable has exactly one letter. A Converter is always ready.
 abbrev pub IsReady : Parts → Type 0
-IsReady (Rotor m) = IsRotorReady m
+IsReady (Rotor m) = All (λ seated. IsSome seated) m.slots × All (λ cable. length (cable_letters cable) ≢ 1) m.cables
 IsReady (Pin m) = Unit {0}
 
 -- the wheels in the slots, from the left
@@ -63,34 +59,19 @@ abbrev pub window_of : Parts → List ℕ
 window_of (Rotor m) = filter_map (letter_at m) (seated_wheels m)
 window_of (Pin m) = m.letters
 
--- the pair of letters that a cable exchanges, if the cable has two letters
-abbrev pub pair_of_ends : Option ℕ → Option ℕ → Option (ℕ × ℕ)
-pair_of_ends (Some letter) (Some other) = Some (letter, other)
-pair_of_ends _ _ = None
-
--- the pairs of letters that the cables exchange
-abbrev pub plugged_pairs : RotorParts → List (ℕ × ℕ)
-plugged_pairs m = filter_map (λ cable. pair_of_ends cable.0 cable.1) m.cables
-
 -- ---- The cipher of a machine, by its slots, cables and lugs, and of a day, by its wheels, pairs and rows.
 -- Source: the published accounts of the current's path; War Department TM 11-380
 
--- The key of a machine as it stands. For a rotor machine: the wheels in its slots with their rings and
--- letters, its reflector, and its cables that have two letters. For a Converter: its pins, the letters that
--- it shows, and the readings of its bars.
+-- a machine's key as it stands: by its slots, reflector and cables with two letters, or by its pins, letters and bars
 abbrev pub physical_key : Parts → EngineKey
 physical_key (Rotor m) = OfWheels (record {
   wheels = seated_wheels m;
   rings = filter_map (ring_at m) (seated_wheels m);
   window = window_of (Rotor m);
   reflector = m.reflector;
-  plugs = exchange (plugged_pairs m);
+  plugs = exchange (filter_map (λ cable. option_zip cable.0 cable.1) m.cables);
 })
-physical_key (Pin m) = OfDrum (record {
-  pins = pins_of m.pins;
-  letters = m.letters;
-  rows = map (λ bar. reading_of bar.0 bar.1) m.bars;
-})
+physical_key (Pin m) = OfDrum (record { pins = pins_of m.pins; letters = m.letters; rows = map reading_of m.bars })
 
 -- the key that a day asks for, with the day's letters in the windows or on the pin wheels
 abbrev pub sheet_key : Day → EngineKey
@@ -103,8 +84,7 @@ sheet_key (OfRotors s) = OfWheels (record {
 })
 sheet_key (OfPins s) = OfDrum (record { pins = pins_of s.pins; letters = s.window; rows = s.rows })
 
--- the ciphertext that a ready machine makes: a rotor machine by its wheels, reflector and cables, a Converter
--- by its pins, letters and lugs
+-- the ciphertext that a ready machine makes: a rotor machine by its key, a Converter by its pins, letters and lugs
 abbrev pub physical_cipher : Parts → List ℕ → List ℕ
 physical_cipher (Rotor m) text = cipher (physical_key (Rotor m)) text
 physical_cipher (Pin m) text = lugs_cipher m text

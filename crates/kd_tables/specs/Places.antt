@@ -1,33 +1,30 @@
 -- A bar of the Converter M-209's drum: its eight places, and its two lugs.
 -- Test: bars_have_28_standings
-use Rattle.std.specs.Prelude.{codes, ◌≡◌, ℕ, ◌+◌, ◌<◌, ◌≤◌, nat_lt, min, max, List, [], ◌∷◌, ◌++◌, map, filter}
-use Rattle.std.specs.Prelude.{flat_map}
+use Rattle.std.specs.Prelude.{codes, ◌≡◌, ℕ, ◌+◌, ◌-◌, ◌<◌, ◌≤◌, nat_lt, min, max, List, [], ◌∷◌, ◌++◌, map, filter}
+use Rattle.std.specs.Prelude.{flat_map, slice_index}
 use Rattle.kd_tables.specs.declared.place.Place.{Place}
 use Rattle.kd_tables.specs.declared.place.Place.TheVariants.{One, ZeroLeft, Two, Three, Four, Five, ZeroRight, Six}
 use Rattle.kd_tables.specs.declared.lug.Lug.{Lug}
 use Rattle.kd_tables.specs.declared.lug.Lug.TheVariants as lugs
 
+-- the name of each place of a bar, and how many places are to its left
+abbrev pub place_table : Place → List ℕ × ℕ
+place_table One = (codes "1", 0)
+place_table ZeroLeft = (codes "0L", 1)
+place_table Two = (codes "2", 2)
+place_table Three = (codes "3", 3)
+place_table Four = (codes "4", 4)
+place_table Five = (codes "5", 5)
+place_table ZeroRight = (codes "0R", 6)
+place_table Six = (codes "6", 7)
+
 -- the name of a lug's place on a bar
 abbrev pub place_text : Place → List ℕ
-place_text One = codes "1"
-place_text ZeroLeft = codes "0L"
-place_text Two = codes "2"
-place_text Three = codes "3"
-place_text Four = codes "4"
-place_text Five = codes "5"
-place_text ZeroRight = codes "0R"
-place_text Six = codes "6"
+place_text place = (place_table place).0
 
--- the number of the pin wheel that acts at a place; 0 if no wheel does
+-- the number of the pin wheel that acts at a place; 0 if no wheel does: the digit in the place's name
 abbrev pub place_number : Place → ℕ
-place_number One = 1
-place_number ZeroLeft = 0
-place_number Two = 2
-place_number Three = 3
-place_number Four = 4
-place_number Five = 5
-place_number ZeroRight = 0
-place_number Six = 6
+place_number place = slice_index (place_text place) 0 - 48
 
 -- the places of a bar, from left to right
 abbrev pub places : List Place
@@ -35,14 +32,7 @@ places = One ∷ ZeroLeft ∷ Two ∷ Three ∷ Four ∷ Five ∷ ZeroRight ∷ 
 
 -- how many places of the bar are to the left of this place
 abbrev pub place_rank : Place → ℕ
-place_rank One = 0
-place_rank ZeroLeft = 1
-place_rank Two = 2
-place_rank Three = 3
-place_rank Four = 4
-place_rank Five = 5
-place_rank ZeroRight = 6
-place_rank Six = 7
+place_rank place = (place_table place).1
 
 -- The place `first` is to the left of the place `second`.
 abbrev pub IsBefore : Place → Place → Type 0
@@ -56,13 +46,9 @@ lug_text lugs.Right = codes "R"
 -- ---- How a bar can stand: the places of its left and its right lug.
 -- Code: `Standing::new` compares the two places; `Standing::from_text` splits a standing's text at the hyphen.
 
--- All standings of a bar: the places of its two lugs, with the left lug left of the right lug. Standings are
--- ordered by the left lug's place, then by the right lug's place.
+-- all standings of a bar, with the left lug left of the right lug, ordered by the left and then by the right place
 abbrev pub standings : List (Place × Place)
-standings =
-    flat_map
-    (λ left. map (λ right. (left, right)) (filter (λ right. nat_lt (place_rank left) (place_rank right)) places))
-    places
+standings = flat_map (λ l. map (λ r. (l, r)) (filter (λ r. nat_lt (place_rank l) (place_rank r)) places)) places
 
 -- a standing as text: the name of the left lug's place, `-`, and the name of the right lug's place
 abbrev pub standing_text : Place × Place → List ℕ
@@ -85,8 +71,8 @@ pub record IsReading (numbers : ℕ × ℕ) : Type 0 where
   pub equal : numbers.0 ≡ numbers.1 → numbers.0 ≡ 0
 
 -- the reading of a bar with its lugs at these places: the numbers of the wheels there, the smaller one first
-abbrev pub reading_of : Place → Place → ℕ × ℕ
-reading_of left right = smaller_first (place_number left) (place_number right)
+abbrev pub reading_of : Place × Place → ℕ × ℕ
+reading_of standing = smaller_first (place_number standing.0) (place_number standing.1)
 
 -- the digit for a number from 0 to 9
 abbrev pub digit_text : ℕ → List ℕ

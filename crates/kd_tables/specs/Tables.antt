@@ -16,49 +16,31 @@ use Rattle.kd_tables.specs.declared.model.Model.TheVariants.{EnigmaI, M3, M4, M2
 abbrev pub letters_of : List ℕ → List ℕ
 letters_of text = map (λ byte. byte - 65) text
 
+-- The name, the wiring and the notches of each wheel. The wiring: the letters that A to Z become as the current passes
+-- from right to left. A notch: if the wheel shows this letter, its next step also moves the wheel on its left.
+abbrev pub wheel_table : Wheel → List ℕ × List ℕ × List ℕ
+wheel_table I = (codes "I", codes "EKMFLGDQVZNTOWYHXUSPAIBRCJ", codes "Q")
+wheel_table II = (codes "II", codes "AJDKSIRUXBLHWTMCQGZNPYFVOE", codes "E")
+wheel_table III = (codes "III", codes "BDFHJLCPRTXVZNYEIWGAKMUSQO", codes "V")
+wheel_table IV = (codes "IV", codes "ESOVPZJAYQUIRHXLNFTGKDCMWB", codes "J")
+wheel_table V = (codes "V", codes "VZBRGITYUPSDNHLXAWMJQOFECK", codes "Z")
+wheel_table VI = (codes "VI", codes "JPGVOUMFYQBENHZRDKASXLICTW", codes "MZ")
+wheel_table VII = (codes "VII", codes "NZJHGRCXMYSWBOUFAIVLPEKQDT", codes "MZ")
+wheel_table VIII = (codes "VIII", codes "FKQHTLXOCBJSPDZRAMEWNIUYGV", codes "MZ")
+wheel_table Beta = (codes "Beta", codes "LEYJVCNIXWPBQMDRTAKZGFUHOS", codes "")
+wheel_table Gamma = (codes "Gamma", codes "FSOKANUERHMBTIYCWLQPZXVGJD", codes "")
+
 -- the name of a wheel
 abbrev pub wheel_text : Wheel → List ℕ
-wheel_text I = codes "I"
-wheel_text II = codes "II"
-wheel_text III = codes "III"
-wheel_text IV = codes "IV"
-wheel_text V = codes "V"
-wheel_text VI = codes "VI"
-wheel_text VII = codes "VII"
-wheel_text VIII = codes "VIII"
-wheel_text Beta = codes "Beta"
-wheel_text Gamma = codes "Gamma"
+wheel_text wheel = (wheel_table wheel).0
 
--- the wiring of a wheel: the letters that A to Z become when the current passes from right to left
+-- the wiring of a wheel
 unfoldable pub wiring_of : Wheel → List ℕ
-wiring_of I = letters_of (codes "EKMFLGDQVZNTOWYHXUSPAIBRCJ")
-wiring_of II = letters_of (codes "AJDKSIRUXBLHWTMCQGZNPYFVOE")
-wiring_of III = letters_of (codes "BDFHJLCPRTXVZNYEIWGAKMUSQO")
-wiring_of IV = letters_of (codes "ESOVPZJAYQUIRHXLNFTGKDCMWB")
-wiring_of V = letters_of (codes "VZBRGITYUPSDNHLXAWMJQOFECK")
-wiring_of VI = letters_of (codes "JPGVOUMFYQBENHZRDKASXLICTW")
-wiring_of VII = letters_of (codes "NZJHGRCXMYSWBOUFAIVLPEKQDT")
-wiring_of VIII = letters_of (codes "FKQHTLXOCBJSPDZRAMEWNIUYGV")
-wiring_of Beta = letters_of (codes "LEYJVCNIXWPBQMDRTAKZGFUHOS")
-wiring_of Gamma = letters_of (codes "FSOKANUERHMBTIYCWLQPZXVGJD")
-
--- the notches of a wheel, as letters: if the wheel shows one of them, the wheel's next step also moves the wheel
--- on its left
-abbrev pub notches_of : Wheel → List ℕ
-notches_of I = letters_of (codes "Q")
-notches_of II = letters_of (codes "E")
-notches_of III = letters_of (codes "V")
-notches_of IV = letters_of (codes "J")
-notches_of V = letters_of (codes "Z")
-notches_of VI = letters_of (codes "MZ")
-notches_of VII = letters_of (codes "MZ")
-notches_of VIII = letters_of (codes "MZ")
-notches_of Beta = []
-notches_of Gamma = []
+wiring_of wheel = letters_of (wheel_table wheel).1
 
 -- whether the wheel is at a notch when this letter shows in the wheel's window
 abbrev pub is_notch : Wheel → ℕ → Bool
-is_notch wheel letter = list_any (λ notch. notch == letter) (notches_of wheel)
+is_notch wheel letter = list_any (λ notch. notch == letter) (letters_of (wheel_table wheel).2)
 
 -- ---- Reflectors: their names and their wirings.
 -- Source: the published wirings
@@ -99,26 +81,19 @@ slots_of M3 = 3
 slots_of M4 = 4
 slots_of M209 = 0
 
--- whether `number` is from `first` to `last`
-abbrev pub is_from_to : ℕ → ℕ → ℕ → Bool
-is_from_to first last number = nat_le first number && nat_le number last
-
--- The wheels that may be in a slot. Slots are counted from 1, from the left. The list is empty for a slot
--- that the model lacks.
+-- the wheels that may be in a slot, which is counted from 1, from the left; none for a slot that the model lacks
 abbrev pub wheels_for : Model → ℕ → List Wheel
-wheels_for EnigmaI slot = if is_from_to 1 3 slot then I ∷ II ∷ III ∷ IV ∷ V ∷ [] else []
-wheels_for M3 slot = if is_from_to 1 3 slot then I ∷ II ∷ III ∷ IV ∷ V ∷ VI ∷ VII ∷ VIII ∷ [] else []
+wheels_for EnigmaI slot = if nat_le 1 slot && nat_le slot 3 then I ∷ II ∷ III ∷ IV ∷ V ∷ [] else []
+wheels_for M3 slot = if nat_le 1 slot && nat_le slot 3 then I ∷ II ∷ III ∷ IV ∷ V ∷ VI ∷ VII ∷ VIII ∷ [] else []
 wheels_for M4 slot =
     if slot == 1 then Beta ∷ Gamma ∷ []
-    else (if is_from_to 2 4 slot then I ∷ II ∷ III ∷ IV ∷ V ∷ VI ∷ VII ∷ VIII ∷ [] else [])
+    else (if nat_le 2 slot && nat_le slot 4 then I ∷ II ∷ III ∷ IV ∷ V ∷ VI ∷ VII ∷ VIII ∷ [] else [])
 wheels_for M209 slot = []
 
 -- the box of a model: all wheels that may be in the model's slots, from I to VIII, then Beta and Gamma
 abbrev pub box_of : Model → List Wheel
-box_of EnigmaI = wheels_for EnigmaI 1
-box_of M3 = wheels_for M3 1
 box_of M4 = wheels_for M4 2 ++ wheels_for M4 1
-box_of M209 = []
+box_of model = wheels_for model 1
 
 -- The wheel may be in this slot of the model.
 abbrev pub IsAllowed : Model → ℕ → Wheel → Type 0

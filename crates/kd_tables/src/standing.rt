@@ -75,7 +75,7 @@ impl Standing {
 
     /// The bar's reading: the numbers of the pin wheels at the bar's two lugs, 0 for a place without a wheel.
     pub fn reading(self) -> Reading
-        ensures { result ≡ reading_of self.0 self.1 }
+        ensures { result ≡ reading_of self }
     {
         Reading::new(self.left.number(), self.right.number()).unwrap()
     }

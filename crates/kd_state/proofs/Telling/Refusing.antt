@@ -2,10 +2,10 @@
 pub mod Changing
 unfoldable pub use Changing.*
 pub use Rattle.kd_state.proofs.Prelude.{RefusalsAreTold, HasAllPins, Carries, Leads, HasLugsInOrder, has_letter}
-pub use Rattle.kd_state.proofs.Prelude.{has_both_ends, NoLooseEnd, NoSuchBar, NoSuchCable, NotOnWheel, NotThere}
+pub use Rattle.kd_state.proofs.Prelude.{NoLooseEnd, NoSuchBar, NoSuchCable, NotOnWheel, NotThere}
 pub use Rattle.kd_state.proofs.Prelude.{OtherModel, PlaceTaken, SlotEmpty, SocketTaken, WheelNotAllowed, IsAllowed}
 pub use Rattle.kd_state.proofs.Prelude.{Reflector, false_from_ne_true, false≢true, All-head, slice_get-get_or, take}
-pub use Rattle.kd_state.proofs.Prelude.{get_or, ◌++◌, Decides, IsSome}
+pub use Rattle.kd_state.proofs.Prelude.{get_or, ◌++◌, Decides, IsSome, ◌&&◌}
 pub use Rattle.std.proofs.{Math.Seq.drop-cons, lemmas.List.{length-take-le, take-append-drop, take_more}}
 pub use Rattle.kd_state.proofs.{Prelude.is_some, Prelude.MatchOption, Prelude.not, Slots.is_some-place_on}
 pub use Rattle.kd_state.specs.Setting.{IsFirstIllegal}
@@ -105,7 +105,8 @@ loose_in : {P : Type 0} (cable : Option ℕ × Option ℕ) (taken : Bool) → De
 loose_in cable taken tells few = grind (arith, few, no_reason, false, false_from_ne_true, tells.0)
 
 put_allowed : {P : Type 0} (found : Option (Option ℕ × Option ℕ)) (taken : Bool) → Decides taken P
-    → (first_reason ((is_none found, NoSuchCable) ∷ (has_both_ends (unwrap_or found (None, None)), NoLooseEnd)
+    → (let cable = unwrap_or found (None, None) in
+    first_reason ((is_none found, NoSuchCable) ∷ (is_some cable.0 && is_some cable.1, NoLooseEnd)
     ∷ (taken, SocketTaken) ∷ []) ≡ None)
     ↔ (((held : Option ℕ × Option ℕ) × (found ≡ Some held) × (length (cable_letters held) < 2)) × ¬ P)
 put_allowed found taken e = grind (arith, none-some, loose_in, same_Some)
@@ -133,16 +134,16 @@ pin_told m wheel letter all =
       λ some. grind (arith, is_some-place_on (ring_of wheel) letter),
     )
 
-HasLugsInOrder-tests : (lug : Lug) (place : Place) (bar : Place × Place) → HasLugsInOrder (with_lug lug place bar)
-    → (is_same_place place (lug_place (other_lug lug) bar) ≡ false)
-    × (lies_beyond lug place (lug_place (other_lug lug) bar) ≡ false)
-HasLugsInOrder-tests lug place bar e = grind arith
+HasLugsInOrder-tests : (bar : Place × Place) → HasLugsInOrder bar
+    → (is_same_place bar.0 bar.1 ≡ false) × (nat_lt (place_rank bar.1) (place_rank bar.0) ≡ false)
+HasLugsInOrder-tests bar e = grind arith
 
 abbrev lug_reasons : Lug → Place → Option (Place × Place) → List (Bool × Why)
 lug_reasons lug place found =
+    let moved = option_map (with_lug lug place) found in
     (is_none found, NoSuchBar)
-    ∷ (option_map_or (is_same_place place) (option_map (lug_place (other_lug lug)) found) false, PlaceTaken)
-    ∷ (option_map_or (lies_beyond lug place) (option_map (lug_place (other_lug lug)) found) false, WouldPass)
+    ∷ (option_map_or (λ bar. is_same_place bar.0 bar.1) moved false, PlaceTaken)
+    ∷ (option_map_or (λ bar. nat_lt (place_rank bar.1) (place_rank bar.0)) moved false, WouldPass)
     ∷ []
 
 lug_allowed : (lug : Lug) (place : Place) (found : Option (Place × Place))

@@ -1,14 +1,14 @@
 //! Whether a machine is ready to encipher, and the engine of a ready machine.
 ghost use Rattle.std.specs.Prelude.{◌≡◌, ◌≢◌, ◌↔◌, ◌<◌, ◌≤◌, ◌+◌, ◌++◌, length, map, filter_map, All, Contains, IsTrue};
 ghost use Rattle.std.specs.Prelude.{IsSome, IfSome, MatchOption, Some, None};
-ghost use Rattle.std.specs.Option.{option_to_list};
+ghost use Rattle.std.specs.Option.{option_to_list, option_zip};
 ghost use Rattle.arrayvec.specs.ArrayVec.{array_vec_len};
 ghost use Rattle.kd_tables.specs.Permutation.{exchange};
 ghost use Rattle.kd_tables.specs.Refusals.{refusal_name};
 ghost use Rattle.kd_tables.specs.Tables.{box_of};
 ghost use Rattle.kd_state.specs.Machine.{cable_letters, AreCables, IsLegalRotor};
 ghost use Rattle.kd_state.specs.Seated.{wheel_in_seat};
-ghost use Rattle.kd_state.specs.TwoCiphers.{pair_of_ends, IsRotorReady, physical_key};
+ghost use Rattle.kd_state.specs.TwoCiphers.{IsReady, physical_key};
 
 use super::Engine;
 use crate::machine::Machine;
@@ -76,7 +76,7 @@ impl Machine {
 #[tactic(auto, using(crate::proofs::Seating::not_ready))]
 fn rotor_engine(parts: &RotorParts) -> Option<Engine>
     requires { IsLegalRotor parts.now }
-    ensures ready { IsSome result ↔ IsRotorReady parts.now }
+    ensures ready { IsSome result ↔ IsReady (Parts.Rotor parts.now) }
     ensures key { IfSome result (λ engine. engine ≡ physical_key (Parts.Rotor parts.now)) }
 {
     let wheels = seated_wheels(parts)?;
@@ -115,12 +115,11 @@ fn seated_wheel(parts: &RotorParts, seated: Option<Wheel>) -> Option<SheetWheel>
 }
 
 /// The plugs that exchange letters as the cables do. `None` if a cable has exactly one letter.
-#[tactic(auto, using(crate::proofs::Cables::no_letter_twice))]
 fn plugs_of(cables: &[Cable; 13]) -> Option<Plugs>
     requires { AreCables cables.now }
     ensures ready { IsSome result ↔ All (λ cable. length (cable_letters cable) ≢ 1) cables.now }
     ensures plugs { IfSome result
-        (λ plugs. plugs ≡ exchange (filter_map (λ cable. pair_of_ends cable.0 cable.1) cables.now)) }
+        (λ plugs. plugs ≡ exchange (filter_map (λ cable. option_zip cable.0 cable.1) cables.now)) }
 {
     if !have_no_single_letter(cables) {
         return None;
@@ -139,7 +138,7 @@ fn have_no_single_letter(cables: &[Cable; 13]) -> bool
 
 /// The pairs of letters in the cables that have two letters.
 fn plugged_pairs(cables: &[Cable; 13]) -> ArrayVec<(Letter, Letter), 13>
-    ensures { result.items ≡ filter_map (λ cable. pair_of_ends cable.0 cable.1) cables.now }
+    ensures { result.items ≡ filter_map (λ cable. option_zip cable.0 cable.1) cables.now }
 {
     let mut pairs = ArrayVec::new();
     for cable in cables {
@@ -152,7 +151,7 @@ fn plugged_pairs(cables: &[Cable; 13]) -> ArrayVec<(Letter, Letter), 13>
 fn push_pair(pairs: &mut ArrayVec<(Letter, Letter), 13>, cable: Cable)
     requires { array_vec_len pairs.old < 13 }
     ensures pairs { pairs.new.items
-        ≡ pairs.old.items ++ option_to_list (pair_of_ends cable.0 cable.1) }
+        ≡ pairs.old.items ++ option_to_list (option_zip cable.0 cable.1) }
     ensures at_most_one { array_vec_len pairs.new ≤ array_vec_len pairs.old + 1 }
 {
     if let (Some(one), Some(other)) = cable {

@@ -1,7 +1,8 @@
 //! Carries settings out on a Converter M-209.
 //!
 //! A setting that is refused changes nothing. The error is the first reason to refuse it.
-ghost use Rattle.kd_state.specs.Setting.{IsCarryAnswer, lug_place, other_lug, is_same_place, with_lug, HasLugsInOrder};
+ghost use Rattle.kd_state.specs.Changes.{HasLugsInOrder};
+ghost use Rattle.kd_state.specs.Setting.{IsCarryAnswer, is_same_place, with_lug};
 ghost use Rattle.std.specs.Prelude.{◌≡◌, ◌↔◌, IsSome, IfSome};
 
 use crate::machine::parts::Parts;
@@ -64,8 +65,7 @@ impl PinParts {
         let Some(standing) = numbered_item(&self.bars, bar) else {
             return Err(Why::NoSuchBar);
         };
-        let other = other_place(standing, lug);
-        if is_same_place(place, other) {
+        if is_taken(standing, lug, place) {
             return Err(Why::PlaceTaken);
         }
         let Some(moved) = with_lug(standing, lug, place) else {
@@ -76,21 +76,14 @@ impl PinParts {
     }
 }
 
-/// The place, in `standing`, of the lug that isn't `lug`.
-fn other_place(standing: Standing, lug: Lug) -> Place
-    ensures { result ≡ lug_place (other_lug lug) standing }
+/// Whether the lug of `standing` that isn't `lug` is at `place`.
+fn is_taken(standing: Standing, lug: Lug, place: Place) -> bool
+    ensures { let moved = with_lug lug place standing in result ≡ is_same_place moved.0 moved.1 }
 {
     match lug {
-        Lug::Left => standing.right(),
-        Lug::Right => standing.left(),
+        Lug::Left => place == standing.right(),
+        Lug::Right => standing.left() == place,
     }
-}
-
-/// Whether the two places are the same.
-fn is_same_place(place: Place, other: Place) -> bool
-    ensures { result ≡ is_same_place place other }
-{
-    place == other
 }
 
 /// `standing` with `lug` moved to `place`; `None` if the left lug would no longer be left of the right lug.

@@ -1,4 +1,4 @@
-use Rattle.kd_card.proofs.Prelude.{◌≡◌, ◌∙◌, OfRotors, Rotor, ap, arith, loose_letters, loose_rings, loose_slots, sym}
+use Rattle.kd_card.proofs.Prelude.{◌≡◌, ◌∙◌, OfRotors, Rotor, ap, arith, sym}
 use Rattle.kd_state.specs.Entry.{rotor_values, values_of}
 use Rattle.kd_card.proofs.loose.loose_count.Goals as goal
 
@@ -9,8 +9,8 @@ returns-in-Rotor-Rotor-clause-value c =
     let machine : c.args.machine.now ≡ Rotor m = sym c.parts.ensures.parts ∙ c.in-Rotor-Rotor.is-0 in
     let day : c.args.day.now ≡ OfRotors s = sym c.entry.ensures.value ∙ ap values_of c.in-Rotor-Rotor.is-1 in
     let wheels = c.as_slice-wheels.ensures.value in
-    let slots : c.loose_slots-slots.result ≡ loose_slots m s =
+    let slots =
     rw (c.as_slice.ensures.value, wheels) at c.loose_slots-slots.ensures.value in
-    let rings : c.loose_rings.result ≡ loose_rings m s = rw (machine, wheels) at c.loose_rings.ensures.value in
-    let letters : c.loose_letters.result ≡ loose_letters m s = rw (machine, wheels) at c.loose_letters.ensures.value in
+    let rings = rw (machine, wheels) at c.loose_rings.ensures.value in
+    let letters = rw (machine, wheels) at c.loose_letters.ensures.value in
     rw (machine, day) (omega (arith, slots, c.loose_reflector-reflector.ensures.value, rings, letters))

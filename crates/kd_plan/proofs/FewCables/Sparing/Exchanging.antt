@@ -18,7 +18,7 @@ pub use Rattle.kd_plan.specs.Spares.{SparesStayFree, is_spare, spare_count, spar
 pub use Rattle.kd_plan.specs.declared.cable_lines.CableMove.TheVariants.{Out}
 pub use Rattle.kd_state.proofs.CostTable.{columns_are_the_pairs}
 pub use Rattle.kd_state.proofs.Slots.{numbered_other, IsNumbered-not_none}
-pub use Rattle.kd_state.specs.Costs.{cable_cost, cable_costs, columns_of, exactly_one, lies_in_exactly_one}
+pub use Rattle.kd_state.specs.Costs.{cable_cost, cable_costs, column_letters, columns_of, exactly_one}
 pub use Rattle.kd_state.specs.Machine.{model_of}
 pub use Rattle.kd_state.specs.Setting.{Leads, cable_at, machine_after, has_letter}
 pub use Rattle.kd_state.specs.SheetDay.{Day, IsLegalDay, day_model}
@@ -72,6 +72,10 @@ cond-exchanged : (p q : Bool)
     → cond {A = ℕ} (exactly_one false false) 1 0 + cond (exactly_one p q) 1 0
     ≤ cond (exactly_one false q) 1 0 + cond (exactly_one p false) 1 0
 cond-exchanged p q = grind arith
+
+abbrev lies_in_exactly_one : Cable → Column → ℕ → Bool
+lies_in_exactly_one cable column letter =
+    exactly_one (has_letter (cable_letters cable) letter) (has_letter (column_letters column) letter)
 
 -- Two cables cost no more after the exchange: `cable` becomes the pair, and `spare` the column without a pair.
 cable_cost-exchanged : (spare cable : Cable) (column : Column) → is_spare spare ≡ true

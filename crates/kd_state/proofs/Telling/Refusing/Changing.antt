@@ -6,9 +6,9 @@ pub use Rattle.kd_state.proofs.Prelude.{SettingsAreTold, SettingsKeepMachines, I
 pub use Rattle.kd_state.proofs.Prelude.{AreSeatedOnce, AreCables, AreLetters, AreOnWheels, IsLegalPin, IsLegalRotor}
 pub use Rattle.kd_state.proofs.Prelude.{IsMachine, IsSeatedAt, cable_letters, with_cables_in_order, letter_at}
 pub use Rattle.kd_state.proofs.Prelude.{cable_in_order, letters_in_cables, pin_at, pin_set, wheel_pins, with_pin}
-pub use Rattle.kd_state.proofs.Prelude.{cable_at, cable_with, cable_without, machine_after, is_same_place, lies_beyond}
-pub use Rattle.kd_state.proofs.Prelude.{lug_place, other_lug, refusal_reasons, why_refused, letters_with, with_lug}
-pub use Rattle.kd_state.proofs.Prelude.{bars_with_lug, seat_without, Parts, Pin, Rotor, PinParts, RotorParts, Setting}
+pub use Rattle.kd_state.proofs.Prelude.{cable_at, cable_with, cable_without, machine_after, is_same_place}
+pub use Rattle.kd_state.proofs.Prelude.{lug_place, other_lug, refusal_reasons, why_refused, with_lug}
+pub use Rattle.kd_state.proofs.Prelude.{seat_without, Parts, Pin, Rotor, PinParts, RotorParts, Setting}
 pub use Rattle.kd_state.proofs.Prelude.{LugTo, PinTo, Pull, Put, RingTo, Seat, SeatReflector, Turn, Why, WouldPass}
 pub use Rattle.kd_state.proofs.Prelude.{IsBefore, place_on, box_of, reflectors_of, wheels_for, Lug, Model, Place, Wheel}
 pub use Rattle.kd_state.proofs.Prelude.{both_ways, cases_Bool, cases_eq, eqb-false, not-false, true_from_ne_false}
@@ -23,6 +23,8 @@ pub use Rattle.kd_state.proofs.Prelude.{length, map, nat_eq, refl, rules, set, s
 pub use Rattle.kd_state.proofs.Prelude.{ℕ, ◌+◌, ◌-◌, ◌<◌, ◌↔◌, ◌∙◌, ◌∷◌, ◌≡◌, ◌≢◌, ◌≤◌, ◌⊎◌, common_steps, IsDistinct}
 pub use Rattle.kd_state.proofs.Slots.{numbered_here, numbered_other, seated_in_box, has_letter-Decides, place_there}
 pub use Rattle.kd_state.proofs.{Prelude.IsPermutation, Slots.{only_place, IsNumbered-not_none, set_here, set_other}}
+pub use Rattle.kd_tables.specs.Places.{place_rank}
+pub use Rattle.std.specs.Prelude.{nat_lt}
 pub use Rattle.std.proofs.lemmas.Map.Keys.{IsDistinct-IsPermutation, IsDistinct-head, IsDistinct-tail, IsDistinct-cons}
 pub use Rattle.kd_state.proofs.Cables.{all_ordered, all_ordered_move, all_ordered_again, ordered_again, without_ordered}
 pub use Rattle.kd_state.proofs.Cables.{without_moves, with_moves, set_moves, eqb_flips, has_letter-AllByRecursion}
@@ -150,6 +152,11 @@ keeps_letters : (m : RotorParts) (wheel : Wheel) (letters : List ℕ)
     → SetsOnly (TheLetter wheel) (Rotor m) (Rotor (record m { letters = letters }))
 keeps_letters m wheel letters same = grind (arith, same)
 
+-- the window letters after the wheel is turned, if there is one
+abbrev pub letters_with : RotorParts → Option Wheel → ℕ → List ℕ
+letters_with m seated letter =
+    option_map_or (λ wheel. set m.letters (place_in_box m.model wheel) letter) seated m.letters
+
 is_seated : (held : Option (Option Wheel)) → is_none (unwrap_or held None) ≡ false
     → (wheel : Wheel) × (held ≡ Some (Some wheel))
 is_seated held e = grind arith
@@ -177,11 +184,14 @@ lug_set : (lug : Lug) (place : Place) (bar : Place × Place)
     × (lug_place (other_lug lug) (with_lug lug place bar) ≡ lug_place (other_lug lug) bar)
 lug_set lug place bar = grind arith
 
-pub still_before : (lug : Lug) (place : Place) (bar : Place × Place)
-    → is_same_place place (lug_place (other_lug lug) bar) ≡ false
-    → lies_beyond lug place (lug_place (other_lug lug) bar) ≡ false
-    → IsBefore (with_lug lug place bar).0 (with_lug lug place bar).1
-still_before lug place bar e d = grind arith
+-- the bars after this lug of bar `number` is moved to this place
+abbrev pub bars_with_lug : PinParts → ℕ → Lug → Place → List (Place × Place)
+bars_with_lug m number lug place =
+    option_map_or (λ bar. set m.bars (number - 1) (with_lug lug place bar)) (numbered_item m.bars number) m.bars
+
+pub still_before : (bar : Place × Place) → is_same_place bar.0 bar.1 ≡ false
+    → nat_lt (place_rank bar.1) (place_rank bar.0) ≡ false → IsBefore bar.0 bar.1
+still_before bar e d = grind arith
 
 keeps_bars : (m : PinParts) (bar : ℕ) (new : Place × Place) → 1 ≤ bar
     → SetsOnly (TheBar bar) (Pin m) (Pin (record m { bars = set m.bars (bar - 1) new }))
@@ -196,7 +206,7 @@ keeps_bars m bar new first = record {
 -- a lug that would end on the wrong side of the other lug is refused
 pub would_pass : (m : PinParts) (bar : ℕ) (lug : Lug) (place : Place) (standing : Place × Place)
     → numbered_item m.bars bar ≡ Some standing
-    → is_same_place place (lug_place (other_lug lug) standing) ≡ false
+    → is_same_place (with_lug lug place standing).0 (with_lug lug place standing).1 ≡ false
     → ¬ (IsBefore (with_lug lug place standing).0 (with_lug lug place standing).1)
     → why_refused (Pin m) (LugTo bar lug place) ≡ Some WouldPass
 would_pass m bar lug place standing here apart not_before = grind (arith, true_from_ne_false, not_before, still_before)

@@ -40,7 +40,7 @@ pub use Rattle.kd_state.specs.{Setting.{are_new_letters, has_letter}}
 pub use Rattle.kd_state.specs.{declared.sheet_day.rotor_entry.SheetWheel.SheetWheel}
 pub use Rattle.kd_state.specs.SheetDay.{IsLegalRotorDay, OfPins, OfRotors, PinDay, RotorDay, day_number}
 pub use Rattle.kd_state.specs.SheetDay.{seats_of_wheels}
-pub use Rattle.{kd_state.specs.SameParts.{has_reflector, numbered_item}, std.proofs.Math.Bool.{and-false, or-true}}
+pub use Rattle.{kd_state.specs.SameParts.{same_reflector, numbered_item}, std.proofs.Math.Bool.{and-false, or-true}}
 pub use Rattle.kd_state.specs.declared.machine.parts.Parts.{TheVariants.{Pin, Rotor}, Parts}
 pub use Rattle.kd_state.specs.declared.machine.{pin_parts.PinParts.PinParts, rotor_parts.RotorParts.RotorParts}
 pub use Rattle.kd_tables.specs.Places.{IsBefore, IsReading, digit_text, place_rank, reading_text, standing_text}
