@@ -5,8 +5,8 @@ pub use Rattle.std.proofs.Common.{Bool, Contains, FitsSigned, List, MatchOption,
 pub use Rattle.std.proofs.Common.{append_assoc, arith, below_more, cond, count_by, eqb, false, get_or, inl, inr, length}
 pub use Rattle.std.proofs.Common.{length-append, length-drop, ltb, max, min, of_z, pos, refl, replicate, rules, set}
 pub use Rattle.std.proofs.Common.{slice_get, subst, suc, sym, to_z, true, unsigned_abs, unwrap_or, w16, w32, zero, ℕ, ℤ}
-pub use Rattle.std.proofs.Common.{◌++◌, ◌+ℤ◌, ◌+◌, ◌-◌, ◌<◌, ◌^◌, ◌∙◌, ◌∷◌, ◌≡◌, ◌≢◌, ◌≤◌, ◌⊎◌}
-pub use Rattle.std.proofs.lemmas.Bool.{cases_lt, cases_order, eq-eqb, eqb-false, false≢true, le-ltb, lt-ltb, ne_eqb}
+pub use Rattle.std.proofs.Common.{◌++◌, ◌+ℤ◌, ◌+◌, ◌-◌, ◌*◌, ◌<◌, ◌^◌, ◌∙◌, ◌∷◌, ◌≡◌, ◌≢◌, ◌≤◌, ◌⊎◌}
+pub use Rattle.std.proofs.lemmas.Bool.{cases_lt, cases_order, eq-eqb, eqb-false, false≢true, le-ltb, lt-ltb, ne_eqb, true≢false}
 pub use Rattle.std.proofs.lemmas.{Bool.Decides.{Decides-int_eq, nat_tests}, Grind.common_steps}
 pub use Rattle.std.proofs.lemmas.Int.{ints, to_z-of_z, to_z_pos}
 pub use Rattle.std.proofs.lemmas.List.{append-nil, drop_all, drop_more, ext_get_or, get_or-map, get_or-set_other}
@@ -16,7 +16,7 @@ pub use Rattle.std.proofs.lemmas.List.Elements.{All-cons, All-contains, All-cont
 pub use Rattle.std.proofs.lemmas.List.Elements.{All-from_recursion, All-get_or, All-head, All-map, All-more, All-nil}
 pub use Rattle.std.proofs.lemmas.List.Elements.{All-push, All-same, All-tail, All-weaker, recursion_from_All}
 pub use Rattle.std.proofs.lemmas.Option.{slice_get-get_or, slice_get_past, unwrap_or-slice_get}
-pub use Rattle.std.specs.{List.{All, AllByRecursion}, Prelude.{drop, map, take, ◌↔◌, Err, IfErr, IsOk, Ok, Result}}
+pub use Rattle.std.specs.{List.{All, AllByRecursion}, Prelude.{drop, map, take, ◌↔◌, Err, IfErr, IfOk, IsOk, Ok, Result}}
 pub use Rattle.kd_card.specs.Kinds.{AreEnds, AreKinds, AreKindsOf, ComesAfter, IsKind, IsPairInOrder, Sort, bar_sort}
 pub use Rattle.kd_card.specs.Kinds.{cable_sort, expansion, pair_sort, row_sort}
 pub use Rattle.kd_card.proofs.Shortest.{no_rotors, proving_cards_are_shortest, proving_prices_are_tight}
@@ -31,8 +31,7 @@ pub use Rattle.{kd_enigma.specs.Plugs.{NoLetterTwice, letters_in_pairs}, kd_pric
 pub use Rattle.kd_prices.specs.Doubt.{AreNumbered, AreOfOneModel, IsFirstNeedless, IsFirstTooHigh, IsFirstWithout}
 pub use Rattle.kd_prices.specs.Fitting.{ListsFitAt, FitsAtColumn}
 pub use Rattle.kd_prices.specs.KindCards.{AreByKind, CanBeByKind, IsByKind}
-pub use Rattle.kd_prices.specs.Grouping.{AreGroupsOf, AreInOrder, AreRunsOf, ArePricesOf, Ascend}
-pub use Rattle.kd_prices.specs.Grouping.{HaveOnePriceEach, IsPriceOf}
+pub use Rattle.kd_prices.specs.Grouping.{HaveOnePriceEach, IsFine, CanBeKinds, AppendsKinds, first_of}
 pub use Rattle.kd_prices.specs.Laws.{AlikePricesAreEqual, AreEqualWhereAlike, RestIsShortest}
 pub use Rattle.kd_prices.specs.declared.doubt.Doubt.TheVariants.{IllegalAt, NeedlessLine, NotTheSheet, OtherModel}
 pub use Rattle.kd_prices.specs.declared.doubt.Doubt.TheVariants.{PriceMissing, PriceTooHigh, SumDiffers}
