@@ -1,22 +1,12 @@
 -- When prices by number, one for each thing, can become prices by kind, one for equal things; and which these are.
 use Rattle.std.specs.Prelude.{IsPermutation, IfSome}
-use Rattle.std.specs.{List.{zip}, Cmp.{IsTotalOrder}}
-use Rattle.std.specs.declared.cmp.Ordering.{Ordering}
-use Rattle.std.specs.declared.cmp.Ordering.TheVariants.{Less}
+use Rattle.std.specs.List.{zip}
 use Rattle.std.proofs.lemmas.Slice.Zip.{get_or-zip, length-zip}
 use Rattle.kd_card.specs.declared.kinds.CableKind.{CableKind}
 use Rattle.kd_card.specs.declared.kinds.PairKind.{PairKind}
 use Rattle.kd_card.specs.declared.kinds.BarKind.{BarKind}
 use Rattle.kd_card.specs.declared.kinds.RowKind.{RowKind}
 use Rattle.kd_card.specs.{CardText.IsGroup}
-use Rattle.kd_card.specs.contracts.thing.EndsOrd.TheImpl as ends
-use Rattle.kd_card.specs.contracts.thing.ColumnOrd.TheImpl as pairs
-use Rattle.kd_tables.specs.contracts.standing.StandingOrd.TheImpl as standings
-use Rattle.kd_tables.specs.contracts.reading.ReadingOrd.TheImpl as readings
-use Rattle.kd_card.specs.contracts.kinds.CableKindKind.TheImpl as cable_kind
-use Rattle.kd_card.specs.contracts.kinds.PairKindKind.TheImpl as pair_kind
-use Rattle.kd_card.specs.contracts.kinds.BarKindKind.TheImpl as bar_kind
-use Rattle.kd_card.specs.contracts.kinds.RowKindKind.TheImpl as row_kind
 use Rattle.kd_card.proofs.KindPrices.{cables_are_prices, bars_are_prices}
 use Rattle.kd_state.specs.{Machine.{model_of}, SheetDay.{day_model, RotorDay, PinDay}}
 use Rattle.kd_state.specs.declared.machine.rotor_parts.RotorParts.{RotorParts}
@@ -28,7 +18,7 @@ use Rattle.kd_prices.proofs.Prelude.{columns_of, columns_in_order, pair_in_order
 use Rattle.kd_prices.proofs.Prelude.{AreByKind, Expanded, HaveOnePriceEach, IsFine, price_at, Sort, AreKinds, AreKindsOf, expansion, All}
 use Rattle.kd_prices.proofs.InForm.{cables_are_in_form, columns_are_in_form}
 use Rattle.kd_prices.proofs.AlikeThings.{AreTold, cables_told, columns_told, each_told, one_price_is}
-use Rattle.kd_prices.proofs.Runs.{one_price}
+use Rattle.kd_prices.proofs.Runs.{IsStrict, one_price, cables_strict, pairs_strict, bars_strict, rows_strict}
 use Rattle.std.proofs.lemmas.List.Sorted.{length_permutation, Contains-permutation}
 use Rattle.kd_prices.proofs.Taking.{size}
 
@@ -46,12 +36,11 @@ record AreKindsFor {K X : Type 0} (sort : Sort K X) (things : List X) (n : ℕ) 
   valid : ((i k : ℕ) → i < n → k < n → Alike i k → price_at prices i ≡ price_at prices k) → IsGroup sort n kinds
   equal : IsGroup sort n kinds → (i k : ℕ) → i < n → k < n → Alike i k → price_at prices i ≡ price_at prices k
 
-are_kinds_for : {K X : Type 0} (sort : Sort K X) (cmp : X → X → Ordering) (order : IsTotalOrder cmp)
-    (ordered : (x y : X) → sort.ComesBefore x y ↔ (cmp x y ≡ Less)) (things : List X) (d : X)
+are_kinds_for : {K X : Type 0} (sort : Sort K X) (order : IsStrict sort.ComesBefore) (things : List X) (d : X)
     (Alike : ℕ → ℕ → Type 0) → AreTold things d Alike → All sort.InForm things → (n : ℕ) → length things ≡ n
     → (prices : List ℤ) → length prices ≡ n → ArePricesInRange prices → (kinds : List K)
     → AreGrouped sort things prices kinds → AreKindsFor sort things n Alike prices kinds
-are_kinds_for sort cmp order ordered things d Alike told forms n many prices number reach kinds grouped =
+are_kinds_for sort order things d Alike told forms n many prices number reach kinds grouped =
     let pairs = zip things prices in
     let all = expansion (map sort.kind kinds) in
     let iff = one_price_is things d Alike told prices n many number in
@@ -69,7 +58,7 @@ are_kinds_for sort cmp order ordered things d Alike told forms n many prices num
           };
       equal = λ group.
           iff.0 (λ thing price other a b.
-          one_price sort cmp order ordered None kinds group.in_order thing price other
+          one_price sort order None kinds group.in_order thing price other
           (Contains-permutation pairs all (thing, price) grouped.expand a)
           (Contains-permutation pairs all (thing, other) grouped.expand b));
     }
@@ -100,11 +89,11 @@ cables_by_kind m s rows columns row col machine legal are same first second =
     let thirteen : length (columns_in_order s.pairs) ≡ 13 = length-map (columns_of s.pairs) pair_in_order
     ∙ thirteen_columns s.pairs legal.pairs.few in
     let a =
-    are_kinds_for cable_sort ends.ghosts.cmp ends.Laws.total-law cable_kind.Laws.ordered-law m.cables (None, None)
+    are_kinds_for cable_sort cables_strict m.cables (None, None)
     (StandAlike (Rotor m)) (cables_told m machine) (cables_are_in_form m machine) 13 machine.legal.cables.count rows
     are.rows are.row_reach row first in
     let b =
-    are_kinds_for pair_sort pairs.ghosts.cmp pairs.Laws.total-law pair_kind.Laws.ordered-law
+    are_kinds_for pair_sort pairs_strict
     (columns_in_order s.pairs) None (ReadAlike (OfRotors s)) (columns_told s legal) (columns_are_in_form s legal) 13
     thirteen columns are.columns are.column_reach col second in
     let groups = cables_are_prices row col in
@@ -124,11 +113,11 @@ pub bars_by_kind : (m : PinParts) (s : PinDay) (rows columns : List ℤ) (row : 
     (AreByKind (Pin m) (OfPins s) (Bars rows columns))
 bars_by_kind m s rows columns row col machine legal are same first second =
     let a =
-    are_kinds_for bar_sort standings.ghosts.cmp standings.Laws.total-law bar_kind.Laws.ordered-law m.bars (One, One)
+    are_kinds_for bar_sort bars_strict m.bars (One, One)
     (StandAlike (Pin m)) (each_told m.bars (One, One)) machine.legal.apart 27 machine.legal.bars rows are.rows
     are.row_reach row first in
     let b =
-    are_kinds_for row_sort readings.ghosts.cmp readings.Laws.total-law row_kind.Laws.ordered-law s.rows (0, 0)
+    are_kinds_for row_sort rows_strict s.rows (0, 0)
     (ReadAlike (OfPins s)) (each_told s.rows (0, 0)) legal.rows 27 legal.count columns are.columns are.column_reach
     col second in
     let groups = bars_are_prices row col in

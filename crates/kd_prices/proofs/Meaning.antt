@@ -5,34 +5,22 @@ use Rattle.kd_prices.proofs.Prelude.{Expanded, Proves, AreOfOneModel, AreNumbere
 use Rattle.kd_prices.proofs.Prelude.{cable_sort, pair_sort, bar_sort, row_sort, Cables, Bars, CableKinds}
 use Rattle.kd_prices.proofs.Prelude.{BarKinds, Rotor, Pin, OfRotors, OfPins}
 use Rattle.kd_prices.specs.Doubt.{BelongTo}
-use Rattle.kd_card.specs.contracts.thing.EndsOrd.TheImpl as ends
-use Rattle.kd_card.specs.contracts.thing.ColumnOrd.TheImpl as columns
-use Rattle.kd_tables.specs.contracts.standing.StandingOrd.TheImpl as standings
-use Rattle.kd_tables.specs.contracts.reading.ReadingOrd.TheImpl as readings
-use Rattle.kd_card.specs.contracts.kinds.CableKindKind.TheImpl as cable_kind
-use Rattle.kd_card.specs.contracts.kinds.PairKindKind.TheImpl as pair_kind
-use Rattle.kd_card.specs.contracts.kinds.BarKindKind.TheImpl as bar_kind
-use Rattle.kd_card.specs.contracts.kinds.RowKindKind.TheImpl as row_kind
 use Rattle.kd_state.specs.{Machine.{model_of}, SheetDay.{day_model}}
 use Rattle.kd_state.specs.declared.machine.one_model.OneModel.{OneModel}
 use Rattle.kd_state.specs.declared.machine.one_model.OneModel.TheVariants as both
-use Rattle.kd_prices.proofs.Runs.{prices_alike}
+use Rattle.kd_prices.proofs.Runs.{prices_alike, cables_strict, pairs_strict, bars_strict, rows_strict}
 
 -- ---- prices by kind
 
 same_lists : (m : Parts) (s : Day) (prices numbered other : PriceParts) → ArePrices prices
     → AreExpanded m s prices numbered → AreExpanded m s prices other → numbered ≡ other
 same_lists (Rotor m) (OfRotors s) (CableKinds row col) (Cables a b) (Cables c d) are one two =
-    let rows =
-    prices_alike cable_sort ends.ghosts.cmp ends.Laws.total-law cable_kind.Laws.ordered-law _ row.items a c are.kinds.0 one.0 two.0 in
-    let columns =
-    prices_alike pair_sort columns.ghosts.cmp columns.Laws.total-law pair_kind.Laws.ordered-law _ col.items b d are.kinds.1 one.1 two.1 in
+    let rows = prices_alike cable_sort cables_strict _ row.items a c are.kinds.0 one.0 two.0 in
+    let columns = prices_alike pair_sort pairs_strict _ col.items b d are.kinds.1 one.1 two.1 in
     cc
 same_lists (Pin m) (OfPins s) (BarKinds row col) (Bars a b) (Bars c d) are one two =
-    let rows =
-    prices_alike bar_sort standings.ghosts.cmp standings.Laws.total-law bar_kind.Laws.ordered-law _ row.items a c are.kinds.0 one.0 two.0 in
-    let columns =
-    prices_alike row_sort readings.ghosts.cmp readings.Laws.total-law row_kind.Laws.ordered-law _ col.items b d are.kinds.1 one.1 two.1 in
+    let rows = prices_alike bar_sort bars_strict _ row.items a c are.kinds.0 one.0 two.0 in
+    let columns = prices_alike row_sort rows_strict _ col.items b d are.kinds.1 one.1 two.1 in
     cc
 same_lists m s prices numbered other are one two = absurd (assumption)
 

@@ -44,9 +44,8 @@ abbrev pub HasNoneLeft : {X : Type 0} → (X → X → Bool) → List (KindOf X)
 HasNoneLeft eq kinds thing = count_by (λ other. eq other.0 thing) (expansion kinds) ≡ 0
 
 -- The kinds `left` are `kinds` with one `thing` less, which has this price.
-pub record TakesOne {X : Type 0} (kinds : List (KindOf X)) (thing : X) (price : ℤ) (left : List (KindOf X)) : Type 0
-  where
-    pub moved : IsPermutation (expansion kinds) ((thing, price) ∷ expansion left)
+abbrev pub TakesOne : {X : Type 0} → List (KindOf X) → X → ℤ → List (KindOf X) → Type 0
+TakesOne kinds thing price left = IsPermutation (expansion kinds) ((thing, price) ∷ expansion left)
 
 -- Of each thing, the kinds count at least as many as there are in `things`.
 abbrev pub HaveThings : {X : Type 0} → (X → X → Bool) → List (KindOf X) → List X → Type 0
@@ -54,8 +53,10 @@ HaveThings {X} eq kinds things =
     (thing : X)
     → count_by (λ other. eq other thing) things ≤ count_by (λ other. eq other.0 thing) (expansion kinds)
 
--- If `done`, `left` are the kinds without the things, which have these prices. Otherwise the kinds don't have the things.
-abbrev pub TakesAll : {X : Type 0} → (X → X → Bool) → List (KindOf X) → List X → List ℤ → List (KindOf X) → Bool → Type 0
+-- True: the kinds `left` are `kinds` without these things, which have these prices. False: `kinds` don't have the
+-- things.
+abbrev pub TakesAll : {X : Type 0} → (X → X → Bool) → List (KindOf X) → List X → List ℤ → List (KindOf X) → Bool
+    → Type 0
 TakesAll eq kinds things prices left true = IsPermutation (expansion kinds) (zip things prices ++ expansion left)
 TakesAll eq kinds things prices left false = ¬ (HaveThings eq kinds things)
 

@@ -1,5 +1,5 @@
-use Rattle.kd_prices.proofs.Prelude.{arith, common_steps, drop, ◌≡◌, ◌∷◌, map, rules, to_z-of_z, w16, length, ◌-◌, take}
-use Rattle.kd_prices.proofs.Taking.{put_rest, takes_none, takes_more, itself}
+use Rattle.kd_prices.proofs.Prelude.{arith, common_steps, drop, refl, ◌≡◌, ◌∷◌, map, rules, to_z-of_z, w16, length, ◌-◌, take}
+use Rattle.kd_prices.proofs.Taking.{put_rest, takes_none, takes_more, eq_decides}
 use Rattle.kd_prices.proofs.expanding.+take_prices.Goals as goal
 
 pub returns-in-Some-clause-taken : goal.returns-in-Some-clause-taken
@@ -11,7 +11,7 @@ returns-in-Some-clause-taken g t c =
     let price = c.in-Some.price in
     let new = c.take_prices.new.prices in
     rw (split, to_z-of_z w16 price (search rules), put_rest c.args.prices.now new price (omega arith))
-    (takes_more g.K.Thing.PartialEq.eq (parts c.args.kinds.now) c.thing-item.result rest price c.take_prices.new.prices
+    (takes_more g.K.Thing.PartialEq.eq (parts c.args.kinds.now) c.thing-item.result rest price new
     (parts c.take_one.new.kinds) (parts c.take_prices.new.kinds) c.take_prices.result c.in-Some.ensures.taken
     c.take_prices.ensures.taken)
 
@@ -20,6 +20,8 @@ returns-in-None-clause-taken g t c =
     let thing = c.thing-item.result in
     let rest = drop 1 c.args.things.now in
     let split : c.args.things.now ≡ thing ∷ rest = grind (arith, common_steps) in
-    let same = itself g.K.Thing.Ord.cmp g.met.K.Thing.Ord.total g.K.Thing.PartialEq.eq g.met.K.Thing.Ord.matches_eq in
-    rw split (takes_none g.K.Thing.PartialEq.eq (map g.K.Kind.sort.kind c.args.kinds.now) thing rest (same thing)
+    let equal =
+    eq_decides g.K.Thing.Ord.cmp g.met.K.Thing.Ord.total g.K.Thing.PartialEq.eq g.met.K.Thing.Ord.matches_eq
+    g.met.K.Thing.Thing.told_apart thing thing in
+    rw split (takes_none g.K.Thing.PartialEq.eq (map g.K.Kind.sort.kind c.args.kinds.now) thing rest (equal.1 refl)
     c.in-None.ensures.taken)
