@@ -1,26 +1,19 @@
 -- When prices by number, one for each thing, can become prices by kind, one for equal things; and which these are.
-use Rattle.std.specs.Prelude.{IsPermutation, IfSome}
-use Rattle.std.specs.List.{zip}
-use Rattle.std.proofs.lemmas.Slice.Zip.{get_or-zip, length-zip}
-use Rattle.kd_card.specs.declared.kinds.CableKind.{CableKind}
-use Rattle.kd_card.specs.declared.kinds.PairKind.{PairKind}
-use Rattle.kd_card.specs.declared.kinds.BarKind.{BarKind}
-use Rattle.kd_card.specs.declared.kinds.RowKind.{RowKind}
-use Rattle.kd_card.specs.{CardText.IsGroup}
-use Rattle.kd_card.proofs.KindPrices.{cables_are_prices, bars_are_prices}
-use Rattle.kd_state.specs.{Machine.{model_of}, SheetDay.{day_model, RotorDay, PinDay}}
-use Rattle.kd_state.specs.declared.machine.rotor_parts.RotorParts.{RotorParts}
-use Rattle.kd_state.specs.declared.machine.pin_parts.PinParts.{PinParts}
-use Rattle.kd_prices.proofs.Prelude.{◌≡◌, ◌↔◌, ℕ, ◌<◌, List, length, map, arith, refl, sym, ◌∙◌, subst, ℤ, Option, Some, None, MatchOption}
-use Rattle.kd_prices.proofs.Prelude.{Parts, Day, AreNumbered, AreEqualWhereAlike, Expands, version_of, ByKind, Rotor, Pin, OfRotors, OfPins, PriceParts, Cables, Bars, CableKinds, BarKinds, One}
-use Rattle.kd_prices.proofs.Prelude.{ArePrices, ArePricesInRange, IsMachine, IsLegalDay, cable_sort, pair_sort, bar_sort, row_sort}
-use Rattle.kd_prices.proofs.Prelude.{columns_of, columns_in_order, pair_in_order, thirteen_columns, length-map, StandAlike, ReadAlike, CanBeByKind}
-use Rattle.kd_prices.proofs.Prelude.{AreByKind, Expanded, HaveOnePriceEach, IsFine, price_at, Sort, AreKinds, AreKindsOf, expansion, All}
-use Rattle.kd_prices.proofs.InForm.{cables_are_in_form, columns_are_in_form}
+use Rattle.kd_card.proofs.KindPrices.{bars_are_prices, cables_are_prices}
 use Rattle.kd_prices.proofs.AlikeThings.{AreTold, cables_told, columns_told, each_told, one_price_is}
-use Rattle.kd_prices.proofs.Runs.{IsStrict, one_price, cables_strict, pairs_strict, bars_strict, rows_strict}
-use Rattle.std.proofs.lemmas.List.Sorted.{length_permutation, Contains-permutation}
+use Rattle.kd_prices.proofs.InForm.{cables_are_in_form, columns_are_in_form}
+use Rattle.kd_prices.proofs.Runs.{IsStrict, bars_strict, cables_strict, one_price, pairs_strict, rows_strict}
 use Rattle.kd_prices.proofs.Taking.{size}
+use Rattle.kd_prices.proofs.Prelude.{All, AreByKind, AreEqualWhereAlike, AreKinds, AreKindsOf, AreNumbered, ArePrices}
+use Rattle.kd_prices.proofs.Prelude.{ArePricesInRange, BarKind, BarKinds, Bars, ByKind, CableKind, CableKinds, Cables}
+use Rattle.kd_prices.proofs.Prelude.{CanBeByKind, Contains-permutation, Day, Expanded, Expands, HaveOnePriceEach}
+use Rattle.kd_prices.proofs.Prelude.{IfSome, IsFine, IsGroup, IsLegalDay, IsMachine, IsPermutation, List, MatchOption}
+use Rattle.kd_prices.proofs.Prelude.{None, OfPins, OfRotors, One, Option, PairKind, Parts, Pin, PinDay, PinParts}
+use Rattle.kd_prices.proofs.Prelude.{PriceParts, ReadAlike, Rotor, RotorDay, RotorParts, RowKind, Some, Sort}
+use Rattle.kd_prices.proofs.Prelude.{StandAlike, arith, bar_sort, cable_sort, columns_in_order, columns_of, day_model}
+use Rattle.kd_prices.proofs.Prelude.{expansion, get_or-zip, length, length-map, length-zip, length_permutation, map}
+use Rattle.kd_prices.proofs.Prelude.{model_of, pair_in_order, pair_sort, price_at, refl, row_sort, subst, sym}
+use Rattle.kd_prices.proofs.Prelude.{thirteen_columns, version_of, zip, ℕ, ℤ, ◌<◌, ◌∙◌, ◌≡◌}
 
 -- what `kinds_of` ensures of the kinds of `things` with `prices`
 pub record AreGrouped {K X : Type 0} (sort : Sort K X) (things : List X) (prices : List ℤ) (kinds : List K) : Type 0

@@ -1,19 +1,14 @@
 -- If a result is right for the prices that were found for rows and columns, it is right for the check of the card.
-use Rattle.kd_prices.proofs.Prelude.{◌≡◌, List, length, refl, sym, ◌∙◌, ap, subst, arith, ℤ, Parts, Rotor, Pin, Setting, Day, OfRotors}
-use Rattle.kd_prices.proofs.Prelude.{OfPins, PriceParts, Cables, Bars, CableKinds, BarKinds}
-use Rattle.kd_prices.proofs.Prelude.{row_prices, column_prices, ArePrices, AreModelPrices}
-use Rattle.kd_prices.proofs.Prelude.{cable_sort, pair_sort, bar_sort, row_sort, columns_in_order, Expands}
-use Rattle.kd_prices.proofs.Prelude.{Same, Expanded, AreOfOneModel, Result, OtherModel, PriceMissing, GoesOn, HasFault, Ok, Err}
-use Rattle.kd_prices.specs.{declared.doubt.Doubt.Doubt, Doubt.{BelongTo, ArePricesFound, IsByNumberAnswer, IsCheckedAnswer}}
-use Rattle.kd_prices.specs.Grouping.{AreBothPrices}
 use Rattle.kd_prices.proofs.Meaning.{are_numbered}
-use Rattle.kd_card.specs.declared.kinds.CableKind.{CableKind}
-use Rattle.kd_card.specs.declared.kinds.PairKind.{PairKind}
-use Rattle.kd_card.specs.declared.kinds.BarKind.{BarKind}
-use Rattle.kd_card.specs.declared.kinds.RowKind.{RowKind}
-use Rattle.kd_state.specs.{Machine.{model_of}, SheetDay.{day_model, RotorDay, PinDay}, FirstFaults.{Finds}}
-use Rattle.kd_state.specs.declared.machine.rotor_parts.RotorParts.{RotorParts}
-use Rattle.kd_state.specs.declared.machine.pin_parts.PinParts.{PinParts}
+use Rattle.kd_prices.{specs.{Doubt.{ArePricesFound, IsByNumberAnswer}, Grouping.AreBothPrices}}
+use Rattle.kd_state.specs.FirstFaults.{Finds}
+use Rattle.kd_prices.proofs.Prelude.{AreModelPrices, AreOfOneModel, ArePrices, BarKind, BarKinds, Bars, BelongTo}
+use Rattle.kd_prices.proofs.Prelude.{CableKind, CableKinds, Cables, Day, Doubt, Err, Expanded, Expands, GoesOn}
+use Rattle.kd_prices.proofs.Prelude.{HasFault, IsCheckedAnswer, List, OfPins, OfRotors, Ok, OtherModel, PairKind, Parts}
+use Rattle.kd_prices.proofs.Prelude.{Pin, PinDay, PinParts, PriceMissing, PriceParts, Result, Rotor, RotorDay}
+use Rattle.kd_prices.proofs.Prelude.{RotorParts, RowKind, Same, Setting, ap, arith, bar_sort, cable_sort, column_prices}
+use Rattle.kd_prices.proofs.Prelude.{columns_in_order, day_model, length, model_of, pair_sort, refl, row_prices}
+use Rattle.kd_prices.proofs.Prelude.{row_sort, subst, sym, ℤ, ◌∙◌, ◌≡◌}
 
 same_fault : {F X : Type 0} {f g : F} → ◌≡◌ {A = Result X F} (Err f) (Err g) → f ≡ g
 same_fault e = cc

@@ -1,14 +1,12 @@
 -- A card's prices expand to at most one list of prices by number, which is for the same sort of machine.
-use Rattle.kd_prices.proofs.Prelude.{◌≡◌, List, sym, ◌∙◌, ap, arith, Parts, Setting, Day, PriceParts}
-use Rattle.kd_prices.proofs.Prelude.{ByNumber, version_of, ArePrices, AreModelPrices, AreExpanded, Expands, Same}
-use Rattle.kd_prices.proofs.Prelude.{Expanded, Proves, AreOfOneModel, AreNumbered, AreTakenApart}
-use Rattle.kd_prices.proofs.Prelude.{cable_sort, pair_sort, bar_sort, row_sort, Cables, Bars, CableKinds}
-use Rattle.kd_prices.proofs.Prelude.{BarKinds, Rotor, Pin, OfRotors, OfPins}
-use Rattle.kd_prices.specs.Doubt.{BelongTo}
-use Rattle.kd_state.specs.{Machine.{model_of}, SheetDay.{day_model}}
+use Rattle.kd_prices.proofs.Runs.{bars_strict, cables_strict, pairs_strict, prices_alike, rows_strict}
 use Rattle.kd_state.specs.declared.machine.one_model.OneModel.{OneModel}
+use Rattle.kd_prices.proofs.Prelude.{AreExpanded, AreModelPrices, AreNumbered, AreOfOneModel, ArePrices, AreTakenApart}
+use Rattle.kd_prices.proofs.Prelude.{BarKinds, Bars, BelongTo, ByNumber, CableKinds, Cables, Day, Expanded, Expands}
+use Rattle.kd_prices.proofs.Prelude.{List, OfPins, OfRotors, Parts, Pin, PriceParts, Proves, Rotor, Same, Setting, ap}
+use Rattle.kd_prices.proofs.Prelude.{arith, bar_sort, cable_sort, day_model, model_of, pair_sort, row_sort, sym}
+use Rattle.kd_prices.proofs.Prelude.{version_of, ◌∙◌, ◌≡◌}
 use Rattle.kd_state.specs.declared.machine.one_model.OneModel.TheVariants as both
-use Rattle.kd_prices.proofs.Runs.{prices_alike, cables_strict, pairs_strict, bars_strict, rows_strict}
 
 -- ---- prices by kind
 

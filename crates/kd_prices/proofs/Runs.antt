@@ -1,12 +1,15 @@
 -- Sorted things with their prices are grouped into kinds. Valid kinds determine the price of each thing.
-use Rattle.std.specs.{Prelude.{IsPermutation}, List.{zip, refill, Sorted.{IsSorted}}, Cmp.{IsTotalOrder}}
-use Rattle.std.specs.Ordering.{ordering_then, int_cmp, is_lt, ordering_reverse}
-use Rattle.std.specs.declared.cmp.Ordering.{Ordering, TheVariants.{Less, Equal, Greater}}
-use Rattle.std.proofs.Common.{add-one}
-use Rattle.std.proofs.lemmas.{Cmp.{tied_itself}, List.{replicate_more, get_or-replicate, length-replicate}}
-use Rattle.std.proofs.lemmas.List.Elements.{Contains-append_cases, All-append, All-replicate}
-use Rattle.std.proofs.lemmas.List.Sorted.{All-permutation, Contains-permutation, IsPermutation-sym}
-use Rattle.kd_card.specs.Kinds.{EndsComeBefore, PairComesBefore, StandingComesBefore, NumbersComeBefore}
+use Rattle.kd_card.specs.Kinds.{EndsComeBefore, NumbersComeBefore, PairComesBefore, StandingComesBefore}
+use Rattle.std.{proofs.{Common.add-one, lemmas.List.{get_or-replicate, replicate_more, Elements.Contains-append_cases}}}
+use Rattle.std.{specs.{List.{refill, Sorted.IsSorted}, Ordering.{int_cmp, is_lt, ordering_reverse, ordering_then}}}
+use Rattle.kd_prices.proofs.Prelude.{All, All-append, All-contains, All-contains_itself, All-head, All-nil}
+use Rattle.kd_prices.proofs.Prelude.{All-permutation, All-replicate, All-tail, All-weaker, AppendsKinds, AreKinds}
+use Rattle.kd_prices.proofs.Prelude.{AreKindsOf, CanBeKinds, Contains, Contains-permutation, Equal, Greater}
+use Rattle.kd_prices.proofs.Prelude.{HaveOnePriceEach, IsFine, IsKind, IsPermutation, IsPermutation-sym, IsTotalOrder}
+use Rattle.kd_prices.proofs.Prelude.{KindOf, Less, List, None, Option, Ordering, Some, Sort, [], ap, append_assoc}
+use Rattle.kd_prices.proofs.Prelude.{arith, common_steps, expansion, false, first_of, inl, inr, length}
+use Rattle.kd_prices.proofs.Prelude.{length-replicate, map, refl, replicate, suc, sym, tied_itself, true≢false, zip, ℤ}
+use Rattle.kd_prices.proofs.Prelude.{◌++◌, ◌+◌, ◌↔◌, ◌∙◌, ◌∷◌, ◌≡◌, ◌≢◌, ◌≤◌, ◌⊎◌}
 use Rattle.kd_card.specs.contracts.thing.EndsOrd.TheImpl as ends
 use Rattle.kd_card.specs.contracts.thing.ColumnOrd.TheImpl as columns
 use Rattle.kd_tables.specs.contracts.standing.StandingOrd.TheImpl as standings
@@ -15,11 +18,6 @@ use Rattle.kd_card.specs.contracts.kinds.CableKindKind.TheImpl as cable_kind
 use Rattle.kd_card.specs.contracts.kinds.PairKindKind.TheImpl as pair_kind
 use Rattle.kd_card.specs.contracts.kinds.BarKindKind.TheImpl as bar_kind
 use Rattle.kd_card.specs.contracts.kinds.RowKindKind.TheImpl as row_kind
-use Rattle.kd_prices.proofs.Prelude.{◌≡◌, ◌≢◌, ◌↔◌, ◌⊎◌, inl, inr, refl, sym, ap, ◌∙◌, arith, common_steps, true≢false}
-use Rattle.kd_prices.proofs.Prelude.{ℕ, suc, ◌+◌, ◌≤◌, ℤ, false, Option, Some, None, List, [], ◌∷◌, ◌++◌, length, map}
-use Rattle.kd_prices.proofs.Prelude.{replicate, append_assoc, Contains, All, All-nil, All-head, All-tail, All-weaker}
-use Rattle.kd_prices.proofs.Prelude.{All-contains, All-contains_itself, Sort, KindOf, AreKinds, AreKindsOf, IsKind}
-use Rattle.kd_prices.proofs.Prelude.{HaveOnePriceEach, IsFine, CanBeKinds, AppendsKinds, first_of, expansion}
 
 -- ---- grouping
 

@@ -1,20 +1,19 @@
 -- Things are taken out of kinds, one by one. If all can be taken, the kinds' prices are the prices of the things.
+use Rattle.kd_card.specs.Kinds.{counted}
+use Rattle.kd_prices.specs.Grouping.{HasNoneLeft, HaveThings, TakesAll, TakesOne}
+use Rattle.std.proofs.lemmas.List.Folds.{sum_by-replicate}
+use Rattle.std.proofs.lemmas.List.Sorted.{IsPermutation-append_right, IsPermutation-cons, IsPermutation-middle}
+use Rattle.std.proofs.lemmas.List.Sorted.{IsPermutation-refl, IsPermutation-trans, sum_by-IsPermutation}
+use Rattle.std.proofs.lemmas.List.Sums.{sum_by-append, sum_by-cons}
+use Rattle.std.{specs.{Bool.then_some, List.sum_by, Ordering.is_eq, Prelude.{if◌then◌else◌}}}
 use borrow.Rule.Slice.PartMut.{put_mid}
-use Rattle.std.specs.{Prelude.{IsPermutation, if◌then◌else◌}, Bool.{then_some}, List.{sum_by, zip}, Cmp.{IsTotalOrder}}
-use Rattle.std.specs.{Ordering.{is_eq}, declared.cmp.Ordering.{Ordering, TheVariants.{Less, Equal, Greater}}}
-use Rattle.std.proofs.lemmas.{Cmp.{tied_itself}, List.{length-replicate}, Slice.Zip.{length-zip}}
-use Rattle.std.proofs.lemmas.List.{Sums.{sum_by-append, sum_by-cons}, Folds.{sum_by-replicate}}
-use Rattle.std.proofs.lemmas.List.Elements.{All-append, All-replicate}
-use Rattle.std.proofs.lemmas.List.Sorted.{IsPermutation-refl, IsPermutation-sym, IsPermutation-trans, IsPermutation-cons}
-use Rattle.std.proofs.lemmas.List.Sorted.{IsPermutation-middle, IsPermutation-append_right, All-permutation}
-use Rattle.std.proofs.lemmas.List.Sorted.{length_permutation, sum_by-IsPermutation}
-use Rattle.kd_card.specs.{CardText.{IsGroup}, Kinds.{counted}}
-use Rattle.kd_prices.proofs.Prelude.{◌≡◌, ◌↔◌, refl, sym, ap, ◌∙◌, subst, arith, common_steps, Bool, true, false, true≢false}
-use Rattle.kd_prices.proofs.Prelude.{ℕ, suc, ◌+◌, ◌*◌, ◌-◌, ◌<◌, ◌≤◌, ℤ, unsigned_abs, Option, Some, None, MatchOption}
-use Rattle.kd_prices.proofs.Prelude.{List, [], ◌∷◌, ◌++◌, length, map, set, replicate, length-append, append-nil, All}
-use Rattle.kd_prices.proofs.Prelude.{All-nil, All-cons, All-head, All-tail, Sort, KindOf, AreKinds, AreKindsOf}
-use Rattle.kd_prices.proofs.Prelude.{ArePricesInRange, expansion}
-use Rattle.kd_prices.specs.Grouping.{HasNoneLeft, TakesOne, HaveThings, TakesAll}
+use Rattle.kd_prices.proofs.Prelude.{All, All-append, All-cons, All-head, All-nil, All-permutation, All-replicate}
+use Rattle.kd_prices.proofs.Prelude.{All-tail, AreKinds, AreKindsOf, ArePricesInRange, Bool, Equal, Greater, IsGroup}
+use Rattle.kd_prices.proofs.Prelude.{IsPermutation, IsPermutation-sym, IsTotalOrder, KindOf, Less, List, MatchOption}
+use Rattle.kd_prices.proofs.Prelude.{None, Option, Ordering, Some, Sort, [], ap, append-nil, arith, common_steps}
+use Rattle.kd_prices.proofs.Prelude.{expansion, false, length, length-append, length-replicate, length-zip}
+use Rattle.kd_prices.proofs.Prelude.{length_permutation, map, refl, replicate, set, subst, suc, sym, tied_itself, true}
+use Rattle.kd_prices.proofs.Prelude.{true≢false, unsigned_abs, zip, ℕ, ℤ, ◌++◌, ◌-◌, ◌<◌, ◌↔◌, ◌∙◌, ◌∷◌, ◌≡◌, ◌≤◌}
 
 -- ---- equal things
 

@@ -1,5 +1,5 @@
-use Rattle.kd_prices.proofs.Prelude.{inl, inr, refl, GoesOn, Same}
-use Rattle.kd_prices.proofs.Found.{other_sort, bar_kinds_found}
+use Rattle.kd_prices.proofs.Found.{bar_kinds_found, other_sort}
+use Rattle.kd_prices.proofs.Prelude.{GoesOn, Same, inl, inr, refl}
 use Rattle.kd_prices.proofs.checking.bar_prices.Goals as goal
 
 pub returns-in-Bars-clause-found : goal.returns-in-Bars-clause-found

@@ -1,6 +1,6 @@
-use Rattle.kd_prices.proofs.Prelude.{inl, inr, refl, GoesOn, Same}
-use Rattle.kd_prices.proofs.Found.{other_sort, cable_kinds_found}
+use Rattle.kd_prices.proofs.Found.{cable_kinds_found, other_sort}
 use Rattle.kd_state.specs.Entry.{rotor_values}
+use Rattle.kd_prices.proofs.Prelude.{GoesOn, Same, inl, inr, refl}
 use Rattle.kd_prices.proofs.checking.cable_prices.Goals as goal
 
 pub returns-in-Cables-clause-found : goal.returns-in-Cables-clause-found

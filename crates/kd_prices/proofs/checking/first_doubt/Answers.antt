@@ -1,6 +1,5 @@
-use Rattle.std.proofs.lemmas.Result.{err_from_is_err_and}
-use Rattle.kd_prices.proofs.Prelude.{refl, Cables, Bars, HasFault, OtherModel}
-use Rattle.kd_prices.proofs.{Meaning.{one_model}, Found.{by_fault, by_found, cables_made, bars_made}}
+use Rattle.kd_prices.proofs.{Found.{bars_made, by_fault, by_found, cables_made}, Meaning.one_model}
+use Rattle.kd_prices.proofs.Prelude.{Bars, Cables, HasFault, OtherModel, err_from_is_err_and, refl}
 use Rattle.kd_prices.proofs.checking.first_doubt.Goals as goal
 
 pub returns-in-None : goal.returns-in-None

@@ -1,5 +1,6 @@
-use Rattle.kd_prices.proofs.Prelude.{arith, common_steps, drop, refl, ◌≡◌, ◌∷◌, map, rules, to_z-of_z, w16, length, ◌-◌, take}
-use Rattle.kd_prices.proofs.Taking.{put_rest, takes_none, takes_more, eq_decides}
+use Rattle.kd_prices.proofs.Taking.{eq_decides, put_rest, takes_more, takes_none}
+use Rattle.kd_prices.proofs.Prelude.{arith, common_steps, drop, length, map, refl, rules, take, to_z-of_z, w16, ◌-◌}
+use Rattle.kd_prices.proofs.Prelude.{◌∷◌, ◌≡◌}
 use Rattle.kd_prices.proofs.expanding.+take_prices.Goals as goal
 
 pub returns-in-Some-clause-taken : goal.returns-in-Some-clause-taken

@@ -1,6 +1,5 @@
-use Rattle.kd_prices.proofs.Prelude.{◌∙◌, sym, pos, map}
 use Rattle.kd_prices.proofs.Taking.{prices_taken}
-use Rattle.std.proofs.lemmas.List.{length-replicate}
+use Rattle.kd_prices.proofs.Prelude.{length-replicate, map, pos, sym, ◌∙◌}
 use Rattle.kd_prices.proofs.expanding.prices_of.Goals as goal
 
 pub returns : goal.returns

@@ -1,6 +1,6 @@
-use Rattle.kd_prices.proofs.Prelude.{◌≡◌, sym, ◌∙◌, rules, arith, common_steps, false≢true, SFits, w16, to_z-of_z}
-use Rattle.kd_prices.proofs.Prelude.{◌-◌, ◌∷◌, length, take, drop}
-use Rattle.kd_prices.proofs.{Runs.{both_same, appends_one, counts_more, begins_another}, Taking.{eq_decides, no_item}}
+use Rattle.kd_prices.proofs.{Runs.{appends_one, begins_another, both_same, counts_more}, Taking.{eq_decides, no_item}}
+use Rattle.kd_prices.proofs.Prelude.{SFits, arith, common_steps, drop, length, rules, take, to_z-of_z, w16, ◌-◌, ◌∷◌}
+use Rattle.kd_prices.proofs.Prelude.{◌≡◌}
 use Rattle.kd_prices.proofs.grouping.+push_kinds.Goals as goal
 
 pub returns-in-empty : goal.returns-in-empty

@@ -1,6 +1,5 @@
-use Rattle.std.specs.Prelude.{IfSome}
-use Rattle.kd_prices.proofs.Prelude.{AreTakenApart, ArePrices, IsLegalDay, IsMachine, rules, subst, sym, ◌∙◌}
-use Rattle.kd_prices.proofs.{ByKind.{cables_by_kind, bars_by_kind}, Meaning.{one_model}}
+use Rattle.kd_prices.proofs.{ByKind.{bars_by_kind, cables_by_kind}, Meaning.one_model}
+use Rattle.kd_prices.proofs.Prelude.{ArePrices, AreTakenApart, IfSome, IsLegalDay, IsMachine, rules, subst, sym, ◌∙◌}
 use Rattle.kd_prices.proofs.kind_cards.prices_by_kind.Goals as goal
 
 pub returns-in-Rotor-Cables : goal.returns-in-Rotor-Cables
