@@ -1,12 +1,12 @@
 -- In a card by number that proves itself, equal things have equal prices. For equal rows have equal costs in each
 -- column, and each row has a column where the two prices add up to the cost; likewise for equal columns.
-use Rattle.kd_prices.proofs.Prelude.{no_rotors, proving_prices_are_tight, ◌≡◌, ℕ, ◌<◌, ◌≤◌, List, get_or, length, None}
-use Rattle.kd_prices.proofs.Prelude.{unwrap_or, slice_get, sym, ap, ◌∙◌, arith, ints, get_or-map, unwrap_or-slice_get}
-use Rattle.kd_prices.proofs.Prelude.{slice_get_past, One, Rotor, Pin, cable_letters, Day, OfRotors, OfPins}
-use Rattle.kd_prices.proofs.Prelude.{tests_tell_letters, thirteen_columns, columns_are_the_pairs, cable_cost, bar_cost}
-use Rattle.kd_prices.proofs.Prelude.{columns_of, PriceParts, Cables, Bars, table_rows, cost_at, PricesFit}
-use Rattle.kd_prices.proofs.Prelude.{ArePricesTight, Parts, StandAlike, ReadAlike, AlikePricesAreEqual}
-use Rattle.kd_prices.proofs.Prelude.{AreEqualWhereAlike, map}
+use Rattle.kd_prices.proofs.Prelude.{AlikePricesAreEqual, AreEqualWhereAlike, ArePricesTight, Bars, Cables, Day, List}
+use Rattle.kd_prices.proofs.Prelude.{None, OfPins, OfRotors, One, Parts, Pin, PriceParts, PricesFit, ReadAlike, Rotor}
+use Rattle.kd_prices.proofs.Prelude.{StandAlike, ap, arith, bar_cost, cable_cost, cable_letters, columns_are_the_pairs}
+use Rattle.kd_prices.proofs.Prelude.{columns_of, cost_at, get_or, get_or-map, ints, length, map, no_rotors}
+use Rattle.kd_prices.proofs.Prelude.{proving_prices_are_tight, slice_get, slice_get_past, sym, table_rows}
+use Rattle.kd_prices.proofs.Prelude.{tests_tell_letters, thirteen_columns, unwrap_or, unwrap_or-slice_get, ℕ, ◌<◌, ◌∙◌}
+use Rattle.kd_prices.proofs.Prelude.{◌≡◌, ◌≤◌}
 
 -- Prices that fit a table of costs. Each row has a column, and each column has a row, where the two prices add up
 -- to the cost.

@@ -1,19 +1,16 @@
 -- Cables, bars and columns at two different places are equal exactly if `StandAlike` or `ReadAlike` holds for these
 -- places. So equal things have equal prices exactly if prices are equal wherever one of the two holds.
-use Rattle.kd_prices.proofs.{AlikePrices.nothing_at, AlikePrices.same_at, InForm.cables_are_in_form}
-use Rattle.{kd_state.specs.Setting.has_letter, std.specs.List.{IsDistinct, zip}}
-use Rattle.kd_prices.proofs.Prelude.{tests_tell_letters, nat_tests, unwrap_or, ◌≡◌, ◌⊎◌, ℕ, zero, suc, ◌<◌, ◌≤◌, false}
-use Rattle.kd_prices.proofs.Prelude.{eqb, inl, inr, List, [], ◌∷◌, length, get_or, Option, Some, None, slice_get, refl}
-use Rattle.kd_prices.proofs.Prelude.{sym, ap, ◌∙◌, subst, arith, ℤ, pos, AllByRecursion, eqb-false, get_or-map}
-use Rattle.kd_prices.proofs.Prelude.{length-map, slice_get-get_or, get_or_default, smaller_first, letters_in_pairs}
-use Rattle.kd_prices.proofs.Prelude.{NoLetterTwice, Rotor, cable_letters, IsMachine, OfRotors, IsLegalDay}
-use Rattle.kd_prices.proofs.Prelude.{HaveSameLetters, columns_of, columns_are_the_pairs, AreEnds, price_at}
-use Rattle.kd_prices.proofs.Prelude.{pair_in_order, StandAlike, ReadAlike, columns_in_order, HaveOnePriceEach, Contains}
-use Rattle.kd_prices.proofs.Prelude.{◌↔◌}
-use Rattle.std.proofs.lemmas.List.Elements.{Contains-get_or}
-use Rattle.std.proofs.lemmas.Slice.Zip.{get_or-zip, length-zip}
-use Rattle.kd_state.specs.declared.machine.rotor_parts.RotorParts.{RotorParts}
-use Rattle.kd_state.specs.SheetDay.{RotorDay}
+use Rattle.kd_prices.proofs.{AlikePrices.{nothing_at, same_at}, InForm.cables_are_in_form}
+use Rattle.kd_state.specs.Setting.{has_letter}
+use Rattle.std.{proofs.lemmas.List.Elements.Contains-get_or, specs.List.IsDistinct}
+use Rattle.kd_prices.proofs.Prelude.{AllByRecursion, AreEnds, Contains, HaveOnePriceEach, HaveSameLetters, IsLegalDay}
+use Rattle.kd_prices.proofs.Prelude.{IsMachine, List, NoLetterTwice, None, OfRotors, Option, ReadAlike, Rotor, RotorDay}
+use Rattle.kd_prices.proofs.Prelude.{RotorParts, Some, StandAlike, [], ap, arith, cable_letters, columns_are_the_pairs}
+use Rattle.kd_prices.proofs.Prelude.{columns_in_order, columns_of, eqb, eqb-false, false, get_or, get_or-map}
+use Rattle.kd_prices.proofs.Prelude.{get_or-zip, get_or_default, inl, inr, length, length-map, length-zip}
+use Rattle.kd_prices.proofs.Prelude.{letters_in_pairs, nat_tests, pair_in_order, pos, price_at, refl, slice_get}
+use Rattle.kd_prices.proofs.Prelude.{slice_get-get_or, smaller_first, subst, suc, sym, tests_tell_letters, unwrap_or}
+use Rattle.kd_prices.proofs.Prelude.{zero, zip, ℕ, ℤ, ◌<◌, ◌↔◌, ◌∙◌, ◌∷◌, ◌≡◌, ◌≤◌, ◌⊎◌}
 
 -- ---- cables with the same letters
 

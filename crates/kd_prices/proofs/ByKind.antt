@@ -1,140 +1,121 @@
 -- When prices by number, one for each thing, can become prices by kind, one for equal things; and which these are.
-use Rattle.kd_prices.proofs.Prelude.{◌≡◌, ℕ, ◌<◌, List, length, refl, sym, ◌∙◌, subst, arith, ℤ, Option, Some, None}
-use Rattle.kd_prices.proofs.Prelude.{MatchOption, Rotor, Pin, OfRotors, OfPins, PriceParts, Cables, Bars, One}
-use Rattle.kd_prices.proofs.Prelude.{CableKinds, BarKinds, ArePrices, IsMachine, IsLegalDay, cable_sort, pair_sort}
-use Rattle.kd_prices.proofs.Prelude.{bar_sort, row_sort, columns_of, columns_in_order, pair_in_order, thirteen_columns}
-use Rattle.kd_prices.proofs.Prelude.{length-map, StandAlike, ReadAlike, CanBeByKind, AreByKind, Expanded, AreGroupsOf}
-use Rattle.kd_prices.proofs.Prelude.{HaveOnePriceEach, ◌↔◌, price_at}
-use Rattle.std.specs.List.{zip}
-use Rattle.kd_card.specs.declared.kinds.CableKind.{CableKind}
-use Rattle.kd_card.specs.declared.kinds.PairKind.{PairKind}
-use Rattle.kd_card.specs.declared.kinds.BarKind.{BarKind}
-use Rattle.kd_card.specs.declared.kinds.RowKind.{RowKind}
-use Rattle.kd_card.proofs.KindPrices.{cables_are_prices, bars_are_prices}
-use Rattle.kd_state.specs.{Machine.{model_of}, SheetDay.{day_model, RotorDay, PinDay}}
-use Rattle.kd_state.specs.declared.machine.rotor_parts.RotorParts.{RotorParts}
-use Rattle.kd_state.specs.declared.machine.pin_parts.PinParts.{PinParts}
+use Rattle.kd_card.proofs.KindPrices.{bars_are_prices, cables_are_prices}
+use Rattle.kd_prices.proofs.AlikeThings.{AreTold, cables_told, columns_told, each_told, one_price_is}
 use Rattle.kd_prices.proofs.InForm.{cables_are_in_form, columns_are_in_form}
-use Rattle.kd_prices.proofs.AlikeThings.{cables_told, columns_told, each_told, one_price_is}
-use Rattle.kd_prices.proofs.Grouped.{is_group, is_of}
+use Rattle.kd_prices.proofs.Runs.{IsStrict, bars_strict, cables_strict, one_price, pairs_strict, rows_strict}
+use Rattle.kd_prices.proofs.Taking.{size}
+use Rattle.kd_prices.proofs.Prelude.{All, AreByKind, AreEqualWhereAlike, AreKinds, AreKindsOf, AreNumbered, ArePrices}
+use Rattle.kd_prices.proofs.Prelude.{ArePricesInRange, BarKind, BarKinds, Bars, ByKind, CableKind, CableKinds, Cables}
+use Rattle.kd_prices.proofs.Prelude.{CanBeByKind, Contains-permutation, Day, Expanded, Expands, HaveOnePriceEach}
+use Rattle.kd_prices.proofs.Prelude.{IfSome, IsFine, IsGroup, IsLegalDay, IsMachine, IsPermutation, List, MatchOption}
+use Rattle.kd_prices.proofs.Prelude.{None, OfPins, OfRotors, One, Option, PairKind, Parts, Pin, PinDay, PinParts}
+use Rattle.kd_prices.proofs.Prelude.{PriceParts, ReadAlike, Rotor, RotorDay, RotorParts, RowKind, Some, Sort}
+use Rattle.kd_prices.proofs.Prelude.{StandAlike, arith, bar_sort, cable_sort, columns_in_order, columns_of, day_model}
+use Rattle.kd_prices.proofs.Prelude.{expansion, get_or-zip, length, length-map, length-zip, length_permutation, map}
+use Rattle.kd_prices.proofs.Prelude.{model_of, pair_in_order, pair_sort, price_at, refl, row_sort, subst, sym}
+use Rattle.kd_prices.proofs.Prelude.{thirteen_columns, version_of, zip, ℕ, ℤ, ◌<◌, ◌∙◌, ◌≡◌}
 
-module _ (m : RotorParts) (s : RotorDay) (rows columns : List ℤ) (machine : IsMachine (Rotor m))
-    (legal : IsLegalDay (OfRotors s)) (are : ArePrices (Cables rows columns)) where
-  thirteen : length (columns_in_order s.pairs) ≡ 13
-  thirteen = length-map (columns_of s.pairs) pair_in_order ∙ thirteen_columns s.pairs legal.pairs.few
+-- what `kinds_of` ensures of the kinds of `things` with `prices`
+pub record AreGrouped {K X : Type 0} (sort : Sort K X) (things : List X) (prices : List ℤ) (kinds : List K) : Type 0
+  where
+    pub expand : IsPermutation (zip things prices) (expansion (map sort.kind kinds))
+    pub in_order : HaveOnePriceEach (zip things prices) → All (IsFine sort) (zip things prices)
+        → AreKinds sort None kinds
 
-  rows_iff : HaveOnePriceEach (zip m.cables rows)
-      ↔ ((i k : ℕ) → i < 13 → k < 13 → StandAlike (Rotor m) i k → price_at rows i ≡ price_at rows k)
-  rows_iff =
-      one_price_is m.cables (None, None) (StandAlike (Rotor m)) (cables_told m machine) rows 13
-      machine.legal.cables.count are.rows
+-- The kinds are those of the things with these prices, and they are valid exactly if equal things have equal prices.
+record AreKindsFor {K X : Type 0} (sort : Sort K X) (things : List X) (n : ℕ) (Alike : ℕ → ℕ → Type 0)
+    (prices : List ℤ) (kinds : List K) : Type 0 where
+  of : AreKindsOf sort things prices kinds
+  valid : ((i k : ℕ) → i < n → k < n → Alike i k → price_at prices i ≡ price_at prices k) → IsGroup sort n kinds
+  equal : IsGroup sort n kinds → (i k : ℕ) → i < n → k < n → Alike i k → price_at prices i ≡ price_at prices k
 
-  columns_iff : HaveOnePriceEach (zip (columns_in_order s.pairs) columns)
-      ↔ ((i k : ℕ) → i < 13 → k < 13 → ReadAlike (OfRotors s) i k → price_at columns i ≡ price_at columns k)
-  columns_iff =
-      one_price_is (columns_in_order s.pairs) None (ReadAlike (OfRotors s)) (columns_told s legal) columns 13 thirteen
-      are.columns
-
-  pub no_cable_kinds : ¬ (HaveOnePriceEach (zip m.cables rows))
-      → ¬ (CanBeByKind (Rotor m) (OfRotors s) (Cables rows columns))
-  no_cable_kinds none can = none (rows_iff.1 can.equal.rows)
-
-  pub no_pair_kinds : ¬ (HaveOnePriceEach (zip (columns_in_order s.pairs) columns))
-      → ¬ (CanBeByKind (Rotor m) (OfRotors s) (Cables rows columns))
-  no_pair_kinds none can = none (columns_iff.1 can.equal.columns)
-
-  module _ (same : model_of (Rotor m) ≡ day_model (OfRotors s)) (row : List CableKind) (col : List PairKind)
-      (one : HaveOnePriceEach (zip m.cables rows)) (other : HaveOnePriceEach (zip (columns_in_order s.pairs) columns))
-      (first : AreGroupsOf cable_sort (zip m.cables rows) row)
-      (second : AreGroupsOf pair_sort (zip (columns_in_order s.pairs) columns) col) where
-    abbrev made : PriceParts
-    made = CableKinds (record { items = row }) (record { items = col })
-
-    valid : ArePrices made
-    valid =
-        (cables_are_prices row col).1 (
-          is_group cable_sort m.cables rows 13 machine.legal.cables.count are.rows (omega arith)
-              (cables_are_in_form m machine) are.row_reach row first,
-          is_group pair_sort (columns_in_order s.pairs) columns 13 thirteen are.columns (omega arith)
-              (columns_are_in_form s legal) are.column_reach col second,
-        )
-
-    is_by_kind : AreByKind (Rotor m) (OfRotors s) (Cables rows columns) made
-    is_by_kind = record {
-      can = record {
-        numbered = record { model = same; kind = tt };
-        equal = record { rows = rows_iff.0 one; columns = columns_iff.0 other };
-      };
-      version = refl;
-      expands =
-          Expanded valid are (
-            is_of cable_sort m.cables rows 13 machine.legal.cables.count are.rows (omega arith)
-                (cables_are_in_form m machine) are.row_reach row first,
-            is_of pair_sort (columns_in_order s.pairs) columns 13 thirteen are.columns (omega arith)
-                (columns_are_in_form s legal) are.column_reach col second,
-          );
+are_kinds_for : {K X : Type 0} (sort : Sort K X) (order : IsStrict sort.ComesBefore) (things : List X) (d : X)
+    (Alike : ℕ → ℕ → Type 0) → AreTold things d Alike → All sort.InForm things → (n : ℕ) → length things ≡ n
+    → (prices : List ℤ) → length prices ≡ n → ArePricesInRange prices → (kinds : List K)
+    → AreGrouped sort things prices kinds → AreKindsFor sort things n Alike prices kinds
+are_kinds_for sort order things d Alike told forms n many prices number reach kinds grouped =
+    let pairs = zip things prices in
+    let all = expansion (map sort.kind kinds) in
+    let iff = one_price_is things d Alike told prices n many number in
+    let fine : All (IsFine sort) pairs = λ i z inside.
+    let low : i < length things = omega (arith, length-zip things prices, many, number) in
+    let under : i < length prices = omega (arith, many, number) in
+    subst (IsFine sort) (sym (get_or-zip things prices i z low under)) (forms i z.0 low, reach i z.1 under) in
+    record {
+      of = record { number = number ∙ sym many; expand = grouped.expand };
+      valid = λ equal.
+          let same = length_permutation pairs all grouped.expand in
+          record {
+            in_order = grouped.in_order (iff.1 equal) fine;
+            count = omega (arith, size sort kinds, same, length-zip things prices, many, number);
+          };
+      equal = λ group.
+          iff.0 (λ thing price other a b.
+          one_price sort order None kinds group.in_order thing price other
+          (Contains-permutation pairs all (thing, price) grouped.expand a)
+          (Contains-permutation pairs all (thing, other) grouped.expand b));
     }
 
-    pub cables_by_kind : (r : Option PriceParts) → MatchOption r (¬ (ArePrices made)) (λ prices. prices ≡ made)
-        → MatchOption r (¬ (CanBeByKind (Rotor m) (OfRotors s) (Cables rows columns)))
-        (AreByKind (Rotor m) (OfRotors s) (Cables rows columns))
-    cables_by_kind None h = absurd (h valid)
-    cables_by_kind (Some prices) h = subst (AreByKind (Rotor m) (OfRotors s) (Cables rows columns)) (sym h) is_by_kind
+made_by_kind : (m : Parts) (s : Day) (prices made : PriceParts) → AreNumbered m s prices → version_of made ≡ ByKind
+    → (AreEqualWhereAlike m s prices → ArePrices made) → (ArePrices made → AreEqualWhereAlike m s prices)
+    → (ArePrices made → Expands m s made prices) → (r : Option PriceParts)
+    → MatchOption r (¬ (ArePrices made)) (λ made_prices. made_prices ≡ made) → IfSome r ArePrices
+    → MatchOption r (¬ (CanBeByKind m s prices)) (AreByKind m s prices)
+made_by_kind m s prices made numbered version valid equal expands None none are = λ can. none (valid can.equal)
+made_by_kind m s prices made numbered version valid equal expands (Some other) is are =
+    let good = subst ArePrices is are in
+    subst (AreByKind m s prices) (sym is) (record {
+      can = record { numbered = numbered; equal = equal good };
+      version = version;
+      expands = expands good;
+    })
 
-module _ (m : PinParts) (s : PinDay) (rows columns : List ℤ) (machine : IsMachine (Pin m))
-    (legal : IsLegalDay (OfPins s)) (are : ArePrices (Bars rows columns)) where
-  bars_iff : HaveOnePriceEach (zip m.bars rows)
-      ↔ ((i k : ℕ) → i < 27 → k < 27 → StandAlike (Pin m) i k → price_at rows i ≡ price_at rows k)
-  bars_iff =
-      one_price_is m.bars (One, One) (StandAlike (Pin m)) (each_told m.bars (One, One)) rows 27 machine.legal.bars
-      are.rows
+pub cables_by_kind : (m : RotorParts) (s : RotorDay) (rows columns : List ℤ) (row : List CableKind)
+    (col : List PairKind) → IsMachine (Rotor m) → IsLegalDay (OfRotors s) → ArePrices (Cables rows columns)
+    → model_of (Rotor m) ≡ day_model (OfRotors s) → AreGrouped cable_sort m.cables rows row
+    → AreGrouped pair_sort (columns_in_order s.pairs) columns col → (r : Option PriceParts)
+    → MatchOption r (¬ (ArePrices (CableKinds (record { items = row }) (record { items = col }))))
+    (λ made. made ≡ CableKinds (record { items = row }) (record { items = col })) → IfSome r ArePrices
+    → MatchOption r (¬ (CanBeByKind (Rotor m) (OfRotors s) (Cables rows columns)))
+    (AreByKind (Rotor m) (OfRotors s) (Cables rows columns))
+cables_by_kind m s rows columns row col machine legal are same first second =
+    let thirteen : length (columns_in_order s.pairs) ≡ 13 = length-map (columns_of s.pairs) pair_in_order
+    ∙ thirteen_columns s.pairs legal.pairs.few in
+    let a =
+    are_kinds_for cable_sort cables_strict m.cables (None, None)
+    (StandAlike (Rotor m)) (cables_told m machine) (cables_are_in_form m machine) 13 machine.legal.cables.count rows
+    are.rows are.row_reach row first in
+    let b =
+    are_kinds_for pair_sort pairs_strict
+    (columns_in_order s.pairs) None (ReadAlike (OfRotors s)) (columns_told s legal) (columns_are_in_form s legal) 13
+    thirteen columns are.columns are.column_reach col second in
+    let groups = cables_are_prices row col in
+    made_by_kind (Rotor m) (OfRotors s) (Cables rows columns)
+    (CableKinds (record { items = row }) (record { items = col })) (record { model = same; kind = tt }) refl
+    (λ equal. groups.1 (a.valid equal.rows, b.valid equal.columns))
+    (λ good. record { rows = a.equal (groups.0 good).0; columns = b.equal (groups.0 good).1 })
+    (λ good. Expanded good are (a.of, b.of))
 
-  readings_iff : HaveOnePriceEach (zip s.rows columns)
-      ↔ ((i k : ℕ) → i < 27 → k < 27 → ReadAlike (OfPins s) i k → price_at columns i ≡ price_at columns k)
-  readings_iff =
-      one_price_is s.rows (0, 0) (ReadAlike (OfPins s)) (each_told s.rows (0, 0)) columns 27 legal.count are.columns
-
-  pub no_bar_kinds : ¬ (HaveOnePriceEach (zip m.bars rows)) → ¬ (CanBeByKind (Pin m) (OfPins s) (Bars rows columns))
-  no_bar_kinds none can = none (bars_iff.1 can.equal.rows)
-
-  pub no_row_kinds : ¬ (HaveOnePriceEach (zip s.rows columns)) → ¬ (CanBeByKind (Pin m) (OfPins s) (Bars rows columns))
-  no_row_kinds none can = none (readings_iff.1 can.equal.columns)
-
-  module _ (same : model_of (Pin m) ≡ day_model (OfPins s)) (row : List BarKind) (col : List RowKind)
-      (one : HaveOnePriceEach (zip m.bars rows)) (other : HaveOnePriceEach (zip s.rows columns))
-      (first : AreGroupsOf bar_sort (zip m.bars rows) row) (second : AreGroupsOf row_sort (zip s.rows columns) col)
-    where
-      abbrev made_bars : PriceParts
-      made_bars = BarKinds (record { items = row }) (record { items = col })
-
-      valid_bars : ArePrices made_bars
-      valid_bars =
-          (bars_are_prices row col).1 (
-            is_group bar_sort m.bars rows 27 machine.legal.bars are.rows (omega arith) machine.legal.apart are.row_reach
-                row first,
-            is_group row_sort s.rows columns 27 legal.count are.columns (omega arith) legal.rows are.column_reach
-                col second,
-          )
-
-      are_by_kind : AreByKind (Pin m) (OfPins s) (Bars rows columns) made_bars
-      are_by_kind = record {
-        can = record {
-          numbered = record { model = same; kind = tt };
-          equal = record { rows = bars_iff.0 one; columns = readings_iff.0 other };
-        };
-        version = refl;
-        expands =
-            Expanded valid_bars are (
-              is_of bar_sort m.bars rows 27 machine.legal.bars are.rows (omega arith) machine.legal.apart are.row_reach
-                  row first,
-              is_of row_sort s.rows columns 27 legal.count are.columns (omega arith) legal.rows are.column_reach
-                  col second,
-            );
-      }
-
-      pub bars_by_kind : (r : Option PriceParts)
-          → MatchOption r (¬ (ArePrices made_bars)) (λ prices. prices ≡ made_bars)
-          → MatchOption r (¬ (CanBeByKind (Pin m) (OfPins s) (Bars rows columns)))
-          (AreByKind (Pin m) (OfPins s) (Bars rows columns))
-      bars_by_kind None h = absurd (h valid_bars)
-      bars_by_kind (Some prices) h = subst (AreByKind (Pin m) (OfPins s) (Bars rows columns)) (sym h) are_by_kind
+pub bars_by_kind : (m : PinParts) (s : PinDay) (rows columns : List ℤ) (row : List BarKind) (col : List RowKind)
+    → IsMachine (Pin m) → IsLegalDay (OfPins s) → ArePrices (Bars rows columns)
+    → model_of (Pin m) ≡ day_model (OfPins s) → AreGrouped bar_sort m.bars rows row
+    → AreGrouped row_sort s.rows columns col → (r : Option PriceParts)
+    → MatchOption r (¬ (ArePrices (BarKinds (record { items = row }) (record { items = col }))))
+    (λ made. made ≡ BarKinds (record { items = row }) (record { items = col })) → IfSome r ArePrices
+    → MatchOption r (¬ (CanBeByKind (Pin m) (OfPins s) (Bars rows columns)))
+    (AreByKind (Pin m) (OfPins s) (Bars rows columns))
+bars_by_kind m s rows columns row col machine legal are same first second =
+    let a =
+    are_kinds_for bar_sort bars_strict m.bars (One, One)
+    (StandAlike (Pin m)) (each_told m.bars (One, One)) machine.legal.apart 27 machine.legal.bars rows are.rows
+    are.row_reach row first in
+    let b =
+    are_kinds_for row_sort rows_strict s.rows (0, 0)
+    (ReadAlike (OfPins s)) (each_told s.rows (0, 0)) legal.rows 27 legal.count columns are.columns are.column_reach
+    col second in
+    let groups = bars_are_prices row col in
+    made_by_kind (Pin m) (OfPins s) (Bars rows columns)
+    (BarKinds (record { items = row }) (record { items = col })) (record { model = same; kind = tt }) refl
+    (λ equal. groups.1 (a.valid equal.rows, b.valid equal.columns))
+    (λ good. record { rows = a.equal (groups.0 good).0; columns = b.equal (groups.0 good).1 })
+    (λ good. Expanded good are (a.of, b.of))

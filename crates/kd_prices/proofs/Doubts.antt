@@ -1,15 +1,14 @@
 -- A card that proves itself has no doubt, and a card has at most one.
-use Rattle.kd_prices.proofs.Prelude.{◌≡◌, ℕ, List, [], ◌∷◌, ◌++◌, length, refl, sym, ap, ◌∙◌, subst, arith, ◌↔◌}
-use Rattle.kd_prices.proofs.Prelude.{cases_order, false≢true, Parts, Setting, Why, why_refused, Leads, Day, cost_table}
-use Rattle.kd_prices.proofs.Prelude.{leads_to_one, PriceParts, AreSettingsNeeded, Proves, IllegalAt, NeedlessLine}
-use Rattle.kd_prices.proofs.Prelude.{IsFirstWithout, IsFirstNeedless, Result, Ok, Err, IsOk, IfErr, GoesOn}
-use Rattle.kd_prices.proofs.Prelude.{HasOneAnswer, HasOneAnswer-ThenNext, HasOneAnswer-Finds, HasOneAnswer-Demands}
-use Rattle.kd_prices.proofs.Prelude.{ThenNext-Ok}
-use Rattle.{kd_state.specs.Setting.IsFirstIllegal, kd_prices.proofs.Leading.needed_at}
-use Rattle.kd_prices.proofs.{Leading.Leads-not_refused, Meaning.are_numbered, Meaning.of_one_model}
-use Rattle.kd_prices.proofs.{Meaning.one_expansion}
-use Rattle.kd_prices.specs.{declared.doubt.Doubt.Doubt}
-use Rattle.kd_prices.specs.{Doubt.{IsCarriedAnswer, IsFitsAnswer, IsNeededAnswer, IsCheckedAnswer, IsDoubt}}
+use Rattle.kd_prices.proofs.Leading.{Leads-not_refused, needed_at}
+use Rattle.kd_prices.proofs.Meaning.{are_numbered, of_one_model, one_expansion}
+use Rattle.kd_prices.specs.Doubt.{IsCarriedAnswer, IsDoubt, IsFitsAnswer}
+use Rattle.kd_state.specs.Setting.{IsFirstIllegal}
+use Rattle.kd_prices.proofs.Prelude.{AreSettingsNeeded, Day, Doubt, Err, GoesOn, HasOneAnswer, HasOneAnswer-Demands}
+use Rattle.kd_prices.proofs.Prelude.{HasOneAnswer-Finds, HasOneAnswer-ThenNext, IfErr, IllegalAt, IsCheckedAnswer}
+use Rattle.kd_prices.proofs.Prelude.{IsFirstNeedless, IsFirstWithout, IsNeededAnswer, IsOk, Leads, List, NeedlessLine}
+use Rattle.kd_prices.proofs.Prelude.{Ok, Parts, PriceParts, Proves, Result, Setting, ThenNext-Ok, Why, [], ap, arith}
+use Rattle.kd_prices.proofs.Prelude.{cases_order, cost_table, false≢true, leads_to_one, length, refl, subst, sym}
+use Rattle.kd_prices.proofs.Prelude.{why_refused, ℕ, ◌++◌, ◌↔◌, ◌∙◌, ◌∷◌, ◌≡◌}
 
 -- A list has only one good prefix that, with the item after it, begins no good list.
 one_front : {X : Type 0} (Good : List X → Type 0) (front other after behind : List X) (x y : X)

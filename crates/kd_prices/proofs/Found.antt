@@ -1,113 +1,86 @@
 -- If a result is right for the prices that were found for rows and columns, it is right for the check of the card.
-use Rattle.kd_prices.proofs.Prelude.{◌≡◌, ℕ, List, length, refl, ◌∙◌, ap, ℤ, Parts, Rotor, Pin, Setting, Day, OfRotors}
-use Rattle.kd_prices.proofs.Prelude.{OfPins, PriceParts, Cables, Bars, CableKinds, BarKinds, ByNumber, version_of}
-use Rattle.kd_prices.proofs.Prelude.{row_prices, column_prices, table_rows, ArePrices, ArePricesInRange, AreKindsOf}
-use Rattle.kd_prices.proofs.Prelude.{cable_sort, pair_sort, bar_sort, row_sort, columns_in_order, AreExpanded, Expands}
-use Rattle.kd_prices.proofs.Prelude.{Same, Expanded, AreOfOneModel, Result, PriceMissing, GoesOn, HasFault, Err}
-use Rattle.kd_prices.specs.{declared.doubt.Doubt.Doubt, Doubt.{IsByPricesAnswer, IsByKindAnswer, IsCheckedAnswer}}
-use Rattle.kd_card.specs.declared.kinds.CableKind.{CableKind}
-use Rattle.kd_card.specs.declared.kinds.PairKind.{PairKind}
-use Rattle.kd_card.specs.declared.kinds.BarKind.{BarKind}
-use Rattle.kd_card.specs.declared.kinds.RowKind.{RowKind}
-use Rattle.kd_state.specs.declared.machine.rotor_parts.RotorParts.{RotorParts}
-use Rattle.kd_state.specs.declared.machine.pin_parts.PinParts.{PinParts}
-use Rattle.kd_state.specs.SheetDay.{RotorDay, PinDay}
+use Rattle.kd_prices.proofs.Meaning.{are_numbered}
+use Rattle.kd_prices.{specs.{Doubt.{ArePricesFound, IsByNumberAnswer}, Grouping.AreBothPrices}}
+use Rattle.kd_state.specs.FirstFaults.{Finds}
+use Rattle.kd_prices.proofs.Prelude.{AreModelPrices, AreOfOneModel, ArePrices, BarKind, BarKinds, Bars, BelongTo}
+use Rattle.kd_prices.proofs.Prelude.{CableKind, CableKinds, Cables, Day, Doubt, Err, Expanded, Expands, GoesOn}
+use Rattle.kd_prices.proofs.Prelude.{HasFault, IsCheckedAnswer, List, OfPins, OfRotors, Ok, OtherModel, PairKind, Parts}
+use Rattle.kd_prices.proofs.Prelude.{Pin, PinDay, PinParts, PriceMissing, PriceParts, Result, Rotor, RotorDay}
+use Rattle.kd_prices.proofs.Prelude.{RotorParts, RowKind, Same, Setting, ap, arith, bar_sort, cable_sort, column_prices}
+use Rattle.kd_prices.proofs.Prelude.{columns_in_order, day_model, length, model_of, pair_sort, refl, row_prices}
+use Rattle.kd_prices.proofs.Prelude.{row_sort, subst, sym, ℤ, ◌∙◌, ◌≡◌}
 
-module _ (m : Parts) (s : Day) (settings : List Setting) (prices : PriceParts) (one : AreOfOneModel m s prices)
-    (answer : Result (Unit {0}) Doubt) where
-  pub by_prices_says : version_of prices ≡ ByNumber
-      → IsByPricesAnswer m s settings (table_rows prices) (row_prices prices) (column_prices prices) answer
+same_fault : {F X : Type 0} {f g : F} → ◌≡◌ {A = Result X F} (Err f) (Err g) → f ≡ g
+same_fault e = cc
+
+-- ---- from the prices that were found to the check
+
+module _ (m : Parts) (s : Day) (settings : List Setting) (prices : PriceParts) (make : List ℤ → List ℤ → PriceParts)
+    (model : model_of m ≡ day_model s) where
+  pub by_found : (found : List ℤ × List ℤ) (answer : Result (Unit {0}) Doubt)
+      → ArePricesFound m s prices make (Ok found) → IsByNumberAnswer m s settings (make found.0 found.1) answer
       → IsCheckedAnswer m s settings prices answer
-  by_prices_says by says = GoesOn tt one (GoesOn prices (Same by refl) (says prices refl refl refl))
+  by_found found answer (HasFault fault none e) says = absurd (cc)
+  by_found found answer (GoesOn x belong expands) says =
+      GoesOn tt (record { model = model; belong = belong }) (GoesOn (make found.0 found.1) expands says)
 
-  by_kind_says : (number : ℕ) (make : List ℤ → List ℤ → PriceParts) (OfRows OfColumns : List ℤ → Type 0)
-      → ((rows columns : List ℤ) → OfRows rows → OfColumns columns
-      → Expands m s prices (make rows columns) × (row_prices (make rows columns) ≡ rows)
-      × (column_prices (make rows columns) ≡ columns) × (table_rows (make rows columns) ≡ number))
-      → ((numbered : PriceParts) → Expands m s prices numbered
-      → (found : List ℤ × List ℤ) × OfRows found.0 × OfColumns found.1)
-      → IsByKindAnswer m s settings number OfRows OfColumns answer → IsCheckedAnswer m s settings prices answer
-  by_kind_says number make OfRows OfColumns made found (HasFault fault none e) =
-      GoesOn tt one (HasFault PriceMissing
-      ((λ numbered expands. let all = found numbered expands in none.0 all.0 (all.1, all.2)), refl)
-      (e ∙ ap Err none.1))
-  by_kind_says number make OfRows OfColumns made found (GoesOn x has says) =
-      let all = made x.0 x.1 has.0 has.1 in
-      GoesOn tt one (GoesOn (make x.0 x.1) all.0 (says (make x.0 x.1) all.1 all.2 all.3))
-
-module _ (m : RotorParts) (s : RotorDay) (row : List CableKind) (col : List PairKind) where
-  abbrev cable_prices : PriceParts
-  cable_prices = CableKinds (record { items = row }) (record { items = col })
-
-  of_cables : (numbered : PriceParts) → ArePrices numbered → AreExpanded (Rotor m) (OfRotors s) cable_prices numbered
-      → (found : List ℤ × List ℤ) × (AreKindsOf cable_sort m.cables found.0 row × ArePricesInRange found.0)
-      × (AreKindsOf pair_sort (columns_in_order s.pairs) found.1 col × ArePricesInRange found.1)
-  of_cables (Cables r c) are is = ((r, c), (is.0, are.row_reach), (is.1, are.column_reach))
-  of_cables numbered are is = absurd (assumption)
-
-  pub cable_kinds_say : (settings : List Setting) → AreOfOneModel (Rotor m) (OfRotors s) cable_prices
-      → ArePrices cable_prices → length m.cables ≡ 13 → length (columns_in_order s.pairs) ≡ 13
-      → (answer : Result (Unit {0}) Doubt)
-      → IsByKindAnswer (Rotor m) (OfRotors s) settings 13
-      (λ r. AreKindsOf cable_sort m.cables r row × ArePricesInRange r)
-      (λ c. AreKindsOf pair_sort (columns_in_order s.pairs) c col × ArePricesInRange c) answer
-      → IsCheckedAnswer (Rotor m) (OfRotors s) settings cable_prices answer
-  cable_kinds_say settings one are many also answer =
-      by_kind_says (Rotor m) (OfRotors s) settings cable_prices one answer 13 Cables _ _
-      (λ rows columns a b. (
-        Expanded are
-            (record {
-              rows = a.0.number ∙ many;
-              columns = b.0.number ∙ also;
-              row_reach = a.1;
-              column_reach = b.1;
-              kinds = tt;
-            })
-            (a.0, b.0),
+  pub by_fault : ((numbered : PriceParts) → AreModelPrices m numbered
+      → make (row_prices numbered) (column_prices numbered) ≡ numbered) → (doubt : Doubt)
+      → ArePricesFound m s prices make (Err doubt) → IsCheckedAnswer m s settings prices (Err doubt)
+  by_fault made doubt (HasFault fault none e) =
+      HasFault OtherModel ((λ same one. none.0 tt one.belong), refl) (ap Err (same_fault e ∙ none.1))
+  by_fault made doubt (GoesOn x belong none) =
+      let one : AreOfOneModel m s prices = record { model = model; belong = belong } in
+      GoesOn tt one (HasFault PriceMissing (
+        (λ numbered expands.
+            none.0 (row_prices numbered, column_prices numbered)
+            (subst (Expands m s prices) (sym (made numbered (are_numbered m s prices numbered one expands).kind)) expands)),
         refl,
-        refl,
-        refl,
-      ))
-      (λ numbered expands. elim expands [
+      ) (ap Err none.1))
+
+-- ---- prices of kinds
+
+pub cable_kinds_found : (m : RotorParts) (s : RotorDay) (row : List CableKind) (col : List PairKind)
+    → ArePrices (CableKinds (record { items = row }) (record { items = col })) → length m.cables ≡ 13
+    → length (columns_in_order s.pairs) ≡ 13 → (answer : Result (List ℤ × List ℤ) Doubt)
+    → Finds (λ found. AreBothPrices cable_sort pair_sort m.cables (columns_in_order s.pairs) row col found.0 found.1) PriceMissing answer
+    → ArePricesFound (Rotor m) (OfRotors s) (CableKinds (record { items = row }) (record { items = col })) Cables answer
+cable_kinds_found m s row col are many also (Ok found) both =
+    GoesOn tt tt (Expanded are (record { rows = both.of_rows.number ∙ many; columns = both.of_columns.number ∙ also; row_reach = both.row_reach; column_reach = both.column_reach; kinds = tt }) (both.of_rows, both.of_columns))
+cable_kinds_found m s row col are many also (Err doubt) none =
+    GoesOn tt tt (
+      (λ found expands. elim expands [
         | Same by same ↦ absurd (cc)
-        | Expanded good fine is ↦ of_cables numbered
-            fine is
-      ])
+        | Expanded good fine is ↦ none.0 found (record { of_rows = is.0; of_columns = is.1; row_reach = fine.row_reach; column_reach = fine.column_reach })
+      ]),
+      none.1,
+    )
 
-module _ (m : PinParts) (s : PinDay) (row : List BarKind) (col : List RowKind) where
-  abbrev bar_prices : PriceParts
-  bar_prices = BarKinds (record { items = row }) (record { items = col })
-
-  of_bars : (numbered : PriceParts) → ArePrices numbered → AreExpanded (Pin m) (OfPins s) bar_prices numbered
-      → (found : List ℤ × List ℤ) × (AreKindsOf bar_sort m.bars found.0 row × ArePricesInRange found.0)
-      × (AreKindsOf row_sort s.rows found.1 col × ArePricesInRange found.1)
-  of_bars (Bars r c) are is = ((r, c), (is.0, are.row_reach), (is.1, are.column_reach))
-  of_bars numbered are is = absurd (assumption)
-
-  pub bar_kinds_say : (settings : List Setting) → AreOfOneModel (Pin m) (OfPins s) bar_prices
-      → ArePrices bar_prices → length m.bars ≡ 27 → length s.rows ≡ 27
-      → (answer : Result (Unit {0}) Doubt)
-      → IsByKindAnswer (Pin m) (OfPins s) settings 27 (λ r. AreKindsOf bar_sort m.bars r row × ArePricesInRange r)
-      (λ c. AreKindsOf row_sort s.rows c col × ArePricesInRange c) answer
-      → IsCheckedAnswer (Pin m) (OfPins s) settings bar_prices answer
-  bar_kinds_say settings one are many also answer =
-      by_kind_says (Pin m) (OfPins s) settings bar_prices one answer 27 Bars _ _
-      (λ rows columns a b. (
-        Expanded are
-            (record {
-              rows = a.0.number ∙ many;
-              columns = b.0.number ∙ also;
-              row_reach = a.1;
-              column_reach = b.1;
-              kinds = tt;
-            })
-            (a.0, b.0),
-        refl,
-        refl,
-        refl,
-      ))
-      (λ numbered expands. elim expands [
+pub bar_kinds_found : (m : PinParts) (s : PinDay) (row : List BarKind) (col : List RowKind)
+    → ArePrices (BarKinds (record { items = row }) (record { items = col })) → length m.bars ≡ 27
+    → length s.rows ≡ 27 → (answer : Result (List ℤ × List ℤ) Doubt)
+    → Finds (λ found. AreBothPrices bar_sort row_sort m.bars s.rows row col found.0 found.1) PriceMissing answer
+    → ArePricesFound (Pin m) (OfPins s) (BarKinds (record { items = row }) (record { items = col })) Bars answer
+bar_kinds_found m s row col are many also (Ok found) both =
+    GoesOn tt tt (Expanded are (record { rows = both.of_rows.number ∙ many; columns = both.of_columns.number ∙ also; row_reach = both.row_reach; column_reach = both.column_reach; kinds = tt }) (both.of_rows, both.of_columns))
+bar_kinds_found m s row col are many also (Err doubt) none =
+    GoesOn tt tt (
+      (λ found expands. elim expands [
         | Same by same ↦ absurd (cc)
-        | Expanded good fine is ↦ of_bars numbered fine
-            is
-      ])
+        | Expanded good fine is ↦ none.0 found (record { of_rows = is.0; of_columns = is.1; row_reach = fine.row_reach; column_reach = fine.column_reach })
+      ]),
+      none.1,
+    )
+
+-- prices that are for the other sort of machine
+pub other_sort : (m : Parts) (s : Day) (prices : PriceParts) (make : List ℤ → List ℤ → PriceParts)
+    → ¬ (BelongTo m prices) → ArePricesFound m s prices make (Err OtherModel)
+other_sort m s prices make other = HasFault OtherModel ((λ same. other), refl) refl
+
+pub cables_made : (m : RotorParts) (numbered : PriceParts) → AreModelPrices (Rotor m) numbered
+    → Cables (row_prices numbered) (column_prices numbered) ≡ numbered
+cables_made m numbered are = grind arith
+
+pub bars_made : (m : PinParts) (numbered : PriceParts) → AreModelPrices (Pin m) numbered
+    → Bars (row_prices numbered) (column_prices numbered) ≡ numbered
+bars_made m numbered are = grind arith

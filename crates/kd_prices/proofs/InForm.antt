@@ -1,12 +1,11 @@
 -- The cables of a machine and the columns of a day are in the form that a card writes: their letters are in order.
 use Rattle.std.specs.List.{IsDistinct}
-use Rattle.kd_prices.proofs.Prelude.{◌≡◌, ℕ, zero, suc, ◌-◌, ◌<◌, false, eqb, List, [], ◌∷◌, ◌++◌, length, replicate}
-use Rattle.kd_prices.proofs.Prelude.{Option, Some, None, ap, arith, AllByRecursion, eqb-false, All-from_recursion}
-use Rattle.kd_prices.proofs.Prelude.{recursion_from_All, letters_in_pairs, NoLetterTwice, Parts, Rotor, Pin}
-use Rattle.kd_prices.proofs.Prelude.{letters_in_cables, cable_in_order, IsMachine, OfRotors, IsLegalDay, All, nat_tests}
-use Rattle.kd_prices.proofs.Prelude.{AreEnds, IsPairInOrder, columns_in_order, pair_in_order, map}
-use Rattle.kd_state.specs.declared.machine.rotor_parts.RotorParts.{RotorParts}
-use Rattle.kd_state.specs.SheetDay.{RotorDay}
+use Rattle.kd_prices.proofs.Prelude.{All, All-from_recursion, AllByRecursion, AreEnds, IsLegalDay, IsMachine}
+use Rattle.kd_prices.proofs.Prelude.{IsPairInOrder, List, NoLetterTwice, None, OfRotors, Option, Parts, Pin, Rotor}
+use Rattle.kd_prices.proofs.Prelude.{RotorDay, RotorParts, Some, [], ap, arith, cable_in_order, columns_in_order, eqb}
+use Rattle.kd_prices.proofs.Prelude.{eqb-false, false, length, letters_in_cables, letters_in_pairs, map, nat_tests}
+use Rattle.kd_prices.proofs.Prelude.{pair_in_order, recursion_from_All, replicate, suc, zero, ℕ, ◌++◌, ◌-◌, ◌<◌, ◌∷◌}
+use Rattle.kd_prices.proofs.Prelude.{◌≡◌}
 
 abbrev in_each_order : List (Option ℕ × Option ℕ) → List (Option ℕ × Option ℕ)
 in_each_order cables = map (λ cable. cable_in_order cable.0 cable.1) cables

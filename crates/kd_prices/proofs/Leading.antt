@@ -1,13 +1,12 @@
 -- Lists of settings that lead from one machine to another, split and joined.
-use Rattle.kd_prices.proofs.Prelude.{leads_next, ap, ◌∙◌, ◌≡◌, Some, ℕ, ◌+◌, ◌<◌, List, [], ◌∷◌, ◌++◌, length, get_or}
-use Rattle.kd_prices.proofs.Prelude.{sym, subst, arith, take, take-append-drop, Parts, Setting, Why, why_refused}
-use Rattle.kd_prices.proofs.Prelude.{machine_after, Leads, Day, IsSettingNeeded, AreSettingsNeeded, Result, Ok, Err}
-use Rattle.kd_prices.proofs.Prelude.{NeedlessLine}
-use Rattle.{kd_card.specs.Proving.is_priced_setting, kd_prices.specs.Doubt.IsNeededAnswer}
-use Rattle.{kd_prices.specs.declared.doubt.Doubt.Doubt, kd_state.specs.Costs.loose_count}
-use Rattle.{kd_card.proofs.Falling.model_of-changed, kd_state.specs.Machine.model_of, kd_state.specs.SheetDay.day_model}
-use Rattle.{kd_state.specs.Setting.Carries, std.proofs.Math.Seq.drop-cons, std.proofs.lemmas.List.length-take-le}
-use Rattle.std.{proofs.lemmas.List.take_more, specs.Prelude.IsFalse, specs.Result.MatchResult, specs.Result.result_and}
+use Rattle.kd_card.{proofs.Falling.model_of-changed, specs.Proving.is_priced_setting}
+use Rattle.kd_state.specs.{Costs.loose_count, Setting.Carries}
+use Rattle.std.proofs.{Math.Seq.drop-cons, lemmas.List.length-take-le}
+use Rattle.std.{specs.{Prelude.IsFalse, Result.{MatchResult, result_and}}}
+use Rattle.kd_prices.proofs.Prelude.{AreSettingsNeeded, Day, Doubt, Err, IsNeededAnswer, IsSettingNeeded, Leads, List}
+use Rattle.kd_prices.proofs.Prelude.{NeedlessLine, Ok, Parts, Result, Setting, Some, Why, [], ap, arith, day_model}
+use Rattle.kd_prices.proofs.Prelude.{get_or, leads_next, length, machine_after, model_of, subst, sym, take}
+use Rattle.kd_prices.proofs.Prelude.{take-append-drop, take_more, why_refused, ℕ, ◌++◌, ◌+◌, ◌<◌, ◌∙◌, ◌∷◌, ◌≡◌}
 
 -- If `front` leads from `m` to `between`, and `front` with `rest` leads to `n`, then `rest` leads from `between`
 -- to `n`.

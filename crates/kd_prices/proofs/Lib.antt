@@ -1,11 +1,7 @@
 pub mod Prelude
+pub mod Taking
+pub mod Runs
 pub mod Leading
-pub mod Ascending
-pub mod Counting
-pub mod Counted
-pub mod OnePrice
-pub mod Sorted
-pub mod Grouped
 pub mod Meaning
 pub mod Doubts
 pub mod Found

@@ -1,7 +1,7 @@
 -- The rest of a card that proves itself, after its first lines.
-use Rattle.kd_prices.proofs.Prelude.{leads_join, proving_cards_are_shortest, ◌++◌, sym, subst, arith, length-append}
-use Rattle.kd_prices.proofs.Prelude.{length-drop, take-append-drop, length-take, Leads, RestIsShortest, take, drop}
 use Rattle.kd_prices.proofs.Leading.{leads_on}
+use Rattle.kd_prices.proofs.Prelude.{Leads, RestIsShortest, arith, drop, leads_join, length-append, length-drop}
+use Rattle.kd_prices.proofs.Prelude.{length-take, proving_cards_are_shortest, subst, sym, take, take-append-drop, ◌++◌}
 
 pub rest_is_shortest : RestIsShortest
 rest_is_shortest m between s settings prices lines machine legal are_prices proves within leads =

@@ -117,10 +117,10 @@ IsByPricesAnswer m s settings number rows columns answer =
     (prices : PriceParts) → row_prices prices ≡ rows → column_prices prices ≡ columns → table_rows prices ≡ number
     → IsByNumberAnswer m s settings prices answer
 
--- The result of checking the settings by prices of rows that satisfy `AreOfRows`, and prices of columns that
--- satisfy `AreOfColumns`. If there are no such prices, it is the doubt `PriceMissing`.
-abbrev pub IsByKindAnswer : Parts → Day → List Setting → ℕ → (List ℤ → Type 0) → (List ℤ → Type 0)
-    → AnswerRule Doubt (Unit {0})
-IsByKindAnswer m s settings number AreOfRows AreOfColumns = do
-  found ← Finds (λ (found : List ℤ × List ℤ). AreOfRows found.0 × AreOfColumns found.1) PriceMissing
-  IsByPricesAnswer m s settings number found.0 found.1
+-- The result of finding a price for each row and each column of the table of costs, from which `make` makes prices by
+-- number: these prices, or the first doubt.
+abbrev pub ArePricesFound : Parts → Day → PriceParts → (List ℤ → List ℤ → PriceParts)
+    → AnswerRule Doubt (List ℤ × List ℤ)
+ArePricesFound m s prices make = do
+  _ ← Demands (BelongTo m prices) OtherModel
+  Finds (λ (found : List ℤ × List ℤ). Expands m s prices (make found.0 found.1)) PriceMissing

@@ -1,86 +1,68 @@
 -- Grouping things with prices into kinds, and finding the price of a thing in the kinds. Things are the letters of
 -- cables or columns, standings or readings. No contract of a public function cites these definitions.
-use Rattle.std.specs.Prelude.{◌≡◌, ◌≢◌, ℕ, ◌+◌, ◌-◌, ◌<◌, ◌≤◌, List, [], ◌∷◌, ◌++◌, length, map, set, count_by, ℤ, All}
-use Rattle.std.specs.Prelude.{IsPermutation, slice_index_or, Bool, true, false, Option, Some, None}
-use Rattle.std.specs.List.{Contains, zip}
-use Rattle.std.specs.Ordering.{ordering_then, int_cmp}
+use Rattle.std.specs.Prelude.{◌≡◌, ◌≤◌, List, ◌∷◌, ◌++◌, map, replicate, count_by, ℤ, All}
+use Rattle.std.specs.Prelude.{IsPermutation, Bool, true, false, Option, unsigned_abs}
+use Rattle.std.specs.{List.{Contains, zip, Sorted.{IsSorted}}, Ordering.{ordering_then, int_cmp}}
 use Rattle.std.specs.declared.cmp.Ordering.{Ordering}
-use Rattle.std.specs.declared.cmp.Ordering.TheVariants.{Less}
 use Rattle.kd_card.specs.declared.kinds.KindOf.{KindOf}
-use Rattle.kd_card.specs.Kinds.{Sort, ComesAfter, expansion}
+use Rattle.kd_card.specs.{Kinds.{Sort, ComesAfter, AreKinds, AreKindsOf, expansion}, Prices.{ArePricesInRange}}
 
 -- In this list of things with their prices, equal things have equal prices.
 abbrev pub HaveOnePriceEach : {X : Type 0} → List (X × ℤ) → Type 0
 HaveOnePriceEach {X} pairs =
     (thing : X) (price other : ℤ) → Contains pairs (thing, price) → Contains pairs (thing, other) → price ≡ other
 
--- The things are strictly ascending in the order `cmp`.
-abbrev pub Ascend : {X : Type 0} → (X → X → Ordering) → List X → Type 0
-Ascend {X} cmp things =
-    (k : ℕ) (d : X) → k + 1 < length things
-    → cmp (slice_index_or things k d) (slice_index_or things (k + 1) d) ≡ Less
+-- A thing in the form that a card writes, with a price from -9999 to 9999.
+abbrev pub IsFine : {K X : Type 0} → Sort K X → X × ℤ → Type 0
+IsFine sort pair = sort.InForm pair.0 × (unsigned_abs pair.1 ≤ 9999)
 
--- The kinds are strictly ascending in the order `cmp`, and each count is at least 1. Listing each kind as many
--- times as its count says gives `pairs`, the things with their prices, in some order.
-pub record AreRunsOf {X : Type 0} (cmp : X → X → Ordering) (pairs : List (X × ℤ)) (kinds : List (KindOf X))
-    : Type 0 where
-  pub in_order : Ascend cmp (map (λ kind. kind.thing) kinds)
-  pub some : All (λ kind. 1 ≤ kind.count) kinds
-  pub expand : IsPermutation pairs (expansion kinds)
+-- a kind of one thing, which has this price
+abbrev pub first_of : {X : Type 0} → X × ℤ → KindOf X
+first_of pair = record { thing = pair.0; count = 1; price = pair.1 }
 
--- One of the kinds has this thing and this price.
-pub record IsPriceOf {X : Type 0} (kinds : List (KindOf X)) (thing : X) (price : ℤ) : Type 0 where
-  pub kind : KindOf X
-  pub among : Contains kinds kind
-  pub of_thing : kind.thing ≡ thing
-  pub of_price : kind.price ≡ price
+-- These things with their prices are sorted, by the things and then by the prices. Equal things have equal prices.
+-- All of them are in the form that a card writes.
+pub record CanBeKinds {K X : Type 0} (sort : Sort K X) (cmp : X → X → Ordering) (pairs : List (X × ℤ)) : Type 0 where
+  pub sorted : IsSorted (λ one other. ordering_then (cmp one.0 other.0) (int_cmp one.1 other.1)) pairs
+  pub one_price : HaveOnePriceEach pairs
+  pub fine : All (IsFine sort) pairs
 
--- None of the kinds has this thing.
-abbrev pub HasNoKind : {X : Type 0} → List (KindOf X) → X → Type 0
-HasNoKind {X} kinds thing = (kind : KindOf X) → Contains kinds kind → kind.thing ≢ thing
+-- `new` is `old` with the kinds of `pairs` and of the things that `kind` counts.
+pub record AppendsKinds {K X : Type 0} (sort : Sort K X) (cmp : X → X → Ordering) (kind : KindOf X)
+    (pairs : List (X × ℤ)) (old new : List K) : Type 0 where
+  pub made : List K
+  pub is : new ≡ old ++ made
+  pub expand : expansion (map sort.kind made) ≡ replicate kind.count (kind.thing, kind.price) ++ pairs
+  pub in_order : (last : Option K) → CanBeKinds sort cmp ((kind.thing, kind.price) ∷ pairs)
+      → ((first : K) → (sort.kind first).thing ≡ kind.thing → ComesAfter sort last first)
+      → AreKinds sort last made
 
--- The kind's count is the number of `things` that are equal to the kind's thing, and isn't 0.
-pub record IsCounted {X : Type 0} (eq : X → X → Bool) (things : List X) (kind : KindOf X) : Type 0 where
-  pub some : 1 ≤ kind.count
-  pub number : kind.count ≡ count_by (λ thing. eq thing kind.thing) things
+-- ---- the price of each thing of a kind
 
--- There is one price for each thing, and `kinds` are the kinds of the things with these prices.
-pub record ArePricesOf {X : Type 0} (cmp : X → X → Ordering) (things : List X) (kinds : List (KindOf X))
-    (prices : List ℤ) : Type 0 where
-  pub number : length prices ≡ length things
-  pub of_kinds : AreRunsOf cmp (zip things prices) kinds
+-- No kind with this thing has a count above 0.
+abbrev pub HasNoneLeft : {X : Type 0} → (X → X → Bool) → List (KindOf X) → X → Type 0
+HasNoneLeft eq kinds thing = count_by (λ other. eq other.0 thing) (expansion kinds) ≡ 0
 
--- The kinds are strictly ascending in the order of a card's lines. If there is a kind `last`, they come after it.
-abbrev pub AreInOrder : {K X : Type 0} → Sort K X → Option K → List K → Type 0
-AreInOrder sort last [] = Unit {0}
-AreInOrder sort last (kind ∷ kinds) = ComesAfter sort last kind × AreInOrder sort (Some kind) kinds
+-- The kinds `left` are `kinds` with one `thing` less, which has this price.
+abbrev pub TakesOne : {X : Type 0} → List (KindOf X) → X → ℤ → List (KindOf X) → Type 0
+TakesOne kinds thing price left = IsPermutation (expansion kinds) ((thing, price) ∷ expansion left)
 
--- The kinds are strictly ascending in the order of a card's lines, and each count is at least 1. Listing each kind
--- as many times as its count says gives `pairs`, the things with their prices, in some order.
-pub record AreGroupsOf {K X : Type 0} (sort : Sort K X) (pairs : List (X × ℤ)) (kinds : List K) : Type 0 where
-  pub in_order : AreInOrder sort None kinds
-  pub some : All (λ kind. 1 ≤ (sort.kind kind).count) kinds
-  pub expand : IsPermutation pairs (expansion (map sort.kind kinds))
+-- Of each thing, the kinds count at least as many as there are in `things`.
+abbrev pub HaveThings : {X : Type 0} → (X → X → Bool) → List (KindOf X) → List X → Type 0
+HaveThings {X} eq kinds things =
+    (thing : X)
+    → count_by (λ other. eq other thing) things ≤ count_by (λ other. eq other.0 thing) (expansion kinds)
 
--- ---- one thing more
+-- True: the kinds `left` are `kinds` without these things, which have these prices. False: `kinds` don't have the
+-- things.
+abbrev pub TakesAll : {X : Type 0} → (X → X → Bool) → List (KindOf X) → List X → List ℤ → List (KindOf X) → Bool
+    → Type 0
+TakesAll eq kinds things prices left true = IsPermutation (expansion kinds) (zip things prices ++ expansion left)
+TakesAll eq kinds things prices left false = ¬ (HaveThings eq kinds things)
 
--- the order of things with their prices: first by the things, in the order `cmp`, then by the prices
-abbrev pub pair_cmp : {X : Type 0} → (X → X → Ordering) → X × ℤ → X × ℤ → Ordering
-pair_cmp cmp x y = ordering_then (cmp x.0 y.0) (int_cmp x.1 y.1)
-
--- `kind` is the last of `kinds`.
-pub record IsLast {X : Type 0} (kinds : List (KindOf X)) (kind : KindOf X) : Type 0 where
-  pub some : 0 < length kinds
-  pub last : kind ≡ slice_index_or kinds (length kinds - 1) kind
-
--- `new` is `kinds` with one more thing. `Alike`: the last kind has this thing and price, and its count grows by
--- one. `Another`: the last kind has another thing, or there is no kind, and a new kind is added. `Refused`: the
--- last kind has this thing, but another price, and `done` is false.
-pub data CountsIn {X : Type 0} (kinds : List (KindOf X)) (thing : X) (price : ℤ) (done : Bool)
-    (new : List (KindOf X)) : Type 0 where
-  Alike : (kind : KindOf X) → IsLast kinds kind → kind.thing ≡ thing → kind.price ≡ price → done ≡ true
-      → new ≡ set kinds (length kinds - 1) (record kind { count = kind.count + 1 }) → CountsIn kinds thing price done new
-  Another : ((kind : KindOf X) → IsLast kinds kind → kind.thing ≢ thing) → done ≡ true
-      → new ≡ kinds ++ record { thing = thing; count = 1; price = price } ∷ [] → CountsIn kinds thing price done new
-  Refused : (kind : KindOf X) → IsLast kinds kind → kind.thing ≡ thing → kind.price ≢ price → done ≡ false
-      → CountsIn kinds thing price done new
+pub record AreBothPrices {K L X Y : Type 0} (row_sort : Sort K X) (column_sort : Sort L Y) (row_things : List X)
+    (column_things : List Y) (row_kinds : List K) (column_kinds : List L) (rows columns : List ℤ) : Type 0 where
+  pub of_rows : AreKindsOf row_sort row_things rows row_kinds
+  pub of_columns : AreKindsOf column_sort column_things columns column_kinds
+  pub row_reach : ArePricesInRange rows
+  pub column_reach : ArePricesInRange columns

@@ -1,20 +1,28 @@
 //! Checks whether a card proves itself, or finds the first doubt about the card.
-ghost use Rattle.std.specs.Prelude.{◌≡◌, ◌↔◌, ◌≤◌, length, IsOk, IfErr};
+ghost use Rattle.std.specs.Prelude.{◌≡◌, ◌↔◌, ◌≤◌, length, IsOk, IfOk, IfErr};
 ghost use Rattle.kd_state.specs.Costs.{cost_table};
-ghost use Rattle.kd_state.specs.{Machine.{model_of}, SheetDay.{day_model}};
-ghost use Rattle.kd_card.specs.Kinds.{AreKindsOf};
-ghost use Rattle.kd_card.specs.Prices.{ArePricesInRange};
+ghost use Rattle.kd_state.specs.{Entry.{rotor_values, pin_values}, FirstFaults.{Finds}};
+ghost use Rattle.kd_state.specs.declared.machine.parts.Parts.TheVariants.{Rotor, Pin};
+ghost use Rattle.kd_state.specs.Machine.{model_of, IsMachine};
+ghost use Rattle.kd_state.specs.SheetDay.{day_model, IsLegalDay, OfRotors, OfPins};
+ghost use Rattle.kd_card.specs.declared.prices.PriceParts.TheVariants.{Cables, Bars};
+ghost use Rattle.kd_card.specs.Prices.{ArePrices, ArePricesInRange};
 ghost use Rattle.kd_card.specs.CardText.{IsGroup};
 ghost use Rattle.kd_card.specs.Proving.{Proves, priced_count};
-ghost use Rattle.kd_prices.specs.Doubt.{IsDoubt, IsCheckedAnswer, IsByPricesAnswer, IsByKindAnswer};
+ghost use Rattle.kd_prices.specs.Doubt.{IsDoubt, IsCheckedAnswer, IsByPricesAnswer, ArePricesFound};
+ghost use Rattle.kd_prices.specs.Grouping.{AreBothPrices};
 
 use super::doubt::Doubt;
 use super::expanding::prices_of;
 use super::fitting::first_too_high;
 use super::things::{columns_of, ends_of};
 use super::walking::{carry_settings, is_priced_setting};
+use arrayvec::ArrayVec;
 use kd_card::{Card, Kind, PriceParts, sum_of_prices};
-use kd_state::{Machine, OneModel, Setting, SheetDay, bar_costs, cable_costs};
+use kd_state::{
+    Machine, OneModel, PinEntry, PinParts, RotorEntry, RotorParts, Setting, SheetDay, bar_costs,
+    cable_costs,
+};
 
 /// Checks that `card` proves itself, or finds the first doubt about it.
 ///
@@ -29,88 +37,97 @@ pub fn check(machine: &Machine, day: &SheetDay, card: &Card) -> Result<(), Doubt
     first_doubt(machine, day, card)
 }
 
-/// Compares the models of machine and day, then makes the table of costs and checks `card` by this table.
+/// Compares the models, finds a price for each row and column of the table of costs, and checks `card` by them.
 fn first_doubt(machine: &Machine, day: &SheetDay, card: &Card) -> Result<(), Doubt>
     ensures { IsCheckedAnswer machine.now day.now card.now.settings.items card.now.prices result }
 {
-    let Some(one_model) = machine.of_one_model(day) else {
-        return Err(Doubt::OtherModel);
-    };
     let settings = card.settings.as_slice();
-    match (one_model, card.prices.parts()) {
-        (OneModel::Rotor(parts, entry), PriceParts::Cables(rows, columns)) => {
+    match machine.of_one_model(day) {
+        None => Err(Doubt::OtherModel),
+        Some(OneModel::Rotor(parts, entry)) => {
+            let (rows, columns) = cable_prices(parts, entry, card.prices.parts())?;
             let costs = cable_costs(&parts.cables, entry.pairs.as_slice());
             doubt_by_prices(machine, day, settings, &costs, &rows, &columns)
         }
-        (OneModel::Rotor(parts, entry), PriceParts::CableKinds(rows, columns)) => {
-            let costs = cable_costs(&parts.cables, entry.pairs.as_slice());
-            let ends = ends_of(&parts.cables);
-            let pairs = columns_of(entry.pairs.as_slice());
-            doubt_by_kinds(
-                machine,
-                day,
-                settings,
-                &costs,
-                ends.as_slice(),
-                pairs.as_slice(),
-                rows.as_slice(),
-                columns.as_slice(),
-            )
-        }
-        (OneModel::Pin(parts, entry), PriceParts::Bars(rows, columns)) => {
+        Some(OneModel::Pin(parts, entry)) => {
+            let (rows, columns) = bar_prices(parts, entry, card.prices.parts())?;
             let costs = bar_costs(&parts.bars, &entry.rows);
             doubt_by_prices(machine, day, settings, &costs, &rows, &columns)
         }
-        (OneModel::Pin(parts, entry), PriceParts::BarKinds(rows, columns)) => {
-            let costs = bar_costs(&parts.bars, &entry.rows);
-            doubt_by_kinds(
-                machine,
-                day,
-                settings,
-                &costs,
-                &parts.bars,
-                &entry.rows,
-                rows.as_slice(),
-                columns.as_slice(),
-            )
-        }
-        _ => Err(Doubt::OtherModel),
     }
 }
 
-/// Finds the first doubt about a card's `settings`, given a price for each kind of row and each kind of column.
-///
-/// `row_things` are the machine's cables or bars, one for each row of the table of costs. `column_things` are the
-/// day's pairs and nothings, or the rows of the sheet, one for each column.
-fn doubt_by_kinds<R: Kind, C: Kind, const N: usize>(
-    machine: &Machine,
-    day: &SheetDay,
-    settings: &[Setting],
-    costs: &[[u8; N]; N],
+/// Finds the price of each cable and each column: their own prices, or those of their kinds.
+#[tactic(auto, using(kd_card::proofs::KindPrices::cables_are_prices))]
+fn cable_prices(
+    parts: &RotorParts,
+    entry: &RotorEntry,
+    prices: PriceParts,
+) -> Result<([i16; 13], [i16; 13]), Doubt>
+    requires machine { IsMachine (Rotor parts.now) }
+    requires day { IsLegalDay (OfRotors (rotor_values entry.now)) }
+    requires prices { ArePrices prices }
+    ensures found { ArePricesFound (Rotor parts.now) (OfRotors (rotor_values entry.now)) prices
+        Cables result }
+    ensures reach { IfOk result (λ found. ArePricesInRange found.0 × ArePricesInRange found.1) }
+{
+    match prices {
+        PriceParts::Cables(rows, columns) => Ok((rows, columns)),
+        PriceParts::CableKinds(rows, columns) => prices_of_both(
+            ends_of(&parts.cables).as_slice(),
+            rows,
+            columns_of(entry.pairs.as_slice()).as_slice(),
+            columns,
+        ),
+        PriceParts::Bars(..) | PriceParts::BarKinds(..) => Err(Doubt::OtherModel),
+    }
+}
+
+/// Finds the price of each bar and each row of the sheet: their own prices, or those of their kinds.
+#[tactic(auto, using(kd_card::proofs::KindPrices::bars_are_prices))]
+fn bar_prices(
+    parts: &PinParts,
+    entry: &PinEntry,
+    prices: PriceParts,
+) -> Result<([i16; 27], [i16; 27]), Doubt>
+    requires machine { IsMachine (Pin parts.now) }
+    requires day { IsLegalDay (OfPins (pin_values entry.now)) }
+    requires prices { ArePrices prices }
+    ensures found { ArePricesFound (Pin parts.now) (OfPins (pin_values entry.now)) prices
+        Bars result }
+    ensures reach { IfOk result (λ found. ArePricesInRange found.0 × ArePricesInRange found.1) }
+{
+    match prices {
+        PriceParts::Bars(rows, columns) => Ok((rows, columns)),
+        PriceParts::BarKinds(rows, columns) => {
+            prices_of_both(&parts.bars, rows, &entry.rows, columns)
+        }
+        PriceParts::Cables(..) | PriceParts::CableKinds(..) => Err(Doubt::OtherModel),
+    }
+}
+
+/// Finds the price of each of `row_things` and `column_things`: the prices of their kinds, `rows` and `columns`.
+fn prices_of_both<R: Kind, C: Kind, const N: usize>(
     row_things: &[R::Thing],
+    rows: ArrayVec<R, N>,
     column_things: &[C::Thing],
-    rows: &[R],
-    columns: &[C],
-) -> Result<(), Doubt>
-    requires model { model_of machine.now ≡ day_model day.now }
-    requires costs { costs.now ≡ cost_table machine.now day.now }
-    requires few { length settings.now ≤ 192 }
+    columns: ArrayVec<C, N>,
+) -> Result<([i16; N], [i16; N]), Doubt>
     requires size { N ≤ 27 }
     requires many_rows { length row_things.now ≡ N }
     requires many_columns { length column_things.now ≡ N }
-    requires rows { IsGroup R.sort N rows.now }
-    requires columns { IsGroup C.sort N columns.now }
-    ensures { IsByKindAnswer machine.now day.now settings.now N
-        (λ prices. AreKindsOf R.sort row_things.now prices rows.now × ArePricesInRange prices)
-        (λ prices. AreKindsOf C.sort column_things.now prices columns.now × ArePricesInRange prices) result }
+    requires rows { IsGroup R.sort N rows.items }
+    requires columns { IsGroup C.sort N columns.items }
+    ensures { Finds (λ found. AreBothPrices R.sort C.sort row_things.now column_things.now rows.items columns.items
+        found.0 found.1) Doubt.PriceMissing result }
 {
-    let Some(rows) = prices_of(row_things, rows) else {
-        return Err(Doubt::PriceMissing);
-    };
-    let Some(columns) = prices_of(column_things, columns) else {
-        return Err(Doubt::PriceMissing);
-    };
-    doubt_by_prices(machine, day, settings, costs, &rows, &columns)
+    match (
+        prices_of(row_things, rows),
+        prices_of(column_things, columns),
+    ) {
+        (Some(rows), Some(columns)) => Ok((rows, columns)),
+        _ => Err(Doubt::PriceMissing),
+    }
 }
 
 /// Finds the first doubt about a card's `settings`, given a price for each row and column of the table of costs.

@@ -1,69 +1,80 @@
-//! Finds the price of each cable, column, bar or row among the prices of kinds.
-ghost use Rattle.std.specs.Prelude.{◌≡◌, ◌↔◌, ◌≤◌, length, map, count_by, ℤ, List, All, None, IsTrue, MatchOption};
-ghost use Rattle.kd_card.specs.Kinds.{AreKinds, AreKindsOf};
+//! Finds the price of each thing on a card by kind, where equal things share one price.
+ghost use Rattle.std.specs.Prelude.{◌≡◌, ◌↔◌, ◌<◌, ◌≤◌, length, map, ℤ, List, true, IsTrue, MatchOption};
+ghost use Rattle.kd_card.specs.Kinds.{AreKindsOf};
+ghost use Rattle.kd_card.specs.CardText.{IsGroup};
 ghost use Rattle.kd_card.specs.Prices.{ArePricesInRange};
-ghost use Rattle.kd_prices.specs.Grouping.{IsCounted, IsPriceOf, HasNoKind};
+ghost use Rattle.kd_prices.specs.Grouping.{HasNoneLeft, TakesOne, TakesAll};
 
 use arrayvec::ArrayVec;
-use kd_card::{Kind, Thing};
+use kd_card::{Kind, KindOf};
 
-/// The price of each of `things`, which is the price of its kind in `kinds`.
+/// The price of each of `things`: the price of its kind, which is one of `kinds`.
 ///
-/// `None` if `things` don't have exactly these kinds, with these counts.
+/// `None` if `kinds` or their counts aren't those of `things`.
 pub(crate) fn prices_of<K: Kind, const N: usize>(
     things: &[K::Thing],
-    kinds: &[K],
+    kinds: ArrayVec<K, N>,
 ) -> Option<[i16; N]>
     requires few { N ≤ 27 }
     requires number { length things.now ≡ N }
-    requires kinds { AreKinds K.sort None kinds.now }
+    requires kinds { IsGroup K.sort N kinds.items }
     ensures { MatchOption result
-        ((prices : List ℤ) → ¬ (AreKindsOf K.sort things.now prices kinds.now))
-        (λ prices. AreKindsOf K.sort things.now prices kinds.now × ArePricesInRange prices) }
+        ((prices : List ℤ) → ¬ (AreKindsOf K.sort things.now prices kinds.items))
+        (λ prices. AreKindsOf K.sort things.now prices kinds.items × ArePricesInRange prices) }
 {
-    if !are_counted(things, kinds) {
-        return None;
-    }
-    let mut prices = ArrayVec::new();
-    for thing in things {
-        let price = price_of(thing, kinds)?;
-        prices.push(price);
-    }
-    prices.into_inner().ok()
+    let mut kinds = kinds;
+    let mut prices = [0; N];
+    take_prices(things, kinds.as_mut_slice(), &mut prices).then_some(prices)
 }
 
-/// Whether each kind's count is the number of `things` that are equal to the kind's thing, and isn't 0.
-fn are_counted<K: Kind>(things: &[K::Thing], kinds: &[K]) -> bool
-    ensures { IsTrue result
-        ↔ All (IsCounted K.Thing.eq things.now) (map K.sort.kind kinds.now) }
+/// Takes `things` out of `kinds`, and writes the price of each to its place in `prices`.
+///
+/// The result is `false` if there is a thing whose kind isn't among `kinds`, or counts too few.
+fn take_prices<K: Kind>(things: &[K::Thing], kinds: &mut [K], prices: &mut [i16]) -> bool
+    requires prices { length prices.old ≡ length things.now }
+    ensures len { length prices.new ≡ length prices.old }
+    ensures taken { TakesAll K.Thing.eq (map K.sort.kind kinds.old) things.now prices.new
+        (map K.sort.kind kinds.new) result }
 {
-    for kind in kinds {
+    match things {
+        [] => true,
+        [thing, rest @ ..] => match take_one(thing, kinds) {
+            Some(price) => {
+                prices[0] = price;
+                take_prices(rest, kinds, &mut prices[1..])
+            }
+            None => false,
+        },
+    }
+}
+
+/// Takes one thing out of `kinds`: the count of the kind of `thing` falls by one. The result is the kind's price.
+///
+/// `None` if this kind isn't among `kinds`, or its count is 0.
+fn take_one<K: Kind>(thing: &K::Thing, kinds: &mut [K]) -> Option<i16>
+    ensures len { length kinds.new ≡ length kinds.old }
+    ensures taken { MatchOption result
+        (HasNoneLeft K.Thing.eq (map K.sort.kind kinds.old) thing.now)
+        (λ price. TakesOne (map K.sort.kind kinds.old) thing.now price (map K.sort.kind kinds.new)) }
+{
+    let (kind, rest) = kinds.split_first_mut()?;
+    if has_one_left(thing, kind) {
         let parts = kind.parts();
-        let number = number_of(&parts.thing, things);
-        if number == 0 || number != usize::from(parts.count) {
-            return false;
-        }
+        *kind = K::of(KindOf {
+            count: parts.count - 1,
+            ..parts
+        });
+        Some(parts.price)
+    } else {
+        take_one(thing, rest)
     }
-    true
 }
 
-/// The number of `things` that are equal to `thing`.
-fn number_of<T: Thing>(thing: &T, things: &[T]) -> usize
-    ensures { result ≡ count_by (λ other. T.eq other thing.now) things.now }
+/// Whether `kind` is the kind of `thing`, and its count is above 0.
+fn has_one_left<K: Kind>(thing: &K::Thing, kind: &K) -> bool
+    ensures { let parts = K.sort.kind kind.now in
+        IsTrue result ↔ ((K.Thing.eq parts.thing thing.now ≡ true) × (0 < parts.count)) }
 {
-    things.iter().filter(|other| **other == *thing).count()
-}
-
-/// The price of the kind whose thing is `thing`, or `None` if there is no such kind in `kinds`.
-fn price_of<K: Kind>(thing: &K::Thing, kinds: &[K]) -> Option<i16>
-    ensures { let parts = map K.sort.kind kinds.now in
-        MatchOption result (HasNoKind parts thing.now) (IsPriceOf parts thing.now) }
-{
-    for kind in kinds {
-        let parts = kind.parts();
-        if parts.thing == *thing {
-            return Some(parts.price);
-        }
-    }
-    None
+    let parts = kind.parts();
+    parts.thing == *thing && parts.count > 0
 }

@@ -1,57 +1,72 @@
-//! Groups equal cables, columns, bars or rows, which have equal prices, into kinds.
-ghost use Rattle.std.specs.Prelude.{◌≡◌, ◌<◌, ◌≤◌, length, map, MatchOption};
-ghost use Rattle.kd_prices.specs.Grouping.{AreGroupsOf, HaveOnePriceEach, CountsIn, IsLast};
+//! Groups things with prices: equal things with equal prices become one kind, with their number.
+ghost use Rattle.std.specs.Prelude.{◌≡◌, ◌↔◌, ◌+◌, ◌<◌, ◌≤◌, length, map, IsPermutation, All, IsTrue, true, None};
+ghost use Rattle.kd_card.specs.Kinds.{AreKinds, expansion};
+ghost use Rattle.kd_prices.specs.Grouping.{HaveOnePriceEach, IsFine, AppendsKinds, first_of};
 
 use arrayvec::ArrayVec;
-use kd_card::{Kind, KindOf};
+use kd_card::{Kind, KindOf, Thing};
 
-/// Groups equal things into kinds, in ascending order. `None` if two equal things have different prices.
+/// Groups equal things with equal prices into kinds, in ascending order.
 ///
-/// `pairs` are things (the letters of a cable or column, a standing or a reading) with their prices.
+/// `pairs` are things (the letters of a cable or column, a standing or a reading) with their prices. If equal
+/// things have different prices, the kinds are no valid kinds of a card.
 pub(crate) fn kinds_of<K: Kind, const N: usize>(
     pairs: ArrayVec<(K::Thing, i16), N>,
-) -> Option<ArrayVec<K, N>>
+) -> ArrayVec<K, N>
     requires small { N ≤ 255 }
-    ensures { MatchOption result
-        (¬ (HaveOnePriceEach pairs.items))
-        (λ kinds. HaveOnePriceEach pairs.items × AreGroupsOf K.sort pairs.items kinds.items) }
+    ensures expand { IsPermutation pairs.items (expansion (map K.sort.kind result.items)) }
+    ensures in_order { HaveOnePriceEach pairs.items → All (IsFine K.sort) pairs.items
+        → AreKinds K.sort None result.items }
 {
     let mut pairs = pairs;
     pairs.sort_unstable();
     let mut kinds = ArrayVec::new();
-    for pair in pairs.as_slice() {
-        if !count_in(&mut kinds, pair) {
-            return None;
-        }
+    if let [pair, rest @ ..] = pairs.as_slice() {
+        push_kinds(first_of_kind(pair), rest, &mut kinds);
     }
-    Some(kinds)
+    kinds
 }
 
-/// Adds a thing with its price, `pair`, to the last kind if this kind has an equal thing, else as a new kind.
-///
-/// The result is `false` if the things are equal, but the prices aren't.
-fn count_in<K: Kind, const N: usize>(kinds: &mut ArrayVec<K, N>, pair: &(K::Thing, i16)) -> bool
-    requires few { length kinds.old.items < N }
-    requires counts { (kind : KindOf K.Thing) → IsLast (map K.sort.kind kinds.old.items) kind
-        → kind.count < 255 }
-    ensures { CountsIn (map K.sort.kind kinds.old.items) pair.now.0 pair.now.1 result
-        (map K.sort.kind kinds.new.items) }
+/// Makes a kind of one thing from the thing and its price.
+fn first_of_kind<T: Thing>(pair: &(T, i16)) -> KindOf<T>
+    ensures { result ≡ first_of pair.now }
 {
     let (thing, price) = *pair;
-    match kinds.last_mut() {
-        Some(kind) if kind.parts().thing == thing => {
-            let mut parts = kind.parts();
-            if parts.price != price {
-                return false;
-            }
-            parts.count += 1;
-            *kind = K::of(parts);
-        }
-        _ => kinds.push(K::of(KindOf {
-            thing,
-            count: 1,
-            price,
-        })),
+    KindOf {
+        thing,
+        count: 1,
+        price,
     }
-    true
+}
+
+/// Appends `kind` and the kinds of `pairs`. The first of `pairs` are counted in `kind` if they are equal to its things.
+fn push_kinds<K: Kind, const N: usize>(
+    kind: KindOf<K::Thing>,
+    pairs: &[(K::Thing, i16)],
+    kinds: &mut ArrayVec<K, N>,
+)
+    requires room { length kinds.old.items + length pairs.now < N }
+    requires some { 1 ≤ kind.count }
+    requires few { kind.count + length pairs.now ≤ 255 }
+    ensures { AppendsKinds K.sort K.Thing.cmp kind pairs.now kinds.old.items kinds.new.items }
+{
+    match pairs {
+        [] => kinds.push(K::of(kind)),
+        [pair, rest @ ..] => {
+            if is_of_kind(pair, &kind) {
+                let count = kind.count + 1;
+                push_kinds(KindOf { count, ..kind }, rest, kinds);
+            } else {
+                kinds.push(K::of(kind));
+                push_kinds(first_of_kind(pair), rest, kinds);
+            }
+        }
+    }
+}
+
+/// Whether `pair` is a thing of `kind` with the kind's price.
+fn is_of_kind<T: Thing>(pair: &(T, i16), kind: &KindOf<T>) -> bool
+    ensures { IsTrue result ↔ ((T.eq pair.now.0 kind.now.thing ≡ true) × (pair.now.1 ≡ kind.now.price)) }
+{
+    pair.0 == kind.thing && pair.1 == kind.price
 }

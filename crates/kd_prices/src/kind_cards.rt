@@ -5,7 +5,7 @@ ghost use Rattle.kd_prices.specs.KindCards.{CanBeByKind, IsByKind, AreByKind};
 use super::grouping::kinds_of;
 use super::things::{beside, columns_of, ends_of};
 use arrayvec::ArrayVec;
-use kd_card::{BarKind, CableKind, Card, PairKind, PriceParts, Prices, RowKind};
+use kd_card::{Card, PriceParts, Prices};
 use kd_state::{Machine, OneModel, SheetDay};
 
 /// Converts `card` to a card where each kind has the price that its members have on `card`. The settings stay.
@@ -32,15 +32,15 @@ fn prices_by_kind(machine: &Machine, day: &SheetDay, prices: &Prices) -> Option<
         (OneModel::Rotor(parts, entry), PriceParts::Cables(rows, columns)) => {
             let ends = ends_of(&parts.cables);
             let pairs = columns_of(entry.pairs.as_slice());
-            let cables: ArrayVec<CableKind, 13> = kinds_of(beside(ends.as_slice(), &rows))?;
-            let pairs: ArrayVec<PairKind, 13> = kinds_of(beside(pairs.as_slice(), &columns))?;
-            Prices::cable_kinds(cables.as_slice(), pairs.as_slice())
+            Prices::cable_kinds(
+                kinds_of(beside(ends.as_slice(), &rows)).as_slice(),
+                kinds_of(beside(pairs.as_slice(), &columns)).as_slice(),
+            )
         }
-        (OneModel::Pin(parts, entry), PriceParts::Bars(rows, columns)) => {
-            let bars: ArrayVec<BarKind, 27> = kinds_of(beside(&parts.bars, &rows))?;
-            let rows: ArrayVec<RowKind, 27> = kinds_of(beside(&entry.rows, &columns))?;
-            Prices::bar_kinds(bars.as_slice(), rows.as_slice())
-        }
+        (OneModel::Pin(parts, entry), PriceParts::Bars(rows, columns)) => Prices::bar_kinds(
+            kinds_of(beside(&parts.bars, &rows)).as_slice(),
+            kinds_of(beside(&entry.rows, &columns)).as_slice(),
+        ),
         _ => None,
     }
 }

@@ -9,7 +9,8 @@ use kd_tables::Letter;
 
 /// Converts the letters of each of `cables` to `Ends`, which can be sorted.
 pub(crate) fn ends_of(cables: &[(Option<Letter>, Option<Letter>); 13]) -> ArrayVec<Ends, 13>
-    ensures { result.items ≡ cables.now }
+    ensures value { result.items ≡ cables.now }
+    ensures number { length result.items ≡ 13 }
 {
     let mut ends = ArrayVec::new();
     for cable in cables {
@@ -21,7 +22,8 @@ pub(crate) fn ends_of(cables: &[(Option<Letter>, Option<Letter>); 13]) -> ArrayV
 /// The 13 columns of a day: its pairs, each with its letters in alphabetical order, and then nothings.
 pub(crate) fn columns_of(pairs: &[(Letter, Letter)]) -> ArrayVec<Column, 13>
     requires { length pairs.now ≤ 13 }
-    ensures { result.items ≡ columns_in_order pairs.now }
+    ensures value { result.items ≡ columns_in_order pairs.now }
+    ensures number { length result.items ≡ 13 }
 {
     let mut columns = ArrayVec::new();
     for place in 0..13 {

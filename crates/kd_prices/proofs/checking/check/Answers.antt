@@ -1,4 +1,4 @@
-use Rattle.kd_prices.proofs.Doubts.{told, doubted}
+use Rattle.kd_prices.proofs.Doubts.{doubted, told}
 use Rattle.kd_prices.proofs.checking.check.Goals as goal
 
 pub returns : goal.returns

@@ -1,8 +1,8 @@
-use Rattle.kd_prices.proofs.Prelude.{◌≡◌, ◌+◌, ◌<◌, ◌^◌, pos, SFits, w32, to_z, rules, arith, sym, ap, ◌∙◌, refl}
-use Rattle.kd_prices.proofs.Prelude.{false≢true, to_z-of_z, to_z_pos, price_sum, priced_count, NotTheSheet, ◌≢◌, ℕ, ℤ}
-use Rattle.kd_prices.proofs.Prelude.{of_z, HasFault, GoesOn, PriceTooHigh, SumDiffers, PriceParts, table_rows}
-use Rattle.kd_prices.proofs.Prelude.{row_prices, column_prices, List, subst, IsFirstWithout, IsFirstTooHigh, ListsFitAt}
-use Rattle.std.proofs.lemmas.Result.{err_from_is_err_and}
+use Rattle.kd_prices.proofs.Prelude.{GoesOn, HasFault, IsFirstTooHigh, IsFirstWithout, List, ListsFitAt, NotTheSheet}
+use Rattle.kd_prices.proofs.Prelude.{PriceParts, PriceTooHigh, SFits, SumDiffers, ap, arith, column_prices}
+use Rattle.kd_prices.proofs.Prelude.{err_from_is_err_and, false≢true, of_z, pos, price_sum, priced_count, refl}
+use Rattle.kd_prices.proofs.Prelude.{row_prices, rules, subst, sym, table_rows, to_z, to_z-of_z, to_z_pos, w32, ℕ, ℤ}
+use Rattle.kd_prices.proofs.Prelude.{◌+◌, ◌<◌, ◌^◌, ◌∙◌, ◌≡◌, ◌≢◌}
 use Rattle.kd_prices.proofs.checking.doubt_by_prices.Goals as goal
 
 pub returns-in_err-carried : goal.returns-in_err-carried

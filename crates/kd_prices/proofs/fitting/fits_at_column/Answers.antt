@@ -1,4 +1,4 @@
-use Rattle.kd_prices.proofs.Prelude.{◌≡◌, ◌+ℤ◌, SFits, pos, get_or, w16, w32, to_z, of_z, rules, arith, ints, to_z-of_z}
+use Rattle.kd_prices.proofs.Prelude.{SFits, arith, get_or, ints, of_z, pos, rules, to_z, to_z-of_z, w16, w32, ◌+ℤ◌, ◌≡◌}
 use Rattle.kd_prices.proofs.fitting.fits_at_column.Goals as goal
 
 pub returns : goal.returns

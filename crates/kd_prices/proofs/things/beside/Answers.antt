@@ -1,7 +1,5 @@
-use Rattle.kd_prices.proofs.Prelude.{◌∙◌, arith, pos, get_or, rules, to_z-of_z, take_all, w16, SFits, ℤ}
-use Rattle.std.specs.List.{zip}
-use Rattle.std.proofs.lemmas.List.{take_more}
-use Rattle.std.proofs.lemmas.Slice.Zip.{get_or-zip, length-zip}
+use Rattle.kd_prices.proofs.Prelude.{SFits, arith, get_or, get_or-zip, length-zip, pos, rules, take_all, take_more}
+use Rattle.kd_prices.proofs.Prelude.{to_z-of_z, w16, zip, ℤ, ◌∙◌}
 use Rattle.kd_prices.proofs.things.beside.Goals as goal
 
 pub loop-place-preserved : goal.loop-place-preserved

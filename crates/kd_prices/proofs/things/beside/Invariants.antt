@@ -1,5 +1,4 @@
-use Rattle.kd_prices.proofs.Prelude.{take, ◌≡◌}
-use Rattle.std.specs.List.{zip}
+use Rattle.kd_prices.proofs.Prelude.{take, zip, ◌≡◌}
 use Rattle.kd_prices.proofs.things.beside.Given as goal
 
 abbrev pub invariant-loop-place : goal.invariant-loop-place

@@ -1,4 +1,4 @@
-use Rattle.kd_prices.proofs.Prelude.{map, take, pair_in_order, columns_of, ◌≡◌}
+use Rattle.kd_prices.proofs.Prelude.{columns_of, map, pair_in_order, take, ◌≡◌}
 use Rattle.kd_prices.proofs.things.columns_of.Given as goal
 
 abbrev pub invariant-loop-place : goal.invariant-loop-place

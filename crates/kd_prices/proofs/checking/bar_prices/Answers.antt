@@ -1,0 +1,19 @@
+use Rattle.kd_prices.proofs.Found.{bar_kinds_found, other_sort}
+use Rattle.kd_prices.proofs.Prelude.{GoesOn, Same, inl, inr, refl}
+use Rattle.kd_prices.proofs.checking.bar_prices.Goals as goal
+
+pub returns-in-Bars-clause-found : goal.returns-in-Bars-clause-found
+returns-in-Bars-clause-found c = rw c.in-Bars.is (GoesOn tt tt (Same refl refl))
+
+pub returns-in-BarKinds-clause-found : goal.returns-in-BarKinds-clause-found
+returns-in-BarKinds-clause-found c =
+    rw c.in-BarKinds.is
+    (bar_kinds_found c.args.parts.now _ c.in-BarKinds.rows.items c.in-BarKinds.columns.items
+    (rw c.in-BarKinds.is at c.requires.prices) c.requires.machine.legal.bars c.requires.day.count
+    c.prices_of_both.result c.prices_of_both.ensures)
+
+pub returns-in-Cables-clause-found : goal.returns-in-Cables-clause-found
+returns-in-Cables-clause-found c = other_sort _ _ _ _ (λ belong. elim c.in-Cables.is [
+  | inl is ↦ rw is.2 at belong
+  | inr is ↦ rw is.2 at belong
+])

@@ -1,0 +1,22 @@
+use Rattle.kd_prices.proofs.Found.{cable_kinds_found, other_sort}
+use Rattle.kd_state.specs.Entry.{rotor_values}
+use Rattle.kd_prices.proofs.Prelude.{GoesOn, Same, inl, inr, refl}
+use Rattle.kd_prices.proofs.checking.cable_prices.Goals as goal
+
+pub returns-in-Cables-clause-found : goal.returns-in-Cables-clause-found
+returns-in-Cables-clause-found c = rw c.in-Cables.is (GoesOn tt tt (Same refl refl))
+
+pub returns-in-CableKinds-clause-found : goal.returns-in-CableKinds-clause-found
+returns-in-CableKinds-clause-found c =
+    let day = rotor_values c.args.entry.now in
+    rw c.in-CableKinds.is
+    (cable_kinds_found c.args.parts.now day c.in-CableKinds.rows.items c.in-CableKinds.columns.items
+    (rw c.in-CableKinds.is at c.requires.prices) c.requires.machine.legal.cables.count
+    (rw (c.columns_of.ensures.value, c.as_slice-in-CableKinds.ensures.value) at c.columns_of.ensures.number)
+    c.prices_of_both.result (rw (c.as_slice.ensures.value, c.ends_of.ensures.value, c.as_slice-in-CableKinds-2.ensures.value, c.columns_of.ensures.value, c.as_slice-in-CableKinds.ensures.value) at c.prices_of_both.ensures))
+
+pub returns-in-Bars-clause-found : goal.returns-in-Bars-clause-found
+returns-in-Bars-clause-found c = other_sort _ _ _ _ (λ belong. elim c.in-Bars.is [
+  | inl is ↦ rw is.2 at belong
+  | inr is ↦ rw is.2 at belong
+])

@@ -1,0 +1,43 @@
+use Rattle.kd_prices.proofs.{Runs.{appends_one, begins_another, both_same, counts_more}, Taking.{eq_decides, no_item}}
+use Rattle.kd_prices.proofs.Prelude.{SFits, arith, common_steps, drop, length, rules, take, to_z-of_z, w16, ◌-◌, ◌∷◌}
+use Rattle.kd_prices.proofs.Prelude.{◌≡◌}
+use Rattle.kd_prices.proofs.grouping.+push_kinds.Goals as goal
+
+pub returns-in-empty : goal.returns-in-empty
+returns-in-empty g t c =
+    rw (no_item c.args.pairs.now (omega arith))
+    (appends_one g.K.Kind.sort g.K.Thing.Ord.cmp c.args.kind c.requires.some (omega arith) c.args.kinds.now.items
+    c.push.new.self.items c.of.result c.of.ensures c.push.ensures.items)
+
+pub returns-then-is_of_kind : goal.returns-then-is_of_kind
+returns-then-is_of_kind g t c =
+    let pair = c.pair-item.result in
+    let kind = c.args.kind in
+    let rest = take (length c.args.pairs.now - 1) (drop 1 c.args.pairs.now) in
+    let split : c.args.pairs.now ≡ pair ∷ rest = grind (arith, common_steps) in
+    let is = c.is_of_kind.ensures.0 c.if-is_of_kind.true in
+    let equal =
+    eq_decides g.K.Thing.Ord.cmp g.met.K.Thing.Ord.total g.K.Thing.PartialEq.eq g.met.K.Thing.Ord.matches_eq
+    g.met.K.Thing.Thing.told_apart pair.0 kind.thing in
+    let fits : SFits w16 kind.price = search rules in
+    rw split
+    (counts_more g.K.Kind.sort g.K.Thing.Ord.cmp kind c.requires.some (omega arith) c.args.kinds.now.items
+    c.push_kinds.new.kinds.items pair rest (both_same (equal.0 is.0) is.1)
+    (rw (to_z-of_z w16 kind.price fits) at c.push_kinds.ensures))
+
+pub returns-else-is_of_kind : goal.returns-else-is_of_kind
+returns-else-is_of_kind g t c =
+    let pair = c.pair-item.result in
+    let kind = c.args.kind in
+    let rest = take (length c.args.pairs.now - 1) (drop 1 c.args.pairs.now) in
+    let split : c.args.pairs.now ≡ pair ∷ rest = grind (arith, common_steps) in
+    let cmp = g.K.Thing.Ord.cmp in
+    let total = g.met.K.Thing.Ord.total in
+    let told = g.met.K.Thing.Thing.told_apart in
+    let equal = eq_decides cmp total g.K.Thing.PartialEq.eq g.met.K.Thing.Ord.matches_eq told pair.0 kind.thing in
+    rw split
+    (begins_another g.K.Kind.sort cmp kind c.requires.some (omega arith) c.args.kinds.now.items
+    c.push_kinds-else-is_of_kind.new.kinds.items total told g.met.K.Kind.ordered c.of-else-is_of_kind.result pair rest
+    c.of-else-is_of_kind.ensures
+    (λ same. let alike = c.is_of_kind.ensures.1 (equal.1 same.0, same.1) in cc)
+    (rw (c.first_of_kind.ensures, c.push-else-is_of_kind.ensures.items) at c.push_kinds-else-is_of_kind.ensures))
