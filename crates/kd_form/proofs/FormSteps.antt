@@ -29,8 +29,7 @@ use Rattle.kd_form.specs.declared.form_reader.FormStage.TheVariants as stages
 
 -- cutting a list to `n` items before appending more doesn't change the first `n` items of the result
 pub take_kept : (n : ℕ) (xs ys : List ℕ) → take n (take n xs ++ ys) ≡ take n (xs ++ ys)
-take_kept n xs ys =
-    grind (arith, cases_lt, take-append-le {A = ℕ}, length-take {A = ℕ}, take-take {A = ℕ}, take_all {A = ℕ})
+take_kept n xs ys = grind (arith, cases_lt, take-append-le, length-take, take-take, take_all)
 
 letters_kept : (old body : List ℕ) (byte : ℕ) → old ≡ take 525 (letters_from None body)
     → take 525 (old ++ option_to_list (letter_of_byte None byte)) ≡ take 525 (letters_from None (body ++ byte ∷ []))
@@ -45,12 +44,7 @@ letters_kept old body byte kept =
 
 pub first_longer : (part line body : List ℕ) (byte : ℕ) → IsFirstPart 10 part line body
     → IsFirstPart 10 (part ++ byte ∷ []) line (body ++ byte ∷ [])
-first_longer part line body byte first =
-    record {
-      joined = ap (λ l. l ++ byte ∷ []) first.joined
-          ∙ append_assoc line (10 ∷ body) (byte ∷ []);
-      without = first.without;
-    }
+first_longer part line body byte first = grind (arith, append_assoc)
 
 -- one more byte makes the last line longer; an LF begins an empty line
 tail_more : (line body first now : List ℕ) (byte : ℕ) → HasTail line body first → (byte ≡ 10 → now ≡ [])
@@ -128,8 +122,7 @@ body_told s h others kept shown letters more v is few size kept_is cut told =
 
 body_heading : (s : Day) (b : PartBody) (part body : List ℕ) → HoldsBody s b part body
     → HasHeading s part b.heading body
-body_heading s b part body holds =
-    record { is_heading = holds.is_heading; first = inl (holds.line, holds.first, holds.text) }
+body_heading s b part body holds = grind arith
 
 -- `P` holds of the body's letters if the last `others` letters read belong to the next heading
 abbrev pub HoldsWithMore : PartBody → ℕ → (List ℕ → Type 0) → Type 0
@@ -185,8 +178,7 @@ pub IsHeadingFault-IsEarlyFault : (s : Day) (number : ℕ) (expected : Option �
     (fault : FormFault)
     → MatchOption found ((h : Heading) (body : List ℕ) → ¬ (HasHeading s part h body)) (λ h. HasHeading s part h [])
     → IsHeadingFault number expected found fault → IsEarlyFault s number expected start part fault
-IsHeadingFault-IsEarlyFault s number expected start part found fault told (HeadingMissing none is) = InHeading
-    (rw none at told) is
+IsHeadingFault-IsEarlyFault s number expected start part found fault told (HeadingMissing none is) = grind arith
 IsHeadingFault-IsEarlyFault s number expected start part found fault told
     (HeadingOfOther h there wrong is) = InNumber h [] (rw there at told) wrong is
 

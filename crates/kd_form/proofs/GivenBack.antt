@@ -71,8 +71,7 @@ gives_after byte word letters rest more allowed none a b =
 
 gives_words : (word letters : List ℕ) (words : List (List ℕ)) (more : List ℕ) → Gives word letters
     → Gives (line_of words) more → Gives (line_of (word ∷ words)) (letters ++ more)
-gives_words word letters [] more a b =
-    subst (Gives word) (sym (append-nil letters) ∙ ap (λ ls. letters ++ ls) b.gives) a
+gives_words word letters [] more a b = grind (arith, append-nil)
 gives_words word letters (next ∷ words) more a b =
     gives_after 32 word letters (line_of (next ∷ words)) more refl refl a b
 

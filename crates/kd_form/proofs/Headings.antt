@@ -46,8 +46,7 @@ heading_size bytes begun = grind (
 -- the first six bytes decide whether a heading begins
 pub begins_front : (bytes more : List ℕ) → 6 ≤ length bytes → begins_heading (bytes ++ more) ≡ begins_heading bytes
 unfolding begins_heading
-begins_front bytes more long =
-    rw (take-append-le 5 bytes more (omega arith), get_or-append bytes more 0 5 (omega arith)) refl
+begins_front bytes more long = grind (arith, take-append-le, get_or-append)
 
 pub begins_more : (bytes more : List ℕ) → BeginsHeading bytes → BeginsHeading (bytes ++ more)
 begins_more bytes more begun = begins_front bytes more (heading_size bytes begun) ∙ begun
@@ -191,24 +190,14 @@ pub first_more : (front tail : List ℕ) (byte : ℕ) → IsWithout 10 tail → 
 first_more [] tail byte unbroken none not = grind
     (arith, cut_at_headings-tail, no_cut, last_digit, begins_front, cut_at_headings-line)
 first_more (x ∷ front) tail byte unbroken none not =
-    grind (
-      arith,
-      cut_at_headings-tail,
-      no_cut,
-      begins_more,
-      before_break,
-      append_assoc,
-      first_more front tail byte
-          unbroken,
-    )
+    grind (arith, cut_at_headings-tail, no_cut, begins_more, before_break, append_assoc, first_more front tail byte)
 
 -- the first digit of a heading ends the part before it
 pub first_ends : (front more : List ℕ) (digit : ℕ) → (cut_at_headings (front ++ 10 ∷ codes "PART ")).1 ≡ [] → 48 ≤ digit
     → digit ≤ 57
     → cut_at_headings (front ++ 10 ∷ (codes "PART " ++ digit ∷ more))
     ≡ (front ++ 10 ∷ [], parts_of (codes "PART " ++ digit ∷ more))
-first_ends [] more digit none low high = at_cut (codes "PART " ++ digit ∷ more)
-    (BeginsHeading-digit digit more low high)
+first_ends [] more digit none low high = grind (arith, at_cut, BeginsHeading-digit)
 first_ends (x ∷ front) more digit none low high =
     grind (arith, cut_at_headings-tail, no_cut, begins_more, before_break, append_assoc, first_ends front more digit)
 
@@ -301,8 +290,7 @@ abbrev AreBytesFrom : ℕ → List ℕ → Type 0
 AreBytesFrom least text = All (λ b. least ≤ b) text
 
 AreBytesFrom-weaker : (least low : ℕ) (text : List ℕ) → low ≤ least → AreBytesFrom least text → AreBytesFrom low text
-AreBytesFrom-weaker least low text less from = All-weaker (λ b. least ≤ b) (λ b. low ≤ b) (λ b above. omega arith)
-    text from
+AreBytesFrom-weaker least low text less from = grind (arith, All-weaker)
 
 number_from : (number : ℕ) → number < 2 ^ 64 → AreBytesFrom 48 (decimal number)
 number_from number small =
@@ -357,8 +345,7 @@ at_most s count e = grind arith
 
 pub same_count : (s : Day) (count found : ℕ) (word : List ℕ) → IsLetterCount s count → found < 2 ^ 16
     → decimal count ≡ word → decimal found ≡ word → count ≡ found
-same_count s count found word are small is read =
-    decimal_injective count found (omega (arith, at_most s count are)) (omega arith) (is ∙ sym read)
+same_count s count found word are small is read = grind (arith, decimal_injective, at_most)
 
 -- the numbers of a heading are below 2^64
 record IsSmallHeading (h : Heading) : Type 0 where
@@ -415,8 +402,7 @@ has_byte byte before rest none =
 
 pub ended_heading : (s : Day) (front body : List ℕ) (h : Heading) → IsWithout 10 front → IsHeading s h
     → IsLineText front (line_of (heading_words h)) → HasHeading s (front ++ 10 ∷ body) h body
-ended_heading s front body h unbroken is text =
-    record { is_heading = is; first = inl (front, record { joined = refl; without = unbroken }, text) }
+ended_heading s front body h unbroken is text = grind arith
 
 -- the bytes before the first LF are the heading line, and the body follows it
 pub heading_there : (s : Day) (front body : List ℕ) (h : Heading) (rest : List ℕ) → IsWithout 10 front
@@ -496,15 +482,8 @@ one_heading s part h other body rest a b =
 -- the line of a heading begins with PART, a space and a digit
 pub words_begin : (s : Day) (h : Heading) (more : List ℕ) → IsHeading s h
     → BeginsHeading (line_of (heading_words h) ++ more)
-words_begin s h more is = grind (
-  arith,
-  are_small,
-  decimal_nonempty,
-  digits_decimal,
-  IsNumeralModel-digits,
-  drop-cons,
-  BeginsHeading-digit,
-)
+words_begin s h more is =
+    grind (arith, are_small, decimal_nonempty, digits_decimal, IsNumeralModel-digits, drop-cons, BeginsHeading-digit)
 
 line_front : (text line rest : List ℕ) → HasFirstLine text line rest → (more : List ℕ) × (text ≡ line ++ more)
 line_front text line rest e = grind (arith, append_assoc, append-nil)
