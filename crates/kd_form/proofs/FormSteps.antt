@@ -56,11 +56,8 @@ tail_more line body first now byte was ends longer = elim (cases_eq byte 10) [
     front = was.front ++ 10 ∷ was.tail;
     lines = sym (append-nil (body ++ byte ∷ []));
     broken =
-        cc (
-          append_assoc line (10 ∷ body) (byte ∷ []),
-          append_assoc line (10 ∷ was.settled) was.tail,
-          append_assoc was.front (10 ∷ []) was.tail,
-        );
+        let one = append_assoc line (10 ∷ body) (byte ∷ []) in
+        cc (one, append_assoc line (10 ∷ was.settled) was.tail, append_assoc was.front (10 ∷ []) was.tail);
     unbroken = All-nil (λ b. b ≢ 10);
     kept = ends is;
   }
@@ -279,13 +276,9 @@ by_lines : {s : Day} {b : PartBody} {part body : List ℕ} (holds : HoldsBody s 
     → part ≡ holds.last.front ++ 10 ∷ holds.last.tail
 by_lines holds =
     let tail = holds.last in
-    cc (
-      holds.first.joined,
-      tail.lines,
-      tail.broken,
-      append_assoc holds.line (10 ∷ tail.settled) tail.tail,
-      append_assoc tail.front (10 ∷ []) tail.tail,
-    )
+    let one = append_assoc holds.line (10 ∷ tail.settled) tail.tail in
+    let other = append_assoc tail.front (10 ∷ []) tail.tail in
+    cc (holds.first.joined, tail.lines, tail.broken, one, other)
 
 -- a byte that isn't the digit of the next heading belongs to the part
 pub goes_on : {s : Day} {b : PartBody} {part body : List ℕ} (byte : ℕ) → HoldsBody s b part body

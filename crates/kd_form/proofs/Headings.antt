@@ -35,13 +35,8 @@ unfolding begins_heading
 BeginsHeading-digit digit rest low high = grind (arith, nat_tests)
 
 pub heading_size : (bytes : List ℕ) → BeginsHeading bytes → 6 ≤ length bytes
-heading_size bytes begun = grind (
-  arith,
-  BeginsHeading-bytes bytes begun,
-  cases_lt 5 (length bytes),
-  get_or_past
-      bytes 5 0,
-)
+heading_size bytes begun =
+    grind (arith, BeginsHeading-bytes bytes begun, cases_lt 5 (length bytes), get_or_past bytes 5 0)
 
 -- the first six bytes decide whether a heading begins
 pub begins_front : (bytes more : List ℕ) → 6 ≤ length bytes → begins_heading (bytes ++ more) ≡ begins_heading bytes
@@ -53,25 +48,16 @@ begins_more bytes more begun = begins_front bytes more (heading_size bytes begun
 
 heading_byte : (bytes : List ℕ) (place : ℕ) → BeginsHeading bytes → place < 6 → 32 ≤ get_or bytes place 0
 heading_byte bytes place begun inside =
-    grind (
-      arith,
-      cases_lt place 5,
-      BeginsHeading-bytes bytes begun,
-      get_or-take 5 bytes place 0,
-      All-get_or (λ b. 32 ≤ b) (codes "PART ") place 0,
-      plain_text (codes "PART ") refl,
-    )
+    let kept = BeginsHeading-bytes bytes begun in
+    let plain = All-get_or (λ b. 32 ≤ b) (codes "PART ") place 0 in
+    grind (arith, cases_lt place 5, kept, get_or-take 5 bytes place 0, plain, plain_text (codes "PART ") refl)
 
 -- the first six bytes of a heading have no LF
 pub before_break : (front rest : List ℕ) → BeginsHeading (front ++ 10 ∷ rest) → BeginsHeading front
 before_break front rest begun =
-    grind (
-      arith,
-      heading_byte (front ++ 10 ∷ rest) (length front),
-      get_or-append_seam front 10 rest 0,
-      begins_front front (10 ∷ rest),
-      cases_lt (length front) 6,
-    )
+    let byte = heading_byte (front ++ 10 ∷ rest) (length front) in
+    let lf = get_or-append_seam front 10 rest 0 in
+    grind (arith, byte, lf, begins_front front (10 ∷ rest), cases_lt (length front) 6)
 
 -- ---- what may become a heading
 
@@ -174,14 +160,10 @@ cut_at_headings-line line byte unbroken = cut_behind line (byte ∷ []) unbroken
 last_digit : (bytes : List ℕ) (byte : ℕ) → length bytes < 6 → BeginsHeading (bytes ++ byte ∷ [])
     → (bytes ≡ codes "PART ") × (48 ≤ byte) × (byte ≤ 57)
 last_digit bytes byte few begun =
-    grind (
-      arith,
-      BeginsHeading-bytes (bytes ++ byte ∷ []) begun,
-      heading_size (bytes ++ byte ∷ []) begun,
-      length-append bytes (byte ∷ []),
-      get_or-append_seam bytes byte [] 0,
-      take-append_seam bytes (byte ∷ []),
-    )
+    let both = BeginsHeading-bytes (bytes ++ byte ∷ []) begun in
+    let size = heading_size (bytes ++ byte ∷ []) begun in
+    let last = get_or-append_seam bytes byte [] 0 in
+    grind (arith, both, size, length-append bytes (byte ∷ []), last, take-append_seam bytes (byte ∷ []))
 
 -- a byte after the last line begins no part, unless the line is `PART ` and the byte is a digit
 pub first_more : (front tail : List ℕ) (byte : ℕ) → IsWithout 10 tail → (cut_at_headings (front ++ 10 ∷ tail)).1 ≡ []
@@ -273,15 +255,10 @@ allowed_one (byte ∷ front) rest others allowed is =
   where
     no_digit : (bytes : List ℕ) → AreAllowed (bytes ++ 10 ∷ []) → ¬ (BeginsHeading bytes)
     no_digit bytes good begun =
-        grind (
-          arith,
-          nat_tests,
-          heading_size bytes begun,
-          BeginsHeading-bytes bytes begun,
-          get_or-append bytes (10 ∷ []) 0 5,
-          length-append bytes (10 ∷ []),
-          All-get_or (λ b. IsTrue (is_text_byte b)) (bytes ++ 10 ∷ []) 5 0,
-        )
+        let long = heading_size bytes begun in
+        let sixth = All-get_or (λ b. IsTrue (is_text_byte b)) (bytes ++ 10 ∷ []) 5 0 in
+        let same = get_or-append bytes (10 ∷ []) 0 5 in
+        grind (arith, nat_tests, BeginsHeading-bytes bytes begun, same, length-append bytes (10 ∷ []), sixth)
 
 -- -------- the number of a part and the number of all parts, as they are written
 

@@ -123,10 +123,7 @@ line_on mark byte marks rest pattern bytes old now new (Err Incomplete) first ne
     rw (first, next) (
       more,
       some,
-      (
-        letters_for_mark mark byte ++ letters,
-        line_more mark byte marks letters (rest ++ more) fit line,
-      ),
+      (letters_for_mark mark byte ++ letters, line_more mark byte marks letters (rest ++ more) fit line),
     )
 line_on mark byte marks rest pattern bytes old now new (Err Mismatch) first next fit put none =
     rw (first, next) (λ more line. none more (line_less mark byte marks line.0 (rest ++ more) line.1).1)

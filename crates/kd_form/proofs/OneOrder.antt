@@ -82,12 +82,8 @@ one_form : (s : Day) (part parts : ℕ) (keys : List Keys) (texts : List (List �
 one_form s part parts [] [] form other a b = a ∙ sym b
 one_form s part parts (k ∷ keys) (text ∷ texts) form other (one, more, made, mades, joined)
     (two, rest, again, agains, linked) =
-    cc (
-      one_part s part parts k text one two made again,
-      one_form s (part + 1) parts keys texts more rest mades agains,
-      joined,
-      linked,
-    )
+    let first = one_part s part parts k text one two made again in
+    cc (first, one_form s (part + 1) parts keys texts more rest mades agains, joined, linked)
 one_form s part parts _ _ form other a b = absurd a
 
 -- ---- one line of keys

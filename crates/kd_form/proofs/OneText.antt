@@ -204,16 +204,12 @@ module _ (s : Day) where
         none [] (subst BeginsHeading (sym joined ∙ sym (append-nil form))
         (begins_more (cut_at_headings form).0 rest (begins_there s (cut_at_headings form).0 h body has))) in
         ([], inl ((fault, inl (InHeading unheaded is), refl), refl))
-    fault_answer fault (text, inl (AtPart (letters, reads, is))) = (
-      letters,
-      reads_as s (IsPartFaultForGood s fault) (AnswersAt s (Err fault)) (stands_at s fault) first_part_start
-          (parts_of form) letters reads,
-    )
-    fault_answer fault (text, inr (letters, reads, is)) = (
-      letters,
-      reads_as s (IsPartFaultAtEnd s fault) (AnswersAt s (Err fault)) (ends_at s fault) first_part_start
-          (parts_of form) letters reads,
-    )
+    fault_answer fault (text, inl (AtPart (letters, reads, is))) =
+        let to = reads_as s (IsPartFaultForGood s fault) (AnswersAt s (Err fault)) (stands_at s fault) in
+        (letters, to first_part_start (parts_of form) letters reads)
+    fault_answer fault (text, inr (letters, reads, is)) =
+        let to = reads_as s (IsPartFaultAtEnd s fault) (AnswersAt s (Err fault)) (ends_at s fault) in
+        (letters, to first_part_start (parts_of form) letters reads)
 
 pub forms_become_one_text : FormsBecomeOneText
 forms_become_one_text s form text other a b =
@@ -248,20 +244,12 @@ IsOfForms fault = (is_device (Err fault) ≡ false) × (is_off_key (Err fault) �
 -- a fault of a body's letters, or of a whole body, is neither `Device` nor `NotReady` nor `NotOnKey`
 letters_refused : (s : Day) (part : ℕ) (i : Option Indicator) (letters : List ℕ) (fault : FormFault)
     → IsLettersAnswer s part i letters (Err fault) → IsOfForms fault
-letters_refused s part (Some i) letters fault (HasFault f first is) = grind arith
-letters_refused s part (Some i) letters fault (GoesOn _ group is) = absurd (cc)
-letters_refused s part None letters fault (HasFault f first is) = grind arith
-letters_refused s part None letters fault (GoesOn _ around (HasFault f first is)) = grind arith
-letters_refused s part None letters fault (GoesOn _ around (GoesOn _ window (HasFault f first is))) = grind arith
-letters_refused s part None letters fault (GoesOn _ around (GoesOn _ window (GoesOn _ listed (HasFault f first is)))) =
-    grind arith
-letters_refused s part None letters fault (GoesOn _ around (GoesOn _ window (GoesOn _ listed (GoesOn key first is)))) =
-    absurd (cc)
+letters_refused s part (Some i) letters fault told = grind arith
+letters_refused s part None letters fault told = grind arith
 
 body_refused : (s : Day) (number : ℕ) (h : Heading) (letters : List ℕ) (fault : FormFault)
     → IsBodyAnswer s number h letters (Err fault) → IsOfForms fault
-body_refused s number h letters fault (HasFault f first is) = grind arith
-body_refused s number h letters fault (GoesOn _ counted next) = grind (arith, letters_refused)
+body_refused s number h letters fault told = grind (arith, letters_refused)
 
 parts_refused : (s : Day) (fault : FormFault) (p : PartStart) (parts : List (List ℕ)) → AnswersAt s (Err fault) p parts
     → IsOfForms fault
