@@ -29,8 +29,7 @@ use Rattle.kd_form.specs.declared.form_reader.FormStage.TheVariants as stages
 
 -- cutting a list to `n` items before appending more doesn't change the first `n` items of the result
 pub take_kept : (n : ℕ) (xs ys : List ℕ) → take n (take n xs ++ ys) ≡ take n (xs ++ ys)
-take_kept n xs ys =
-    grind (arith, cases_lt, take-append-le {A = ℕ}, length-take {A = ℕ}, take-take {A = ℕ}, take_all {A = ℕ})
+take_kept n xs ys = grind (arith, cases_lt, take-append-le, length-take, take-take, take_all)
 
 letters_kept : (old body : List ℕ) (byte : ℕ) → old ≡ take 525 (letters_from None body)
     → take 525 (old ++ option_to_list (letter_of_byte None byte)) ≡ take 525 (letters_from None (body ++ byte ∷ []))
@@ -43,14 +42,9 @@ letters_kept old body byte kept =
 
 -- ---- one more byte of a body
 
-pub first_longer : (part line body : List ℕ) (byte : ℕ) → IsFirstPart 10 part line body
+pub first_longer : {part line body : List ℕ} (byte : ℕ) → IsFirstPart 10 part line body
     → IsFirstPart 10 (part ++ byte ∷ []) line (body ++ byte ∷ [])
-first_longer part line body byte first =
-    record {
-      joined = ap (λ l. l ++ byte ∷ []) first.joined
-          ∙ append_assoc line (10 ∷ body) (byte ∷ []);
-      without = first.without;
-    }
+first_longer byte first = grind (arith, append_assoc)
 
 -- one more byte makes the last line longer; an LF begins an empty line
 tail_more : (line body first now : List ℕ) (byte : ℕ) → HasTail line body first → (byte ≡ 10 → now ≡ [])
@@ -62,11 +56,8 @@ tail_more line body first now byte was ends longer = elim (cases_eq byte 10) [
     front = was.front ++ 10 ∷ was.tail;
     lines = sym (append-nil (body ++ byte ∷ []));
     broken =
-        cc (
-          append_assoc line (10 ∷ body) (byte ∷ []),
-          append_assoc line (10 ∷ was.settled) was.tail,
-          append_assoc was.front (10 ∷ []) was.tail,
-        );
+        let one = append_assoc line (10 ∷ body) (byte ∷ []) in
+        cc (one, append_assoc line (10 ∷ was.settled) was.tail, append_assoc was.front (10 ∷ []) was.tail);
     unbroken = All-nil (λ b. b ≢ 10);
     kept = ends is;
   }
@@ -89,7 +80,7 @@ pub body_more : (s : Day) (b new : PartBody) (part body : List ℕ) (byte : ℕ)
 body_more s b new part body byte letter same told more ends longer allowed holds =
     record {
       line = holds.line;
-      first = first_longer part holds.line body byte holds.first;
+      first = first_longer byte holds.first;
       text = subst (λ x. IsLineText holds.line (line_of (heading_words x))) (sym same) holds.text;
       is_heading = rw same holds.is_heading;
       last = tail_more holds.line body b.line.items new.line.items byte holds.last ends longer;
@@ -126,10 +117,8 @@ body_told s h others kept shown letters more v is few size kept_is cut told =
 
 -- -------- a whole part
 
-body_heading : (s : Day) (b : PartBody) (part body : List ℕ) → HoldsBody s b part body
-    → HasHeading s part b.heading body
-body_heading s b part body holds =
-    record { is_heading = holds.is_heading; first = inl (holds.line, holds.first, holds.text) }
+body_heading : {s : Day} {b : PartBody} {part body : List ℕ} → HoldsBody s b part body → HasHeading s part b.heading body
+body_heading holds = grind arith
 
 -- `P` holds of the body's letters if the last `others` letters read belong to the next heading
 abbrev pub HoldsWithMore : PartBody → ℕ → (List ℕ → Type 0) → Type 0
@@ -145,7 +134,7 @@ pub record IsNext (s : Day) (b : PartBody) (number : ℕ) (expected : Option ℕ
   pub allowed : All (λ b. IsTrue (is_text_byte b)) body
   pub kept : b.letters.items ≡ take 525 (letters_from None body ++ more)
 
-module _ (s : Day) (b : PartBody) (number : ℕ) (expected : Option ℕ) (part body more : List ℕ)
+module _ {s : Day} {b : PartBody} {number : ℕ} {expected : Option ℕ} {part body more : List ℕ}
     (next : IsNext s b number expected part body more) where
   next_read : (made : List ℕ) → HoldsWithMore b (length more) (λ letters. IsBodyPlaintext s b.heading letters made)
       → (one : List ℕ) × IsPartRead s number b.heading.parts part one × (made ≡ plaintext_bytes s one)
@@ -180,45 +169,38 @@ module _ (s : Day) (b : PartBody) (number : ℕ) (expected : Option ℕ) (part b
       })
 
 -- a missing or wrong heading is an early fault of its part
-pub IsHeadingFault-IsEarlyFault : (s : Day) (number : ℕ) (expected : Option ℕ) (start : ℕ) (part : List ℕ)
-    (found : Option Heading)
-    (fault : FormFault)
+pub IsHeadingFault-IsEarlyFault : {s : Day} {number : ℕ} {expected : Option ℕ} {part : List ℕ} {found : Option Heading}
+    {fault : FormFault} (start : ℕ)
     → MatchOption found ((h : Heading) (body : List ℕ) → ¬ (HasHeading s part h body)) (λ h. HasHeading s part h [])
     → IsHeadingFault number expected found fault → IsEarlyFault s number expected start part fault
-IsHeadingFault-IsEarlyFault s number expected start part found fault told (HeadingMissing none is) = InHeading
-    (rw none at told) is
-IsHeadingFault-IsEarlyFault s number expected start part found fault told
-    (HeadingOfOther h there wrong is) = InNumber h [] (rw there at told) wrong is
+IsHeadingFault-IsEarlyFault start told (HeadingMissing none is) = InHeading (rw none at told) is
+IsHeadingFault-IsEarlyFault start told (HeadingOfOther h there wrong is) = InNumber h [] (rw there at told) wrong is
 
 -- -------- the reader of a form, byte by byte
 
-has_begun : (s : Day) (stage : FormStage) (number : ℕ) (expected : Option ℕ) (part : List ℕ)
+has_begun : (s : Day) (stage : FormStage) (number : ℕ) (expected : Option ℕ) {part : List ℕ}
     → HoldsStage s stage number expected part → HasBegunHeading part
-has_begun s (stages.Heading line) number expected part held = held.0.begins
-has_begun s (stages.Body b) number expected part held =
-    inr (begins_there s part b.heading held.body (body_heading s b part held.body held.holds))
+has_begun s (stages.Heading line) number expected held = held.0.begins
+has_begun s (stages.Body b) number expected held = inr (begins_there s _ b.heading held.body (body_heading held.holds))
 
-HoldsStage-not_early : (s : Day) (stage : FormStage) (number : ℕ) (expected : Option ℕ) (start : ℕ)
-    (part line body : List ℕ)
-    (fault : FormFault)
-    → HoldsStage s stage number expected part → IsFirstPart 10 part line body
-    → ¬ (IsEarlyFault s number expected start part fault)
-HoldsStage-not_early s (stages.Heading shown) number expected start part line body fault held broken early =
-    has_byte 10 line body (rw broken.joined at held.0.unbroken)
-HoldsStage-not_early s (stages.Body b) number expected start part line body fault held broken (InHeading none is) =
-    none b.heading held.body (body_heading s b part held.body held.holds)
-HoldsStage-not_early s (stages.Body b) number expected start part line body fault held broken
-    (InNumber h rest has other is) =
-    let same = one_heading s part b.heading h held.body rest (body_heading s b part held.body held.holds) has in
-    grind (arith, same, held.numbered, held.due)
-HoldsStage-not_early s (stages.Body b) number expected start part line body fault held broken
-    (InBody h rest place has numbered due bad is) =
-    let same = one_heading s part b.heading h held.body rest (body_heading s b part held.body held.holds) has in
-    no_bad_byte rest place (rw same.1 at held.holds.allowed) bad
+module _ {s : Day} {number : ℕ} {expected : Option ℕ} {part : List ℕ} where
+  HoldsStage-not_early : {line body : List ℕ} {fault : FormFault} (start : ℕ) (stage : FormStage)
+      → HoldsStage s stage number expected part → IsFirstPart 10 part line body
+      → ¬ (IsEarlyFault s number expected start part fault)
+  HoldsStage-not_early {line} {body} start (stages.Heading shown) held broken early =
+      has_byte 10 line body (rw broken.joined at held.0.unbroken)
+  HoldsStage-not_early start (stages.Body b) held broken (InHeading none is) =
+      none b.heading held.body (body_heading held.holds)
+  HoldsStage-not_early start (stages.Body b) held broken (InNumber h rest has other is) =
+      let same = one_heading s part b.heading h held.body rest (body_heading held.holds) has in
+      grind (arith, same, held.numbered, held.due)
+  HoldsStage-not_early start (stages.Body b) held broken (InBody h rest place has numbered due bad is) =
+      let same = one_heading s part b.heading h held.body rest (body_heading held.holds) has in
+      no_bad_byte rest place (rw same.1 at held.holds.allowed) bad
 
 -- ---- the form that the reader holds
 
-module _ (s : Day) (r : FormReader) (form text : List ℕ) (h : HoldsForm s r form text) where
+module _ {s : Day} {r : FormReader} {form text : List ℕ} (h : HoldsForm s r form text) where
   abbrev pub here : PartStart
   here = reader_place r h.front
 
@@ -247,14 +229,13 @@ module _ (s : Day) (r : FormReader) (form text : List ℕ) (h : HoldsForm s r fo
   never_refused : (fault : FormFault) (p : PartStart) (parts : List (List ℕ)) → IsHere p parts
       → ¬ (IsPartFaultForGood s fault p parts)
   never_refused fault p parts (there, alone) stands =
-      let found = rw (there, alone) at stands in
-      HoldsStage-not_early s r.stage r.number r.expected
-      (length h.front) h.last found.0.0 found.0.1 fault h.stage found.0.2 found.1
+      let ((line, body, broken), early) = rw (there, alone) at stands in
+      HoldsStage-not_early (length h.front) r.stage h.stage broken early
 
   unrefused : (before : List ℕ) (fault : FormFault) → ¬ (IsRefusedForGood s form before fault)
   unrefused before fault (NoHeading none empty is) = elim h.begun [
     | inl nil ↦
-        let (more, begun) = may_begin h.last (has_begun s r.stage r.number r.expected h.last h.stage) in
+        let (more, begun) = may_begin h.last (has_begun s r.stage r.number r.expected h.stage) in
         none more (subst (λ l. BeginsHeading (l ++ more)) (sym (rw nil at h.joined)) begun)
     | inr begun ↦
         none [] (subst BeginsHeading (sym h.joined ∙ sym (append-nil form)) (begins_more h.front h.last begun))
@@ -278,9 +259,9 @@ module _ (s : Day) (r : FormReader) (form text : List ℕ) (h : HoldsForm s r fo
     };
   }
 
-pub IsRefusedForGood-IsRefused : (s : Day) (form text : List ℕ) (fault : FormFault) → IsRefusedForGood s form text fault
-    → IsRefused (form_message s) form text fault
-IsRefusedForGood-IsRefused s form text fault found = record {
+pub IsRefusedForGood-IsRefused : {s : Day} {form text : List ℕ} {fault : FormFault}
+    → IsRefusedForGood s form text fault → IsRefused (form_message s) form text fault
+IsRefusedForGood-IsRefused {s} {form} {text} {fault} found = record {
   stands = λ more. (text, stays_refused s form more text fault found);
   refused = λ more. (text, inl (stays_refused s form more text fault found));
   written = λ more. inl (stays_refused s form more text fault found);
@@ -291,43 +272,38 @@ abbrev pub IsHeadingDigit : PartBody → ℕ → Type 0
 IsHeadingDigit b byte = (b.line.items ≡ codes "PART ") × (48 ≤ byte) × (byte ≤ 57)
 
 -- the part, divided at the LF before its last line
-by_lines : (s : Day) (b : PartBody) (part body : List ℕ) (holds : HoldsBody s b part body)
+by_lines : {s : Day} {b : PartBody} {part body : List ℕ} (holds : HoldsBody s b part body)
     → part ≡ holds.last.front ++ 10 ∷ holds.last.tail
-by_lines s b part body holds =
+by_lines holds =
     let tail = holds.last in
-    cc (
-      holds.first.joined,
-      tail.lines,
-      tail.broken,
-      append_assoc holds.line (10 ∷ tail.settled) tail.tail,
-      append_assoc tail.front (10 ∷ []) tail.tail,
-    )
+    let one = append_assoc holds.line (10 ∷ tail.settled) tail.tail in
+    let other = append_assoc tail.front (10 ∷ []) tail.tail in
+    cc (holds.first.joined, tail.lines, tail.broken, one, other)
 
 -- a byte that isn't the digit of the next heading belongs to the part
-pub goes_on : (s : Day) (b : PartBody) (part body : List ℕ) (byte : ℕ) → HoldsBody s b part body
-    → (cut_at_headings part).1 ≡ []
-    → ¬ (IsHeadingDigit b byte) → cut_at_headings (part ++ byte ∷ []) ≡ (part ++ byte ∷ [], [])
-goes_on s b part body byte holds none not =
-    grind (arith, by_lines s b part body holds, append_assoc, first_more holds.last.front holds.last.tail byte)
+pub goes_on : {s : Day} {b : PartBody} {part body : List ℕ} (byte : ℕ) → HoldsBody s b part body
+    → (cut_at_headings part).1 ≡ [] → ¬ (IsHeadingDigit b byte)
+    → cut_at_headings (part ++ byte ∷ []) ≡ (part ++ byte ∷ [], [])
+goes_on byte holds none not =
+    grind (arith, by_lines holds, append_assoc, first_more holds.last.front holds.last.tail byte)
 
 -- the part without its last five bytes `PART ` is complete, and the letters PART are kept
-record EndsInHeading (s : Day) (b : PartBody) (number : ℕ) (expected : Option ℕ) (part : List ℕ)
+record EndsInHeading {s : Day} {b : PartBody} {number : ℕ} {expected : Option ℕ} {part : List ℕ}
     (mine : HoldsPart s b number expected part) : Type 0 where
   split : part ≡ mine.holds.last.front ++ 10 ∷ codes "PART "
   next : IsNext s b number expected (mine.holds.last.front ++ 10 ∷ []) mine.holds.last.settled
       (letters_from None (codes "PART "))
 
-EndsInHeading-holds : (s : Day) (b : PartBody) (number : ℕ) (expected : Option ℕ) (part : List ℕ)
-    (mine : HoldsPart s b number expected part) → b.line.items ≡ codes "PART "
-    → EndsInHeading s b number expected part mine
-EndsInHeading-holds s b number expected part mine begun =
+EndsInHeading-holds : {s : Day} {b : PartBody} {number : ℕ} {expected : Option ℕ} {part : List ℕ}
+    (mine : HoldsPart s b number expected part) → b.line.items ≡ codes "PART " → EndsInHeading mine
+EndsInHeading-holds {b = b} mine begun =
     let holds = mine.holds in
     let last = holds.last in
     let tail : last.tail ≡ codes "PART " =
     sym (whole_line 6 last.tail b.line.items last.kept (omega (arith, ap length begun))) ∙ begun in
     let lines : mine.body ≡ last.settled ++ codes "PART " = last.lines ∙ ap (λ l. last.settled ++ l) tail in
     record {
-      split = by_lines s b part mine.body holds ∙ ap (λ l. last.front ++ 10 ∷ l) tail;
+      split = by_lines holds ∙ ap (λ l. last.front ++ 10 ∷ l) tail;
       next = record {
         has = record {
           is_heading = holds.is_heading;
@@ -348,9 +324,9 @@ EndsInHeading-holds s b number expected part mine begun =
 abbrev pub reader_after : FormReader → FormStage → FormReader
 reader_after r stage = record r { position = r.position + 1; stage = stage }
 
-module _ (s : Day) (r : FormReader) (form text : List ℕ) (h : HoldsForm s r form text) where
-  pub in_stage : (stage : FormStage) → r.stage ≡ stage → HoldsStage s stage r.number r.expected h.last
-  in_stage stage is = subst (λ st. HoldsStage s st r.number r.expected h.last) is h.stage
+module _ {s : Day} {r : FormReader} {form text : List ℕ} (h : HoldsForm s r form text) where
+  pub in_stage : {stage : FormStage} → r.stage ≡ stage → HoldsStage s stage r.number r.expected h.last
+  in_stage is = subst (λ st. HoldsStage s st r.number r.expected h.last) is h.stage
 
   -- after one more byte of the current part, the reader holds the form with this byte
   pub grows : (stage : FormStage) (made : List ℕ) (byte : ℕ) → made ≡ []
@@ -360,25 +336,24 @@ module _ (s : Day) (r : FormReader) (form text : List ℕ) (h : HoldsForm s r fo
   grows stage made byte none one there = grind (arith, append_assoc, append-nil, length-append)
 
   -- if a fault stands at the last part once more bytes have come, the form with these bytes is refused
-  pub refused_at : (fault : FormFault) (more part : List ℕ) (others : List (List ℕ))
+  pub refused_at : {fault : FormFault} {part : List ℕ} {others : List (List ℕ)} (more : List ℕ)
       → cut_at_headings (h.last ++ more) ≡ (part, others)
-      → IsPartFaultForGood s fault (here s r form text h) (part ∷ others)
+      → IsPartFaultForGood s fault (here h) (part ∷ others)
       → IsRefused (form_message s) (form ++ more) text fault
-  refused_at fault more part others are stands =
+  refused_at {fault} {part} {others} more are stands =
       let (letters, reads, is) =
-      reaches s r form text h (IsPartFaultForGood s fault) more [] [] (part ∷ others)
-      (as_parts (h.last ++ more) part others are)
-      (inl (stands, refl)) refl in
-      IsRefusedForGood-IsRefused s (form ++ more) text fault (AtPart (letters, reads, sym (append-nil text) ∙ is))
+      reaches h (IsPartFaultForGood s fault) more [] [] (part ∷ others)
+      (as_parts (h.last ++ more) part others are) (inl (stands, refl)) refl in
+      IsRefusedForGood-IsRefused (AtPart (letters, reads, sym (append-nil text) ∙ is))
 
   -- ---- the part ends, as a digit comes after the five bytes `PART `
 
-  module _ (b : PartBody) (byte : ℕ) (stage : r.stage ≡ stages.Body b) (digit : IsHeadingDigit b byte) where
+  module _ {b : PartBody} {byte : ℕ} (stage : r.stage ≡ stages.Body b) (digit : IsHeadingDigit b byte) where
     abbrev there : HoldsPart s b r.number r.expected h.last
-    there = in_stage (stages.Body b) stage
+    there = in_stage stage
 
-    abbrev ended : EndsInHeading s b r.number r.expected h.last there
-    ended = EndsInHeading-holds s b r.number r.expected h.last there digit.0
+    abbrev ended : EndsInHeading there
+    ended = EndsInHeading-holds there digit.0
 
     abbrev front : List ℕ
     front = there.holds.last.front
@@ -393,14 +368,13 @@ module _ (s : Day) (r : FormReader) (form text : List ℕ) (h : HoldsForm s r fo
         ≡ (whole, parts_of (codes "PART " ++ byte ∷ more))
     cut_off more = grind (arith, ended.split, append_assoc, first_ends front more byte)
 
-    pub part_refused : (fault : FormFault)
+    pub part_refused : {fault : FormFault}
         → HoldsWithMore b 4 (λ letters. IsBodyAnswer s b.heading.part b.heading letters (Err fault))
         → IsRefused (form_message s) (form ++ byte ∷ []) text fault
-    part_refused fault told =
-        let found = next_refused s b _ _ whole _ _ ended.next fault told (length h.front) in
-        refused_at fault (byte ∷ []) whole _ (cut_off []) found
+    part_refused {fault} told =
+        refused_at (byte ∷ []) (cut_off []) (next_refused ended.next fault told (length h.front))
 
-    pub part_read : (made : List ℕ) (line : ArrayVec ℕ)
+    pub part_read : {made : List ℕ} {line : ArrayVec ℕ}
         → HoldsWithMore b 4 (λ letters. IsBodyPlaintext s b.heading letters made)
         → line.items ≡ codes "PART " ++ byte ∷ [] → HoldsForm s (record {
           position = r.position + 1;
@@ -408,10 +382,10 @@ module _ (s : Day) (r : FormReader) (form text : List ℕ) (h : HoldsForm s r fo
           expected = Some b.heading.parts;
           stage = stages.Heading line;
         }) (form ++ byte ∷ []) (text ++ made)
-    part_read made line told is_head =
+    part_read told is_head =
         let heads : List ℕ = codes "PART " ++ byte ∷ [] in
         let has = ended.next.has in
-        let (one, read, given) = next_read s b _ _ whole _ _ ended.next made told in
+        let (one, read, given) = next_read ended.next _ told in
         record {
           front = h.front ++ whole;
           last = heads;
@@ -430,32 +404,32 @@ module _ (s : Day) (r : FormReader) (form text : List ℕ) (h : HoldsForm s r fo
 
   -- ---- the end
 
-  pub closes_refused : (made : List ℕ) (fault : FormFault)
+  pub closes_refused : {made : List ℕ} {fault : FormFault}
       → ((start : ℕ) → IsPartFault s r.number r.expected start h.last fault) → made ≡ []
       → IsMessageAnswer (form_message s) form (text ++ made) (Err fault)
-  closes_refused made fault found none =
-      let ends = ends_so s r form text h (IsPartFaultAtEnd s fault) [] made (inl (found (length h.front), refl)) none in
+  closes_refused {made} {fault} found none =
+      let ends = ends_so h (IsPartFaultAtEnd s fault) [] made (inl (found (length h.front), refl)) none in
       ((text ++ made, inr ends), inr ends)
 
-  module _ (b : PartBody) (stage : r.stage ≡ stages.Body b) where
+  module _ {b : PartBody} (stage : r.stage ≡ stages.Body b) where
     abbrev mine : HoldsPart s b r.number r.expected h.last
-    mine = in_stage (stages.Body b) stage
+    mine = in_stage stage
 
     pub next_last : IsNext s b r.number r.expected h.last mine.body []
     next_last = grind (arith, body_heading, append-nil, letters_from)
 
-    module _ (given : List ℕ) (told : HoldsWithMore b 0 (λ letters. IsBodyPlaintext s b.heading letters given)) where
+    module _ {given : List ℕ} (told : HoldsWithMore b 0 (λ letters. IsBodyPlaintext s b.heading letters given)) where
       -- at the end of the form, the last part is read too; if `B` then holds, the whole form is read up to there
-      ends_read : (B : PartsProperty) → B (next_part_start (here s r form text h) b.heading.parts h.last) []
+      ends_read : (B : PartsProperty) → B (next_part_start (here h) b.heading.parts h.last) []
           → IsFormReadTo s B form (text ++ given)
       ends_read B so =
-          let (one, read, is) = next_read s b _ _ h.last _ _ next_last given told in
-          ends_so s r form text h B one given (inr
+          let (one, read, is) = next_read next_last given told in
+          ends_so h B one given (inr
           (b.heading.parts, one, [], read, mine.due, (so, refl), sym (append-nil one))) is
 
-      pub closes : (made : List ℕ) → b.heading.parts ≡ r.number → made ≡ given ++ 10 ∷ []
+      pub closes : {made : List ℕ} → b.heading.parts ≡ r.number → made ≡ given ++ 10 ∷ []
           → IsMessageAnswer (form_message s) form (text ++ made) (Ok tt)
-      closes made same is =
+      closes same is =
           let (letters, read, text_is) = ends_read AreAllPartsRead
           (b.heading.parts, refl, ap (λ n. n + 1) (sym same)) in
           record { letters = letters; read = read; is = cc (is, text_is, append_assoc text given (10 ∷ [])) }

@@ -71,8 +71,7 @@ gives_after byte word letters rest more allowed none a b =
 
 gives_words : (word letters : List ℕ) (words : List (List ℕ)) (more : List ℕ) → Gives word letters
     → Gives (line_of words) more → Gives (line_of (word ∷ words)) (letters ++ more)
-gives_words word letters [] more a b =
-    subst (Gives word) (sym (append-nil letters) ∙ ap (λ ls. letters ++ ls) b.gives) a
+gives_words word letters [] more a b = grind (arith, append-nil)
 gives_words word letters (next ∷ words) more a b =
     gives_after 32 word letters (line_of (next ∷ words)) more refl refl a b
 
@@ -162,16 +161,13 @@ filled_behind front rest whole = grind (arith, length-append {A = ℕ}, append_a
 
 filled_pieces : (letters : List ℕ) → fill_last_group (take 500 letters) ++ fill_last_group (drop 500 letters)
     ≡ fill_last_group letters
-filled_pieces letters = elim (cases_lt (length letters) 500) [
-  | inl short ↦ grind (arith, take_all 500 letters, drop_all 500 letters, append-nil (fill_last_group letters))
-  | inr long ↦
-      grind (
-        arith,
-        filled_behind (take 500 letters) (drop 500 letters),
-        length-take-le 500 letters,
-        take-append-drop 500 letters,
-      )
-]
+filled_pieces letters =
+    let both = filled_behind (take 500 letters) (drop 500 letters) in
+    let size = length-take-le 500 letters in
+    let all = take-append-drop 500 letters in elim (cases_lt (length letters) 500) [
+      | inl short ↦ grind (arith, take_all 500 letters, drop_all 500 letters, append-nil (fill_last_group letters))
+      | inr long ↦ grind (arith, both, size, all)
+    ]
 
 -- the letters sent for the pieces, joined, are the letters sent for the whole text
 sent_pieces : (s : Day) (letters : List ℕ)

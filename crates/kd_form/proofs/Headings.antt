@@ -35,44 +35,29 @@ unfolding begins_heading
 BeginsHeading-digit digit rest low high = grind (arith, nat_tests)
 
 pub heading_size : (bytes : List ℕ) → BeginsHeading bytes → 6 ≤ length bytes
-heading_size bytes begun = grind (
-  arith,
-  BeginsHeading-bytes bytes begun,
-  cases_lt 5 (length bytes),
-  get_or_past
-      bytes 5 0,
-)
+heading_size bytes begun =
+    grind (arith, BeginsHeading-bytes bytes begun, cases_lt 5 (length bytes), get_or_past bytes 5 0)
 
 -- the first six bytes decide whether a heading begins
 pub begins_front : (bytes more : List ℕ) → 6 ≤ length bytes → begins_heading (bytes ++ more) ≡ begins_heading bytes
 unfolding begins_heading
-begins_front bytes more long =
-    rw (take-append-le 5 bytes more (omega arith), get_or-append bytes more 0 5 (omega arith)) refl
+begins_front bytes more long = grind (arith, take-append-le, get_or-append)
 
 pub begins_more : (bytes more : List ℕ) → BeginsHeading bytes → BeginsHeading (bytes ++ more)
 begins_more bytes more begun = begins_front bytes more (heading_size bytes begun) ∙ begun
 
 heading_byte : (bytes : List ℕ) (place : ℕ) → BeginsHeading bytes → place < 6 → 32 ≤ get_or bytes place 0
 heading_byte bytes place begun inside =
-    grind (
-      arith,
-      cases_lt place 5,
-      BeginsHeading-bytes bytes begun,
-      get_or-take 5 bytes place 0,
-      All-get_or (λ b. 32 ≤ b) (codes "PART ") place 0,
-      plain_text (codes "PART ") refl,
-    )
+    let kept = BeginsHeading-bytes bytes begun in
+    let plain = All-get_or (λ b. 32 ≤ b) (codes "PART ") place 0 in
+    grind (arith, cases_lt place 5, kept, get_or-take 5 bytes place 0, plain, plain_text (codes "PART ") refl)
 
 -- the first six bytes of a heading have no LF
 pub before_break : (front rest : List ℕ) → BeginsHeading (front ++ 10 ∷ rest) → BeginsHeading front
 before_break front rest begun =
-    grind (
-      arith,
-      heading_byte (front ++ 10 ∷ rest) (length front),
-      get_or-append_seam front 10 rest 0,
-      begins_front front (10 ∷ rest),
-      cases_lt (length front) 6,
-    )
+    let byte = heading_byte (front ++ 10 ∷ rest) (length front) in
+    let lf = get_or-append_seam front 10 rest 0 in
+    grind (arith, byte, lf, begins_front front (10 ∷ rest), cases_lt (length front) 6)
 
 -- ---- what may become a heading
 
@@ -175,14 +160,10 @@ cut_at_headings-line line byte unbroken = cut_behind line (byte ∷ []) unbroken
 last_digit : (bytes : List ℕ) (byte : ℕ) → length bytes < 6 → BeginsHeading (bytes ++ byte ∷ [])
     → (bytes ≡ codes "PART ") × (48 ≤ byte) × (byte ≤ 57)
 last_digit bytes byte few begun =
-    grind (
-      arith,
-      BeginsHeading-bytes (bytes ++ byte ∷ []) begun,
-      heading_size (bytes ++ byte ∷ []) begun,
-      length-append bytes (byte ∷ []),
-      get_or-append_seam bytes byte [] 0,
-      take-append_seam bytes (byte ∷ []),
-    )
+    let both = BeginsHeading-bytes (bytes ++ byte ∷ []) begun in
+    let size = heading_size (bytes ++ byte ∷ []) begun in
+    let last = get_or-append_seam bytes byte [] 0 in
+    grind (arith, both, size, length-append bytes (byte ∷ []), last, take-append_seam bytes (byte ∷ []))
 
 -- a byte after the last line begins no part, unless the line is `PART ` and the byte is a digit
 pub first_more : (front tail : List ℕ) (byte : ℕ) → IsWithout 10 tail → (cut_at_headings (front ++ 10 ∷ tail)).1 ≡ []
@@ -191,24 +172,14 @@ pub first_more : (front tail : List ℕ) (byte : ℕ) → IsWithout 10 tail → 
 first_more [] tail byte unbroken none not = grind
     (arith, cut_at_headings-tail, no_cut, last_digit, begins_front, cut_at_headings-line)
 first_more (x ∷ front) tail byte unbroken none not =
-    grind (
-      arith,
-      cut_at_headings-tail,
-      no_cut,
-      begins_more,
-      before_break,
-      append_assoc,
-      first_more front tail byte
-          unbroken,
-    )
+    grind (arith, cut_at_headings-tail, no_cut, begins_more, before_break, append_assoc, first_more front tail byte)
 
 -- the first digit of a heading ends the part before it
 pub first_ends : (front more : List ℕ) (digit : ℕ) → (cut_at_headings (front ++ 10 ∷ codes "PART ")).1 ≡ [] → 48 ≤ digit
     → digit ≤ 57
     → cut_at_headings (front ++ 10 ∷ (codes "PART " ++ digit ∷ more))
     ≡ (front ++ 10 ∷ [], parts_of (codes "PART " ++ digit ∷ more))
-first_ends [] more digit none low high = at_cut (codes "PART " ++ digit ∷ more)
-    (BeginsHeading-digit digit more low high)
+first_ends [] more digit none low high = grind (arith, at_cut, BeginsHeading-digit)
 first_ends (x ∷ front) more digit none low high =
     grind (arith, cut_at_headings-tail, no_cut, begins_more, before_break, append_assoc, first_ends front more digit)
 
@@ -284,15 +255,10 @@ allowed_one (byte ∷ front) rest others allowed is =
   where
     no_digit : (bytes : List ℕ) → AreAllowed (bytes ++ 10 ∷ []) → ¬ (BeginsHeading bytes)
     no_digit bytes good begun =
-        grind (
-          arith,
-          nat_tests,
-          heading_size bytes begun,
-          BeginsHeading-bytes bytes begun,
-          get_or-append bytes (10 ∷ []) 0 5,
-          length-append bytes (10 ∷ []),
-          All-get_or (λ b. IsTrue (is_text_byte b)) (bytes ++ 10 ∷ []) 5 0,
-        )
+        let long = heading_size bytes begun in
+        let sixth = All-get_or (λ b. IsTrue (is_text_byte b)) (bytes ++ 10 ∷ []) 5 0 in
+        let same = get_or-append bytes (10 ∷ []) 0 5 in
+        grind (arith, nat_tests, BeginsHeading-bytes bytes begun, same, length-append bytes (10 ∷ []), sixth)
 
 -- -------- the number of a part and the number of all parts, as they are written
 
@@ -301,8 +267,7 @@ abbrev AreBytesFrom : ℕ → List ℕ → Type 0
 AreBytesFrom least text = All (λ b. least ≤ b) text
 
 AreBytesFrom-weaker : (least low : ℕ) (text : List ℕ) → low ≤ least → AreBytesFrom least text → AreBytesFrom low text
-AreBytesFrom-weaker least low text less from = All-weaker (λ b. least ≤ b) (λ b. low ≤ b) (λ b above. omega arith)
-    text from
+AreBytesFrom-weaker least low text less from = grind (arith, All-weaker)
 
 number_from : (number : ℕ) → number < 2 ^ 64 → AreBytesFrom 48 (decimal number)
 number_from number small =
@@ -357,8 +322,7 @@ at_most s count e = grind arith
 
 pub same_count : (s : Day) (count found : ℕ) (word : List ℕ) → IsLetterCount s count → found < 2 ^ 16
     → decimal count ≡ word → decimal found ≡ word → count ≡ found
-same_count s count found word are small is read =
-    decimal_injective count found (omega (arith, at_most s count are)) (omega arith) (is ∙ sym read)
+same_count s count found word are small is read = grind (arith, decimal_injective, at_most)
 
 -- the numbers of a heading are below 2^64
 record IsSmallHeading (h : Heading) : Type 0 where
@@ -415,8 +379,7 @@ has_byte byte before rest none =
 
 pub ended_heading : (s : Day) (front body : List ℕ) (h : Heading) → IsWithout 10 front → IsHeading s h
     → IsLineText front (line_of (heading_words h)) → HasHeading s (front ++ 10 ∷ body) h body
-ended_heading s front body h unbroken is text =
-    record { is_heading = is; first = inl (front, record { joined = refl; without = unbroken }, text) }
+ended_heading s front body h unbroken is text = grind arith
 
 -- the bytes before the first LF are the heading line, and the body follows it
 pub heading_there : (s : Day) (front body : List ℕ) (h : Heading) (rest : List ℕ) → IsWithout 10 front
@@ -496,15 +459,8 @@ one_heading s part h other body rest a b =
 -- the line of a heading begins with PART, a space and a digit
 pub words_begin : (s : Day) (h : Heading) (more : List ℕ) → IsHeading s h
     → BeginsHeading (line_of (heading_words h) ++ more)
-words_begin s h more is = grind (
-  arith,
-  are_small,
-  decimal_nonempty,
-  digits_decimal,
-  IsNumeralModel-digits,
-  drop-cons,
-  BeginsHeading-digit,
-)
+words_begin s h more is =
+    grind (arith, are_small, decimal_nonempty, digits_decimal, IsNumeralModel-digits, drop-cons, BeginsHeading-digit)
 
 line_front : (text line rest : List ℕ) → HasFirstLine text line rest → (more : List ℕ) × (text ≡ line ++ more)
 line_front text line rest e = grind (arith, append_assoc, append-nil)

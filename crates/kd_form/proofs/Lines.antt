@@ -25,10 +25,8 @@ IsNotFirst P (x ∷ xs) = ¬ (P x)
 pub same_front : {X : Type 0} (P : X → Type 0) (front other rest more : List X) → All P front → All P other
     → IsNotFirst P rest → IsNotFirst P more → front ++ rest ≡ other ++ more → (front ≡ other) × (rest ≡ more)
 same_front P [] [] rest more all alls off none same = (refl, same)
-same_front P [] (y ∷ other) rest more all alls off none same =
-    absurd (subst (IsNotFirst P) same off (All-head P y other alls))
-same_front P (x ∷ front) [] rest more all alls off none same =
-    absurd (subst (IsNotFirst P) (sym same) none (All-head P x front all))
+same_front P [] (y ∷ other) rest more all alls off none same = grind (arith, All-head)
+same_front P (x ∷ front) [] rest more all alls off none same = grind (arith, All-head)
 same_front P (x ∷ front) (y ∷ other) rest more all alls off none same =
     let both = same_front P front other rest more (All-tail P x front all) (All-tail P y other alls) off none (cc) in
     (cc, both.1)
@@ -38,9 +36,7 @@ IsPlain text = All (λ byte. 32 ≤ byte) text
 
 -- a text is plain if a computed test finds no byte below 32
 pub plain_text : (text : List ℕ) → list_all (λ b. nat_le 32 b) text ≡ true → IsPlain text
-plain_text text passes =
-    All-weaker (λ b. IsTrue (nat_le 32 b)) (λ b. 32 ≤ b) (λ b told. grind (arith, nat_tests)) text
-    (AllPass-from_list_all (λ b. nat_le 32 b) text passes)
+plain_text text passes = grind (arith, All-weaker, nat_tests, AllPass-from_list_all)
 
 pub plain_letters : (letters : List ℕ) → IsPlain (letters_text letters)
 plain_letters letters = All-map (λ b. 32 ≤ b) (λ l. l + 65) letters (λ k d inside. omega arith)
@@ -54,8 +50,7 @@ plain_keys (Rotor k) = search (arith, plain_more, plain_letters, plain_text (cod
 plain_keys (Pin k) = grind (arith, plain_more, plain_text, plain_letters)
 
 pub IsWithout-plain : (byte : ℕ) (text : List ℕ) → byte < 32 → IsPlain text → IsWithout byte text
-IsWithout-plain byte text low plain =
-    All-weaker (λ b. 32 ≤ b) (λ b. b ≢ byte) (λ b above same. omega (arith, above, same)) text plain
+IsWithout-plain byte text low plain = grind (arith, All-weaker)
 
 pub head_unbroken : IsWithout 10 (codes "PART ")
 head_unbroken = IsWithout-plain 10 (codes "PART ") (omega arith) (plain_text (codes "PART ") refl)
@@ -122,20 +117,13 @@ pub line_on : (mark byte : ℕ) (marks rest pattern bytes old now new : List ℕ
     → MatchResult answer (λ _. AreLettersAppended marks rest now new) (IsUnread (IsPatternLine marks) rest)
     → MatchResult answer (λ _. AreLettersAppended pattern bytes old new) (IsUnread (IsPatternLine pattern) bytes)
 line_on mark byte marks rest pattern bytes old now new (Ok done) first next fit put (more, line, is) =
-    rw (first, next) (
-      letters_for_mark mark byte ++ more,
-      line_more mark byte marks more rest fit line,
-      cc (put, is, append_assoc old (letters_for_mark mark byte) more),
-    )
+    grind (arith, line_more, append_assoc)
 line_on mark byte marks rest pattern bytes old now new (Err Incomplete) first next fit put
     (more, some, (letters, line)) =
     rw (first, next) (
       more,
       some,
-      (
-        letters_for_mark mark byte ++ letters,
-        line_more mark byte marks letters (rest ++ more) fit line,
-      ),
+      (letters_for_mark mark byte ++ letters, line_more mark byte marks letters (rest ++ more) fit line),
     )
 line_on mark byte marks rest pattern bytes old now new (Err Mismatch) first next fit put none =
     rw (first, next) (λ more line. none more (line_less mark byte marks line.0 (rest ++ more) line.1).1)
@@ -145,10 +133,8 @@ pub line_ends : (pattern bytes letters : List ℕ) (answer : Result (Unit {0}) U
     → MatchResult answer (λ _. IsLineWithEnd [] bytes) (IsUnread (IsLineWithEnd []) bytes)
     → MatchResult answer (λ _. AreLettersAppended pattern bytes letters letters)
     (IsUnread (IsPatternLine pattern) bytes)
-line_ends [] bytes letters (Ok done) none ended =
-    ([], record { are_letters = AreLetters-nil; ended = ended }, sym (append-nil letters))
-line_ends [] bytes letters (Err Incomplete) none (more, some, ended) =
-    (more, some, ([], record { are_letters = AreLetters-nil; ended = ended }))
+line_ends [] bytes letters (Ok done) none ended = grind (arith, AreLetters-nil, append-nil)
+line_ends [] bytes letters (Err Incomplete) none (more, some, ended) = grind (arith, AreLetters-nil)
 line_ends [] bytes letters (Err Mismatch) none off = λ more line. off more line.1.ended
 line_ends (mark ∷ pattern) bytes letters answer none told = absurd (omega arith)
 
@@ -170,8 +156,7 @@ blanks-places (suc n) other = ap (λ m. m + 1) (blanks-places n other) ∙ omega
 filled_word : (n : ℕ) (letters other more : List ℕ) → length letters ≡ n
     → filled_pattern (blank_places n ++ other) (letters ++ more) ≡ letters_text letters ++ filled_pattern other more
 filled_word zero [] other more count = refl
-filled_word (suc n) (l ∷ letters) other more count =
-    ap (λ text. (l + 65) ∷ text) (filled_word n letters other more (omega arith))
+filled_word (suc n) (l ∷ letters) other more count = grind (arith, filled_word n letters other more (omega arith))
 filled_word _ _ other more count = absurd (omega arith)
 
 filled-places : (n : ℕ) (letters : List ℕ) → length letters ≡ n

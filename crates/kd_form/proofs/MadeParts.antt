@@ -61,10 +61,8 @@ own_when_turned s key window turned = grind arith
 
 pub own_when_left : (s : Day) (key left : EngineKey) (window : List ℕ) (count : ℕ) → IsTurnedFrom s key
     → left ≡ engine_key_after (key_with_window key window) count → IsTurnedFrom s left
-own_when_left (OfRotors s) key left window count (shown, is) left_is =
-    (_, left_is ∙ ap (λ k. engine_key_after (key_with_window k window) count) is)
-own_when_left (OfPins s) key left window count (shown, is) left_is =
-    (_, left_is ∙ ap (λ k. engine_key_after (key_with_window k window) count) is)
+own_when_left (OfRotors s) key left window count (shown, is) left_is = grind arith
+own_when_left (OfPins s) key left window count (shown, is) left_is = grind arith
 
 -- -------- skipping letters finds the first rising places, letter by letter and wheel by wheel
 
@@ -92,10 +90,7 @@ module _ (letters : List ℕ) (wheel start : ℕ) (inside : start < length lette
   -- if the letter at `start` is on the wheel, the first pick takes it
   first_on : (places : List ℕ) → wheel < 7 → Contains (ring_of wheel) (slice_index letters start)
       → IsFirstPick letters (wheel + 1) (start + 1) places → IsFirstPick letters wheel start (start ∷ places)
-  first_on places less on first = record {
-    picks = grind (arith, first.picks);
-    first = λ others picks. grind (arith, cases_eq, first.first);
-  }
+  first_on places less on first = grind (arith, cases_eq)
 
   none_on : wheel < 7 → HasNoPick letters (wheel + 1) (start + 1) → HasNoPick letters wheel start
   none_on less none [] picks = omega arith
@@ -119,8 +114,7 @@ pub record IsPicking (letters : List ℕ) (start : ℕ) (done : List ℕ) : Type
   pub spent : HasNoPick letters (length done + 1) start → HasNoPick letters 1 0
 
 pub picking_none : (letters : List ℕ) → IsPicking letters 0 []
-picking_none letters =
-    record { places = []; few = omega arith; taken = refl; made = λ more first. first; spent = λ none. none }
+picking_none letters = grind arith
 
 no_seventh : (letter : ℕ) → ¬ (Contains (ring_of 7) letter)
 unfolding ring_of
@@ -301,26 +295,15 @@ part_gives_back (OfRotors s) part parts (Rotor k) piece made legal are suits fra
     let day : Day = OfRotors s in
     let enciphered : List ℕ = cipher_from day k.message_key piece in
     let count : length (rotor_letters day k piece) ≡ 5 + length piece =
-    omega (
-      arith,
-      length-append {A = ℕ},
-      enciphered_length day k.message_key piece,
-      are.fillers.count,
-      are.group.count,
-    ) in
+    omega (arith, length-append {A = ℕ}, enciphered_length day k.message_key piece, are.fillers.count, are.group.count) in
     let key : cipher_from day k.ground_setting (cipher_from day k.ground_setting k.message_key) ≡ k.message_key =
     twice_on_key day k.ground_setting k.message_key legal are.message_key.within in
     let text : cipher_from day k.message_key enciphered
     ≡ piece = twice_on_key day k.message_key piece legal is.within in
+    let size = enciphered_length day k.ground_setting k.message_key in
     let placed = rotor_places k.fillers k.group enciphered are.fillers.count are.group.count in
     rw makes (record {
-      is_heading = grind (
-        arith,
-        count,
-        enciphered_length day k.ground_setting k.message_key,
-        enciphered_letters day k.ground_setting
-            k.message_key,
-      );
+      is_heading = grind (arith, count, size, enciphered_letters day k.ground_setting k.message_key);
       numbered = refl;
       so_many = refl;
       within = grind (arith, All-append (λ letter. letter < 26), are, enciphered_letters day k.message_key piece);
@@ -335,22 +318,16 @@ part_gives_back (OfPins s) part parts (Pin k) piece made legal are suits fractio
     let groups : length (fill_last_group piece) ≡ length piece + more =
     omega (arith, length-append piece (replicate more 23), length-replicate {A = ℕ} more 23) in
     let count : length (pin_letters day k internal piece) ≡ 20 + length (fill_last_group piece) =
-    omega (
+    simp length-append (omega (
       arith,
-      length-append (indicators ++ enciphered) indicators,
-      length-append indicators enciphered,
       legal.list.count,
-      enciphered_length day internal (fill_last_group piece),
-      length-append k.external (list_letters day),
       are.external.count,
-    ) in
+      simp length-append at (enciphered_length day internal (fill_last_group piece)),
+    )) in
     let outer : All (λ letter. letter < 26) indicators =
-    All-cons (λ letter. letter < 26) k.chosen (k.chosen ∷ k.external ++ list_letters day) are.chosen
-    (All-cons (λ letter. letter < 26) k.chosen (k.external ++ list_letters day) are.chosen
-    (All-append (λ letter. letter < 26) k.external (list_letters day) are.external.within legal.list.within)) in
+    grind (arith, All-cons (λ letter. letter < 26), All-append (λ letter. letter < 26), are, legal.list) in
     let inner : All (λ letter. letter < 26) (fill_last_group piece) =
-    All-append (λ letter. letter < 26) piece (replicate more 23) is.within
-    (All-replicate (λ letter. letter < 26) more 23 (omega arith)) in
+    grind (arith, All-append (λ letter. letter < 26), All-replicate (λ letter. letter < 26), is.within) in
     rw makes (record {
       is_heading = grind (arith, count, groups);
       numbered = refl;
@@ -361,12 +338,9 @@ part_gives_back (OfPins s) part parts (Pin k) piece made legal are suits fractio
       counted = refl;
       read =
           let placed = pin_places k k.external (list_letters day) enciphered refl are.external.count legal.list.count in
-          let on_wheels = subst (λ (x : PinKeys). IsWindow (sheet_key day) x.external) placed.keys suits.0 in
-          let best = subst (λ (x : PinKeys). IsInternalKey (enciphered_choice day x) internal) placed.keys first in
-          let is =
-          sym (twice_on_key day internal (fill_last_group piece) legal inner)
-          ∙ ap (cipher_from day internal) placed.text_is in
-          GoesOn tt placed.around
-          (GoesOn tt on_wheels (GoesOn tt (sym placed.listed) (GoesOn internal best (ap Ok is))));
+          let text : cipher_from day internal enciphered ≡ fill_last_group piece =
+          twice_on_key day internal (fill_last_group piece) legal inner in
+          GoesOn tt placed.around (GoesOn tt (rw placed.keys at suits.0) (GoesOn tt (sym placed.listed)
+          (GoesOn internal (rw placed.keys at first) (cc (text, placed.text_is)))));
     })
 part_gives_back _ part parts _ piece made legal are suits fraction is makes = absurd suits

@@ -48,13 +48,11 @@ HasOneAnswer-either ones others apart v w a b = grind arith
 pub HasOneAnswer-FindsThen : {X V : Type 0} {Has : X → Type 0} {Later : X → V → Type 0}
     → ((x y : X) → Has x → Has y → x ≡ y)
     → ((x : X) → HasOneAnswer (Later x)) → HasOneAnswer (FindsThen Has Later)
-HasOneAnswer-FindsThen one laters v w (x, has, later) (y, also, latter) = laters y v w
-    (rw (one x y has also) at later) latter
+HasOneAnswer-FindsThen one laters v w (x, has, later) (y, also, latter) = grind arith
 
 pub HasOneAnswer-DemandsThen : {V : Type 0} {Holds : Type 0} {refusal : V} {Later : V → Type 0} → HasOneAnswer Later
     → HasOneAnswer (DemandsThen Holds refusal Later)
-HasOneAnswer-DemandsThen laters = HasOneAnswer-either (λ v w a b. a.1 ∙ sym b.1) (λ v w a b. laters v w a.1 b.1)
-    (λ v w a b. a.0 b.0)
+HasOneAnswer-DemandsThen laters = grind (arith, HasOneAnswer-either)
 
 pub HasOneAnswer-UnlessFoundThen : {X V : Type 0} {Has : X → Type 0} {refusal : X → V} {Holds : Type 0}
     {Later : V → Type 0}
@@ -84,12 +82,8 @@ one_form : (s : Day) (part parts : ℕ) (keys : List Keys) (texts : List (List �
 one_form s part parts [] [] form other a b = a ∙ sym b
 one_form s part parts (k ∷ keys) (text ∷ texts) form other (one, more, made, mades, joined)
     (two, rest, again, agains, linked) =
-    cc (
-      one_part s part parts k text one two made again,
-      one_form s (part + 1) parts keys texts more rest mades agains,
-      joined,
-      linked,
-    )
+    let first = one_part s part parts k text one two made again in
+    cc (first, one_form s (part + 1) parts keys texts more rest mades agains, joined, linked)
 one_form s part parts _ _ form other a b = absurd a
 
 -- ---- one line of keys
@@ -146,8 +140,7 @@ HasOneAnswer-text : (s : Day) (keys : List Keys) (line last text more : List ℕ
     → BeginsWithKeys s keys (IsLineWithEnd (codes "TEXT")) last → line ++ text ≡ last ++ more → (keys ≡ [])
     × (text ≡ more)
 HasOneAnswer-text s [] line last text more ended end same = grind (arith, plain_text, same_line)
-HasOneAnswer-text s (k ∷ keys) line last text more ended end same = absurd
-    (grind (arith, text_front, key_first, append_assoc))
+HasOneAnswer-text s (k ∷ keys) line last text more ended end same = grind (arith, text_front, key_first, append_assoc)
 
 pub one_order : (s : Day) (order : List ℕ) (keys others : List Keys) (head other text more : List ℕ)
     → IsOrder s order keys head text → IsOrder s order others other more

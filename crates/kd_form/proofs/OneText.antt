@@ -14,7 +14,7 @@ pub use Rattle.kd_form.proofs.Prelude.{FailureAgrees, Parts, IsEarlyFault, form_
 pub use Rattle.kd_form.proofs.Prelude.{IsStreamAnswer, HaveNotFailed, is_device, is_off_key, text_message, IsWithout}
 pub use Rattle.kd_form.proofs.Prelude.{FormsBecomeOneText, FormsHaveOneFault, FormsStayRefused}
 pub use Rattle.kd_form.proofs.Prelude.{ReceivedFormsHaveNoFault, plaintext_with_end, false≢true}
-use Rattle.kd_form.proofs.OneOrder.{HasOneAnswer-equal, HasOneAnswer-either, HasOneAnswer-FindsThen}
+use Rattle.kd_form.proofs.OneOrder.{HasOneAnswer-either, HasOneAnswer-FindsThen}
 use Rattle.kd_form.proofs.OneOrder.{HasOneAnswer-DemandsThen, HasOneAnswer-UnlessFoundThen, one_internal_key}
 use Rattle.kd_form.proofs.OneOrder.{one_bad_byte, no_bad_byte, HasOneAnswer, Answer, UnlessFoundThen, DemandsThen}
 use Rattle.kd_form.proofs.OneOrder.{FindsOrFaultThen}
@@ -27,8 +27,7 @@ HasOneAnswer-FindsOrFaultThen : {X V : Type 0} {Has : X → Type 0} {none : Type
     → ((x y : X) → Has x → Has y → x ≡ y)
     → (none → (x : X) → ¬ (Has x)) → ((x : X) → HasOneAnswer (Later x))
     → HasOneAnswer (FindsOrFaultThen Has none refusal Later)
-HasOneAnswer-FindsOrFaultThen one apart laters =
-    HasOneAnswer-either (λ v w a b. a.1 ∙ sym b.1) (HasOneAnswer-FindsThen one laters) (λ v w a b. apart a.0 b.0 b.1)
+HasOneAnswer-FindsOrFaultThen one apart laters = grind (arith, HasOneAnswer-either, HasOneAnswer-FindsThen)
 
 HasOneAnswer-letters : (s : Day) (part : ℕ) (i : Option Indicator) (letters : List ℕ)
     → HasOneAnswer (IsLettersAnswer s part i letters)
@@ -57,8 +56,7 @@ module _ (s : Day) where
       (letters more : List ℕ)
       → ReadsPartsTo s (IsAtPartStart q) p parts letters → ReadsPartsTo s B q others more
       → ReadsPartsTo s B p (parts ++ others) (letters ++ more)
-  reads_then q B p [] others letters more ((there, none), nil) rest =
-      rw nil (subst (λ x. ReadsPartsTo s B x others more) (sym there) rest)
+  reads_then q B p [] others letters more ((there, none), nil) rest = grind arith
   reads_then q B p (part ∷ parts) others letters more (inl ((there, none), nil)) rest = absurd (cc)
   reads_then q B p (part ∷ parts) others letters more (inr (count, one, left, is, due, reads, joined)) rest =
       grind (arith, reads_then q B (next_part_start p count part) parts others left more reads rest, append_assoc)
@@ -145,8 +143,7 @@ module _ (s : Day) where
       → (p : PartStart) (parts : List (List ℕ)) (letters more : List ℕ) → ReadsPartsTo s A p parts letters
       → ReadsPartsTo s B p parts more → (letters ≡ more) × R
   reads_meet A B R over under at p [] letters more (a, none) (b, nil) = (none ∙ sym nil, at p [] a b)
-  reads_meet A B R over under at p (part ∷ parts) letters more (inl (a, none)) (inl (b, nil)) =
-      (none ∙ sym nil, at p (part ∷ parts) a b)
+  reads_meet A B R over under at p (part ∷ parts) letters more (inl (a, none)) (inl (b, nil)) = grind arith
   reads_meet A B R over under at p (part ∷ parts) letters more (inl (a, none))
       (inr (count, one, left, is, due, rest, joined)) =
       absurd (over p part parts count one left a is due rest)
@@ -207,16 +204,12 @@ module _ (s : Day) where
         none [] (subst BeginsHeading (sym joined ∙ sym (append-nil form))
         (begins_more (cut_at_headings form).0 rest (begins_there s (cut_at_headings form).0 h body has))) in
         ([], inl ((fault, inl (InHeading unheaded is), refl), refl))
-    fault_answer fault (text, inl (AtPart (letters, reads, is))) = (
-      letters,
-      reads_as s (IsPartFaultForGood s fault) (AnswersAt s (Err fault)) (stands_at s fault) first_part_start
-          (parts_of form) letters reads,
-    )
-    fault_answer fault (text, inr (letters, reads, is)) = (
-      letters,
-      reads_as s (IsPartFaultAtEnd s fault) (AnswersAt s (Err fault)) (ends_at s fault) first_part_start
-          (parts_of form) letters reads,
-    )
+    fault_answer fault (text, inl (AtPart (letters, reads, is))) =
+        let to = reads_as s (IsPartFaultForGood s fault) (AnswersAt s (Err fault)) (stands_at s fault) in
+        (letters, to first_part_start (parts_of form) letters reads)
+    fault_answer fault (text, inr (letters, reads, is)) =
+        let to = reads_as s (IsPartFaultAtEnd s fault) (AnswersAt s (Err fault)) (ends_at s fault) in
+        (letters, to first_part_start (parts_of form) letters reads)
 
 pub forms_become_one_text : FormsBecomeOneText
 forms_become_one_text s form text other a b =
@@ -251,21 +244,12 @@ IsOfForms fault = (is_device (Err fault) ≡ false) × (is_off_key (Err fault) �
 -- a fault of a body's letters, or of a whole body, is neither `Device` nor `NotReady` nor `NotOnKey`
 letters_refused : (s : Day) (part : ℕ) (i : Option Indicator) (letters : List ℕ) (fault : FormFault)
     → IsLettersAnswer s part i letters (Err fault) → IsOfForms fault
-letters_refused s part (Some i) letters fault (HasFault f first is) = grind arith
-letters_refused s part (Some i) letters fault (GoesOn _ group is) = absurd (cc)
-letters_refused s part None letters fault (HasFault f first is) = grind arith
-letters_refused s part None letters fault (GoesOn _ around (HasFault f first is)) = grind arith
-letters_refused s part None letters fault (GoesOn _ around (GoesOn _ window (HasFault f first is))) = grind arith
-letters_refused s part None letters fault (GoesOn _ around (GoesOn _ window (GoesOn _ listed (HasFault f first is)))) =
-    grind arith
-letters_refused s part None letters fault (GoesOn _ around (GoesOn _ window (GoesOn _ listed (GoesOn key first is)))) =
-    absurd (cc)
+letters_refused s part (Some i) letters fault told = grind arith
+letters_refused s part None letters fault told = grind arith
 
 body_refused : (s : Day) (number : ℕ) (h : Heading) (letters : List ℕ) (fault : FormFault)
     → IsBodyAnswer s number h letters (Err fault) → IsOfForms fault
-body_refused s number h letters fault (HasFault f first is) = grind arith
-body_refused s number h letters fault (GoesOn _ counted next) =
-    letters_refused s number h.indicator letters fault next
+body_refused s number h letters fault told = grind (arith, letters_refused)
 
 parts_refused : (s : Day) (fault : FormFault) (p : PartStart) (parts : List (List ℕ)) → AnswersAt s (Err fault) p parts
     → IsOfForms fault

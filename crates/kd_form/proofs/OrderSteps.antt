@@ -55,7 +55,7 @@ last_number size (suc other) letters written large some can needed =
     let same : other ≡ written = grind (arith, can.most other (omega arith) (omega arith)) in
     grind (arith, ap (λ n. size * n) same)
 
-module _ (s : Day) (keys : List Keys) (w : PartWriter) (k : Keys) (letters sent one : List ℕ)
+module _ {s : Day} {keys : List Keys} {w : PartWriter} {k : Keys} {letters sent one : List ℕ}
     (is : AreLettersTaken s keys w letters sent) (found : slice_get keys w.written ≡ Some k)
     (made : IsPartTextMade s (w.written + 1) (length keys) k w.letters.items one) where
   -- the kept letters become the next part
@@ -94,15 +94,15 @@ module _ (s : Day) (count : ℕ) where
     | inr text ↦ off more (text_line (byte ∷ line ++ more) text)
   ]
 
-  next_plain : (line : List ℕ) → IsHeadLine s count line → (text : List ℕ) × IsPlain text × IsLineWithEnd text line
-  next_plain line (inl key) = (line_of (key_words key.0.keys), plain_keys key.0.keys, key.0.keyed)
-  next_plain line (inr text) = (codes "TEXT", plain_text (codes "TEXT") refl, text)
+  next_plain : {line : List ℕ} → IsHeadLine s count line → (text : List ℕ) × IsPlain text × IsLineWithEnd text line
+  next_plain (inl key) = (line_of (key_words key.0.keys), plain_keys key.0.keys, key.0.keyed)
+  next_plain (inr text) = (codes "TEXT", plain_text (codes "TEXT") refl, text)
 
   -- no line of a head is a proper prefix of another one
-  next_whole : (line more : List ℕ) → IsHeadLine s count line → IsHeadLine s count (line ++ more) → more ≡ []
-  next_whole line more one other =
-      let (text, plain, ended) = next_plain line one in
-      let (longer, also, end) = next_plain (line ++ more) other in
+  next_whole : {line : List ℕ} (more : List ℕ) → IsHeadLine s count line → IsHeadLine s count (line ++ more) → more ≡ []
+  next_whole {line} more one other =
+      let (text, plain, ended) = next_plain one in
+      let (longer, also, end) = next_plain other in
       (same_line text longer line (line ++ more) more [] plain also ended end (sym (append-nil (line ++ more)))).2
 
   -- if bytes are a proper prefix of a line of a head, but no such line begins with them and `byte`, then
@@ -111,11 +111,11 @@ module _ (s : Day) (count : ℕ) where
       → IsUnread (IsHeadLine s count) (line ++ byte ∷ []) unread.Mismatch → IsHeadLine s count one
       → ¬ (line ++ byte ∷ other ≡ one ++ left)
   no_next line other one left byte (more, some, next) off is same = elim (prefixes line (byte ∷ other) one left same) [
-    | Shorter [] longer left ↦ some (next_whole one more is (rw (longer, append-nil line) next))
+    | Shorter [] longer left ↦ some (next_whole more is (rw (longer, append-nil line) next))
     | Shorter (x ∷ beyond) longer left ↦ off beyond (let first : byte ≡ x = cc in rw (append_assoc, first, ← longer) is)
     | Longer x beyond longer left ↦
         let whole : line ++ more ≡ one ++ (x ∷ beyond ++ more) = cc (longer, append_assoc one (x ∷ beyond) more) in
-        let none : x ∷ beyond ++ more ≡ [] = next_whole one (x ∷ beyond ++ more) is (rw whole at next) in
+        let none : x ∷ beyond ++ more ≡ [] = next_whole (x ∷ beyond ++ more) is (rw whole at next) in
         cc
   ]
 
@@ -126,7 +126,7 @@ pub head_next : (s : Day) (count : ℕ) (keys : List Keys) (bytes : List ℕ) �
 head_next s count [] bytes few ended = (bytes, [], inr ended, sym (append-nil bytes))
 head_next s count (k ∷ keys) bytes few (line, rest, are, is, later, joined) = grind arith
 
-module _ (s : Day) (keys : List Keys) (line order : List ℕ) (is : IsHeadBegun s keys line order) where
+module _ {s : Day} {keys : List Keys} {line order : List ℕ} (is : IsHeadBegun s keys line order) where
   pub line_short : length (key_pattern s) ≤ 21 → length line < 25
   line_short few = grind (arith, common_steps, as_form_line, length-filled, length-append {A = ℕ})
 
@@ -162,7 +162,7 @@ pub letters_few : (blank : Option ℕ) (text : List ℕ) → length (letters_fro
 letters_few blank [] = omega arith
 letters_few blank (byte ∷ text) = grind (arith, letters_first, letters_few blank text, length-append)
 
-module _ (s : Day) where
+module _ {s : Day} where
   pub is_longer : {order head text : List ℕ} {keys : List Keys} (more : List ℕ) → IsOrder s order keys head text
       → IsOrder s (order ++ more) keys head (text ++ more)
   is_longer more is = grind (arith, append_assoc {A = ℕ})
@@ -181,61 +181,58 @@ module _ (s : Day) where
         fault.stops byte (drop 1 fault.rest) beyond (grind arith);
   }
 
-  pub stands_longer : (order more : List ℕ) (fault : FormFault) → IsOrderFaultForGood s order fault
+  pub stands_longer : {order : List ℕ} {fault : FormFault} (more : List ℕ) → IsOrderFaultForGood s order fault
       → IsOrderFaultForGood s (order ++ more) fault
-  stands_longer order more fault (InHead p h few e) =
+  stands_longer {order} more (InHead p h few e) =
       InHead p (fault_longer more h few) (omega (arith, few, length-append order more)) e
-  stands_longer order more fault (InKeys ks hd t o k) = InKeys ks hd (t ++ more) (is_longer more o) k
-  stands_longer order more fault (InText ks hd t n o su b e) =
+  stands_longer more (InKeys ks hd t o k) = InKeys ks hd (t ++ more) (is_longer more o) k
+  stands_longer more (InText ks hd t n o su b e) =
       InText ks hd (t ++ more) n (is_longer more o) su (bad_longer t more n b) e
 
-  pub order_refused : (order sent : List ℕ) (fault : FormFault) → IsOrderFaultForGood s order fault
+  pub order_refused : {order sent : List ℕ} {fault : FormFault} → IsOrderFaultForGood s order fault
       → ((more : List ℕ) → IsSentBefore s (order ++ more) sent) → IsRefused (order_message s) order sent fault
-  order_refused order sent fault stands written = record {
-    stands = λ more. stands_longer order more fault stands;
-    refused = λ more. inl (stands_longer order more fault stands);
+  order_refused stands written = record {
+    stands = λ more. stands_longer more stands;
+    refused = λ more. inl (stands_longer more stands);
     written = written;
   }
 
   -- ---- how far the reader has read
 
-  text_sent : (keys : List Keys) (w : PartWriter) (order sent : List ℕ) → IsTextRead s keys w order sent
+  text_sent : {keys : List Keys} {w : PartWriter} {order sent : List ℕ} → IsTextRead s keys w order sent
       → IsSentBefore s order sent
-  text_sent keys w order sent text =
-      stream.TextBegun keys text.head text.text text.text w.written text.sendable.is_order text.sendable.suited
+  text_sent text =
+      stream.TextBegun _ text.head text.text text.text _ text.sendable.is_order text.sendable.suited
       (grind (arith, append-nil {A = ℕ})) text.taken.written text.taken.made
 
   open_yet : (stage : OrderStage) (h : HeadReader) (w : PartWriter) (order sent : List ℕ)
       → IsStageRead s stage h w order sent → IsOpen (order_message s) order sent
-  open_yet stages.Head h w order sent (head, nothing, fresh) =
-      let cut = head_cut s h.keys.items h.line.items order head in record {
-        unrefused = λ fault. nothing_stands_yet s order fault cut;
-        written = stream.NothingSent (λ keys front text is suited. no_head_fault s order keys front text _ is cut)
-            nothing;
-      }
+  open_yet stages.Head h w order sent (head, nothing, fresh) = record {
+    unrefused = λ fault. nothing_stands_yet s order fault (head_cut head);
+    written = stream.NothingSent (λ keys front text is suited. no_head_fault s order keys front text _ is (head_cut head))
+        nothing;
+  }
   open_yet stages.Text h w order sent text = record {
     unrefused = λ fault. nothing_stands s order _ text.head text.text fault text.sendable;
-    written = text_sent h.keys.items w order sent text;
+    written = text_sent text;
   }
 
-  pub order_held : (r : OrderReader) (order sent : List ℕ) → IsOrderRead s r order sent
+  pub order_held : {r : OrderReader} {order sent : List ℕ} → IsOrderRead s r order sent
       → HasReadSoFar (order_message s) (IsOrderRead s r) order sent
-  order_held r order sent is = record { is = is; open_yet = open_yet r.stage r.head r.parts order sent is.stage }
+  order_held {r} {order} {sent} is = record { is = is; open_yet = open_yet r.stage r.head r.parts order sent is.stage }
 
   -- ---- in the text
 
   -- after a complete head, the reader holds the order if the keys suit the day, and refuses it otherwise
-  pub text_begins : (r : OrderReader) (order text sent : List ℕ) (answer : Result (Unit {0}) FormFault)
+  pub text_begins : (r : OrderReader) {order text sent : List ℕ} (answer : Result (Unit {0}) FormFault)
       → r.stage ≡ stages.Text → r.read ≡ length order → IsOrder s order r.head.keys.items order []
-      → IsFreshWriter r.parts
-      → text ≡ [] → sent ≡ []
+      → IsFreshWriter r.parts → text ≡ [] → sent ≡ []
       → MatchResult answer (λ _. All (KeysSuitDay s) r.head.keys.items) (IsFirstKeysFault s r.head.keys.items)
       → MatchResult answer (λ _. HasReadSoFar (order_message s) (IsOrderRead s r) order sent)
       (IsRefused (order_message s) order text)
-  text_begins r order text sent (Ok done) here size is fresh none nil suited =
-      let no_piece = pieces-none (part_size s) (size_some s) in
+  text_begins r {order} (Ok done) here size is fresh none nil suited =
       let first = take_all {A = ℕ} (part_size s * 0) [] (omega arith) in
-      order_held r order sent (record {
+      order_held (record {
         counted = size;
         stage = rw here (record {
           head = order;
@@ -246,26 +243,26 @@ module _ (s : Day) where
             counted = fresh.none;
             written = grind (arith, fresh.unwritten);
             kept = grind (arith, drop_all {X = ℕ}, take_all {A = ℕ});
-            made = rw (fresh.unwritten, first, no_piece) nil;
+            made = rw (fresh.unwritten, first, pieces-none (part_size s) (size_some s)) nil;
           };
         });
       })
-  text_begins r order text sent (Err fault) here size is fresh none nil found =
-      order_refused order text fault (InKeys r.head.keys.items order [] is found)
+  text_begins r {order} (Err fault) here size is fresh none nil found =
+      order_refused (InKeys r.head.keys.items order [] is found)
       (λ more. stream.NothingSent (λ others front beyond other suited.
       let same = one_order s (order ++ more) _ others order front more beyond (is_longer more is) other in
       no_keys_fault s r.head.keys.items fault (rw same.0 suited) found) none)
 
-  module _ (keys : List Keys) (w : PartWriter) (order sent : List ℕ) (text : IsTextRead s keys w order sent) where
-    -- at the end of the text, the reader outputs the last part, or finds the fault
-    pub text_ends : (made : List ℕ) (answer : Result (Unit {0}) FormFault)
-        → IsTextEndAnswer s keys (text_letters s text.text) sent made answer
-        → IsMessageAnswer (order_message s) order (sent ++ made) answer
-    text_ends made (Ok done) (some, counted, is) = grind arith
-    text_ends made (Err fault) (nothing, inl (none, is)) =
-        (inr (NoLetter _ _ _ text.sendable none is), rw (nothing, append-nil sent) (text_sent _ _ _ _ text))
-    text_ends made (Err fault) (nothing, inr (some, other, is)) =
-        (inr (InParts _ _ _ text.sendable some other is), rw (nothing, append-nil sent) (text_sent _ _ _ _ text))
+  -- at the end of the text, the reader outputs the last part, or finds the fault
+  pub text_ends : {keys : List Keys} {w : PartWriter} {order sent : List ℕ} (text : IsTextRead s keys w order sent)
+      (made : List ℕ) (answer : Result (Unit {0}) FormFault)
+      → IsTextEndAnswer s keys (text_letters s text.text) sent made answer
+      → IsMessageAnswer (order_message s) order (sent ++ made) answer
+  text_ends text made (Ok done) (some, counted, is) = grind arith
+  text_ends {sent = sent} text made (Err fault) (nothing, inl (none, is)) =
+      (inr (NoLetter _ _ _ text.sendable none is), rw (nothing, append-nil sent) (text_sent text))
+  text_ends {sent = sent} text made (Err fault) (nothing, inr (some, other, is)) =
+      (inr (InParts _ _ _ text.sendable some other is), rw (nothing, append-nil sent) (text_sent text))
 
 pub counted_on : {read : ℕ} (order : List ℕ) (byte : ℕ) → read ≡ length order → read + 1 ≡ length (order ++ byte ∷ [])
 counted_on order byte is = ap (λ n. n + 1) is ∙ sym (length-append order (byte ∷ []))

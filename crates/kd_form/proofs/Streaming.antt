@@ -26,7 +26,7 @@ abbrev pub port_over : Option (List ℕ) → Option (List ℕ) → Bool → Bool
 port_over had has before after = record { had = had; has = has; had_failed = before; has_failed = after }
 
 -- after a failed call, the port has failed
-failed_now : (before after : Bool) → after ≡ (before || true) → IsTrue after
+pub failed_now : (before after : Bool) → after ≡ (before || true) → IsTrue after
 failed_now before after e = grind arith
 
 -- if a call didn't fail, the port has failed exactly if it had failed before the call
@@ -38,9 +38,8 @@ all_of_it xs = starts_with_of_append xs xs [] (sym (append-nil xs))
 
 starts_longer : (bytes more front : List ℕ) → StartsWith bytes front → StartsWith (bytes ++ more) front
 starts_longer bytes more front starts =
-    let rest = starts_with_rest bytes front starts in
-    starts_with_of_append (bytes ++ more) front (drop (length front) bytes ++ more)
-    (ap (λ l. l ++ more) rest ∙ append_assoc front (drop (length front) bytes) more)
+    starts_with_of_append (bytes ++ more) front _
+    (ap (λ l. l ++ more) (starts_with_rest bytes front starts) ∙ append_assoc front _ more)
 
 -- if the sink took only a proper prefix of `made`, the bytes put fall short of the bytes due
 pub short_of : (text made : List ℕ) (count : ℕ) → count < length made
@@ -50,36 +49,18 @@ short_of text made count less = grind (arith, length-drop {A = ℕ}, take-append
 -- ---- byte after byte
 
 -- if the sink took only a prefix of the output for the bytes, feeding stops because a device failed
-pub fed_in_part : (m : Message) (new : List ℕ → List ℕ → Type 0) (bytes text made : List ℕ)
-    (took wrote : Option (List ℕ)) (d f : Bool)
-    → HasReadSoFar m new bytes (text ++ made) → TakesPrefix took wrote made
+pub fed_in_part : {m : Message} {new : List ℕ → List ℕ → Type 0} {bytes text : List ℕ} {took wrote : Option (List ℕ)}
+    {d f : Bool} (made : List ℕ) → HasReadSoFar m new bytes (text ++ made) → TakesPrefix took wrote made
     → IsFed m new bytes text (port_over took wrote d f) (Err stops.Device)
-fed_in_part m new bytes text made took wrote d f held part = grind (arith, all_of_it, short_of)
-
-pub fed_none : (m : Message) (old : List ℕ → List ℕ → Type 0) (took : Option (List ℕ)) (d : Bool)
-    → IsFeedAllAnswer m old old [] (port_over took took d d) (Ok tt)
-fed_none m old took d bytes text held = grind (arith, Appends-nil, append-nil {A = ℕ})
+fed_in_part made held part = grind (arith, all_of_it, short_of)
 
 -- feeding bytes and then the next bytes is feeding all of them
-pub fed_next : (m : Message) (old now new : List ℕ → List ℕ → Type 0) (front next : List ℕ)
-    (took taken wrote : Option (List ℕ)) (d e f : Bool)
-    (answer : Result (Unit {0}) Interruption) → IsFeedAllAnswer m old now front (port_over took taken d e) (Ok tt)
+pub fed_next : {m : Message} {old now new : List ℕ → List ℕ → Type 0} {front next : List ℕ}
+    {took taken wrote : Option (List ℕ)} {d e f : Bool}
+    {answer : Result (Unit {0}) Interruption} → IsFeedAllAnswer m old now front (port_over took taken d e) (Ok tt)
     → IsFeedAllAnswer m now new next (port_over taken wrote e f) answer
     → IsFeedAllAnswer m old new (front ++ next) (port_over took wrote d f) answer
-fed_next m old now new front next took taken wrote d e f answer before after bytes text held =
-    grind (arith, Appends-trans, append_assoc {A = ℕ})
-
--- ---- room for more bytes
-
-pub room_for : (m : Message) (holds : List ℕ → List ℕ → Type 0) (room less : ℕ) → less ≤ room → HasRoom m holds room
-    → HasRoom m holds less
-room_for m holds room less few has =
-    record { bytes = has.bytes; text = has.text; held = has.held; within = omega (arith, has.within, few) }
-
--- after `more` is fed, there is room for `less` bytes
-pub room_less : (m : Message) (old new : List ℕ → List ℕ → Type 0) (more : List ℕ) (sink : Port) (room less : ℕ)
-    → length more + less ≤ room → HasRoom m old room → IsFeedAllAnswer m old new more sink (Ok tt) → HasRoom m new less
-room_less m old new more sink room less few has fed = grind (arith, length-append {A = ℕ})
+fed_next before after bytes text held = grind (arith, Appends-trans, append_assoc {A = ℕ})
 
 -- bytes are the bytes before a place, the byte there, and the bytes after it
 pub up_to : (bytes : List ℕ) (place : ℕ) → place < length bytes
@@ -87,45 +68,16 @@ pub up_to : (bytes : List ℕ) (place : ℕ) → place < length bytes
 up_to bytes place inside = grind (arith, append_assoc, drop-cons, take-append-drop)
 
 -- what holds of feeding bytes holds of feeding equal bytes
-pub fed_whole : (m : Message) (old new : List ℕ → List ℕ → Type 0) (front whole : List ℕ) (sink : Port)
-    (answer : Result (Unit {0}) Interruption) → front ≡ whole
+pub fed_whole : {m : Message} {old new : List ℕ → List ℕ → Type 0} {front whole : List ℕ} {sink : Port}
+    {answer : Result (Unit {0}) Interruption} → front ≡ whole
     → IsFeedAllAnswer m old new front sink answer → IsFeedAllAnswer m old new whole sink answer
-fed_whole m old new front whole sink answer same fed = subst (λ all. IsFeedAllAnswer m old new all sink answer) same fed
+fed_whole same fed = rw same at fed
 
 -- if feeding stops within a prefix of the bytes, it stops within all bytes
-pub fed_up_to : (m : Message) (old new : List ℕ → List ℕ → Type 0) (front more : List ℕ) (sink : Port)
-    (stop : Interruption)
+pub fed_up_to : {m : Message} {old new : List ℕ → List ℕ → Type 0} {front : List ℕ} {sink : Port} {stop : Interruption}
+    (more : List ℕ)
     → IsFeedAllAnswer m old new front sink (Err stop) → IsFeedAllAnswer m old new (front ++ more) sink (Err stop)
-fed_up_to m old new front more sink stop fed bytes text held = grind (arith, append_assoc, starts_longer)
-
--- ---- a read
-
--- the answer of a read if the source failed
-pub read_failed : (m : Message) (new : List ℕ → List ℕ → Type 0) (bytes text : List ℕ) (room : ℕ)
-    (had has took : Option (List ℕ)) (a c d : Bool)
-    → HasReadSoFar m new bytes text → length bytes + room ≤ read_limit → Keeps had has → c ≡ (a || true)
-    → IsChunkRead m new bytes text room (port_over had has a c) (port_over took took d d) (Err stops.Device)
-read_failed m new bytes text room had has took a c d held few kept up =
-    grind (
-      arith,
-      AtSource,
-      failed_now,
-      Consumes-kept had had has [],
-      Consumes-nil had,
-      Appends-nil took,
-      append-nil {A = ℕ},
-    )
-
--- the answer of a read if feeding its bytes stopped
-pub read_stopped : (m : Message) (old new : List ℕ → List ℕ → Type 0) (bytes text more : List ℕ) (room : ℕ)
-    (had has took wrote : Option (List ℕ)) (a c d f : Bool) (stop : Interruption)
-    → HasReadSoFar m old bytes text → length bytes + room ≤ read_limit → length more ≤ room → Consumes had has more
-    → c ≡ (a || false)
-    → IsFeedAllAnswer m old new more (port_over took wrote d f) (Err stop)
-    → f ≡ (d || is_device_interruption {T = Unit {0}} (Err stop))
-    → IsChunkRead m new bytes text room (port_over had has a c) (port_over took wrote d f) (Err stop)
-read_stopped m old new bytes text more room had has took wrote a c d f stop held few inside given well fed up =
-    grind (arith, InFeeding, well_now)
+fed_up_to more fed bytes text held = grind (arith, append_assoc, starts_longer)
 
 -- ---- read after read
 
@@ -140,31 +92,23 @@ pub record SoFar (m : Message) (holds : List ℕ → List ℕ → Type 0) (sourc
   pub held : HasReadSoFar m holds read text
   pub well : HasNotFailed source × HasNotFailed sink
 
-pub SoFar-room : (m : Message) (holds : List ℕ → List ℕ → Type 0) (source sink : Port) (count room : ℕ) → SoFar m holds
-    source sink count
-    → room ≤ read_limit → HasRoom m holds room
-SoFar-room m holds source sink count room before few = grind arith
-
 -- the answer when a read stops, if neither port had failed before this read
-IsStreamAnswer-stopped : (m : Message) (new : List ℕ → List ℕ → Type 0) (read text : List ℕ)
-    (had has next took taken wrote : Option (List ℕ)) (a b c d e f : Bool) (stop : Interruption)
+IsStreamAnswer-stopped : {m : Message} {new : List ℕ → List ℕ → Type 0} {read text : List ℕ}
+    {had has next took taken wrote : Option (List ℕ)} {a b c d e f : Bool} {stop : Interruption}
     → b ≡ a → e ≡ d → length read ≤ read_limit
     → IsReadStopped m new (port_over has next b c) (port_over taken wrote e f) read text stop
     → IsStreamAnswer m (port_over had next a c) (port_over took wrote d f) read text (Err (fault_of_interruption stop))
-IsStreamAnswer-stopped m new read text had has next took taken wrote a b c d e f stop p q few
-    (AtSource open' fails is) = grind arith
-IsStreamAnswer-stopped m new read text had has next took taken wrote a b c d e f (stops.Refused fault) p q few
-    (InFeeding is well up) =
+IsStreamAnswer-stopped p q few (AtSource open' fails is) = grind arith
+IsStreamAnswer-stopped {m} {read = read} {text} {stop = stops.Refused fault} p q few (InFeeding is well up) =
     FaultForGood fault few (subst (λ b. m.stands b fault) (append-nil read) (is.stands []))
-    (subst (λ b. m.before (Some fault) b text) (append-nil read) (is.written [])) (well ∙ p, well_now e f up ∙ q) refl
-IsStreamAnswer-stopped m new read text had has next took taken wrote a b c d e f stops.Device p q few
-    (InFeeding is well up) =
+    (subst (λ b. m.before (Some fault) b text) (append-nil read) (is.written [])) (well ∙ p, well_now _ _ up ∙ q) refl
+IsStreamAnswer-stopped {stop = stops.Device} p q few (InFeeding is well up) =
     SinkFails is.due few (ByThen is.front is.of_bytes is.open_yet) is.of_due
-    (record { failed = failed_now e f up; well = well ∙ p }) refl
+    (record { failed = failed_now _ _ up; well = well ∙ p }) refl
 
 -- One more read: the ports at the start, before this read, and after it.
-module _ (m : Message) (old new : List ℕ → List ℕ → Type 0) (had has next took taken wrote : Option (List ℕ))
-    (a b c d e f : Bool) (count room : ℕ)
+module _ {m : Message} {old new : List ℕ → List ℕ → Type 0} {had has next took taken wrote : Option (List ℕ)}
+    {a b c d e f : Bool} {count room : ℕ}
     (before : SoFar m old (port_over had has a b) (port_over took taken d e) count)
     (space : room ≡ read_limit - count) where
   pub SoFar-read : (n : ℕ) → IsReadNextAnswer m old new room (port_over has next b c) (port_over taken wrote e f) (Ok n)
@@ -176,46 +120,35 @@ module _ (m : Message) (old new : List ℕ → List ℕ → Type 0) (had has nex
       → IsStreamed m (port_over had next a c) (port_over took wrote d f) (Err fault)
   IsStreamed-stopped stop fault is reads =
       let step = reads before.read before.text before.held (omega (arith, before.counted, before.within, space)) in
+      let few : length (before.read ++ step.more) ≤ read_limit =
+      omega (arith, length-append before.read step.more, before.counted, before.within, space, step.within) in
       record {
         read = before.read ++ step.more;
         text = before.text ++ step.made;
         given = Consumes-trans had has next before.read step.more before.given step.given;
         written = Appends-trans took taken wrote before.text step.made before.written step.written;
-        answers = rw is (IsStreamAnswer-stopped m new _ _ had has next took taken wrote a b c d e f stop
-            before.well.0 before.well.1
-            (omega (arith, length-append before.read step.more, before.counted, before.within, space, step.within))
-            step.read);
+        answers = rw is (IsStreamAnswer-stopped before.well.0 before.well.1 few step.read);
       }
 
 -- ---- the end
 
--- if the sink took only a prefix of the rest of a result, closing stops because a device failed
-pub closed_in_part : (m : Message) (old : List ℕ → List ℕ → Type 0) (made : List ℕ) (took wrote : Option (List ℕ))
-    (d f : Bool) (answer : Result (Unit {0}) FormFault)
-    → MessageEnds m old made answer → TakesPrefix took wrote made
-    → IsFinishAnswer m old (port_over took wrote d f) (Err stops.Device)
-closed_in_part m old made took wrote d f answer ends part bytes text held = grind (arith, short_of)
-
-IsStreamAnswer-closed : (m : Message) (holds : List ℕ → List ℕ → Type 0) (read text made : List ℕ) (source : Port)
-    (took taken wrote : Option (List ℕ)) (d e f : Bool)
-    (told : Result (Unit {0}) Interruption) → HasReadSoFar m holds read text → length read ≤ read_limit
-    → IsAtEnd source.has
-    → HasNotFailed source → e ≡ d → HasBeenEnded m read (text ++ made) told → f ≡ (e || is_device_interruption told)
+IsStreamAnswer-closed : {m : Message} {holds : List ℕ → List ℕ → Type 0} {read text : List ℕ} {source : Port}
+    {took wrote : Option (List ℕ)} {d e f : Bool} (made : List ℕ) (told : Result (Unit {0}) Interruption)
+    → HasReadSoFar m holds read text → length read ≤ read_limit → IsAtEnd source.has → HasNotFailed source → e ≡ d
+    → HasBeenEnded m read (text ++ made) told → f ≡ (e || is_device_interruption told)
     → IsStreamAnswer m source (port_over took wrote d f) read (text ++ made) (answer_with_fault told)
-IsStreamAnswer-closed m holds read text made source took taken wrote d e f (Ok done) held few ended well same ends up =
-    MessageComplete few ended ends (well, well_now e f up ∙ same) refl
-IsStreamAnswer-closed m holds read text made source took taken wrote d e f
-    (Err (stops.Refused fault)) held few ended well same ends up =
-    FaultAtEnd fault few ended held.open_yet.unrefused ends.0 ends.1 (well, well_now e f up ∙ same) refl
-IsStreamAnswer-closed m holds read text made source took taken wrote d e f (Err stops.Device) held few ended well
-    same ends up =
-    SinkFails ends.0 few (ByTheEnd ends.1 ended ends.2) ends.3 (record { failed = failed_now e f up; well = well }) refl
+IsStreamAnswer-closed made (Ok done) held few ended well same ends up =
+    MessageComplete few ended ends (well, well_now _ _ up ∙ same) refl
+IsStreamAnswer-closed made (Err (stops.Refused fault)) held few ended well same ends up =
+    FaultAtEnd fault few ended held.open_yet.unrefused ends.0 ends.1 (well, well_now _ _ up ∙ same) refl
+IsStreamAnswer-closed made (Err stops.Device) held few ended well same ends up =
+    SinkFails ends.0 few (ByTheEnd ends.1 ended ends.2) ends.3 (record { failed = failed_now _ _ up; well = well }) refl
 
-pub IsStreamed-closed : (m : Message) (holds : List ℕ → List ℕ → Type 0) (source : Port)
-    (took taken wrote : Option (List ℕ)) (d e f : Bool) (count : ℕ)
-    (answer : Result (Unit {0}) FormFault) → SoFar m holds source (port_over took taken d e) count × IsAtEnd source.has
+pub IsStreamed-closed : {m : Message} {holds : List ℕ → List ℕ → Type 0} {source : Port}
+    {took taken wrote : Option (List ℕ)} {d e f : Bool} {count : ℕ} {answer : Result (Unit {0}) FormFault}
+    → SoFar m holds source (port_over took taken d e) count × IsAtEnd source.has
     → IsCloseAnswer m holds (port_over taken wrote e f) answer → IsStreamed m source (port_over took wrote d f) answer
-IsStreamed-closed m holds source took taken wrote d e f count answer (before, ended) closes =
+IsStreamed-closed {took = took} {taken} {wrote} (before, ended) closes =
     let one = closes.ended before.read before.text before.held in
     let few : length before.read ≤ read_limit = omega (arith, before.counted, before.within) in
     record {
@@ -223,20 +156,16 @@ IsStreamed-closed m holds source took taken wrote d e f count answer (before, en
       text = before.text ++ one.made;
       given = before.given;
       written = Appends-trans took taken wrote before.text one.made before.written one.written;
-      answers =
-          subst (IsStreamAnswer m source (port_over took wrote d f) before.read (before.text ++ one.made))
-          (sym closes.answers)
-          (IsStreamAnswer-closed m holds before.read before.text one.made source took taken wrote d e f closes.told
-          before.held few
-          ended before.well.0 before.well.1 one.ended closes.failed);
+      answers = rw closes.answers
+          (IsStreamAnswer-closed one.made closes.told before.held few ended before.well.0 before.well.1 one.ended closes.failed);
     }
 
 -- One more byte was asked for, and there is none.
-pub SoFar-ended : (m : Message) (holds : List ℕ → List ℕ → Type 0) (had has next : Option (List ℕ)) (sink : Port)
-    (a b c : Bool) (count : ℕ)
-    → SoFar m holds (port_over had has a b) sink count → (end : Bool) → end ≡ true → EndAgrees has next (Ok end)
-    → c ≡ (b || false) → SoFar m holds (port_over had next a c) sink count × IsAtEnd next
-SoFar-ended m holds had has next sink a b c count before end is ends well = grind arith
+pub SoFar-ended : {m : Message} {holds : List ℕ → List ℕ → Type 0} {had has next : Option (List ℕ)} {sink : Port}
+    {a b c end : Bool} {count : ℕ} → SoFar m holds (port_over had has a b) sink count → end ≡ true
+    → EndAgrees has next (Ok end) → c ≡ (b || false)
+    → SoFar m holds (port_over had next a c) sink count × IsAtEnd next
+SoFar-ended before is ends well = grind arith
 
 -- -------- the lamps of a chunk, and what was typed so far
 
@@ -304,9 +233,7 @@ module _ (m : Parts) where
         (port_over took wrote d f)
         (Err stops.Device)
     read_in_part took wrote d f part =
-        fed_whole _ _ _ _ _ _ _ (take-append-drop n more)
-        (fed_up_to _ _ _ (take n more) (drop n more) _ stops.Device (λ bytes text held.
-        fed_in_part _ _ _ text lamps took wrote d f
+        fed_whole (take-append-drop n more) (fed_up_to _ (λ bytes text held. fed_in_part lamps
         (typed_held new (bytes ++ take n more) (text ++ lamps) (typed_on bytes text held.is)) part))
 
 pub typed_ends : (m : Parts) (t : Typist)

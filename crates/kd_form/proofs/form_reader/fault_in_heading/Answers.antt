@@ -19,6 +19,5 @@ returns-in-Ok c = λ part held start.
 
 pub returns-in-Err : goal.returns-in-Err
 returns-in-Err c = λ part held start.
-    inl (IsHeadingFault-IsEarlyFault _ c.args.number _ start part _ _
-    (c.heading_of_open-heading.ensures part held.unbroken
-    (c.as_slice.ensures.value ∙ held.kept)) c.in-Err.ensures)
+    inl (IsHeadingFault-IsEarlyFault start
+    (c.heading_of_open-heading.ensures part held.unbroken (c.as_slice.ensures.value ∙ held.kept)) c.in-Err.ensures)

@@ -1,4 +1,4 @@
-use Rattle.kd_form.proofs.Streaming.{err_is, SoFar-room, SoFar-read, SoFar-ended, IsStreamed-stopped, IsStreamed-closed}
+use Rattle.kd_form.proofs.Streaming.{err_is, SoFar-read, SoFar-ended, IsStreamed-stopped, IsStreamed-closed}
 use Rattle.kd_form.proofs.Streaming.{well_now, [], ◌∷◌, ◌++◌, ◌∙◌, refl, arith, TooLong, Consumes-nil, Consumes-trans}
 use Rattle.kd_form.proofs.Streaming.{Appends-nil}
 use Rattle.kd_form.proofs.stream.stream_message.Goals as goal
@@ -7,32 +7,27 @@ pub loop-read-init : goal.loop-read-init
 loop-read-init g c = grind (arith, Consumes-nil, Appends-nil)
 
 pub close-requires : goal.close-requires
-close-requires g c =
-    SoFar-room _ _ _ _ _ 0 (SoFar-read _ _ _ _ _ _ _ _ _ _ _ _ _ _ _ _ _ c.loop-read.invariant refl _
-    c.in_ok-count.ensures).0 (omega arith)
+close-requires g c = grind (arith, SoFar-read c.loop-read.invariant refl _ c.in_ok-count.ensures)
 
 pub returns-in-0 : goal.returns-in-0
 returns-in-0 g c =
-    let (before, ended) =
-    SoFar-read _ _ _ _ _ _ _ _ _ _ _ _ _ _ _ _ _ c.loop-read.invariant refl _ c.in_ok-count.ensures in
-    IsStreamed-closed _ _ _ _ _ _ _ _ _ _ _ (before, ended c.in-0.is) c.close.ensures
+    IsStreamed-closed (
+      (SoFar-read c.loop-read.invariant refl _ c.in_ok-count.ensures).0,
+      (SoFar-read c.loop-read.invariant refl _ c.in_ok-count.ensures).1 c.in-0.is,
+    ) c.close.ensures
 
 pub loop-read-preserved : goal.loop-read-preserved
-loop-read-preserved g c =
-    (SoFar-read _ _ _ _ _ _ _ _ _ _ _ _ _ _ _ _ _ c.loop-read.invariant refl _ c.in_ok-count.ensures).0
+loop-read-preserved g c = (SoFar-read c.loop-read.invariant refl _ c.in_ok-count.ensures).0
 
 pub returns-in_err-count : goal.returns-in_err-count
 returns-in_err-count g c =
     rw (err_is _ _ c.from_residual.ensures.1)
-    (IsStreamed-stopped _ _ _ _ _ _ _ _ _ _ _ _ _ _ _ _ _ c.loop-read.invariant refl _ _ refl
-    c.in_err-count.ensures)
+    (IsStreamed-stopped c.loop-read.invariant refl _ _ refl c.in_err-count.ensures)
 
 pub returns : goal.returns
 returns g c =
-    IsStreamed-closed _ _ _ _ _ _ _ _ _ _ _
-    (SoFar-ended _ _ _ _ _ _ _ _ _ _ c.loop-read.invariant _ c.if-not-branch.false c.in_ok-is_at_end.ensures.ends
-    c.in_ok-is_at_end.ensures.failed)
-    c.close-2.ensures
+    IsStreamed-closed (SoFar-ended c.loop-read.invariant c.if-not-branch.false c.in_ok-is_at_end.ensures.ends
+    c.in_ok-is_at_end.ensures.failed) c.close-2.ensures
 
 pub returns-then-not-branch : goal.returns-then-not-branch
 returns-then-not-branch g c =

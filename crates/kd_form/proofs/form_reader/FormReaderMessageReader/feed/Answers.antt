@@ -11,11 +11,11 @@ use Rattle.kd_form.proofs.form_reader.FormReaderMessageReader.feed.Goals as goal
 pub returns-then-not-may_follow : goal.returns-then-not-may_follow
 returns-then-not-may_follow c = λ form text so_far.
     let h = so_far.is in
-    let there = in_stage _ c.args.self.now form text h _ c.in-Heading.is in
+    let there = in_stage h c.in-Heading.is in
     let (few, none) = not_begun h.last _ c.args.byte there.0.kept
     (λ fits. false≢true (sym c.if-not-may_follow.true ∙ c.may_follow.ensures.1 (rw c.as_slice.ensures.value fits))) in
     let (front, nil) = h.first (there.1 few) in
-    IsRefusedForGood-IsRefused c.args.day.now _ text _ (NoHeading
+    IsRefusedForGood-IsRefused (NoHeading
     (λ more begun. none more (subst (λ l. BeginsHeading ((l ++ c.args.byte ∷ []) ++ more))
     (rw front at h.joined) begun))
     (h.is ∙ ap (plaintext_bytes c.args.day.now) nil) (ap BadHeading (there.1 few)))
@@ -23,34 +23,31 @@ returns-then-not-may_follow c = λ form text so_far.
 pub returns-then-byte-ne10 : goal.returns-then-byte-ne10
 returns-then-byte-ne10 c = λ form text so_far.
     let h = so_far.is in
-    let there = in_stage _ c.args.self.now form text h _ c.in-Heading.is in
+    let (there, first) = in_stage h c.in-Heading.is in
     let fits = rw c.as_slice.ensures.value at (c.may_follow.ensures.0 c.if-not-may_follow.false) in
-    held c.args.day.now _ _ _ (grows _ c.args.self.now form text h
-    (stages.Heading c.push_if_room.new.items) _ c.args.byte c.requires.empty
-    (cut_at_headings-line h.last c.args.byte there.0.unbroken) (
+    held (grows h (stages.Heading c.push_if_room.new.items) _ c.args.byte c.requires.empty
+    (cut_at_headings-line h.last c.args.byte there.unbroken) (
       record {
         kept =
-            c.push_if_room.ensures ∙ ap (λ l. take 64 (l ++ c.args.byte ∷ [])) there.0.kept
+            c.push_if_room.ensures ∙ ap (λ l. take 64 (l ++ c.args.byte ∷ [])) there.kept
             ∙ take_kept 64 h.last (c.args.byte ∷ []);
-        unbroken = All-push (λ b. b ≢ 10) h.last c.args.byte there.0.unbroken c.if-byte-ne10.true;
-        begins = HasBegunHeading-snoc h.last _ c.args.byte there.0.kept there.0.begins fits;
+        unbroken = All-push (λ b. b ≢ 10) h.last c.args.byte there.unbroken c.if-byte-ne10.true;
+        begins = HasBegunHeading-snoc h.last _ c.args.byte there.kept there.begins fits;
       },
-      λ few. there.1 (omega (arith, length-append h.last (c.args.byte ∷ []))),
+      λ few. first (omega (arith, length-append h.last (c.args.byte ∷ []))),
     ))
 
 pub returns-then-not-is_text_byte : goal.returns-then-not-is_text_byte
 returns-then-not-is_text_byte c = λ form text so_far.
     let h = so_far.is in
-    let r = c.args.self.now in
-    let there = in_stage _ r form text h _ c.in-Body.is in
+    let there = in_stage h c.in-Body.is in
     let holds = there.holds in
     let body : List ℕ = there.body ++ c.args.byte ∷ [] in
-    let first = first_longer h.last holds.line there.body c.args.byte holds.first in
-    let place : r.position + 1 ≡ length h.front + (length (h.last ++ c.args.byte ∷ []) - length body)
+    let first = first_longer c.args.byte holds.first in
+    let place : c.args.self.now.position + 1 ≡ length h.front + (length (h.last ++ c.args.byte ∷ []) - length body)
     + length there.body + 1 =
     omega (arith, h.counted, ap length h.joined, length-append {A = ℕ}, ap length holds.first.joined) in
-    refused_at _ r form text h _ (c.args.byte ∷ []) (h.last ++ c.args.byte ∷ []) []
-    (goes_on _ _ h.last there.body c.args.byte holds h.alone
+    refused_at h (c.args.byte ∷ []) (goes_on c.args.byte holds h.alone
     (λ digit. false≢true (sym c.if-not-is_next_heading_digit.true ∙ c.is_next_heading_digit.ensures.1 digit))) (
       (holds.line, body, first),
       InBody _ body (length there.body) (record {
@@ -64,10 +61,9 @@ returns-then-not-is_text_byte c = λ form text so_far.
 pub returns-then-not-is_next_heading_digit : goal.returns-then-not-is_next_heading_digit
 returns-then-not-is_next_heading_digit c = λ form text so_far.
     let h = so_far.is in
-    let there = in_stage _ c.args.self.now form text h _ c.in-Body.is in
-    held c.args.day.now _ _ _ (grows _ c.args.self.now form text h
-    (stages.Body c.push.new.self) _ c.args.byte c.requires.empty
-    (goes_on _ _ h.last there.body c.args.byte there.holds h.alone
+    let there = in_stage h c.in-Body.is in
+    held (grows h (stages.Body c.push.new.self) _ c.args.byte c.requires.empty
+    (goes_on c.args.byte there.holds h.alone
     (λ digit. false≢true (sym c.if-not-is_next_heading_digit.true ∙ c.is_next_heading_digit.ensures.1 digit)))
     (record {
       body = there.body ++ c.args.byte ∷ [];
@@ -80,31 +76,28 @@ pub overflow_add-self-in-Body : goal.overflow_add-self-in-Body
 overflow_add-self-in-Body c = grind (arith, in_stage)
 
 pub decipher_into-requires-clause-heading : goal.decipher_into-requires-clause-heading
-decipher_into-requires-clause-heading c =
-    (in_stage _ c.args.self.now c.requires.room.bytes _ c.requires.room.held.is _ c.in-Body.is).holds.is_heading
+decipher_into-requires-clause-heading c = (in_stage c.requires.room.held.is c.in-Body.is).holds.is_heading
 
 pub decipher_into-requires-clause-some : goal.decipher_into-requires-clause-some
 decipher_into-requires-clause-some c =
-    four_letters _ c.args.self.now c.requires.room.bytes _ c.requires.room.held.is c.in-Body.body _ c.in-Body.is
+    four_letters c.requires.room.held.is c.in-Body.is
     (c.is_next_heading_digit.ensures.0 c.if-not-is_next_heading_digit.false)
 
 pub returns-in_ok-heading-in-Heading : goal.returns-in_ok-heading-in-Heading
 returns-in_ok-heading-in-Heading c = λ form text so_far.
     let h = so_far.is in
-    let there = in_stage _ c.args.self.now form text h _ c.in-Heading.is in
+    let there = (in_stage h c.in-Heading.is).0 in
     let due = c.in_ok-heading-in-Heading.ensures in
     let told =
-    c.heading_of_ended-heading.ensures h.last there.0.unbroken
-    (c.as_slice-in-Heading.ensures.value ∙ there.0.kept) in
+    c.heading_of_ended-heading.ensures h.last there.unbroken (c.as_slice-in-Heading.ensures.value ∙ there.kept) in
     let (is_heading, text_is) = rw due.is at told in
     let heads = c.new.ensures.heading in
-    rw c.if-byte-ne10.false (held c.args.day.now
-    _ _ _ (grows _ c.args.self.now form text h (stages.Body c.new.result) _ 10 c.requires.empty
-    (cut_at_headings-line h.last 10 there.0.unbroken) (record {
+    rw c.if-byte-ne10.false (held (grows h (stages.Body c.new.result) _ 10 c.requires.empty
+    (cut_at_headings-line h.last 10 there.unbroken) (record {
       body = [];
       holds = record {
         line = h.last;
-        first = record { joined = refl; without = there.0.unbroken };
+        first = record { joined = refl; without = there.unbroken };
         text = subst (λ x. IsLineText h.last (line_of (heading_words x))) (sym heads) text_is;
         is_heading = rw heads is_heading;
         last = record {
@@ -126,28 +119,24 @@ returns-in_ok-heading-in-Heading c = λ form text so_far.
 pub returns-in_err-heading-in-Heading : goal.returns-in_err-heading-in-Heading
 returns-in_err-heading-in-Heading c = λ form text so_far.
     let h = so_far.is in
-    let r = c.args.self.now in
-    let there = in_stage _ r form text h _ c.in-Heading.is in
+    let there = (in_stage h c.in-Heading.is).0 in
     let ended =
-    c.heading_of_ended-heading.ensures h.last there.0.unbroken
-    (c.as_slice-in-Heading.ensures.value ∙ there.0.kept) in
+    c.heading_of_ended-heading.ensures h.last there.unbroken (c.as_slice-in-Heading.ensures.value ∙ there.kept) in
     rw (err_is _ _ c.from_residual.ensures.1, c.if-byte-ne10.false)
-    (refused_at _ r form text h _ (10 ∷ []) (h.last ++ 10 ∷ []) []
-    (cut_at_headings-line h.last 10 there.0.unbroken) (
-      (h.last, [], record { joined = refl; without = there.0.unbroken }),
-      IsHeadingFault-IsEarlyFault _ r.number r.expected (length h.front) (h.last ++ 10 ∷ []) _ _
-          (grind (arith, ended_heading, ended, there.0.unbroken)) c.in_err-heading-in-Heading.ensures,
+    (refused_at h (10 ∷ []) (cut_at_headings-line h.last 10 there.unbroken) (
+      (h.last, [], record { joined = refl; without = there.unbroken }),
+      IsHeadingFault-IsEarlyFault (length h.front) (grind (arith, ended_heading, ended, there.unbroken))
+          c.in_err-heading-in-Heading.ensures,
     ))
 
 pub returns-in_ok-decipher_into-in-Body : goal.returns-in_ok-decipher_into-in-Body
 returns-in_ok-decipher_into-in-Body c = λ form text so_far.
-    held c.args.day.now _ _ _ (part_read _ c.args.self.now form text so_far.is _ _ c.in-Body.is
-    (c.is_next_heading_digit.ensures.0 c.if-not-is_next_heading_digit.false) _ _
+    held (part_read so_far.is c.in-Body.is (c.is_next_heading_digit.ensures.0 c.if-not-is_next_heading_digit.false)
     c.in_ok-decipher_into-in-Body.ensures.given c.heading_from.ensures)
 
 pub returns-in_err-decipher_into-in-Body : goal.returns-in_err-decipher_into-in-Body
 returns-in_err-decipher_into-in-Body c = λ form text so_far.
     rw (err_is _ _ c.from_residual-in_err-decipher_into-in-Body.ensures.1)
-    (part_refused _ c.args.self.now form text so_far.is _ _ c.in-Body.is
-    (c.is_next_heading_digit.ensures.0 c.if-not-is_next_heading_digit.false) _
+    (part_refused so_far.is c.in-Body.is
+    (c.is_next_heading_digit.ensures.0 c.if-not-is_next_heading_digit.false)
     c.in_err-decipher_into-in-Body.ensures.given)

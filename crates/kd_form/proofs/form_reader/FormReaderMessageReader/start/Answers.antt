@@ -2,7 +2,7 @@ use Rattle.kd_form.proofs.FormSteps.{held, [], ◌≢◌, refl, inl, arith, All-
 use Rattle.kd_form.proofs.form_reader.FormReaderMessageReader.start.Goals as goal
 
 pub returns : goal.returns
-returns c = held c.args._day.now _ [] [] (record {
+returns c = held {s = c.args._day.now} {form = []} {text = []} (record {
   front = [];
   last = [];
   parts = [];

@@ -8,4 +8,4 @@ pub returns-in-Text : goal.returns-in-Text
 returns-in-Text c bytes text held =
     let here = rw c.in-Text.is at held.is.stage in
     let last = c.end.ensures (text_letters c.args.day.now here.text) text (rw c.keys.ensures here.taken) in
-    text_ends _ _ _ bytes text here c.end.new.output.items c.end.result (rw c.keys.ensures at last)
+    text_ends here c.end.new.output.items c.end.result (rw c.keys.ensures at last)

@@ -16,11 +16,10 @@ returns-then-not-is_text_byte c bytes text held =
     let bad = sym c.is_text_byte.ensures ∙ c.if-not-is_text_byte.true in
     let place : c.args.self.now.read + 1 ≡ length here.head + length here.text + 1 =
     omega (arith, held.is.counted, ap length so_far.is_order.joined, length-append here.head here.text) in
-    order_refused _ (bytes ++ c.args.byte ∷ [])
-    text _ (InText _ here.head (here.text ++ c.args.byte ∷ []) _ (is_longer _ (c.args.byte ∷ []) so_far.is_order)
+    order_refused (InText _ here.head (here.text ++ c.args.byte ∷ []) _ (is_longer (c.args.byte ∷ []) so_far.is_order)
     so_far.suited (bad_behind here.text [] c.args.byte so_far.allowed bad) (ap BadByte place))
     (λ more. stream.TextBegun _ here.head (here.text ++ c.args.byte ∷ more) here.text _
-    (rw (append_assoc bytes (c.args.byte ∷ []) more) (is_longer _ (c.args.byte ∷ more) so_far.is_order)) so_far.suited
+    (rw (append_assoc bytes (c.args.byte ∷ []) more) (is_longer (c.args.byte ∷ more) so_far.is_order)) so_far.suited
     (record {
       rest = c.args.byte ∷ more;
       joined = refl;
@@ -43,7 +42,7 @@ take-requires-in-Text-clause-taken c =
 pub returns-in-Open : goal.returns-in-Open
 returns-in-Open c bytes text held =
     let here = rw c.in-Head.is at held.is.stage in
-    order_held c.args.day.now _ _ _ (record {
+    order_held (record {
       counted = counted_on bytes c.args.byte held.is.counted;
       stage = rw c.in-Head.is (c.in-Open.ensures bytes here.0, cc (here.1, c.requires.empty), here.2);
     })
@@ -52,21 +51,19 @@ pub returns-in-Bad : goal.returns-in-Bad
 returns-in-Bad c bytes text held =
     let here = rw c.in-Head.is at held.is.stage in
     let fault = c.in-Bad.ensures bytes here.0 in
-    order_refused _ _ text _ (InHead _ fault (omega arith) (ap BadByte (counted_on bytes c.args.byte held.is.counted)))
+    order_refused (InHead _ fault (omega arith) (ap BadByte (counted_on bytes c.args.byte held.is.counted)))
     (λ more. stream.NothingSent (λ keys front after is suited. no_head_fault _ _ keys front after _ is
-    (fault_longer _ more fault (omega arith))) here.1)
+    (fault_longer more fault (omega arith))) here.1)
 
 pub returns-in-Text-take : goal.returns-in-Text-take
 returns-in-Text-take c bytes text held =
     let here = rw c.in-Head.is at held.is.stage in
-    text_begins c.args.day.now
-    (record {
+    text_begins (record {
       read = c.args.self.now.read + 1;
       stage = stages.Text;
       head = c.take.new.self;
       parts = c.args.self.now.parts;
-    })
-    (bytes ++ c.args.byte ∷ []) text _ c.check_keys.result refl
+    }) c.check_keys.result refl
     (counted_on bytes c.args.byte held.is.counted) (c.in-Text-take.ensures bytes here.0) here.2 here.1
     (cc (here.1, c.requires.empty)) (rw c.keys.ensures at c.check_keys.ensures)
 
@@ -76,13 +73,13 @@ returns-else-not-is_text_byte c bytes text held =
     let letters = text_letters c.args.day.now here.text in
     let taken = c.take-in-Text.ensures letters text (rw c.keys-in-Text.ensures here.taken) in
     let allowed = sym c.is_text_byte.ensures ∙ c.if-not-is_text_byte.false in
-    order_held c.args.day.now _ _ _ (record {
+    order_held (record {
       counted = counted_on bytes c.args.byte held.is.counted;
       stage = rw c.in-Text.is (record {
         head = here.head;
         text = here.text ++ c.args.byte ∷ [];
         sendable = record {
-          is_order = is_longer _ (c.args.byte ∷ []) here.sendable.is_order;
+          is_order = is_longer (c.args.byte ∷ []) here.sendable.is_order;
           suited = here.sendable.suited;
           allowed = All-push (λ b. IsTrue (is_text_byte b)) here.text c.args.byte here.sendable.allowed allowed;
         };

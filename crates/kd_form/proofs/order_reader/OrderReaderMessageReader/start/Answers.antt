@@ -2,7 +2,7 @@ use Rattle.kd_form.proofs.OrderSteps.{order_held, [], refl, inl, inr, arith, cod
 use Rattle.kd_form.proofs.order_reader.OrderReaderMessageReader.start.Goals as goal
 
 pub returns : goal.returns
-returns c = order_held c.args._day.now _ [] [] (record {
+returns c = order_held {s = c.args._day.now} {order = []} {sent = []} (record {
   counted = refl;
   stage = (
     rw (c.new.ensures.keys, c.new.ensures.line)

@@ -1,12 +1,25 @@
-use Rattle.kd_form.proofs.Streaming.{err_is, read_failed, read_stopped, arith, rules}
+use Rattle.kd_form.proofs.Streaming.{err_is, arith, AtSource, InFeeding, failed_now, well_now, Consumes-kept, append-nil}
+use Rattle.kd_form.proofs.Streaming.{Appends-nil, [], rules}
 use Rattle.kd_form.proofs.stream.chunk.read_into.Goals as goal
 
 pub returns-in_err-read_chunk : goal.returns-in_err-read_chunk
 returns-in_err-read_chunk g c bytes text held few =
-    rw (err_is _ _ c.from_residual.ensures.1)
-    (read_stopped _ _ _ bytes text _ _ _ _ _ _ _ _ _ _ _ held few (search rules)
-    c.in-Ok.ensures.bytes.given c.in-Ok.ensures.failed c.in_err-read_chunk.ensures.fed
-    c.in_err-read_chunk.ensures.failed)
+    let fed = c.in_err-read_chunk.ensures.fed bytes text held in
+    record {
+      more = _;
+      made = fed.made;
+      within = search rules;
+      given = c.in-Ok.ensures.bytes.given;
+      written = fed.written;
+      read = grind (arith, err_is, InFeeding, well_now);
+    }
 
 pub returns-in_default : goal.returns-in_default
-returns-in_default g c = grind (arith, read_failed)
+returns-in_default g c bytes text held few = record {
+  more = [];
+  made = [];
+  within = omega arith;
+  given = grind (arith, Consumes-kept);
+  written = Appends-nil _;
+  read = grind (arith, AtSource, failed_now, append-nil);
+}

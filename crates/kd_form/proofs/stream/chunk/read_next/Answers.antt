@@ -1,8 +1,8 @@
-use Rattle.kd_form.proofs.{Prelude.{length-take, arith, ℕ}, Streaming.room_for}
+use Rattle.kd_form.proofs.Prelude.{length-take, arith, ℕ}
 use Rattle.kd_form.proofs.stream.chunk.read_next.Goals as goal
 
 pub read_into-requires-clause-room : goal.read_into-requires-clause-room
-read_into-requires-clause-room g c = room_for _ _ _ _ (omega (arith, length-take {A = ℕ})) c.requires.room
+read_into-requires-clause-room g c = grind (arith, length-take)
 
 pub returns : goal.returns
 returns g c bytes text held few =

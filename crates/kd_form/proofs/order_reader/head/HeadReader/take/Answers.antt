@@ -9,7 +9,7 @@ returns-in-Ok-Some c order is =
     let (are, keyed, room) = rw c.in-Ok-Some.field-0-is at c.in-Ok-Some.ensures in
     let ended = rw (c.as_slice.ensures.value, c.push.ensures.items) at keyed in
     rw (c.push-in-Ok-Some.ensures.items, c.clear.ensures) (record {
-      lines = one_more _ _ _ order is (λ rest. rest ≡ []) _ (c.args.byte ∷ []) [] are ended refl;
+      lines = one_more is (λ rest. rest ≡ []) _ (c.args.byte ∷ []) [] are ended refl;
       few =
           omega (
             arith,
@@ -32,7 +32,7 @@ returns-in-Err-Mismatch c order is =
       rest = c.args.byte ∷ [];
       joined = refl;
       size = length-append order (c.args.byte ∷ []);
-      begins = goes_on _ _ _ order is;
+      begins = goes_on is;
       stops = λ found next other same (others, head).
           let all : List ℕ = order ++ found ∷ other in
           let whole : order ++ c.args.byte ∷ other ≡ all ++ [] = cc (same, append-nil all) in

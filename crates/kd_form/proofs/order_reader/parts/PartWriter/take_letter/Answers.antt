@@ -34,7 +34,7 @@ returns-then-from-keys c letters sent is =
       kept = rw number (c.push-then-from-keys.ensures.items ∙ ap (λ l. l ++ letter ∷ []) c.write_part.ensures.letters
           ∙ cc (take_all size (letter ∷ []) (omega arith), drop_at letters (letter ∷ []) _ up_to));
       made = rw (number, take_at letters (letter ∷ []) (size * (w.written + 1)) up_to)
-          (part_more s keys w k letters sent _ is found made (omega (arith, whole, large)) (omega (arith, whole)));
+          (part_more is found made (omega (arith, whole, large)) (omega (arith, whole)));
     }
 
 pub returns-else-from-keys : goal.returns-else-from-keys
