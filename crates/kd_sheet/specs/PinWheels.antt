@@ -1,15 +1,15 @@
 -- The letters that the Converter's six wheels show, and their effective pins.
 -- Test: kd_trials/src/sheet/files.rt
-use Rattle.std.specs.Prelude.{ℕ, ◌+◌, ◌==◌, ◌&&◌, Bool, List, length, map, Option, Some, None, Result, Ok, ok_or}
-use Rattle.std.specs.Prelude.{if◌then◌else◌}
+use Rattle.std.specs.Prelude.{ℕ, nat_eq, ◌+◌, ◌==◌, ◌&&◌, Bool, List, length, map, Option, Some, None, Result, Ok}
+use Rattle.std.specs.Prelude.{ok_or, if◌then◌else◌}
 use Rattle.std.specs.List.{list_all, list_any, enumerate_from, count_by}
 use Rattle.std.specs.Option.{option_and_then}
-use Rattle.toml.specs.Data.{Data, Members, as_str}
+use Rattle.toml.specs.Data.{Data, Members}
 use Rattle.kd_tables.specs.Rings.{ring_of}
 use Rattle.kd_pins.specs.declared.pin_set.PinSet.{PinSet}
 use Rattle.kd_state.specs.Pins.{pin_set}
 use Rattle.kd_state.specs.Setting.{has_letter}
-use Rattle.kd_sheet.specs.Document.{◌>>=◌, read_each, read_items, text_at}
+use Rattle.kd_sheet.specs.Document.{◌>>=◌, value_at, read_at, from_text, read_array, read_items}
 use Rattle.kd_sheet.specs.Letters.{capital_letters}
 use Rattle.kd_sheet.specs.declared.key.Key.{Key}
 use Rattle.kd_sheet.specs.declared.key.Key.TheVariants as keys
@@ -27,9 +27,7 @@ letters_on_wheels text =
 
 -- the letters that the six wheels show, from the text at `key`
 unfoldable pub shown_letters_in : Key → Members → Result (List ℕ) SheetFault
-shown_letters_in key table = do
-  text ← text_at key table
-  ok_or (letters_on_wheels text) (BadValue key)
+shown_letters_in key table = read_at key (from_text letters_on_wheels) table
 
 -- whether `byte` is a capital letter of the wheel whose letters are `ring`
 abbrev pub is_letter_of : List ℕ → ℕ → Bool
@@ -52,18 +50,15 @@ has_capital text letter = list_any (λ byte. byte == letter + 65) text
 unfoldable pub pins_of_text : List ℕ → List ℕ → Option (List Bool)
 pins_of_text ring text = if is_pin_text ring text then Some (map (has_capital text) ring) else None
 
--- the pins that an item describes, for a wheel with the letters `ring`
-unfoldable pub pins_of_item : List ℕ → Data → Result (List Bool) SheetFault
-pins_of_item ring item = ok_or (option_and_then (pins_of_text ring) (as_str item)) (BadValue keys.Pins)
-
 -- the pins that an item describes; `earlier` has the pins of the wheels before the item's wheel
 abbrev pub pins_for : List (List Bool) → Data → Result (List Bool) SheetFault
-pins_for earlier item = pins_of_item (ring_of (length earlier + 1)) item
+pins_for earlier item = ok_or (from_text (pins_of_text (ring_of (length earlier + 1))) item) (BadValue keys.Pins)
 
 -- the pins of the wheels, which `items` describe one by one from wheel 1 on
 abbrev pub pins_of_items : List Data → Result PinSet SheetFault
 pins_of_items items = read_items pins_for items >>= (λ pins. Ok (pin_set pins))
 
--- the pins of the six wheels, from the array at the key `pins`, which has one item for each wheel
+-- the pins of the wheels, from the array at the key `pins`, which has six items
 unfoldable pub pins_in : Members → Result PinSet SheetFault
-pins_in table = read_each keys.Pins 6 pins_for table >>= (λ pins. Ok (pin_set pins))
+pins_in table =
+    value_at keys.Pins table >>= read_array keys.Pins (nat_eq 6) pins_for >>= (λ pins. Ok (pin_set pins))

@@ -1,15 +1,14 @@
 //! Reads the letters that the Converter's six wheels show, and their effective pins.
 ghost use Rattle.std.specs.Prelude.{◌≡◌, ◌+◌, ◌<◌, [], ◌∷◌, length, map, ok_or};
-ghost use Rattle.std.specs.{List.{enumerate_from, list_all}, Option.{option_and_then}};
-ghost use Rattle.toml.specs.{Data.{as_str}, View.{view, table_view}};
+ghost use Rattle.{std.specs.List.{enumerate_from, list_all}, toml.specs.View.{view, table_view}};
 ghost use Rattle.kd_tables.specs.Rings.{ring_of};
-ghost use Rattle.kd_state.specs.Setting.{has_letter};
+ghost use Rattle.{kd_state.specs.Setting.{has_letter}, kd_sheet.specs.Document.{from_text}};
 ghost use Rattle.kd_sheet.specs.PinWheels.{letters_on_wheels, shown_letters_in, is_letter_of, stands_once};
 ghost use Rattle.kd_sheet.specs.PinWheels.{is_pin_text, has_capital, pins_of_text, pins_of_items, pins_in};
 ghost use Rattle.kd_sheet.specs.declared.fault.SheetFault.TheVariants as faults;
 ghost use Rattle.kd_sheet.specs.declared.key.Key.TheVariants as keys;
 
-use super::document::{items_at, text_at};
+use super::document::{items_at, value_at};
 use super::fault::SheetFault;
 use super::key::Key;
 use super::letters::letters_of_text;
@@ -34,10 +33,10 @@ fn are_on_wheels(wheel: u8, letters: &[Letter]) -> bool
 
 /// Reads six capital letters: the first must be on wheel 1, the second on wheel 2, and so on.
 #[tactic(auto, unfolding(crate::specs::PinWheels::letters_on_wheels))]
-fn letters_on_wheels(text: &[u8]) -> Option<[Letter; 6]>
-    ensures { result ≡ letters_on_wheels text.now }
+fn letters_on_wheels(value: &Value) -> Option<[Letter; 6]>
+    ensures { result ≡ from_text letters_on_wheels (view value.now) }
 {
-    let letters = letters_of_text(text)?;
+    let letters = letters_of_text(value)?;
     are_on_wheels(1, &letters).then_some(letters)
 }
 
@@ -46,7 +45,7 @@ fn letters_on_wheels(text: &[u8]) -> Option<[Letter; 6]>
 pub fn shown_letters_in(table: &Table, key: Key) -> Result<[Letter; 6], SheetFault>
     ensures { result ≡ shown_letters_in key (table_view table.now) }
 {
-    letters_on_wheels(text_at(table, key)?.as_bytes()).ok_or(SheetFault::BadValue(key))
+    letters_on_wheels(value_at(table, key)?).ok_or(SheetFault::BadValue(key))
 }
 
 /// Whether `byte` is a capital letter of `ring`.
@@ -94,7 +93,7 @@ fn pins_of_letters<const N: usize>(letters: &[Letter; N], text: &[u8]) -> [bool;
 /// Reads the effective pins of one wheel: `item` is a text of these pins' letters.
 #[tactic(auto, unfolding(crate::specs::PinWheels::pins_of_text))]
 fn pins_of_item<const N: usize>(ring: &Ring<N>, item: &Value) -> Option<[bool; N]>
-    ensures { result ≡ option_and_then (pins_of_text ring.now) (as_str (view item.now)) }
+    ensures { result ≡ from_text (pins_of_text ring.now) (view item.now) }
 {
     let text = item.as_str()?.as_bytes();
     let letters = ring.letters();
@@ -114,7 +113,6 @@ pub fn pins_in(table: &Table) -> Result<PinSet, SheetFault>
 }
 
 /// Reads the effective pins of the six wheels: `one` describes the pins of wheel 1, and so on.
-#[tactic(auto, unfolding(crate::specs::PinWheels::pins_of_item))]
 fn pins_of_six(
     one: &Value,
     two: &Value,

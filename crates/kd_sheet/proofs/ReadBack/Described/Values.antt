@@ -75,8 +75,7 @@ number_within : (last : ℕ) (value : Data) (number : ℕ) → number_up_to last
     → (1 ≤ number) × (number ≤ last)
 number_within last value number e = grind (arith, some_if, leb-true, none-some)
 
-pub day_number_within : (table : Members) → SucceedsWith (number_in table) IsDayNumber
-unfolding number_in
+pub day_number_within : (table : Members) → SucceedsWith (read_at keys.Day (number_up_to 31) table) IsDayNumber
 day_number_within table number e = grind (arith, bind-Ok, value_at, number_within, there_was)
 
 capitals_within : (text : List ℕ) → list_all is_capital text ≡ true
@@ -99,8 +98,7 @@ numbered_letters_within [] e = (tt, refl)
 numbered_letters_within (item ∷ items) e = grind (arith, nat_tests, number_within, numbered_letters_within items)
 
 pub rings_in_letters : (model : Model) (table : Members)
-    → SucceedsWith (rings_in model table) (AreLetters (slots_of model))
-unfolding rings_in
+    → SucceedsWith (read_at keys.Rings (rings_of (slots_of model)) table) (AreLetters (slots_of model))
 rings_in_letters model table rings e =
     grind (arith, bind-Ok, there_was, some_if, capitals_are_letters, numbered_letters_within, All-from_recursion)
 
@@ -116,8 +114,8 @@ pub is_seated-Decides : (slots : List (Option Wheel)) (wheel : Wheel)
     → Decides (is_seated slots wheel) (Contains slots (Some wheel))
 unfolding is_seated
 is_seated-Decides slots wheel =
-    Decides-contains slots (Some wheel) _ (Decides-by_or (holds_wheel wheel) (λ seat. seat ≡ Some wheel)
-    (list_any (holds_wheel wheel)) (λ s. grind (arith, Decides-like, same_Some, same_wheel-Decides)) refl
+    let holds : Option Wheel → Bool = λ seat. option_map_or (same_wheel wheel) seat false in
+    Decides-contains slots (Some wheel) _ (Decides-by_or holds (λ seat. seat ≡ Some wheel) (list_any holds) (λ s. grind (arith, Decides-like, same_Some, same_wheel-Decides)) refl
     (λ _ _. refl) slots)
 
 pub not_seated : (slots : List (Option Wheel)) (wheel : Wheel) → ¬ Contains slots (Some wheel)
@@ -130,34 +128,34 @@ record CanBeSeated (model : Model) (slots : List (Option Wheel)) (wheel : Wheel)
   allowed : IsAllowed model (length slots + 1) wheel
   free : ¬ Contains slots (Some wheel)
 
-wheel_read : (key : Key) (model : Model) (slots : List (Option Wheel)) (name : List ℕ)
-    → SucceedsWith (wheel_for key model slots name) (CanBeSeated model slots)
+wheel_read : (key : Key) (model : Model) (slots : List (Option Wheel)) (item : Data)
+    → SucceedsWith (wheel_for key model slots item) (CanBeSeated model slots)
 unfolding wheel_for
-wheel_read key model slots name wheel e = grind
+wheel_read key model slots item wheel e = grind
     (arith, bind-Ok, demand-Ok, has_wheel-Decides, is_seated-Decides, not-true)
 
 -- a seat as it is read: its wheel may be in the slot right of `slots`, and it is empty only in a machine file
 record IsSeatRead (key : Key) (model : Model) (slots : List (Option Wheel)) (seat : Option Wheel) : Type 0 where
   free : IfSome seat (CanBeSeated model slots)
-  filled : may_be_empty key ≡ false → IsSome seat
+  filled : key ≡ keys.Wheels → IsSome seat
 
 seat_read : (key : Key) (model : Model) (slots : List (Option Wheel)) (item : Data) (seat : Option Wheel)
-    → seat_of_item key model slots item ≡ Ok seat → IsSeatRead key model slots seat
-unfolding seat_of_item seat_for
+    → seat_for key model slots item ≡ Ok seat → IsSeatRead key model slots seat
+unfolding seat_for
 seat_read key model slots item seat e = record { free = grind (arith, wheel_read); filled = grind (arith, none-some) }
 
 -- ---- the slots that an array fills
 
 -- each wheel that is read from an array is allowed in its slot, and is in no slot before it
 stands_free : (key : Key) (model : Model) (items : List Data) (slots : List (Option Wheel))
-    → read_items (seat_of_item key model) items ≡ Ok slots → (place : ℕ) (wheel : Wheel) → IsSeatedAt slots place wheel
+    → read_items (seat_for key model) items ≡ Ok slots → (place : ℕ) (wheel : Wheel) → IsSeatedAt slots place wheel
     → (place < length slots) × CanBeSeated model (take place slots) wheel
 stands_free key model items slots e place wheel stands =
     let within = slice_get_within slots place (Some wheel) stands in
     let here = get_or_from_slice_get slots place (Some wheel) (Some wheel) stands in (
       within,
       (seat_read key model (take place slots) (get_or items place no_item) (Some wheel) (
-          rw here at (read_at _ items slots e place no_item (Some wheel) (omega (arith, as_many _ items slots e)))
+          rw here at (read_items-get_or _ items slots e place no_item (Some wheel) (omega (arith, as_many _ items slots e)))
           )).free,
     )
 
@@ -171,10 +169,10 @@ not_free model slots place other wheel stands free within = grind (arith, common
 pub record FillsSlots (key : Key) (model : Model) (slots : List (Option Wheel)) : Type 0 where
   pub allowed : AreWheelsAllowed model slots
   pub apart : AreSeatedOnce slots
-  pub filled : may_be_empty key ≡ false → All IsSome slots
+  pub filled : key ≡ keys.Wheels → All IsSome slots
 
 fill_slots : (key : Key) (model : Model) (items : List Data)
-    → SucceedsWith (read_items (seat_of_item key model) items) (FillsSlots key model)
+    → SucceedsWith (read_items (seat_for key model) items) (FillsSlots key model)
 fill_slots key model items slots e =
     let free = stands_free key model items slots e in
     record {
@@ -184,7 +182,7 @@ fill_slots key model items slots e =
           let two = free other wheel again in
           let first = not_free model slots place other wheel stands two.1 (omega (arith, two.0)) in
           omega (arith, first, not_free model slots other place wheel again one.1 (omega (arith, one.0)));
-      filled = λ full. each_is (seat_of_item key model) IsSome
+      filled = λ full. each_is (seat_for key model) IsSome
           (λ before item seat is. (seat_read key model before item seat is).filled full) items slots e;
     }
 
@@ -251,7 +249,7 @@ module _ {X : Type 0} (letters_in : X → List ℕ) where
   pub all_free : (reading : List X → Data → Result X SheetFault)
       → ((before : List X) (item : Data) (x : X) → reading before item ≡ Ok x → IsFree letters_in before x)
       → (key : Key) (count : ℕ) (value : Data)
-      → SucceedsWith (read_up_to key count reading value)
+      → SucceedsWith (read_array key (λ n. nat_le n count) reading value)
       (λ plugged. (length plugged ≤ count) × AreFree letters_in plugged)
   all_free reading free =
       some_read reading (AreFree letters_in) (keeps reading (AreFree letters_in)
@@ -283,7 +281,7 @@ module _ {X : Type 0} (letters_in : X → List ℕ) where
 
 -- ---- cables
 
-pub two_letters : (letters : List ℕ) → length letters ≤ 2 → cable_letters (cable_with_ends letters) ≡ letters
+pub two_letters : (letters : List ℕ) → length letters ≤ 2 → cable_letters (slice_get letters 0, slice_get letters 1) ≡ letters
 two_letters (one ∷ other ∷ third ∷ letters) few = absurd (omega arith)
 two_letters letters few = refl
 
@@ -293,9 +291,9 @@ none_in (suc n) = none_in n
 
 -- cables that share no letter are the cables of a machine, once empty ones fill them up to 13
 filled_up : (cables : List (Option ℕ × Option ℕ)) → length cables ≤ 13 → AreFree cable_letters cables
-    → AreCables (filled_to_thirteen cables)
+    → AreCables (cables ++ replicate (13 - length cables) (None, None))
 filled_up cables few free =
-    let letters : letters_in_cables (filled_to_thirteen cables) ≡ letters_in_cables cables =
+    let letters : letters_in_cables (cables ++ replicate (13 - length cables) (None, None)) ≡ letters_in_cables cables =
     rw (flat_map-append, none_in _, append-nil) refl in
     record { count = grind (arith, common_steps); within = rw letters free.within; apart = rw letters free.apart }
 
@@ -310,6 +308,10 @@ are_cables table =
 
 -- ---- pairs
 
+-- the two letters of a pair
+abbrev pub pair_letters : ℕ × ℕ → List ℕ
+pair_letters pair = pair.0 ∷ pair.1 ∷ []
+
 two_of : (letters : List ℕ) → AreLetters 2 letters
     → pair_letters (slice_index letters 0, slice_index letters 1) ≡ letters
 two_of (one ∷ other ∷ []) are = refl
@@ -318,7 +320,7 @@ two_of letters are = absurd (omega (arith, are.count))
 pub are_pairs : (table : Members) → SucceedsWith (pairs_in table) ArePairs
 unfolding pairs_in pair_for
 are_pairs table =
-    after_any (value_at keys.Plugs table) (read_up_to keys.Plugs 13 pair_for) ArePairs (λ value pairs e.
+    after_any (value_at keys.Plugs table) (read_array keys.Plugs (λ n. nat_le n 13) pair_for) ArePairs (λ value pairs e.
     let free = all_free pair_letters pair_for (λ pairs item pair e.
     grind (arith, there_was, capitals_are_letters, two_of, none-some)) keys.Plugs 13 value pairs e in
     record { few = free.0; within = free.1.within; apart = free.1.apart })
