@@ -48,7 +48,7 @@ sheet_wheels _ _ _ = []
 
 -- the day of a rotor machine that a table describes
 unfoldable pub rotor_day_in : ℕ → Model → Members → Result Day SheetFault
-rotor_day_in number model table = do
+rotor_day_in day model table = do
   reflector ← reflector_in model table
   seats ← seats_in keys.Wheels model table
   rings ← read_at keys.Rings (rings_of (slots_of model)) table
@@ -56,7 +56,7 @@ rotor_day_in number model table = do
   pairs ← pairs_in table
   groups ← groups_in table
   Ok (OfRotors (record {
-    day = number;
+    day = day;
     model = model;
     reflector = reflector;
     wheels = sheet_wheels seats rings window;

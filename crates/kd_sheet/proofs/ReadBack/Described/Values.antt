@@ -1,7 +1,8 @@
 -- Lemmas on the values of keys: names, numbers and letters, wheels in slots, cables and pairs, and pins.
 pub mod InTurn
 unfoldable pub use InTurn.*
-use Rattle.std.{proofs.lemmas.List.Folds.find_at, specs.List.position_or_len}
+use Rattle.std.proofs.lemmas.{List.{take_more}, List.Quantifiers.{position-Some}}
+use Rattle.std.{proofs.lemmas.List.Folds.{find_at, list_any-append}, specs.List.{position, position_or_len}}
 
 -- ---- names
 
@@ -364,78 +365,156 @@ letters_below letters are place d within =
     All-contains (λ letter. letter < 26) _ _ (ring_letters (suc place))
     (are.each (suc place) _ (slice_get-get_or letters place d within))
 
--- no letter occurs twice
-abbrev are_apart : List ℕ → Bool
-are_apart [] = true
-are_apart (letter ∷ letters) = not (has_letter letters letter) && are_apart letters
+-- ---- texts of effective pins
 
-letters_apart : (wheel : ℕ) → are_apart (ring_of wheel) ≡ true
+-- no letter of the wheel occurs twice
+letters_apart : (wheel : ℕ) → are_new_letters (ring_of wheel) [] ≡ true
 unfolding ring_of
 letters_apart wheel = grind arith
+
+own_letters : (wheel : ℕ) → list_all (has_letter (letters_text (ring_of wheel))) (letters_text (ring_of wheel)) ≡ true
+unfolding ring_of
+own_letters wheel = grind arith
 
 letter_there : (ring : List ℕ) (k d : ℕ) → k < length ring → has_letter ring (get_or ring k d) ≡ true
 letter_there ring k d within = (has_letter-Decides ring (get_or ring k d)).1 (Contains-get_or ring k d within)
 
--- how often the text has the letter
-abbrev letter_count : List ℕ → ℕ → ℕ
-letter_count text letter = count_by (λ byte. byte == letter + 65) text
+-- two texts give the same pins if they have the same letters of the wheel
+same_pins : (ring text other : List ℕ)
+    → ((letter : ℕ) → has_letter ring letter ≡ true → has_letter text (letter + 65) ≡ has_letter other (letter + 65))
+    → map (has_letter text) (letters_text ring) ≡ map (has_letter other) (letters_text ring)
+same_pins [] text other same = refl
+same_pins (x ∷ ring) text other same =
+    grind (arith, nat_tests, same x, same_pins ring text other (λ letter has. same letter (rw (has, or-true) refl)))
 
-has_counted : (text : List ℕ) (letter : ℕ) → has_capital text letter ≡ nat_lt 0 (letter_count text letter)
-has_counted [] letter = refl
-has_counted (byte ∷ text) letter =
-    let more : letter_count (byte ∷ text) letter
-    ≡ cond (byte == letter + 65) 1 0 + letter_count text letter = sum_by-cons _ byte text in
-    rw more (grind (arith, nat_tests, has_counted text letter))
+-- the text of a wheel's pins has no letter that the wheel lacks
+lacks : (ring : List ℕ) (pins : List Bool) (letter : ℕ) → has_letter ring letter ≡ false
+    → has_letter (pins_text ring pins) (letter + 65) ≡ false
+lacks [] pins letter absent = refl
+lacks (x ∷ ring) [] letter absent = refl
+lacks (x ∷ ring) (pin ∷ pins) letter absent = grind (arith, nat_tests, lacks ring pins letter)
 
-first_counted : (x : ℕ) (ring : List ℕ) (pin : Bool) (pins : List Bool) (letter : ℕ)
-    → letter_count (pins_text (x ∷ ring) (pin ∷ pins)) letter
-    ≡ cond (pin && x + 65 == letter + 65) 1 0 + letter_count (pins_text ring pins) letter
-first_counted x ring true pins letter = sum_by-cons _ (x + 65) (pins_text ring pins)
-first_counted x ring false pins letter = omega arith
-
-none_counted : (ring : List ℕ) (pins : List Bool) (letter : ℕ) → has_letter ring letter ≡ false
-    → letter_count (pins_text ring pins) letter ≡ 0
-none_counted [] pins letter absent = refl
-none_counted (x ∷ ring) [] letter absent = refl
-none_counted (x ∷ ring) (pin ∷ pins) letter absent =
-    grind (arith, nat_tests, sum_by-cons, none_counted ring pins letter)
-
--- the text of a wheel's pins has a letter once if the letter's pin is effective, and otherwise not at all
-once_counted : (ring : List ℕ) (pins : List Bool) (k d : ℕ) (e : Bool) → are_apart ring ≡ true
-    → length pins ≡ length ring → k < length ring
-    → letter_count (pins_text ring pins) (get_or ring k d) ≡ cond (get_or pins k e) 1 0
-once_counted (x ∷ ring) (pin ∷ pins) zero d e apart same within =
-    rw first_counted (grind (arith, nat_tests, none_counted ring pins x))
-once_counted (x ∷ ring) (pin ∷ pins) (suc k) d e apart same within =
-    rw first_counted (grind (arith, nat_tests, once_counted ring pins k d e, letter_there ring k d))
-once_counted ring pins k d e apart same within = absurd (omega arith)
-
--- all bytes of the text of a wheel's pins pass a test if the letter of each effective pin passes it
-all_of_pins : (test : ℕ → Bool) (ring : List ℕ) (pins : List Bool) → length pins ≡ length ring
-    → ((k : ℕ) → k < length ring → get_or pins k false ≡ true → test (get_or ring k 0 + 65) ≡ true)
+all_of_pins : (test : ℕ → Bool) (ring : List ℕ) (pins : List Bool) → list_all test (letters_text ring) ≡ true
     → list_all test (pins_text ring pins) ≡ true
-all_of_pins test [] pins same each = refl
-all_of_pins test (x ∷ ring) [] same each = refl
-all_of_pins test (x ∷ ring) (pin ∷ pins) same each =
-    grind (arith, nat_tests, each 0, all_of_pins test ring pins (omega arith) (λ k within. each (suc k) (omega arith)))
+all_of_pins test [] pins all = refl
+all_of_pins test (x ∷ ring) [] all = refl
+all_of_pins test (x ∷ ring) (pin ∷ pins) all = grind (arith, nat_tests, all_of_pins test ring pins)
 
-is_on_ring : (ring : List ℕ) (letter : ℕ) → has_letter ring letter ≡ true → is_letter_of ring (letter + 65) ≡ true
-is_on_ring [] letter has = has
-is_on_ring (x ∷ ring) letter has = grind (arith, cases_Bool)
+apart_text : (ring : List ℕ) (pins : List Bool) → are_new_letters ring [] ≡ true
+    → are_new_letters (pins_text ring pins) [] ≡ true
+apart_text [] pins apart = refl
+apart_text (x ∷ ring) [] apart = refl
+apart_text (x ∷ ring) (pin ∷ pins) apart = grind (arith, nat_tests, append-nil, lacks, apart_text ring pins)
+
+-- the text of a wheel's pins has the letters of the effective pins
+pins_again : (ring : List ℕ) (pins : List Bool) → are_new_letters ring [] ≡ true → length pins ≡ length ring
+    → map (has_letter (pins_text ring pins)) (letters_text ring) ≡ pins
+pins_again [] [] apart same = refl
+pins_again (x ∷ ring) (pin ∷ pins) apart same =
+    let rest = same_pins ring (pins_text (x ∷ ring) (pin ∷ pins)) (pins_text ring pins)
+    (λ letter has. grind (arith, nat_tests, append-nil)) in
+    grind (arith, nat_tests, append-nil, lacks, rest, pins_again ring pins)
+pins_again ring pins apart same = absurd (omega arith)
 
 pub pins_back : (wheel : ℕ) (pins : List Bool) → length pins ≡ length (ring_of wheel)
     → pins_of_text (ring_of wheel) (pins_text (ring_of wheel) pins) ≡ Some pins
 unfolding pins_of_text
 pins_back wheel pins same =
     let ring = ring_of wheel in
-    let text = pins_text ring pins in
-    let once : (k d : ℕ) (e : Bool) → k < length ring
-    → letter_count text (get_or ring k d) ≡ cond (get_or pins k e) 1 0 =
-    λ k d e. once_counted ring pins k d e (letters_apart wheel) same in
-    let proper = all_of_pins (λ byte. is_letter_of ring byte && stands_once text byte) ring pins same
-    (λ k within effective.
-    rw (is_on_ring ring (get_or ring k 0) (letter_there ring k 0 within), once k 0 false within, effective) refl) in
-    let read : map (has_capital text) ring ≡ pins = same_lists _ _ (length-map ring _ ∙ sym same) (λ k e within.
-    let here : k < length ring = omega (arith, length-map ring (has_capital text)) in
-    get_or-map (has_capital text) ring k 0 e here ∙ rw (has_counted, once k 0 e here) (grind arith)) in
-    rw (proper, read) refl
+    let apart = letters_apart wheel in
+    rw (
+      all_of_pins (has_letter (letters_text ring)) ring pins (own_letters wheel),
+      apart_text ring pins apart,
+      pins_again ring pins apart same,
+    ) refl
+
+-- ---- the pins of a text, byte by byte
+
+new_more : (front : List ℕ) (byte : ℕ) → are_new_letters front [] ≡ true → has_letter front byte ≡ false
+    → are_new_letters (front ++ byte ∷ []) [] ≡ true
+new_more [] byte new free = refl
+new_more (x ∷ front) byte new free = grind (arith, nat_tests, list_any-append, append-nil, new_more front byte)
+
+not_new : (front : List ℕ) (byte : ℕ) (rest : List ℕ) → has_letter front byte ≡ true
+    → are_new_letters (front ++ byte ∷ rest) [] ≡ false
+not_new [] byte rest has = absurd (false≢true has)
+not_new (x ∷ front) byte rest has = grind (arith, nat_tests, list_any-append, append-nil, not_new front byte rest)
+
+-- setting the pin of one letter gives the pins of the text with this letter added
+set_pin : (ring front : List ℕ) (byte place : ℕ) → are_new_letters ring [] ≡ true → place < length ring
+    → get_or ring place 0 + 65 ≡ byte
+    → set (map (has_letter front) (letters_text ring)) place true
+    ≡ map (has_letter (front ++ byte ∷ [])) (letters_text ring)
+set_pin [] front byte place apart within at = absurd (omega arith)
+set_pin (x ∷ ring) front byte zero apart within at =
+    let rest = same_pins ring (front ++ byte ∷ []) front
+    (λ other has. grind (arith, nat_tests, list_any-append, append-nil)) in
+    grind (arith, nat_tests, list_any-append, rest)
+set_pin (x ∷ ring) front byte (suc place) apart within at =
+    grind (arith, nat_tests, list_any-append, append-nil, letter_there ring place 0, set_pin ring front byte place)
+
+pub no_pins : (ring : List ℕ) → map (has_letter []) (letters_text ring) ≡ replicate (length ring) false
+no_pins [] = refl
+no_pins (x ∷ ring) = ap (λ pins. false ∷ pins) (no_pins ring)
+
+-- the place of a byte's letter on the wheel
+abbrev pub byte_at : List ℕ → ℕ → Option ℕ
+byte_at ring byte = position (λ letter. letter + 65 == byte) ring
+
+has_byte : (ring : List ℕ) (byte : ℕ) → has_letter (letters_text ring) byte
+    ≡ nat_lt (position_or_len (λ letter. letter + 65 == byte) ring) (length ring)
+has_byte [] byte = refl
+has_byte (x ∷ ring) byte = grind (arith, nat_tests, has_byte ring byte)
+
+-- byte `byte` of `text`, at place `k`, and the pins of the bytes before it
+module _ (ring text : List ℕ) (k byte : ℕ) (left : k < length text) (here : get_or text k 0 ≡ byte) where
+  -- no pins are read from a text with a byte that isn't on the wheel
+  pub pins_end : byte_at ring byte ≡ None → None ≡ pins_of_text ring text
+  unfolding pins_of_text
+  pins_end none =
+      let own = has_letter (letters_text ring) in
+      let all : list_all own text ≡ true → own byte ≡ true =
+      λ all. rw here at (AllPass-from_list_all own text all k 0 left) in
+      let other : own byte ≡ false = grind (arith, has_byte ring byte) in
+      grind (arith, cases_Bool, all, other)
+
+  module _ (pins : List Bool) (place : ℕ) (so_far : pins_of_text ring (take k text) ≡ Some pins)
+      (at : byte_at ring byte ≡ Some place) where
+    was : (list_all (has_letter (letters_text ring)) (take k text) ≡ true)
+        × (are_new_letters (take k text) [] ≡ true) × (map (has_letter (take k text)) (letters_text ring) ≡ pins)
+    unfolding pins_of_text
+    was = grind (arith, some_if, nat_tests)
+
+    found : (place < length ring) × (get_or ring place 0 + 65 ≡ byte)
+    found = grind (arith, eqb-true, position-Some (λ letter. letter + 65 == byte) ring place 0 at)
+
+    there : get_or (letters_text ring) place 0 ≡ byte
+    there = get_or-map (λ letter. letter + 65) ring place 0 0 found.0 ∙ found.1
+
+    within : place < length (letters_text ring)
+    within = omega (arith, found.0, length-map ring (λ letter. letter + 65))
+
+    pin_is : get_or pins place false ≡ has_letter (take k text) byte
+    pin_is = ap (λ ps. get_or ps place false) (sym was.2)
+        ∙ get_or-map (has_letter (take k text)) (letters_text ring) place 0 false within
+        ∙ ap (has_letter (take k text)) there
+
+    pub pins_twice : get_or pins place false ≡ true → None ≡ pins_of_text ring text
+    unfolding pins_of_text
+    pins_twice effective =
+        let bytes : take k text ++ byte ∷ drop (k + 1) text ≡ text =
+        rw (← here, ← drop_more text k 0 left) (take-append-drop k text) in
+        let again : are_new_letters text [] ≡ false =
+        subst (λ bytes. are_new_letters bytes [] ≡ false) bytes
+        (not_new (take k text) byte (drop (k + 1) text) (sym pin_is ∙ effective)) in
+        rw (again, and-false) refl
+
+    pub pins_more : IsDistinct nat_eq ring → get_or pins place false ≡ false
+        → pins_of_text ring (take (k + 1) text) ≡ Some (set pins place true)
+    unfolding pins_of_text
+    pins_more distinct free =
+        let apart = ((new_tells ring []).0 (rw append-nil distinct)).0 in
+        let own : has_letter (letters_text ring) byte ≡ true = rw there at (letter_there (letters_text ring) place 0 within) in
+        let new = new_more (take k text) byte was.1 (sym pin_is ∙ free) in
+        rw (take_more text k 0 left, here, list_all-append, was.0, own, new) (ap Some
+        (sym (set_pin ring (take k text) byte place apart found.0 found.1) ∙ ap (λ ps. set ps place true) was.2))

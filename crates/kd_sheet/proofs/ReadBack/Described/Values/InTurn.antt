@@ -26,7 +26,7 @@ pub use Rattle.kd_sheet.specs.{Bars.numbered_for, Letters.capital_letters}
 pub use Rattle.kd_sheet.specs.{SheetFile.{rings_of, sheet_wheels}}
 pub use Rattle.kd_sheet.specs.{Document.{value_at, ◌>>=◌, ◌>>◌}, Sheet.{IsMonth, day_of, month_of}}
 pub use Rattle.kd_sheet.specs.{Key.key_name}
-pub use Rattle.kd_sheet.specs.{PinWheels.{are_on_wheels, has_capital, is_letter_of, pins_for, stands_once}}
+pub use Rattle.kd_sheet.specs.{PinWheels.{are_on_wheels, pins_for}}
 pub use Rattle.kd_sheet.specs.{Laws.{DaysAreTheEntries, LegalPartsAreReadBack}}
 pub use Rattle.{kd_sheet.specs.{Numbers.{number_up_to, letter_of_number}}, kd_state.specs.SameParts.same_wheel}
 pub use Rattle.kd_sheet.specs.{MachineText.file_version, declared.key.Key.Key}
