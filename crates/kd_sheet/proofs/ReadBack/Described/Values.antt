@@ -457,6 +457,12 @@ pub no_pins : (ring : List ℕ) → map (has_letter []) (letters_text ring) ≡ 
 no_pins [] = refl
 no_pins (x ∷ ring) = ap (λ pins. false ∷ pins) (no_pins ring)
 
+pin_at : (ring text : List ℕ) (place : ℕ) → place < length ring
+    → get_or (map (has_letter text) (letters_text ring)) place false ≡ has_letter text (get_or ring place 0 + 65)
+pin_at [] text place within = absurd (omega arith)
+pin_at (x ∷ ring) text zero within = refl
+pin_at (x ∷ ring) text (suc place) within = pin_at ring text place (omega arith)
+
 -- the place of a byte's letter on the wheel
 abbrev pub byte_at : List ℕ → ℕ → Option ℕ
 byte_at ring byte = position (λ letter. letter + 65 == byte) ring
@@ -472,11 +478,9 @@ module _ (ring text : List ℕ) (k byte : ℕ) (left : k < length text) (here : 
   pub pins_end : byte_at ring byte ≡ None → None ≡ pins_of_text ring text
   unfolding pins_of_text
   pins_end none =
-      let own = has_letter (letters_text ring) in
-      let all : list_all own text ≡ true → own byte ≡ true =
-      λ all. rw here at (AllPass-from_list_all own text all k 0 left) in
-      let other : own byte ≡ false = grind (arith, has_byte ring byte) in
-      grind (arith, cases_Bool, all, other)
+      let all : list_all (has_letter (letters_text ring)) text ≡ true → has_letter (letters_text ring) byte ≡ true =
+      λ all. rw here at (AllPass-from_list_all (has_letter (letters_text ring)) text all k 0 left) in
+      grind (arith, cases_Bool, all, has_byte ring byte)
 
   module _ (pins : List Bool) (place : ℕ) (so_far : pins_of_text ring (take k text) ≡ Some pins)
       (at : byte_at ring byte ≡ Some place) where
@@ -488,33 +492,21 @@ module _ (ring text : List ℕ) (k byte : ℕ) (left : k < length text) (here : 
     found : (place < length ring) × (get_or ring place 0 + 65 ≡ byte)
     found = grind (arith, eqb-true, position-Some (λ letter. letter + 65 == byte) ring place 0 at)
 
-    there : get_or (letters_text ring) place 0 ≡ byte
-    there = get_or-map (λ letter. letter + 65) ring place 0 0 found.0 ∙ found.1
-
-    within : place < length (letters_text ring)
-    within = omega (arith, found.0, length-map ring (λ letter. letter + 65))
-
     pin_is : get_or pins place false ≡ has_letter (take k text) byte
-    pin_is = ap (λ ps. get_or ps place false) (sym was.2)
-        ∙ get_or-map (has_letter (take k text)) (letters_text ring) place 0 false within
-        ∙ ap (has_letter (take k text)) there
+    pin_is = rw (← was.2, pin_at ring (take k text) place found.0, found.1) refl
 
     pub pins_twice : get_or pins place false ≡ true → None ≡ pins_of_text ring text
     unfolding pins_of_text
     pins_twice effective =
-        let bytes : take k text ++ byte ∷ drop (k + 1) text ≡ text =
-        rw (← here, ← drop_more text k 0 left) (take-append-drop k text) in
-        let again : are_new_letters text [] ≡ false =
-        subst (λ bytes. are_new_letters bytes [] ≡ false) bytes
-        (not_new (take k text) byte (drop (k + 1) text) (sym pin_is ∙ effective)) in
-        rw (again, and-false) refl
+        let again = not_new (take k text) byte (drop (k + 1) text) (sym pin_is ∙ effective) in
+        rw (rw (← here, ← drop_more text k 0 left, take-append-drop) at again, and-false) refl
 
     pub pins_more : IsDistinct nat_eq ring → get_or pins place false ≡ false
         → pins_of_text ring (take (k + 1) text) ≡ Some (set pins place true)
     unfolding pins_of_text
     pins_more distinct free =
         let apart = ((new_tells ring []).0 (rw append-nil distinct)).0 in
-        let own : has_letter (letters_text ring) byte ≡ true = rw there at (letter_there (letters_text ring) place 0 within) in
+        let own : has_letter (letters_text ring) byte ≡ true = grind (arith, has_byte ring byte) in
         let new = new_more (take k text) byte was.1 (sym pin_is ∙ free) in
         rw (take_more text k 0 left, here, list_all-append, was.0, own, new) (ap Some
         (sym (set_pin ring (take k text) byte place apart found.0 found.1) ∙ ap (λ ps. set ps place true) was.2))
