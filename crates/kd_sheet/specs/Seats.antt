@@ -1,7 +1,7 @@
 -- The wheels in the slots of a machine file or a day, item by item from the left.
 -- Test: kd_trials/src/sheet/files.rt
-use Rattle.std.specs.Prelude.{ℕ, nat_eq, ◌+◌, Bool, false, not, List, [], length, Option, Some, None, Result, Ok}
-use Rattle.std.specs.Prelude.{ok_or, if◌then◌else◌}
+use Rattle.std.specs.Prelude.{nat_eq, ◌+◌, false, not, List, [], length, Option, Some, None, Result, Ok}
+use Rattle.std.specs.Prelude.{ok_or}
 use Rattle.std.specs.List.{list_any}
 use Rattle.std.specs.Option.{option_map_or}
 use Rattle.toml.specs.Data.{Data, string, Members}
@@ -16,17 +16,12 @@ use Rattle.kd_sheet.specs.declared.key.Key.TheVariants as keys
 use Rattle.kd_sheet.specs.declared.fault.SheetFault.{SheetFault}
 use Rattle.kd_sheet.specs.declared.fault.SheetFault.TheVariants.{BadValue, WheelTwice, WheelNotAllowed}
 
--- whether one of `slots` holds `wheel`
-unfoldable pub is_seated : List (Option Wheel) → Wheel → Bool
-is_seated slots wheel = list_any (λ seat. option_map_or (same_wheel wheel) seat false) slots
-
--- The wheel that `item` names, or a fault. The model must allow the wheel in the slot to the right of `slots`, and none
--- of `slots` may hold the wheel.
+-- the wheel that `item` names: one that the model allows in the slot to the right of `slots`, and none of `slots` holds
 unfoldable pub wheel_for : Key → Model → List (Option Wheel) → Data → Result Wheel SheetFault
 wheel_for key model slots item = do
   wheel ← ok_or (from_text wheel_by_name item) (BadValue key)
   demand (has_wheel (wheels_for model (length slots + 1)) wheel) WheelNotAllowed
-  demand (not (is_seated slots wheel)) WheelTwice
+  demand (not (list_any (λ seat. option_map_or (same_wheel wheel) seat false) slots)) WheelTwice
   Ok wheel
 
 -- the wheel that `item` names, for the slot to the right of `slots`; at the key `slots`, `""` means an empty slot

@@ -1,9 +1,9 @@
 -- The days that a key sheet describes, key by key in the order of testing, or the sheet's first fault.
 -- Test: kd_trials/src/sheet/files.rt, kd_trials/src/sheet/faults.rt
-use Rattle.std.specs.Prelude.{ℕ, nat_le, ◌==◌, not, List, [], ◌∷◌, Option, Some, None, Result, Ok, ok_or}
+use Rattle.std.specs.Prelude.{ℕ, nat_le, ◌==◌, not, List, [], ◌∷◌, Option, Some, Result, Ok, ok_or}
 use Rattle.std.specs.List.{list_any}
-use Rattle.std.specs.Option.{option_map_or}
-use Rattle.toml.specs.Data.{Data, string, array, Members, get_member, as_table}
+use Rattle.std.specs.Option.{option_and_then, option_map_or}
+use Rattle.toml.specs.Data.{Data, string, Members, get_member, as_table}
 use Rattle.kd_tables.specs.Tables.{slots_of}
 use Rattle.kd_tables.specs.declared.model.Model.{Model}
 use Rattle.kd_tables.specs.declared.model.Model.TheVariants.{M209}
@@ -12,7 +12,7 @@ use Rattle.kd_state.specs.SheetDay.{Day, OfRotors, OfPins, day_number}
 use Rattle.kd_state.specs.declared.sheet_day.rotor_entry.SheetWheel.{SheetWheel}
 use Rattle.kd_sheet.specs.Cables.{pairs_in}
 use Rattle.kd_sheet.specs.Document.{◌>>=◌, ◌>>◌, demand, document_of, read_items, read_at, from_text}
-use Rattle.kd_sheet.specs.Document.{items_list, as_items, read_array}
+use Rattle.kd_sheet.specs.Document.{as_items, read_array}
 use Rattle.kd_sheet.specs.Bars.{rows_in}
 use Rattle.kd_sheet.specs.Key.{key_name}
 use Rattle.kd_sheet.specs.Letters.{capital_letters, letters_at}
@@ -28,8 +28,7 @@ use Rattle.kd_sheet.specs.declared.fault.SheetFault.TheVariants.{BadValue, DayTw
 -- exactly `count` rings, from a text of capital letters, or from an array of numbers where 1 is A
 abbrev pub rings_of : ℕ → Data → Option (List ℕ)
 rings_of count (string text) = capital_letters count text
-rings_of count (array items) = letters_of_numbers count (items_list items)
-rings_of count _ = None
+rings_of count value = option_and_then (letters_of_numbers count) (as_items value)
 
 -- the group of three capital letters that an item is; the groups before it don't matter
 unfoldable pub group_for : List (List ℕ) → Data → Result (List ℕ) SheetFault
@@ -55,28 +54,23 @@ rotor_day_in day model table = do
   window ← letters_at keys.Window (slots_of model) table
   pairs ← pairs_in table
   groups ← groups_in table
-  Ok (OfRotors (record {
-    day = day;
-    model = model;
-    reflector = reflector;
-    wheels = sheet_wheels seats rings window;
-    pairs = pairs;
-    groups = groups;
-  }))
+  wheels ← Ok (sheet_wheels seats rings window)
+  Ok (OfRotors
+      (record { day = day; model = model; reflector = reflector; wheels = wheels; pairs = pairs; groups = groups }))
 
 -- the day of a Converter M-209 that a table describes
 unfoldable pub pin_day_in : ℕ → Members → Result Day SheetFault
-pin_day_in number table = do
+pin_day_in day table = do
   rows ← rows_in table
   pins ← pins_in table
   window ← shown_letters_in keys.Window table
   list ← letters_at keys.List 2 table
-  Ok (OfPins (record { day = number; rows = rows; pins = pins; window = window; list = list }))
+  Ok (OfPins (record { day = day; rows = rows; pins = pins; window = window; list = list }))
 
 -- the day of `model` that a table describes
 unfoldable pub model_day_in : ℕ → Model → Members → Result Day SheetFault
-model_day_in number M209 table = pin_day_in number table
-model_day_in number model table = rotor_day_in number model table
+model_day_in day M209 table = pin_day_in day table
+model_day_in day model table = rotor_day_in day model table
 
 -- The day that `table` describes, or the first fault. The fault is `DayTwice` if one of `days` has the same number.
 unfoldable pub day_in : List Day → Members → Result Day SheetFault

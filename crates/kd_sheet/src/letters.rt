@@ -1,8 +1,8 @@
 //! Reads letters from texts of capital letters, and from numbers.
-ghost use Rattle.{std.specs.Prelude.{◌≡◌, ◌<◌, ◌≤◌, length, map, IfSome, option_map}, toml.specs.View.{view}};
+ghost use Rattle.{std.specs.Prelude.{◌≡◌, ◌-◌, ◌<◌, ◌≤◌, length, map, IfSome, option_map}, toml.specs.View.{view}};
 ghost use Rattle.kd_tables.specs.Tables.{slots_of};
 ghost use Rattle.kd_sheet.specs.{Document.{from_text}, Letters.{capital_letters}};
-ghost use Rattle.kd_sheet.specs.Numbers.{letter_of_number, letters_of_numbers};
+ghost use Rattle.kd_sheet.specs.Numbers.{number_up_to, letters_of_numbers};
 
 use super::numbers::number_up_to;
 use arrayvec::ArrayVec;
@@ -48,7 +48,7 @@ pub fn slot_letters(value: &Value, model: Model) -> Option<PerSlot<Letter>>
 
 /// Reads a number from 1 to 26 as a letter. 1 is A.
 fn letter_of_number(item: &Value) -> Option<Letter>
-    ensures { result ≡ letter_of_number (view item.now) }
+    ensures { result ≡ option_map (λ number. number - 1) (number_up_to 26 (view item.now)) }
 {
     Letter::new(number_up_to(item, 26)? - 1)
 }

@@ -92,9 +92,9 @@ pub capitals_are_letters : (count : ℕ) (text letters : List ℕ) → capital_l
     → AreLetters count letters
 capitals_are_letters count text letters e = grind (arith, some_if, eqb-true, letters_read)
 
-numbered_letters_within : (items : List Data) → list_all (λ item. is_some (letter_of_number item)) items ≡ true
-    → AllByRecursion (λ letter. letter < 26) (filter_map letter_of_number items)
-    × (length (filter_map letter_of_number items) ≡ length items)
+numbered_letters_within : (items : List Data) → list_all (λ item. is_some (number_up_to 26 item)) items ≡ true
+    → AllByRecursion (λ letter. letter < 26) (map (λ number. number - 1) (filter_map (number_up_to 26) items))
+    × (length (map (λ number. number - 1) (filter_map (number_up_to 26) items)) ≡ length items)
 numbered_letters_within [] e = (tt, refl)
 numbered_letters_within (item ∷ items) e = grind (arith, nat_tests, number_within, numbered_letters_within items)
 
@@ -110,10 +110,12 @@ letters_at_are key count table letters e = grind (arith, bind-Ok, there_was, cap
 
 -- ---- one seat
 
--- `is_seated` decides whether the wheel is in one of the slots
+-- whether one of the slots holds the wheel
+abbrev pub is_seated : List (Option Wheel) → Wheel → Bool
+is_seated slots wheel = list_any (λ seat. option_map_or (same_wheel wheel) seat false) slots
+
 pub is_seated-Decides : (slots : List (Option Wheel)) (wheel : Wheel)
     → Decides (is_seated slots wheel) (Contains slots (Some wheel))
-unfolding is_seated
 is_seated-Decides slots wheel =
     let holds : Option Wheel → Bool = λ seat. option_map_or (same_wheel wheel) seat false in
     Decides-contains slots (Some wheel) _ (Decides-by_or holds (λ seat. seat ≡ Some wheel) (list_any holds) (λ s. grind (arith, Decides-like, same_Some, same_wheel-Decides)) refl

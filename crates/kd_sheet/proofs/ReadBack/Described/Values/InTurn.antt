@@ -28,7 +28,7 @@ pub use Rattle.kd_sheet.specs.{Document.{value_at, ◌>>=◌, ◌>>◌}, Sheet.{
 pub use Rattle.kd_sheet.specs.{Key.key_name}
 pub use Rattle.kd_sheet.specs.{PinWheels.{are_on_wheels, pins_for}}
 pub use Rattle.kd_sheet.specs.{Laws.{DaysAreTheEntries, LegalPartsAreReadBack}}
-pub use Rattle.{kd_sheet.specs.{Numbers.{number_up_to, letter_of_number}}, kd_state.specs.SameParts.same_wheel}
+pub use Rattle.{kd_sheet.specs.{Numbers.{number_up_to}}, kd_state.specs.SameParts.same_wheel}
 pub use Rattle.kd_sheet.specs.{MachineText.file_version, declared.key.Key.Key}
 pub use Rattle.kd_sheet.specs.declared.fault.SheetFault.{TheVariants.{BadValue, NotToml, UnknownModel}, SheetFault}
 pub use Rattle.kd_state.proofs.{Cables.{eqb_flips, new_tells, IsDistinct-nil}, Slots.numbered_other}
@@ -73,7 +73,7 @@ unfoldable pub use Rattle.{kd_sheet.specs.{Letters.letters_at, SheetFile.sheet_i
 unfoldable pub use Rattle.kd_sheet.specs.Names.{model_by_name, reflector_by_name, standing_by_text, wheel_by_name}
 unfoldable pub use Rattle.kd_sheet.specs.PinWheels.{letters_on_wheels, pins_in, pins_of_text}
 unfoldable pub use Rattle.kd_sheet.specs.PinWheels.{shown_letters_in}
-unfoldable pub use Rattle.kd_sheet.specs.Seats.{is_seated, seat_for, seats_in, wheel_for}
+unfoldable pub use Rattle.kd_sheet.specs.Seats.{seat_for, seats_in, wheel_for}
 unfoldable pub use Rattle.{kd_tables.specs.Rings.ring_of, toml.specs.Tables.{along_dots, along_header, at_key, define}}
 unfoldable pub use Rattle.{std.specs.{Fmt.digits, List.IsDistinct}, toml.specs.Parse.{parse_document, skip_bom}}
 pub use Rattle.kd_sheet.specs.declared.key.Key.TheVariants as keys
