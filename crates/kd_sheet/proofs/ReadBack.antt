@@ -13,23 +13,16 @@ pub texts_read : (ts : List (List ℕ)) → as_items (array_of_texts ts) ≡ Som
 texts_read ts = ap Some (list_of-items_of (map string ts))
 
 -- an array of the texts of `things` is read back as `things` if each text is read back as its thing
-module _ {X : Type 0} (key : Key) (count : ℕ) (text_of : X → List ℕ) (things : List X)
+module _ {X : Type 0} (key : Key) (fits : ℕ → Bool) (text_of : X → List ℕ) (things : List X)
     (reading : List X → Data → Result X SheetFault)
     (each : (k : ℕ) (x : X) → slice_get things k ≡ Some x → reading (take k things) (string (text_of x)) ≡ Ok x) where
-  pub each_at_again : (table : Members) → value_at key table ≡ Ok (array_of_texts (map text_of things))
-      → length things ≡ count
-      → (value_at key table >>= read_array key (nat_eq count) reading) ≡ Ok things
-  each_at_again table there counted =
-      let read = again reading text_of things each in
-      grind (arith, common_steps, eq-eqb, then_read, list_of-items_of, demand-passes)
-
-  pub up_to_again : length things ≤ count
-      → read_array key (λ n. nat_le n count) reading (array_of_texts (map text_of things)) ≡ Ok things
-  up_to_again few =
+  pub array_again : fits (length things) ≡ true
+      → read_array key fits reading (array_of_texts (map text_of things)) ≡ Ok things
+  array_again passes =
       let read = again reading text_of things each in
       let items = map string (map text_of things) in
-      let fits : length items ≤ count = grind (arith, length-map) in
-      rw (list_of-items_of items, le-leb (length items) count fits) read
+      let count : length items ≡ length things = grind (arith, length-map) in
+      rw (list_of-items_of items, count, passes) read
 
 -- ---- letters
 
@@ -87,10 +80,10 @@ pub seats_in_again : (key : Key) (model : Model) (table : Members) (slots : List
     → seats_in key model table ≡ Ok slots
 unfolding seats_in
 seats_in_again key model table slots there may seated =
-    each_at_again key (slots_of model) seat_text slots (seat_for key model) (λ k seat at.
+    rw there (array_again key (nat_eq (slots_of model)) seat_text slots (seat_for key model) (λ k seat at.
     seat_again key model slots seat (All-slice_get (MayBeSeated key) slots k seat may at) seated.allowed seated.apart
     k at)
-    table there seated.count
+    (eq-eqb _ _ (sym seated.count)))
 
 -- ---- cables and pairs
 
@@ -118,11 +111,11 @@ cables_again cables are =
     let free : AreFree cable_letters read = record { within = rw same are.within; apart = rw same are.apart } in
     let all : All HasSingleFirst read = All-map HasSingleFirst single_first cables (λ k d within. grind arith) in
     ap (λ ts. read_array keys.Cables (λ n. nat_le n 13) cable_for (array_of_texts ts)) (sym (same_cables cables).1)
-    ∙ up_to_again keys.Cables 13 cable_text read cable_for (λ k cable at.
+    ∙ array_again keys.Cables (λ n. nat_le n 13) cable_text read cable_for (λ k cable at.
     let is = All-slice_get HasSingleFirst read k cable all at in
     let new = free_at cable_letters read k cable free at in
     grind (arith, letters_spelled, recursion_from_All, new))
-    (omega (arith, are.count, length-map cables single_first))
+    (le-leb _ _ (omega (arith, are.count, length-map cables single_first)))
 
 -- ---- pins and bars
 
@@ -169,15 +162,16 @@ pairs_in_again : (s : RotorDay) → IsLegalRotorDay s → pairs_in (rotor_day_ta
 unfolding pairs_in pair_for
 pairs_in_again s legal =
     let free : AreFree pair_letters s.pairs = record { within = legal.pairs.within; apart = legal.pairs.apart } in
-    up_to_again keys.Plugs 13 (λ pair. letters_text (pair_letters pair)) s.pairs pair_for
+    array_again keys.Plugs (λ n. nat_le n 13) (λ pair. letters_text (pair_letters pair)) s.pairs pair_for
     (λ k pair at. let new = free_at pair_letters s.pairs k pair free at in
-    grind (arith, letters_spelled, recursion_from_All, new)) legal.pairs.few
+    grind (arith, letters_spelled, recursion_from_All, new)) (le-leb _ _ legal.pairs.few)
 
 groups_in_again : (s : RotorDay) → IsLegalRotorDay s → groups_in (rotor_day_table s) ≡ Ok s.groups
 unfolding groups_in group_for
 groups_in_again s legal =
-    up_to_again keys.Groups 4 letters_text s.groups group_for (λ k group at.
-    rw (capitals_again 3 group (All-slice_get (AreLetters 3) s.groups k group legal.groups at)) refl) legal.few_groups
+    array_again keys.Groups (λ n. nat_le n 4) letters_text s.groups group_for (λ k group at.
+    rw (capitals_again 3 group (All-slice_get (AreLetters 3) s.groups k group legal.groups at)) refl)
+    (le-leb _ _ legal.few_groups)
 
 -- the rings, or the window letters, of a legal day's wheels are letters of the alphabet, one for each slot
 parts_are : (s : RotorDay) → IsLegalRotorDay s → (part : SheetWheel → ℕ)
@@ -200,9 +194,9 @@ rotor_again s legal =
 rows_in_again : (s : PinDay) → IsLegalPinDay s → rows_in (pin_day_table s) ≡ Ok s.rows
 unfolding rows_in row_of_text
 rows_in_again s legal =
-    each_at_again keys.Rows 27 reading_text s.rows (numbered_for row_of_text) (λ k row at.
+    array_again keys.Rows (nat_eq 27) reading_text s.rows (numbered_for row_of_text) (λ k row at.
     let is = All-slice_get IsReading s.rows k row legal.rows at in
-    grind (arith, le-leb, cases_eq, eq-eqb, is.equal, or-true, ne_eqb)) (pin_day_table s) refl legal.count
+    grind (arith, le-leb, cases_eq, eq-eqb, is.equal, or-true, ne_eqb)) (eq-eqb _ _ (sym legal.count))
 
 pin_again : (s : PinDay) → IsLegalPinDay s → pin_day_in s.day (pin_day_table s) ≡ Ok (OfPins s)
 unfolding pin_day_in shown_letters_in letters_at
@@ -496,9 +490,9 @@ pin_read m legal =
 bars_again : (m : PinParts) → IsLegalPin m → bars_in (pin_table m) ≡ Ok m.bars
 unfolding bars_in
 bars_again m legal =
-    each_at_again keys.Bars 27 standing_text m.bars (numbered_for standing_by_text) (λ k bar at.
+    array_again keys.Bars (nat_eq 27) standing_text m.bars (numbered_for standing_by_text) (λ k bar at.
     rw (standing_again bar (All-slice_get (λ bar. IsBefore bar.0 bar.1) m.bars k bar legal.apart at)) refl)
-    (pin_table m) refl legal.bars
+    (eq-eqb _ _ (sym legal.bars))
 
 pin_parts_again : (m : PinParts) → IsLegalPin m → pin_parts_in (pin_table m) ≡ Ok m
 unfolding pin_parts_in shown_letters_in

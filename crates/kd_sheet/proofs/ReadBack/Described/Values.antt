@@ -432,10 +432,10 @@ pins_back wheel pins same =
 
 -- ---- the pins of a text, byte by byte
 
-new_more : (front : List ℕ) (byte : ℕ) → are_new_letters front [] ≡ true → has_letter front byte ≡ false
-    → are_new_letters (front ++ byte ∷ []) [] ≡ true
-new_more [] byte new free = refl
-new_more (x ∷ front) byte new free = grind (arith, nat_tests, list_any-append, append-nil, new_more front byte)
+new_more : (front : List ℕ) (byte : ℕ)
+    → are_new_letters (front ++ byte ∷ []) [] ≡ (are_new_letters front [] && not (has_letter front byte))
+new_more [] byte = refl
+new_more (x ∷ front) byte = grind (arith, nat_tests, list_any-append, append-nil, new_more front byte)
 
 not_new : (front : List ℕ) (byte : ℕ) (rest : List ℕ) → has_letter front byte ≡ true
     → are_new_letters (front ++ byte ∷ rest) [] ≡ false
@@ -454,10 +454,6 @@ set_pin (x ∷ ring) front byte zero apart within at =
     grind (arith, nat_tests, list_any-append, rest)
 set_pin (x ∷ ring) front byte (suc place) apart within at =
     grind (arith, nat_tests, list_any-append, append-nil, letter_there ring place 0, set_pin ring front byte place)
-
-pub no_pins : (ring : List ℕ) → map (has_letter []) (letters_text ring) ≡ replicate (length ring) false
-no_pins [] = refl
-no_pins (x ∷ ring) = ap (λ pins. false ∷ pins) (no_pins ring)
 
 pin_at : (ring text : List ℕ) (place : ℕ) → place < length ring
     → get_or (map (has_letter text) (letters_text ring)) place false ≡ has_letter text (get_or ring place 0 + 65)
@@ -509,6 +505,5 @@ module _ (ring text : List ℕ) (k byte : ℕ) (left : k < length text) (here : 
     pins_more distinct free =
         let apart = ((new_tells ring []).0 (rw append-nil distinct)).0 in
         let own : has_letter (letters_text ring) byte ≡ true = grind (arith, has_byte ring byte) in
-        let new = new_more (take k text) byte was.1 (sym pin_is ∙ free) in
-        rw (take_more text k 0 left, here, list_all-append, was.0, own, new) (ap Some
+        rw (take_more text k 0 left, here, list_all-append, was.0, own, new_more, was.1, ← pin_is, free) (ap Some
         (sym (set_pin ring (take k text) byte place apart found.0 found.1) ∙ ap (λ ps. set ps place true) was.2))

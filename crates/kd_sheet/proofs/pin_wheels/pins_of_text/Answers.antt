@@ -1,10 +1,13 @@
-use Rattle.kd_sheet.proofs.ReadBack.Described.Values.{arith, no_pins, pins_end, pins_more, pins_of_text, pins_twice, refl}
+use Rattle.{kd_tables.specs.Text.{letters_text}, std.proofs.lemmas.Simd.{splat_is_map}}
+use Rattle.kd_sheet.proofs.ReadBack.Described.Values.{Some, ap, false, length-map, pins_end, pins_more, pins_of_text, pins_twice, refl}
 use Rattle.kd_sheet.proofs.ReadBack.Described.Values.{sym, ◌∙◌}
 use Rattle.kd_sheet.proofs.pin_wheels.pins_of_text.Goals as goal
 
 pub loop-byte-init : goal.loop-byte-init
 unfolding pins_of_text
-loop-byte-init g c = grind (arith, no_pins, c.letters-letters.ensures.ring.full)
+loop-byte-init g c =
+    let full = rw c.letters-letters.ensures.value at c.letters-letters.ensures.ring.full in
+    ap Some (sym (splat_is_map (letters_text c.args.ring.now) g.row.N false (length-map _ _ ∙ full)))
 
 pub returns-in_err-place : goal.returns-in_err-place
 returns-in_err-place g c =
