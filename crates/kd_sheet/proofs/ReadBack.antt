@@ -411,7 +411,8 @@ ruleset are_plain = (
 
 -- a table from which version, model and parts can be read is read as the machine of these parts
 machine_in-parts : (model : Model) (table : Members) (m : Parts)
-    → read_at keys.Version (number_up_to 2) table ≡ Ok (file_version model) → model_in table ≡ Ok model → parts_in model table ≡ Ok m → machine_in table ≡ Ok m
+    → read_at keys.Version (number_up_to 2) table ≡ Ok (file_version model) → model_in table ≡ Ok model
+    → parts_in model table ≡ Ok m → machine_in table ≡ Ok m
 unfolding machine_in
 machine_in-parts model table m version is parts = grind (arith, then_read, demand-passes, le-leb)
 

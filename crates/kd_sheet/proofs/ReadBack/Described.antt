@@ -137,7 +137,8 @@ model_day number M209 table is = pin_day number table is
 model_day number model table is = rotor_day number model table is
 
 pub day_again : (number : ℕ) (model : Model) (table : Members) (day : Day)
-    → read_at keys.Day (number_up_to 31) table ≡ Ok number → model_in table ≡ Ok model → model_day_in number model table ≡ Ok day → day_in [] table ≡ Ok day
+    → read_at keys.Day (number_up_to 31) table ≡ Ok number → model_in table ≡ Ok model
+    → model_day_in number model table ≡ Ok day → day_in [] table ≡ Ok day
 unfolding day_in
 day_again number model table day is of_model rest = grind (arith, then_read)
 
@@ -285,8 +286,11 @@ module _ (items : List Data) (days : List Day) (read : read_items day_for items 
   day_at : (k : ℕ) (e : Data) (d : Day) → k < length days
       → (k < length items) × IsEntry (take k days) (get_or items k e) (get_or days k d)
   day_at k e d within =
-      let left : k < length items = omega (arith, as_many day_for items days read) in
-      (left, entry_read (take k days) (get_or items k e) (get_or days k d) (read_items-get_or day_for items days read k e d left))
+      let left : k < length items = omega (arith, as_many day_for items days read) in (
+        left,
+        entry_read (take k days) (get_or items k e) (get_or days k d)
+            (read_items-get_or day_for items days read k e d left),
+      )
 
   found_told : (number : ℕ) (day : Day) → find (has_number number) days ≡ Some day → TellsOneOf items number day
   found_told number day e =
@@ -312,7 +316,8 @@ pub days_are_the_entries : DaysAreTheEntries
 unfolding sheet_in
 days_are_the_entries members items month number day at e =
     let days = bind-Ok (read_at keys.Day as_items members >>= read_items day_for) _ month e in
-    let read : read_items day_for items ≡ Ok days.0 = subst (λ answer. (answer >>= read_items day_for) ≡ Ok days.0) at days.1 in
+    let read : read_items day_for items ≡ Ok days.0 =
+    subst (λ answer. (answer >>= read_items day_for) ≡ Ok days.0) at days.1 in
     let same : month ≡ month_of days.0 = same_found _ _ (sym days.2) in rw same (
       λ found. found_told items days.0 read number day
           (sym (day_of_month days.0 number (within_month days.0 number day found)) ∙ found),

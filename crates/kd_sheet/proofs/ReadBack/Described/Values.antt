@@ -118,8 +118,8 @@ pub is_seated-Decides : (slots : List (Option Wheel)) (wheel : Wheel)
     → Decides (is_seated slots wheel) (Contains slots (Some wheel))
 is_seated-Decides slots wheel =
     let holds : Option Wheel → Bool = λ seat. option_map_or (same_wheel wheel) seat false in
-    Decides-contains slots (Some wheel) _ (Decides-by_or holds (λ seat. seat ≡ Some wheel) (list_any holds) (λ s. grind (arith, Decides-like, same_Some, same_wheel-Decides)) refl
-    (λ _ _. refl) slots)
+    Decides-contains slots (Some wheel) _ (Decides-by_or holds (λ seat. seat ≡ Some wheel) (list_any holds)
+    (λ s. grind (arith, Decides-like, same_Some, same_wheel-Decides)) refl (λ _ _. refl) slots)
 
 pub not_seated : (slots : List (Option Wheel)) (wheel : Wheel) → ¬ Contains slots (Some wheel)
     → is_seated slots wheel ≡ false
@@ -158,8 +158,8 @@ stands_free key model items slots e place wheel stands =
     let here = get_or_from_slice_get slots place (Some wheel) (Some wheel) stands in (
       within,
       (seat_read key model (take place slots) (get_or items place no_item) (Some wheel) (
-          rw here at (read_items-get_or _ items slots e place no_item (Some wheel) (omega (arith, as_many _ items slots e)))
-          )).free,
+          rw here at (read_items-get_or _ items slots e place no_item (Some wheel)
+          (omega (arith, as_many _ items slots e))))).free,
     )
 
 -- a wheel that can be seated in a slot is in no slot further left
@@ -284,7 +284,8 @@ module _ {X : Type 0} (letters_in : X → List ℕ) where
 
 -- ---- cables
 
-pub two_letters : (letters : List ℕ) → length letters ≤ 2 → cable_letters (slice_get letters 0, slice_get letters 1) ≡ letters
+pub two_letters : (letters : List ℕ) → length letters ≤ 2
+    → cable_letters (slice_get letters 0, slice_get letters 1) ≡ letters
 two_letters (one ∷ other ∷ third ∷ letters) few = absurd (omega arith)
 two_letters letters few = refl
 

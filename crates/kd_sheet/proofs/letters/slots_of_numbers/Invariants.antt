@@ -9,5 +9,6 @@ invariant-loop-item l = record {
   numbers : list_all (λ item. is_some (number_up_to 26 item)) (map view l.items)
       ≡ list_all (λ item. is_some (number_up_to 26 item)) (map view (drop l.item-index l.items));
   letters : map (λ number. number - 1) (filter_map (number_up_to 26) (map view l.items))
-      ≡ l.letters.items ++ map (λ number. number - 1) (filter_map (number_up_to 26) (map view (drop l.item-index l.items)));
+      ≡ l.letters.items
+      ++ map (λ number. number - 1) (filter_map (number_up_to 26) (map view (drop l.item-index l.items)));
 }

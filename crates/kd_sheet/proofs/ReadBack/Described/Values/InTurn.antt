@@ -246,11 +246,13 @@ module _ {A : Type 0} where
   module _ (reading : List A → Data → Result A SheetFault) (Holds : List A → Type 0)
       (all : (items : List Data) → SucceedsWith (read_items reading items) Holds) (key : Key) (count : ℕ) where
     pub each_read : (table : Members)
-        → SucceedsWith (value_at key table >>= read_array key (nat_eq count) reading) (λ values. (length values ≡ count) × Holds values)
+        → SucceedsWith (value_at key table >>= read_array key (nat_eq count) reading)
+        (λ values. (length values ≡ count) × Holds values)
     each_read table values e = grind (arith, bind-Ok, demand-Ok, eqb-true, as_many, all)
 
     pub some_read : (value : Data)
-        → SucceedsWith (read_array key (λ n. nat_le n count) reading value) (λ values. (length values ≤ count) × Holds values)
+        → SucceedsWith (read_array key (λ n. nat_le n count) reading value)
+        (λ values. (length values ≤ count) × Holds values)
     some_read value values e = grind (arith, bind-Ok, demand-Ok, leb-true, as_many, all)
 
   -- a list of things is read back from their texts if each thing is
