@@ -56,7 +56,7 @@ document_of bytes = if is_utf8 bytes then ok_or (parse_document bytes) NotToml e
 abbrev pub value_at : Key → Members → Result Data SheetFault
 value_at key table = ok_or (get_member (key_name key) table) (Missing key)
 
--- what `reading` gives for the value at `key`; the fault is `Missing` without the key, `BadValue` if it gives `None`
+-- what `reading` gives for the value at `key`; `Missing` if the key is absent, `BadValue` if `reading` gives `None`
 abbrev pub read_at : {A : Type 0} → Key → (Data → Option A) → Members → Result A SheetFault
 read_at key reading table = value_at key table >>= (λ value. ok_or (reading value) (BadValue key))
 

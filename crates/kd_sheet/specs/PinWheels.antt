@@ -31,7 +31,7 @@ unfoldable pub shown_letters_in : Key → Members → Result (List ℕ) SheetFau
 shown_letters_in key table = read_at key (from_text letters_on_wheels) table
 
 -- The pins of a wheel, in the order of its letters `ring`: a pin is effective if `text` has its letter. The result
--- is `None` if `text` has a letter that isn't on the wheel, or a letter twice.
+-- is `None` if a byte of `text` isn't a capital letter of the wheel, or comes twice.
 unfoldable pub pins_of_text : List ℕ → List ℕ → Option (List Bool)
 pins_of_text ring text =
     if list_all (has_letter (letters_text ring)) text && are_new_letters text []
