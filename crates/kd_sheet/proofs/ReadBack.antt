@@ -194,7 +194,7 @@ rotor_again s legal =
 rows_in_again : (s : PinDay) → IsLegalPinDay s → rows_in (pin_day_table s) ≡ Ok s.rows
 unfolding rows_in row_of_text
 rows_in_again s legal =
-    array_again keys.Rows (nat_eq 27) reading_text s.rows (bar_value row_of_text) (λ k row at.
+    array_again keys.Rows (nat_eq 27) reading_text s.rows (or_bad_row row_of_text) (λ k row at.
     let is = All-slice_get IsReading s.rows k row legal.rows at in
     grind (arith, le-leb, cases_eq, eq-eqb, is.equal, or-true, ne_eqb)) (eq-eqb _ _ (sym legal.count))
 
@@ -491,7 +491,7 @@ pin_read m legal =
 bars_again : (m : PinParts) → IsLegalPin m → bars_in (pin_table m) ≡ Ok m.bars
 unfolding bars_in
 bars_again m legal =
-    array_again keys.Bars (nat_eq 27) standing_text m.bars (bar_value standing_by_text) (λ k bar at.
+    array_again keys.Bars (nat_eq 27) standing_text m.bars (or_bad_row standing_by_text) (λ k bar at.
     rw (standing_again bar (All-slice_get (λ bar. IsBefore bar.0 bar.1) m.bars k bar legal.apart at)) refl)
     (eq-eqb _ _ (sym legal.bars))
 

@@ -11,14 +11,14 @@ use Rattle.kd_sheet.specs.declared.key.Key.TheVariants as keys
 use Rattle.kd_sheet.specs.declared.fault.SheetFault.{SheetFault}
 use Rattle.kd_sheet.specs.declared.fault.SheetFault.TheVariants.{BadRow}
 
--- What `reading` gives for the text `item`, or the fault `BadRow` with the number of the item's bar, counted from 1.
--- `earlier` has the values of the items before it.
-abbrev pub bar_value : {A : Type 0} → (List ℕ → Option A) → List A → Data → Result A SheetFault
-bar_value reading earlier item = ok_or (from_text reading item) (BadRow (length earlier + 1))
+-- What `reading` gives for the text `item`, or the fault `BadRow` with the item's number, counted from 1. `earlier` has
+-- the values of the items before this item.
+abbrev pub or_bad_row : {A : Type 0} → (List ℕ → Option A) → List A → Data → Result A SheetFault
+or_bad_row reading earlier item = ok_or (from_text reading item) (BadRow (length earlier + 1))
 
 -- the standings of the bars, from the array at the key `bars`, which has 27 items
 unfoldable pub bars_in : Members → Result (List (Place × Place)) SheetFault
-bars_in table = value_at keys.Bars table >>= read_array keys.Bars (nat_eq 27) (bar_value standing_by_text)
+bars_in table = value_at keys.Bars table >>= read_array keys.Bars (nat_eq 27) (or_bad_row standing_by_text)
 
 -- whether `byte` is an ASCII digit from 0 to 6
 abbrev pub is_reading_digit : ℕ → Bool
@@ -31,6 +31,6 @@ row_of_text (one ∷ dash ∷ other ∷ []) =
     then Some (smaller_first (one - 48) (other - 48)) else None
 row_of_text _ = None
 
--- the readings that the bars must have, from the array at the key `rows`, which has 27 items
+-- the readings of the rows, from the array at the key `rows`, which has 27 items
 unfoldable pub rows_in : Members → Result (List (ℕ × ℕ)) SheetFault
-rows_in table = value_at keys.Rows table >>= read_array keys.Rows (nat_eq 27) (bar_value row_of_text)
+rows_in table = value_at keys.Rows table >>= read_array keys.Rows (nat_eq 27) (or_bad_row row_of_text)

@@ -1,7 +1,7 @@
 //! Reads the bars' standings in a machine file, and the bars' readings in a key sheet.
 ghost use Rattle.std.specs.Prelude.{◌≡◌, ◌+◌, is_some, IfSome};
 ghost use Rattle.toml.specs.View.{view, table_view};
-ghost use Rattle.kd_sheet.specs.Bars.{bar_value, bars_in, is_reading_digit, row_of_text, rows_in};
+ghost use Rattle.kd_sheet.specs.Bars.{or_bad_row, bars_in, is_reading_digit, row_of_text, rows_in};
 ghost use Rattle.kd_sheet.specs.{Document.{from_text}, Names.{standing_by_text}};
 
 use super::fault::SheetFault;
@@ -22,7 +22,7 @@ fn standing_of_item(item: &Value) -> Option<Standing>
 
 /// Reads an item as a bar's standing. A fault has the bar's number, counted from 1.
 impl FromItem<()> for Standing {
-    ghost reading = { λ _. bar_value standing_by_text };
+    ghost reading = { λ _. or_bad_row standing_by_text };
 
     fn read_item(_given: &(), before: &[Self], item: &Value) -> Result<Self, SheetFault> {
         standing_of_item(item).ok_or(SheetFault::BadRow(before.len() as u8 + 1))
@@ -62,7 +62,7 @@ fn row_of_item(item: &Value) -> Option<Reading>
 
 /// Reads an item as a row's reading. A fault has the row's number, counted from 1.
 impl FromItem<()> for Reading {
-    ghost reading = { λ _. bar_value row_of_text };
+    ghost reading = { λ _. or_bad_row row_of_text };
 
     fn read_item(_given: &(), before: &[Self], item: &Value) -> Result<Self, SheetFault> {
         row_of_item(item).ok_or(SheetFault::BadRow(before.len() as u8 + 1))

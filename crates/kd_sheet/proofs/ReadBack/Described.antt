@@ -29,7 +29,7 @@ groups_in_groups table groups e =
 
 rows_in_rows : (table : Members) → SucceedsWith (rows_in table) (HasEach IsReading 27)
 unfolding rows_in row_of_text
-rows_in_rows table = each_read _ (All IsReading) (each_is (bar_value row_of_text) IsReading (λ earlier item row e.
+rows_in_rows table = each_read _ (All IsReading) (each_is (or_bad_row row_of_text) IsReading (λ earlier item row e.
     grind (arith, there_was, some_if, nat_tests, leb-true, none-some))) keys.Rows 27 table
 
 abbrev IsLegalStanding : Place × Place → Type 0
@@ -38,7 +38,7 @@ IsLegalStanding bar = IsBefore bar.0 bar.1
 bars_in_bars : (table : Members) → SucceedsWith (bars_in table) (HasEach IsLegalStanding 27)
 unfolding bars_in
 bars_in_bars table = each_read _ (All IsLegalStanding)
-    (each_is (bar_value standing_by_text) IsLegalStanding (λ earlier item bar e.
+    (each_is (or_bad_row standing_by_text) IsLegalStanding (λ earlier item bar e.
     grind (arith, there_was, standing_read, none-some))) keys.Bars 27 table
 
 -- ---- pins, and the letters that pin wheels show

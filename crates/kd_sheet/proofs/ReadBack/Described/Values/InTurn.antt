@@ -22,7 +22,7 @@ pub use Rattle.std.proofs.lemmas.List.FromFn.{get_or-enumerate_from, get_or-map-
 pub use Rattle.std.proofs.lemmas.Option.{get_or_from_slice_get, gets, none-some, same_Some, slice_get-get_or}
 pub use Rattle.toml.specs.Data.{Data, Members, array, as_array, as_table, depth, get_member, has_valid_dates, integer}
 pub use Rattle.{kd_pins.specs.declared.pin_set.PinSet.PinSet, kd_tables.specs.Tables.{slots_of, wheel_text, wheels_for}}
-pub use Rattle.kd_sheet.specs.{Bars.bar_value, Letters.capital_letters}
+pub use Rattle.kd_sheet.specs.{Bars.or_bad_row, Letters.capital_letters}
 pub use Rattle.kd_sheet.specs.{SheetFile.{rings_of, sheet_wheels}}
 pub use Rattle.kd_sheet.specs.{Document.{value_at, ◌>>=◌, ◌>>◌}, Sheet.{IsMonth, day_of, month_of}}
 pub use Rattle.kd_sheet.specs.{Key.key_name}
