@@ -9,28 +9,20 @@ unfoldable pub use Described.*
 abbrev pub array_of_texts : List (List ℕ) → Data
 array_of_texts ts = array (items_of (map string ts))
 
-pub texts_read : (key : Key) (ts : List (List ℕ)) → items_in key (array_of_texts ts) ≡ Ok (map string ts)
-texts_read key ts = ap Ok (list_of-items_of (map string ts))
+pub texts_read : (ts : List (List ℕ)) → as_items (array_of_texts ts) ≡ Some (map string ts)
+texts_read ts = ap Some (list_of-items_of (map string ts))
 
--- an array of the texts of `things` is read back as `things` if each text is read back as its thing; this holds for
--- `read_each` and for `read_up_to`
-module _ {X : Type 0} (key : Key) (count : ℕ) (text_of : X → List ℕ) (things : List X)
+-- an array of the texts of `things` is read back as `things` if each text is read back as its thing
+module _ {X : Type 0} (key : Key) (fits : ℕ → Bool) (text_of : X → List ℕ) (things : List X)
     (reading : List X → Data → Result X SheetFault)
     (each : (k : ℕ) (x : X) → slice_get things k ≡ Some x → reading (take k things) (string (text_of x)) ≡ Ok x) where
-  pub each_at_again : (table : Members) → value_at key table ≡ Ok (array_of_texts (map text_of things))
-      → length things ≡ count
-      → read_each key count reading table ≡ Ok things
-  each_at_again table there counted =
-      let read = again reading text_of things each in
-      grind (arith, common_steps, eq-eqb, then_read, items_at, list_of-items_of, demand-passes)
-
-  pub up_to_again : length things ≤ count
-      → read_up_to key count reading (array_of_texts (map text_of things)) ≡ Ok things
-  up_to_again few =
+  pub array_again : fits (length things) ≡ true
+      → read_array key fits reading (array_of_texts (map text_of things)) ≡ Ok things
+  array_again passes =
       let read = again reading text_of things each in
       let items = map string (map text_of things) in
-      let fits : length items ≤ count = grind (arith, length-map) in
-      rw (list_of-items_of items, le-leb (length items) count fits) read
+      let count : length items ≡ length things = grind (arith, length-map) in
+      rw (list_of-items_of items, count, passes) read
 
 -- ---- letters
 
@@ -58,13 +50,19 @@ reflector_again model reflector e = grind arith
 
 -- an array at `key` can have an item for this seat: any key allows a wheel, only the key `slots` an empty seat
 abbrev pub MayBeSeated : Key → Option Wheel → Type 0
-MayBeSeated key None = may_be_empty key ≡ true
+MayBeSeated key None = key ≡ keys.Slots
 MayBeSeated key (Some wheel) = Unit {0}
+
+seat_named : (key : Key) (model : Model) (slots : List (Option Wheel)) (wheel : Wheel)
+    → seat_for key model slots (string (wheel_text wheel))
+    ≡ (wheel_for key model slots (string (wheel_text wheel)) >>= (λ wheel. Ok (Some wheel)))
+unfolding seat_for
+seat_named key model slots wheel = grind arith
 
 seat_again : (key : Key) (model : Model) (slots : List (Option Wheel)) (seat : Option Wheel) → MayBeSeated key seat
     → AreWheelsAllowed model slots → AreSeatedOnce slots → (k : ℕ) → slice_get slots k ≡ Some seat
-    → seat_of_item key model (take k slots) (string (seat_text seat)) ≡ Ok seat
-unfolding seat_of_item seat_for wheel_for
+    → seat_for key model (take k slots) (string (seat_text seat)) ≡ Ok seat
+unfolding seat_for wheel_for
 seat_again key model slots None may allowed apart k at = rw may refl
 seat_again key model slots (Some wheel) may allowed apart k at =
     let within = slice_get_within slots k (Some wheel) at in
@@ -74,8 +72,7 @@ seat_again key model slots (Some wheel) may allowed apart k at =
     let free = not_seated (take k slots) wheel (λ among.
     let stands : slice_get slots among.0 ≡ Some (Some wheel) = grind (arith, common_steps, gets) in
     omega (arith, apart among.0 k wheel stands at, among.1)) in
-    let named : (length (wheel_text wheel) == 0) ≡ false = grind arith in
-    rw (named, and-false, wheel_by_name-text wheel, among_them, free) refl
+    rw (seat_named key model (take k slots) wheel, wheel_by_name-text wheel, among_them, free) refl
 
 pub seats_in_again : (key : Key) (model : Model) (table : Members) (slots : List (Option Wheel))
     → value_at key table ≡ Ok (array_of_texts (map seat_text slots)) → All (MayBeSeated key) slots
@@ -83,16 +80,16 @@ pub seats_in_again : (key : Key) (model : Model) (table : Members) (slots : List
     → seats_in key model table ≡ Ok slots
 unfolding seats_in
 seats_in_again key model table slots there may seated =
-    each_at_again key (slots_of model) seat_text slots (seat_of_item key model) (λ k seat at.
+    rw there (array_again key (nat_eq (slots_of model)) seat_text slots (seat_for key model) (λ k seat at.
     seat_again key model slots seat (All-slice_get (MayBeSeated key) slots k seat may at) seated.allowed seated.apart
     k at)
-    table there seated.count
+    (eq-eqb _ _ (sym seated.count)))
 
 -- ---- cables and pairs
 
 -- the cable as it is read back: if it has a single letter, this letter is at its first end
 abbrev pub single_first : Option ℕ × Option ℕ → Option ℕ × Option ℕ
-single_first cable = cable_with_ends (cable_letters cable)
+single_first cable = let letters = cable_letters cable in (slice_get letters 0, slice_get letters 1)
 
 -- bringing single letters to first ends changes neither the letters in the cables nor their texts
 pub same_cables : (cables : List (Option ℕ × Option ℕ))
@@ -105,26 +102,27 @@ abbrev HasSingleFirst : Option ℕ × Option ℕ → Type 0
 HasSingleFirst cable = single_first cable ≡ cable
 
 pub cables_again : (cables : List (Option ℕ × Option ℕ)) → AreCables cables
-    → read_up_to keys.Cables 13 cable_for (array_of_texts (map cable_text cables)) ≡ Ok (map single_first cables)
+    → read_array keys.Cables (λ n. nat_le n 13) cable_for (array_of_texts (map cable_text cables))
+    ≡ Ok (map single_first cables)
 unfolding cable_for cable_letters_of_text
 cables_again cables are =
     let read = map single_first cables in
     let same = (same_cables cables).0 in
     let free : AreFree cable_letters read = record { within = rw same are.within; apart = rw same are.apart } in
     let all : All HasSingleFirst read = All-map HasSingleFirst single_first cables (λ k d within. grind arith) in
-    ap (λ ts. read_up_to keys.Cables 13 cable_for (array_of_texts ts)) (sym (same_cables cables).1)
-    ∙ up_to_again keys.Cables 13 cable_text read cable_for (λ k cable at.
+    ap (λ ts. read_array keys.Cables (λ n. nat_le n 13) cable_for (array_of_texts ts)) (sym (same_cables cables).1)
+    ∙ array_again keys.Cables (λ n. nat_le n 13) cable_text read cable_for (λ k cable at.
     let is = All-slice_get HasSingleFirst read k cable all at in
     let new = free_at cable_letters read k cable free at in
     grind (arith, letters_spelled, recursion_from_All, new))
-    (omega (arith, are.count, length-map cables single_first))
+    (le-leb _ _ (omega (arith, are.count, length-map cables single_first)))
 
 -- ---- pins and bars
 
 pub pins_in_again : (table : Members) (pins : PinSet)
     → value_at keys.Pins table ≡ Ok (array_of_texts (pin_texts pins)) → HasAllPins pins → pins_in table ≡ Ok pins
-unfolding pins_in pins_of_item
-pins_in_again table pins there fit = grind (arith, pins_back, fit, then_read, items_at, texts_read)
+unfolding pins_in
+pins_in_again table pins there fit = grind (arith, pins_back, fit, then_read, texts_read)
 
 -- ---- wheels
 
@@ -164,15 +162,16 @@ pairs_in_again : (s : RotorDay) → IsLegalRotorDay s → pairs_in (rotor_day_ta
 unfolding pairs_in pair_for
 pairs_in_again s legal =
     let free : AreFree pair_letters s.pairs = record { within = legal.pairs.within; apart = legal.pairs.apart } in
-    up_to_again keys.Plugs 13 (λ pair. letters_text (pair_letters pair)) s.pairs pair_for
+    array_again keys.Plugs (λ n. nat_le n 13) (λ pair. letters_text (pair_letters pair)) s.pairs pair_for
     (λ k pair at. let new = free_at pair_letters s.pairs k pair free at in
-    grind (arith, letters_spelled, recursion_from_All, new)) legal.pairs.few
+    grind (arith, letters_spelled, recursion_from_All, new)) (le-leb _ _ legal.pairs.few)
 
 groups_in_again : (s : RotorDay) → IsLegalRotorDay s → groups_in (rotor_day_table s) ≡ Ok s.groups
-unfolding groups_in group_of_item
+unfolding groups_in group_for
 groups_in_again s legal =
-    up_to_again keys.Groups 4 letters_text s.groups group_for (λ k group at.
-    rw (capitals_again 3 group (All-slice_get (AreLetters 3) s.groups k group legal.groups at)) refl) legal.few_groups
+    array_again keys.Groups (λ n. nat_le n 4) letters_text s.groups group_for (λ k group at.
+    rw (capitals_again 3 group (All-slice_get (AreLetters 3) s.groups k group legal.groups at)) refl)
+    (le-leb _ _ legal.few_groups)
 
 -- the rings, or the window letters, of a legal day's wheels are letters of the alphabet, one for each slot
 parts_are : (s : RotorDay) → IsLegalRotorDay s → (part : SheetWheel → ℕ)
@@ -183,7 +182,7 @@ parts_are s legal part low = record {
 }
 
 rotor_again : (s : RotorDay) → IsLegalRotorDay s → rotor_day_in s.day s.model (rotor_day_table s) ≡ Ok (OfRotors s)
-unfolding rotor_day_in reflector_in rings_in letters_at
+unfolding rotor_day_in reflector_in letters_at
 rotor_again s legal =
     let has = (has_reflector-Decides (reflectors_of s.model) s.reflector).1 legal.reflector in
     let wheels = seats_in_again keys.Wheels s.model (rotor_day_table s) (seats_of_wheels s.wheels) refl
@@ -195,16 +194,16 @@ rotor_again s legal =
 rows_in_again : (s : PinDay) → IsLegalPinDay s → rows_in (pin_day_table s) ≡ Ok s.rows
 unfolding rows_in row_of_text
 rows_in_again s legal =
-    each_at_again keys.Rows 27 reading_text s.rows row_for (λ k row at.
+    array_again keys.Rows (nat_eq 27) reading_text s.rows (or_bad_row row_of_text) (λ k row at.
     let is = All-slice_get IsReading s.rows k row legal.rows at in
-    grind (arith, le-leb, cases_eq, eq-eqb, is.equal, or-true, ne_eqb)) (pin_day_table s) refl legal.count
+    grind (arith, le-leb, cases_eq, eq-eqb, is.equal, or-true, ne_eqb)) (eq-eqb _ _ (sym legal.count))
 
 pin_again : (s : PinDay) → IsLegalPinDay s → pin_day_in s.day (pin_day_table s) ≡ Ok (OfPins s)
 unfolding pin_day_in shown_letters_in letters_at
 pin_again s legal = grind (arith, then_read, rows_in_again, pins_in_again, window_again, capitals_again)
 
 pub legal_is_described : (day : Day) → IsLegalDay day → (table : Members) × (day_in [] table ≡ Ok day)
-unfolding number_in model_in model_day_in
+unfolding model_in model_day_in
 legal_is_described (OfRotors s) legal =
     let has = (has_reflector-Decides (reflectors_of s.model) s.reflector).1 legal.reflector in (
       rotor_day_table s,
@@ -411,10 +410,11 @@ ruleset are_plain = (
 )
 
 -- a table from which version, model and parts can be read is read as the machine of these parts
-machine_in-parts : (model : Model) (table : Members) (m : Parts) → version_in table ≡ Ok (file_version model)
-    → model_in table ≡ Ok model → parts_in model table ≡ Ok m → machine_in table ≡ Ok m
-unfolding machine_in known_model_in
-machine_in-parts model table m version is parts = grind (arith, then_read, demand-passes)
+machine_in-parts : (model : Model) (table : Members) (m : Parts)
+    → read_at keys.Version (number_up_to 2) table ≡ Ok (file_version model) → model_in table ≡ Ok model
+    → parts_in model table ≡ Ok m → machine_in table ≡ Ok m
+unfolding machine_in
+machine_in-parts model table m version is parts = grind (arith, then_read, demand-passes, le-leb)
 
 -- ---- a rotor machine
 
@@ -491,9 +491,9 @@ pin_read m legal =
 bars_again : (m : PinParts) → IsLegalPin m → bars_in (pin_table m) ≡ Ok m.bars
 unfolding bars_in
 bars_again m legal =
-    each_at_again keys.Bars 27 standing_text m.bars standing_for (λ k bar at.
+    array_again keys.Bars (nat_eq 27) standing_text m.bars (or_bad_row standing_by_text) (λ k bar at.
     rw (standing_again bar (All-slice_get (λ bar. IsBefore bar.0 bar.1) m.bars k bar legal.apart at)) refl)
-    (pin_table m) refl legal.bars
+    (eq-eqb _ _ (sym legal.bars))
 
 pin_parts_again : (m : PinParts) → IsLegalPin m → pin_parts_in (pin_table m) ≡ Ok m
 unfolding pin_parts_in shown_letters_in
@@ -502,7 +502,7 @@ pin_parts_again m legal = grind (arith, then_read, window_again, pins_in_again, 
 -- ---- each machine
 
 pub parts_are_read_back : LegalPartsAreReadBack
-unfolding version_in model_in parts_in
+unfolding model_in parts_in
 parts_are_read_back (Rotor m) legal =
     let has = (has_reflector-Decides (reflectors_of m.model) m.reflector).1 legal.reflector in
     let read =

@@ -3,8 +3,9 @@
 -- Source: TOML 1.1, toml.io
 -- Code: the library `toml` parses the document, and `?` returns the first fault.
 -- Test: kd_trials/src/sheet/files.rt, kd_trials/src/sheet/faults.rt
-use Rattle.std.specs.Prelude.{◌≡◌, ◌==◌, ℕ, nat_le, Bool, List, [], ◌∷◌, length, Result, Ok, Err, ok_or, option_map, ⊤}
+use Rattle.std.specs.Prelude.{◌≡◌, ℕ, Bool, List, [], ◌∷◌, length, Option, Result, Ok, Err, ok_or, option_map, ⊤}
 use Rattle.std.specs.Prelude.{if◌then◌else◌}
+use Rattle.std.specs.Option.{option_and_then}
 use Rattle.std.specs.Result.{result_map_both}
 use Rattle.std.specs.Str.{is_utf8}
 use Rattle.toml.specs.Data.{Data, Items, no_items, item, Members, get_member, as_str, as_array}
@@ -55,35 +56,27 @@ document_of bytes = if is_utf8 bytes then ok_or (parse_document bytes) NotToml e
 abbrev pub value_at : Key → Members → Result Data SheetFault
 value_at key table = ok_or (get_member (key_name key) table) (Missing key)
 
--- the text at `key`; the fault is `Missing` if the key is absent, and `BadValue` if its value isn't a text
-abbrev pub text_at : Key → Members → Result (List ℕ) SheetFault
-text_at key table = value_at key table >>= (λ value. ok_or (as_str value) (BadValue key))
+-- what `reading` gives for the value at `key`; `Missing` if the key is absent, `BadValue` if `reading` gives `None`
+abbrev pub read_at : {A : Type 0} → Key → (Data → Option A) → Members → Result A SheetFault
+read_at key reading table = value_at key table >>= (λ value. ok_or (reading value) (BadValue key))
+
+-- what `reading` gives for the text `value`, or `None` if `value` isn't a text
+abbrev pub from_text : {A : Type 0} → (List ℕ → Option A) → Data → Option A
+from_text reading value = option_and_then reading (as_str value)
 
 -- the items of an array, as a list
 abbrev pub items_list : Items → List Data
 items_list no_items = []
 items_list (item first rest) = first ∷ items_list rest
 
--- the items of the array `value`, or the fault `BadValue` if `value` isn't an array
-abbrev pub items_in : Key → Data → Result (List Data) SheetFault
-items_in key value = ok_or (option_map items_list (as_array value)) (BadValue key)
+-- the items of the array `value`, or `None` if `value` isn't an array
+abbrev pub as_items : Data → Option (List Data)
+as_items value = option_map items_list (as_array value)
 
--- the items of the array at `key`; the fault is `Missing` if the key is absent, and `BadValue` if it has no array
-abbrev pub items_at : Key → Members → Result (List Data) SheetFault
-items_at key table = value_at key table >>= items_in key
-
--- the values that `reading` gives for the items of the array at `key`, which must have exactly `count` items
-abbrev pub read_each : {A : Type 0} → Key → ℕ → (List A → Data → Result A SheetFault) → Members
+-- the values that `reading` gives for the items of the array `value`, whose number must pass the test `fits`
+abbrev pub read_array : {A : Type 0} → Key → (ℕ → Bool) → (List A → Data → Result A SheetFault) → Data
     → Result (List A) SheetFault
-read_each key count reading table = do
-  items ← items_at key table
-  demand (length items == count) (BadValue key)
-  read_items reading items
-
--- the values that `reading` gives for the items of the array `value`, which must have at most `count` items
-abbrev pub read_up_to : {A : Type 0} → Key → ℕ → (List A → Data → Result A SheetFault) → Data
-    → Result (List A) SheetFault
-read_up_to key count reading value = do
-  items ← items_in key value
-  demand (nat_le (length items) count) (BadValue key)
+read_array key fits reading value = do
+  items ← ok_or (as_items value) (BadValue key)
+  demand (fits (length items)) (BadValue key)
   read_items reading items

@@ -6,7 +6,7 @@ use Rattle.toml.specs.Data.{Data, Members}
 use Rattle.kd_state.specs.declared.machine.parts.Parts.{Parts}
 use Rattle.kd_state.specs.Machine.{IsLegal, IsMachine, with_cables_in_order}
 use Rattle.kd_state.specs.SheetDay.{Day, IsLegalDay, day_number}
-use Rattle.kd_sheet.specs.Document.{items_at}
+use Rattle.kd_sheet.specs.Document.{read_at, as_items}
 use Rattle.kd_sheet.specs.MachineFile.{machine_of}
 use Rattle.kd_sheet.specs.MachineText.{machine_text}
 use Rattle.kd_sheet.specs.Sheet.{day_of}
@@ -28,6 +28,6 @@ LegalDaysAreDescribed = (day : Day) → IsLegalDay day ↔ ((entry : Members) ×
 -- In a key sheet without a fault, day `number` is the day that the entry with this number describes.
 abbrev pub DaysAreTheEntries : Type 0
 DaysAreTheEntries = (table : Members) (items : List Data) (month : List (Option Day)) (number : ℕ) (day : Day)
-    → items_at keys.Day table ≡ Ok items → sheet_in table ≡ Ok month
+    → read_at keys.Day as_items table ≡ Ok items → sheet_in table ≡ Ok month
     → (day_of month number ≡ Some day)
     ↔ ((entry : Members) × Contains items (toml.table entry) × (day_in [] entry ≡ Ok day) × (day_number day ≡ number))

@@ -10,17 +10,9 @@ use Rattle.kd_tables.specs.declared.place.Place.{Place}
 use Rattle.kd_tables.specs.declared.wheel.Wheel.{Wheel}
 use Rattle.kd_tables.specs.declared.wheel.Wheel.TheVariants.{I, II, III, IV, V, VI, VII, VIII, Beta, Gamma}
 
--- every model
-abbrev pub every_model : List Model
-every_model = EnigmaI ∷ M3 ∷ M4 ∷ M209 ∷ []
-
--- every wheel of the rotor machines
-abbrev pub every_wheel : List Wheel
-every_wheel = I ∷ II ∷ III ∷ IV ∷ V ∷ VI ∷ VII ∷ VIII ∷ Beta ∷ Gamma ∷ []
-
 -- the model with this name
 unfoldable pub model_by_name : List ℕ → Option Model
-model_by_name name = find (λ model. bytes_eq (model_text model) name) every_model
+model_by_name name = find (λ model. bytes_eq (model_text model) name) (EnigmaI ∷ M3 ∷ M4 ∷ M209 ∷ [])
 
 -- the reflector of `model` with this name
 unfoldable pub reflector_by_name : Model → List ℕ → Option Reflector
@@ -28,7 +20,8 @@ reflector_by_name model name = find (λ reflector. bytes_eq (reflector_text refl
 
 -- the wheel with this name
 unfoldable pub wheel_by_name : List ℕ → Option Wheel
-wheel_by_name name = find (λ wheel. bytes_eq (wheel_text wheel) name) every_wheel
+wheel_by_name name =
+    find (λ w. bytes_eq (wheel_text w) name) (I ∷ II ∷ III ∷ IV ∷ V ∷ VI ∷ VII ∷ VIII ∷ Beta ∷ Gamma ∷ [])
 
 -- the standing that `text` names
 unfoldable pub standing_by_text : List ℕ → Option (Place × Place)

@@ -1,15 +1,16 @@
 -- The letters that the Converter's six wheels show, and their effective pins.
 -- Test: kd_trials/src/sheet/files.rt
-use Rattle.std.specs.Prelude.{ℕ, ◌+◌, ◌==◌, ◌&&◌, Bool, List, length, map, Option, Some, None, Result, Ok, ok_or}
-use Rattle.std.specs.Prelude.{if◌then◌else◌}
-use Rattle.std.specs.List.{list_all, list_any, enumerate_from, count_by}
+use Rattle.std.specs.Prelude.{ℕ, nat_eq, ◌+◌, ◌&&◌, Bool, List, [], length, map, Option, Some, None, Result, Ok}
+use Rattle.std.specs.Prelude.{ok_or, if◌then◌else◌}
+use Rattle.std.specs.List.{list_all, enumerate_from}
 use Rattle.std.specs.Option.{option_and_then}
-use Rattle.toml.specs.Data.{Data, Members, as_str}
+use Rattle.toml.specs.Data.{Data, Members}
 use Rattle.kd_tables.specs.Rings.{ring_of}
+use Rattle.kd_tables.specs.Text.{letters_text}
 use Rattle.kd_pins.specs.declared.pin_set.PinSet.{PinSet}
 use Rattle.kd_state.specs.Pins.{pin_set}
-use Rattle.kd_state.specs.Setting.{has_letter}
-use Rattle.kd_sheet.specs.Document.{◌>>=◌, read_each, read_items, text_at}
+use Rattle.kd_state.specs.Setting.{has_letter, are_new_letters}
+use Rattle.kd_sheet.specs.Document.{◌>>=◌, value_at, read_at, from_text, read_array, read_items}
 use Rattle.kd_sheet.specs.Letters.{capital_letters}
 use Rattle.kd_sheet.specs.declared.key.Key.{Key}
 use Rattle.kd_sheet.specs.declared.key.Key.TheVariants as keys
@@ -27,43 +28,24 @@ letters_on_wheels text =
 
 -- the letters that the six wheels show, from the text at `key`
 unfoldable pub shown_letters_in : Key → Members → Result (List ℕ) SheetFault
-shown_letters_in key table = do
-  text ← text_at key table
-  ok_or (letters_on_wheels text) (BadValue key)
-
--- whether `byte` is a capital letter of the wheel whose letters are `ring`
-abbrev pub is_letter_of : List ℕ → ℕ → Bool
-is_letter_of ring byte = list_any (λ letter. letter + 65 == byte) ring
-
--- whether `text` has `byte` exactly once
-abbrev pub stands_once : List ℕ → ℕ → Bool
-stands_once text byte = count_by (λ other. other == byte) text == 1
-
--- whether `text` has only letters of the wheel whose letters are `ring`, and none of them twice
-abbrev pub is_pin_text : List ℕ → List ℕ → Bool
-is_pin_text ring text = list_all (λ byte. is_letter_of ring byte && stands_once text byte) text
-
--- whether `text` has `letter` as a capital letter
-abbrev pub has_capital : List ℕ → ℕ → Bool
-has_capital text letter = list_any (λ byte. byte == letter + 65) text
+shown_letters_in key table = read_at key (from_text letters_on_wheels) table
 
 -- The pins of a wheel, in the order of its letters `ring`: a pin is effective if `text` has its letter. The result
--- is `None` if `text` has a letter that isn't on the wheel, or a letter twice.
+-- is `None` if a byte of `text` isn't a capital letter of the wheel, or comes twice.
 unfoldable pub pins_of_text : List ℕ → List ℕ → Option (List Bool)
-pins_of_text ring text = if is_pin_text ring text then Some (map (has_capital text) ring) else None
-
--- the pins that an item describes, for a wheel with the letters `ring`
-unfoldable pub pins_of_item : List ℕ → Data → Result (List Bool) SheetFault
-pins_of_item ring item = ok_or (option_and_then (pins_of_text ring) (as_str item)) (BadValue keys.Pins)
+pins_of_text ring text =
+    if list_all (has_letter (letters_text ring)) text && are_new_letters text []
+    then Some (map (has_letter text) (letters_text ring)) else None
 
 -- the pins that an item describes; `earlier` has the pins of the wheels before the item's wheel
 abbrev pub pins_for : List (List Bool) → Data → Result (List Bool) SheetFault
-pins_for earlier item = pins_of_item (ring_of (length earlier + 1)) item
+pins_for earlier item = ok_or (from_text (pins_of_text (ring_of (length earlier + 1))) item) (BadValue keys.Pins)
 
 -- the pins of the wheels, which `items` describe one by one from wheel 1 on
 abbrev pub pins_of_items : List Data → Result PinSet SheetFault
 pins_of_items items = read_items pins_for items >>= (λ pins. Ok (pin_set pins))
 
--- the pins of the six wheels, from the array at the key `pins`, which has one item for each wheel
+-- the pins of the wheels, from the array at the key `pins`, which has six items
 unfoldable pub pins_in : Members → Result PinSet SheetFault
-pins_in table = read_each keys.Pins 6 pins_for table >>= (λ pins. Ok (pin_set pins))
+pins_in table =
+    value_at keys.Pins table >>= read_array keys.Pins (nat_eq 6) pins_for >>= (λ pins. Ok (pin_set pins))

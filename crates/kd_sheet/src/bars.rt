@@ -1,9 +1,8 @@
 //! Reads the bars' standings in a machine file, and the bars' readings in a key sheet.
-ghost use Rattle.std.specs.{Prelude.{◌≡◌, ◌+◌, is_some, IfSome}, Option.{option_and_then}};
-ghost use Rattle.toml.specs.{Data.{as_str}, View.{view, table_view}};
-ghost use Rattle.kd_sheet.specs.Bars.{standing_for, bars_in, is_reading_digit, can_read_as, row_of_text, row_for};
-ghost use Rattle.kd_sheet.specs.Bars.{rows_in};
-ghost use Rattle.kd_sheet.specs.Names.{standing_by_text};
+ghost use Rattle.std.specs.Prelude.{◌≡◌, ◌+◌, is_some, IfSome};
+ghost use Rattle.toml.specs.View.{view, table_view};
+ghost use Rattle.kd_sheet.specs.Bars.{or_bad_row, bars_in, is_reading_digit, row_of_text, rows_in};
+ghost use Rattle.kd_sheet.specs.{Document.{from_text}, Names.{standing_by_text}};
 
 use super::fault::SheetFault;
 use super::items::{FromItem, read_each};
@@ -16,14 +15,14 @@ const BARS: usize = 27;
 
 /// Reads the standing that `item` names.
 fn standing_of_item(item: &Value) -> Option<Standing>
-    ensures { result ≡ option_and_then standing_by_text (as_str (view item.now)) }
+    ensures { result ≡ from_text standing_by_text (view item.now) }
 {
     Standing::from_text(item.as_str()?.as_bytes())
 }
 
 /// Reads an item as a bar's standing. A fault has the bar's number, counted from 1.
 impl FromItem<()> for Standing {
-    ghost reading = { λ _. standing_for };
+    ghost reading = { λ _. or_bad_row standing_by_text };
 
     fn read_item(_given: &(), before: &[Self], item: &Value) -> Result<Self, SheetFault> {
         standing_of_item(item).ok_or(SheetFault::BadRow(before.len() as u8 + 1))
@@ -53,7 +52,7 @@ fn digit_value(byte: u8) -> Option<u8>
 /// Reads `item` as a reading: two digits from 0 to 6 in either order, with `-` between them.
 #[tactic(auto, unfolding(crate::specs::Bars::row_of_text))]
 fn row_of_item(item: &Value) -> Option<Reading>
-    ensures { result ≡ option_and_then row_of_text (as_str (view item.now)) }
+    ensures { result ≡ from_text row_of_text (view item.now) }
 {
     match item.as_str()?.as_bytes() {
         [one, b'-', other] => Reading::new(digit_value(*one)?, digit_value(*other)?),
@@ -63,7 +62,7 @@ fn row_of_item(item: &Value) -> Option<Reading>
 
 /// Reads an item as a row's reading. A fault has the row's number, counted from 1.
 impl FromItem<()> for Reading {
-    ghost reading = { λ _. row_for };
+    ghost reading = { λ _. or_bad_row row_of_text };
 
     fn read_item(_given: &(), before: &[Self], item: &Value) -> Result<Self, SheetFault> {
         row_of_item(item).ok_or(SheetFault::BadRow(before.len() as u8 + 1))

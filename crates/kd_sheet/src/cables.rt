@@ -1,17 +1,15 @@
 //! The cables of a machine file, and the pairs of a key sheet.
-ghost use Rattle.std.specs.Prelude.{◌≡◌, ◌≤◌, Some, None, length, IfSome};
-ghost use Rattle.std.specs.{List.{flat_map}, Option.{option_map, option_and_then}};
-ghost use Rattle.toml.specs.{Data.{as_str}, View.{view, table_view}};
+ghost use Rattle.std.specs.Prelude.{◌≡◌, ◌≤◌, ◌-◌, [], ◌∷◌, ◌++◌, Some, None, length, replicate, slice_get, IfSome};
+ghost use Rattle.{std.specs.{List.{flat_map}, Option.{option_map}}, toml.specs.View.{view, table_view}};
 ghost use Rattle.kd_state.specs.{Machine.{cable_letters}, Setting.{has_letter}};
-ghost use Rattle.kd_sheet.specs.Cables.{cable_letters_of_text, cable_with_ends, cable_for, filled_to_thirteen};
-ghost use Rattle.kd_sheet.specs.Cables.{cables_in};
-ghost use Rattle.kd_sheet.specs.{Cables.{pair_letters, pair_for, pairs_in}, Document.{result_map}};
+ghost use Rattle.kd_sheet.specs.Cables.{cable_letters_of_text, cable_for, cables_in, pair_for, pairs_in};
+ghost use Rattle.kd_sheet.specs.Document.{from_text, result_map};
 
 use super::document::{find_at, value_at};
 use super::fault::SheetFault;
 use super::items::{FromItem, read_up_to};
 use super::key::Key;
-use super::letters::{capital_letters, letters_of_item};
+use super::letters::{capital_letters, letters_of_text};
 use arrayvec::ArrayVec;
 use kd_state::{Cable, are_new_letters};
 use kd_tables::Letter;
@@ -29,16 +27,16 @@ pub type Pairs = ArrayVec<Pair, CABLES>;
 /// Reads a cable from a text of its letters, at most two.
 #[tactic(auto, unfolding(crate::specs::Cables::cable_letters_of_text))]
 fn cable_of_item(item: &Value) -> Option<Cable>
-    ensures value { result
-        ≡ option_map cable_with_ends (option_and_then cable_letters_of_text (as_str (view item.now))) }
+    ensures value { result ≡ option_map (λ letters. (slice_get letters 0, slice_get letters 1))
+        (from_text cable_letters_of_text (view item.now)) }
     ensures letters { IfSome result (λ cable.
-        option_and_then cable_letters_of_text (as_str (view item.now)) ≡ Some (cable_letters cable)) }
+        from_text cable_letters_of_text (view item.now) ≡ Some (cable_letters cable)) }
 {
-    let text = item.as_str()?.as_bytes();
-    if text.len() > 2 {
+    let len = item.as_str()?.len();
+    if len > 2 {
         return None;
     }
-    let letters = capital_letters::<2>(text, text.len())?;
+    let letters = capital_letters::<2>(item, len)?;
     let letters = letters.as_slice();
     Some((letters.first().copied(), letters.get(1).copied()))
 }
@@ -60,7 +58,7 @@ impl FromItem<()> for Cable {
 /// `cables`, with empty cables appended until there are 13.
 fn fill_up_cables(cables: &[Cable]) -> [Cable; CABLES]
     requires { length cables.now ≤ 13 }
-    ensures { result ≡ filled_to_thirteen cables.now }
+    ensures { result ≡ cables.now ++ replicate (13 - length cables.now) (None, None) }
 {
     let mut all = [(None, None); CABLES];
     all[..cables.len()].copy_from_slice(cables);
@@ -81,7 +79,7 @@ pub fn cables_in(table: &Table) -> Result<[Cable; CABLES], SheetFault>
 
 /// Whether `letter` is in one of `pairs`.
 fn is_in_pairs(pairs: &[Pair], letter: Letter) -> bool
-    ensures { result ≡ has_letter (flat_map pair_letters pairs.now) letter }
+    ensures { result ≡ has_letter (flat_map (λ pair. pair.0 ∷ pair.1 ∷ []) pairs.now) letter }
 {
     match pairs {
         [(one, other), rest @ ..] => {
@@ -97,7 +95,7 @@ impl FromItem<()> for Pair {
 
     #[tactic(auto, unfolding(crate::specs::Cables::pair_for))]
     fn read_item(_given: &(), before: &[Self], item: &Value) -> Result<Self, SheetFault> {
-        let [one, other] = letters_of_item::<2>(item).ok_or(SheetFault::BadValue(Key::Plugs))?;
+        let [one, other] = letters_of_text::<2>(item).ok_or(SheetFault::BadValue(Key::Plugs))?;
         if one == other || is_in_pairs(before, one) || is_in_pairs(before, other) {
             return Err(SheetFault::LetterTwice);
         }

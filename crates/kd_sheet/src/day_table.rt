@@ -2,18 +2,18 @@
 ghost use Rattle.std.specs.Prelude.{◌≡◌, ◌≤◌, ◌<◌, ◌+◌, ◌++◌, length};
 ghost use Rattle.toml.specs.View.{view, table_view};
 ghost use Rattle.{kd_tables.specs.Tables.{slots_of}, kd_state.specs.SheetDay.{IsDayNumber}};
-ghost use Rattle.kd_sheet.specs.{Document.{result_map}, Letters.{letters_at}};
-ghost use Rattle.kd_sheet.specs.SheetFile.{rings_of, rings_in, group_for, groups_in, sheet_wheels};
+ghost use Rattle.kd_sheet.specs.{Document.{read_at, result_map}, Letters.{letters_at}};
+ghost use Rattle.kd_sheet.specs.SheetFile.{rings_of, group_for, groups_in, sheet_wheels};
 ghost use Rattle.kd_sheet.specs.SheetFile.{rotor_day_in, pin_day_in, model_day_in};
 ghost use Rattle.kd_sheet.specs.declared.key.Key.TheVariants as keys;
 
 use super::bars::rows_in;
 use super::cables::pairs_in;
-use super::document::{find_at, text_at, value_at};
+use super::document::{find_at, value_at};
 use super::fault::SheetFault;
 use super::items::{FromItem, read_up_to};
 use super::key::Key;
-use super::letters::{letters_of_item, letters_of_text, slot_letters, slots_of_numbers};
+use super::letters::{letters_of_text, slot_letters, slots_of_numbers};
 use super::machine_file::reflector_in;
 use super::pin_wheels::{pins_in, shown_letters_in};
 use super::seats::seats_in;
@@ -28,17 +28,16 @@ fn rings_of(value: &Value, model: Model) -> Option<PerSlot<Letter>>
     ensures { result ≡ rings_of (slots_of model) (view value.now) }
 {
     match value {
-        Value::String(text) => slot_letters(model, text.as_bytes()),
-        Value::Array(items) => slots_of_numbers(model, items.as_slice()),
+        Value::String(_) => slot_letters(value, model),
+        Value::Array(items) => slots_of_numbers(items.as_slice(), model),
         _ => None,
     }
 }
 
 /// Reads the rings of the model's slots.
-#[tactic(auto, unfolding(crate::specs::SheetFile::rings_in))]
 fn rings_in(table: &Table, model: Model) -> Result<PerSlot<Letter>, SheetFault>
     requires { 0 < slots_of model }
-    ensures { result ≡ rings_in model (table_view table.now) }
+    ensures { result ≡ read_at keys.Rings (rings_of (slots_of model)) (table_view table.now) }
 {
     rings_of(value_at(table, Key::Rings)?, model).ok_or(SheetFault::BadValue(Key::Rings))
 }
@@ -49,17 +48,16 @@ fn window_in(table: &Table, model: Model) -> Result<PerSlot<Letter>, SheetFault>
     requires { 0 < slots_of model }
     ensures { result ≡ letters_at keys.Window (slots_of model) (table_view table.now) }
 {
-    let text = text_at(table, Key::Window)?;
-    slot_letters(model, text.as_bytes()).ok_or(SheetFault::BadValue(Key::Window))
+    slot_letters(value_at(table, Key::Window)?, model).ok_or(SheetFault::BadValue(Key::Window))
 }
 
 /// Reads an item as a group: three capital letters.
 impl FromItem<()> for [Letter; 3] {
     ghost reading = { λ _. group_for };
 
-    #[tactic(auto, unfolding(crate::specs::SheetFile::group_of_item))]
+    #[tactic(auto, unfolding(crate::specs::SheetFile::group_for))]
     fn read_item(_given: &(), _before: &[Self], item: &Value) -> Result<Self, SheetFault> {
-        letters_of_item(item).ok_or(SheetFault::BadValue(Key::Groups))
+        letters_of_text(item).ok_or(SheetFault::BadValue(Key::Groups))
     }
 }
 
@@ -79,8 +77,7 @@ fn groups_in(table: &Table) -> Result<ArrayVec<[Letter; 3], 4>, SheetFault>
 fn list_in(table: &Table) -> Result<[Letter; 2], SheetFault>
     ensures { result ≡ letters_at keys.List 2 (table_view table.now) }
 {
-    let text = text_at(table, Key::List)?;
-    letters_of_text(text.as_bytes()).ok_or(SheetFault::BadValue(Key::List))
+    letters_of_text(value_at(table, Key::List)?).ok_or(SheetFault::BadValue(Key::List))
 }
 
 /// Appends the wheel of each slot, with the wheel's ring and window letter.

@@ -1,9 +1,10 @@
 //! Parses a TOML document, and finds values, texts and arrays in the document's table.
 ghost use Rattle.std.specs.Prelude.{◌≡◌, map, option_map};
-ghost use Rattle.toml.specs.{Data.{get_member}, View.{view, table_view}};
-ghost use Rattle.kd_sheet.specs.Document.{AgreesOrNoMemory, result_map, document_of, value_at, text_at, items_in};
-ghost use Rattle.kd_sheet.specs.Document.{items_at};
+ghost use Rattle.std.specs.Prelude.{ok_or};
+ghost use Rattle.toml.specs.{Data.{get_member, as_str}, View.{view, table_view}};
+ghost use Rattle.kd_sheet.specs.Document.{AgreesOrNoMemory, result_map, document_of, value_at, read_at, as_items};
 ghost use Rattle.kd_sheet.specs.Key.{key_name};
+ghost use Rattle.kd_sheet.specs.declared.fault.SheetFault.TheVariants as faults;
 
 use super::fault::SheetFault;
 use super::key::Key;
@@ -40,7 +41,7 @@ pub fn value_at(table: &Table, key: Key) -> Result<&Value, SheetFault>
 
 /// The text at `key`, or the fault `Missing` or `BadValue`.
 pub fn text_at(table: &Table, key: Key) -> Result<&str, SheetFault>
-    ensures { result_map (λ text. text.now) result ≡ text_at key (table_view table.now) }
+    ensures { result_map (λ text. text.now) result ≡ read_at key as_str (table_view table.now) }
 {
     value_at(table, key)?
         .as_str()
@@ -48,10 +49,10 @@ pub fn text_at(table: &Table, key: Key) -> Result<&str, SheetFault>
 }
 
 /// The items of the array `value`, or the fault `BadValue(key)`.
-#[tactic(auto, using(crate::proofs::ReadBack::Described::Values::InTurn::items_in_found))]
+#[tactic(auto, using(crate::proofs::ReadBack::Described::Values::InTurn::items_found))]
 pub fn items_in(value: &Value, key: Key) -> Result<&Array, SheetFault>
     ensures { result_map (λ items. map view items.now.items) result
-        ≡ items_in key (view value.now) }
+        ≡ ok_or (as_items (view value.now)) (faults.BadValue key) }
 {
     value.as_array().ok_or(SheetFault::BadValue(key))
 }
@@ -59,7 +60,7 @@ pub fn items_in(value: &Value, key: Key) -> Result<&Array, SheetFault>
 /// The items of the array at `key`, or the fault `Missing` or `BadValue`.
 pub fn items_at(table: &Table, key: Key) -> Result<&Array, SheetFault>
     ensures { result_map (λ items. map view items.now.items) result
-        ≡ items_at key (table_view table.now) }
+        ≡ read_at key as_items (table_view table.now) }
 {
     items_in(value_at(table, key)?, key)
 }

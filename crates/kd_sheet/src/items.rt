@@ -1,7 +1,7 @@
 //! Reads the items of an array one after another. The rule for an item may depend on the items before it.
-ghost use Rattle.std.specs.Prelude.{◌≡◌, ◌<◌, ◌≤◌, List, Result, IfOk, map, length};
+ghost use Rattle.std.specs.Prelude.{◌≡◌, nat_eq, nat_le, ◌<◌, ◌≤◌, List, Result, IfOk, map, length};
 ghost use Rattle.toml.specs.{Data.{Data}, View.{view, table_view}};
-ghost use Rattle.kd_sheet.specs.Document.{read_items, read_each, read_up_to, result_map};
+ghost use Rattle.kd_sheet.specs.Document.{◌>>=◌ as ◌followed_by◌, value_at, read_items, read_array, result_map};
 ghost use Rattle.kd_sheet.specs.declared.fault.SheetFault.{SheetFault};
 
 use super::document::{items_at, items_in};
@@ -52,7 +52,8 @@ pub fn read_each<T: FromItem<G> + Copy + Default, G, const N: usize>(
 ) -> Result<ArrayVec<T, N>, SheetFault>
     requires { (count ≤ N) × (N ≤ 27) }
     ensures value { result_map (λ values. values.items) result
-        ≡ read_each key count (T.reading given.now) (table_view table.now) }
+        ≡ (value_at key (table_view table.now)
+        followed_by read_array key (nat_eq count) (T.reading given.now)) }
     ensures count { IfOk result (λ values. length values.items ≡ count) }
 {
     let items = items_at(table, key)?;
@@ -69,7 +70,7 @@ pub fn read_up_to<T: FromItem<()> + Copy + Default, const N: usize>(
 ) -> Result<ArrayVec<T, N>, SheetFault>
     requires { N ≤ 27 }
     ensures { result_map (λ values. values.items) result
-        ≡ read_up_to key N (T.reading tt) (view value.now) }
+        ≡ read_array key (λ n. nat_le n N) (T.reading tt) (view value.now) }
 {
     let items = items_in(value, key)?;
     if items.len() > N {

@@ -10,7 +10,7 @@ ghost use Rattle.kd_sheet.specs.MachineFile.{machine_of};
 
 use super::bars::bars_in;
 use super::cables::cables_in;
-use super::document::{parse_table, text_at};
+use super::document::{parse_table, text_at, value_at};
 use super::fault::SheetFault;
 use super::key::Key;
 use super::letters::capital_letters;
@@ -62,10 +62,8 @@ fn box_letters_in(table: &Table, key: Key, model: Model) -> Result<PerWheel<Lett
     requires { 0 < slots_of model }
     ensures { result ≡ letters_at key (length (box_of model)) (table_view table.now) }
 {
-    let text = text_at(table, key)?.as_bytes();
-    let letters = capital_letters::<10>(text, model.wheels().len()).ok_or(SheetFault::BadValue(
-        key,
-    ))?;
+    let letters = capital_letters::<10>(value_at(table, key)?, model.wheels().len());
+    let letters = letters.ok_or(SheetFault::BadValue(key))?;
     Ok(PerWheel::new(letters.as_slice()).unwrap())
 }
 
@@ -111,7 +109,7 @@ fn parts_in(table: &Table, model: Model) -> Result<Machine, SheetFault>
 }
 
 /// Reads the machine that `table`, a machine file's table, describes, or returns the file's first fault.
-#[tactic(auto, unfolding(crate::specs::MachineFile::machine_in, crate::specs::MachineFile::version_in, crate::specs::MachineFile::known_model_in))]
+#[tactic(auto, unfolding(crate::specs::MachineFile::machine_in))]
 fn machine_in(table: &Table) -> Result<Machine, SheetFault>
     ensures { result ≡ machine_in (table_view table.now) }
 {

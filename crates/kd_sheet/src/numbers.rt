@@ -1,9 +1,7 @@
 //! Reads whole numbers, from 1 up to a given limit.
-ghost use Rattle.std.specs.Prelude.{◌≡◌, ◌≤◌, ok_or, IfOk, IfSome};
+ghost use Rattle.std.specs.Prelude.{◌≡◌, ◌≤◌, IfOk, IfSome};
 ghost use Rattle.toml.specs.View.{view, table_view};
-ghost use Rattle.kd_sheet.specs.Document.{◌>>=◌ as ◌followed_by◌, value_at};
-ghost use Rattle.kd_sheet.specs.declared.fault.SheetFault.TheVariants as faults;
-ghost use Rattle.kd_sheet.specs.Numbers.{number_up_to};
+ghost use Rattle.kd_sheet.specs.{Document.{read_at}, Numbers.{number_up_to}};
 
 use super::document::value_at;
 use super::fault::SheetFault;
@@ -21,8 +19,7 @@ pub fn number_up_to(value: &Value, last: u8) -> Option<u8>
 
 /// Reads the whole number from 1 to `last` at `key`.
 pub fn number_at(table: &Table, key: Key, last: u8) -> Result<u8, SheetFault>
-    ensures value { result ≡ (value_at key (table_view table.now)
-        followed_by (λ value. ok_or (number_up_to last value) (faults.BadValue key))) }
+    ensures value { result ≡ read_at key (number_up_to last) (table_view table.now) }
     ensures within { IfOk result (λ number. (1 ≤ number) × (number ≤ last)) }
 {
     number_up_to(value_at(table, key)?, last).ok_or(SheetFault::BadValue(key))

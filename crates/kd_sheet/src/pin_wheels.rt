@@ -1,15 +1,13 @@
 //! Reads the letters that the Converter's six wheels show, and their effective pins.
-ghost use Rattle.std.specs.Prelude.{◌≡◌, ◌+◌, ◌<◌, [], ◌∷◌, length, map, ok_or};
-ghost use Rattle.std.specs.{List.{enumerate_from, list_all}, Option.{option_and_then}};
-ghost use Rattle.toml.specs.{Data.{as_str}, View.{view, table_view}};
+ghost use Rattle.std.specs.Prelude.{◌≡◌, ◌==◌, ◌+◌, ◌<◌, [], ◌∷◌, length, ok_or};
+ghost use Rattle.{std.specs.List.{enumerate_from, list_all, position}, toml.specs.View.{view, table_view}};
 ghost use Rattle.kd_tables.specs.Rings.{ring_of};
-ghost use Rattle.kd_state.specs.Setting.{has_letter};
-ghost use Rattle.kd_sheet.specs.PinWheels.{letters_on_wheels, shown_letters_in, is_letter_of, stands_once};
-ghost use Rattle.kd_sheet.specs.PinWheels.{is_pin_text, has_capital, pins_of_text, pins_of_items, pins_in};
+ghost use Rattle.{kd_state.specs.Setting.{has_letter}, kd_sheet.specs.Document.{from_text}};
+ghost use Rattle.kd_sheet.specs.PinWheels.{letters_on_wheels, shown_letters_in, pins_of_text, pins_of_items, pins_in};
 ghost use Rattle.kd_sheet.specs.declared.fault.SheetFault.TheVariants as faults;
 ghost use Rattle.kd_sheet.specs.declared.key.Key.TheVariants as keys;
 
-use super::document::{items_at, text_at};
+use super::document::{items_at, value_at};
 use super::fault::SheetFault;
 use super::key::Key;
 use super::letters::letters_of_text;
@@ -34,10 +32,10 @@ fn are_on_wheels(wheel: u8, letters: &[Letter]) -> bool
 
 /// Reads six capital letters: the first must be on wheel 1, the second on wheel 2, and so on.
 #[tactic(auto, unfolding(crate::specs::PinWheels::letters_on_wheels))]
-fn letters_on_wheels(text: &[u8]) -> Option<[Letter; 6]>
-    ensures { result ≡ letters_on_wheels text.now }
+fn letters_on_wheels(value: &Value) -> Option<[Letter; 6]>
+    ensures { result ≡ from_text letters_on_wheels (view value.now) }
 {
-    let letters = letters_of_text(text)?;
+    let letters = letters_of_text(value)?;
     are_on_wheels(1, &letters).then_some(letters)
 }
 
@@ -46,59 +44,37 @@ fn letters_on_wheels(text: &[u8]) -> Option<[Letter; 6]>
 pub fn shown_letters_in(table: &Table, key: Key) -> Result<[Letter; 6], SheetFault>
     ensures { result ≡ shown_letters_in key (table_view table.now) }
 {
-    letters_on_wheels(text_at(table, key)?.as_bytes()).ok_or(SheetFault::BadValue(key))
+    letters_on_wheels(value_at(table, key)?).ok_or(SheetFault::BadValue(key))
 }
 
-/// Whether `byte` is a capital letter of `ring`.
-fn is_letter_of(ring: &[Letter], byte: u8) -> bool
-    ensures { result ≡ is_letter_of ring.now byte }
+/// The place of the letter whose ASCII code is `byte`, counted from 0, if it is one of `letters`.
+fn place_of_byte(letters: &[Letter], byte: u8) -> Option<usize>
+    ensures { result ≡ position (λ letter. letter + 65 == byte) letters.now }
 {
-    for letter in ring {
-        if letter.byte() == byte {
-            return true;
-        }
-    }
-    false
+    letters.iter().position(|letter| letter.byte() == byte)
 }
 
-/// Whether `byte` occurs exactly once in `text`.
-fn stands_once(text: &[u8], byte: u8) -> bool
-    ensures { result ≡ stands_once text.now byte }
+/// Reads the effective pins of one wheel from a text of their letters, each at most once.
+fn pins_of_text<const N: usize>(ring: &Ring<N>, text: &[u8]) -> Option<[bool; N]>
+    ensures { result ≡ pins_of_text ring.now text.now }
 {
-    text.iter().filter(|other| **other == byte).count() == 1
-}
-
-/// Whether `text` has only letters of `ring`, and none of them twice.
-fn is_pin_text(ring: &[Letter], text: &[u8]) -> bool
-    ensures { result ≡ is_pin_text ring.now text.now }
-{
-    for byte in text {
-        if !is_letter_of(ring, *byte) || !stands_once(text, *byte) {
-            return false;
-        }
-    }
-    true
-}
-
-/// Whether the pin of each of `letters` is effective: whether `text` has the letter.
-fn pins_of_letters<const N: usize>(letters: &[Letter; N], text: &[u8]) -> [bool; N]
-    ensures { result ≡ map (has_capital text.now) letters.now }
-{
-    let mut found = [false; N];
-    for (place, letter) in letters.iter().enumerate() {
-        found[place] = text.contains(&letter.byte());
-    }
-    found
-}
-
-/// Reads the effective pins of one wheel: `item` is a text of these pins' letters.
-#[tactic(auto, unfolding(crate::specs::PinWheels::pins_of_text))]
-fn pins_of_item<const N: usize>(ring: &Ring<N>, item: &Value) -> Option<[bool; N]>
-    ensures { result ≡ option_and_then (pins_of_text ring.now) (as_str (view item.now)) }
-{
-    let text = item.as_str()?.as_bytes();
     let letters = ring.letters();
-    is_pin_text(&letters, text).then_some(pins_of_letters(&letters, text))
+    let mut pins = [false; N];
+    for byte in text {
+        let place = place_of_byte(&letters, *byte)?;
+        if pins[place] {
+            return None;
+        }
+        pins[place] = true;
+    }
+    Some(pins)
+}
+
+/// Reads the effective pins of one wheel: `item` is a text of their letters.
+fn pins_of_item<const N: usize>(ring: &Ring<N>, item: &Value) -> Option<[bool; N]>
+    ensures { result ≡ from_text (pins_of_text ring.now) (view item.now) }
+{
+    pins_of_text(ring, item.as_str()?.as_bytes())
 }
 
 /// Reads the effective pins of the six wheels, from an array with an item for each wheel.
@@ -114,7 +90,6 @@ pub fn pins_in(table: &Table) -> Result<PinSet, SheetFault>
 }
 
 /// Reads the effective pins of the six wheels: `one` describes the pins of wheel 1, and so on.
-#[tactic(auto, unfolding(crate::specs::PinWheels::pins_of_item))]
 fn pins_of_six(
     one: &Value,
     two: &Value,

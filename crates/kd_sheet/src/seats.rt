@@ -1,8 +1,8 @@
 //! Reads which wheel is in each slot, from the left.
 ghost use Rattle.std.specs.Prelude.{◌≡◌, ◌<◌, length};
-ghost use Rattle.toml.specs.View.{table_view};
+ghost use Rattle.toml.specs.{Data.{string}, View.{table_view}};
 ghost use Rattle.kd_tables.specs.Tables.{slots_of};
-ghost use Rattle.kd_sheet.specs.{Names.{wheel_by_name}, Seats.{wheel_for, seat_of_item, seats_in}};
+ghost use Rattle.kd_sheet.specs.{Names.{wheel_by_name}, Seats.{wheel_for, seat_for, seats_in}};
 
 use super::fault::SheetFault;
 use super::items::{FromItem, read_each};
@@ -29,7 +29,7 @@ fn wheel_for(
     name: &str,
 ) -> Result<Wheel, SheetFault>
     requires { length slots.now < 27 }
-    ensures { result ≡ wheel_for key model slots.now name.now }
+    ensures { result ≡ wheel_for key model slots.now (string name.now) }
 {
     let wheel = wheel_by_name(name).ok_or(SheetFault::BadValue(key))?;
     if !allowed(model, slots.len() as u8 + 1, wheel) {
@@ -43,9 +43,9 @@ fn wheel_for(
 
 /// Reads an item as the wheel in a slot. At the key `slots`, the empty text means that the slot is empty.
 impl FromItem<(Key, Model)> for Option<Wheel> {
-    ghost reading = { λ given. seat_of_item given.0 given.1 };
+    ghost reading = { λ given. seat_for given.0 given.1 };
 
-    #[tactic(auto, unfolding(crate::specs::Seats::seat_of_item, crate::specs::Seats::seat_for))]
+    #[tactic(auto, unfolding(crate::specs::Seats::seat_for, crate::specs::Seats::wheel_for))]
     fn read_item(given: &(Key, Model), before: &[Self], item: &Value) -> Result<Self, SheetFault> {
         let (key, model) = *given;
         let name = item.as_str().ok_or(SheetFault::BadValue(key))?;

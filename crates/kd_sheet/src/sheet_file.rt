@@ -1,9 +1,8 @@
 //! Reads key sheets: a TOML document with an array of days.
-ghost use Rattle.std.specs.Prelude.{◌≡◌, map, List, IfOk};
-ghost use Rattle.toml.specs.View.{view, table_view};
-ghost use Rattle.kd_state.specs.SheetDay.{Day, IsDayNumber};
+ghost use Rattle.std.specs.Prelude.{◌≡◌, map, List};
+ghost use Rattle.{toml.specs.View.{view}, kd_state.specs.SheetDay.{Day}};
 ghost use Rattle.kd_sheet.specs.{Document.{AgreesOrNoMemory, read_items, result_map}, Sheet.{month_of}};
-ghost use Rattle.kd_sheet.specs.SheetFile.{new_number_in, day_for, sheet_of};
+ghost use Rattle.kd_sheet.specs.SheetFile.{day_for, sheet_of};
 
 use super::day_table::model_day_in;
 use super::document::{items_at, parse_table};
@@ -14,29 +13,18 @@ use super::numbers::number_at;
 use super::sheet::{DAYS, Sheet};
 use kd_state::SheetDay;
 use std::alloc::Global;
-use toml::{Table, Value};
-
-/// Reads a day's number. The fault is `DayTwice` if `sheet` already has a day with this number.
-#[tactic(auto, using(crate::proofs::ReadBack::Described::day_of_is_some), unfolding(crate::specs::SheetFile::new_number_in, crate::specs::SheetFile::number_in))]
-fn new_number_in(sheet: &Sheet, table: &Table) -> Result<u8, SheetFault>
-    ensures value { (days : List Day) → sheet.now ≡ month_of days
-        → result ≡ new_number_in days (table_view table.now) }
-    ensures within { IfOk result IsDayNumber }
-{
-    let number = number_at(table, Key::Day, DAYS)?;
-    if sheet.day(number).is_some() {
-        return Err(SheetFault::DayTwice(number));
-    }
-    Ok(number)
-}
+use toml::Value;
 
 /// Reads the day that `item` describes, or returns its first fault. `sheet` has the days of earlier items.
-#[tactic(auto, unfolding(crate::specs::SheetFile::day_for, crate::specs::SheetFile::day_in))]
+#[tactic(auto, using(crate::proofs::ReadBack::Described::day_of_is_some), unfolding(crate::specs::SheetFile::day_for, crate::specs::SheetFile::day_in))]
 fn day_for(sheet: &Sheet, item: &Value) -> Result<SheetDay, SheetFault>
     ensures { (days : List Day) → sheet.now ≡ month_of days → result ≡ day_for days (view item.now) }
 {
     let table = item.as_table().ok_or(SheetFault::BadValue(Key::Day))?;
-    let number = new_number_in(sheet, table)?;
+    let number = number_at(table, Key::Day, DAYS)?;
+    if sheet.day(number).is_some() {
+        return Err(SheetFault::DayTwice(number));
+    }
     model_day_in(table, number, model_in(table)?)
 }
 

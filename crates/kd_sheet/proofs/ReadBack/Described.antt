@@ -3,7 +3,7 @@
 pub mod Values
 unfoldable pub use Values.*
 use Rattle.toml.specs.Data as toml
-use Rattle.kd_sheet.specs.{Document.document_of, MachineFile.machine_of, MachineFile.version_in, SheetFile.sheet_of}
+use Rattle.kd_sheet.specs.{Document.document_of, MachineFile.machine_of, SheetFile.sheet_of}
 use Rattle.kd_state.{proofs.Telling.Refusing.Changing.ordered_parts, specs.Machine.IsMachine}
 
 -- ---- reflectors
@@ -21,7 +21,7 @@ HasEach P count xs = (length xs ≡ count) × All P xs
 
 groups_in_groups : (table : Members)
     → SucceedsWith (groups_in table) (λ groups. (length groups ≤ 4) × All (AreLetters 3) groups)
-unfolding groups_in group_of_item
+unfolding groups_in group_for
 groups_in_groups table groups e =
     let read = some_read group_for (All (AreLetters 3)) (each_is group_for (AreLetters 3) (λ earlier item group e.
     grind (arith, there_was, capitals_are_letters, none-some))) keys.Groups 4 in
@@ -29,7 +29,7 @@ groups_in_groups table groups e =
 
 rows_in_rows : (table : Members) → SucceedsWith (rows_in table) (HasEach IsReading 27)
 unfolding rows_in row_of_text
-rows_in_rows table = each_read row_for (All IsReading) (each_is row_for IsReading (λ earlier item row e.
+rows_in_rows table = each_read _ (All IsReading) (each_is (or_bad_row row_of_text) IsReading (λ earlier item row e.
     grind (arith, there_was, some_if, nat_tests, leb-true, none-some))) keys.Rows 27 table
 
 abbrev IsLegalStanding : Place × Place → Type 0
@@ -37,15 +37,15 @@ IsLegalStanding bar = IsBefore bar.0 bar.1
 
 bars_in_bars : (table : Members) → SucceedsWith (bars_in table) (HasEach IsLegalStanding 27)
 unfolding bars_in
-bars_in_bars table = each_read standing_for (All IsLegalStanding)
-    (each_is standing_for IsLegalStanding (λ earlier item bar e.
+bars_in_bars table = each_read _ (All IsLegalStanding)
+    (each_is (or_bad_row standing_by_text) IsLegalStanding (λ earlier item bar e.
     grind (arith, there_was, standing_read, none-some))) keys.Bars 27 table
 
 -- ---- pins, and the letters that pin wheels show
 
-text_pins : (ring : List ℕ) (item : Data) (pins : List Bool) → pins_of_item ring item ≡ Ok pins
-    → length pins ≡ length ring
-unfolding pins_of_item pins_of_text
+text_pins : (ring : List ℕ) (item : Data) (pins : List Bool)
+    → ok_or (from_text (pins_of_text ring) item) (BadValue keys.Pins) ≡ Ok pins → length pins ≡ length ring
+unfolding pins_of_text
 text_pins ring item pins e = grind (arith, common_steps, there_was, some_if, none-some)
 
 -- each wheel's list has a pin for each letter of the wheel
@@ -55,7 +55,7 @@ FitWheels lists = (place : ℕ) (d : List Bool) → place < length lists
 
 all_fit : (items : List Data) → SucceedsWith (read_items pins_for items) FitWheels
 all_fit items lists e place d within =
-    grind (arith, as_many, read_at pins_for items lists e place no_item d, length-take-le, text_pins)
+    grind (arith, as_many, read_items-get_or pins_for items lists e place no_item d, length-take-le, text_pins)
 
 pins_in_fit : (table : Members) → SucceedsWith (pins_in table) HasAllPins
 unfolding pins_in ring_of
@@ -136,10 +136,11 @@ unfolding model_day_in
 model_day number M209 table is = pin_day number table is
 model_day number model table is = rotor_day number model table is
 
-pub day_again : (number : ℕ) (model : Model) (table : Members) (day : Day) → number_in table ≡ Ok number
-    → model_in table ≡ Ok model → model_day_in number model table ≡ Ok day → day_in [] table ≡ Ok day
-unfolding day_in new_number_in
-day_again number model table day is of_model rest = grind (arith, then_read, number_in)
+pub day_again : (number : ℕ) (model : Model) (table : Members) (day : Day)
+    → read_at keys.Day (number_up_to 31) table ≡ Ok number → model_in table ≡ Ok model
+    → model_day_in number model table ≡ Ok day → day_in [] table ≡ Ok day
+unfolding day_in
+day_again number model table day is of_model rest = grind (arith, then_read)
 
 -- what holds of the day that `table` describes after `days`: it is legal, none of `days` has its number, and the
 -- table alone describes it too
@@ -149,23 +150,16 @@ pub record Tells (days : List Day) (table : Members) (day : Day) : Type 0 where
   pub free : list_any (λ other. day_number other == day_number day) days ≡ false
   pub alone : day_in [] table ≡ Ok day
 
-abbrev IsNewNumber : List Day → ℕ → Type 0
-IsNewNumber days number = list_any (λ other. day_number other == number) days ≡ false
-
-new_number : (days : List Day) (table : Members)
-    → SucceedsWith (new_number_in days table) (λ n. (number_in table ≡ Ok n) × IsDayNumber n × IsNewNumber days n)
-unfolding new_number_in
-new_number days table number e = grind (arith, bind-Ok, day_number_within, not-true)
-
 pub Tells-day_in : (days : List Day) (table : Members) (day : Day) → day_in days table ≡ Ok day → Tells days table day
 unfolding day_in
 Tells-day_in days table day e =
-    let number = bind-Ok (new_number_in days table) _ day e in
-    let model = bind-Ok (model_in table) _ day number.2 in
-    let new = new_number days table number.0 number.1 in
-    let is = model_day number.0 model.0 table new.1 day model.2 in
-    let alone = day_again number.0 model.0 table day new.0 model.1 model.2 in
-    record { legal = is.0; number = rw is.1 new.1; free = rw is.1 new.2; alone = alone }
+    let number = bind-Ok (read_at keys.Day (number_up_to 31) table) _ day e in
+    let new = demand-Ok _ _ _ day number.2 in
+    let model = bind-Ok (model_in table) _ day new.1 in
+    let within = day_number_within table number.0 number.1 in
+    let is = model_day number.0 model.0 table within day model.2 in
+    let alone = day_again number.0 model.0 table day number.1 model.1 model.2 in
+    record { legal = is.0; number = rw is.1 within; free = rw is.1 (not-true _ new.0); alone = alone }
 
 -- the day has this number
 abbrev has_number : ℕ → Day → Bool
@@ -292,8 +286,11 @@ module _ (items : List Data) (days : List Day) (read : read_items day_for items 
   day_at : (k : ℕ) (e : Data) (d : Day) → k < length days
       → (k < length items) × IsEntry (take k days) (get_or items k e) (get_or days k d)
   day_at k e d within =
-      let left : k < length items = omega (arith, as_many day_for items days read) in
-      (left, entry_read (take k days) (get_or items k e) (get_or days k d) (read_at day_for items days read k e d left))
+      let left : k < length items = omega (arith, as_many day_for items days read) in (
+        left,
+        entry_read (take k days) (get_or items k e) (get_or days k d)
+            (read_items-get_or day_for items days read k e d left),
+      )
 
   found_told : (number : ℕ) (day : Day) → find (has_number number) days ≡ Some day → TellsOneOf items number day
   found_told number day e =
@@ -318,9 +315,9 @@ module _ (items : List Data) (days : List Day) (read : read_items day_for items 
 pub days_are_the_entries : DaysAreTheEntries
 unfolding sheet_in
 days_are_the_entries members items month number day at e =
-    let all = bind-Ok (items_at keys.Day members) _ month e in
-    let days = bind-Ok (read_items day_for all.0) _ month all.2 in
-    let read = subst (λ xs. read_items day_for xs ≡ Ok days.0) (same_found _ _ (sym all.1 ∙ at)) days.1 in
+    let days = bind-Ok (read_at keys.Day as_items members >>= read_items day_for) _ month e in
+    let read : read_items day_for items ≡ Ok days.0 =
+    subst (λ answer. (answer >>= read_items day_for) ≡ Ok days.0) at days.1 in
     let same : month ≡ month_of days.0 = same_found _ _ (sym days.2) in rw same (
       λ found. found_told items days.0 read number day
           (sym (day_of_month days.0 number (within_month days.0 number day found)) ∙ found),
@@ -367,14 +364,17 @@ parts_are_machine model table =
 pub machine_of-IsMachine : (bytes : List ℕ) → SucceedsWith (machine_of bytes) IsMachine
 unfolding machine_in
 machine_of-IsMachine bytes =
-    after_any (document_of bytes) _ IsMachine (λ table. after_any (version_in table) _ IsMachine (λ version.
-    after_any (known_model_in version table) _ IsMachine (λ model. parts_are_machine model table)))
+    after_any (document_of bytes) _ IsMachine (λ table.
+    after_any (read_at keys.Version (number_up_to 2) table) _ IsMachine (λ version.
+    after_any (model_in table) _ IsMachine (λ model. after_any (demand _ _) _ IsMachine (λ _.
+    parts_are_machine model table))))
 
 pub sheet_of-legal : (bytes : List ℕ) (month : List (Option Day)) (number : ℕ) (day : Day) → sheet_of bytes ≡ Ok month
     → day_of month number ≡ Some day → IsLegalDay day
 unfolding sheet_in
 sheet_of-legal bytes month number day e found =
     let table = bind-Ok (document_of bytes) _ month e in
-    let items = bind-Ok (items_at keys.Day table.0) _ month table.2 in
+    let days = bind-Ok (read_at keys.Day as_items table.0 >>= read_items day_for) _ month table.2 in
+    let items = bind-Ok (read_at keys.Day as_items table.0) (read_items day_for) days.0 days.1 in
     let entry = (days_are_the_entries table.0 items.0 month number day items.1 table.2).0 found in
     (Tells-day_in [] entry.0 day entry.2).legal

@@ -1,7 +1,8 @@
 -- Lemmas on the values of keys: names, numbers and letters, wheels in slots, cables and pairs, and pins.
 pub mod InTurn
 unfoldable pub use InTurn.*
-use Rattle.std.{proofs.lemmas.List.Folds.find_at, specs.List.position_or_len}
+use Rattle.std.proofs.lemmas.{List.{take_more}, List.Quantifiers.{position-Some}}
+use Rattle.std.{proofs.lemmas.List.Folds.{find_at, list_any-append}, specs.List.{position, position_or_len}}
 
 -- ---- names
 
@@ -75,8 +76,7 @@ number_within : (last : ℕ) (value : Data) (number : ℕ) → number_up_to last
     → (1 ≤ number) × (number ≤ last)
 number_within last value number e = grind (arith, some_if, leb-true, none-some)
 
-pub day_number_within : (table : Members) → SucceedsWith (number_in table) IsDayNumber
-unfolding number_in
+pub day_number_within : (table : Members) → SucceedsWith (read_at keys.Day (number_up_to 31) table) IsDayNumber
 day_number_within table number e = grind (arith, bind-Ok, value_at, number_within, there_was)
 
 capitals_within : (text : List ℕ) → list_all is_capital text ≡ true
@@ -92,15 +92,14 @@ pub capitals_are_letters : (count : ℕ) (text letters : List ℕ) → capital_l
     → AreLetters count letters
 capitals_are_letters count text letters e = grind (arith, some_if, eqb-true, letters_read)
 
-numbered_letters_within : (items : List Data) → list_all (λ item. is_some (letter_of_number item)) items ≡ true
-    → AllByRecursion (λ letter. letter < 26) (filter_map letter_of_number items)
-    × (length (filter_map letter_of_number items) ≡ length items)
+numbered_letters_within : (items : List Data) → list_all (λ item. is_some (number_up_to 26 item)) items ≡ true
+    → AllByRecursion (λ letter. letter < 26) (map (λ number. number - 1) (filter_map (number_up_to 26) items))
+    × (length (map (λ number. number - 1) (filter_map (number_up_to 26) items)) ≡ length items)
 numbered_letters_within [] e = (tt, refl)
 numbered_letters_within (item ∷ items) e = grind (arith, nat_tests, number_within, numbered_letters_within items)
 
 pub rings_in_letters : (model : Model) (table : Members)
-    → SucceedsWith (rings_in model table) (AreLetters (slots_of model))
-unfolding rings_in
+    → SucceedsWith (read_at keys.Rings (rings_of (slots_of model)) table) (AreLetters (slots_of model))
 rings_in_letters model table rings e =
     grind (arith, bind-Ok, there_was, some_if, capitals_are_letters, numbered_letters_within, All-from_recursion)
 
@@ -111,14 +110,16 @@ letters_at_are key count table letters e = grind (arith, bind-Ok, there_was, cap
 
 -- ---- one seat
 
--- `is_seated` decides whether the wheel is in one of the slots
+-- whether one of the slots holds the wheel
+abbrev pub is_seated : List (Option Wheel) → Wheel → Bool
+is_seated slots wheel = list_any (λ seat. option_map_or (same_wheel wheel) seat false) slots
+
 pub is_seated-Decides : (slots : List (Option Wheel)) (wheel : Wheel)
     → Decides (is_seated slots wheel) (Contains slots (Some wheel))
-unfolding is_seated
 is_seated-Decides slots wheel =
-    Decides-contains slots (Some wheel) _ (Decides-by_or (holds_wheel wheel) (λ seat. seat ≡ Some wheel)
-    (list_any (holds_wheel wheel)) (λ s. grind (arith, Decides-like, same_Some, same_wheel-Decides)) refl
-    (λ _ _. refl) slots)
+    let holds : Option Wheel → Bool = λ seat. option_map_or (same_wheel wheel) seat false in
+    Decides-contains slots (Some wheel) _ (Decides-by_or holds (λ seat. seat ≡ Some wheel) (list_any holds)
+    (λ s. grind (arith, Decides-like, same_Some, same_wheel-Decides)) refl (λ _ _. refl) slots)
 
 pub not_seated : (slots : List (Option Wheel)) (wheel : Wheel) → ¬ Contains slots (Some wheel)
     → is_seated slots wheel ≡ false
@@ -130,35 +131,35 @@ record CanBeSeated (model : Model) (slots : List (Option Wheel)) (wheel : Wheel)
   allowed : IsAllowed model (length slots + 1) wheel
   free : ¬ Contains slots (Some wheel)
 
-wheel_read : (key : Key) (model : Model) (slots : List (Option Wheel)) (name : List ℕ)
-    → SucceedsWith (wheel_for key model slots name) (CanBeSeated model slots)
+wheel_read : (key : Key) (model : Model) (slots : List (Option Wheel)) (item : Data)
+    → SucceedsWith (wheel_for key model slots item) (CanBeSeated model slots)
 unfolding wheel_for
-wheel_read key model slots name wheel e = grind
+wheel_read key model slots item wheel e = grind
     (arith, bind-Ok, demand-Ok, has_wheel-Decides, is_seated-Decides, not-true)
 
 -- a seat as it is read: its wheel may be in the slot right of `slots`, and it is empty only in a machine file
 record IsSeatRead (key : Key) (model : Model) (slots : List (Option Wheel)) (seat : Option Wheel) : Type 0 where
   free : IfSome seat (CanBeSeated model slots)
-  filled : may_be_empty key ≡ false → IsSome seat
+  filled : key ≡ keys.Wheels → IsSome seat
 
 seat_read : (key : Key) (model : Model) (slots : List (Option Wheel)) (item : Data) (seat : Option Wheel)
-    → seat_of_item key model slots item ≡ Ok seat → IsSeatRead key model slots seat
-unfolding seat_of_item seat_for
+    → seat_for key model slots item ≡ Ok seat → IsSeatRead key model slots seat
+unfolding seat_for
 seat_read key model slots item seat e = record { free = grind (arith, wheel_read); filled = grind (arith, none-some) }
 
 -- ---- the slots that an array fills
 
 -- each wheel that is read from an array is allowed in its slot, and is in no slot before it
 stands_free : (key : Key) (model : Model) (items : List Data) (slots : List (Option Wheel))
-    → read_items (seat_of_item key model) items ≡ Ok slots → (place : ℕ) (wheel : Wheel) → IsSeatedAt slots place wheel
+    → read_items (seat_for key model) items ≡ Ok slots → (place : ℕ) (wheel : Wheel) → IsSeatedAt slots place wheel
     → (place < length slots) × CanBeSeated model (take place slots) wheel
 stands_free key model items slots e place wheel stands =
     let within = slice_get_within slots place (Some wheel) stands in
     let here = get_or_from_slice_get slots place (Some wheel) (Some wheel) stands in (
       within,
       (seat_read key model (take place slots) (get_or items place no_item) (Some wheel) (
-          rw here at (read_at _ items slots e place no_item (Some wheel) (omega (arith, as_many _ items slots e)))
-          )).free,
+          rw here at (read_items-get_or _ items slots e place no_item (Some wheel)
+          (omega (arith, as_many _ items slots e))))).free,
     )
 
 -- a wheel that can be seated in a slot is in no slot further left
@@ -171,10 +172,10 @@ not_free model slots place other wheel stands free within = grind (arith, common
 pub record FillsSlots (key : Key) (model : Model) (slots : List (Option Wheel)) : Type 0 where
   pub allowed : AreWheelsAllowed model slots
   pub apart : AreSeatedOnce slots
-  pub filled : may_be_empty key ≡ false → All IsSome slots
+  pub filled : key ≡ keys.Wheels → All IsSome slots
 
 fill_slots : (key : Key) (model : Model) (items : List Data)
-    → SucceedsWith (read_items (seat_of_item key model) items) (FillsSlots key model)
+    → SucceedsWith (read_items (seat_for key model) items) (FillsSlots key model)
 fill_slots key model items slots e =
     let free = stands_free key model items slots e in
     record {
@@ -184,7 +185,7 @@ fill_slots key model items slots e =
           let two = free other wheel again in
           let first = not_free model slots place other wheel stands two.1 (omega (arith, two.0)) in
           omega (arith, first, not_free model slots other place wheel again one.1 (omega (arith, one.0)));
-      filled = λ full. each_is (seat_of_item key model) IsSome
+      filled = λ full. each_is (seat_for key model) IsSome
           (λ before item seat is. (seat_read key model before item seat is).filled full) items slots e;
     }
 
@@ -251,7 +252,7 @@ module _ {X : Type 0} (letters_in : X → List ℕ) where
   pub all_free : (reading : List X → Data → Result X SheetFault)
       → ((before : List X) (item : Data) (x : X) → reading before item ≡ Ok x → IsFree letters_in before x)
       → (key : Key) (count : ℕ) (value : Data)
-      → SucceedsWith (read_up_to key count reading value)
+      → SucceedsWith (read_array key (λ n. nat_le n count) reading value)
       (λ plugged. (length plugged ≤ count) × AreFree letters_in plugged)
   all_free reading free =
       some_read reading (AreFree letters_in) (keeps reading (AreFree letters_in)
@@ -283,7 +284,8 @@ module _ {X : Type 0} (letters_in : X → List ℕ) where
 
 -- ---- cables
 
-pub two_letters : (letters : List ℕ) → length letters ≤ 2 → cable_letters (cable_with_ends letters) ≡ letters
+pub two_letters : (letters : List ℕ) → length letters ≤ 2
+    → cable_letters (slice_get letters 0, slice_get letters 1) ≡ letters
 two_letters (one ∷ other ∷ third ∷ letters) few = absurd (omega arith)
 two_letters letters few = refl
 
@@ -293,9 +295,9 @@ none_in (suc n) = none_in n
 
 -- cables that share no letter are the cables of a machine, once empty ones fill them up to 13
 filled_up : (cables : List (Option ℕ × Option ℕ)) → length cables ≤ 13 → AreFree cable_letters cables
-    → AreCables (filled_to_thirteen cables)
+    → AreCables (cables ++ replicate (13 - length cables) (None, None))
 filled_up cables few free =
-    let letters : letters_in_cables (filled_to_thirteen cables) ≡ letters_in_cables cables =
+    let letters : letters_in_cables (cables ++ replicate (13 - length cables) (None, None)) ≡ letters_in_cables cables =
     rw (flat_map-append, none_in _, append-nil) refl in
     record { count = grind (arith, common_steps); within = rw letters free.within; apart = rw letters free.apart }
 
@@ -310,6 +312,10 @@ are_cables table =
 
 -- ---- pairs
 
+-- the two letters of a pair
+abbrev pub pair_letters : ℕ × ℕ → List ℕ
+pair_letters pair = pair.0 ∷ pair.1 ∷ []
+
 two_of : (letters : List ℕ) → AreLetters 2 letters
     → pair_letters (slice_index letters 0, slice_index letters 1) ≡ letters
 two_of (one ∷ other ∷ []) are = refl
@@ -318,7 +324,7 @@ two_of letters are = absurd (omega (arith, are.count))
 pub are_pairs : (table : Members) → SucceedsWith (pairs_in table) ArePairs
 unfolding pairs_in pair_for
 are_pairs table =
-    after_any (value_at keys.Plugs table) (read_up_to keys.Plugs 13 pair_for) ArePairs (λ value pairs e.
+    after_any (value_at keys.Plugs table) (read_array keys.Plugs (λ n. nat_le n 13) pair_for) ArePairs (λ value pairs e.
     let free = all_free pair_letters pair_for (λ pairs item pair e.
     grind (arith, there_was, capitals_are_letters, two_of, none-some)) keys.Plugs 13 value pairs e in
     record { few = free.0; within = free.1.within; apart = free.1.apart })
@@ -362,78 +368,143 @@ letters_below letters are place d within =
     All-contains (λ letter. letter < 26) _ _ (ring_letters (suc place))
     (are.each (suc place) _ (slice_get-get_or letters place d within))
 
--- no letter occurs twice
-abbrev are_apart : List ℕ → Bool
-are_apart [] = true
-are_apart (letter ∷ letters) = not (has_letter letters letter) && are_apart letters
+-- ---- texts of effective pins
 
-letters_apart : (wheel : ℕ) → are_apart (ring_of wheel) ≡ true
+-- no letter of the wheel occurs twice
+letters_apart : (wheel : ℕ) → are_new_letters (ring_of wheel) [] ≡ true
 unfolding ring_of
 letters_apart wheel = grind arith
+
+own_letters : (wheel : ℕ) → list_all (has_letter (letters_text (ring_of wheel))) (letters_text (ring_of wheel)) ≡ true
+unfolding ring_of
+own_letters wheel = grind arith
 
 letter_there : (ring : List ℕ) (k d : ℕ) → k < length ring → has_letter ring (get_or ring k d) ≡ true
 letter_there ring k d within = (has_letter-Decides ring (get_or ring k d)).1 (Contains-get_or ring k d within)
 
--- how often the text has the letter
-abbrev letter_count : List ℕ → ℕ → ℕ
-letter_count text letter = count_by (λ byte. byte == letter + 65) text
+-- two texts give the same pins if they have the same letters of the wheel
+same_pins : (ring text other : List ℕ)
+    → ((letter : ℕ) → has_letter ring letter ≡ true → has_letter text (letter + 65) ≡ has_letter other (letter + 65))
+    → map (has_letter text) (letters_text ring) ≡ map (has_letter other) (letters_text ring)
+same_pins [] text other same = refl
+same_pins (x ∷ ring) text other same =
+    grind (arith, nat_tests, same x, same_pins ring text other (λ letter has. same letter (rw (has, or-true) refl)))
 
-has_counted : (text : List ℕ) (letter : ℕ) → has_capital text letter ≡ nat_lt 0 (letter_count text letter)
-has_counted [] letter = refl
-has_counted (byte ∷ text) letter =
-    let more : letter_count (byte ∷ text) letter
-    ≡ cond (byte == letter + 65) 1 0 + letter_count text letter = sum_by-cons _ byte text in
-    rw more (grind (arith, nat_tests, has_counted text letter))
+-- the text of a wheel's pins has no letter that the wheel lacks
+lacks : (ring : List ℕ) (pins : List Bool) (letter : ℕ) → has_letter ring letter ≡ false
+    → has_letter (pins_text ring pins) (letter + 65) ≡ false
+lacks [] pins letter absent = refl
+lacks (x ∷ ring) [] letter absent = refl
+lacks (x ∷ ring) (pin ∷ pins) letter absent = grind (arith, nat_tests, lacks ring pins letter)
 
-first_counted : (x : ℕ) (ring : List ℕ) (pin : Bool) (pins : List Bool) (letter : ℕ)
-    → letter_count (pins_text (x ∷ ring) (pin ∷ pins)) letter
-    ≡ cond (pin && x + 65 == letter + 65) 1 0 + letter_count (pins_text ring pins) letter
-first_counted x ring true pins letter = sum_by-cons _ (x + 65) (pins_text ring pins)
-first_counted x ring false pins letter = omega arith
-
-none_counted : (ring : List ℕ) (pins : List Bool) (letter : ℕ) → has_letter ring letter ≡ false
-    → letter_count (pins_text ring pins) letter ≡ 0
-none_counted [] pins letter absent = refl
-none_counted (x ∷ ring) [] letter absent = refl
-none_counted (x ∷ ring) (pin ∷ pins) letter absent =
-    grind (arith, nat_tests, sum_by-cons, none_counted ring pins letter)
-
--- the text of a wheel's pins has a letter once if the letter's pin is effective, and otherwise not at all
-once_counted : (ring : List ℕ) (pins : List Bool) (k d : ℕ) (e : Bool) → are_apart ring ≡ true
-    → length pins ≡ length ring → k < length ring
-    → letter_count (pins_text ring pins) (get_or ring k d) ≡ cond (get_or pins k e) 1 0
-once_counted (x ∷ ring) (pin ∷ pins) zero d e apart same within =
-    rw first_counted (grind (arith, nat_tests, none_counted ring pins x))
-once_counted (x ∷ ring) (pin ∷ pins) (suc k) d e apart same within =
-    rw first_counted (grind (arith, nat_tests, once_counted ring pins k d e, letter_there ring k d))
-once_counted ring pins k d e apart same within = absurd (omega arith)
-
--- all bytes of the text of a wheel's pins pass a test if the letter of each effective pin passes it
-all_of_pins : (test : ℕ → Bool) (ring : List ℕ) (pins : List Bool) → length pins ≡ length ring
-    → ((k : ℕ) → k < length ring → get_or pins k false ≡ true → test (get_or ring k 0 + 65) ≡ true)
+all_of_pins : (test : ℕ → Bool) (ring : List ℕ) (pins : List Bool) → list_all test (letters_text ring) ≡ true
     → list_all test (pins_text ring pins) ≡ true
-all_of_pins test [] pins same each = refl
-all_of_pins test (x ∷ ring) [] same each = refl
-all_of_pins test (x ∷ ring) (pin ∷ pins) same each =
-    grind (arith, nat_tests, each 0, all_of_pins test ring pins (omega arith) (λ k within. each (suc k) (omega arith)))
+all_of_pins test [] pins all = refl
+all_of_pins test (x ∷ ring) [] all = refl
+all_of_pins test (x ∷ ring) (pin ∷ pins) all = grind (arith, nat_tests, all_of_pins test ring pins)
 
-is_on_ring : (ring : List ℕ) (letter : ℕ) → has_letter ring letter ≡ true → is_letter_of ring (letter + 65) ≡ true
-is_on_ring [] letter has = has
-is_on_ring (x ∷ ring) letter has = grind (arith, cases_Bool)
+apart_text : (ring : List ℕ) (pins : List Bool) → are_new_letters ring [] ≡ true
+    → are_new_letters (pins_text ring pins) [] ≡ true
+apart_text [] pins apart = refl
+apart_text (x ∷ ring) [] apart = refl
+apart_text (x ∷ ring) (pin ∷ pins) apart = grind (arith, nat_tests, append-nil, lacks, apart_text ring pins)
+
+-- the text of a wheel's pins has the letters of the effective pins
+pins_again : (ring : List ℕ) (pins : List Bool) → are_new_letters ring [] ≡ true → length pins ≡ length ring
+    → map (has_letter (pins_text ring pins)) (letters_text ring) ≡ pins
+pins_again [] [] apart same = refl
+pins_again (x ∷ ring) (pin ∷ pins) apart same =
+    let rest = same_pins ring (pins_text (x ∷ ring) (pin ∷ pins)) (pins_text ring pins)
+    (λ letter has. grind (arith, nat_tests, append-nil)) in
+    grind (arith, nat_tests, append-nil, lacks, rest, pins_again ring pins)
+pins_again ring pins apart same = absurd (omega arith)
 
 pub pins_back : (wheel : ℕ) (pins : List Bool) → length pins ≡ length (ring_of wheel)
     → pins_of_text (ring_of wheel) (pins_text (ring_of wheel) pins) ≡ Some pins
 unfolding pins_of_text
 pins_back wheel pins same =
     let ring = ring_of wheel in
-    let text = pins_text ring pins in
-    let once : (k d : ℕ) (e : Bool) → k < length ring
-    → letter_count text (get_or ring k d) ≡ cond (get_or pins k e) 1 0 =
-    λ k d e. once_counted ring pins k d e (letters_apart wheel) same in
-    let proper = all_of_pins (λ byte. is_letter_of ring byte && stands_once text byte) ring pins same
-    (λ k within effective.
-    rw (is_on_ring ring (get_or ring k 0) (letter_there ring k 0 within), once k 0 false within, effective) refl) in
-    let read : map (has_capital text) ring ≡ pins = same_lists _ _ (length-map ring _ ∙ sym same) (λ k e within.
-    let here : k < length ring = omega (arith, length-map ring (has_capital text)) in
-    get_or-map (has_capital text) ring k 0 e here ∙ rw (has_counted, once k 0 e here) (grind arith)) in
-    rw (proper, read) refl
+    let apart = letters_apart wheel in
+    rw (
+      all_of_pins (has_letter (letters_text ring)) ring pins (own_letters wheel),
+      apart_text ring pins apart,
+      pins_again ring pins apart same,
+    ) refl
+
+-- ---- the pins of a text, byte by byte
+
+new_more : (front : List ℕ) (byte : ℕ)
+    → are_new_letters (front ++ byte ∷ []) [] ≡ (are_new_letters front [] && not (has_letter front byte))
+new_more [] byte = refl
+new_more (x ∷ front) byte = grind (arith, nat_tests, list_any-append, append-nil, new_more front byte)
+
+not_new : (front : List ℕ) (byte : ℕ) (rest : List ℕ) → has_letter front byte ≡ true
+    → are_new_letters (front ++ byte ∷ rest) [] ≡ false
+not_new [] byte rest has = absurd (false≢true has)
+not_new (x ∷ front) byte rest has = grind (arith, nat_tests, list_any-append, append-nil, not_new front byte rest)
+
+-- setting the pin of one letter gives the pins of the text with this letter added
+set_pin : (ring front : List ℕ) (byte place : ℕ) → are_new_letters ring [] ≡ true → place < length ring
+    → get_or ring place 0 + 65 ≡ byte
+    → set (map (has_letter front) (letters_text ring)) place true
+    ≡ map (has_letter (front ++ byte ∷ [])) (letters_text ring)
+set_pin [] front byte place apart within at = absurd (omega arith)
+set_pin (x ∷ ring) front byte zero apart within at =
+    let rest = same_pins ring (front ++ byte ∷ []) front
+    (λ other has. grind (arith, nat_tests, list_any-append, append-nil)) in
+    grind (arith, nat_tests, list_any-append, rest)
+set_pin (x ∷ ring) front byte (suc place) apart within at =
+    grind (arith, nat_tests, list_any-append, append-nil, letter_there ring place 0, set_pin ring front byte place)
+
+pin_at : (ring text : List ℕ) (place : ℕ) → place < length ring
+    → get_or (map (has_letter text) (letters_text ring)) place false ≡ has_letter text (get_or ring place 0 + 65)
+pin_at [] text place within = absurd (omega arith)
+pin_at (x ∷ ring) text zero within = refl
+pin_at (x ∷ ring) text (suc place) within = pin_at ring text place (omega arith)
+
+-- the place of a byte's letter on the wheel
+abbrev pub byte_at : List ℕ → ℕ → Option ℕ
+byte_at ring byte = position (λ letter. letter + 65 == byte) ring
+
+has_byte : (ring : List ℕ) (byte : ℕ) → has_letter (letters_text ring) byte
+    ≡ nat_lt (position_or_len (λ letter. letter + 65 == byte) ring) (length ring)
+has_byte [] byte = refl
+has_byte (x ∷ ring) byte = grind (arith, nat_tests, has_byte ring byte)
+
+-- byte `byte` of `text`, at place `k`, and the pins of the bytes before it
+module _ (ring text : List ℕ) (k byte : ℕ) (left : k < length text) (here : get_or text k 0 ≡ byte) where
+  -- no pins are read from a text with a byte that isn't on the wheel
+  pub pins_end : byte_at ring byte ≡ None → None ≡ pins_of_text ring text
+  unfolding pins_of_text
+  pins_end none =
+      let all : list_all (has_letter (letters_text ring)) text ≡ true → has_letter (letters_text ring) byte ≡ true =
+      λ all. rw here at (AllPass-from_list_all (has_letter (letters_text ring)) text all k 0 left) in
+      grind (arith, cases_Bool, all, has_byte ring byte)
+
+  module _ (pins : List Bool) (place : ℕ) (so_far : pins_of_text ring (take k text) ≡ Some pins)
+      (at : byte_at ring byte ≡ Some place) where
+    was : (list_all (has_letter (letters_text ring)) (take k text) ≡ true)
+        × (are_new_letters (take k text) [] ≡ true) × (map (has_letter (take k text)) (letters_text ring) ≡ pins)
+    unfolding pins_of_text
+    was = grind (arith, some_if, nat_tests)
+
+    found : (place < length ring) × (get_or ring place 0 + 65 ≡ byte)
+    found = grind (arith, eqb-true, position-Some (λ letter. letter + 65 == byte) ring place 0 at)
+
+    pin_is : get_or pins place false ≡ has_letter (take k text) byte
+    pin_is = rw (← was.2, pin_at ring (take k text) place found.0, found.1) refl
+
+    pub pins_twice : get_or pins place false ≡ true → None ≡ pins_of_text ring text
+    unfolding pins_of_text
+    pins_twice effective =
+        let again = not_new (take k text) byte (drop (k + 1) text) (sym pin_is ∙ effective) in
+        rw (rw (← here, ← drop_more text k 0 left, take-append-drop) at again, and-false) refl
+
+    pub pins_more : IsDistinct nat_eq ring → get_or pins place false ≡ false
+        → pins_of_text ring (take (k + 1) text) ≡ Some (set pins place true)
+    unfolding pins_of_text
+    pins_more distinct free =
+        let apart = ((new_tells ring []).0 (rw append-nil distinct)).0 in
+        let own : has_letter (letters_text ring) byte ≡ true = grind (arith, has_byte ring byte) in
+        rw (take_more text k 0 left, here, list_all-append, was.0, own, new_more, was.1, ← pin_is, free) (ap Some
+        (sym (set_pin ring (take k text) byte place apart found.0 found.1) ∙ ap (λ ps. set ps place true) was.2))

@@ -1,4 +1,4 @@
-use Rattle.{kd_sheet.specs.Numbers.letter_of_number, std.proofs.Common.{drop, filter_map, is_some, length, map, ◌++◌}}
+use Rattle.{kd_sheet.specs.Numbers.number_up_to, std.proofs.Common.{drop, filter_map, is_some, length, map, ◌++◌, ◌-◌}}
 use Rattle.{std.{proofs.Common.◌≡◌, specs.List.list_all}, toml.specs.View.view}
 use Rattle.kd_sheet.proofs.letters.slots_of_numbers.Given as goal
 
@@ -6,8 +6,9 @@ use Rattle.kd_sheet.proofs.letters.slots_of_numbers.Given as goal
 abbrev pub invariant-loop-item : goal.invariant-loop-item
 invariant-loop-item l = record {
   count : length l.letters.items ≡ l.item-index;
-  numbers : list_all (λ item. is_some (letter_of_number item)) (map view l.items)
-      ≡ list_all (λ item. is_some (letter_of_number item)) (map view (drop l.item-index l.items));
-  letters : filter_map letter_of_number (map view l.items)
-      ≡ l.letters.items ++ filter_map letter_of_number (map view (drop l.item-index l.items));
+  numbers : list_all (λ item. is_some (number_up_to 26 item)) (map view l.items)
+      ≡ list_all (λ item. is_some (number_up_to 26 item)) (map view (drop l.item-index l.items));
+  letters : map (λ number. number - 1) (filter_map (number_up_to 26) (map view l.items))
+      ≡ l.letters.items
+      ++ map (λ number. number - 1) (filter_map (number_up_to 26) (map view (drop l.item-index l.items)));
 }

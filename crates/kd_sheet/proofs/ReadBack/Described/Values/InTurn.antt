@@ -1,7 +1,7 @@
 -- Lemmas on reading a document, and on reading items one after another: which tests a reading that succeeds has
 -- passed, and what holds of its value.
-pub use Rattle.kd_sheet.specs.Document.{demand, read_each, read_items, items_at, items_in, items_list, result_map}
-pub use Rattle.kd_sheet.specs.Document.{read_up_to}
+pub use Rattle.kd_sheet.specs.Document.{demand, as_items, from_text, items_list, read_array, read_at, read_items}
+pub use Rattle.kd_sheet.specs.Document.{result_map}
 pub use Rattle.kd_sheet.specs.MachineText.{cable_text, key_line, array_text, pin_texts, pins_text, quoted_text}
 pub use Rattle.kd_sheet.specs.MachineText.{seat_text}
 pub use Rattle.kd_state.proofs.Slots.{all_pins, are_on_wheels as on_all_wheels, has_letter-Decides, numbered_here}
@@ -22,15 +22,14 @@ pub use Rattle.std.proofs.lemmas.List.FromFn.{get_or-enumerate_from, get_or-map-
 pub use Rattle.std.proofs.lemmas.Option.{get_or_from_slice_get, gets, none-some, same_Some, slice_get-get_or}
 pub use Rattle.toml.specs.Data.{Data, Members, array, as_array, as_table, depth, get_member, has_valid_dates, integer}
 pub use Rattle.{kd_pins.specs.declared.pin_set.PinSet.PinSet, kd_tables.specs.Tables.{slots_of, wheel_text, wheels_for}}
-pub use Rattle.kd_sheet.specs.{Bars.{row_for, standing_for}, Letters.capital_letters, Names.{every_model, every_wheel}}
-pub use Rattle.kd_sheet.specs.{Cables.{cable_with_ends, pair_letters, filled_to_thirteen}}
-pub use Rattle.kd_sheet.specs.{SheetFile.{group_for, sheet_wheels}}
+pub use Rattle.kd_sheet.specs.{Bars.or_bad_row, Letters.capital_letters}
+pub use Rattle.kd_sheet.specs.{SheetFile.{rings_of, sheet_wheels}}
 pub use Rattle.kd_sheet.specs.{Document.{value_at, ◌>>=◌, ◌>>◌}, Sheet.{IsMonth, day_of, month_of}}
 pub use Rattle.kd_sheet.specs.{Key.key_name}
-pub use Rattle.kd_sheet.specs.{PinWheels.{are_on_wheels, has_capital, is_letter_of, pins_for, stands_once}}
+pub use Rattle.kd_sheet.specs.{PinWheels.{are_on_wheels, pins_for}}
 pub use Rattle.kd_sheet.specs.{Laws.{DaysAreTheEntries, LegalPartsAreReadBack}}
-pub use Rattle.kd_sheet.specs.{Numbers.{number_up_to, letter_of_number}}
-pub use Rattle.kd_sheet.specs.{MachineText.file_version, Seats.{holds_wheel, may_be_empty}, declared.key.Key.Key}
+pub use Rattle.{kd_sheet.specs.{Numbers.{number_up_to}}, kd_state.specs.SameParts.same_wheel}
+pub use Rattle.kd_sheet.specs.{MachineText.file_version, declared.key.Key.Key}
 pub use Rattle.kd_sheet.specs.declared.fault.SheetFault.{TheVariants.{BadValue, NotToml, UnknownModel}, SheetFault}
 pub use Rattle.kd_state.proofs.{Cables.{eqb_flips, new_tells, IsDistinct-nil}, Slots.numbered_other}
 pub use Rattle.kd_state.proofs.Wheels.{has_reflector-Decides, has_wheel-Decides, same_wheel-Decides}
@@ -63,18 +62,18 @@ pub use Rattle.toml.proofs.{Lines.data_of_table, ReadLines.{AllPrinted, read_lin
 pub use Rattle.toml.specs.Data.{items_depth, items_have_valid_dates, member, no_members, string}
 pub use Rattle.toml.specs.{Tables.{Expression, close, key_value, no_nodes}, declared.value.Value.{Value, the_lemmas}}
 pub use Rattle.toml.specs.{Text.{IsItemsText, IsLinesText, IsValueText}, View.{array_view, items_of, table_view, view}}
-unfoldable pub use Rattle.kd_sheet.specs.MachineFile.{known_model_in, machine_in, model_in, parts_in, pin_parts_in}
-unfoldable pub use Rattle.kd_sheet.specs.SheetFile.{day_for, day_in, group_of_item, groups_in, model_day_in}
-unfoldable pub use Rattle.kd_sheet.specs.SheetFile.{new_number_in, number_in, pin_day_in, rings_in, rotor_day_in}
+unfoldable pub use Rattle.kd_sheet.specs.MachineFile.{machine_in, model_in, parts_in, pin_parts_in}
+unfoldable pub use Rattle.kd_sheet.specs.SheetFile.{day_for, day_in, group_for, groups_in, model_day_in}
+unfoldable pub use Rattle.kd_sheet.specs.SheetFile.{pin_day_in, rotor_day_in}
 unfoldable pub use Rattle.toml_writer.specs.Text.{encoding_of, escaped, key_text, needs_escape, quotes_after}
 unfoldable pub use Rattle.kd_sheet.specs.{Bars.{bars_in, row_of_text, rows_in}, MachineText.machine_text}
 unfoldable pub use Rattle.kd_sheet.specs.Cables.{cable_for, cables_in, cable_letters_of_text, pair_for, pairs_in}
-unfoldable pub use Rattle.kd_sheet.specs.{Document.document_of, MachineFile.{reflector_in, rotor_parts_in, version_in}}
+unfoldable pub use Rattle.kd_sheet.specs.{Document.document_of, MachineFile.{reflector_in, rotor_parts_in}}
 unfoldable pub use Rattle.{kd_sheet.specs.{Letters.letters_at, SheetFile.sheet_in}, toml_writer.specs.Text.string_text}
 unfoldable pub use Rattle.kd_sheet.specs.Names.{model_by_name, reflector_by_name, standing_by_text, wheel_by_name}
-unfoldable pub use Rattle.kd_sheet.specs.PinWheels.{letters_on_wheels, pins_in, pins_of_item, pins_of_text}
+unfoldable pub use Rattle.kd_sheet.specs.PinWheels.{letters_on_wheels, pins_in, pins_of_text}
 unfoldable pub use Rattle.kd_sheet.specs.PinWheels.{shown_letters_in}
-unfoldable pub use Rattle.kd_sheet.specs.Seats.{is_seated, seat_for, seat_of_item, seats_in, wheel_for}
+unfoldable pub use Rattle.kd_sheet.specs.Seats.{seat_for, seats_in, wheel_for}
 unfoldable pub use Rattle.{kd_tables.specs.Rings.ring_of, toml.specs.Tables.{along_dots, along_header, at_key, define}}
 unfoldable pub use Rattle.{std.specs.{Fmt.digits, List.IsDistinct}, toml.specs.Parse.{parse_document, skip_bom}}
 pub use Rattle.kd_sheet.specs.declared.key.Key.TheVariants as keys
@@ -97,11 +96,11 @@ pub list_of-items_of : (items : List Data) → items_list (items_of items) ≡ i
 list_of-items_of [] = refl
 list_of-items_of (first ∷ rest) = ap (λ more. first ∷ more) (list_of-items_of rest)
 
--- `items_in` gives what the library's call for an array gives
-pub items_in_found : (key : Key) (value : Data) (found : Option (Bor (Vec Value Global)))
+-- the library's call for an array gives the items
+pub items_found : (key : Key) (value : Data) (found : Option (Bor (Vec Value Global)))
     → option_map (λ v. array_view v.now) found ≡ as_array value
-    → result_map (λ items. map view items.now.items) (ok_or found (BadValue key)) ≡ items_in key value
-items_in_found key value found e = grind (arith, option_map, list_of-items_of)
+    → result_map (λ items. map view items.now.items) (ok_or found (BadValue key)) ≡ ok_or (as_items value) (BadValue key)
+items_found key value found e = grind (arith, option_map, list_of-items_of)
 
 -- ---- steps of a reading
 
@@ -213,23 +212,23 @@ module _ {A : Type 0} where
       ap length (sym (same_found _ _ more.2))
       ∙ ap suc (as_many (λ earlier. reading (first.0 ∷ earlier)) items more.0 more.1)
 
-  pub read_at : (reading : List A → Data → Result A SheetFault) (items : List Data) (values : List A)
+  pub read_items-get_or : (reading : List A → Data → Result A SheetFault) (items : List Data) (values : List A)
       → read_items reading items ≡ Ok values → (k : ℕ) (d : Data) (e : A) → k < length items
       → reading (take k values) (get_or items k d) ≡ Ok (get_or values k e)
-  read_at reading [] values is k d e within = absurd (omega arith)
-  read_at reading (item ∷ items) values is zero d e within = grind (arith, bind-Ok)
-  read_at reading (item ∷ items) values is (suc k) d e within =
+  read_items-get_or reading [] values is k d e within = absurd (omega arith)
+  read_items-get_or reading (item ∷ items) values is zero d e within = grind (arith, bind-Ok)
+  read_items-get_or reading (item ∷ items) values is (suc k) d e within =
       let first = bind-Ok (reading [] item) _ values is in
       let more = bind-Ok (read_items (λ earlier. reading (first.0 ∷ earlier)) items) _ values first.2 in
       subst (λ vs. reading (take (suc k) vs) (get_or items k d) ≡ Ok (get_or vs (suc k) e)) (same_found _ _ more.2)
-      (read_at (λ earlier. reading (first.0 ∷ earlier)) items more.0 more.1 k d e (omega arith))
+      (read_items-get_or (λ earlier. reading (first.0 ∷ earlier)) items more.0 more.1 k d e (omega arith))
 
   -- each value satisfies `P`, if every value that the reading can give does
   pub each_is : (reading : List A → Data → Result A SheetFault) (P : A → Type 0)
       → ((earlier : List A) (item : Data) (x : A) → reading earlier item ≡ Ok x → P x)
       → (items : List Data) → SucceedsWith (read_items reading items) (All P)
   each_is reading P has items values e k d within =
-      grind (arith, as_many, read_at reading items values e k no_item d, has)
+      grind (arith, as_many, read_items-get_or reading items values e k no_item d, has)
 
   -- `Holds` holds of the list of all values, if it holds of the empty list and stays true with each further value
   pub keeps : (reading : List A → Data → Result A SheetFault) (Holds : List A → Type 0) → Holds []
@@ -243,16 +242,17 @@ module _ {A : Type 0} where
       (keeps (λ read. reading (value ∷ read)) (λ ys. Holds (value ∷ ys)) so_far (λ read. more (value ∷ read)) items)
       (λ values all. SucceedsWith-Ok Holds (value ∷ values) all))
 
-  -- if `Holds` holds of the values of all items that can be read, it holds of the result of `read_each` and of
-  -- `read_up_to`
+  -- if `Holds` holds of the values of all items that can be read, it holds of the result of `read_array`
   module _ (reading : List A → Data → Result A SheetFault) (Holds : List A → Type 0)
       (all : (items : List Data) → SucceedsWith (read_items reading items) Holds) (key : Key) (count : ℕ) where
     pub each_read : (table : Members)
-        → SucceedsWith (read_each key count reading table) (λ values. (length values ≡ count) × Holds values)
+        → SucceedsWith (value_at key table >>= read_array key (nat_eq count) reading)
+        (λ values. (length values ≡ count) × Holds values)
     each_read table values e = grind (arith, bind-Ok, demand-Ok, eqb-true, as_many, all)
 
     pub some_read : (value : Data)
-        → SucceedsWith (read_up_to key count reading value) (λ values. (length values ≤ count) × Holds values)
+        → SucceedsWith (read_array key (λ n. nat_le n count) reading value)
+        (λ values. (length values ≤ count) × Holds values)
     some_read value values e = grind (arith, bind-Ok, demand-Ok, leb-true, as_many, all)
 
   -- a list of things is read back from their texts if each thing is
