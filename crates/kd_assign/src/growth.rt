@@ -11,12 +11,13 @@ use crate::scans::Scans;
 /// Gives row `root` a column. The rows before it may get other columns, so that the total cost is the least.
 ///
 /// A tree of rows and columns grows from `root`. In each round the nearest column joins the tree, and then
-/// the row that holds this column. A free column ends the growth. For each row of the tree, `plans` keeps an
-/// assignment of columns to all other rows from 0 to `root`.
+/// the row that holds this column. A free column ends the growth. For each row of the tree, `plans` gets an
+/// assignment of columns to all other rows from 0 to `root`. What `plans` had before is never read.
 pub fn assign_row<const N: usize>(
     cost: &[[u8; N]; N],
     prices: &mut [i16; N],
     holders: &mut [Option<usize>; N],
+    plans: &mut [[Option<usize>; N]; N],
     root: usize,
     scans: &mut Scans,
 )
@@ -26,12 +27,13 @@ pub fn assign_row<const N: usize>(
     requires solved { IsSolvedTo N cost.now prices.old holders.old root }
     requires room { scans.old ≤ 2 ^ 16 }
     ensures len { length prices.new ≡ N }
+    ensures plans { length plans.new ≡ N }
     ensures solved { IsSolvedTo N cost.now prices.new holders.new (root + 1) }
     ensures least_scans { scans.old + N ≤ scans.new }
     ensures most_scans { scans.new ≤ scans.old + scans_of_tree N (root + 1) }
 {
     let mut reached = [false; N];
-    let mut plans = [*holders; N];
+    plans[root] = *holders;
     let mut nearest = Nearest::new();
     nearest.join(&reached, cost, root, 0, scans);
     loop {

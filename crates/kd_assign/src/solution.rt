@@ -40,9 +40,10 @@ pub fn assign<const N: usize>(cost: &[[u8; N]; N]) -> Solution<N>
 {
     let mut col = [0; N];
     let mut holders = [None; N];
+    let mut plans = [[None; N]; N];
     let mut scans = Scans::new();
     for row in 0..N {
-        assign_row(cost, &mut col, &mut holders, row, &mut scans);
+        assign_row(cost, &mut col, &mut holders, &mut plans, row, &mut scans);
     }
     let to = columns_of_rows(&holders);
     let row = row_prices(cost, &col, &to);

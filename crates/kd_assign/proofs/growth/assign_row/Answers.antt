@@ -46,6 +46,9 @@ loop-holders-preserved g c =
       scans = grind (arith, count-reached, set, count_by-le-length, length-set, add-one);
     }
 
+pub lower_prices-requires : goal.lower_prices-requires
+lower_prices-requires g c = (search rules, (search rules, (search rules, search rules)))
+
 pub returns-in-None-clause-solved : goal.returns-in-None-clause-solved
 returns-in-None-clause-solved g c =
     let so_far = c.loop-holders.invariant in
